@@ -1,0 +1,42 @@
+-- Runs go on by one step, and may be cut and put together.
+use Rattle.std.proofs.Common.{◌≡◌, ℕ, ◌+◌, ◌<◌, ◌≤◌, Bool, List, [], ◌∷◌, ◌++◌, length, refl, sym, ap, ◌∙◌, subst, arith}
+use Rattle.std.proofs.lemmas.List.{length-append}
+use Rattle.concurrent_lru.specs.Cache.{Cache}
+use Rattle.concurrent_lru.specs.Request.{Request}
+use Rattle.concurrent_lru.specs.Results.{IsAnswerTo, AreAnswersTo}
+use Rattle.concurrent_lru.specs.Runs.{Outcome, Stands, Run}
+use Rattle.concurrent_lru.specs.declared.lru_core.Answer.{Answer}
+use Rattle.concurrent_lru.specs.declared.lru_core.Step.{Step as RustStep}
+
+module _ {K V : Type 0} where
+  pub Run-push : (E : K → K → Bool) (old mid new : Cache K V) (rs : List (Request K V)) (os : List (Outcome K V)) (r : Request K V) (o : Outcome K V) → Run E old rs os mid → Stands E mid r o new → Run E old (rs ++ r ∷ []) (os ++ o ∷ []) new
+  Run-push E old mid new [] [] r o h s = (new, subst (λ c. Stands E c r o new) h s, refl)
+  Run-push E old mid new (q ∷ rs) (p ∷ os) r o h s = (h.0, h.1, Run-push E h.0 mid new rs os r o h.2 s)
+  Run-push E old mid new [] (p ∷ os) r o h s = absurd h
+  Run-push E old mid new (q ∷ rs) [] r o h s = absurd h
+
+  pub Run-join : (E : K → K → Bool) (old mid new : Cache K V) (rs qs : List (Request K V)) (os ps : List (Outcome K V)) → Run E old rs os mid → Run E mid qs ps new → Run E old (rs ++ qs) (os ++ ps) new
+  Run-join E old mid new [] qs [] ps h k = subst (λ c. Run E c qs ps new) h k
+  Run-join E old mid new (r ∷ rs) qs (o ∷ os) ps h k = (h.0, h.1, Run-join E h.0 mid new rs qs os ps h.2 k)
+  Run-join E old mid new [] qs (o ∷ os) ps h k = absurd h
+  Run-join E old mid new (r ∷ rs) qs [] ps h k = absurd h
+
+  pub Run-cut : (E : K → K → Bool) (old new : Cache K V) (rs qs : List (Request K V)) (os ps : List (Outcome K V)) → length rs ≡ length os → Run E old (rs ++ qs) (os ++ ps) new → (mid : Cache K V) × Run E old rs os mid × Run E mid qs ps new
+  Run-cut E old new [] qs [] ps n h = (old, refl, h)
+  Run-cut E old new (r ∷ rs) qs (o ∷ os) ps n h =
+      let m = Run-cut E h.0 new rs qs os ps (omega (arith, n)) h.2 in
+      (m.0, (h.0, h.1, m.1), m.2)
+  Run-cut E old new [] qs (o ∷ os) ps n h = absurd (omega (arith, n))
+  Run-cut E old new (r ∷ rs) qs [] ps n h = absurd (omega (arith, n))
+
+  pub AreAnswersTo-push : (ss : List (RustStep K V)) (others : List (Answer K V)) (s : RustStep K V) (a : Answer K V) → AreAnswersTo ss others → IsAnswerTo s a → AreAnswersTo (ss ++ s ∷ []) (others ++ a ∷ [])
+  AreAnswersTo-push [] [] s a h k = (k, tt)
+  AreAnswersTo-push (t ∷ ss) (b ∷ others) s a h k = (h.0, AreAnswersTo-push ss others s a h.1 k)
+  AreAnswersTo-push [] (b ∷ others) s a h k = absurd h
+  AreAnswersTo-push (t ∷ ss) [] s a h k = absurd h
+
+-- one more answer fits in the room that was made
+pub room_for : {X : Type 0} (told capacity : ℕ) (xs ys all : List X) (x : X) → xs ++ x ∷ ys ≡ all → told ≡ length xs → length all ≤ capacity → told < capacity
+room_for told capacity xs ys all x parts t room =
+    let n : length xs + length (x ∷ ys) ≡ length all = sym (length-append xs (x ∷ ys)) ∙ ap length parts in
+    omega (arith, n, t, room)

@@ -1,0 +1,5 @@
+use Rattle.concurrent_lru.proofs.PartLemmas.{refused-same}
+use Rattle.concurrent_lru.proofs.shard_laws.refusals_change_nothing.Goals as goal
+
+pub returns : goal.returns
+returns g c = record { law = refused-same g.K.PartialEq.eq }

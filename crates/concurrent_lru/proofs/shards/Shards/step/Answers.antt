@@ -1,0 +1,13 @@
+use Rattle.std.proofs.Common.{subst, inl}
+use Rattle.concurrent_lru.specs.Results.{IsAnswerTo}
+use Rattle.concurrent_lru.proofs.PartLemmas.{lawful-set}
+use Rattle.concurrent_lru.proofs.shards.Shards.step.Goals as goal
+
+pub invariant_of-self-2 : goal.invariant_of-self-2
+invariant_of-self-2 g c = lawful-set g.K.PartialEq.eq c.self.inside.shards.items c.address-shard.result.0 c.step.new.self c.self.invariant c.step.ensures.lawful
+
+pub returns-clause-lawful : goal.returns-clause-lawful
+returns-clause-lawful g c = (lawful-set g.K.PartialEq.eq c.self.inside.shards.items c.address-shard.result.0 c.step.new.self c.self.invariant c.step.ensures.lawful).1
+
+pub returns-clause-kind : goal.returns-clause-kind
+returns-clause-kind g c = inl (subst (λ s. IsAnswerTo s c.step.result) c.address-shard.ensures.step c.step.ensures.kind)

@@ -1,0 +1,5 @@
+use Rattle.concurrent_lru.proofs.Lawful as lawful
+use Rattle.concurrent_lru.proofs.step_laws.keeps_limits.Goals as goal
+
+pub returns : goal.returns
+returns g c = record { law = lawful.keeps_limits _ _ _ }

@@ -1,0 +1,5 @@
+use Rattle.concurrent_lru.proofs.RunPromises as promises
+use Rattle.concurrent_lru.proofs.whole_runs.larger_holds.Goals as goal
+
+pub returns : goal.returns
+returns g c = record { law = promises.larger_holds _ _ _ g.met.K.Eq.laws }

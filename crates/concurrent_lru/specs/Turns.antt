@@ -1,0 +1,35 @@
+-- What the threaded calls answer: hits, turns, handles and errors.
+use Rattle.std.specs.Prelude.{⊤}
+use Rattle.std.specs.Arc.{arc_value}
+use Rattle.concurrent_lru.specs.declared.lru_core.Begun.{Begun}
+use Rattle.concurrent_lru.specs.declared.lru_core.Begun.TheVariants as begun
+use Rattle.concurrent_lru.specs.declared.unsharded.Turn.{Turn}
+use Rattle.concurrent_lru.specs.declared.unsharded.Turn.TheVariants as turn
+use Rattle.concurrent_lru.specs.declared.get_error.GetError.{GetError}
+use Rattle.concurrent_lru.specs.declared.get_error.GetError.TheVariants as error
+
+-- what a handle shows: the key that was asked, and the value
+pub record Pinned (K V : Type 0) : Type 0 where
+  pub key : K
+  pub value : V
+
+-- P of the value, where the answer is a hit
+abbrev pub IfHit : {V : Type 0} → Begun V → (V → Type 0) → Type 0
+IfHit (begun.Make s) P = ⊤
+IfHit (begun.Wait s) P = ⊤
+IfHit (begun.Hit s a) P = P (arc_value a)
+
+-- P of the value, where the caller is to read it
+abbrev pub IfReady : {V : Type 0} → Turn V → (V → Type 0) → Type 0
+IfReady (turn.Make s) P = ⊤
+IfReady (turn.Ready s a) P = P (arc_value a)
+
+-- P of the error that the caller's init answered, where it is one
+abbrev pub IfInit : {E : Type 0} → GetError E → (E → Type 0) → Type 0
+IfInit error.Memory P = ⊤
+IfInit error.Overflow P = ⊤
+IfInit (error.Init e) P = P e
+
+-- the error is the cache's own
+abbrev pub IsNotInit : {E : Type 0} → GetError E → Type 0
+IsNotInit e = IfInit e (λ _. ⊥)

@@ -1,0 +1,46 @@
+//! Why a making gave no handle: the error of `get_or_try_init`.
+//! The caller's own error is kept apart from the cache's.
+ghost use Rattle.std.specs.Prelude.{◌≡◌, ◌≢◌};
+ghost use Rattle.concurrent_lru.specs.Turns.{IsNotInit};
+
+use crate::list::Refusal;
+
+/// Why `get_or_try_init` gave no handle.
+#[derive(Debug, Drop)]
+pub enum GetError<E> {
+    /// A growth or a copy was refused by the allocator.
+    Memory,
+    /// A number is at its end: the total, the next stamp, or the pins of an entry.
+    Overflow,
+    /// `init` answered this error.
+    Init(E),
+}
+
+impl<E> GetError<E> {
+    /// The number that stands for the error where a program has only numbers: 1, 2 or 4.
+    pub fn code(&self) -> u8
+        ensures memory { self.now ≡ GetError.Memory → result ≡ 1 }
+        ensures overflow { self.now ≡ GetError.Overflow → result ≡ 2 }
+        ensures init { (error : E) → self.now ≡ GetError.Init error → result ≡ 4 }
+    {
+        match self {
+            GetError::Memory => 1,
+            GetError::Overflow => 2,
+            GetError::Init(_) => 4,
+        }
+    }
+
+    // The same refusal. What a begin and a making refuse is never stale.
+    pub(crate) fn of_refusal(refusal: Refusal) -> GetError<E>
+        requires { refusal ≢ Refusal.Stale }
+        ensures memory { refusal ≡ Refusal.Memory → result ≡ GetError.Memory }
+        ensures overflow { refusal ≡ Refusal.Overflow → result ≡ GetError.Overflow }
+        ensures not_init { IsNotInit result }
+    {
+        match refusal {
+            Refusal::Memory => GetError::Memory,
+            Refusal::Overflow => GetError::Overflow,
+            Refusal::Stale => unreachable!(),
+        }
+    }
+}

@@ -1,0 +1,18 @@
+//! A cache of heavy values that threads share: handles pin values, and what nobody pins
+//! leaves, oldest release first, once the charges pass the capacity.
+#![tactic(auto)]
+
+mod eviction;
+pub mod fit;
+mod get_error;
+mod handle;
+pub mod list;
+pub mod locked;
+pub mod lru_core;
+pub mod shard_laws;
+pub mod sharded;
+mod shards;
+pub mod step_laws;
+mod table;
+pub mod unsharded;
+pub mod whole_runs;

@@ -1,0 +1,264 @@
+//! Caches side by side, each behind a lock of its own, for any number of threads.
+//! A hasher chooses the shard that serves a key; shards wait for no other's lock.
+ghost use Rattle.std.specs.Prelude.{◌≡◌, ◌≢◌, ◌<◌, Ok, Err, IfOk, IfErr, IfSome, vec_len};
+ghost use Rattle.std.specs.Fn.{FnOnceReturnsAt, FnOnceTakesAt};
+ghost use Rattle.concurrent_lru.specs.Keys.{CopiesAreEqual};
+ghost use Rattle.concurrent_lru.specs.Turns.{IfInit};
+
+use crate::fit::{Anything, Fit};
+use crate::lru_core::Refusal;
+pub use crate::shards::{ShardStep, Shards, capacity_per_shard};
+use crate::unsharded;
+use crate::unsharded::GetError;
+use std::alloc::Global;
+use std::fmt;
+use std::hash::{BuildHasher, Hash, RandomState};
+use std::marker::Model;
+use std::sync::Wait;
+
+const DEFAULT_SHARDS: usize = 16;
+
+/// A cache that threads share, in shards that each have a lock and a share of the capacity. S
+/// numbers the keys; R and F are as in the cache of one lock.
+///
+/// Whenever the lock of a shard is got, that shard is lawful, its total is the sum of its charges
+/// and above its share only where nothing of it is idle, and its ready values fit their keys.
+#[derive(Drop)]
+pub struct LruCache<
+    K: Hash + Eq + Clone,
+    V,
+    R: Wait,
+    S: BuildHasher = RandomState,
+    F: Fit<K, V> = Anything,
+> {
+    shards: Vec<unsharded::LruCache<K, V, R, F>>,
+    hasher: S,
+    ghost some: { 0 < vec_len shards },
+}
+
+/// A pinned value: its entry is not evicted while the handle is there. A handle that is
+/// forgotten keeps its pin for good.
+///
+/// Clauses see the key that was asked and the value, which fits that key by the mark F.
+pub struct CacheHandle<'a, K: Hash + Eq + Clone, V, R: Wait, F: Fit<K, V> = Anything> {
+    held: unsharded::CacheHandle<'a, K, V, R, F>,
+}
+
+impl<'a, K: Hash + Eq + Clone, V, R: Wait, F: Fit<K, V>> Model for CacheHandle<'a, K, V, R, F> {
+    ghost use Rattle.concurrent_lru.specs.Turns.{Pinned};
+
+    ghost Value = { Pinned K V };
+
+    ghost view = { λ h. h.held };
+}
+
+impl<'a, K: Hash + Eq + Clone, V, R: Wait, F: Fit<K, V>> CacheHandle<'a, K, V, R, F> {
+    /// The value. Takes no lock.
+    pub fn value(&self) -> &V
+        ensures value { result.now ≡ self.now.value }
+        ensures fits { F.fits self.now.key result.now }
+    {
+        self.held.value()
+    }
+}
+
+impl<K: Hash + Eq + Clone + Drop, V: Drop, R: Wait, F: Fit<K, V>> Drop
+    for CacheHandle<'_, K, V, R, F> {
+    fn drop(self) {
+        let Self { held } = self;
+        drop(held);
+    }
+}
+
+impl<K: Hash + Eq + Clone + Drop, V: Drop, R: Wait + Clone> LruCache<
+    K,
+    V,
+    R,
+    RandomState,
+    Anything,
+> {
+    /// An empty cache of 16 shards. Whoever makes it promises that a copy of a key equals the
+    /// key.
+    ///
+    /// `Memory` where there is no room for the shards, or a copy of the right to wait is refused.
+    pub fn new(alloc: Global, rt: R, capacity: u64, hasher: RandomState) -> Result<Self, Refusal>
+        requires copies { CopiesAreEqual K.is_clone K.eq }
+        ensures err { IfErr result (λ e. e ≡ Refusal.Memory) }
+    {
+        LruCache::marked(alloc, rt, capacity, DEFAULT_SHARDS, hasher)
+    }
+}
+
+impl<K: Hash + Eq + Clone + Drop, V: Drop, R: Wait + Clone, S: BuildHasher + Drop> LruCache<
+    K,
+    V,
+    R,
+    S,
+    Anything,
+> {
+    /// An empty cache of one or more shards, each with `capacity_per_shard` of the capacity.
+    ///
+    /// `Memory` as in `new`.
+    pub fn with_shards_hasher(
+        alloc: Global,
+        rt: R,
+        capacity: u64,
+        shards: usize,
+        hasher: S,
+    ) -> Result<Self, Refusal>
+        requires some { 0 < shards }
+        requires copies { CopiesAreEqual K.is_clone K.eq }
+        ensures err { IfErr result (λ e. e ≡ Refusal.Memory) }
+    {
+        LruCache::marked(alloc, rt, capacity, shards, hasher)
+    }
+}
+
+impl<
+    K: Hash + Eq + Clone + Drop,
+    V: Drop,
+    R: Wait + Clone,
+    S: BuildHasher + Drop,
+    F: Fit<K, V>,
+> LruCache<K, V, R, S, F> {
+    /// An empty cache with the mark F, else as `with_shards_hasher` makes it.
+    ///
+    /// `Memory` as in `new`.
+    pub fn marked(
+        alloc: Global,
+        rt: R,
+        capacity: u64,
+        shards: usize,
+        hasher: S,
+    ) -> Result<Self, Refusal>
+        requires some { 0 < shards }
+        requires copies { CopiesAreEqual K.is_clone K.eq }
+        ensures err { IfErr result (λ e. e ≡ Refusal.Memory) }
+    {
+        let share = capacity_per_shard(capacity, shards);
+        let mut caches = Vec::new(alloc);
+        for _ in 0..shards {
+            let Ok(own_rt) = rt.clone() else {
+                return Err(Refusal::Memory);
+            };
+            caches.push(unsharded::LruCache::marked(alloc, own_rt, share))?;
+        }
+        Ok(LruCache {
+            shards: caches,
+            hasher,
+        })
+    }
+}
+
+impl<K: Hash + Eq + Clone + Drop, V: Drop, R: Wait, S: BuildHasher, F: Fit<K, V>> LruCache<
+    K,
+    V,
+    R,
+    S,
+    F,
+> {
+    // The shard that serves a key.
+    fn shard(&self, key: &K) -> &unsharded::LruCache<K, V, R, F> {
+        let shard = self.hasher.hash_one(key) % self.shards.len() as u64;
+        &self.shards[shard as usize]
+    }
+
+    /// A handle of the key's value, where it is ready; none where the key has no entry or its
+    /// value is still being made. Waits for no maker.
+    ///
+    /// `Overflow` where the entry has the greatest number of pins; `Memory` where the copy of
+    /// the value is refused.
+    pub fn get(&self, key: K) -> Result<Option<CacheHandle<'_, K, V, R, F>>, Refusal>
+        ensures key { IfOk result (λ found. IfSome found (λ h. h.key ≡ key)) }
+        ensures fits { IfOk result (λ found. IfSome found (λ h. F.fits key h.value)) }
+        ensures never_stale { IfErr result (λ e. e ≢ Refusal.Stale) }
+    {
+        match self.shard(&key).get(key)? {
+            Some(held) => Ok(Some(CacheHandle { held })),
+            None => Ok(None),
+        }
+    }
+
+    /// A handle of the key's value, which `init` makes where the key has no entry, or where the
+    /// maker before failed. Waits while another caller makes it.
+    ///
+    /// All is as in the cache of one lock, within the key's shard: charge, eviction, `init`, and
+    /// the errors `Init`, `Overflow` and `Memory`.
+    pub fn get_or_try_init<E, I>(
+        &self,
+        key: K,
+        charge: u64,
+        init: I,
+    ) -> Result<CacheHandle<'_, K, V, R, F>, GetError<E>>
+    where
+        I: FnOnce(&K) -> Result<V, E> + Drop,
+        requires charged { 0 < charge }
+        requires callable { FnOnceTakesAt I.FnOnce init key }
+        requires fits { (v : V) → FnOnceReturnsAt I.FnOnce init key (Ok v) → F.fits key v }
+        ensures key { IfOk result (λ h. h.key ≡ key) }
+        ensures fits { IfOk result (λ h. F.fits key h.value) }
+        ensures error { IfErr result (λ e. IfInit e (λ x. FnOnceReturnsAt I.FnOnce init key (Err x))) }
+    {
+        let held = self.shard(&key).get_or_try_init(key, charge, init)?;
+        Ok(CacheHandle { held })
+    }
+
+    /// `get_or_try_init` with an `init` that always gives a value.
+    ///
+    /// `Memory` and `Overflow` as there.
+    pub fn get_or_init<I>(
+        &self,
+        key: K,
+        charge: u64,
+        init: I,
+    ) -> Result<CacheHandle<'_, K, V, R, F>, Refusal>
+    where
+        I: FnOnce(&K) -> V + Drop,
+        requires charged { 0 < charge }
+        requires callable { FnOnceTakesAt I.FnOnce init key }
+        requires fits { (v : V) → FnOnceReturnsAt I.FnOnce init key v → F.fits key v }
+        ensures key { IfOk result (λ h. h.key ≡ key) }
+        ensures fits { IfOk result (λ h. F.fits key h.value) }
+        ensures never_stale { IfErr result (λ e. e ≢ Refusal.Stale) }
+    {
+        let held = self.shard(&key).get_or_init(key, charge, init)?;
+        Ok(CacheHandle { held })
+    }
+
+    /// Evicts the entry of a key, where it is idle; else nothing happens, now or later. Takes no
+    /// memory.
+    pub fn advice_evict(&self, key: K) {
+        self.shard(&key).advice_evict(key);
+    }
+
+    /// Evicts every idle entry of each shard, one shard after another, and is no snapshot. Takes
+    /// no memory.
+    pub fn prune(&self) {
+        for shard in &self.shards {
+            shard.prune();
+        }
+    }
+
+    /// The sum of the shards' totals, which are read one after another and are no snapshot. Takes
+    /// no memory.
+    pub fn total_charge(&self) -> u128 {
+        let mut total = 0;
+        for shard in &self.shards {
+            total += u128::from(shard.total_charge());
+        }
+        total
+    }
+}
+
+// The shards as a list, each under its lock.
+impl<
+    K: Hash + Eq + Clone + Drop + fmt::Debug,
+    V: Drop + fmt::Debug,
+    R: Wait,
+    S: BuildHasher,
+    F: Fit<K, V>,
+> fmt::Debug for LruCache<K, V, R, S, F> {
+    fn fmt<W: fmt::Write>(&self, f: &mut fmt::Formatter<W>) -> fmt::Result {
+        f.debug_list().entries(self.shards.iter()).finish()
+    }
+}

@@ -1,0 +1,297 @@
+//! Caches side by side for one owner, each for the keys that are routed to it.
+//! A step changes the one shard that its key has, or that it names, and no other.
+ghost use Rattle.std.specs.Prelude.{◌≡◌, ◌+◌, ◌-◌, ◌/◌, ◌<◌, length, replicate, map, IfOk, IfErr, IfSome, OnErr};
+ghost use Rattle.std.specs.Arc.{arc_value};
+ghost use Rattle.std.specs.List.{AllByRecursion, AllZip};
+ghost use Rattle.concurrent_lru.specs.Cache.{empty_cache};
+ghost use Rattle.concurrent_lru.specs.Keys.{CopiesAreEqual};
+ghost use Rattle.concurrent_lru.specs.Parts.{StandsAt, RunsApart};
+ghost use Rattle.concurrent_lru.specs.Request as ask;
+ghost use Rattle.concurrent_lru.specs.Results.{IsCharged, evicts, failed, outcome_of, polled, readied, released, request_of};
+ghost use Rattle.concurrent_lru.specs.Runs.{refused};
+ghost use Rattle.concurrent_lru.specs.declared.list.Refusal.TheVariants.{Stale};
+ghost use Rattle.concurrent_lru.specs.Sharded.{AreLawful, key_number, shard_of};
+ghost use Rattle.concurrent_lru.specs.ShardSteps.{asked, begun_at, got_at, pruned_at, shard_asked, step_of, told, totals_at, IsShardAnswerTo, TellsNoShard};
+
+use crate::lru_core::{Answer, Begun, Evicted, Failed, Refusal, State, Step};
+use std::alloc::Global;
+use std::hash::{BuildHasher, Hash};
+use std::marker::Model;
+use std::sync::Arc;
+
+/// The capacity of each of so many shards: the quotient, rounded up. There is at least one shard.
+pub fn capacity_per_shard(capacity: u64, shards: usize) -> u64
+    requires { 0 < shards }
+    ensures { result ≡ (capacity + shards - 1) / shards }
+{
+    capacity.div_ceil(shards as u64)
+}
+
+/// A step of a run over shards. Charges are above 0. A step with a key goes to the key's shard;
+/// the others name their shard first.
+#[derive(Drop)]
+pub enum ShardStep<K, V> {
+    /// `begin` with a key and a charge.
+    Begin(K, u64),
+    /// `get` with a key.
+    Get(K),
+    /// `advice_evict` with a key.
+    AdviceEvict(K),
+    /// `poll` at a shard with a stamp.
+    Poll(usize, u64),
+    /// `ready` at a shard with a stamp and a value.
+    Ready(usize, u64, Arc<V>),
+    /// `fail` at a shard with a stamp.
+    Fail(usize, u64),
+    /// `release` at a shard with a stamp.
+    Release(usize, u64),
+    /// `prune_shard` with a shard.
+    Prune(usize),
+    /// `total_shard` with a shard.
+    Total(usize),
+}
+
+/// One or more caches side by side, each for the keys that a hasher routes to it.
+///
+/// A stamp names an entry of one shard, so calls that take a stamp take the shard too. Clauses
+/// see the value of specs/Sharded.antt.
+#[derive(Drop)]
+pub struct Shards<K: Hash + Eq + Clone, V, S> {
+    alloc: Global,
+    hasher: S,
+    shards: Vec<State<K, V>>,
+}
+
+impl<K: Hash + Eq + Clone, V, S> Model for Shards<K, V, S> {
+    ghost use Rattle.concurrent_lru.specs.Runs.{refused};
+    ghost use Rattle.concurrent_lru.specs.Sharded.{Sharded, sharded_code};
+
+    ghost Value = { Sharded K V S };
+
+    ghost coded = { sharded_code K.code V.code S.code };
+
+    ghost use Rattle.std.specs.Prelude.{◌<◌, length};
+    ghost use Rattle.std.specs.List.{All};
+    ghost use Rattle.concurrent_lru.specs.Cache.{IsLawful};
+
+    ghost view = { λ a. record { hasher = a.hasher; caches = a.shards.items } };
+
+    ghost invariant = { λ a. (0 < length a.shards.items) × All (IsLawful K.eq) a.shards.items };
+}
+
+impl<K: Hash + Eq + Clone, V: Drop, S: BuildHasher + Drop> Shards<K, V, S> {
+    /// So many empty caches, each with its share of the capacity. Whoever makes them promises
+    /// that there is at least one, and that a copy of a key equals the key.
+    ///
+    /// `Memory` where there is no room for the shards.
+    pub fn new(
+        alloc: Global,
+        capacity: u64,
+        shards: usize,
+        hasher: S,
+    ) -> Result<Shards<K, V, S>, Refusal>
+        requires some { 0 < shards }
+        requires copies { CopiesAreEqual K.is_clone K.eq }
+        ensures hasher { IfOk result (λ s. s.hasher ≡ hasher) }
+        ensures empty { IfOk result (λ s. s.caches ≡ replicate shards (empty_cache ((capacity + shards - 1) / shards) 4294967295 0)) }
+        ensures lawful { IfOk result (AreLawful K.eq) }
+        ensures err { IfErr result (λ e. e ≡ Refusal.Memory) }
+    {
+        let share = capacity_per_shard(capacity, shards);
+        let mut caches = Vec::new(alloc);
+        caches.reserve(shards)?;
+        for _ in 0..shards {
+            caches.push(State::new(alloc, share))?;
+        }
+        Ok(Shards {
+            alloc,
+            hasher,
+            shards: caches,
+        })
+    }
+
+    /// The shard of a key: the hasher's number of it modulo the number of shards.
+    pub fn route(&self, key: &K) -> usize
+        ensures route { result ≡ shard_of (key_number S.BuildHasher S.Hasher.Hasher K.hash_input) self.now key.now }
+        ensures within { result < length self.now.caches }
+    {
+        (self.hasher.hash_one(key) % self.shards.len() as u64) as usize
+    }
+
+    /// `begin` at the key's shard, which is answered first.
+    ///
+    /// `Overflow` and `Memory` as in one cache.
+    pub fn begin(
+        &mut self,
+        key: &K,
+        charge: u64,
+    ) -> Result<(usize, Begun<V>, Evicted<K, V>), Refusal>
+        requires { 0 < charge }
+        ensures shard { IfOk result (λ r. r.0 ≡ shard_of (key_number S.BuildHasher S.Hasher.Hasher K.hash_input) self.old key.now) }
+        ensures step { StandsAt K.eq self.old (shard_of (key_number S.BuildHasher S.Hasher.Hasher K.hash_input) self.old key.now) (ask.begin key.now charge) (begun_at result) self.new }
+        ensures lawful { AreLawful K.eq self.new }
+    {
+        let shard = self.route(key);
+        let (begun, evicted) = self.shards[shard].begin(key, charge)?;
+        Ok((shard, begun, evicted))
+    }
+
+    /// `get` at the key's shard, which is answered before the stamp.
+    ///
+    /// `Overflow` and `Memory` as in one cache.
+    pub fn get(&mut self, key: &K) -> Result<Option<(usize, u64, Arc<V>)>, Refusal>
+        ensures shard { IfOk result (λ found. IfSome found (λ r. r.0 ≡ shard_of (key_number S.BuildHasher S.Hasher.Hasher K.hash_input) self.old key.now)) }
+        ensures step { StandsAt K.eq self.old (shard_of (key_number S.BuildHasher S.Hasher.Hasher K.hash_input) self.old key.now) (ask.get key.now) (got_at result) self.new }
+        ensures lawful { AreLawful K.eq self.new }
+    {
+        let shard = self.route(key);
+        let found = self.shards[shard].get(key)?;
+        Ok(found.map(|(stamp, value)| (shard, stamp, value)))
+    }
+
+    /// `advice_evict` at the key's shard. Takes no memory.
+    pub fn advice_evict(&mut self, key: &K) -> Evicted<K, V>
+        ensures step { StandsAt K.eq self.old (shard_of (key_number S.BuildHasher S.Hasher.Hasher K.hash_input) self.old key.now) (ask.advice_evict key.now) (evicts result) self.new }
+        ensures lawful { AreLawful K.eq self.new }
+    {
+        let shard = self.route(key);
+        self.shards[shard].advice_evict(key)
+    }
+
+    /// `poll` at a shard. `Stale` also where there is no such shard; `Memory` as in one cache.
+    pub fn poll(&mut self, shard: usize, stamp: u64) -> Result<Begun<V>, Refusal>
+        ensures step { StandsAt K.eq self.old shard (ask.poll stamp) (polled result) self.new }
+        ensures lawful { AreLawful K.eq self.new }
+    {
+        let Some(cache) = self.shards.get_mut(shard) else {
+            return Err(Refusal::Stale);
+        };
+        cache.poll(stamp)
+    }
+
+    /// `ready` at a shard. The value comes back also where there is no such shard. Takes no
+    /// memory.
+    pub fn ready(&mut self, shard: usize, stamp: u64, value: Arc<V>) -> Result<(), Arc<V>>
+        ensures step { StandsAt K.eq self.old shard (ask.ready stamp (arc_value value)) (readied result) self.new }
+        ensures back { IfErr result (λ a. arc_value a ≡ arc_value value) }
+        ensures lawful { AreLawful K.eq self.new }
+    {
+        let Some(cache) = self.shards.get_mut(shard) else {
+            return Err(value);
+        };
+        cache.ready(stamp, value)
+    }
+
+    /// `fail` at a shard. `Stale` also where there is no such shard. Takes no memory.
+    pub fn fail(&mut self, shard: usize, stamp: u64) -> Result<Failed<K>, Refusal>
+        ensures step { StandsAt K.eq self.old shard (ask.fail stamp) (failed result) self.new }
+        ensures lawful { AreLawful K.eq self.new }
+    {
+        let Some(cache) = self.shards.get_mut(shard) else {
+            return Err(Refusal::Stale);
+        };
+        cache.fail(stamp)
+    }
+
+    /// `release` at a shard. `Stale` also where there is no such shard. Takes no memory.
+    pub fn release(&mut self, shard: usize, stamp: u64) -> Result<Evicted<K, V>, Refusal>
+        ensures step { StandsAt K.eq self.old shard (ask.release stamp) (released result) self.new }
+        ensures lawful { AreLawful K.eq self.new }
+    {
+        let Some(cache) = self.shards.get_mut(shard) else {
+            return Err(Refusal::Stale);
+        };
+        cache.release(stamp)
+    }
+
+    /// `prune` at a shard. `Stale` where there is no such shard. Takes no memory.
+    pub fn prune_shard(&mut self, shard: usize) -> Result<Evicted<K, V>, Refusal>
+        ensures step { StandsAt K.eq self.old shard ask.prune (pruned_at result) self.new }
+        ensures lawful { AreLawful K.eq self.new }
+    {
+        let Some(cache) = self.shards.get_mut(shard) else {
+            return Err(Refusal::Stale);
+        };
+        Ok(cache.prune())
+    }
+
+    /// `total` of a shard. `Stale` where there is no such shard. Takes no memory.
+    pub fn total_shard(&self, shard: usize) -> Result<u64, Refusal>
+        ensures step { StandsAt K.eq self.now shard ask.total (totals_at result) self.now }
+        ensures lawful { AreLawful K.eq self.now }
+    {
+        let Some(cache) = self.shards.get(shard) else {
+            return Err(Refusal::Stale);
+        };
+        Ok(cache.total())
+    }
+
+    // The shard of a step, and the step that it takes.
+    fn address(&self, step: ShardStep<K, V>) -> (usize, Step<K, V>)
+        ensures shard { result.0 ≡ shard_asked (shard_of (key_number S.BuildHasher S.Hasher.Hasher K.hash_input) self.now) step }
+        ensures step { result.1 ≡ step_of step }
+    {
+        match step {
+            ShardStep::Begin(key, charge) => (self.route(&key), Step::Begin(key, charge)),
+            ShardStep::Get(key) => (self.route(&key), Step::Get(key)),
+            ShardStep::AdviceEvict(key) => (self.route(&key), Step::AdviceEvict(key)),
+            ShardStep::Poll(shard, stamp) => (shard, Step::Poll(stamp)),
+            ShardStep::Ready(shard, stamp, value) => (shard, Step::Ready(stamp, value)),
+            ShardStep::Fail(shard, stamp) => (shard, Step::Fail(stamp)),
+            ShardStep::Release(shard, stamp) => (shard, Step::Release(stamp)),
+            ShardStep::Prune(shard) => (shard, Step::Prune),
+            ShardStep::Total(shard) => (shard, Step::Total),
+        }
+    }
+
+    // Takes one step.
+    fn step(&mut self, step: ShardStep<K, V>) -> (usize, Answer<K, V>)
+        requires { IsCharged (request_of (step_of step)) }
+        ensures shard { result.0 ≡ shard_asked (shard_of (key_number S.BuildHasher S.Hasher.Hasher K.hash_input) self.old) step }
+        ensures step { StandsAt K.eq self.old result.0 (request_of (step_of step)) (outcome_of result.1) self.new }
+        ensures kind { IsShardAnswerTo step result }
+        ensures lawful { AreLawful K.eq self.new }
+    {
+        let (shard, step) = self.address(step);
+        let Some(cache) = self.shards.get_mut(shard) else {
+            return (shard, tell_no_shard(step));
+        };
+        (shard, cache.step(step))
+    }
+
+    /// Takes steps in order, one answer a step, each with the shard that gave it or that was
+    /// named. Each begin's charge is above 0; shards and stamps may be strangers'.
+    ///
+    /// `Memory` where there is no room for the answers, asked for once and first: then nothing
+    /// ran and the steps are dropped.
+    pub fn run(
+        &mut self,
+        steps: Vec<ShardStep<K, V>>,
+    ) -> Result<Vec<(usize, Answer<K, V>)>, Refusal>
+        requires { AllByRecursion IsCharged (map request_of (map step_of steps.items)) }
+        ensures run { IfOk result (λ answers. RunsApart K.eq self.old (map (asked (shard_of (key_number S.BuildHasher S.Hasher.Hasher K.hash_input) self.old)) steps.items) (map told answers.items) self.new) }
+        ensures kinds { IfOk result (λ answers. AllZip IsShardAnswerTo steps.items answers.items) }
+        ensures err { IfErr result (λ e. e ≡ Refusal.Memory) }
+        ensures same { OnErr result (self.new ≡ self.old) }
+        ensures lawful { AreLawful K.eq self.new }
+    {
+        let mut answers = Vec::new(self.alloc);
+        answers.reserve(steps.len())?;
+        for step in steps {
+            let answer = self.step(step);
+            let _kept = answers.push(answer);
+        }
+        Ok(answers)
+    }
+}
+
+// What a step for a shard that is not there is answered: a value comes back.
+fn tell_no_shard<K: Drop, V: Drop>(step: Step<K, V>) -> Answer<K, V>
+    ensures kind { TellsNoShard step result }
+    ensures outcome { outcome_of result ≡ refused Stale }
+{
+    match step {
+        Step::Ready(_, value) => Answer::Back(value),
+        _ => Answer::Refused(Refusal::Stale),
+    }
+}
