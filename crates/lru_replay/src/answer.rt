@@ -1,0 +1,36 @@
+//! What the cache answers to a step.
+
+use std::fmt;
+
+/// What a step was answered. A value is told by its number.
+#[derive(Clone, Copy, Debug, PartialEq, Eq)]
+pub enum Answer {
+    /// A handle of the value that this step made.
+    Made(u64),
+    /// A handle of a value that was there.
+    Hit(u64),
+    /// This step's `init` failed.
+    Failed,
+    /// A look-up found this value.
+    Found(u64),
+    /// A look-up found nothing.
+    Nothing,
+    /// The sum of the charges.
+    Total(u64),
+    /// The step answers nothing.
+    Done,
+}
+
+impl fmt::Display for Answer {
+    fn fmt<W: fmt::Write>(&self, f: &mut fmt::Formatter<W>) -> fmt::Result {
+        match self {
+            Answer::Made(value) => write!(f, "made {value}"),
+            Answer::Hit(value) => write!(f, "hit {value}"),
+            Answer::Failed => write!(f, "err"),
+            Answer::Found(value) => write!(f, "some {value}"),
+            Answer::Nothing => write!(f, "none"),
+            Answer::Total(total) => write!(f, "total {total}"),
+            Answer::Done => write!(f, "done"),
+        }
+    }
+}

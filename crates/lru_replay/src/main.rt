@@ -1,0 +1,33 @@
+//! A thin program over the cache: it runs the steps on its standard input, one a line, and
+//! prints each step with its answer and the values that it dropped.
+#![tactic(auto)]
+
+mod answer;
+mod drops;
+mod expected;
+mod failure;
+mod lines;
+mod parse;
+mod program;
+mod replay;
+mod session;
+mod slots;
+mod step;
+
+use failure::Failure;
+use program::program;
+use std::io::{self, BufReader, LineWriter};
+use std::process::ExitCode;
+
+fn main(rt: HostRuntime) -> ExitCode {
+    let alloc = rt.alloc();
+    let streams = BufReader::new(alloc, rt.reader()).and_then(|input| Ok((
+        input,
+        LineWriter::new(alloc, rt.stdout())?,
+    )));
+    let status = match streams {
+        Ok((input, mut out)) => program(alloc, &rt, input, &mut out, &mut rt.stderr()),
+        Err(error) => Failure::of_reading(&error).report(&mut rt.stderr()),
+    };
+    ExitCode::from(status)
+}

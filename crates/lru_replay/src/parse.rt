@@ -1,0 +1,116 @@
+//! From the words of a line to the step that they spell.
+//! Each function reads what is spelled by the rules of `Spelling`, and nothing else.
+ghost use Rattle.std.specs.Prelude.{◌≡◌, ℕ, IfOk, Ok};
+ghost use Rattle.lru_replay.specs.Spelling.{Writes, WritesCharge, SpellsOutcome, SpellsSlot, SpellsMaking, Spells};
+ghost use Rattle.lru_replay.specs.declared.step.Slot.{Slot};
+ghost use Rattle.lru_replay.specs.declared.step.Outcome.{Outcome};
+ghost use Rattle.lru_replay.specs.declared.step.Making.{Making};
+ghost use Rattle.lru_replay.specs.declared.step.Step.{Step};
+
+use crate::expected::Expected;
+use crate::step::{Fate, Making, Outcome, Slot, Step};
+
+/// The step that the words of a line spell.
+///
+/// The error tells what was expected: at the first word that is wrong, where the step has a name
+/// and as many words as it takes, else for the step as a whole.
+pub fn parse(words: &[&str]) -> Result<Step, Expected>
+    ensures read { IfOk result (Spells words.now) }
+    ensures all { (step : Step) → Spells words.now step → result ≡ Ok step }
+{
+    match *words {
+        ["new", capacity] => Ok(Step::New(parse_number(capacity)?)),
+        ["init", key, charge, outcome, "drop"] => {
+            let making = parse_making(key, charge, outcome)?;
+            Ok(Step::Init(making, Fate::Drop))
+        }
+        ["init", key, charge, outcome, "keep", slot] => {
+            let making = parse_making(key, charge, outcome)?;
+            Ok(Step::Init(making, Fate::Keep(parse_slot(slot)?)))
+        }
+        ["get", key, "drop"] => Ok(Step::Get(parse_number(key)?, Fate::Drop)),
+        ["get", key, "keep", slot] => {
+            let key = parse_number(key)?;
+            Ok(Step::Get(key, Fate::Keep(parse_slot(slot)?)))
+        }
+        ["release", slot] => Ok(Step::Release(parse_slot(slot)?)),
+        ["advice", key] => Ok(Step::Advice(parse_number(key)?)),
+        ["prune"] => Ok(Step::Prune),
+        ["total"] => Ok(Step::Total),
+        [name, ..] => Err(expected_of(name)),
+        [] => Err(Expected::Step),
+    }
+}
+
+// What is expected of a line with this first word.
+fn expected_of(name: &str) -> Expected {
+    match name {
+        "new" => Expected::New,
+        "init" => Expected::Init,
+        "get" => Expected::Get,
+        "release" => Expected::Release,
+        "advice" => Expected::Advice,
+        "prune" => Expected::Prune,
+        "total" => Expected::Total,
+        _ => Expected::Step,
+    }
+}
+
+fn parse_making(key: &str, charge: &str, outcome: &str) -> Result<Making, Expected>
+    ensures read { IfOk result (SpellsMaking key.now charge.now outcome.now) }
+    ensures all { (making : Making) → SpellsMaking key.now charge.now outcome.now making → result ≡ Ok making }
+{
+    Ok(Making {
+        key: parse_number(key)?,
+        charge: parse_charge(charge)?,
+        outcome: parse_outcome(outcome)?,
+    })
+}
+
+// A sign is no digit.
+fn parse_number(word: &str) -> Result<u64, Expected>
+    ensures read { IfOk result (Writes word.now) }
+    ensures all { (number : ℕ) → Writes word.now number → result ≡ Ok number }
+{
+    if word.starts_with('+') {
+        return Err(Expected::Number);
+    }
+    match word.parse() {
+        Ok(number) => Ok(number),
+        Err(_) => Err(Expected::Number),
+    }
+}
+
+fn parse_charge(word: &str) -> Result<u64, Expected>
+    ensures read { IfOk result (WritesCharge word.now) }
+    ensures all { (charge : ℕ) → WritesCharge word.now charge → result ≡ Ok charge }
+{
+    match parse_number(word)? {
+        0 => Err(Expected::Charge),
+        charge => Ok(charge),
+    }
+}
+
+fn parse_outcome(word: &str) -> Result<Outcome, Expected>
+    ensures read { IfOk result (SpellsOutcome word.now) }
+    ensures all { (outcome : Outcome) → SpellsOutcome word.now outcome → result ≡ Ok outcome }
+{
+    match word {
+        "ok" => Ok(Outcome::Gives),
+        "fail" => Ok(Outcome::Fails),
+        _ => Err(Expected::Outcome),
+    }
+}
+
+fn parse_slot(word: &str) -> Result<Slot, Expected>
+    ensures read { IfOk result (SpellsSlot word.now) }
+    ensures all { (slot : Slot) → SpellsSlot word.now slot → result ≡ Ok slot }
+{
+    match word {
+        "0" => Ok(Slot::Zero),
+        "1" => Ok(Slot::One),
+        "2" => Ok(Slot::Two),
+        "3" => Ok(Slot::Three),
+        _ => Err(Expected::Slot),
+    }
+}

@@ -1,0 +1,88 @@
+//! The steps, run on one cache after the other.
+//! Each step that makes a cache begins a session, and ends the one before.
+
+use crate::answer::Answer;
+use crate::expected::Expected;
+use crate::failure::Failure;
+use crate::lines::Lines;
+use crate::session::{Handle, Session};
+use crate::slots::Slots;
+use crate::step::Step;
+use concurrent_lru::lru_core::Refusal;
+use std::alloc::Global;
+use std::io::{BufRead, Write};
+use std::sync::Wait;
+
+/// Runs every step and writes each with its answer and its drops, a line each.
+///
+/// `Line` where a line is no step, or the first makes no cache; `Read` and `Write` where the
+/// input or the output fails; `Refused` where a call is refused. What was written before stays.
+pub fn replay<R: Wait + Clone + Drop, I: BufRead, O: Write>(
+    alloc: Global,
+    rt: &R,
+    lines: &mut Lines<I>,
+    out: &mut O,
+) -> Result<(), Failure> {
+    let mut capacity = match lines.next()? {
+        None => return Ok(()),
+        Some(Step::New(capacity)) => capacity,
+        Some(_) => return Err(lines.expected(Expected::First)),
+    };
+    for _ in 0..u64::MAX {
+        match run_session(alloc, rt, capacity, lines, out)? {
+            None => return Ok(()),
+            Some(next) => capacity = next,
+        }
+    }
+    Err(Failure::Refused(Refusal::Overflow))
+}
+
+// Makes a cache and runs the steps on it, up to the next step that makes one, whose capacity it
+// answers, or to the end of the input.
+fn run_session<R: Wait + Clone + Drop, I: BufRead, O: Write>(
+    alloc: Global,
+    rt: &R,
+    capacity: u64,
+    lines: &mut Lines<I>,
+    out: &mut O,
+) -> Result<Option<u64>, Failure> {
+    let session = Session::new(alloc, rt, capacity)?;
+    run_steps(&session, capacity, lines, out)
+}
+
+// Steps are numbered from 0, which is the one that made the cache.
+fn run_steps<'a, R: Wait + Clone + Drop, I: BufRead, O: Write>(
+    session: &'a Session<R>,
+    capacity: u64,
+    lines: &mut Lines<I>,
+    out: &mut O,
+) -> Result<Option<u64>, Failure> {
+    let mut slots: Slots<Handle<'a, R>> = Slots::new();
+    let mut step = Step::New(capacity);
+    for number in 0..u64::MAX {
+        let answer = session.run(&mut slots, number, step)?;
+        write_line(out, session, step, answer)?;
+        step = match lines.next()? {
+            None => return Ok(None),
+            Some(Step::New(next)) => return Ok(Some(next)),
+            Some(next) => next,
+        };
+    }
+    Err(Failure::Refused(Refusal::Overflow))
+}
+
+// Writes a step with its answer and its drops, and forgets the drops.
+fn write_line<R: Wait + Clone + Drop, O: Write>(
+    out: &mut O,
+    session: &Session<R>,
+    step: Step,
+    answer: Answer,
+) -> Result<(), Failure> {
+    let mut drops = session.drops();
+    let numbers = drops.numbers()?;
+    if writeln!(out, "{step} => {answer} {numbers:?}").is_err() {
+        return Err(Failure::Write);
+    }
+    drops.clear();
+    Ok(())
+}
