@@ -1,0 +1,14 @@
+//! Tests over the public calls of the cache, at concrete types.
+//! The library is empty: what its modules have is read for the tests alone.
+#![tactic(auto)]
+
+#[cfg(test)]
+mod ends;
+#[cfg(test)]
+mod list;
+#[cfg(test)]
+mod steps;
+#[cfg(test)]
+mod support;
+#[cfg(test)]
+mod uses;

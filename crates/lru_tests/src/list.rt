@@ -1,0 +1,43 @@
+//! Nodes by place and the order of the idle ones: each public call on its happy path.
+
+use concurrent_lru::list::{Node, Nodes, Phase, Refusal};
+use std::sync::Arc;
+use std::test::Fail;
+
+#[test]
+fn keeps_a_node_from_its_insert_to_its_end(rt: HostRuntime) -> Result<(), Fail> {
+    let alloc = rt.alloc();
+    let mut nodes: Nodes<u64, u64> = Nodes::new(alloc);
+    assert!(rt; nodes.oldest().is_none());
+    nodes.reserve(1)?;
+    let place = nodes.insert_reserved(Box::new(alloc, Node::new(5, 1, 3))?);
+    let node = nodes.node(place);
+    assert_eq!(rt;
+        (node.stamp, node.key, node.charge, node.pins),
+        (5, 1, 3, 1)
+    );
+    assert!(rt; matches!(node.phase, Phase::Making));
+
+    nodes.set_phase(place, Phase::Ready(Arc::new(alloc, 7)?));
+    nodes.set_pins(place, 0);
+    nodes.append(place);
+    let oldest = nodes.oldest().ok_or("the node is idle")?;
+    let node = nodes.node(oldest);
+    let Phase::Ready(value) = &node.phase else {
+        return Err(Fail::new("the value was written"));
+    };
+    assert_eq!(rt; (node.stamp, node.pins, **value), (5, 0, 7));
+
+    nodes.remove(place);
+    assert!(rt; nodes.oldest().is_none());
+    let taken = Box::into_inner(nodes.take(place));
+    assert_eq!(rt; (taken.stamp, taken.key), (5, 1));
+    Ok(())
+}
+
+#[test]
+fn numbers_its_refusals(rt: HostRuntime) {
+    assert_eq!(rt; Refusal::Memory.code(), 1);
+    assert_eq!(rt; Refusal::Overflow.code(), 2);
+    assert_eq!(rt; Refusal::Stale.code(), 3);
+}
