@@ -1,0 +1,5 @@
+pub mod Values
+pub mod Replays
+pub mod Keeps
+pub mod Positions
+pub mod Moves

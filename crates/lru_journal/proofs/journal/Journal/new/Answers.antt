@@ -1,0 +1,5 @@
+use Rattle.lru_journal.proofs.Keeps.{opens}
+use Rattle.lru_journal.proofs.journal.Journal.new.Goals as goal
+
+pub invariant_of-result : goal.invariant_of-result
+invariant_of-result g c = opens c.args.capacity c.requires c.new.ensures.empty c.new-2.ensures.items

@@ -1,0 +1,18 @@
+use Rattle.std.proofs.Common.{[], refl, ap, ◌∙◌}
+use Rattle.concurrent_lru.specs.Request as ask
+use Rattle.concurrent_lru.specs.Results.{polled, reply_of}
+use Rattle.lru_journal.specs.Replay.{recorded}
+use Rattle.lru_journal.specs.declared.record.Recorded.TheVariants as step
+use Rattle.lru_journal.proofs.Keeps.{keeps_on, accepts, no_room, polled_told}
+use Rattle.lru_journal.proofs.journal.Journal.poll.Goals as goal
+
+pub returns-in_err-reserve : goal.returns-in_err-reserve
+returns-in_err-reserve g c = no_room g.K.PartialEq.eq (ask.poll c.args.stamp) polled c.from_residual.result _ (λ x. refl) c.from_residual.ensures.1 refl (ap (λ l. record { cache = c.self.inside.state; records = l; began = c.self.inside.began }) c.reserve.ensures.items ∙ c.self.view_is)
+
+pub invariant_of-self-2 : goal.invariant_of-self-2
+invariant_of-self-2 g c = keeps_on (ask.poll c.args.stamp) (reply_of c.in_ok-begun.begun) [] c.self.invariant c.in_ok-begun.ensures.lawful c.in_ok-begun.ensures.step c.reserve.ensures.items c.push_reserved.ensures.items
+    (ap (λ t. recorded (step.Poll c.args.stamp) t) (c.reply_begun-reply.ensures ∙ polled_told g.row.K.Denot c.args.stamp c.in_ok-begun.begun))
+
+pub returns : goal.returns
+returns g c = accepts g.K.PartialEq.eq (ask.poll c.args.stamp) (reply_of c.in_ok-begun.begun) [] c.self.view_is c.in_ok-begun.ensures.step c.reserve.ensures.items c.push_reserved.ensures.items
+    (ap (λ t. recorded (step.Poll c.args.stamp) t) (c.reply_begun-reply.ensures ∙ polled_told g.row.K.Denot c.args.stamp c.in_ok-begun.begun))

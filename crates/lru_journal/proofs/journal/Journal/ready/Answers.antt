@@ -1,0 +1,8 @@
+use Rattle.std.proofs.Common.{[], refl}
+use Rattle.concurrent_lru.specs.Request as ask
+use Rattle.concurrent_lru.specs.Reply as say
+use Rattle.lru_journal.proofs.Keeps.{keeps_on}
+use Rattle.lru_journal.proofs.journal.Journal.ready.Goals as goal
+
+pub invariant_of-self-2 : goal.invariant_of-self-2
+invariant_of-self-2 g c = keeps_on (ask.ready c.args.stamp c.args.value.value) say.done [] c.self.invariant c.in_default.ensures.lawful c.in_default.ensures.step c.reserve.ensures.items c.push_reserved.ensures.items refl

@@ -1,0 +1,7 @@
+pub mod Values
+pub mod Replay
+pub mod Journals
+pub mod Codes
+pub mod Tallies
+pub mod Pins
+pub mod Calls

@@ -1,0 +1,147 @@
+-- The rule of the cell that ties tallies to the records of their twin.
+use Rattle.std.specs.Prelude.{◌≡◌, ◌==◌, ◌<◌, ℕ, zero, suc, ◌+◌, ◌-◌, List, [], ◌∷◌, ◌++◌, length, Some, slice_get, slice_index, Bool, true, false, if◌then◌else◌}
+use mathlib.Core.Option.{some}
+use lib.ListN.{get_elem?}
+use Rattle.atomic_table.specs.Seated.{TableId}
+use Rattle.lru_journal.specs.declared.record.Recorded.TheVariants.{Prune}
+use Rattle.lru_journal.specs.declared.record.Told.TheVariants.{Done}
+use Rattle.lru_journal.specs.declared.record.Record.{Record}
+use Rattle.lru_journal.specs.declared.tally.View.{View}
+
+-- what tells one twin from another: the table of its cell, and the capacity that it began with
+pub record Name : Type 0 where
+  pub table : TableId
+  pub capacity : ℕ
+
+abbrev pub name : TableId → ℕ → Name
+name table capacity = record { table = table; capacity = capacity }
+
+-- the name of no twin
+abbrev pub no_name : Name
+no_name = record { table = record { words = 0; slots = 0; views_name = 0; atom = 0; block = 0; offset = 0; slot_names = [] }; capacity = 0 }
+
+-- a record that carries no key
+abbrev pub no_record : {K : Type 0} → Record K
+no_record = record { step = Prune; reply = Done }
+
+-- how many parts a twin has
+abbrev pub all_parts : ℕ
+all_parts = 1000000
+
+-- f of each, added up
+abbrev pub total : {A : Type 0} → (A → ℕ) → List A → ℕ
+total f [] = 0
+total f (x ∷ xs) = f x + total f xs
+
+-- the records of these receipts that stand at the position n
+abbrev pub at : {A : Type 0} → ℕ → List (ℕ × A) → List A
+at n [] = []
+at n (x ∷ xs) = if x.0 == n then x.1 ∷ at n xs else at n xs
+
+-- how many of these receipts stand at the position n
+abbrev pub times : {A : Type 0} → ℕ → List (ℕ × A) → ℕ
+times n [] = 0
+times n (x ∷ xs) = if x.0 == n then suc (times n xs) else times n xs
+
+-- 1 for each number below the count
+abbrev pub once_below : ℕ → ℕ → ℕ
+once_below n zero = 0
+once_below zero (suc count) = 1
+once_below (suc n) (suc count) = once_below n count
+
+-- what stands at the position n, if anything
+abbrev pub slot : {A : Type 0} → ℕ → List A → List A
+slot n [] = []
+slot zero (x ∷ xs) = x ∷ []
+slot (suc n) (x ∷ xs) = slot n xs
+
+-- each receipt's record stands among the records, at its position
+abbrev pub Stand : {A : Type 0} → List A → List (ℕ × A) → Type 0
+Stand log [] = Unit {0}
+Stand log (x ∷ xs) = (slice_get log x.0 ≡ Some x.1) × Stand log xs
+
+-- each position is below the count
+abbrev pub AllBelow : {A : Type 0} → ℕ → List (ℕ × A) → Type 0
+AllBelow count [] = Unit {0}
+AllBelow count (x ∷ xs) = (x.0 < count) × AllBelow count xs
+
+-- position by position, the records are exactly the receipts
+abbrev pub AreExactly : {A : Type 0} → List A → List (ℕ × A) → Type 0
+AreExactly records receipts = (n : ℕ) → at n receipts ≡ slot n records
+
+-- a tally: its parts and its receipts
+pub record Hand (K : Type 0) : Type 0 where
+  pub parts : ℕ
+  pub receipts : List (ℕ × Record K)
+
+abbrev pub hand : {K : Type 0} → ℕ → List (ℕ × Record K) → Hand K
+hand parts receipts = record { parts = parts; receipts = receipts }
+
+-- a tally with one receipt more
+abbrev pub gained : {K : Type 0} → Hand K → ℕ → Record K → Hand K
+gained h n r = hand h.parts (h.receipts ++ (n, r) ∷ [])
+
+-- an accepted call: the receipt of its record comes last, at a position past all that the tally had
+pub record Receives {K : Type 0} (old : Hand K) (r : Record K) (new : Hand K) : Type 0 where
+  pub position : ℕ
+  pub past : AllBelow position old.receipts
+  pub gains : new ≡ gained old position r
+
+-- a tally with another's parts and receipts
+abbrev pub merged : {K : Type 0} → Hand K → Hand K → Hand K
+merged h k = hand (h.parts + k.parts) (h.receipts ++ k.receipts)
+
+-- what a pass knows
+abbrev pub view : {K : Type 0} → Bool → List (Record K) → ℕ → List (ℕ × Record K) → View K
+view keeps all parts receipts = record { keeps = keeps; all = all; parts = parts; receipts = receipts }
+
+-- the first pass: it keeps the records, and has all parts
+abbrev pub opening : {K : Type 0} → View K
+opening = view true [] all_parts []
+
+-- the keeper, with no tally
+abbrev pub knower : {K : Type 0} → List (Record K) → View K
+knower all = view true all 0 []
+
+-- a pass that is used up
+abbrev pub nobody : {K : Type 0} → View K
+nobody = view false [] 0 []
+
+-- the keeper and the tally that it gives away
+abbrev pub keeper_of : {K : Type 0} → View K → View K
+keeper_of v = view v.keeps v.all 0 []
+
+abbrev pub hand_of : {K : Type 0} → View K → View K
+hand_of v = view false [] v.parts v.receipts
+
+-- a tally that gives one part away, and that part
+abbrev pub less_one : {K : Type 0} → View K → View K
+less_one v = view v.keeps v.all (v.parts - 1) v.receipts
+
+abbrev pub one_part : {K : Type 0} → View K → View K
+one_part v = view false [] 1 []
+
+-- a pass that takes another's parts and receipts in
+abbrev pub taken : {K : Type 0} → View K → View K → View K
+taken v w = view v.keeps v.all (v.parts + w.parts) (v.receipts ++ w.receipts)
+
+-- one pass at most knows all records. The records of its receipts stand among them. Without parts it has no receipts
+abbrev pub Fits : {K : Type 0} → ℕ → List (Record K) → ℕ → View K → Type 0
+Fits seat log by v = (v.keeps ≡ true → (by ≡ seat) × (v.all ≡ log)) × Stand log v.receipts × (v.parts ≡ 0 → v.receipts ≡ [])
+
+-- The word is the count of records. The parts are fixed in number. The positions in all tallies are the numbers below the count, each once
+pub record IsCounted {K : Type 0} (words : List ℕ) (views : List (View K)) : Type 0 where
+  pub seat : ℕ
+  pub log : List (Record K)
+  pub count : slice_index words 0 ≡ length log
+  pub parts : total (λ v. v.parts) views ≡ all_parts
+  pub positions : (n : ℕ) → total (λ v. times n v.receipts) views ≡ once_below n (length log)
+  pub fits : (by : ℕ) (v : View K) → get_elem? views by ≡ some v → Fits seat log by v
+
+-- the record is added to all records, and its receipt to the tally, past every position there
+abbrev pub Appended : {K : Type 0} → Record K → View K → List ℕ → List ℕ → View K → Type 0
+Appended r v before after w = (w ≡ view v.keeps (v.all ++ r ∷ []) v.parts (v.receipts ++ (length v.all, r) ∷ [])) × AllBelow (length v.all) v.receipts
+
+-- the whole tally has exactly the records
+abbrev pub Checked : {K : Type 0} → View K → List ℕ → List ℕ → View K → Type 0
+Checked v before after w = (w ≡ v) × AreExactly v.all v.receipts

@@ -1,0 +1,83 @@
+//! What a caller of the twin holds of an entry: its stamp and its value.
+//! A pin is given back by `release` alone, since the record of a release has to be made.
+ghost use Rattle.std.specs.Prelude.{◌≡◌};
+ghost use Rattle.std.specs.Arc.{arc_value};
+ghost use Rattle.lru_journal.specs.Replay.{told_begun, told_found};
+ghost use Rattle.lru_journal.specs.Calls.{pinned, told_started, told_pinned};
+
+use concurrent_lru::lru_core::Begun;
+use std::marker::Model;
+use std::sync::Arc;
+
+/// A pin of an entry: its stamp, and its value. Dropping it releases nothing.
+#[derive(Drop)]
+pub struct Pin<V> {
+    stamp: u64,
+    value: Arc<V>,
+}
+
+impl<V> Model for Pin<V> {
+    ghost use Rattle.lru_journal.specs.Pins.{Pinned};
+    ghost use Rattle.std.specs.Arc.{arc_value};
+
+    ghost Value = { Pinned V };
+
+    ghost view = { λ p. record { stamp = p.stamp; value = arc_value p.value } };
+}
+
+impl<V> Pin<V> {
+    /// The pin of the entry with this stamp, of this value.
+    pub fn new(stamp: u64, value: Arc<V>) -> Pin<V>
+        ensures { result ≡ pinned stamp (arc_value value) }
+    {
+        Pin { stamp, value }
+    }
+
+    /// The stamp of the entry.
+    pub fn stamp(&self) -> u64
+        ensures { result ≡ self.now.stamp }
+    {
+        self.stamp
+    }
+
+    /// The value. Takes no lock.
+    pub fn value(&self) -> &V
+        ensures { result.now ≡ self.now.value }
+    {
+        &self.value
+    }
+}
+
+/// What the twin's `begin` and `poll` say.
+#[derive(Drop)]
+pub enum Started<V> {
+    /// The caller is to make the value of the entry with this stamp, and then calls `ready` or
+    /// `fail`.
+    Make(u64),
+    /// Another caller is making it; ask again by `poll`.
+    Wait(u64),
+    /// The value is there.
+    Hit(Pin<V>),
+}
+
+impl<V> Started<V> {
+    pub(crate) fn of(begun: Begun<V>) -> Started<V>
+        ensures { told_started result ≡ told_begun begun }
+    {
+        match begun {
+            Begun::Make(stamp) => Started::Make(stamp),
+            Begun::Wait(stamp) => Started::Wait(stamp),
+            Begun::Hit(stamp, value) => Started::Hit(Pin::new(stamp, value)),
+        }
+    }
+}
+
+// What `get` finds, as a pin.
+pub(crate) fn pin_of<V>(found: Option<(u64, Arc<V>)>) -> Option<Pin<V>>
+    ensures { told_pinned result ≡ told_found found }
+{
+    match found {
+        Some((stamp, value)) => Some(Pin::new(stamp, value)),
+        None => None,
+    }
+}

@@ -1,0 +1,209 @@
+//! The tallies of a twin, and the ruled cell that ties their receipts to its records.
+//! Passes of that cell have no bytes; the cell's one word counts the records.
+ghost use Rattle.std.specs.Prelude.{◌≡◌, ◌+◌, ◌^◌, ◌<◌, ◌++◌, ◌∷◌, [], length, IfOk};
+ghost use Rattle.crossbeam_utils.specs.Seq.{cell_view};
+ghost use Rattle.lru_journal.specs.Tallies.{knower, gained, AllBelow};
+
+use crate::record::Record;
+use atomic_table::{Join, Split};
+use concurrent_lru::lru_core::Refusal;
+use crossbeam_utils::atomic::seq_cell::{Pass, RuledSeqCell};
+use crossbeam_utils::rule::{Outcome, Protocol};
+use std::alloc::Global;
+use std::collections::LinkedList;
+use std::marker::{Brand, Model, PhantomData};
+use std::sync::Wait;
+
+/// Names one twin, to contracts alone: a parameter of the twin and of its tallies, so that a
+/// tally of another twin is of another type.
+pub trait Identity {
+    ghost use Rattle.lru_journal.specs.Tallies.{Name};
+
+    ghost name: { Name };
+}
+
+impl Identity for Brand {
+    ghost use Rattle.lru_journal.specs.Tallies.{no_name};
+
+    ghost name = { no_name };
+}
+
+/// The record of an accepted call, which reaches the cell's step by this type.
+pub trait Noted<K> {
+    ghost use Rattle.lru_journal.specs.declared.record.Record.{Record};
+
+    ghost made: { Record K };
+}
+
+impl<K> Noted<K> for Brand {
+    ghost use Rattle.lru_journal.specs.Tallies.{no_record};
+
+    ghost made = { no_record };
+}
+
+/// What a pass knows. No value of it is ever made.
+pub struct View<K> {
+    /// Whether it knows all records, as the pass under the twin's lock.
+    pub keeps: bool,
+    /// The records that it knows.
+    pub all: LinkedList<Record<K>>,
+    /// Its parts of the twin.
+    pub parts: u64,
+    /// Its receipts: positions, and the records there.
+    pub receipts: LinkedList<(u64, Record<K>)>,
+}
+
+/// The rule of the cell, whose one word is the count of records.
+pub struct Counted;
+
+impl<K> Protocol<[u64; 1], View<K>> for Counted {
+    ghost use Rattle.lru_journal.specs.Tallies.{IsCounted, opening};
+
+    ghost holds = { IsCounted };
+
+    ghost first = { opening };
+}
+
+/// A record is added to all records, and its receipt to the tally that the keeper has taken in.
+pub struct Appends<E> {
+    noted: PhantomData<E>,
+}
+
+impl<K, E: Noted<K>> Outcome<[u64; 1], View<K>> for Appends<E> {
+    ghost use Rattle.lru_journal.specs.Tallies.{Appended};
+
+    ghost then = { Appended E.made };
+}
+
+/// The keeper compares the whole tally with all records.
+pub struct Checks;
+
+impl<K> Outcome<[u64; 1], View<K>> for Checks {
+    ghost use Rattle.lru_journal.specs.Tallies.{Checked};
+
+    ghost then = { Checked };
+}
+
+/// The keeper gives the tally away, with all parts and receipts.
+pub struct Gives;
+
+impl<K> Split<View<K>> for Gives {
+    ghost use Rattle.lru_journal.specs.Tallies.{keeper_of, hand_of};
+
+    ghost left = { keeper_of };
+
+    ghost right = { hand_of };
+}
+
+/// One part of a tally is cut off.
+pub struct OnePart;
+
+impl<K> Split<View<K>> for OnePart {
+    ghost use Rattle.lru_journal.specs.Tallies.{less_one, one_part};
+
+    ghost left = { less_one };
+
+    ghost right = { one_part };
+}
+
+/// A tally's parts and receipts are taken in.
+pub struct Takes;
+
+impl<K> Join<View<K>> for Takes {
+    ghost use Rattle.lru_journal.specs.Tallies.{taken, nobody};
+
+    ghost both = { taken };
+
+    ghost spent = { nobody };
+}
+
+/// The cell of a twin's tallies.
+pub type Cell<K> = RuledSeqCell<[u64; 1], View<K>, Counted, 1>;
+
+/// A pass of that cell. It has no bytes.
+pub type Knows<K> = Pass<[u64; 1], View<K>>;
+
+/// What a twin is made of: a capacity, a new cell, and the cell's first pass.
+///
+/// A twin is made in a function that is generic in its `Identity`, called with `Brand`:
+/// there the call picks the opening's own name.
+#[derive(Drop)]
+pub struct Opening<K> {
+    pub(crate) capacity: u64,
+    pub(crate) cell: Cell<K>,
+    pub(crate) first: Knows<K>,
+}
+
+impl<K> Model for Opening<K> {
+    ghost use Rattle.std.specs.Prelude.{◌≡◌};
+    ghost use Rattle.crossbeam_utils.specs.Seq.{cell_view};
+    ghost use Rattle.lru_journal.specs.Tallies.{Name, name, opening};
+
+    ghost Value = { Name };
+
+    ghost view = { λ o. name o.cell.table.shared.table_id o.capacity };
+
+    ghost invariant = { λ o. (o.first.table_id ≡ o.cell.table.shared.table_id) × (cell_view o.first ≡ opening) };
+}
+
+impl<K> Opening<K> {
+    /// For a twin that settles to `capacity`. `Memory` where there is no room for the cell.
+    pub fn new(alloc: Global, capacity: u64) -> Result<Opening<K>, Refusal>
+        ensures { IfOk result (λ o. o.capacity ≡ capacity) }
+    {
+        let Ok((cell, first)) = Cell::<K>::ruled(alloc, [0]) else {
+            return Err(Refusal::Memory);
+        };
+        Ok(Opening {
+            capacity,
+            cell,
+            first,
+        })
+    }
+}
+
+/// Some of the million parts of a twin, and the receipts of accepted calls: of each its record,
+/// and the position of that record among all. It has no bytes.
+///
+/// Whoever calls the twin needs a tally with a part; whoever has all parts has all receipts.
+#[derive(Drop)]
+pub struct Tally<K, I: Identity> {
+    pub(crate) pass: Knows<K>,
+    pub(crate) twin: PhantomData<I>,
+}
+
+impl<K, I: Identity> Model for Tally<K, I> {
+    ghost use Rattle.std.specs.Prelude.{◌≡◌, ◌<◌, false};
+    ghost use Rattle.crossbeam_utils.specs.Seq.{cell_view};
+    ghost use Rattle.lru_journal.specs.Tallies.{Hand, hand};
+
+    ghost Value = { Hand K };
+
+    ghost view = { λ t. hand (cell_view t.pass).parts (cell_view t.pass).receipts };
+
+    ghost invariant = { λ t. (t.pass.table_id ≡ I.name.table) × ((cell_view t.pass).keeps ≡ false) × (0 < (cell_view t.pass).parts) };
+}
+
+// Adds a record to all records, and its receipt to the tally. The keeper takes the whole tally in,
+// gains both in one step, and gives the tally back, so that the rule holds between any two moves.
+pub(crate) fn append<K, E: Noted<K>, I: Identity, R: Wait>(
+    rt: &R,
+    cell: &Cell<K>,
+    keeper: &mut Knows<K>,
+    tally: &mut Tally<K, I>,
+    number: usize,
+    noted: &Record<K>,
+)
+    requires cell { (cell.now.table.shared.table_id ≡ I.name.table) × (keeper.old.table_id ≡ I.name.table) }
+    requires keeper { (cell_view keeper.old ≡ knower (cell_view keeper.old).all) × (length (cell_view keeper.old).all ≡ number) }
+    requires noted { noted.now ≡ E.made }
+    requires room { number + 1 < 2 ^ 64 }
+    ensures keeper { (keeper.new.table_id ≡ I.name.table) × (cell_view keeper.new ≡ knower ((cell_view keeper.old).all ++ noted.now ∷ [])) }
+    ensures tally { tally.new ≡ gained tally.old number noted.now }
+    ensures past { AllBelow number tally.old.receipts }
+{
+    let mine = cell.split_pass::<Gives>(&mut tally.pass);
+    cell.join_pass::<Takes>(keeper, mine);
+    cell.swap_as::<Appends<E>, R>(rt, keeper, [number as u64 + 1]);
+    tally.pass = cell.split_pass::<Gives>(keeper);
+}

@@ -1,0 +1,252 @@
+//! The twin: a journal that threads share, each with a tally of its own calls.
+//! A call takes the lock once, for one step of the journal; what it evicted is dropped without it.
+ghost use Rattle.std.specs.Prelude.{◌≡◌, ◌-◌, ◌<◌, [], true, IfOk, IfErr, OnErr};
+ghost use Rattle.std.specs.Arc.{arc_value};
+ghost use Rattle.concurrent_lru.specs.Keys.{CopiesAreEqual};
+ghost use Rattle.lru_journal.specs.Calls.{told_started, told_pinned};
+ghost use Rattle.lru_journal.specs.Journals.{IsHistory};
+ghost use Rattle.lru_journal.specs.Replay.{recorded, told_failed};
+ghost use Rattle.lru_journal.specs.Tallies.{hand, merged, all_parts, AreExactly, Receives};
+
+use crate::desk::Desk;
+use crate::journal::Journal;
+use crate::pin::{Pin, Started, pin_of};
+use crate::record::{Recorded, Told};
+use crate::tally::{Cell, Gives, Identity, OnePart, Opening, Takes, Tally};
+use concurrent_lru::lru_core::{Failed, Refusal};
+use std::alloc::Global;
+use std::hash::Hash;
+use std::marker::PhantomData;
+use std::sync::{Arc, Mutex, Wait};
+
+/// A journaled cache that threads share.
+///
+/// Each call is handed the caller's tally. An accepted call adds one receipt to it, the record of
+/// its own step and reply, at a position past all that the tally had; a refused one leaves the
+/// tally. Any call may be refused with `Memory`, where there is no room for its record.
+#[derive(Drop)]
+pub struct LruCache<K: Hash + Eq + Clone, V, R, I: Identity> {
+    cell: Cell<K>,
+    desk: Mutex<Desk<K, V, I>>,
+    rt: R,
+    pub ghost own: { cell.table.shared.table_id ≡ I.name.table },
+}
+
+impl<
+    K: Hash + Eq + Clone + Send + Sync,
+    V: Drop + Send + Sync,
+    R: Wait + Drop,
+    I: Identity,
+> LruCache<K, V, R, I> {
+    /// An empty twin that settles to the opening's capacity, and its first tally, which has all
+    /// parts. Takes no memory.
+    pub fn new(alloc: Global, rt: R, opening: Opening<K>) -> (LruCache<K, V, R, I>, Tally<K, I>)
+        requires named { opening ≡ I.name }
+        requires copies { CopiesAreEqual K.is_clone K.eq }
+        ensures { result.1 ≡ hand all_parts [] }
+    {
+        let Opening {
+            capacity,
+            cell,
+            mut first,
+        } = opening;
+        let pass = cell.split_pass::<Gives>(&mut first);
+        let desk = Desk {
+            journal: Journal::new(alloc, capacity),
+            keeper: first,
+            twin: PhantomData,
+        };
+        let tally = Tally {
+            pass,
+            twin: PhantomData,
+        };
+        let twin = LruCache {
+            cell,
+            desk: Mutex::new(desk),
+            rt,
+        };
+        (twin, tally)
+    }
+
+    /// Asks for the value of a key and pins its entry, which is made where there is none.
+    ///
+    /// `Overflow` as `Journal::begin` says.
+    pub fn begin(
+        &self,
+        tally: &mut Tally<K, I>,
+        key: &K,
+        charge: u64,
+    ) -> Result<Started<V>, Refusal>
+        requires { 0 < charge }
+        ensures accepted { IfOk result (λ started. (copy : K) × (K.eq copy key.now ≡ true) × Receives tally.old (recorded (Recorded.Begin copy charge) (told_started started)) tally.new) }
+        ensures refused { OnErr result (tally.new ≡ tally.old) }
+        ensures parts { tally.new.parts ≡ tally.old.parts }
+    {
+        let answer = self
+            .desk
+            .lock(&self.rt)
+            .begin(&self.rt, &self.cell, tally, key, charge)?;
+        let (begun, evicted) = answer;
+        drop(evicted);
+        Ok(Started::of(begun))
+    }
+
+    /// Asks again for a value that was being made, by the stamp that `begin` gave.
+    ///
+    /// `Stale` where no held entry has the stamp.
+    pub fn poll(&self, tally: &mut Tally<K, I>, stamp: u64) -> Result<Started<V>, Refusal>
+        ensures accepted { IfOk result (λ started. Receives tally.old (recorded (Recorded.Poll stamp) (told_started started)) tally.new) }
+        ensures refused { OnErr result (tally.new ≡ tally.old) }
+        ensures parts { tally.new.parts ≡ tally.old.parts }
+    {
+        let begun = self
+            .desk
+            .lock(&self.rt)
+            .poll(&self.rt, &self.cell, tally, stamp)?;
+        Ok(Started::of(begun))
+    }
+
+    /// Gives the value of an entry that is being made. A refusal hands it back.
+    ///
+    /// `Stale` where no entry is being made under that stamp.
+    pub fn ready(
+        &self,
+        tally: &mut Tally<K, I>,
+        stamp: u64,
+        value: Arc<V>,
+    ) -> Result<(), (Refusal, Arc<V>)>
+        ensures accepted { IfOk result (λ _. Receives tally.old (recorded (Recorded.Ready stamp) Told.Done) tally.new) }
+        ensures refused { OnErr result (tally.new ≡ tally.old) }
+        ensures parts { tally.new.parts ≡ tally.old.parts }
+        ensures back { IfErr result (λ e. arc_value e.1 ≡ arc_value value) }
+    {
+        self.desk
+            .lock(&self.rt)
+            .ready(&self.rt, &self.cell, tally, stamp, value)
+    }
+
+    /// Gives a making up, and the pin with it.
+    ///
+    /// `Stale` where no entry is being made under that stamp.
+    pub fn fail(&self, tally: &mut Tally<K, I>, stamp: u64) -> Result<Failed<K>, Refusal>
+        ensures accepted { IfOk result (λ failed. Receives tally.old (recorded (Recorded.Fail stamp) (told_failed failed)) tally.new) }
+        ensures refused { OnErr result (tally.new ≡ tally.old) }
+        ensures parts { tally.new.parts ≡ tally.old.parts }
+    {
+        self.desk
+            .lock(&self.rt)
+            .fail(&self.rt, &self.cell, tally, stamp)
+    }
+
+    /// The value of a key that is ready, pinned once more.
+    ///
+    /// `Overflow` where the entry has the greatest number of pins.
+    pub fn get(&self, tally: &mut Tally<K, I>, key: &K) -> Result<Option<Pin<V>>, Refusal>
+        ensures accepted { IfOk result (λ found. (copy : K) × (K.eq copy key.now ≡ true) × Receives tally.old (recorded (Recorded.Get copy) (told_pinned found)) tally.new) }
+        ensures refused { OnErr result (tally.new ≡ tally.old) }
+        ensures parts { tally.new.parts ≡ tally.old.parts }
+    {
+        let found = self
+            .desk
+            .lock(&self.rt)
+            .get(&self.rt, &self.cell, tally, key)?;
+        Ok(pin_of(found))
+    }
+
+    /// Gives a pin back. A refusal hands it back to the caller.
+    ///
+    /// `Stale` where no held and ready entry has its stamp.
+    pub fn release(&self, tally: &mut Tally<K, I>, pin: Pin<V>) -> Result<(), (Refusal, Pin<V>)>
+        ensures accepted { IfOk result (λ _. Receives tally.old (recorded (Recorded.Release pin.stamp) Told.Done) tally.new) }
+        ensures refused { OnErr result (tally.new ≡ tally.old) }
+        ensures parts { tally.new.parts ≡ tally.old.parts }
+        ensures back { IfErr result (λ e. e.1 ≡ pin) }
+    {
+        let stamp = pin.stamp();
+        let released = self
+            .desk
+            .lock(&self.rt)
+            .release(&self.rt, &self.cell, tally, stamp);
+        match released {
+            Ok(evicted) => {
+                drop(evicted);
+                Ok(())
+            }
+            Err(refusal) => Err((refusal, pin)),
+        }
+    }
+
+    /// Evicts the entry of a key, where it is idle; else nothing happens.
+    pub fn advice_evict(&self, tally: &mut Tally<K, I>, key: &K) -> Result<(), Refusal>
+        ensures accepted { IfOk result (λ _. (copy : K) × (K.eq copy key.now ≡ true) × Receives tally.old (recorded (Recorded.AdviceEvict copy) Told.Done) tally.new) }
+        ensures refused { OnErr result (tally.new ≡ tally.old) }
+        ensures parts { tally.new.parts ≡ tally.old.parts }
+    {
+        let evicted = self
+            .desk
+            .lock(&self.rt)
+            .advice_evict(&self.rt, &self.cell, tally, key)?;
+        drop(evicted);
+        Ok(())
+    }
+
+    /// Evicts every idle entry.
+    pub fn prune(&self, tally: &mut Tally<K, I>) -> Result<(), Refusal>
+        ensures accepted { IfOk result (λ _. Receives tally.old (recorded Recorded.Prune Told.Done) tally.new) }
+        ensures refused { OnErr result (tally.new ≡ tally.old) }
+        ensures parts { tally.new.parts ≡ tally.old.parts }
+    {
+        let evicted = self.desk.lock(&self.rt).prune(&self.rt, &self.cell, tally)?;
+        drop(evicted);
+        Ok(())
+    }
+
+    /// The sum of the charges of all entries, those still being made included.
+    pub fn total(&self, tally: &mut Tally<K, I>) -> Result<u64, Refusal>
+        ensures accepted { IfOk result (λ total. Receives tally.old (recorded Recorded.Total (Told.Total total)) tally.new) }
+        ensures refused { OnErr result (tally.new ≡ tally.old) }
+        ensures parts { tally.new.parts ≡ tally.old.parts }
+    {
+        self.desk.lock(&self.rt).total(&self.rt, &self.cell, tally)
+    }
+
+    /// The journal, for whoever has the whole tally. Its records are one legal history from the
+    /// empty cache with the capacity of the opening, and position by position they are exactly the
+    /// tally's receipts: each accepted call stands there once.
+    pub fn into_journal(self, tally: Tally<K, I>) -> Journal<K, V>
+        requires { tally.parts ≡ all_parts }
+        ensures exactly { AreExactly result.records tally.receipts }
+        ensures history { IsHistory K.eq result }
+        ensures began { result.began ≡ I.name.capacity }
+    {
+        let LruCache { cell, desk, rt } = self;
+        let journal = desk.into_inner().close(&rt, &cell, tally);
+        // Its invariant, as a clause.
+        let _records = journal.records();
+        journal
+    }
+}
+
+impl<K: Hash + Eq + Clone, I: Identity> Tally<K, I> {
+    /// Gives one part of two or more away, without receipts. Takes no lock and no memory.
+    pub fn split<V, R>(&mut self, cache: &LruCache<K, V, R, I>) -> Tally<K, I>
+        requires { 1 < self.old.parts }
+        ensures given { result ≡ hand 1 [] }
+        ensures kept { self.new ≡ hand (self.old.parts - 1) self.old.receipts }
+    {
+        let pass = cache.cell.split_pass::<OnePart>(&mut self.pass);
+        Tally {
+            pass,
+            twin: PhantomData,
+        }
+    }
+
+    /// Takes in another tally's parts and receipts. Takes no lock and no memory.
+    pub fn join<V, R>(&mut self, cache: &LruCache<K, V, R, I>, other: Tally<K, I>)
+        ensures { self.new ≡ merged self.old other }
+    {
+        let Tally { mut pass, twin: _ } = other;
+        let given = cache.cell.split_pass::<Gives>(&mut pass);
+        cache.cell.join_pass::<Takes>(&mut self.pass, given);
+    }
+}
