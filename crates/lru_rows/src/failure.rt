@@ -1,0 +1,77 @@
+//! Why the program ends early.
+//! Each failure has its line on standard error, if any, and its status.
+
+use concurrent_lru::lru_core::Refusal;
+use std::alloc::{AllocError, AllocFailed};
+use std::io;
+use std::io::Write;
+
+/// Why the program does not end with status 0.
+#[derive(Clone, Copy, Debug, PartialEq, Eq)]
+pub enum Failure {
+    /// The words are none that the program knows.
+    Usage,
+    /// A call was refused where no row asks for it; memory of the program's own counts too.
+    Refused(Refusal),
+    /// A write failed.
+    Write,
+}
+
+impl Failure {
+    /// Tells the failure on `err`, in one line, and answers the status to end with: 2 for the
+    /// wrong words, else 1. A failed write is not told.
+    pub fn report<E: Write>(self, err: &mut E) -> u8 {
+        let told = match self {
+            Failure::Usage => writeln!(err, "usage: rows | stress SEED"),
+            Failure::Refused(refusal) => writeln!(err, "refused {}", refusal.code()),
+            Failure::Write => Ok(()),
+        };
+        match (self, told) {
+            (Failure::Usage, Ok(())) => 2,
+            _ => 1,
+        }
+    }
+}
+
+impl From<Refusal> for Failure {
+    fn from(refusal: Refusal) -> Failure {
+        Failure::Refused(refusal)
+    }
+}
+
+impl From<AllocError> for Failure {
+    fn from(error: AllocError) -> Failure {
+        Failure::Refused(Refusal::from(error))
+    }
+}
+
+impl From<io::Error> for Failure {
+    fn from(_: io::Error) -> Failure {
+        Failure::Write
+    }
+}
+
+#[cfg(test)]
+mod tests {
+    use super::*;
+    use std::io::ErrorKind;
+    use std::test::Fail;
+
+    #[test]
+    fn has_a_line_and_a_status(rt: HostRuntime) -> Result<(), Fail> {
+        let cases = [
+            (Failure::Usage, "usage: rows | stress SEED\n", 2),
+            (Failure::from(AllocError), "refused 1\n", 1),
+            (Failure::from(Refusal::Memory), "refused 1\n", 1),
+            (Failure::from(Refusal::Overflow), "refused 2\n", 1),
+            (Failure::from(Refusal::Stale), "refused 3\n", 1),
+            (Failure::from(io::Error::from(ErrorKind::BrokenPipe)), "", 1),
+        ];
+        for (failure, line, status) in cases {
+            let mut err = Vec::new(rt.alloc());
+            assert_eq!(rt; failure.report(&mut err), status, "at {failure:?}");
+            assert_eq!(rt; str::from_utf8(&err)?, line, "at {failure:?}");
+        }
+        Ok(())
+    }
+}

@@ -1,0 +1,41 @@
+//! A hasher whose number of a `u64` is the `u64` itself.
+//! With it the shard of a key can be told from the key.
+
+use std::hash::{BuildHasher, Hasher};
+
+/// Makes hashers whose number is the last `u64` that was written.
+#[derive(Clone, Copy)]
+pub struct ByOwnNumber;
+
+impl BuildHasher for ByOwnNumber {
+    type Hasher = OwnNumber;
+
+    ghost build_hasher = { λ _. record { 0 = 0 } };
+
+    fn build_hasher(&self) -> OwnNumber {
+        OwnNumber(0)
+    }
+}
+
+/// Remembers the last `u64` that was written; other writes change nothing.
+#[derive(Drop)]
+pub struct OwnNumber(u64);
+
+impl Hasher for OwnNumber {
+    ghost use Rattle.std.specs.Prelude.{length, nat_eq, cond};
+    ghost use Rattle.std.specs.Int.{from_le_bytes, w64};
+
+    ghost write = { λ s bytes. cond (nat_eq (length bytes) 8) (record { 0 = from_le_bytes w64 bytes }) s };
+
+    ghost finish = { λ s. s.0 };
+
+    fn finish(&self) -> u64 {
+        self.0
+    }
+
+    fn write(&mut self, bytes: &[u8]) {
+        if let Ok(bytes) = <[u8; 8]>::try_from(bytes) {
+            self.0 = u64::from_le_bytes(bytes);
+        }
+    }
+}
