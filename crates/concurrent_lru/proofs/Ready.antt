@@ -21,8 +21,8 @@ use Rattle.concurrent_lru.specs.Steps.{with_held, without_held, without, one_mor
 use Rattle.concurrent_lru.specs.Turns.{IfHit}
 use Rattle.concurrent_lru.specs.declared.list.Refusal.{Refusal}
 use Rattle.concurrent_lru.specs.declared.list.Refusal.TheVariants.{Stale}
-use Rattle.concurrent_lru.specs.declared.lru_core.Begun.{Begun}
-use Rattle.concurrent_lru.specs.declared.lru_core.Begun.TheVariants as rust
+use Rattle.concurrent_lru.specs.declared.step.Begun.{Begun}
+use Rattle.concurrent_lru.specs.declared.step.Begun.TheVariants as rust
 use Rattle.concurrent_lru.proofs.Changes.{inserted_at, inserted_other}
 use Rattle.concurrent_lru.proofs.Empties.{empty_lawful}
 use Rattle.concurrent_lru.proofs.Evicts.{removed_some}

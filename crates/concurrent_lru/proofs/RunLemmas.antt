@@ -5,8 +5,8 @@ use Rattle.concurrent_lru.specs.Cache.{Cache}
 use Rattle.concurrent_lru.specs.Request.{Request}
 use Rattle.concurrent_lru.specs.Results.{IsAnswerTo, AreAnswersTo}
 use Rattle.concurrent_lru.specs.Runs.{Outcome, Stands, Run}
-use Rattle.concurrent_lru.specs.declared.lru_core.Answer.{Answer}
-use Rattle.concurrent_lru.specs.declared.lru_core.Step.{Step as RustStep}
+use Rattle.concurrent_lru.specs.declared.step.Answer.{Answer}
+use Rattle.concurrent_lru.specs.declared.step.Step.{Step as RustStep}
 
 module _ {K V : Type 0} where
   pub Run-push : (E : K → K → Bool) (old mid new : Cache K V) (rs : List (Request K V)) (os : List (Outcome K V)) (r : Request K V) (o : Outcome K V) → Run E old rs os mid → Stands E mid r o new → Run E old (rs ++ r ∷ []) (os ++ o ∷ []) new

@@ -9,11 +9,11 @@ use Rattle.concurrent_lru.specs.Runs.{Outcome, accepted, refused}
 use Rattle.concurrent_lru.specs.Results.{reply_of, request_of, outcome_of, IsAnswerTo}
 use Rattle.concurrent_lru.specs.declared.list.Refusal.{Refusal}
 use Rattle.concurrent_lru.specs.declared.list.Refusal.TheVariants.{Stale}
-use Rattle.concurrent_lru.specs.declared.lru_core.Begun.{Begun}
-use Rattle.concurrent_lru.specs.declared.lru_core.Answer.{Answer}
-use Rattle.concurrent_lru.specs.declared.lru_core.Answer.TheVariants as answer
-use Rattle.concurrent_lru.specs.declared.lru_core.Step.{Step as RustStep}
-use Rattle.concurrent_lru.specs.declared.lru_core.Step.TheVariants as step
+use Rattle.concurrent_lru.specs.declared.step.Begun.{Begun}
+use Rattle.concurrent_lru.specs.declared.step.Answer.{Answer}
+use Rattle.concurrent_lru.specs.declared.step.Answer.TheVariants as answer
+use Rattle.concurrent_lru.specs.declared.step.Step.{Step as RustStep}
+use Rattle.concurrent_lru.specs.declared.step.Step.TheVariants as step
 use Rattle.concurrent_lru.specs.declared.shards.ShardStep.{ShardStep}
 use Rattle.concurrent_lru.specs.declared.shards.ShardStep.TheVariants as shard
 

@@ -1,8 +1,8 @@
 -- What the threaded calls answer: hits, turns, handles and errors.
 use Rattle.std.specs.Prelude.{⊤}
 use Rattle.std.specs.Arc.{arc_value}
-use Rattle.concurrent_lru.specs.declared.lru_core.Begun.{Begun}
-use Rattle.concurrent_lru.specs.declared.lru_core.Begun.TheVariants as begun
+use Rattle.concurrent_lru.specs.declared.step.Begun.{Begun}
+use Rattle.concurrent_lru.specs.declared.step.Begun.TheVariants as begun
 use Rattle.concurrent_lru.specs.declared.unsharded.Turn.{Turn}
 use Rattle.concurrent_lru.specs.declared.unsharded.Turn.TheVariants as turn
 use Rattle.concurrent_lru.specs.declared.get_error.GetError.{GetError}

@@ -12,6 +12,7 @@ pub mod lru_core;
 pub mod shard_laws;
 pub mod sharded;
 mod shards;
+mod step;
 pub mod step_laws;
 mod table;
 pub mod unsharded;

@@ -14,80 +14,13 @@ ghost use Rattle.concurrent_lru.specs.WholeRuns.{KeepsStamps, LeavesTail};
 pub use crate::eviction::{Evicted, Gone};
 pub use crate::list::Refusal;
 use crate::list::{Node, Nodes, Phase, Place};
+pub use crate::step::{Answer, Begun, Failed, Step};
 use crate::table::{add, evict_at, find_key, find_stamp, pin, remove_held, settle};
 use std::alloc::Global;
 use std::fmt;
 use std::hash::Hash;
 use std::marker::Model;
 use std::sync::Arc;
-
-/// What `begin` and `poll` say. Each holds the stamp of the entry, in which the caller has a pin.
-#[derive(Drop)]
-pub enum Begun<V> {
-    /// The caller is to make the value, and then calls `ready` or `fail`.
-    Make(u64),
-    /// Another caller is making it; ask again by `poll`.
-    Wait(u64),
-    /// The value is there.
-    Hit(u64, Arc<V>),
-}
-
-/// What `fail` did with the entry.
-#[derive(Drop)]
-pub enum Failed<K> {
-    /// Others wait for it: the next that polls takes the making over.
-    Left,
-    /// Nobody waits for it: it is gone, and this was its key.
-    Removed(K),
-}
-
-/// A step of a run. Charges are above 0.
-#[derive(Drop)]
-pub enum Step<K, V> {
-    /// `begin` with a key and a charge.
-    Begin(K, u64),
-    /// `poll` with a stamp.
-    Poll(u64),
-    /// `ready` with a stamp and a value.
-    Ready(u64, Arc<V>),
-    /// `fail` with a stamp.
-    Fail(u64),
-    /// `get` with a key.
-    Get(K),
-    /// `release` with a stamp.
-    Release(u64),
-    /// `advice_evict` with a key.
-    AdviceEvict(K),
-    /// `prune`.
-    Prune,
-    /// `total`.
-    Total,
-}
-
-/// What a step of a run answered.
-#[derive(Drop)]
-pub enum Answer<K, V> {
-    /// To `Begin`.
-    Begun(Begun<V>, Evicted<K, V>),
-    /// To `Poll`.
-    Polled(Begun<V>),
-    /// To `Ready`: the entry has the value now.
-    Done,
-    /// To `Ready`: no entry was being made under that stamp, so the value comes back.
-    Back(Arc<V>),
-    /// To `Fail`.
-    Failed(Failed<K>),
-    /// To `Get`.
-    Got(Option<(u64, Arc<V>)>),
-    /// To `Release`.
-    Released(Evicted<K, V>),
-    /// To `AdviceEvict` and `Prune`.
-    Gone(Evicted<K, V>),
-    /// To `Total`.
-    Total(u64),
-    /// To any step but `Ready`: it changed nothing.
-    Refused(Refusal),
-}
 
 /// A cache for one owner: entries by key, held ones with their pins, idle ones oldest first.
 ///

@@ -16,10 +16,10 @@ use Rattle.concurrent_lru.specs.Runs.{Outcome, refused, accepted, Refuses}
 use Rattle.concurrent_lru.specs.Steps.{Step}
 use Rattle.concurrent_lru.specs.declared.list.Refusal.{Refusal}
 use Rattle.concurrent_lru.specs.declared.list.Refusal.TheVariants.{Memory}
-use Rattle.concurrent_lru.specs.declared.lru_core.Begun.{Begun}
-use Rattle.concurrent_lru.specs.declared.lru_core.Begun.TheVariants as begun
-use Rattle.concurrent_lru.specs.declared.lru_core.Failed.{Failed}
-use Rattle.concurrent_lru.specs.declared.lru_core.Failed.TheVariants as fails
+use Rattle.concurrent_lru.specs.declared.step.Begun.{Begun}
+use Rattle.concurrent_lru.specs.declared.step.Begun.TheVariants as begun
+use Rattle.concurrent_lru.specs.declared.step.Failed.{Failed}
+use Rattle.concurrent_lru.specs.declared.step.Failed.TheVariants as fails
 use Rattle.lru_journal.specs.Replay.{nothing, forgotten, step_of, told_of, told_begun, told_failed, told_found, recorded, start}
 use Rattle.lru_journal.specs.Journals.{Journaled, IsKept, Journals}
 use Rattle.lru_journal.specs.declared.record.Record.{Record}

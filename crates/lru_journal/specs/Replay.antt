@@ -8,10 +8,10 @@ use Rattle.concurrent_lru.specs.Request as ask
 use Rattle.concurrent_lru.specs.Request.{Request}
 use Rattle.concurrent_lru.specs.Reply as say
 use Rattle.concurrent_lru.specs.Reply.{Reply}
-use Rattle.concurrent_lru.specs.declared.lru_core.Begun.{Begun}
-use Rattle.concurrent_lru.specs.declared.lru_core.Begun.TheVariants as begun
-use Rattle.concurrent_lru.specs.declared.lru_core.Failed.{Failed}
-use Rattle.concurrent_lru.specs.declared.lru_core.Failed.TheVariants as fails
+use Rattle.concurrent_lru.specs.declared.step.Begun.{Begun}
+use Rattle.concurrent_lru.specs.declared.step.Begun.TheVariants as begun
+use Rattle.concurrent_lru.specs.declared.step.Failed.{Failed}
+use Rattle.concurrent_lru.specs.declared.step.Failed.TheVariants as fails
 use Rattle.lru_journal.specs.Values.{cache_by}
 use Rattle.lru_journal.specs.declared.record.Recorded.{Recorded}
 use Rattle.lru_journal.specs.declared.record.Recorded.TheVariants as step
