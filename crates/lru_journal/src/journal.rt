@@ -1,11 +1,11 @@
 //! A cache beside the records of its accepted steps, for one owner.
 //! A step's record is made room for first, so that an accepted step is always recorded.
-ghost use Rattle.std.specs.Prelude.{◌≡◌, ◌<◌, IfErr, true};
+ghost use Rattle.std.specs.Prelude.{◌≡◌, ◌<◌, ◌++◌, ◌∷◌, [], IfErr, true, vec_len, vec_capacity};
 ghost use Rattle.std.specs.Arc.{arc_value};
 ghost use Rattle.concurrent_lru.specs.Keys.{CopiesAreEqual};
 ghost use Rattle.concurrent_lru.specs.Request as ask;
 ghost use Rattle.concurrent_lru.specs.Results.{begun, polled, failed, got, released};
-ghost use Rattle.lru_journal.specs.Replay.{told_begun, told_failed, told_found};
+ghost use Rattle.lru_journal.specs.Replay.{recorded, told_begun, told_failed, told_found};
 ghost use Rattle.lru_journal.specs.Journals.{Journals, IsHistory, opened, readied, summed};
 
 pub use crate::pin::{Pin, Started};
@@ -72,6 +72,14 @@ fn reply_found<V>(found: &Option<(u64, Arc<V>)>) -> Told
     }
 }
 
+// Adds the record of an accepted step, for which there is room.
+fn add_record<K>(records: &mut Vec<Record<K>>, step: Recorded<K>, reply: Told)
+    requires { vec_len records.old < vec_capacity records.old }
+    ensures { records.new.items ≡ records.old.items ++ recorded step reply ∷ [] }
+{
+    records.push_reserved(Record { step, reply });
+}
+
 impl<K: Hash + Eq + Clone, V: Drop> Journal<K, V> {
     /// An empty cache that settles to `capacity`, with no records. Takes no memory.
     pub fn new(alloc: Global, capacity: u64) -> Journal<K, V>
@@ -106,10 +114,7 @@ impl<K: Hash + Eq + Clone, V: Drop> Journal<K, V> {
         let copy = key.clone()?;
         let (begun, evicted) = self.state.begin(&copy, charge)?;
         let reply = reply_begun(&begun);
-        self.records.push_reserved(Record {
-            step: Recorded::Begin(copy, charge),
-            reply,
-        });
+        add_record(&mut self.records, Recorded::Begin(copy, charge), reply);
         Ok((begun, evicted))
     }
 
@@ -122,10 +127,7 @@ impl<K: Hash + Eq + Clone, V: Drop> Journal<K, V> {
         self.records.reserve(1)?;
         let begun = self.state.poll(stamp)?;
         let reply = reply_begun(&begun);
-        self.records.push_reserved(Record {
-            step: Recorded::Poll(stamp),
-            reply,
-        });
+        add_record(&mut self.records, Recorded::Poll(stamp), reply);
         Ok(begun)
     }
 
@@ -144,10 +146,7 @@ impl<K: Hash + Eq + Clone, V: Drop> Journal<K, V> {
         if let Err(value) = self.state.ready(stamp, value) {
             return Err((Refusal::Stale, value));
         }
-        self.records.push_reserved(Record {
-            step: Recorded::Ready(stamp),
-            reply: Told::Done,
-        });
+        add_record(&mut self.records, Recorded::Ready(stamp), Told::Done);
         Ok(())
     }
 
@@ -161,10 +160,7 @@ impl<K: Hash + Eq + Clone, V: Drop> Journal<K, V> {
         self.records.reserve(1)?;
         let failed = self.state.fail(stamp)?;
         let reply = reply_failed(&failed);
-        self.records.push_reserved(Record {
-            step: Recorded::Fail(stamp),
-            reply,
-        });
+        add_record(&mut self.records, Recorded::Fail(stamp), reply);
         Ok(failed)
     }
 
@@ -180,10 +176,7 @@ impl<K: Hash + Eq + Clone, V: Drop> Journal<K, V> {
         let copy = key.clone()?;
         let found = self.state.get(&copy)?;
         let reply = reply_found(&found);
-        self.records.push_reserved(Record {
-            step: Recorded::Get(copy),
-            reply,
-        });
+        add_record(&mut self.records, Recorded::Get(copy), reply);
         Ok(found)
     }
 
@@ -197,10 +190,7 @@ impl<K: Hash + Eq + Clone, V: Drop> Journal<K, V> {
     {
         self.records.reserve(1)?;
         let evicted = self.state.release(stamp)?;
-        self.records.push_reserved(Record {
-            step: Recorded::Release(stamp),
-            reply: Told::Done,
-        });
+        add_record(&mut self.records, Recorded::Release(stamp), Told::Done);
         Ok(evicted)
     }
 
@@ -213,10 +203,7 @@ impl<K: Hash + Eq + Clone, V: Drop> Journal<K, V> {
         self.records.reserve(1)?;
         let copy = key.clone()?;
         let evicted = self.state.advice_evict(&copy);
-        self.records.push_reserved(Record {
-            step: Recorded::AdviceEvict(copy),
-            reply: Told::Done,
-        });
+        add_record(&mut self.records, Recorded::AdviceEvict(copy), Told::Done);
         Ok(evicted)
     }
 
@@ -228,10 +215,7 @@ impl<K: Hash + Eq + Clone, V: Drop> Journal<K, V> {
     {
         self.records.reserve(1)?;
         let evicted = self.state.prune();
-        self.records.push_reserved(Record {
-            step: Recorded::Prune,
-            reply: Told::Done,
-        });
+        add_record(&mut self.records, Recorded::Prune, Told::Done);
         Ok(evicted)
     }
 
@@ -243,10 +227,7 @@ impl<K: Hash + Eq + Clone, V: Drop> Journal<K, V> {
     {
         self.records.reserve(1)?;
         let total = self.state.total();
-        self.records.push_reserved(Record {
-            step: Recorded::Total,
-            reply: Told::Total(total),
-        });
+        add_record(&mut self.records, Recorded::Total, Told::Total(total));
         Ok(total)
     }
 }

@@ -13,14 +13,14 @@ pub returns-in_err-copy : goal.returns-in_err-copy
 returns-in_err-copy g c = (c.args.key.now, g.met.K.Eq.laws.refl _, no_room g.K.PartialEq.eq (ask.get c.args.key.now) got c.from_residual-in_err-copy.result _ (λ x. refl) c.from_residual-in_err-copy.ensures.1 refl (ap (λ l. record { cache = c.self.inside.state; records = l; began = c.self.inside.began }) c.reserve.ensures.items ∙ c.self.view_is))
 
 pub invariant_of-self-2 : goal.invariant_of-self-2
-invariant_of-self-2 g c = keeps_on (ask.get c.in_ok-copy.copy) (found_of c.in_ok-found.found) [] c.self.invariant c.in_ok-found.ensures.lawful c.in_ok-found.ensures.step c.reserve.ensures.items c.push_reserved.ensures.items
+invariant_of-self-2 g c = keeps_on (ask.get c.in_ok-copy.copy) (found_of c.in_ok-found.found) [] c.self.invariant c.in_ok-found.ensures.lawful c.in_ok-found.ensures.step c.reserve.ensures.items c.add_record.ensures
     (ap (λ t. recorded (step.Get c.in_ok-copy.copy) t) (c.reply_found-reply.ensures ∙ found_told g.row.K.Denot c.in_ok-copy.copy c.in_ok-found.found))
 
 pub returns : goal.returns
 returns g c = (
   c.in_ok-copy.copy,
   c.self.invariant.copies _ _ c.in_ok-copy.ensures.cases,
-  accepts g.K.PartialEq.eq (ask.get c.in_ok-copy.copy) (found_of c.in_ok-found.found) [] c.self.view_is c.in_ok-found.ensures.step c.reserve.ensures.items c.push_reserved.ensures.items
+  accepts g.K.PartialEq.eq (ask.get c.in_ok-copy.copy) (found_of c.in_ok-found.found) [] c.self.view_is c.in_ok-found.ensures.step c.reserve.ensures.items c.add_record.ensures
       (ap (λ t. recorded (step.Get c.in_ok-copy.copy) t) (c.reply_found-reply.ensures ∙ found_told g.row.K.Denot c.in_ok-copy.copy c.in_ok-found.found)),
 )
 

@@ -10,9 +10,9 @@ pub returns-in_err-reserve : goal.returns-in_err-reserve
 returns-in_err-reserve g c = no_room g.K.PartialEq.eq (ask.poll c.args.stamp) polled c.from_residual.result _ (λ x. refl) c.from_residual.ensures.1 refl (ap (λ l. record { cache = c.self.inside.state; records = l; began = c.self.inside.began }) c.reserve.ensures.items ∙ c.self.view_is)
 
 pub invariant_of-self-2 : goal.invariant_of-self-2
-invariant_of-self-2 g c = keeps_on (ask.poll c.args.stamp) (reply_of c.in_ok-begun.begun) [] c.self.invariant c.in_ok-begun.ensures.lawful c.in_ok-begun.ensures.step c.reserve.ensures.items c.push_reserved.ensures.items
+invariant_of-self-2 g c = keeps_on (ask.poll c.args.stamp) (reply_of c.in_ok-begun.begun) [] c.self.invariant c.in_ok-begun.ensures.lawful c.in_ok-begun.ensures.step c.reserve.ensures.items c.add_record.ensures
     (ap (λ t. recorded (step.Poll c.args.stamp) t) (c.reply_begun-reply.ensures ∙ polled_told g.row.K.Denot c.args.stamp c.in_ok-begun.begun))
 
 pub returns : goal.returns
-returns g c = accepts g.K.PartialEq.eq (ask.poll c.args.stamp) (reply_of c.in_ok-begun.begun) [] c.self.view_is c.in_ok-begun.ensures.step c.reserve.ensures.items c.push_reserved.ensures.items
+returns g c = accepts g.K.PartialEq.eq (ask.poll c.args.stamp) (reply_of c.in_ok-begun.begun) [] c.self.view_is c.in_ok-begun.ensures.step c.reserve.ensures.items c.add_record.ensures
     (ap (λ t. recorded (step.Poll c.args.stamp) t) (c.reply_begun-reply.ensures ∙ polled_told g.row.K.Denot c.args.stamp c.in_ok-begun.begun))

@@ -5,4 +5,4 @@ use Rattle.lru_journal.proofs.Keeps.{keeps_on}
 use Rattle.lru_journal.proofs.journal.Journal.ready.Goals as goal
 
 pub invariant_of-self-2 : goal.invariant_of-self-2
-invariant_of-self-2 g c = keeps_on (ask.ready c.args.stamp c.args.value.value) say.done [] c.self.invariant c.in_default.ensures.lawful c.in_default.ensures.step c.reserve.ensures.items c.push_reserved.ensures.items refl
+invariant_of-self-2 g c = keeps_on (ask.ready c.args.stamp c.args.value.value) say.done [] c.self.invariant c.in_default.ensures.lawful c.in_default.ensures.step c.reserve.ensures.items c.add_record.ensures refl
