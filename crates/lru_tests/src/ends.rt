@@ -2,6 +2,7 @@
 
 use crate::support::{Said, begin, keys, make};
 use concurrent_lru::lru_core::{Failed, Refusal, State};
+use std::alloc::Global;
 use std::cell::Cell;
 use std::sync::Arc;
 use std::test::Fail;
@@ -39,33 +40,46 @@ fn takes_a_total_up_to_the_greatest_number(rt: HostRuntime) -> Result<(), Fail> 
 }
 
 #[test]
-fn pins_an_entry_up_to_its_limit(rt: HostRuntime) -> Result<(), Fail> {
-    let alloc = rt.alloc();
-    let mut state: State<u64, u64> = State::with_limits(alloc, 10, 0, 2);
+fn pins_a_making_up_to_its_limit(rt: HostRuntime) -> Result<(), Fail> {
+    let mut state: State<u64, u64> = State::with_limits(rt.alloc(), 10, 0, 2);
     assert_eq!(rt; begin(&mut state, 1, 1), Ok(Said::Make(0)));
     assert_eq!(rt; begin(&mut state, 1, 1), Ok(Said::Wait(0)));
     assert_eq!(rt; begin(&mut state, 1, 1), Err(Refusal::Overflow));
     assert!(rt; state.get(&1)?.is_none());
+    Ok(())
+}
+
+#[test]
+fn pins_a_value_up_to_its_limit(rt: HostRuntime) -> Result<(), Fail> {
+    let alloc = rt.alloc();
+    let mut state: State<u64, u64> = State::with_limits(alloc, 10, 0, 1);
+    assert_eq!(rt; begin(&mut state, 1, 1), Ok(Said::Make(0)));
     assert!(rt; state.ready(0, Arc::new(alloc, 1)?).is_ok());
     assert_eq!(rt; state.get(&1).err(), Some(Refusal::Overflow));
-    assert!(rt; state.release(0)?.is_empty());
-    assert!(rt; state.get(&1)?.is_some());
     assert_eq!(rt; begin(&mut state, 1, 1), Err(Refusal::Overflow));
     assert!(rt; state.release(0)?.is_empty());
+    assert!(rt; state.get(&1)?.is_some());
     assert!(rt; state.release(0)?.is_empty());
     assert_eq!(rt; state.release(0).err(), Some(Refusal::Stale));
     Ok(())
 }
 
-#[test]
-fn refuses_stamps_that_fit_no_phase(rt: HostRuntime) -> Result<(), Fail> {
-    let alloc = rt.alloc();
-    let mut state: State<u64, u64> = State::new(alloc, 10);
-    assert_eq!(rt; begin(&mut state, 1, 1), Ok(Said::Make(0)));
-    assert_eq!(rt; begin(&mut state, 1, 1), Ok(Said::Wait(0)));
-    assert!(rt; matches!(state.fail(0)?, Failed::Left));
+// A cache whose key 1 was given up by its maker while another waited, at stamp 0.
+fn with_untaken(alloc: Global) -> Result<State<u64, u64>, Refusal> {
+    let mut state = State::new(alloc, 10);
+    for _ in 0..2 {
+        let _ = begin(&mut state, 1, 1)?;
+    }
+    match state.fail(0)? {
+        Failed::Left => Ok(state),
+        Failed::Removed(_) => Err(Refusal::Stale),
+    }
+}
 
-    // Nobody is making the value now, and it is not there.
+#[test]
+fn refuses_what_needs_a_maker(rt: HostRuntime) -> Result<(), Fail> {
+    let alloc = rt.alloc();
+    let mut state = with_untaken(alloc)?;
     assert_eq!(rt; state.fail(0).err(), Some(Refusal::Stale));
     assert!(rt; state.ready(0, Arc::new(alloc, 1)?).is_err());
     assert_eq!(rt; state.release(0).err(), Some(Refusal::Stale));
@@ -73,16 +87,27 @@ fn refuses_stamps_that_fit_no_phase(rt: HostRuntime) -> Result<(), Fail> {
     assert!(rt; state.advice_evict(&1).is_empty());
     assert!(rt; state.prune().is_empty());
     assert_eq!(rt; state.total(), 1);
+    Ok(())
+}
 
+#[test]
+fn hands_an_untaken_making_to_the_next(rt: HostRuntime) -> Result<(), Fail> {
+    let alloc = rt.alloc();
+    let mut state = with_untaken(alloc)?;
     assert_eq!(rt; begin(&mut state, 1, 5), Ok(Said::Make(0)));
     assert_eq!(rt; state.total(), 1);
     assert!(rt; state.ready(0, Arc::new(alloc, 1)?).is_ok());
-    assert_eq!(rt; Said::from(state.poll(0)?), Said::Hit(0));
     assert_eq!(rt; state.fail(0).err(), Some(Refusal::Stale));
-    for _ in 0..2 {
-        assert!(rt; state.release(0)?.is_empty());
-    }
-    assert_eq!(rt; state.poll(0).err(), Some(Refusal::Stale));
+    assert_eq!(rt; Said::from(state.poll(0)?), Said::Hit(0));
+    Ok(())
+}
+
+#[test]
+fn refuses_to_poll_what_nobody_pins(rt: HostRuntime) -> Result<(), Fail> {
+    let alloc = rt.alloc();
+    let mut state: State<u64, u64> = State::new(alloc, 10);
+    let (stamp, _, _) = make(alloc, &mut state, &1, 1, 7)?;
+    assert_eq!(rt; state.poll(stamp).err(), Some(Refusal::Stale));
     assert_eq!(rt; keys(alloc, state.prune())?.as_slice(), [1].as_slice());
     Ok(())
 }

@@ -1,40 +1,55 @@
 //! Each public call of the core on its happy path, and the text of a cache.
 
-use crate::support::{Said, keys};
-use concurrent_lru::lru_core::{Answer, Begun, Failed, State, Step};
+use crate::support::{Said, begin, keys};
+use concurrent_lru::lru_core::{Answer, Begun, Failed, Refusal, State, Step};
+use std::alloc::Global;
 use std::sync::Arc;
 use std::test::Fail;
 
+// A cache whose key 1 has charge 3, the value 2 and one pin, at stamp 0.
+fn with_one(alloc: Global) -> Result<State<u64, u64>, Refusal> {
+    let mut state = State::new(alloc, 10);
+    let _ = begin(&mut state, 1, 3)?;
+    match state.ready(0, Arc::new(alloc, 2)?) {
+        Ok(()) => Ok(state),
+        Err(_) => Err(Refusal::Stale),
+    }
+}
+
 #[test]
-fn takes_each_step(rt: HostRuntime) -> Result<(), Fail> {
-    let alloc = rt.alloc();
-    let mut state: State<u64, u64> = State::new(alloc, 10);
+fn makes_what_is_absent(rt: HostRuntime) -> Result<(), Fail> {
+    let mut state: State<u64, u64> = State::new(rt.alloc(), 10);
     assert_eq!(rt; state.capacity(), 10);
-    assert_eq!(rt; Said::from(state.begin(&1, 3)?.0), Said::Make(0));
-    assert_eq!(rt; Said::from(state.begin(&1, 7)?.0), Said::Wait(0));
+    assert_eq!(rt; begin(&mut state, 1, 3), Ok(Said::Make(0)));
+    assert_eq!(rt; begin(&mut state, 1, 7), Ok(Said::Wait(0)));
     assert_eq!(rt; Said::from(state.poll(0)?), Said::Wait(0));
     assert_eq!(rt; state.key_of(0), Some(&1));
     assert_eq!(rt; state.key_of(1), None);
-    assert!(rt; state.ready(0, Arc::new(alloc, 2)?).is_ok());
-
-    let Begun::Hit(0, value) = state.poll(0)? else {
-        return Err(Fail::new("the value is there"));
-    };
-    assert_eq!(rt; *value, 2);
-    let (begun, evicted) = state.begin(&1, 7)?;
-    let Begun::Hit(0, value) = begun else {
-        return Err(Fail::new("the value is there"));
-    };
-    assert_eq!(rt; *value, 2);
-    assert!(rt; evicted.is_empty());
-    let (stamp, value) = state.get(&1)?.ok_or("the value is there")?;
-    assert_eq!(rt; (stamp, *value), (0, 2));
     assert_eq!(rt; state.total(), 3);
+    Ok(())
+}
 
-    for _ in 0..3 {
-        assert!(rt; state.release(0)?.is_empty());
-    }
-    assert!(rt; state.advice_evict(&1).is_empty(), "one pin is left");
+#[test]
+fn hits_what_is_ready(rt: HostRuntime) -> Result<(), Fail> {
+    let mut state = with_one(rt.alloc())?;
+    let Begun::Hit(0, polled) = state.poll(0)? else {
+        return Err(Fail::new("the value is there"));
+    };
+    let (begun, evicted) = state.begin(&1, 7)?;
+    let Begun::Hit(0, begun) = begun else {
+        return Err(Fail::new("the value is there"));
+    };
+    let (stamp, found) = state.get(&1)?.ok_or("the value is there")?;
+    assert_eq!(rt; (*polled, *begun, stamp, *found), (2, 2, 0, 2));
+    assert!(rt; evicted.is_empty());
+    assert_eq!(rt; state.total(), 3);
+    Ok(())
+}
+
+#[test]
+fn evicts_by_advice_what_nobody_pins(rt: HostRuntime) -> Result<(), Fail> {
+    let mut state = with_one(rt.alloc())?;
+    assert!(rt; state.advice_evict(&1).is_empty());
     assert!(rt; state.release(0)?.is_empty());
     let mut evicted = state.advice_evict(&1);
     assert!(rt; !evicted.is_empty());
@@ -44,24 +59,27 @@ fn takes_each_step(rt: HostRuntime) -> Result<(), Fail> {
         (0, 1, 3, 2)
     );
     assert!(rt; evicted.pop().is_none());
-    assert!(rt; evicted.is_empty());
     assert_eq!(rt; state.total(), 0);
+    Ok(())
+}
 
-    assert_eq!(rt; Said::from(state.begin(&4, 1)?.0), Said::Make(1));
-    assert!(rt; matches!(state.fail(1)?, Failed::Removed(4)));
+#[test]
+fn gives_a_making_up(rt: HostRuntime) -> Result<(), Fail> {
+    let mut state: State<u64, u64> = State::new(rt.alloc(), 10);
+    assert_eq!(rt; begin(&mut state, 4, 1), Ok(Said::Make(0)));
+    assert!(rt; matches!(state.fail(0)?, Failed::Removed(4)));
     assert!(rt; state.get(&4)?.is_none());
     assert!(rt; state.prune().is_empty());
     Ok(())
 }
 
 #[test]
-fn starts_with_its_limits(rt: HostRuntime) -> Result<(), Fail> {
+fn starts_with_its_limits(rt: HostRuntime) {
     let mut state: State<u64, u64> = State::with_limits(rt.alloc(), 4, 7, 2);
     assert_eq!(rt; state.capacity(), 4);
-    assert_eq!(rt; Said::from(state.begin(&1, 1)?.0), Said::Make(7));
-    assert_eq!(rt; Said::from(state.begin(&1, 1)?.0), Said::Wait(7));
-    assert!(rt; state.begin(&1, 1).is_err());
-    Ok(())
+    assert_eq!(rt; begin(&mut state, 1, 1), Ok(Said::Make(7)));
+    assert_eq!(rt; begin(&mut state, 1, 1), Ok(Said::Wait(7)));
+    assert_eq!(rt; begin(&mut state, 1, 1), Err(Refusal::Overflow));
 }
 
 #[test]
@@ -103,7 +121,7 @@ fn shows_what_is_ready(rt: HostRuntime) -> Result<(), Fail> {
 }
 
 #[test]
-fn runs_a_list_of_steps(rt: HostRuntime) -> Result<(), Fail> {
+fn runs_the_uses_of_a_key(rt: HostRuntime) -> Result<(), Fail> {
     let alloc = rt.alloc();
     let mut state: State<u64, u64> = State::new(alloc, 1);
     let steps = vec![in alloc;
@@ -112,11 +130,6 @@ fn runs_a_list_of_steps(rt: HostRuntime) -> Result<(), Fail> {
         Step::Poll(0),
         Step::Release(0),
         Step::Get(1),
-        Step::AdviceEvict(1),
-        Step::Release(0),
-        Step::Prune,
-        Step::Total,
-        Step::Fail(0),
     ]?;
     let mut answers = state.run(steps)?.into_iter();
     assert!(rt; matches!(answers.next(), Some(Answer::Begun(Begun::Make(0), _))));
@@ -124,17 +137,33 @@ fn runs_a_list_of_steps(rt: HostRuntime) -> Result<(), Fail> {
     assert!(rt; matches!(answers.next(), Some(Answer::Polled(Begun::Hit(0, _)))));
     assert!(rt; matches!(answers.next(), Some(Answer::Released(_))));
     assert!(rt; matches!(answers.next(), Some(Answer::Got(Some((0, _))))));
+    assert!(rt; answers.next().is_none());
+    Ok(())
+}
+
+#[test]
+fn runs_what_clears_a_cache(rt: HostRuntime) -> Result<(), Fail> {
+    let alloc = rt.alloc();
+    let mut state = with_one(alloc)?;
+    let steps = vec![in alloc;
+        Step::AdviceEvict(1),
+        Step::Release(0),
+        Step::Prune,
+        Step::Total,
+        Step::Fail(0),
+    ]?;
+    let mut answers = state.run(steps)?.into_iter();
     let Some(Answer::Gone(evicted)) = answers.next() else {
         return Err(Fail::new("an advice is answered by what is gone"));
     };
-    assert!(rt; evicted.is_empty());
+    assert!(rt; evicted.is_empty(), "the entry is pinned");
     assert!(rt; matches!(answers.next(), Some(Answer::Released(_))));
     let Some(Answer::Gone(evicted)) = answers.next() else {
         return Err(Fail::new("a prune is answered by what is gone"));
     };
     assert_eq!(rt; keys(alloc, evicted)?.as_slice(), [1].as_slice());
     assert!(rt; matches!(answers.next(), Some(Answer::Total(0))));
-    assert!(rt; matches!(answers.next(), Some(Answer::Refused(_))));
+    assert!(rt; matches!(answers.next(), Some(Answer::Refused(Refusal::Stale))));
     assert!(rt; answers.next().is_none());
     Ok(())
 }
