@@ -3,3 +3,4 @@ pub mod Replays
 pub mod Keeps
 pub mod Positions
 pub mod Moves
+pub mod Sent

@@ -11,4 +11,6 @@ mod lines;
 #[cfg(test)]
 mod records;
 #[cfg(test)]
+mod threads;
+#[cfg(test)]
 mod twin;
