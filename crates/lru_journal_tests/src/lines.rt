@@ -4,7 +4,7 @@ use lru_journal::journal::Record;
 use std::alloc::{AllocError, Global};
 
 /// The records' texts, each with a line feed behind it.
-pub fn lines(alloc: Global, records: &[Record<u64>]) -> Result<String, AllocError> {
+pub(crate) fn lines(alloc: Global, records: &[Record<u64>]) -> Result<String, AllocError> {
     let mut text = String::new(alloc);
     for line in records {
         text.push_str(&format!(in alloc; "{line}\n")?)?;

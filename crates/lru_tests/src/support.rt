@@ -25,7 +25,7 @@ impl<V: Drop> From<Begun<V>> for Said {
 }
 
 /// What `begin` said; what it evicted is dropped.
-pub fn begin<K: Hash + Eq + Clone + Drop, V: Drop>(
+pub(crate) fn begin<K: Hash + Eq + Clone + Drop, V: Drop>(
     state: &mut State<K, V>,
     key: K,
     charge: u64,
@@ -38,7 +38,7 @@ pub fn begin<K: Hash + Eq + Clone + Drop, V: Drop>(
 
 /// Makes a key's value where it is not there and gives the pin back at once. Answers the stamp,
 /// and what the begin and the release evicted.
-pub fn make<K: Hash + Eq + Clone, V: Drop>(
+pub(crate) fn make<K: Hash + Eq + Clone, V: Drop>(
     alloc: Global,
     state: &mut State<K, V>,
     key: &K,
@@ -62,7 +62,10 @@ pub fn make<K: Hash + Eq + Clone, V: Drop>(
 }
 
 /// The keys that a step evicted, oldest first.
-pub fn keys<V: Drop>(alloc: Global, mut evicted: Evicted<u64, V>) -> Result<Vec<u64>, AllocError> {
+pub(crate) fn keys<V: Drop>(
+    alloc: Global,
+    mut evicted: Evicted<u64, V>,
+) -> Result<Vec<u64>, AllocError> {
     let mut keys = Vec::new(alloc);
     while let Some(gone) = evicted.pop() {
         keys.push(gone.key)?;

@@ -30,7 +30,7 @@ impl<R: Wait + Drop> Drop for Recorded<R> {
 
 impl<R: Wait + Clone + Drop> Record<R> {
     /// A record of no drops.
-    pub fn new(alloc: Global, rt: R) -> Result<Record<R>, Refusal> {
+    pub(crate) fn new(alloc: Global, rt: R) -> Result<Record<R>, Refusal> {
         Ok(Record {
             rt,
             keys: Arc::new(alloc, Mutex::new(Vec::new(alloc)))?,
@@ -38,12 +38,12 @@ impl<R: Wait + Clone + Drop> Record<R> {
     }
 
     /// Whether these keys were dropped, in this order, and no others.
-    pub fn is(&self, keys: &[u64]) -> bool {
+    pub(crate) fn is(&self, keys: &[u64]) -> bool {
         self.keys.lock(&self.rt).as_slice() == keys
     }
 
     /// Makes the value of a key.
-    pub fn hold<'a>(
+    pub(crate) fn hold<'a>(
         &self,
         cache: &'a LruCache<u64, Recorded<R>, R>,
         key: u64,
@@ -60,7 +60,7 @@ impl<R: Wait + Clone + Drop> Record<R> {
     }
 
     /// Makes the value of a key, and lets its handle go.
-    pub fn make(
+    pub(crate) fn make(
         &self,
         cache: &LruCache<u64, Recorded<R>, R>,
         key: u64,

@@ -7,17 +7,17 @@ use std::thread;
 const TURNS: u32 = 10_000_000;
 
 /// Raises a flag.
-pub fn raise(flag: &AtomicU64) {
+pub(crate) fn raise(flag: &AtomicU64) {
     flag.store(1, Ordering::SeqCst);
 }
 
 /// Whether the flag is raised.
-pub fn is_raised(flag: &AtomicU64) -> bool {
+pub(crate) fn is_raised(flag: &AtomicU64) -> bool {
     flag.load(Ordering::SeqCst) == 1
 }
 
 /// Yields until the flag is raised, and says whether it was before the turns ended.
-pub fn meets(flag: &AtomicU64) -> bool {
+pub(crate) fn meets(flag: &AtomicU64) -> bool {
     for _ in 0..TURNS {
         if is_raised(flag) {
             return true;
@@ -28,7 +28,7 @@ pub fn meets(flag: &AtomicU64) -> bool {
 }
 
 /// Yields for a while, so that another thread gets on.
-pub fn pause() {
+pub(crate) fn pause() {
     for _ in 0..100_000u32 {
         thread::yield_now();
     }
