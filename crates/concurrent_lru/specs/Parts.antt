@@ -1,9 +1,10 @@
 -- What one step may do to caches side by side, and what a run of steps may: each cache runs its own part.
-use Rattle.std.specs.Prelude.{◌≡◌, ◌≢◌, ℕ, ◌<◌, ◌≤◌, ◌==◌, Bool, List, [], ◌∷◌, map, length, slice_index_or, if◌then◌else◌}
-use Rattle.std.specs.List.{AllByRecursion}
-use Rattle.concurrent_lru.specs.Cache.{Cache}
+use Rattle.std.specs.Prelude.{◌≡◌, ◌≢◌, ℕ, ◌+◌, ◌<◌, ◌≤◌, ◌==◌, Bool, List, [], ◌∷◌, map, length, replicate, slice_index_or, if◌then◌else◌}
+use Rattle.std.specs.List.{AllByRecursion, flat_map}
+use Rattle.concurrent_lru.specs.Cache.{Cache, Idle}
 use Rattle.concurrent_lru.specs.Request.{Request}
-use Rattle.concurrent_lru.specs.Runs.{Outcome, refused, Stands, Run}
+use Rattle.concurrent_lru.specs.Reply as say
+use Rattle.concurrent_lru.specs.Runs.{Outcome, accepted, refused, Stands, Run}
 use Rattle.concurrent_lru.specs.Sharded.{Sharded}
 use Rattle.concurrent_lru.specs.declared.list.Refusal.TheVariants.{Stale}
 
@@ -11,6 +12,11 @@ use Rattle.concurrent_lru.specs.declared.list.Refusal.TheVariants.{Stale}
 abbrev pub part : {X : Type 0} → ℕ → List (ℕ × X) → List X
 part i [] = []
 part i (x ∷ xs) = if x.0 == i then x.1 ∷ part i xs else part i xs
+
+-- each of these beside its number, the first beside i
+abbrev pub numbered : {X : Type 0} → ℕ → List X → List (ℕ × X)
+numbered i [] = []
+numbered i (x ∷ xs) = (i, x) ∷ numbered (i + 1) xs
 
 module _ {K V S : Type 0} (E : K → K → Bool) where
   -- From old, the shard i may do this with the request, and all goes on to new.
@@ -33,3 +39,15 @@ module _ {K V S : Type 0} (E : K → K → Bool) where
     pub apart : (i : ℕ) (d : Cache K V) → i < length old.caches → Run E (slice_index_or old.caches i d) (part i asked) (part i told) (slice_index_or new.caches i d)
     -- there is no shard past the last
     pub strangers : AllByRecursion (λ t. length old.caches ≤ t.0 → t.1 ≡ refused Stale) told
+
+  -- From old, each of the first n shards takes the same request, shard 0 first, and all goes on to new. What they evicted is
+  -- one list, what shard 0 evicted first.
+  pub record FirstTake (n : ℕ) (old : Sharded K V S) (request : Request K V) (evicted : List (Idle K V)) (new : Sharded K V S) : Type 0 where
+    -- what each of them evicted
+    pub lists : List (List (Idle K V))
+    pub joined : evicted ≡ flat_map (λ l. l) lists
+    pub run : RunsApart old (numbered 0 (replicate n request)) (numbered 0 (map (accepted say.done) lists)) new
+
+  -- the same of every shard
+  abbrev pub EachTakes : Sharded K V S → Request K V → List (Idle K V) → Sharded K V S → Type 0
+  EachTakes old request evicted new = FirstTake (length old.caches) old request evicted new

@@ -28,6 +28,7 @@ module _ {K V : Type 0} where
   shard_asked route (shard.Fail i s) = i
   shard_asked route (shard.Release i s) = i
   shard_asked route (shard.Prune i) = i
+  shard_asked route (shard.SetCapacity i c) = i
   shard_asked route (shard.Total i) = i
 
   -- the step that the shard takes
@@ -40,6 +41,7 @@ module _ {K V : Type 0} where
   step_of (shard.Fail i s) = step.Fail s
   step_of (shard.Release i s) = step.Release s
   step_of (shard.Prune i) = step.Prune
+  step_of (shard.SetCapacity i c) = step.SetCapacity c
   step_of (shard.Total i) = step.Total
 
   -- a step as a request and its shard, and an answer with its shard as an outcome
@@ -69,9 +71,9 @@ module _ {K V : Type 0} where
   got_at (Ok (Some r)) = accepted (say.hit r.1 r.2.value) []
   got_at (Err e) = refused e
 
-  abbrev pub pruned_at : Result (List (Idle K V)) Refusal → Outcome K V
-  pruned_at (Ok evicted) = accepted say.done evicted
-  pruned_at (Err e) = refused e
+  abbrev pub evicted_at : Result (List (Idle K V)) Refusal → Outcome K V
+  evicted_at (Ok evicted) = accepted say.done evicted
+  evicted_at (Err e) = refused e
 
   abbrev pub totals_at : Result ℕ Refusal → Outcome K V
   totals_at (Ok n) = accepted (say.sum n) []

@@ -5,13 +5,13 @@ ghost use Rattle.std.specs.Arc.{arc_value};
 ghost use Rattle.std.specs.List.{AllByRecursion, AllZip};
 ghost use Rattle.concurrent_lru.specs.Cache.{empty_cache};
 ghost use Rattle.concurrent_lru.specs.Keys.{CopiesAreEqual};
-ghost use Rattle.concurrent_lru.specs.Parts.{StandsAt, RunsApart};
+ghost use Rattle.concurrent_lru.specs.Parts.{EachTakes, StandsAt, RunsApart};
 ghost use Rattle.concurrent_lru.specs.Request as ask;
 ghost use Rattle.concurrent_lru.specs.Results.{IsCharged, evicts, failed, outcome_of, polled, readied, released, request_of};
 ghost use Rattle.concurrent_lru.specs.Runs.{refused};
 ghost use Rattle.concurrent_lru.specs.declared.list.Refusal.TheVariants.{Stale};
 ghost use Rattle.concurrent_lru.specs.Sharded.{AreLawful, key_number, shard_of};
-ghost use Rattle.concurrent_lru.specs.ShardSteps.{asked, begun_at, got_at, pruned_at, shard_asked, step_of, told, totals_at, IsShardAnswerTo, TellsNoShard};
+ghost use Rattle.concurrent_lru.specs.ShardSteps.{asked, begun_at, got_at, evicted_at, shard_asked, step_of, told, totals_at, IsShardAnswerTo, TellsNoShard};
 
 use crate::lru_core::{Answer, Begun, Evicted, Failed, Refusal, State, Step};
 use std::alloc::Global;
@@ -47,6 +47,8 @@ pub enum ShardStep<K, V> {
     Release(usize, u64),
     /// `prune_shard` with a shard.
     Prune(usize),
+    /// `set_capacity_shard` with a shard and a capacity.
+    SetCapacity(usize, u64),
     /// `total_shard` with a shard.
     Total(usize),
 }
@@ -206,13 +208,53 @@ impl<K: Hash + Eq + Clone, V: Drop, S: BuildHasher + Drop> Shards<K, V, S> {
 
     /// `prune` at a shard. `Stale` where there is no such shard. Takes no memory.
     pub fn prune_shard(&mut self, shard: usize) -> Result<Evicted<K, V>, Refusal>
-        ensures step { StandsAt K.eq self.old shard ask.prune (pruned_at result) self.new }
+        ensures step { StandsAt K.eq self.old shard ask.prune (evicted_at result) self.new }
         ensures lawful { AreLawful K.eq self.new }
     {
         let Some(cache) = self.shards.get_mut(shard) else {
             return Err(Refusal::Stale);
         };
         Ok(cache.prune())
+    }
+
+    /// Sets the capacity of one shard, as given and not as a share, and the shard settles to it at
+    /// once. `Stale` where there is no such shard. Takes no memory.
+    pub fn set_capacity_shard(
+        &mut self,
+        shard: usize,
+        capacity: u64,
+    ) -> Result<Evicted<K, V>, Refusal>
+        ensures step { StandsAt K.eq self.old shard (ask.set_capacity capacity) (evicted_at result) self.new }
+        ensures lawful { AreLawful K.eq self.new }
+    {
+        let Some(cache) = self.shards.get_mut(shard) else {
+            return Err(Refusal::Stale);
+        };
+        Ok(cache.set_capacity(capacity))
+    }
+
+    // The same where the shard is there.
+    fn set_capacity_at(&mut self, shard: usize, capacity: u64) -> Evicted<K, V>
+        requires { shard < length self.old.caches }
+        ensures step { StandsAt K.eq self.old shard (ask.set_capacity capacity) (evicts result) self.new }
+        ensures lawful { AreLawful K.eq self.new }
+    {
+        self.shards[shard].set_capacity(capacity)
+    }
+
+    /// Sets the capacity of every shard, shard 0 first, to its share: `capacity_per_shard` of
+    /// `capacity`. Each settles to it at once. What they evicted is one chain, the entries of
+    /// shard 0 first, and of each shard the oldest first. Takes no memory.
+    pub fn set_capacity(&mut self, capacity: u64) -> Evicted<K, V>
+        ensures each { EachTakes K.eq self.old (ask.set_capacity ((capacity + length self.old.caches - 1) / length self.old.caches)) result self.new }
+        ensures lawful { AreLawful K.eq self.new }
+    {
+        let share = capacity_per_shard(capacity, self.shards.len());
+        let mut newest_first = Evicted::none();
+        for shard in 0..self.shards.len() {
+            newest_first = self.set_capacity_at(shard, share).turned_onto(newest_first);
+        }
+        newest_first.turned_onto(Evicted::none())
     }
 
     /// `total` of a shard. `Stale` where there is no such shard. Takes no memory.
@@ -240,6 +282,7 @@ impl<K: Hash + Eq + Clone, V: Drop, S: BuildHasher + Drop> Shards<K, V, S> {
             ShardStep::Fail(shard, stamp) => (shard, Step::Fail(stamp)),
             ShardStep::Release(shard, stamp) => (shard, Step::Release(stamp)),
             ShardStep::Prune(shard) => (shard, Step::Prune),
+            ShardStep::SetCapacity(shard, capacity) => (shard, Step::SetCapacity(capacity)),
             ShardStep::Total(shard) => (shard, Step::Total),
         }
     }

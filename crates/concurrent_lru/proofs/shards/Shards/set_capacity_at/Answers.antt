@@ -1,0 +1,8 @@
+use Rattle.concurrent_lru.proofs.PartLemmas.{lawful-set}
+use Rattle.concurrent_lru.proofs.shards.Shards.set_capacity_at.Goals as goal
+
+pub invariant_of-self : goal.invariant_of-self
+invariant_of-self g c = lawful-set g.K.PartialEq.eq c.self.inside.shards.items c.args.shard c.set_capacity.new.self c.self.invariant c.set_capacity.ensures.lawful
+
+pub returns-clause-lawful : goal.returns-clause-lawful
+returns-clause-lawful g c = (lawful-set g.K.PartialEq.eq c.self.inside.shards.items c.args.shard c.set_capacity.new.self c.self.invariant c.set_capacity.ensures.lawful).1
