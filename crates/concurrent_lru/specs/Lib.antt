@@ -17,5 +17,6 @@ pub mod ShardSteps
 pub mod ShardLaws
 pub mod StepLaws
 pub mod Uses
+pub mod Weights
 pub mod Places
 pub mod WholeRuns

@@ -1,0 +1,53 @@
+-- Runs in which the capacity changes, their moments, and the weight of a used key. E is the equality of keys.
+-- None of this knows of pins, of an idle order or of evicting: it speaks of last uses, charges and capacities alone.
+use Rattle.std.specs.Prelude.{◌≡◌, ℕ, ◌≤◌, Bool, false, cond, List, [], ◌∷◌, ◌++◌, sum_by}
+use Rattle.std.specs.List.{list_any}
+use Rattle.concurrent_lru.specs.Request as ask
+use Rattle.concurrent_lru.specs.Request.{Request}
+use Rattle.concurrent_lru.specs.Reply as say
+use Rattle.concurrent_lru.specs.Runs.{Outcome, accepted}
+use Rattle.concurrent_lru.specs.Uses.{uses, last_uses}
+
+module _ {K V : Type 0} where
+  -- A plain run with changes of capacity besides: each key is made or hit, and released at once, a get may miss, and between two
+  -- such groups the capacity may be set.
+  abbrev pub IsPlainWithChanges : List (Request K V × Outcome K V) → Type 0
+  IsPlainWithChanges [] = Unit {0}
+  IsPlainWithChanges ((ask.begin k c, accepted (say.make s) _) ∷ (ask.ready t _, accepted say.done _) ∷ (ask.release u, accepted say.done _) ∷ es) = (t ≡ s) × (u ≡ s) × IsPlainWithChanges es
+  IsPlainWithChanges ((ask.begin k c, accepted (say.hit s _) _) ∷ (ask.release u, accepted say.done _) ∷ es) = (u ≡ s) × IsPlainWithChanges es
+  IsPlainWithChanges ((ask.get k, accepted (say.hit s _) _) ∷ (ask.release u, accepted say.done _) ∷ es) = (u ≡ s) × IsPlainWithChanges es
+  IsPlainWithChanges ((ask.get k, accepted say.missed _) ∷ es) = IsPlainWithChanges es
+  IsPlainWithChanges ((ask.set_capacity c, accepted say.done _) ∷ es) = IsPlainWithChanges es
+  IsPlainWithChanges _ = ⊥
+
+  -- the capacity after these steps: the one that was set last
+  abbrev pub capacity_after : ℕ → List (Request K V × Outcome K V) → ℕ
+  capacity_after capacity [] = capacity
+  capacity_after capacity ((ask.set_capacity c, _) ∷ es) = capacity_after c es
+  capacity_after capacity (_ ∷ es) = capacity_after capacity es
+
+  -- A moment of a run is a place where it comes apart: some steps lie before it, and the others after it.
+  abbrev pub IsMoment : List (Request K V × Outcome K V) → List (Request K V × Outcome K V) → List (Request K V × Outcome K V) → Type 0
+  IsMoment es before after = es ≡ before ++ after
+
+module _ {K : Type 0} (E : K → K → Bool) where
+  -- the end of a list of keys that begins with a key equal to k
+  abbrev pub end_from : K → List K → List K
+  end_from k [] = []
+  end_from k (l ∷ ls) = cond (E k l) (l ∷ ls) (end_from k ls)
+
+  -- the weight of a used key: the sum of the charges of the distinct keys last used at or after its own last use
+  abbrev pub weight : (K → ℕ) → List K → K → ℕ
+  weight charge used k = sum_by charge (end_from k (last_uses E used))
+
+  -- none of the steps uses the key
+  abbrev pub LacksUseOf : {V : Type 0} → K → List (Request K V × Outcome K V) → Type 0
+  LacksUseOf k es = list_any (E k) (uses es) ≡ false
+
+  -- P holds, of the steps before it, at every moment since the last use of k, the end of that use included
+  abbrev pub SinceLastUse : {V : Type 0} → List (Request K V × Outcome K V) → K → (List (Request K V × Outcome K V) → Type 0) → Type 0
+  SinceLastUse {V} es k P = (before after : List (Request K V × Outcome K V)) → IsMoment es before after → LacksUseOf k after → P before
+
+  -- at every moment since its last use the weight of a key was at most the capacity of that moment
+  abbrev pub AlwaysFitted : {V : Type 0} → (K → ℕ) → ℕ → List (Request K V × Outcome K V) → K → Type 0
+  AlwaysFitted charge capacity es k = SinceLastUse es k (λ before. weight charge (uses before) k ≤ capacity_after capacity before)
