@@ -127,3 +127,24 @@ fn a_stamp_is_known_in_its_shard_alone(rt: HostRuntime) -> Result<(), Fail> {
     assert_eq!(rt; shards.total_shard(1)?, 0);
     Ok(())
 }
+
+#[test]
+fn a_change_of_capacity_settles_each_shard(rt: HostRuntime) -> Result<(), Fail> {
+    let alloc = rt.alloc();
+    let mut shards = Shards::new(alloc, 4, 2, ByOwnNumber)?;
+    for key in [1, 0, 2, 3] {
+        let (_, evicted) = make(alloc, &mut shards, key)?;
+        assert!(rt; evicted.is_empty());
+    }
+    let evicted = keys_of(alloc, shards.set_capacity(2))?;
+    assert_eq!(rt; evicted.as_slice(), [0, 1].as_slice());
+    assert_eq!(rt; shards.total_shard(0)?, 1);
+    assert_eq!(rt; shards.total_shard(1)?, 1);
+    // The capacity of one shard is taken as given.
+    assert!(rt; shards.set_capacity_shard(1, 5)?.is_empty());
+    let (_, evicted) = make(alloc, &mut shards, 5)?;
+    assert!(rt; evicted.is_empty());
+    assert_eq!(rt; shards.total_shard(1)?, 2);
+    assert!(rt; matches!(shards.set_capacity_shard(2, 5), Err(Refusal::Stale)));
+    Ok(())
+}

@@ -87,7 +87,9 @@ fn a_run_is_answered_shard_by_shard(rt: HostRuntime) -> Result<(), Fail> {
         ShardStep::Release(1, 0),
         ShardStep::AdviceEvict(1),
         ShardStep::Total(1),
+        ShardStep::SetCapacity(0, 0),
         ShardStep::Prune(0),
+        ShardStep::Release(0, 1),
         ShardStep::Total(0),
     ]?;
     let text = told(alloc, shards.run(steps)?)?;
@@ -111,7 +113,9 @@ fn a_run_is_answered_shard_by_shard(rt: HostRuntime) -> Result<(), Fail> {
 1: gone 1
 1: total 0
 0: gone
-0: total 1
+0: gone
+0: released 2
+0: total 0
 "
     );
     Ok(())
@@ -128,6 +132,7 @@ fn strangers_are_stale_and_change_nothing(rt: HostRuntime) -> Result<(), Fail> {
     steps.push(ShardStep::Fail(4, 0))?;
     steps.push(ShardStep::Release(4, 0))?;
     steps.push(ShardStep::Prune(4))?;
+    steps.push(ShardStep::SetCapacity(4, 0))?;
     steps.push(ShardStep::Total(4))?;
     steps.push(ShardStep::Begin(2, 1))?;
     steps.push(ShardStep::Total(3))?;
@@ -140,6 +145,7 @@ fn strangers_are_stale_and_change_nothing(rt: HostRuntime) -> Result<(), Fail> {
 3: make 0
 4: stale
 4: back 77
+4: stale
 4: stale
 4: stale
 4: stale
