@@ -209,6 +209,24 @@ impl<K: Hash + Eq + Clone, V: Drop, I: Identity> Desk<K, V, I> {
         Ok(evicted)
     }
 
+    /// Sets the capacity, as `Journal::set_capacity`.
+    pub(crate) fn set_capacity<R: Wait>(
+        &mut self,
+        rt: &R,
+        cell: &Cell<K>,
+        tally: &mut Tally<K, I>,
+        capacity: u64,
+    ) -> Result<Evicted<K, V>, Refusal>
+        requires { cell.now.table.shared.table_id ≡ I.name.table }
+        ensures accepted { IfOk result (λ _. Receives tally.old (recorded (Recorded.SetCapacity capacity) Told.Done) tally.new) }
+        ensures refused { OnErr result (tally.new ≡ tally.old) }
+        ensures parts { tally.new.parts ≡ tally.old.parts }
+    {
+        let evicted = self.journal.set_capacity(capacity)?;
+        note(rt, cell, &mut self.keeper, tally, &self.journal);
+        Ok(evicted)
+    }
+
     /// The sum of all charges, as `Journal::total`.
     pub(crate) fn total<R: Wait>(
         &mut self,

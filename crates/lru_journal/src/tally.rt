@@ -123,7 +123,7 @@ pub type Cell<K> = RuledSeqCell<[u64; 1], View<K>, Counted, 1>;
 /// A pass of that cell. It has no bytes.
 pub type Knows<K> = Pass<[u64; 1], View<K>>;
 
-/// What a twin is made of: a capacity, a new cell, and the cell's first pass.
+/// What a twin is made of: its first capacity, a new cell, and the cell's first pass.
 ///
 /// A twin is made in a function that is generic in its `Identity`, called with `Brand`:
 /// there the call picks the opening's own name.
@@ -147,7 +147,8 @@ impl<K> Model for Opening<K> {
 }
 
 impl<K> Opening<K> {
-    /// For a twin that settles to `capacity`. `Memory` where there is no room for the cell.
+    /// For a twin that settles to `capacity` until another is set. `Memory` where there is no room
+    /// for the cell.
     pub fn new(alloc: Global, capacity: u64) -> Result<Opening<K>, Refusal>
         ensures { IfOk result (λ o. o.capacity ≡ capacity) }
     {

@@ -38,8 +38,8 @@ impl<
     R: Wait + Drop,
     I: Identity,
 > LruCache<K, V, R, I> {
-    /// An empty twin that settles to the opening's capacity, and its first tally, which has all
-    /// parts. Takes no memory.
+    /// An empty twin that settles to the opening's capacity until another is set, and its first
+    /// tally, which has all parts. Takes no memory.
     pub fn new(alloc: Global, rt: R, opening: Opening<K>) -> (LruCache<K, V, R, I>, Tally<K, I>)
         requires named { opening ≡ I.name }
         requires copies { CopiesAreEqual K.is_clone K.eq }
@@ -201,6 +201,23 @@ impl<
         Ok(())
     }
 
+    /// Sets the capacity, in the units of charges, and settles to it at once: idle entries leave,
+    /// oldest release first, until the total fits or none is idle. Pinned entries stay.
+    ///
+    /// A refusal leaves the capacity as it was.
+    pub fn set_capacity(&self, tally: &mut Tally<K, I>, capacity: u64) -> Result<(), Refusal>
+        ensures accepted { IfOk result (λ _. Receives tally.old (recorded (Recorded.SetCapacity capacity) Told.Done) tally.new) }
+        ensures refused { OnErr result (tally.new ≡ tally.old) }
+        ensures parts { tally.new.parts ≡ tally.old.parts }
+    {
+        let evicted = self
+            .desk
+            .lock(&self.rt)
+            .set_capacity(&self.rt, &self.cell, tally, capacity)?;
+        drop(evicted);
+        Ok(())
+    }
+
     /// The sum of the charges of all entries, those still being made included.
     pub fn total(&self, tally: &mut Tally<K, I>) -> Result<u64, Refusal>
         ensures accepted { IfOk result (λ total. Receives tally.old (recorded Recorded.Total (Told.Total total)) tally.new) }
@@ -211,8 +228,8 @@ impl<
     }
 
     /// The journal, for whoever has the whole tally. Its records are one legal history from the
-    /// empty cache with the capacity of the opening, and position by position they are exactly the
-    /// tally's receipts: each accepted call stands there once.
+    /// empty cache with the opening's capacity, whichever was set since, and position by position
+    /// they are exactly the tally's receipts: each accepted call stands there once.
     pub fn into_journal(self, tally: Tally<K, I>) -> Journal<K, V>
         requires { tally.parts ≡ all_parts }
         ensures exactly { AreExactly result.records tally.receipts }

@@ -90,3 +90,25 @@ fn every_step_can_be_recorded(rt: HostRuntime) -> Result<(), Fail> {
     );
     Ok(())
 }
+
+#[test]
+fn a_new_capacity_evicts_at_once_and_is_recorded(rt: HostRuntime) -> Result<(), Fail> {
+    let alloc = rt.alloc();
+    let mut journal: Journal<u64, u64> = Journal::new(alloc, 2);
+    assert!(rt; matches!(&journal.begin(&1, 1)?.0, Begun::Make(0)));
+    assert!(rt; journal.ready(0, Arc::new(alloc, 1)?).is_ok());
+    assert!(rt; journal.release(0)?.is_empty());
+    let mut evicted = journal.set_capacity(0)?;
+    assert_eq!(rt; evicted.pop().map(|gone| gone.stamp), Some(0));
+    assert!(rt; evicted.is_empty());
+    assert_eq!(rt; journal.total()?, 0);
+    assert_eq!(rt;
+        lines(alloc, journal.records())?.as_str(),
+        "begin 1 1 -> make 0\n\
+         ready 0 -> done\n\
+         release 0 -> done\n\
+         capacity 0 -> done\n\
+         total -> total 0\n"
+    );
+    Ok(())
+}

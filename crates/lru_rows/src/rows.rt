@@ -26,7 +26,7 @@ pub fn write_all<R: Threads + Wait + Sync, W: Write>(
 ) -> Result<(), Failure> {
     write_1_to_6(rt, alloc, out)?;
     write_7_to_12(rt, alloc, out)?;
-    write_13_to_18(alloc, out)?;
+    write_13_to_19(alloc, out)?;
     write_20_to_22(rt, alloc, out)
 }
 
@@ -48,13 +48,14 @@ fn write_7_to_12<R: Wait, W: Write>(rt: &R, alloc: Global, out: &mut W) -> Resul
     write_row(out, 12, order::holds_what_fits(alloc))
 }
 
-fn write_13_to_18<W: Write>(alloc: Global, out: &mut W) -> Result<(), Failure> {
+fn write_13_to_19<W: Write>(alloc: Global, out: &mut W) -> Result<(), Failure> {
     write_row(out, 13, order::holds_what_was_looked_up(alloc))?;
     write_row(out, 14, shards::divides_its_capacity(alloc))?;
     write_row(out, 15, limits::refuses_past_the_greatest_total(alloc))?;
     write_row(out, 16, making::hands_a_making_over(alloc))?;
     write_row(out, 17, order::holds_nothing_without_capacity(alloc))?;
-    write_row(out, 18, limits::refuses_past_the_last_stamp_and_pin(alloc))
+    write_row(out, 18, limits::refuses_past_the_last_stamp_and_pin(alloc))?;
+    write_row(out, 19, order::settles_to_a_new_capacity(alloc))
 }
 
 fn write_20_to_22<R: Threads + Wait + Sync, W: Write>(

@@ -15,7 +15,7 @@ pub struct Watched {
 }
 
 impl Watched {
-    /// An empty cache that settles to `capacity`. Takes no memory.
+    /// An empty cache that settles to `capacity` until another is set. Takes no memory.
     pub fn new(alloc: Global, capacity: u64) -> Watched {
         Watched {
             alloc,
@@ -75,6 +75,12 @@ impl Watched {
             }
             None => Ok(false),
         }
+    }
+
+    /// Sets the capacity, and the cache settles to it at once.
+    pub fn set_capacity(&mut self, capacity: u64) -> Result<(), Refusal> {
+        let evicted = self.state.set_capacity(capacity);
+        self.note(evicted)
     }
 
     /// The keys of all idle entries, oldest first. They leave the cache and are not noted.

@@ -25,6 +25,7 @@ row 15: overflow; some; 18446744073709551615
 row 16: make 0; none; wait 0; left; make 0; done; back; 3; []; stale
 row 17: [1]; none
 row 18: overflow; overflow; some
+row 19: [1, 2]; none; [3]
 row 20: some 7
 row 21: [0]; stale; 5
 begin 1 1 -> make 0

@@ -83,3 +83,16 @@ pub fn holds_nothing_without_capacity(alloc: Global) -> Result<Vec<Part>, Refusa
     let found = Part::Found(cache.find(1)?);
     Ok(vec![in alloc; evicted, found]?)
 }
+
+/// A smaller capacity evicts the oldest at once, and a larger one brings none of them back.
+pub fn settles_to_a_new_capacity(alloc: Global) -> Result<Vec<Part>, Refusal> {
+    let mut cache = Watched::new(alloc, 9);
+    cache.make(1, 3)?;
+    cache.make(2, 2)?;
+    cache.make(3, 4)?;
+    cache.set_capacity(5)?;
+    let evicted = Part::Numbers(cache.evicted()?);
+    cache.set_capacity(9)?;
+    let found = Part::Found(cache.find(1)?);
+    Ok(vec![in alloc; evicted, found, Part::Numbers(cache.prune()?)]?)
+}
