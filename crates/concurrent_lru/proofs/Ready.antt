@@ -17,7 +17,7 @@ use Rattle.concurrent_lru.specs.Request as ask
 use Rattle.concurrent_lru.specs.Request.{Request}
 use Rattle.concurrent_lru.specs.Results.{begun, polled, got}
 use Rattle.concurrent_lru.specs.Runs.{Outcome, accepted, refused, Refuses, Stands}
-use Rattle.concurrent_lru.specs.Steps.{with_held, without_held, without, one_more_pin, one_pin_less, in_phase, held_by_one, idle_again, Makes, Joins, Revives, Hits, Turns, Leaves, Removes, Rests, Drops}
+use Rattle.concurrent_lru.specs.Steps.{with_capacity, with_held, without_held, without, one_more_pin, one_pin_less, in_phase, held_by_one, idle_again, Makes, Joins, Revives, Hits, Turns, Leaves, Removes, Rests, Drops}
 use Rattle.concurrent_lru.specs.Turns.{IfHit}
 use Rattle.concurrent_lru.specs.declared.list.Refusal.{Refusal}
 use Rattle.concurrent_lru.specs.declared.list.Refusal.TheVariants.{Stale}
@@ -228,6 +228,9 @@ module _ {K V : Type 0} (E : K → K → Bool) where
     | inr e ↦ inr e
   ])
 
+  set_capacity_fewer : (old new : Cache K V) (capacity : ℕ) (out : List (Idle K V)) → Stands E old (ask.set_capacity capacity) (accepted say.done out) new → FewerReady old new
+  set_capacity_fewer old new capacity out h = fewer_settled (with_capacity old capacity) new out h
+
   -- a hit's value is ready under a key equal to the one asked
   hits_ready : (old new : Cache K V) (k : K) (s : ℕ) (v : V) (out : List (Idle K V)) → Hits E old k s v out new → ReadyFor E old k v
   hits_ready old new k s v out h = elim h [
@@ -304,6 +307,9 @@ module _ {K V : Type 0} (E : K → K → Bool) where
 
     pub prune_kept : (old new : Cache K V) (out : List (Idle K V)) → Stands E old ask.prune (accepted say.done out) new → IsKept fits old → IsKept fits new
     prune_kept old new out h = kept_fewer old new (prune_fewer old new out h)
+
+    pub set_capacity_kept : (old new : Cache K V) (capacity : ℕ) (out : List (Idle K V)) → Stands E old (ask.set_capacity capacity) (accepted say.done out) new → IsKept fits old → IsKept fits new
+    set_capacity_kept old new capacity out h = kept_fewer old new (set_capacity_fewer old new capacity out h)
 
     pub ready_kept : (old new : Cache K V) (s : ℕ) (k : K) (v : V) (o : Outcome K V) → IsEquivalence E → EqualKeysFit E fits → IsLawful E old → HasEqualKeyAt E old s k → fits k v → Stands E old (ask.ready s v) o new → IsKept fits old → IsKept fits new
     ready_kept old new s k v (accepted say.done out) eq law lawful at fit h kept = λ key w r. elim (turns_one_more old new s v out h key w r) [

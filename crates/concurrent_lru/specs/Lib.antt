@@ -10,6 +10,9 @@ pub mod Representation
 pub mod Chain
 pub mod Results
 pub mod Ready
+pub mod Pins
+pub mod Debts
+pub mod Doors
 pub mod Turns
 pub mod Sharded
 pub mod Parts

@@ -1,6 +1,7 @@
 -- What the threaded calls answer: hits, turns, handles and errors.
-use Rattle.std.specs.Prelude.{⊤}
+use Rattle.std.specs.Prelude.{◌≡◌, ℕ, ⊤}
 use Rattle.std.specs.Arc.{arc_value}
+use Rattle.concurrent_lru.specs.Pins.{made_key, made_charge}
 use Rattle.concurrent_lru.specs.declared.step.Begun.{Begun}
 use Rattle.concurrent_lru.specs.declared.step.Begun.TheVariants as begun
 use Rattle.concurrent_lru.specs.declared.unsharded.Turn.{Turn}
@@ -19,10 +20,10 @@ IfHit (begun.Make s) P = ⊤
 IfHit (begun.Wait s) P = ⊤
 IfHit (begun.Hit s a) P = P (arc_value a)
 
--- P of the value, where the caller is to read it
-abbrev pub IfReady : {V : Type 0} → Turn V → (V → Type 0) → Type 0
-IfReady (turn.Make s) P = ⊤
-IfReady (turn.Ready s a) P = P (arc_value a)
+-- the turn is of a caller that asked for this key, with this charge
+abbrev pub AsksOnTurn : {K V F : Type 0} → Turn K V F → K → ℕ → Type 0
+AsksOnTurn (turn.Make m) k c = (made_key m ≡ k) × (made_charge m ≡ c)
+AsksOnTurn (turn.Ready p) k c = p.key ≡ k
 
 -- P of the error that the caller's init answered, where it is one
 abbrev pub IfInit : {E : Type 0} → GetError E → (E → Type 0) → Type 0

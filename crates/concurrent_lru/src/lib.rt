@@ -2,6 +2,7 @@
 //! leaves, oldest release first, once the charges pass the capacity.
 #![tactic(auto)]
 
+mod door;
 mod eviction;
 pub mod fit;
 mod get_error;

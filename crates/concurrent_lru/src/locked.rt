@@ -1,15 +1,21 @@
 //! What lies under the lock: the core's state, whose ready values fit their keys.
-//! Each call is one step of the core, for a caller that has the lock.
-ghost use Rattle.std.specs.Prelude.{◌≡◌, ◌≢◌, ◌<◌, true, [], IsTrue, IsFalse, Err, IfOk, IfErr, IfSome};
+//! Each call is one step of the core, and what it leaves to be done is a debt, which is not `Drop`.
+ghost use Rattle.std.specs.Prelude.{◌≡◌, ◌≢◌, ◌<◌, true, [], Err, IsTrue, IsFalse, IfOk, IfErr, IfSome};
 ghost use Rattle.std.specs.Arc.{arc_value};
 ghost use Rattle.concurrent_lru.specs.Cache.{empty_cache, sum_of, IsLawful};
+ghost use Rattle.concurrent_lru.specs.Debts.{entered, polled, found, AsksOnEntry, AsksOnPoll, IfEntered, IfPolled};
 ghost use Rattle.concurrent_lru.specs.Keys.{CopiesAreEqual};
+ghost use Rattle.concurrent_lru.specs.Pins.{made_at, made_key, awaited_at, awaited_key, awaited_charge, unread_at};
 ghost use Rattle.concurrent_lru.specs.Ready.{IsKept, HasEqualKeyAt};
 ghost use Rattle.concurrent_lru.specs.Request as ask;
-ghost use Rattle.concurrent_lru.specs.Results.{begun, polled, readied, failed, got, released, evicts};
+ghost use Rattle.concurrent_lru.specs.Results.{readied, failed, released, evicts};
 ghost use Rattle.concurrent_lru.specs.Runs.{Stands};
-ghost use Rattle.concurrent_lru.specs.Turns.{IfHit};
 
+mod pins;
+mod sealed;
+
+pub use self::pins::{Entered, Making, Pin, Polled, Unread, Waiting};
+pub use self::sealed::{Sealed, Waiters};
 use crate::fit::Fit;
 use crate::lru_core::{Begun, Evicted, Failed, Refusal, State};
 use std::alloc::Global;
@@ -64,22 +70,42 @@ impl<K: Hash + Eq + Clone + Drop, V: Drop, F: Fit<K, V>> Locked<K, V, F> {
     }
 
     /// The core's `begin`. The value of a hit fits the key.
-    pub fn begin(&mut self, key: &K, charge: u64) -> Result<(Begun<V>, Evicted<K, V>), Refusal>
+    pub fn begin(&mut self, key: &K, charge: u64) -> Result<Entered<K, V, F>, Refusal>
         requires charged { 0 < charge }
-        ensures step { Stands K.eq self.old (ask.begin key.now charge) (begun result) self.new }
-        ensures hit { IfOk result (λ r. IfHit r.0 (F.fits key.now)) }
+        ensures step { Stands K.eq self.old (ask.begin key.now charge) (entered result) self.new }
+        ensures asked { IfOk result (λ e. AsksOnEntry e key.now charge) }
+        ensures hit { IfOk result (λ e. IfEntered e (F.fits key.now)) }
         ensures never_stale { IfErr result (λ e. e ≢ Refusal.Stale) }
     {
-        self.state.begin(key, charge)
+        let (begun, evicted) = self.state.begin(key, charge)?;
+        match begun {
+            Begun::Make(stamp) => {
+                let making = Making::of(stamp, key, charge);
+                Ok(Entered::Make(making, Sealed::of(evicted)))
+            }
+            // A begin that meets an entry evicts nothing, so there is nothing to seal.
+            Begun::Wait(stamp) => {
+                prove!(evicted.is_empty());
+                Ok(Entered::Wait(Waiting::of(stamp, key, charge)))
+            }
+            Begun::Hit(stamp, value) => {
+                prove!(evicted.is_empty());
+                Ok(Entered::Hit(Pin::of(stamp, key, value)))
+            }
+        }
     }
 
     /// The core's `get`. The value found fits the key.
-    pub fn get(&mut self, key: &K) -> Result<Option<(u64, Arc<V>)>, Refusal>
-        ensures step { Stands K.eq self.old (ask.get key.now) (got result) self.new }
-        ensures hit { IfOk result (λ found. IfSome found (λ r. F.fits key.now (arc_value r.1))) }
+    pub fn get(&mut self, key: &K) -> Result<Option<Pin<K, V, F>>, Refusal>
+        ensures step { Stands K.eq self.old (ask.get key.now) (found result) self.new }
+        ensures asked { IfOk result (λ found. IfSome found (λ p. p.key ≡ key.now)) }
+        ensures hit { IfOk result (λ found. IfSome found (λ p. F.fits key.now p.value)) }
         ensures never_stale { IfErr result (λ e. e ≢ Refusal.Stale) }
     {
-        self.state.get(key)
+        match self.state.get(key)? {
+            None => Ok(None),
+            Some((stamp, value)) => Ok(Some(Pin::of(stamp, key, value))),
+        }
     }
 
     // Whether the entry with this stamp has this key. A stamp whose entry has left may not.
@@ -93,69 +119,131 @@ impl<K: Hash + Eq + Clone + Drop, V: Drop, F: Fit<K, V>> Locked<K, V, F> {
         }
     }
 
-    /// The core's `poll`, where the entry with this stamp has this key. The value of a hit fits
-    /// the key.
-    ///
-    /// `Stale` where no held entry has the stamp and the key, and `Memory` where the copy of the
-    /// value is refused.
-    pub fn poll(&mut self, stamp: u64, key: &K) -> Result<Begun<V>, Refusal>
-        ensures step { HasEqualKeyAt K.eq self.old stamp key.now → Stands K.eq self.old (ask.poll stamp) (polled result) self.new }
-        ensures stray { (HasEqualKeyAt K.eq self.old stamp key.now → ⊥) → (result ≡ Err Refusal.Stale) × (self.new ≡ self.old) }
-        ensures hit { IfOk result (λ b. IfHit b (F.fits key.now)) }
+    /// The core's `poll`, where the pin's entry has the key. The value of a hit fits the key.
+    pub fn poll(&mut self, waiting: Waiting<K>, key: &K) -> Polled<K, V, F>
+        requires asked { awaited_key waiting ≡ key.now }
+        ensures step { HasEqualKeyAt K.eq self.old (awaited_at waiting) key.now → Stands K.eq self.old (ask.poll (awaited_at waiting)) (polled result) self.new }
+        ensures stray { (HasEqualKeyAt K.eq self.old (awaited_at waiting) key.now → ⊥) → (result ≡ Polled.Stray) × (self.new ≡ self.old) }
+        ensures asked { AsksOnPoll result key.now (awaited_charge waiting) }
+        ensures hit { IfPolled result (F.fits key.now) }
     {
+        let Waiting {
+            stamp,
+            asked: _,
+            charge,
+        } = waiting;
         if !self.has_key(stamp, key) {
-            return Err(Refusal::Stale);
+            return Polled::Stray;
         }
-        self.state.poll(stamp)
+        match self.state.poll(stamp) {
+            Ok(Begun::Make(own)) => Polled::Make(Making::of(own, key, charge)),
+            Ok(Begun::Wait(own)) => Polled::Wait(Waiting::of(own, key, charge)),
+            Ok(Begun::Hit(own, value)) => Polled::Hit(Pin::of(own, key, value)),
+            Err(Refusal::Memory) => Polled::Refused(Unread { stamp }),
+            Err(_) => Polled::Stray,
+        }
     }
 
-    /// The core's `ready`, where the entry with this stamp has this key. Takes no memory.
+    /// The core's `ready`, where the making's entry has the key: the entry gets `stored`, and the
+    /// pin has `read`, another Arc of the same value. Takes no memory.
     ///
-    /// Where no entry with this stamp and key is being made, the value comes back.
-    pub fn ready(&mut self, stamp: u64, key: &K, value: Arc<V>) -> Result<(), Arc<V>>
-        requires fits { F.fits key.now (arc_value value) }
-        ensures step { HasEqualKeyAt K.eq self.old stamp key.now → Stands K.eq self.old (ask.ready stamp (arc_value value)) (readied result) self.new }
-        ensures stray { (HasEqualKeyAt K.eq self.old stamp key.now → ⊥) → (result ≡ Err value) × (self.new ≡ self.old) }
-        ensures back { IfErr result (λ a. arc_value a ≡ arc_value value) }
+    /// Where no entry with this stamp and key is being made, `stored` comes back.
+    pub fn ready(
+        &mut self,
+        making: Making<K>,
+        key: &K,
+        stored: Arc<V>,
+        read: Arc<V>,
+    ) -> (Pin<K, V, F>, Sealed<Result<(), Arc<V>>>, Waiters)
+        requires asked { made_key making ≡ key.now }
+        requires fits { F.fits key.now (arc_value stored) }
+        requires same { arc_value read ≡ arc_value stored }
+        ensures step { HasEqualKeyAt K.eq self.old (made_at making) key.now → Stands K.eq self.old (ask.ready (made_at making) (arc_value stored)) (readied result.1) self.new }
+        ensures stray { (HasEqualKeyAt K.eq self.old (made_at making) key.now → ⊥) → (result.1 ≡ Err stored) × (self.new ≡ self.old) }
+        ensures back { IfErr result.1 (λ a. arc_value a ≡ arc_value stored) }
+        ensures pin { result.0 ≡ record { stamp = made_at making; key = key.now; value = arc_value stored } }
     {
+        let Making {
+            stamp,
+            asked: _,
+            charge: _,
+        } = making;
+        let pin = Pin::of(stamp, key, read);
         if !self.has_key(stamp, key) {
-            return Err(value);
+            return (pin, Sealed::of(Err(stored)), Waiters {});
         }
-        self.state.ready(stamp, value)
+        (pin, Sealed::of(self.state.ready(stamp, stored)), Waiters {})
     }
 
-    /// The core's `fail`, where the entry with this stamp has this key. Takes no memory.
+    /// The core's `fail`, where the making's entry has the key. Takes no memory.
     ///
     /// `Stale` where no entry with this stamp and key is being made.
-    pub fn fail(&mut self, stamp: u64, key: &K) -> Result<Failed<K>, Refusal>
-        ensures step { HasEqualKeyAt K.eq self.old stamp key.now → Stands K.eq self.old (ask.fail stamp) (failed result) self.new }
-        ensures stray { (HasEqualKeyAt K.eq self.old stamp key.now → ⊥) → (result ≡ Err Refusal.Stale) × (self.new ≡ self.old) }
+    pub fn fail(
+        &mut self,
+        making: Making<K>,
+        key: &K,
+    ) -> (Sealed<Result<Failed<K>, Refusal>>, Waiters)
+        requires asked { made_key making ≡ key.now }
+        ensures step { HasEqualKeyAt K.eq self.old (made_at making) key.now → Stands K.eq self.old (ask.fail (made_at making)) (failed result.0) self.new }
+        ensures stray { (HasEqualKeyAt K.eq self.old (made_at making) key.now → ⊥) → (result.0 ≡ Err Refusal.Stale) × (self.new ≡ self.old) }
     {
+        let Making {
+            stamp,
+            asked: _,
+            charge: _,
+        } = making;
         if !self.has_key(stamp, key) {
-            return Err(Refusal::Stale);
+            return (Sealed::of(Err(Refusal::Stale)), Waiters {});
         }
-        self.state.fail(stamp)
+        (Sealed::of(self.state.fail(stamp)), Waiters {})
     }
 
-    /// The core's `release`. Takes no memory. `Stale` where no held and ready entry has the stamp.
-    pub fn release(&mut self, stamp: u64) -> Result<Evicted<K, V>, Refusal>
-        ensures step { Stands K.eq self.old (ask.release stamp) (released result) self.new }
+    /// The core's `release`. Takes no memory. The pin's Arc of the value is sealed before what the
+    /// release evicted.
+    ///
+    /// `Stale` where no held and ready entry has the stamp.
+    pub fn release(&mut self, pin: Pin<K, V, F>) -> Sealed<(Arc<V>, Result<Evicted<K, V>, Refusal>)>
+        ensures step { Stands K.eq self.old (ask.release pin.stamp) (released result.1) self.new }
+        ensures value { arc_value result.0 ≡ pin.value }
     {
-        self.state.release(stamp)
+        let Pin {
+            stamp,
+            asked: _,
+            value,
+            mark: _,
+        } = pin;
+        Sealed::of((value, self.state.release(stamp)))
+    }
+
+    /// The core's `release` of a pin whose value was not read. Takes no memory.
+    ///
+    /// `Stale` as in `release`.
+    pub fn give_up(&mut self, unread: Unread) -> Sealed<Result<Evicted<K, V>, Refusal>>
+        ensures step { Stands K.eq self.old (ask.release (unread_at unread)) (released result) self.new }
+    {
+        let Unread { stamp } = unread;
+        Sealed::of(self.state.release(stamp))
     }
 
     /// The core's `advice_evict`. Takes no memory.
-    pub fn advice_evict(&mut self, key: &K) -> Evicted<K, V>
+    pub fn advice_evict(&mut self, key: &K) -> Sealed<Evicted<K, V>>
         ensures step { Stands K.eq self.old (ask.advice_evict key.now) (evicts result) self.new }
     {
-        self.state.advice_evict(key)
+        Sealed::of(self.state.advice_evict(key))
     }
 
     /// The core's `prune`. Takes no memory.
-    pub fn prune(&mut self) -> Evicted<K, V>
+    pub fn prune(&mut self) -> Sealed<Evicted<K, V>>
         ensures step { Stands K.eq self.old ask.prune (evicts result) self.new }
     {
-        self.state.prune()
+        Sealed::of(self.state.prune())
+    }
+
+    /// The core's `set_capacity`. Takes no memory.
+    pub fn set_capacity(&mut self, capacity: u64) -> Sealed<Evicted<K, V>>
+        ensures step { Stands K.eq self.old (ask.set_capacity capacity) (evicts result) self.new }
+    {
+        Sealed::of(self.state.set_capacity(capacity))
     }
 
     /// The sum of the charges of all entries, those still being made included.
@@ -163,6 +251,13 @@ impl<K: Hash + Eq + Clone + Drop, V: Drop, F: Fit<K, V>> Locked<K, V, F> {
         ensures total { result ≡ sum_of self.now }
     {
         self.state.total()
+    }
+
+    /// The total that the cache settles to.
+    pub fn capacity(&self) -> u64
+        ensures capacity { result ≡ self.now.capacity }
+    {
+        self.state.capacity()
     }
 }
 

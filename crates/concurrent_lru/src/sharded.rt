@@ -239,6 +239,27 @@ impl<K: Hash + Eq + Clone + Drop, V: Drop, R: Wait, S: BuildHasher, F: Fit<K, V>
         }
     }
 
+    /// Gives each shard its share of a capacity, `capacity_per_shard`, one shard after another, and
+    /// is no snapshot: each settles to its share at once, as in the cache of one lock. Takes no
+    /// memory.
+    pub fn set_capacity(&self, capacity: u64) {
+        let share = capacity_per_shard(capacity, self.shards.len());
+        for shard in &self.shards {
+            shard.set_capacity(share);
+        }
+    }
+
+    /// The sum of the shards' capacities, which are read one after another and are no snapshot.
+    /// Each share is rounded up, so the sum may be above the capacity that was given. Takes no
+    /// memory.
+    pub fn capacity(&self) -> u128 {
+        let mut capacity = 0;
+        for shard in &self.shards {
+            capacity += u128::from(shard.capacity());
+        }
+        capacity
+    }
+
     /// The sum of the shards' totals, which are read one after another and are no snapshot. Takes
     /// no memory.
     pub fn total_charge(&self) -> u128 {

@@ -1,22 +1,21 @@
 //! One cache behind one lock, for any number of threads.
 //! Makers and the drops of values run without the lock; callers of a value in the making wait.
-ghost use Rattle.std.specs.Prelude.{◌≡◌, ◌≢◌, ◌<◌, [], Ok, Err, IfOk, IfErr, IfSome};
+ghost use Rattle.std.specs.Prelude.{◌≡◌, ◌≢◌, ◌<◌, Ok, Err, IfOk, IfErr, IfSome};
 ghost use Rattle.std.specs.Fn.{FnOnceReturnsAt, FnOnceTakesAt};
-ghost use Rattle.std.specs.Sync.Mutex.{mutex_guard_value};
-ghost use Rattle.concurrent_lru.specs.Cache.{sum_of, IsLawful};
 ghost use Rattle.concurrent_lru.specs.Keys.{CopiesAreEqual};
-ghost use Rattle.concurrent_lru.specs.Ready.{IsKept};
-ghost use Rattle.concurrent_lru.specs.Turns.{IfReady, IfInit};
+ghost use Rattle.concurrent_lru.specs.Pins.{made_key, made_charge};
+ghost use Rattle.concurrent_lru.specs.Turns.{AsksOnTurn, IfInit};
 
+use crate::door::{Door, Met};
 use crate::fit::{Anything, Fit};
 pub use crate::get_error::GetError;
 pub use crate::handle::CacheHandle;
-use crate::locked::Locked;
-use crate::lru_core::{Begun, Refusal};
+use crate::locked::{Making, Pin};
+use crate::lru_core::Refusal;
 use std::alloc::Global;
 use std::fmt;
 use std::hash::Hash;
-use std::sync::{Arc, Condvar, Mutex, MutexGuard, Wait};
+use std::sync::{Arc, Wait};
 
 /// A cache that threads share. R is the right to wait, which it was given when it was made; F is
 /// its mark, which says what its values have to do with their keys.
@@ -25,10 +24,8 @@ use std::sync::{Arc, Condvar, Mutex, MutexGuard, Wait};
 /// the capacity only where nothing is idle, and the value of every ready entry fits its key.
 #[derive(Drop)]
 pub struct LruCache<K: Hash + Eq + Clone, V, R: Wait, F: Fit<K, V> = Anything> {
-    rt: R,
     alloc: Global,
-    locked: Mutex<Locked<K, V, F>>,
-    woken: Condvar,
+    door: Door<K, V, R, F>,
 }
 
 impl<K: Hash + Eq + Clone + Drop, V: Drop, R: Wait> LruCache<K, V, R, Anything> {
@@ -47,22 +44,9 @@ impl<K: Hash + Eq + Clone + Drop, V: Drop, R: Wait, F: Fit<K, V>> LruCache<K, V,
         requires copies { CopiesAreEqual K.is_clone K.eq }
     {
         LruCache {
-            rt,
             alloc,
-            locked: Mutex::new(Locked::new(alloc, capacity)),
-            woken: Condvar::new(),
+            door: Door::new(alloc, rt, capacity),
         }
-    }
-
-    // Gets the lock. All calls get it here, so the clauses hold of every state that they meet.
-    pub(crate) fn lock(&self) -> MutexGuard<'_, Locked<K, V, F>>
-        ensures lawful { IsLawful K.eq (mutex_guard_value result) }
-        ensures settled { (mutex_guard_value result).capacity < sum_of (mutex_guard_value result) → (mutex_guard_value result).idle ≡ [] }
-        ensures kept { IsKept F.fits (mutex_guard_value result) }
-    {
-        let guard = self.locked.lock(&self.rt);
-        guard.show();
-        guard
     }
 
     /// A handle of the key's value, where it is ready; none where the key has no entry or its
@@ -75,10 +59,9 @@ impl<K: Hash + Eq + Clone + Drop, V: Drop, R: Wait, F: Fit<K, V>> LruCache<K, V,
         ensures fits { IfOk result (λ found. IfSome found (λ h. F.fits key h.value)) }
         ensures never_stale { IfErr result (λ e. e ≢ Refusal.Stale) }
     {
-        let found = self.lock().get(&key)?;
-        match found {
+        match self.door.enter().get(&key)? {
             None => Ok(None),
-            Some((stamp, value)) => Ok(Some(CacheHandle::new(self, &key, stamp, value))),
+            Some(pin) => Ok(Some(CacheHandle::new(&self.door, pin))),
         }
     }
 
@@ -112,13 +95,13 @@ impl<K: Hash + Eq + Clone + Drop, V: Drop, R: Wait, F: Fit<K, V>> LruCache<K, V,
     {
         match self.start(&key, charge) {
             Err(refusal) => Err(GetError::of_refusal(refusal)),
-            Ok(Turn::Ready(stamp, value)) => Ok(CacheHandle::new(self, &key, stamp, value)),
-            Ok(Turn::Make(stamp)) => match init(&key) {
+            Ok(Turn::Ready(pin)) => Ok(CacheHandle::new(&self.door, pin)),
+            Ok(Turn::Make(making)) => match init(&key) {
                 Err(error) => {
-                    self.fail(stamp, &key);
+                    self.door.enter().fail(making, &key);
                     Err(GetError::Init(error))
                 }
-                Ok(value) => match self.finish(stamp, &key, value) {
+                Ok(value) => match self.finish(making, &key, charge, value) {
                     Ok(handle) => Ok(handle),
                     Err(refusal) => Err(GetError::of_refusal(refusal)),
                 },
@@ -145,10 +128,10 @@ impl<K: Hash + Eq + Clone + Drop, V: Drop, R: Wait, F: Fit<K, V>> LruCache<K, V,
         ensures never_stale { IfErr result (λ e. e ≢ Refusal.Stale) }
     {
         match self.start(&key, charge)? {
-            Turn::Ready(stamp, value) => Ok(CacheHandle::new(self, &key, stamp, value)),
-            Turn::Make(stamp) => {
+            Turn::Ready(pin) => Ok(CacheHandle::new(&self.door, pin)),
+            Turn::Make(making) => {
                 let value = init(&key);
-                self.finish(stamp, &key, value)
+                self.finish(making, &key, charge, value)
             }
         }
     }
@@ -156,130 +139,87 @@ impl<K: Hash + Eq + Clone + Drop, V: Drop, R: Wait, F: Fit<K, V>> LruCache<K, V,
     /// Evicts the entry of a key, where it is idle; else nothing happens, now or later. Takes no
     /// memory.
     pub fn advice_evict(&self, key: K) {
-        let mut guard = self.lock();
-        let evicted = guard.advice_evict(&key);
-        drop(guard);
-        drop(evicted);
+        self.door.enter().advice_evict(&key);
     }
 
     /// Evicts every idle entry, oldest first. Takes no memory.
     pub fn prune(&self) {
-        let mut guard = self.lock();
-        let evicted = guard.prune();
-        drop(guard);
-        drop(evicted);
+        self.door.enter().prune();
+    }
+
+    /// Sets the capacity, and the cache settles to it at once: idle entries are evicted, oldest
+    /// first, while the total is above it. Takes no memory.
+    pub fn set_capacity(&self, capacity: u64) {
+        self.door.enter().set_capacity(capacity);
+    }
+
+    /// The greatest total of charges that idle entries are kept for. Takes no memory.
+    pub fn capacity(&self) -> u64 {
+        self.door.enter().capacity()
     }
 
     /// The sum of the charges of all entries, those still being made included. Takes no memory.
     pub fn total_charge(&self) -> u64 {
-        self.lock().total()
+        self.door.enter().total()
     }
 
-    // Begins, and waits while another caller makes the value. A begin that meets a making keeps
-    // the lock up to its wait, so that no wake is missed.
-    fn start(&self, key: &K, charge: u64) -> Result<Turn<V>, Refusal>
+    // Begins, and waits while another caller makes the value. A waiter whose pin turns out to be
+    // none begins anew.
+    fn start(&self, key: &K, charge: u64) -> Result<Turn<K, V, F>, Refusal>
         requires { 0 < charge }
-        ensures fits { IfOk result (λ turn. IfReady turn (F.fits key.now)) }
+        ensures asked { IfOk result (λ turn. AsksOnTurn turn key.now charge) }
         ensures never_stale { IfErr result (λ e. e ≢ Refusal.Stale) }
     {
-        for _ in self.rt.forever() {
-            let mut guard = self.lock();
-            let (begun, evicted) = guard.begin(key, charge)?;
-            match begun {
-                Begun::Make(stamp) => {
-                    drop(guard);
-                    drop(evicted);
-                    return Ok(Turn::Make(stamp));
-                }
-                Begun::Hit(stamp, value) => {
-                    drop(guard);
-                    drop(evicted);
-                    return Ok(Turn::Ready(stamp, value));
-                }
-                Begun::Wait(stamp) => {
-                    // A begin that meets an entry evicts nothing.
-                    drop(evicted);
-                    if let Some(turn) = self.wait(guard, stamp, key)? {
-                        return Ok(turn);
-                    }
-                }
-            }
+        let mut met = self.door.enter().begin(key, charge)?;
+        for _ in self.door.rt().forever() {
+            met = match met {
+                Met::Make(making) => return Ok(Turn::Make(making)),
+                Met::Hit(pin) => return Ok(Turn::Ready(pin)),
+                Met::Wait(asleep) => match asleep.wait(key)? {
+                    Some(woken) => woken,
+                    None => self.door.enter().begin(key, charge)?,
+                },
+            };
         }
         unreachable!()
-    }
-
-    // Waits until the value is there, or is this caller's to make. None where the stamp's entry
-    // is not the key's: the caller begins anew.
-    fn wait(
-        &self,
-        guard: MutexGuard<'_, Locked<K, V, F>>,
-        stamp: u64,
-        key: &K,
-    ) -> Result<Option<Turn<V>>, Refusal>
-        ensures fits { IfOk result (λ met. IfSome met (λ turn. IfReady turn (F.fits key.now))) }
-        ensures refused { IfErr result (λ e. e ≡ Refusal.Memory) }
-    {
-        let mut guard = guard;
-        for _ in self.rt.forever() {
-            guard = self.woken.wait(&self.rt, guard);
-            match guard.poll(stamp, key) {
-                Ok(Begun::Wait(_)) => {}
-                Ok(Begun::Make(own)) => return Ok(Some(Turn::Make(own))),
-                Ok(Begun::Hit(own, value)) => return Ok(Some(Turn::Ready(own, value))),
-                Err(Refusal::Memory) => {
-                    let evicted = guard.release(stamp);
-                    drop(guard);
-                    drop(evicted);
-                    return Err(Refusal::Memory);
-                }
-                Err(_) => return Ok(None),
-            }
-        }
-        unreachable!()
-    }
-
-    // Gives a making up and wakes whoever waits for it.
-    fn fail(&self, stamp: u64, key: &K) {
-        let mut guard = self.lock();
-        let failed = guard.fail(stamp, key);
-        self.woken.notify_all();
-        drop(guard);
-        drop(failed);
     }
 
     // Stores what was made and wakes whoever waits for it. The making is given up where memory
-    // is refused.
-    fn finish(&self, stamp: u64, key: &K, value: V) -> Result<CacheHandle<'_, K, V, R, F>, Refusal>
-        requires { F.fits key.now value }
+    // is refused. The charge is the one asked, which the making knows.
+    fn finish(
+        &self,
+        making: Making<K>,
+        key: &K,
+        charge: u64,
+        value: V,
+    ) -> Result<CacheHandle<'_, K, V, R, F>, Refusal>
+        requires asked { made_key making ≡ key.now }
+        requires charged { made_charge making ≡ charge }
+        requires fits { F.fits key.now value }
         ensures key { IfOk result (λ h. h.key ≡ key.now) }
         ensures value { IfOk result (λ h. h.value ≡ value) }
         ensures refused { IfErr result (λ e. e ≡ Refusal.Memory) }
     {
+        let _ = charge;
         let Ok(first) = Arc::new(self.alloc, value) else {
-            self.fail(stamp, key);
+            self.door.enter().fail(making, key);
             return Err(Refusal::Memory);
         };
         let Ok(second) = Arc::try_clone(&first) else {
-            self.fail(stamp, key);
+            self.door.enter().fail(making, key);
             return Err(Refusal::Memory);
         };
-        let mut guard = self.lock();
-        let stored = guard.ready(stamp, key, first);
-        self.woken.notify_all();
-        drop(guard);
-        drop(stored);
-        Ok(CacheHandle::new(self, key, stamp, second))
+        let pin = self.door.enter().ready(making, key, first, second);
+        Ok(CacheHandle::new(&self.door, pin))
     }
 }
 
-// What a caller that asked for a value has to do. Each holds the stamp of the entry, in which
-// the caller has a pin.
-#[derive(Drop)]
-enum Turn<V> {
+// What a caller that asked for a value has to do.
+enum Turn<K: Hash + Eq + Clone, V, F: Fit<K, V>> {
     // Make the value.
-    Make(u64),
+    Make(Making<K>),
     // Read it.
-    Ready(u64, Arc<V>),
+    Ready(Pin<K, V, F>),
 }
 
 // Ready entries as a map, under the lock.
@@ -290,7 +230,6 @@ impl<
     F: Fit<K, V>,
 > fmt::Debug for LruCache<K, V, R, F> {
     fn fmt<W: fmt::Write>(&self, f: &mut fmt::Formatter<W>) -> fmt::Result {
-        let guard = self.lock();
-        guard.fmt(f)
+        self.door.enter().print(f)
     }
 }

@@ -1,0 +1,225 @@
+//! The lock of a cache, and the callers that wait at it. Each call gets the lock once and lets it go:
+//! what the call took out is then dropped, and whoever waits for it was woken.
+ghost use Rattle.std.specs.Prelude.{◌≡◌, ◌≢◌, ◌<◌, [], IfOk, IfErr, IfSome};
+ghost use Rattle.std.specs.Arc.{arc_value};
+ghost use Rattle.std.specs.Sync.Mutex.{mutex_guard_value};
+ghost use Rattle.concurrent_lru.specs.Cache.{sum_of, IsLawful};
+ghost use Rattle.concurrent_lru.specs.Doors.{AsksAtDoor};
+ghost use Rattle.concurrent_lru.specs.Keys.{CopiesAreEqual};
+ghost use Rattle.concurrent_lru.specs.Pins.{made_key, awaited_key, awaited_charge};
+ghost use Rattle.concurrent_lru.specs.Ready.{IsKept};
+
+use crate::fit::Fit;
+use crate::locked::{Entered, Locked, Making, Pin, Polled, Waiting};
+use crate::lru_core::Refusal;
+use std::alloc::Global;
+use std::fmt;
+use std::hash::Hash;
+use std::sync::{Arc, Condvar, Mutex, MutexGuard, Wait};
+
+/// The lock, what wakes those that wait, and the right to wait.
+#[derive(Drop)]
+pub struct Door<K: Hash + Eq + Clone, V, R: Wait, F: Fit<K, V>> {
+    rt: R,
+    locked: Mutex<Locked<K, V, F>>,
+    woken: Condvar,
+}
+
+/// A debt: the lock is got. Each call takes it, so there is one call for each lock.
+pub struct Inside<'a, K: Hash + Eq + Clone, V, R: Wait, F: Fit<K, V>> {
+    door: &'a Door<K, V, R, F>,
+    guard: MutexGuard<'a, Locked<K, V, F>>,
+}
+
+/// A debt: a pin in an entry whose value another caller makes, and the lock, which the wait alone
+/// lets go, so that no wake is missed.
+pub struct Asleep<'a, K: Hash + Eq + Clone, V, R: Wait, F: Fit<K, V>> {
+    door: &'a Door<K, V, R, F>,
+    guard: MutexGuard<'a, Locked<K, V, F>>,
+    waiting: Waiting<K>,
+}
+
+/// What a begin says, and each wake after it.
+pub enum Met<'a, K: Hash + Eq + Clone, V, R: Wait, F: Fit<K, V>> {
+    /// The caller is to make the value.
+    Make(Making<K>),
+    /// Another caller is making it.
+    Wait(Asleep<'a, K, V, R, F>),
+    /// The value is there.
+    Hit(Pin<K, V, F>),
+}
+
+impl<K: Hash + Eq + Clone + Drop, V: Drop, R: Wait, F: Fit<K, V>> Door<K, V, R, F> {
+    /// The lock of an empty cache.
+    pub fn new(alloc: Global, rt: R, capacity: u64) -> Self
+        requires copies { CopiesAreEqual K.is_clone K.eq }
+    {
+        Door {
+            rt,
+            locked: Mutex::new(Locked::new(alloc, capacity)),
+            woken: Condvar::new(),
+        }
+    }
+
+    /// Gets the lock. All calls get it here, so the clauses hold of every state that they meet.
+    pub fn enter(&self) -> Inside<'_, K, V, R, F>
+        ensures lawful { IsLawful K.eq (mutex_guard_value result.guard) }
+        ensures settled { (mutex_guard_value result.guard).capacity < sum_of (mutex_guard_value result.guard) → (mutex_guard_value result.guard).idle ≡ [] }
+        ensures kept { IsKept F.fits (mutex_guard_value result.guard) }
+    {
+        let guard = self.locked.lock(&self.rt);
+        guard.show();
+        Inside { door: self, guard }
+    }
+
+    /// The right to wait.
+    pub fn rt(&self) -> &R {
+        &self.rt
+    }
+}
+
+impl<'a, K: Hash + Eq + Clone + Drop, V: Drop, R: Wait, F: Fit<K, V>> Inside<'a, K, V, R, F> {
+    /// `Locked::get`.
+    pub fn get(self, key: &K) -> Result<Option<Pin<K, V, F>>, Refusal>
+        ensures asked { IfOk result (λ found. IfSome found (λ p. p.key ≡ key.now)) }
+        ensures never_stale { IfErr result (λ e. e ≢ Refusal.Stale) }
+    {
+        let Self { door: _, mut guard } = self;
+        guard.get(key)
+    }
+
+    /// `Locked::begin`. What it evicted is dropped without the lock.
+    pub fn begin(self, key: &K, charge: u64) -> Result<Met<'a, K, V, R, F>, Refusal>
+        requires charged { 0 < charge }
+        ensures asked { IfOk result (λ met. AsksAtDoor met key.now charge) }
+        ensures never_stale { IfErr result (λ e. e ≢ Refusal.Stale) }
+    {
+        let Self { door, mut guard } = self;
+        match guard.begin(key, charge)? {
+            Entered::Make(making, evicted) => {
+                drop(evicted.open(guard));
+                Ok(Met::Make(making))
+            }
+            Entered::Wait(waiting) => Ok(Met::Wait(Asleep {
+                door,
+                guard,
+                waiting,
+            })),
+            Entered::Hit(pin) => Ok(Met::Hit(pin)),
+        }
+    }
+
+    /// `Locked::ready`. Whoever waits is woken.
+    pub fn ready(self, making: Making<K>, key: &K, stored: Arc<V>, read: Arc<V>) -> Pin<K, V, F>
+        requires asked { made_key making ≡ key.now }
+        requires fits { F.fits key.now (arc_value stored) }
+        requires same { arc_value read ≡ arc_value stored }
+        ensures key { result.key ≡ key.now }
+        ensures value { result.value ≡ arc_value stored }
+    {
+        let Self { door, mut guard } = self;
+        let (pin, back, waiters) = guard.ready(making, key, stored, read);
+        waiters.wake(&door.woken);
+        let _ = back.open(guard);
+        pin
+    }
+
+    /// `Locked::fail`. Whoever waits is woken.
+    pub fn fail(self, making: Making<K>, key: &K)
+        requires { made_key making ≡ key.now }
+    {
+        let Self { door, mut guard } = self;
+        let (failed, waiters) = guard.fail(making, key);
+        waiters.wake(&door.woken);
+        drop(failed.open(guard));
+    }
+
+    /// `Locked::release`. The pin's Arc, and then what was evicted, are dropped without the lock.
+    pub fn release(self, pin: Pin<K, V, F>) {
+        let Self { door: _, mut guard } = self;
+        let released = guard.release(pin);
+        drop(released.open(guard));
+    }
+
+    /// `Locked::advice_evict`. What it evicted is dropped without the lock.
+    pub fn advice_evict(self, key: &K) {
+        let Self { door: _, mut guard } = self;
+        let evicted = guard.advice_evict(key);
+        drop(evicted.open(guard));
+    }
+
+    /// `Locked::prune`. What it evicted is dropped without the lock.
+    pub fn prune(self) {
+        let Self { door: _, mut guard } = self;
+        let evicted = guard.prune();
+        drop(evicted.open(guard));
+    }
+
+    /// `Locked::set_capacity`. What it evicted is dropped without the lock.
+    pub fn set_capacity(self, capacity: u64) {
+        let Self { door: _, mut guard } = self;
+        let evicted = guard.set_capacity(capacity);
+        drop(evicted.open(guard));
+    }
+
+    /// `Locked::total`.
+    pub fn total(self) -> u64 {
+        let Self { door: _, guard } = self;
+        guard.total()
+    }
+
+    /// `Locked::capacity`.
+    pub fn capacity(self) -> u64 {
+        let Self { door: _, guard } = self;
+        guard.capacity()
+    }
+}
+
+impl<'a, K: Hash + Eq + Clone + Drop, V: Drop, R: Wait, F: Fit<K, V>> Asleep<'a, K, V, R, F> {
+    /// Waits to be woken, and then `Locked::poll`. None where the pin's entry is not the key's: then
+    /// there is no pin.
+    ///
+    /// `Memory` where the value is there and its copy is refused: then the pin is given back.
+    pub fn wait(self, key: &K) -> Result<Option<Met<'a, K, V, R, F>>, Refusal>
+        requires { awaited_key self.waiting ≡ key.now }
+        ensures asked { IfOk result (λ woken. IfSome woken (λ met. AsksAtDoor met key.now (awaited_charge self.entry.waiting))) }
+        ensures refused { IfErr result (λ e. e ≡ Refusal.Memory) }
+    {
+        let Self {
+            door,
+            guard,
+            waiting,
+        } = self;
+        let mut guard = door.woken.wait(&door.rt, guard);
+        match guard.poll(waiting, key) {
+            Polled::Make(making) => Ok(Some(Met::Make(making))),
+            Polled::Wait(waiting) => Ok(Some(Met::Wait(Asleep {
+                door,
+                guard,
+                waiting,
+            }))),
+            Polled::Hit(pin) => Ok(Some(Met::Hit(pin))),
+            Polled::Refused(unread) => {
+                let evicted = guard.give_up(unread);
+                drop(evicted.open(guard));
+                Err(Refusal::Memory)
+            }
+            Polled::Stray => Ok(None),
+        }
+    }
+}
+
+// Ready entries as a map, under the lock.
+impl<
+    'a,
+    K: Hash + Eq + Clone + Drop + fmt::Debug,
+    V: Drop + fmt::Debug,
+    R: Wait,
+    F: Fit<K, V>,
+> Inside<'a, K, V, R, F> {
+    /// Writes the ready entries.
+    pub fn print<W: fmt::Write>(self, f: &mut fmt::Formatter<W>) -> fmt::Result {
+        let Self { door: _, guard } = self;
+        fmt::Debug::fmt(&*guard, f)
+    }
+}

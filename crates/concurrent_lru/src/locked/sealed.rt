@@ -1,0 +1,49 @@
+//! What a call under the lock leaves to be done, as debts: to drop what it took out once the lock
+//! is let go, and to wake those that wait for what it did.
+ghost use Rattle.std.specs.Prelude.{◌≡◌};
+
+use std::marker::Model;
+use std::sync::{Condvar, MutexGuard};
+
+/// A debt: what a call under the lock took out of the cache, so that nothing of it is dropped under
+/// the lock. `open` takes it, with the guard.
+///
+/// Clauses see what was taken out.
+pub struct Sealed<T> {
+    inner: T,
+}
+
+impl<T> Model for Sealed<T> {
+    ghost Value = { T };
+
+    ghost view = { λ s. s.inner };
+}
+
+impl<T> Sealed<T> {
+    // Seals what a call took out.
+    pub(super) fn of(inner: T) -> Self
+        ensures { result ≡ inner }
+    {
+        Sealed { inner }
+    }
+
+    /// Lets the lock go, and then answers what was sealed under it.
+    pub fn open<L: Drop>(self, guard: MutexGuard<'_, L>) -> T
+        ensures { result ≡ self }
+    {
+        drop(guard);
+        let Self { inner } = self;
+        inner
+    }
+}
+
+/// A debt: callers may wait for what was just done. `wake` takes it.
+pub struct Waiters {}
+
+impl Waiters {
+    /// Wakes all that wait.
+    pub fn wake(self, woken: &Condvar) {
+        let Self {} = self;
+        woken.notify_all();
+    }
+}
