@@ -71,6 +71,26 @@ fn the_total_passes_the_end_of_one_shard(rt: HostRuntime) -> Result<(), Fail> {
 }
 
 #[test]
+fn a_change_of_capacity_settles_each_shard(rt: HostRuntime) -> Result<(), Fail> {
+    let cache: Cache = LruCache::with_shards_hasher(rt.alloc(), rt.clone()?, 4, 2, ByOwnNumber)?;
+    for key in [1, 0, 2, 3] {
+        drop(cache.get_or_init(key, 1, |key| *key)?);
+    }
+    assert_eq!(rt; cache.total_charge(), 4);
+    cache.set_capacity(2);
+    assert_eq!(rt; cache.total_charge(), 2);
+    assert_eq!(rt; cache.capacity(), 2);
+    assert!(rt; cache.get(0)?.is_none());
+    assert!(rt; cache.get(1)?.is_none());
+    assert!(rt; cache.get(2)?.is_some());
+    assert!(rt; cache.get(3)?.is_some());
+    // Each shard's share is rounded up.
+    cache.set_capacity(3);
+    assert_eq!(rt; cache.capacity(), 4);
+    Ok(())
+}
+
+#[test]
 fn a_failed_making_leaves_nothing(rt: HostRuntime) -> Result<(), Fail> {
     let cache: Cache = LruCache::with_shards_hasher(rt.alloc(), rt.clone()?, 10, 3, ByOwnNumber)?;
     let failed = cache.get_or_try_init(7, 1, |_| -> Result<u64, u8> { Err(9) });
