@@ -7,6 +7,8 @@ pub mod Runs
 pub mod NodeTable
 pub mod Boxes
 pub mod Representation
+pub mod Entries
+pub mod Indexes
 pub mod Chain
 pub mod Results
 pub mod Ready

@@ -1,202 +1,293 @@
-//! Nodes and the list of their places: finding, adding and taking away, and the settling loop.
-//! Free functions over the fields of a cache, which may break its invariant for a moment.
-ghost use Rattle.std.specs.Prelude.{◌≡◌, ◌≢◌, ℕ, ◌+◌, ◌<◌, ◌≤◌, ◌^◌, ◌==◌, Some, None, [], ◌∷◌, ◌++◌, length, filter, not, IsSome, IfSome, OnOk, OnErr, IfErr, MatchOption, filter_map, nat_eq, true, false, slice_index_or};
-ghost use Rattle.std.specs.List.{list_any};
+//! The entries of a cache as one value: nodes, two hashed maps that find their places, and the total of the charges.
+//! No rule of the cache is decided here but the order of eviction: what happens when is the core's.
+ghost use Rattle.std.specs.Prelude.{◌≡◌, ◌≢◌, ℕ, ◌+◌, ◌<◌, ◌≤◌, ◌^◌, Some, None, [], IsSome, OnOk, OnErr, IfErr, IfSome, MatchOption, filter_map, ◌∷◌, ◌++◌, true, cond, nat_eq};
+ghost use Rattle.std.specs.HashMap as hash;
+ghost use Rattle.std.specs.HashMap.{spare};
+ghost use Rattle.concurrent_lru.specs.Cache.{idle_at, IsFront};
 ghost use Rattle.std.specs.FinMap as map;
-ghost use Rattle.concurrent_lru.specs.Cache.{charges, IsFront};
-ghost use Rattle.concurrent_lru.specs.NodeTable.{Entry, entry_of, chain_of, updated, pinned_by, HasNode, HasIdle, LacksIdle, IsNewStamp};
-ghost use Rattle.concurrent_lru.specs.Representation.{IsRepresentation, idle_in, held_in, held_charges, held_entry, as_idle, HasEntry, CutsPlace};
-ghost use Rattle.concurrent_lru.specs.Steps.{without};
+ghost use Rattle.concurrent_lru.specs.Keys.{CopiesAreEqual};
+ghost use Rattle.concurrent_lru.specs.NodeTable.{Entry, entry_of, chain_of, phase_of, HasNode, LacksIdle};
+ghost use Rattle.concurrent_lru.specs.Representation.{as_idle, held_entry, HasEntry};
+ghost use Rattle.concurrent_lru.specs.Entries.{cache_of, charges_of, HasEntryIn, LacksStampIn, LacksKeyIn, IsPlaceOfKey, IsPlace, IsIdleAt, IsHeldAt, IsAt, IsReadyAt, Rewrites, RevivesAt, RestsAt, with_pins, new_held};
+ghost use Rattle.concurrent_lru.specs.Steps.{without, in_phase};
 
 use crate::eviction::{Evicted, reversed};
-use crate::list::{Node, Nodes, Place, Refusal};
+use crate::list::{Node, Nodes, Phase, Place, Refusal};
 use std::alloc::Global;
+use std::collections::HashMap;
+use std::fmt;
+use std::hash::Hash;
+use std::marker::Model;
 
-// The place of the node with an equal key.
-pub(crate) fn find_key<K: Eq + Drop, V: Drop>(
-    nodes: &Nodes<K, V>,
-    places: &[Place],
-    key: &K,
-) -> Option<Place>
-    requires { (p : ℕ) → list_any (nat_eq p) places.now ≡ true → HasNode nodes.now p }
-    ensures { MatchOption result ((p : ℕ) (e : Entry K V) → list_any (nat_eq p) places.now ≡ true → map.get nodes.now.nodes p ≡ Some e → K.eq e.key key.now ≡ false) (λ p. (e : Entry K V) × (map.get nodes.now.nodes p ≡ Some e) × (K.eq e.key key.now ≡ true)) }
-{
-    for place in places {
-        if nodes.node(*place).key == *key {
-            return Some(*place);
-        }
-    }
-    None
+/// The entries of a cache: idle ones, oldest first, and held ones.
+#[derive(Drop)]
+pub struct Table<K: Hash + Eq + Clone, V> {
+    nodes: Nodes<K, V>,
+    by_key: HashMap<K, Place>,
+    by_stamp: HashMap<u64, Place>,
+    total: u64,
 }
 
-// The place of the node with this stamp.
-pub(crate) fn find_stamp<K: Drop, V: Drop>(
-    nodes: &Nodes<K, V>,
-    places: &[Place],
-    stamp: u64,
-) -> Option<Place>
-    requires { (p : ℕ) → list_any (nat_eq p) places.now ≡ true → HasNode nodes.now p }
-    ensures { MatchOption result ((p : ℕ) (e : Entry K V) → list_any (nat_eq p) places.now ≡ true → map.get nodes.now.nodes p ≡ Some e → e.stamp ≢ stamp) (λ p. (e : Entry K V) × (map.get nodes.now.nodes p ≡ Some e) × (e.stamp ≡ stamp)) }
-{
-    for place in places {
-        if nodes.node(*place).stamp == stamp {
-            return Some(*place);
-        }
-    }
-    None
+impl<K: Hash + Eq + Clone, V> Model for Table<K, V> {
+    ghost use Rattle.concurrent_lru.specs.Entries.{Entries, entries_code};
+
+    ghost Value = { Entries K V };
+
+    ghost coded = { entries_code K.code V.code };
+
+    ghost use Rattle.concurrent_lru.specs.Indexes.{entries_of, IsSoundTable};
+
+    ghost view = { λ a. entries_of a.nodes };
+
+    ghost invariant = { λ a. IsSoundTable K.is_clone K.eq a.nodes a.by_key a.by_stamp a.total };
 }
 
-// Keeps a node of a new stamp, held by one pin.
-pub(crate) fn add<K: Drop, V: Drop>(
-    alloc: Global,
+impl<K: Hash + Eq + Clone, V: Drop> Table<K, V> {
+    /// No entries. Takes no memory.
+    pub fn new(alloc: Global) -> Table<K, V>
+        requires { CopiesAreEqual K.is_clone K.eq }
+        ensures idle { result.idle ≡ [] }
+        ensures held { result.held ≡ map.empty }
+        ensures stamps { result.stamps ≡ map.empty }
+    {
+        Table {
+            nodes: Nodes::new(alloc),
+            by_key: HashMap::new(alloc),
+            by_stamp: HashMap::new(alloc),
+            total: 0,
+        }
+    }
+
+    /// The sum of the charges of all entries.
+    pub fn total(&self) -> u64
+        ensures { result ≡ charges_of self.now }
+    {
+        self.total
+    }
+
+    /// The place of the entry with this stamp.
+    pub fn find_stamp(&self, stamp: u64) -> Option<Place>
+        ensures { MatchOption result (LacksStampIn self.now stamp) (λ p. map.get self.now.stamps p ≡ Some stamp) }
+    {
+        self.by_stamp.get(&stamp).copied()
+    }
+
+    /// The place of the entry with an equal key.
+    pub fn find_key(&self, key: &K) -> Option<Place>
+        ensures { MatchOption result (LacksKeyIn K.eq self.now key.now) (λ p. IsPlaceOfKey K.eq self.now p key.now) }
+    {
+        self.by_key.get(key).copied()
+    }
+
+    /// The node at a place.
+    pub fn node(&self, place: Place) -> &Node<K, V>
+        requires { IsPlace self.now place }
+        ensures entry { IsAt self.now place (entry_of result.now) }
+        ensures alone { chain_of result.now ≡ [] }
+    {
+        self.nodes.node(place)
+    }
+
+    /// Keeps a new entry, held by one pin, whose value is being made.
+    ///
+    /// `Memory` where a copy of the key or a growth is refused; nothing changes then.
+    pub fn add(&mut self, alloc: Global, stamp: u64, key: &K, charge: u64) -> Result<(), Refusal>
+        requires absent { LacksKeyIn K.eq self.old key.now }
+        requires fresh { LacksStampIn self.old stamp }
+        requires fits { charges_of self.old + charge < 2 ^ 64 }
+        ensures idle { self.new.idle ≡ self.old.idle }
+        ensures ok { OnOk result ((copy : K) × (K.eq copy key.now ≡ true) × (self.new.held ≡ map.insert self.old.held stamp (new_held copy charge))) }
+        ensures err { OnErr result (self.new ≡ self.old) }
+        ensures refusal { IfErr result (λ e. e ≡ Refusal.Memory) }
+    {
+        let own = key.clone()?;
+        let kept = key.clone()?;
+        let node = Box::new(alloc, Node::new(stamp, own, charge))?;
+        reserve_one(&mut self.nodes, &mut self.by_key, &mut self.by_stamp)?;
+        let place = self.nodes.insert_reserved(node);
+        let _by_key = self.by_key.insert(kept, place);
+        let _by_stamp = self.by_stamp.insert(stamp, place);
+        self.total += charge;
+        Ok(())
+    }
+
+    /// Pins an entry once more, of which this is the number of pins: an idle one leaves the idle
+    /// order. Takes no memory.
+    pub fn pin(&mut self, place: Place, pins: u32)
+        requires room { pins + 1 < 2 ^ 32 }
+        requires resting { pins ≡ 0 → IsIdleAt self.old place }
+        requires pinned { pins ≢ 0 → IsHeldAt self.old place }
+        ensures revived { pins ≡ 0 → RevivesAt self.old place self.new }
+        ensures held { pins ≢ 0 → Rewrites (with_pins (pins + 1)) self.old place self.new }
+    {
+        if pins == 0 {
+            self.revive(place);
+        } else {
+            self.hold(place, pins + 1);
+        }
+    }
+
+    /// Writes the number of pins of a held entry, which stays held. Takes no memory.
+    pub fn hold(&mut self, place: Place, pins: u32)
+        requires held { IsHeldAt self.old place }
+        requires some { 0 < pins }
+        ensures { Rewrites (with_pins pins) self.old place self.new }
+    {
+        self.nodes.set_pins(place, pins);
+    }
+
+    /// Writes the phase of a held entry: its making is handed over, or its value is there. Takes
+    /// no memory.
+    pub fn turn(&mut self, place: Place, phase: Phase<V>)
+        requires { IsHeldAt self.old place }
+        ensures { Rewrites (in_phase (phase_of phase)) self.old place self.new }
+    {
+        self.nodes.set_phase(place, phase);
+    }
+
+    // Pins an idle entry, which is held from then on.
+    fn revive(&mut self, place: Place)
+        requires { IsIdleAt self.old place }
+        ensures { RevivesAt self.old place self.new }
+    {
+        self.nodes.remove(place);
+        self.nodes.set_pins(place, 1);
+    }
+
+    /// Takes the pins of a ready entry, which becomes the newest idle one. Takes no memory.
+    pub fn rest(&mut self, place: Place)
+        requires { IsReadyAt self.old place }
+        ensures { RestsAt self.old place self.new }
+    {
+        self.nodes.set_pins(place, 0);
+        self.nodes.append(place);
+    }
+
+    /// Takes a held entry away. Takes no memory.
+    pub fn take_held(&mut self, place: Place) -> Box<Node<K, V>>
+        requires { IsHeldAt self.old place }
+        ensures at { map.get self.old.stamps place ≡ Some (entry_of result.value).stamp }
+        ensures entry { map.get self.old.held (entry_of result.value).stamp ≡ Some (held_entry (entry_of result.value)) }
+        ensures alone { chain_of result.value ≡ [] }
+        ensures idle { self.new.idle ≡ self.old.idle }
+        ensures held { self.new.held ≡ map.remove self.old.held (entry_of result.value).stamp }
+        ensures stamps { self.new.stamps ≡ map.remove self.old.stamps place }
+    {
+        take_away(
+            &mut self.nodes,
+            &mut self.by_key,
+            &mut self.by_stamp,
+            &mut self.total,
+            place,
+        )
+    }
+
+    /// Takes an idle entry away. Takes no memory.
+    pub fn evict(&mut self, place: Place) -> Box<Node<K, V>>
+        requires { IsIdleAt self.old place }
+        ensures at { map.get self.old.stamps place ≡ Some (entry_of result.value).stamp }
+        ensures ready { IsSome (as_idle (entry_of result.value)) }
+        ensures entry { idle_at (cache_of self.old) (entry_of result.value).stamp ≡ as_idle (entry_of result.value) }
+        ensures alone { chain_of result.value ≡ [] }
+        ensures idle { self.new.idle ≡ without (entry_of result.value).stamp self.old.idle }
+        ensures held { self.new.held ≡ self.old.held }
+        ensures stamps { self.new.stamps ≡ map.remove self.old.stamps place }
+    {
+        self.nodes.remove(place);
+        take_away(
+            &mut self.nodes,
+            &mut self.by_key,
+            &mut self.by_stamp,
+            &mut self.total,
+            place,
+        )
+    }
+
+    // Takes the oldest idle entry away, if there is one.
+    fn evict_oldest(&mut self) -> Option<Box<Node<K, V>>>
+        ensures held { self.new.held ≡ self.old.held }
+        ensures idle { MatchOption result ((self.old.idle ≡ []) × (self.new.idle ≡ [])) (λ node. self.old.idle ≡ filter_map as_idle (entry_of node.value ∷ []) ++ self.new.idle) }
+        ensures ready { IfSome result (λ node. IsSome (as_idle (entry_of node.value))) }
+        ensures alone { IfSome result (λ node. chain_of node.value ≡ []) }
+    {
+        let place = self.nodes.oldest()?;
+        Some(self.evict(place))
+    }
+
+    /// Evicts the oldest idle entries until the total is at most the capacity or none is left.
+    pub fn settle(&mut self, capacity: u64) -> Evicted<K, V>
+        ensures held { self.new.held ≡ self.old.held }
+        ensures front { IsFront (charges_of self.old) capacity self.old.idle result self.new.idle }
+    {
+        let mut newest_first = None;
+        while self.total() > capacity {
+            match self.evict_oldest() {
+                None => break,
+                Some(mut node) => {
+                    node.next = newest_first;
+                    newest_first = Some(node);
+                }
+            }
+        }
+        reversed(newest_first)
+    }
+}
+
+// Makes room for one more entry, so that its inserts cannot fail.
+fn reserve_one<K: Hash + Eq + Drop, V: Drop>(
     nodes: &mut Nodes<K, V>,
-    places: &mut Vec<Place>,
-    node: Node<K, V>,
+    by_key: &mut HashMap<K, Place>,
+    by_stamp: &mut HashMap<u64, Place>,
 ) -> Result<(), Refusal>
-    requires represents { IsRepresentation nodes.old places.old.items }
-    requires alone { chain_of node ≡ [] }
-    requires fresh { IsNewStamp nodes.old (entry_of node).stamp }
-    requires pinned { (entry_of node).pins ≡ 1 }
-    ensures represents { IsRepresentation nodes.new places.new.items }
-    ensures idle { idle_in nodes.new ≡ idle_in nodes.old }
-    ensures ok { OnOk result (held_in nodes.new places.new.items ≡ map.insert (held_in nodes.old places.old.items) (entry_of node).stamp (held_entry (entry_of node))) }
-    ensures err { OnErr result (held_in nodes.new places.new.items ≡ held_in nodes.old places.old.items) }
+    ensures ok { OnOk result ((0 < nodes.new.room) × (0 < spare by_key.new) × (0 < spare by_stamp.new)) }
     ensures refusal { IfErr result (λ e. e ≡ Refusal.Memory) }
+    ensures nodes { nodes.new.nodes ≡ nodes.old.nodes }
+    ensures idle { nodes.new.idle ≡ nodes.old.idle }
+    ensures by_key { (k : K) → hash.get K.eq by_key.new k ≡ hash.get K.eq by_key.old k }
+    ensures by_stamp { (s : ℕ) → hash.get nat_eq by_stamp.new s ≡ hash.get nat_eq by_stamp.old s }
 {
     nodes.reserve(1)?;
-    places.reserve(1)?;
-    let node = Box::new(alloc, node)?;
-    let place = nodes.insert_reserved(node);
-    let _kept = places.push(place);
+    by_key.reserve(1)?;
+    by_stamp.reserve(1)?;
     Ok(())
 }
 
-// One more pin on a ready node; an idle one leaves the idle order.
-pub(crate) fn pin<K: Drop, V: Drop>(nodes: &mut Nodes<K, V>, place: Place, pins: u32)
-    requires within { HasNode nodes.old place }
-    requires room { pins + 1 < 2 ^ 32 }
-    requires resting { pins ≡ 0 → HasIdle nodes.old place }
-    ensures nodes { nodes.new.nodes ≡ updated (pinned_by (pins + 1)) nodes.old.nodes place }
-    ensures held { 0 < pins → nodes.new.idle ≡ nodes.old.idle }
-    ensures idle { pins ≡ 0 → nodes.new.idle ≡ filter (λ p. not (p == place)) nodes.old.idle }
-{
-    if pins == 0 {
-        nodes.remove(place);
-    }
-    nodes.set_pins(place, pins + 1);
-}
-
-// Takes a node away that is in no order, and its place.
-fn take_away<K: Drop, V: Drop>(
+// Takes a node away that is in no order, what finds it, and its charge.
+fn take_away<K: Hash + Eq + Drop, V: Drop>(
     nodes: &mut Nodes<K, V>,
-    places: &mut Vec<Place>,
+    by_key: &mut HashMap<K, Place>,
+    by_stamp: &mut HashMap<u64, Place>,
+    total: &mut u64,
     place: Place,
 ) -> Box<Node<K, V>>
     requires within { HasNode nodes.old place }
-    requires listed { list_any (nat_eq place) places.old.items ≡ true }
-    requires held { LacksIdle nodes.old place }
+    requires apart { LacksIdle nodes.old place }
+    requires counted { (e : Entry K V) → HasEntry nodes.old place e → e.charge ≤ total.old }
     ensures entry { HasEntry nodes.old place (entry_of result.value) }
     ensures alone { chain_of result.value ≡ [] }
     ensures nodes { nodes.new.nodes ≡ map.remove nodes.old.nodes place }
     ensures idle { nodes.new.idle ≡ nodes.old.idle }
-    ensures places { CutsPlace places.old.items places.new.items place }
+    ensures by_key { (k : K) → hash.get K.eq by_key.new k ≡ cond (K.eq (entry_of result.value).key k) None (hash.get K.eq by_key.old k) }
+    ensures by_stamp { (s : ℕ) → hash.get nat_eq by_stamp.new s ≡ cond (nat_eq (entry_of result.value).stamp s) None (hash.get nat_eq by_stamp.old s) }
+    ensures total { total.new + (entry_of result.value).charge ≡ total.old }
 {
-    let index = index_of(places, place);
-    places.remove(index);
-    nodes.take(place)
+    let node = nodes.take(place);
+    let _by_key = by_key.remove(&node.key);
+    let _by_stamp = by_stamp.remove(&node.stamp);
+    *total -= node.charge;
+    node
 }
 
-// Takes a held node away.
-pub(crate) fn remove_held<K: Drop, V: Drop>(
-    nodes: &mut Nodes<K, V>,
-    places: &mut Vec<Place>,
-    place: Place,
-) -> Box<Node<K, V>>
-    requires represents { IsRepresentation nodes.old places.old.items }
-    requires within { HasNode nodes.old place }
-    requires pinned { (e : Entry K V) → HasEntry nodes.old place e → 0 < e.pins }
-    ensures represents { IsRepresentation nodes.new places.new.items }
-    ensures entry { HasEntry nodes.old place (entry_of result.value) }
-    ensures idle { idle_in nodes.new ≡ idle_in nodes.old }
-    ensures held { held_in nodes.new places.new.items ≡ map.remove (held_in nodes.old places.old.items) (entry_of result.value).stamp }
-{
-    take_away(nodes, places, place)
-}
-
-// Takes an idle node away.
-pub(crate) fn evict_at<K: Drop, V: Drop>(
-    nodes: &mut Nodes<K, V>,
-    places: &mut Vec<Place>,
-    place: Place,
-) -> Box<Node<K, V>>
-    requires represents { IsRepresentation nodes.old places.old.items }
-    requires idle { HasIdle nodes.old place }
-    ensures represents { IsRepresentation nodes.new places.new.items }
-    ensures entry { HasEntry nodes.old place (entry_of result.value) }
-    ensures alone { chain_of result.value ≡ [] }
-    ensures ready { IsSome (as_idle (entry_of result.value)) }
-    ensures held { held_in nodes.new places.new.items ≡ held_in nodes.old places.old.items }
-    ensures idle { idle_in nodes.new ≡ without (entry_of result.value).stamp (idle_in nodes.old) }
-{
-    nodes.remove(place);
-    take_away(nodes, places, place)
-}
-
-// Takes the oldest idle node away, if there is one.
-fn evict_oldest<K: Drop, V: Drop>(
-    nodes: &mut Nodes<K, V>,
-    places: &mut Vec<Place>,
-) -> Option<Box<Node<K, V>>>
-    requires { IsRepresentation nodes.old places.old.items }
-    ensures represents { IsRepresentation nodes.new places.new.items }
-    ensures held { held_in nodes.new places.new.items ≡ held_in nodes.old places.old.items }
-    ensures idle { MatchOption result ((idle_in nodes.old ≡ []) × (idle_in nodes.new ≡ [])) (λ node. idle_in nodes.old ≡ filter_map as_idle (entry_of node.value ∷ []) ++ idle_in nodes.new) }
-    ensures ready { IfSome result (λ node. IsSome (as_idle (entry_of node.value))) }
-    ensures alone { IfSome result (λ node. chain_of node.value ≡ []) }
-{
-    let place = nodes.oldest()?;
-    nodes.remove(place);
-    Some(take_away(nodes, places, place))
-}
-
-// Where a place is in the list.
-fn index_of(places: &[Place], place: Place) -> usize
-    requires { list_any (nat_eq place) places.now ≡ true }
-    ensures within { result < length places.now }
-    ensures place { (d : ℕ) → slice_index_or places.now result d ≡ place }
-{
-    for (index, other) in places.iter().enumerate() {
-        if other.is(place) {
-            return index;
-        }
-    }
-    unreachable!()
-}
-
-// Evicts the oldest idle nodes until the total is at most the capacity or none is left.
-pub(crate) fn settle<K: Drop, V: Drop>(
-    nodes: &mut Nodes<K, V>,
-    places: &mut Vec<Place>,
-    total: &mut u64,
-    capacity: u64,
-) -> Evicted<K, V>
-    requires represents { IsRepresentation nodes.old places.old.items }
-    requires total { total.old ≡ charges (idle_in nodes.old) + held_charges (held_in nodes.old places.old.items) }
-    ensures represents { IsRepresentation nodes.new places.new.items }
-    ensures total { total.new ≡ charges (idle_in nodes.new) + held_charges (held_in nodes.new places.new.items) }
-    ensures held { held_in nodes.new places.new.items ≡ held_in nodes.old places.old.items }
-    ensures front { IsFront total.old capacity (idle_in nodes.old) result (idle_in nodes.new) }
-{
-    let mut newest_first = None;
-    while *total > capacity {
-        match evict_oldest(nodes, places) {
-            None => break,
-            Some(mut node) => {
-                *total -= node.charge;
-                node.next = newest_first;
-                newest_first = Some(node);
+// Ready entries as a map; an entry that is being made is not shown.
+impl<K: Hash + Eq + Clone + fmt::Debug, V: Drop + fmt::Debug> fmt::Debug for Table<K, V> {
+    fn fmt<W: fmt::Write>(&self, f: &mut fmt::Formatter<W>) -> fmt::Result {
+        let mut map = f.debug_map();
+        for place in self.by_stamp.values() {
+            let node = self.node(*place);
+            if let Phase::Ready(value) = &node.phase {
+                map.entry(&node.key, &**value);
             }
         }
+        map.finish()
     }
-    reversed(newest_first)
 }

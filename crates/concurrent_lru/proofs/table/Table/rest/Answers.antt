@@ -1,0 +1,57 @@
+use Rattle.std.proofs.Common.{◌++◌, ◌∷◌, [], refl, sym, ap, ◌∙◌, subst, eqb}
+use Rattle.std.specs.Prelude.{is_some}
+use Rattle.std.specs.List.{list_any}
+use Rattle.std.specs.FinMap.{get}
+use Rattle.concurrent_lru.specs.Entries.{IsReadyAt, RestsAt}
+use Rattle.concurrent_lru.specs.Indexes.{entries_of}
+use Rattle.concurrent_lru.proofs.Changes.{inserted_at}
+use Rattle.concurrent_lru.proofs.Withdrawals.{held_not_idle}
+use Rattle.concurrent_lru.proofs.NodesAt.{has_node, some_node, held_found, ready_like, place_at}
+use Rattle.concurrent_lru.proofs.Releases.{pinned_writes}
+use Rattle.concurrent_lru.proofs.Rewriting.{rests_nodes, stored_rested, entries_rested}
+use Rattle.concurrent_lru.proofs.TableSums.{sum_rested}
+use Rattle.concurrent_lru.proofs.table.Table.rest.Goals as goal
+
+pub set_pins-requires : goal.set_pins-requires
+set_pins-requires g c = let h = subst (λ t. IsReadyAt t c.args.place) (sym c.self.view_is) c.requires in has_node c.self.invariant.stored c.args.place (h.stamp, h.at)
+
+pub append-requires-clause-within : goal.append-requires-clause-within
+append-requires-clause-within g c =
+    let h = subst (λ t. IsReadyAt t c.args.place) (sym c.self.view_is) c.requires in
+    let n = some_node c.self.invariant.stored c.args.place (h.stamp, h.at) in
+    let w = pinned_writes c.self.inside.nodes c.set_pins.new.self c.args.place 0 n.0 n.1 c.set_pins.ensures.nodes in
+    ap is_some (ap (λ m. get m c.args.place) w.nodes ∙ inserted_at _ _ _)
+
+pub append-requires-clause-held : goal.append-requires-clause-held
+append-requires-clause-held g c =
+    let h = subst (λ t. IsReadyAt t c.args.place) (sym c.self.view_is) c.requires in
+    let n = some_node c.self.invariant.stored c.args.place (h.stamp, h.at) in
+    ap (list_any (eqb c.args.place)) c.set_pins.ensures.idle ∙ held_not_idle c.self.inside.nodes _ c.args.place n.0 c.self.invariant.stored.represents n.1 (ready_like c.self.invariant.stored c.args.place n.0 h n.1).0
+
+pub invariant_of-self : goal.invariant_of-self
+invariant_of-self g c =
+    let h = subst (λ t. IsReadyAt t c.args.place) (sym c.self.view_is) c.requires in
+    let n = some_node c.self.invariant.stored c.args.place (h.stamp, h.at) in
+    let l = ready_like c.self.invariant.stored c.args.place n.0 h n.1 in
+    let changed = entries_rested c.self.invariant.stored (rests_nodes c.self.inside.nodes c.set_pins.new.self c.append.new.self c.args.place n.0 n.1 c.set_pins.ensures.nodes c.append.ensures.nodes) refl h.value (c.append.ensures.idle ∙ ap (λ xs. xs ++ c.args.place ∷ []) c.set_pins.ensures.idle) l.0 refl l.1 in
+    record {
+      stored = stored_rested c.self.invariant.stored (rests_nodes c.self.inside.nodes c.set_pins.new.self c.append.new.self c.args.place n.0 n.1 c.set_pins.ensures.nodes c.append.ensures.nodes) refl h.value (c.append.ensures.idle ∙ ap (λ xs. xs ++ c.args.place ∷ []) c.set_pins.ensures.idle) l.0 refl l.1;
+      sums = c.self.invariant.sums ∙ sym (sum_rested (entries_of c.self.inside.nodes) (entries_of c.append.new.self) n.0.stamp _ _ (ap (λ t. t.idle) changed) (ap (λ t. t.held) changed) (held_found c.self.invariant.stored c.args.place n.0 n.1 l.0) refl);
+    }
+
+pub returns : goal.returns
+returns g c =
+    let h = subst (λ t. IsReadyAt t c.args.place) (sym c.self.view_is) c.requires in
+    let n = some_node c.self.invariant.stored c.args.place (h.stamp, h.at) in
+    let l = ready_like c.self.invariant.stored c.args.place n.0 h n.1 in
+    subst (λ t. RestsAt t c.args.place (entries_of c.append.new.self)) c.self.view_is (record {
+      was = record {
+        stamp = n.0.stamp;
+        entry = _;
+        value = h.value;
+        at = place_at c.self.invariant.stored c.args.place n.0 n.1;
+        held = held_found c.self.invariant.stored c.args.place n.0 n.1 l.0;
+        phase = l.1;
+      };
+      changed = entries_rested c.self.invariant.stored (rests_nodes c.self.inside.nodes c.set_pins.new.self c.append.new.self c.args.place n.0 n.1 c.set_pins.ensures.nodes c.append.ensures.nodes) refl h.value (c.append.ensures.idle ∙ ap (λ xs. xs ++ c.args.place ∷ []) c.set_pins.ensures.idle) l.0 refl l.1;
+    })

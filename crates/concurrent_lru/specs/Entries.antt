@@ -1,0 +1,110 @@
+-- What a `Table` is seen as: its entries, idle and held, and the stamp of the entry at each place. What each of its calls does to them.
+use Rattle.std.specs.Prelude.{◌≡◌, ◌≢◌, ℕ, ◌<◌, ◌+◌, ◌++◌, ◌∷◌, [], Bool, true, false, List, IsSome, Some, refl}
+use Rattle.std.specs.Ordering.{nat_cmp}
+use Rattle.std.specs.Coded.{Coded, code_by, coded×, coded_ℕ, coded_list}
+use Rattle.std.specs.FinMap as finmap
+use Rattle.concurrent_lru.specs.Cache.{Cache, Idle, Held, IsEntry, IsLawful, idle_at, held_at, idle_code, held_code, charges, making, ready}
+use Rattle.concurrent_lru.specs.Steps.{without, held_by_one, idle_again}
+use Rattle.concurrent_lru.specs.NodeTable.{Entry}
+use Rattle.concurrent_lru.specs.Representation.{as_idle, held_entry, held_charges}
+
+-- the idle entries stand oldest first; a place is where an entry lies until it is taken away
+pub record Entries (K V : Type 0) : Type 0 where
+  pub idle : List (Idle K V)
+  pub held : finmap.FinMap nat_cmp (Held K V)
+  pub stamps : finmap.FinMap nat_cmp ℕ
+
+module _ {K V : Type 0} where
+  abbrev pub entries_code : Coded K → Coded V → Coded (Entries K V)
+  entries_code k v =
+      code_by (List (Idle K V) × (finmap.FinMap nat_cmp (Held K V) × finmap.FinMap nat_cmp ℕ)) (coded× (coded_list (idle_code k v)) (coded× (finmap.code coded_ℕ (held_code k v)) (finmap.code coded_ℕ coded_ℕ)))
+      (λ t. (t.idle, (t.held, t.stamps))) (λ p. record { idle = p.0; held = p.1.0; stamps = p.1.1 }) (λ _. refl)
+
+  -- the cache of these entries with these numbers, and whatever its numbers
+  abbrev pub cache_with : ℕ → ℕ → ℕ → Entries K V → Cache K V
+  cache_with capacity most_pins next t = record { capacity = capacity; most_pins = most_pins; next = next; idle = t.idle; held = t.held }
+
+  abbrev pub cache_of : Entries K V → Cache K V
+  cache_of t = cache_with 0 0 0 t
+
+  -- the sum of the charges
+  abbrev pub charges_of : Entries K V → ℕ
+  charges_of t = charges t.idle + held_charges t.held
+
+  -- an entry with the stamp s has the key k and the charge m
+  abbrev pub HasEntryIn : Entries K V → ℕ → K → ℕ → Type 0
+  HasEntryIn t s k m = IsEntry (cache_of t) s k m
+
+  -- no entry has the stamp; none has a key equal to k
+  abbrev pub LacksStampIn : Entries K V → ℕ → Type 0
+  LacksStampIn t s = (k : K) (m : ℕ) → ¬ (HasEntryIn t s k m)
+
+  abbrev pub LacksKeyIn : (K → K → Bool) → Entries K V → K → Type 0
+  LacksKeyIn E t k = (s : ℕ) (l : K) (m : ℕ) → HasEntryIn t s l m → E l k ≡ false
+
+  -- the place is that of an entry whose key equals k
+  pub record IsPlaceOfKey (E : K → K → Bool) (t : Entries K V) (p : ℕ) (k : K) : Type 0 where
+    pub stamp : ℕ
+    pub key : K
+    pub charge : ℕ
+    pub at : finmap.get t.stamps p ≡ Some stamp
+    pub entry : HasEntryIn t stamp key charge
+    pub same_key : E key k ≡ true
+
+  -- the place is that of an entry; of an idle one; of a held one
+  abbrev pub IsPlace : Entries K V → ℕ → Type 0
+  IsPlace t p = (s : ℕ) × (finmap.get t.stamps p ≡ Some s)
+
+  abbrev pub IsIdleAt : Entries K V → ℕ → Type 0
+  IsIdleAt t p = (s : ℕ) × (finmap.get t.stamps p ≡ Some s) × IsSome (idle_at (cache_of t) s)
+
+  abbrev pub IsHeldAt : Entries K V → ℕ → Type 0
+  IsHeldAt t p = (s : ℕ) × (finmap.get t.stamps p ≡ Some s) × IsSome (held_at (cache_of t) s)
+
+  -- the entry e is at the place: idle where it has no pin, and else held
+  pub record IsAt (t : Entries K V) (p : ℕ) (e : Entry K V) : Type 0 where
+    pub at : finmap.get t.stamps p ≡ Some e.stamp
+    pub idle : e.pins ≡ 0 → IsSome (as_idle e) × (idle_at (cache_of t) e.stamp ≡ as_idle e)
+    pub held : e.pins ≢ 0 → held_at (cache_of t) e.stamp ≡ Some (held_entry e)
+
+  -- a held entry as a new one is
+  abbrev pub new_held : K → ℕ → Held K V
+  new_held k m = record { key = k; charge = m; pins = 1; phase = making }
+
+  -- the held entry of the place goes through f
+  pub record Rewrites (f : Held K V → Held K V) (old : Entries K V) (p : ℕ) (new : Entries K V) : Type 0 where
+    pub stamp : ℕ
+    pub entry : Held K V
+    pub at : finmap.get old.stamps p ≡ Some stamp
+    pub held : held_at (cache_of old) stamp ≡ Some entry
+    pub changed : new ≡ record old { held = finmap.insert old.held stamp (f entry) }
+
+  abbrev pub with_pins : ℕ → Held K V → Held K V
+  with_pins n e = record e { pins = n }
+
+  -- the idle entry of the place is held by one pin
+  pub record RevivesAt (old : Entries K V) (p : ℕ) (new : Entries K V) : Type 0 where
+    pub stamp : ℕ
+    pub entry : Idle K V
+    pub at : finmap.get old.stamps p ≡ Some stamp
+    pub idle : idle_at (cache_of old) stamp ≡ Some entry
+    pub changed : new ≡ record old { idle = without stamp old.idle; held = finmap.insert old.held stamp (held_by_one entry) }
+
+  -- the held entry of the place is ready
+  pub record IsReadyAt (t : Entries K V) (p : ℕ) : Type 0 where
+    pub stamp : ℕ
+    pub entry : Held K V
+    pub value : V
+    pub at : finmap.get t.stamps p ≡ Some stamp
+    pub held : held_at (cache_of t) stamp ≡ Some entry
+    pub phase : entry.phase ≡ ready value
+
+  -- it becomes the newest idle one
+  pub record RestsAt (old : Entries K V) (p : ℕ) (new : Entries K V) : Type 0 where
+    pub was : IsReadyAt old p
+    pub changed : new ≡ record old { idle = old.idle ++ idle_again was.stamp was.entry was.value ∷ []; held = finmap.remove old.held was.stamp }
+
+  -- the cache is lawful, and an entry may have a pin
+  pub record IsSound (E : K → K → Bool) (cache : Cache K V) : Type 0 where
+    pub lawful : IsLawful E cache
+    pub pins_above : 0 < cache.most_pins
