@@ -5,8 +5,7 @@ use Rattle.std.proofs.lemmas.Bool.{eq-eqb}
 use Rattle.std.proofs.lemmas.List.{append-nil}
 use Rattle.std.proofs.lemmas.List.Sums.{sum_by-append}
 use Rattle.concurrent_lru.specs.Cache.{Cache, Idle, IsLawful, IsFront, sum_of, charges}
-use Rattle.concurrent_lru.specs.NodeTable.{NodeTable}
-use Rattle.concurrent_lru.specs.Representation.{idle_in, held_in, cache_in}
+use Rattle.concurrent_lru.specs.Entries.{Entries, cache_with, charges_of}
 use Rattle.concurrent_lru.proofs.Laws.{find_rest}
 use Rattle.concurrent_lru.proofs.Sums.{sum_by-cons}
 
@@ -30,11 +29,11 @@ module _ {K V : Type 0} where
     | inr h ↦ h
   ]
 
-  pub prunes_from : (E : K → K → Bool) (capacity most next : ℕ) (old new : NodeTable K V) (places rest : List ℕ) (total : ℕ) (out : List (Idle K V))
-      → IsLawful E (cache_in capacity most next old places) → total ≡ sum_of (cache_in capacity most next old places) → held_in new rest ≡ held_in old places → IsFront total 0 (idle_in old) out (idle_in new)
-      → (out ≡ idle_in old) × (cache_in capacity most next new rest ≡ record (cache_in capacity most next old places) { idle = [] })
-  prunes_from E capacity most next old new places rest total out l sums held front =
-      let none : idle_in new ≡ [] = left_of E (cache_in capacity most next old places) total out (idle_in new) l sums front in (
+  -- settling to 0
+  pub prunes : {E : K → K → Bool} {capacity most next : ℕ} (t u : Entries K V) (out : List (Idle K V)) → IsLawful E (cache_with capacity most next t) → u.held ≡ t.held → IsFront (charges_of t) 0 t.idle out u.idle
+      → (out ≡ t.idle) × (cache_with capacity most next u ≡ record (cache_with capacity most next t) { idle = [] })
+  prunes {E} {capacity} {most} {next} t u out l held front =
+      let none : u.idle ≡ [] = left_of E (cache_with capacity most next t) (charges_of t) out u.idle l refl front in (
         sym (front.parts ∙ ap (λ xs. out ++ xs) none ∙ append-nil out),
         λ j. record { capacity = capacity; most_pins = most; next = next; idle = none j; held = held j },
       )

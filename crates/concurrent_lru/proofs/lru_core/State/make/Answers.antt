@@ -2,7 +2,7 @@ use Rattle.std.proofs.Common.{◌≡◌, ℕ, ◌+◌, ◌-◌, ◌<◌, ◌≤�
 use Rattle.concurrent_lru.specs.Steps.{IsAbsent, Makes}
 use Rattle.concurrent_lru.specs.Entries.{charges_of, cache_with}
 use Rattle.concurrent_lru.proofs.Begins.{makes_lawful}
-use Rattle.concurrent_lru.proofs.TableSteps.{makes_over}
+use Rattle.concurrent_lru.proofs.TableSteps as steps
 use Rattle.concurrent_lru.proofs.lru_core.State.make.Goals as goal
 use Rattle.concurrent_lru.proofs.lru_core.State.make.Goals.{After-settle-evicted}
 
@@ -24,7 +24,7 @@ makes g c =
     let fits : charges_of c.self.inside.table + c.args.charge < 2 ^ 64 = omega (arith, sum_fits, total, small) in
     let low : c.self.inside.next + 1 < 2 ^ 64 = below_end c.self.inside.next (omega arith) c.if-self.false in
     let ok = c.in_ok-add.ensures.ok in
-    makes_over g.K.PartialEq.eq c.self.inside.capacity c.self.inside.most_pins c.self.inside.next c.self.inside.table c.add.new.self c.settle-evicted.new.self c.args.key.now ok.0 c.args.charge c.settle-evicted.result
+    steps.makes g.K.PartialEq.eq c.self.inside.capacity c.self.inside.most_pins c.self.inside.next c.self.inside.table c.add.new.self c.settle-evicted.new.self c.args.key.now ok.0 c.args.charge c.settle-evicted.result
     absent ok.1 fits low c.add.ensures.idle ok.2 c.settle-evicted.ensures.held c.settle-evicted.ensures.front
 
 pub invariant_of-self-2 : goal.invariant_of-self-2

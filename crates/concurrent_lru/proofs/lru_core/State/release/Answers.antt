@@ -3,8 +3,9 @@ use Rattle.concurrent_lru.specs.Cache.{ready, IsLawful, held_at}
 use Rattle.concurrent_lru.specs.Steps.{Leaves, Rests}
 use Rattle.concurrent_lru.specs.NodeTable.{entry_of, phase_of}
 use Rattle.concurrent_lru.specs.Entries.{cache_with}
+use Rattle.concurrent_lru.proofs.EntryAt.{held_is, held_place, ready_place}
 use Rattle.concurrent_lru.proofs.Releases.{phase_ready, leaves_lawful, rests_lawful}
-use Rattle.concurrent_lru.proofs.TableSteps.{held_is, leaves_over, ready_at, rests_over}
+use Rattle.concurrent_lru.proofs.TableSteps.{leaves_as_it_is, rests}
 use Rattle.concurrent_lru.proofs.lru_core.State.release.Goals as goal
 use Rattle.concurrent_lru.proofs.lru_core.State.release.Goals.{After-none, After-settle}
 
@@ -15,8 +16,8 @@ pub returns-in_default-phase : goal.returns-in_default-phase
 returns-in_default-phase g c = record {
   step = (
     λ h v holds.
-        let s = held_is g.K.PartialEq.eq c.self.inside.capacity c.self.inside.most_pins c.self.inside.next c.self.inside.table c.in-Some.place c.args.stamp (entry_of c.node-node.result.now) h c.self.invariant.lawful c.in-Some.ensures c.node-node.ensures.entry (ap (λ k. held_at k c.args.stamp) c.self.view_is ∙ holds.at) in
-        let r = phase_ready _ v (ap (λ x. x.phase) (sym s.1) ∙ holds.phase) in
+        let node = held_is c.node-node.ensures.entry c.self.invariant.lawful c.args.stamp h c.in-Some.ensures (ap (λ k. held_at k c.args.stamp) c.self.view_is ∙ holds.at) in
+        let r = phase_ready _ v (ap (λ x. x.phase) (sym node.1) ∙ holds.phase) in
         c.in_default-phase.not-Ready r.0 r.1,
     refl,
   );
@@ -25,43 +26,46 @@ returns-in_default-phase g c = record {
 
 pub returns-then-pins-eq0-clause-step : goal.returns-then-pins-eq0-clause-step
 returns-then-pins-eq0-clause-step g c = (
-  λ h v holds.
-      let s = held_is g.K.PartialEq.eq c.self.inside.capacity c.self.inside.most_pins c.self.inside.next c.self.inside.table c.in-Some.place c.args.stamp (entry_of c.node-node.result.now) h c.self.invariant.lawful c.in-Some.ensures c.node-node.ensures.entry (ap (λ k. held_at k c.args.stamp) c.self.view_is ∙ holds.at) in
-      s.0 c.if-pins-eq0.true,
+  λ h v holds. (held_is c.node-node.ensures.entry c.self.invariant.lawful c.args.stamp h c.in-Some.ensures (ap (λ k. held_at k c.args.stamp) c.self.view_is ∙ holds.at)).0 c.if-pins-eq0.true,
   refl,
 )
 
-leaves : (g : _) (c : After-none g) → Leaves g.K.PartialEq.eq (cache_with c.self.inside.capacity c.self.inside.most_pins c.self.inside.next c.self.inside.table) c.args.stamp (ready c.in-Ready.field-0.value) (ready c.in-Ready.field-0.value) [] (cache_with c.self.inside.capacity c.self.inside.most_pins c.self.inside.next c.hold.new.self)
-leaves g c = leaves_over g.K.PartialEq.eq c.self.inside.capacity c.self.inside.most_pins c.self.inside.next c.self.inside.table c.hold.new.self c.in-Some.place c.args.stamp (entry_of c.node-node.result.now) c.in-Ready.field-0.value c.in-Some.ensures c.node-node.ensures.entry (ap phase_of c.in-Ready.is) c.if-pins-gt1.true c.hold.ensures
+pub hold-requires-clause-held : goal.hold-requires-clause-held
+hold-requires-clause-held g c = held_place c.node-node.ensures.entry c.if-pins-eq0.false
+
+unpinned : (g : _) (c : After-none g) → Leaves g.K.PartialEq.eq (cache_with c.self.inside.capacity c.self.inside.most_pins c.self.inside.next c.self.inside.table) c.args.stamp (ready c.in-Ready.field-0.value) (ready c.in-Ready.field-0.value) [] (cache_with c.self.inside.capacity c.self.inside.most_pins c.self.inside.next c.hold.new.self)
+unpinned g c = leaves_as_it_is g.K.PartialEq.eq c.self.inside.capacity c.self.inside.most_pins c.self.inside.next c.node-node.ensures.entry c.hold.new.self c.args.stamp (ready c.in-Ready.field-0.value) c.in-Some.ensures c.if-pins-gt1.true (ap phase_of c.in-Ready.is) c.hold.ensures
 
 pub invariant_of-self : goal.invariant_of-self
-invariant_of-self g c = record { lawful = leaves_lawful _ _ _ _ _ _ _ c.self.invariant.lawful (leaves g c); pins_above = c.self.invariant.pins_above }
+invariant_of-self g c = record { lawful = leaves_lawful _ _ _ _ _ _ _ c.self.invariant.lawful (unpinned g c); pins_above = c.self.invariant.pins_above }
 
 pub returns-then-pins-gt1-clause-step : goal.returns-then-pins-gt1-clause-step
 returns-then-pins-gt1-clause-step g c =
     let v = c.in-Ready.field-0.value in
     let new = cache_with c.self.inside.capacity c.self.inside.most_pins c.self.inside.next c.hold.new.self in
-    let here : Leaves g.K.PartialEq.eq c.args.self.now c.args.stamp (ready v) (ready v) [] new = subst (λ old. Leaves g.K.PartialEq.eq old c.args.stamp (ready v) (ready v) [] new) c.self.view_is (leaves g c) in
-    inl (v, subst (λ out. Leaves g.K.PartialEq.eq c.args.self.now c.args.stamp (ready v) (ready v) out new) (sym c.none.ensures) here)
+    let step : Leaves g.K.PartialEq.eq c.args.self.now c.args.stamp (ready v) (ready v) [] new = subst (λ old. Leaves g.K.PartialEq.eq old c.args.stamp (ready v) (ready v) [] new) c.self.view_is (unpinned g c) in
+    inl (v, subst (λ out. Leaves g.K.PartialEq.eq c.args.self.now c.args.stamp (ready v) (ready v) out new) (sym c.none.ensures) step)
 
 pub returns-then-pins-gt1-clause-lawful : goal.returns-then-pins-gt1-clause-lawful
-returns-then-pins-gt1-clause-lawful g c = leaves_lawful _ _ _ _ _ _ _ c.self.invariant.lawful (leaves g c)
+returns-then-pins-gt1-clause-lawful g c = leaves_lawful _ _ _ _ _ _ _ c.self.invariant.lawful (unpinned g c)
 
 pub rest-requires : goal.rest-requires
-rest-requires g c = ready_at g.K.PartialEq.eq c.self.inside.capacity c.self.inside.most_pins c.self.inside.next c.self.inside.table c.in-Some.place (entry_of c.node-node.result.now) c.in-Ready.field-0.value c.node-node.ensures.entry (ap phase_of c.in-Ready.is) c.if-pins-eq0.false
+rest-requires g c = ready_place c.node-node.ensures.entry c.in-Ready.field-0.value (ap phase_of c.in-Ready.is) c.if-pins-eq0.false
 
 one : (n : ℕ) → (n ≡ 0 → ⊥) → (1 < n → ⊥) → n ≡ 1
-one n h k = omega arith
+one n some few = omega arith
 
-rests : (g : _) (c : After-settle g) → Rests g.K.PartialEq.eq (cache_with c.self.inside.capacity c.self.inside.most_pins c.self.inside.next c.self.inside.table) c.args.stamp c.settle.result (cache_with c.self.inside.capacity c.self.inside.most_pins c.self.inside.next c.settle.new.self)
-rests g c = rests_over g.K.PartialEq.eq c.self.inside.capacity c.self.inside.most_pins c.self.inside.next c.self.inside.table c.rest.new.self c.settle.new.self c.in-Some.place c.args.stamp (entry_of c.node-node.result.now) c.settle.result c.in-Some.ensures c.node-node.ensures.entry
-    (let few = c.if-pins-gt1.false in one (entry_of c.node-node.result.now).pins c.if-pins-eq0.false (λ m. omega (arith, m, few))) c.rest.ensures c.settle.ensures.held c.settle.ensures.front
+rested : (g : _) (c : After-settle g) → Rests g.K.PartialEq.eq (cache_with c.self.inside.capacity c.self.inside.most_pins c.self.inside.next c.self.inside.table) c.args.stamp c.settle.result (cache_with c.self.inside.capacity c.self.inside.most_pins c.self.inside.next c.settle.new.self)
+rested g c =
+    let few = c.if-pins-gt1.false in
+    rests g.K.PartialEq.eq c.self.inside.capacity c.self.inside.most_pins c.self.inside.next c.node-node.ensures.entry c.rest.new.self c.settle.new.self c.args.stamp c.settle.result c.in-Some.ensures
+    (one (entry_of c.node-node.result.now).pins c.if-pins-eq0.false (λ many. omega (arith, many, few))) c.rest.ensures c.settle.ensures.held c.settle.ensures.front
 
 pub invariant_of-self-2 : goal.invariant_of-self-2
-invariant_of-self-2 g c = record { lawful = rests_lawful _ _ _ _ _ c.self.invariant.lawful (rests g c); pins_above = c.self.invariant.pins_above }
+invariant_of-self-2 g c = record { lawful = rests_lawful _ _ _ _ _ c.self.invariant.lawful (rested g c); pins_above = c.self.invariant.pins_above }
 
 pub returns-clause-step : goal.returns-clause-step
-returns-clause-step g c = inr (subst (λ old. Rests g.K.PartialEq.eq old c.args.stamp c.settle.result (cache_with c.self.inside.capacity c.self.inside.most_pins c.self.inside.next c.settle.new.self)) c.self.view_is (rests g c))
+returns-clause-step g c = inr (subst (λ old. Rests g.K.PartialEq.eq old c.args.stamp c.settle.result (cache_with c.self.inside.capacity c.self.inside.most_pins c.self.inside.next c.settle.new.self)) c.self.view_is (rested g c))
 
 pub returns-clause-lawful : goal.returns-clause-lawful
-returns-clause-lawful g c = rests_lawful _ _ _ _ _ c.self.invariant.lawful (rests g c)
+returns-clause-lawful g c = rests_lawful _ _ _ _ _ c.self.invariant.lawful (rested g c)
