@@ -32,13 +32,6 @@ module _ {K V : Type 0} where
       ])
       refl o.idle_apart (λ t x i. still_none c.held s t (o.held_apart t x i)) (λ t x h. o.pinned t x (removed_some c.held s t x h).1)
 
-  -- the last pin of what was being made is given up
-  pub removes_sum : (E : K → K → Bool) (old new : Cache K V) (s : ℕ) (k : K) (out : List (Idle K V)) (r : Removes E old s k out new) → sum_of new + r.entry.charge ≡ sum_of old
-  removes_sum E old new s k out r =
-      let a : held_charges (remove old.held s) + r.entry.charge ≡ held_charges old.held = sum-remove (λ x. x.charge) old.held s r.entry r.holds.at in
-      let b : sum_of new ≡ sum_of (without_held old s) = ap sum_of r.changed in
-      omega (arith, a, b)
-
   pub removes_lawful : (E : K → K → Bool) (old new : Cache K V) (s : ℕ) (k : K) (out : List (Idle K V)) → IsLawful E old → Removes E old s k out new → IsLawful E new
   removes_lawful E old new s k out l r =
       let a : held_charges (remove old.held s) + r.entry.charge ≡ held_charges old.held = sum-remove (λ x. x.charge) old.held s r.entry r.holds.at in
@@ -57,12 +50,6 @@ module _ {K V : Type 0} where
       ])
       refl (subst (IsDistinct eqb) (sym (map_without s c.idle)) (IsDistinct-filter s (map (λ x. x.stamp) c.idle) o.idle_apart))
       (λ t x i. o.held_apart t x (find_without s t x c.idle i).0) o.pinned
-
-  pub drops_sum : (E : K → K → Bool) (old new : Cache K V) (k : K) (out : List (Idle K V)) → IsLawful E old → (d : Drops E old k out new) → sum_of new + d.entry.charge ≡ sum_of old
-  drops_sum E old new k out l d =
-      let a : charges (without d.stamp old.idle) + d.entry.charge ≡ charges old.idle = charges_without d.stamp d.entry old.idle l.idle_apart d.at in
-      let b : sum_of new ≡ sum_of (dropped old d.stamp) = ap sum_of d.changed in
-      omega (arith, a, b)
 
   pub drops_lawful : (E : K → K → Bool) (old new : Cache K V) (k : K) (out : List (Idle K V)) → IsLawful E old → Drops E old k out new → IsLawful E new
   drops_lawful E old new k out l d =

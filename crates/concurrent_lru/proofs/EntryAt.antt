@@ -1,11 +1,11 @@
 -- What the node at a place says of the cache: its entry under its stamp and its key, and the pins it may have.
-use Rattle.std.proofs.Common.{◌≡◌, ◌≢◌, ℕ, ◌<◌, ◌≤◌, ◌⊎◌, inl, inr, Bool, true, false, Option, Some, None, refl, sym, ap, ◌∙◌, subst, arith, ◌==◌}
+use Rattle.std.proofs.Common.{◌≡◌, ◌≢◌, ℕ, ◌<◌, ◌≤◌, ◌⊎◌, inl, inr, Bool, true, false, Some, refl, sym, ap, ◌∙◌, arith, ◌==◌}
 use Rattle.std.specs.Prelude.{IsSome, is_some}
 use Rattle.std.specs.Cmp.{IsEquivalence}
 use Rattle.std.specs.FinMap.{get}
 use Rattle.std.proofs.lemmas.Bool.{true≢false, eqb-true, eq-eqb}
 use Rattle.std.proofs.lemmas.Option.{none-some, same_Some}
-use Rattle.concurrent_lru.specs.Cache.{Idle, Held, Phase, making, untaken, ready, IsLawful, idle_at, held_at}
+use Rattle.concurrent_lru.specs.Cache.{Idle, Held, Phase, making, untaken, ready, IsLawful, idle_at}
 use Rattle.concurrent_lru.specs.Steps.{Holds, IsNotIdle, IsUnready}
 use Rattle.concurrent_lru.specs.Request as ask
 use Rattle.concurrent_lru.specs.Runs.{IsFull, Overflows, WouldHit}

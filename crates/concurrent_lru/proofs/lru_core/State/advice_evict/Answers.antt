@@ -29,20 +29,20 @@ returns-then-node-gt0-clause-step g c =
 no_pins : (n : ℕ) → n ≤ 0 → n ≡ 0
 no_pins n h = omega arith
 
-pub evict-requires : goal.evict-requires
-evict-requires g c = idle_place c.node.ensures.entry (no_pins _ c.if-node-gt0.false)
+pub evict-node-requires : goal.evict-node-requires
+evict-node-requires g c = idle_place c.node.ensures.entry (no_pins _ c.if-node-gt0.false)
 
-gone : (g : _) (c : After-one g) → Drops g.K.PartialEq.eq (cache_with c.self.inside.capacity c.self.inside.most_pins c.self.inside.next c.self.inside.table) c.args.key.now c.one.result (cache_with c.self.inside.capacity c.self.inside.most_pins c.self.inside.next c.evict.new.self)
+gone : (g : _) (c : After-one g) → Drops g.K.PartialEq.eq (cache_with c.self.inside.capacity c.self.inside.most_pins c.self.inside.next c.self.inside.table) c.args.key.now c.one.result (cache_with c.self.inside.capacity c.self.inside.most_pins c.self.inside.next c.evict-node.new.self)
 gone g c =
     let here = c.node.ensures.entry in
-    drops g.K.PartialEq.eq c.self.inside.capacity c.self.inside.most_pins c.self.inside.next here c.evict.new.self c.args.key.now (entry_of c.evict.result.value) c.one.result
-    (key_is here c.self.invariant.lawful c.args.key.now c.in-Some.ensures) (no_pins _ c.if-node-gt0.false) c.evict.ensures.at c.evict.ensures.ready c.evict.ensures.entry c.evict.ensures.idle c.evict.ensures.held c.one.ensures
+    drops g.K.PartialEq.eq c.self.inside.capacity c.self.inside.most_pins c.self.inside.next here c.evict-node.new.self c.args.key.now (entry_of c.evict-node.result.value) c.one.result
+    (key_is here c.self.invariant.lawful c.args.key.now c.in-Some.ensures) (no_pins _ c.if-node-gt0.false) c.evict-node.ensures.at c.evict-node.ensures.ready c.evict-node.ensures.entry c.evict-node.ensures.idle c.evict-node.ensures.held c.one.ensures
 
 pub invariant_of-self : goal.invariant_of-self
 invariant_of-self g c = record { lawful = drops_lawful _ _ _ _ _ c.self.invariant.lawful (gone g c); pins_above = c.self.invariant.pins_above }
 
 pub returns-clause-step : goal.returns-clause-step
-returns-clause-step g c = inl (subst (λ old. Drops g.K.PartialEq.eq old c.args.key.now c.one.result (cache_with c.self.inside.capacity c.self.inside.most_pins c.self.inside.next c.evict.new.self)) c.self.view_is (gone g c))
+returns-clause-step g c = inl (subst (λ old. Drops g.K.PartialEq.eq old c.args.key.now c.one.result (cache_with c.self.inside.capacity c.self.inside.most_pins c.self.inside.next c.evict-node.new.self)) c.self.view_is (gone g c))
 
 pub returns-clause-lawful : goal.returns-clause-lawful
 returns-clause-lawful g c = drops_lawful _ _ _ _ _ c.self.invariant.lawful (gone g c)

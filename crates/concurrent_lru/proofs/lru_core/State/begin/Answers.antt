@@ -1,4 +1,4 @@
-use Rattle.std.proofs.Common.{◌≡◌, ◌+◌, [], refl, sym, ap, ◌∙◌, subst, arith, inl, inr}
+use Rattle.std.proofs.Common.{[], refl, sym, ap, ◌∙◌, subst, arith, inl, inr}
 use Rattle.concurrent_lru.specs.Cache.{making, untaken, ready}
 use Rattle.concurrent_lru.specs.Steps.{IsAbsent, Joins, Hits}
 use Rattle.concurrent_lru.specs.NodeTable.{entry_of, phase_of}

@@ -1,4 +1,4 @@
-use Rattle.std.proofs.Common.{◌≡◌, ℕ, ◌<◌, ◌-◌, [], refl, sym, ap, ◌∙◌, subst, arith, inl, inr}
+use Rattle.std.proofs.Common.{◌≡◌, ℕ, ◌<◌, [], refl, sym, ap, ◌∙◌, subst, arith, inl, inr}
 use Rattle.concurrent_lru.specs.Cache.{making, untaken, IsLawful, held_at}
 use Rattle.concurrent_lru.specs.Steps.{Leaves, Removes}
 use Rattle.concurrent_lru.specs.NodeTable.{entry_of, phase_of}

@@ -1,4 +1,4 @@
-use Rattle.std.proofs.Common.{◌≡◌, [], refl, sym, ap, ◌∙◌, subst, inr}
+use Rattle.std.proofs.Common.{[], refl, sym, ap, ◌∙◌, subst, inr}
 use Rattle.concurrent_lru.specs.Cache.{making, untaken, ready, held_at}
 use Rattle.concurrent_lru.specs.Steps.{Holds, Turns}
 use Rattle.concurrent_lru.specs.NodeTable.{entry_of, phase_of}

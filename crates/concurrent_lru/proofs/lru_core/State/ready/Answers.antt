@@ -1,4 +1,4 @@
-use Rattle.std.proofs.Common.{◌≡◌, [], refl, sym, ap, ◌∙◌, subst, inl, inr}
+use Rattle.std.proofs.Common.{[], refl, sym, ap, ◌∙◌, subst, inl, inr}
 use Rattle.concurrent_lru.specs.Cache.{making, ready, IsLawful, held_at}
 use Rattle.concurrent_lru.specs.Steps.{Turns}
 use Rattle.concurrent_lru.specs.NodeTable.{phase_of}
