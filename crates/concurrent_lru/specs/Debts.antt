@@ -34,12 +34,12 @@ module _ {K V F : Type 0} where
   abbrev pub AsksOnEntry : Entered K V F → K → ℕ → Type 0
   AsksOnEntry (enter.Make m evicted) k c = (made_key m ≡ k) × (made_charge m ≡ c)
   AsksOnEntry (enter.Wait w) k c = (awaited_key w ≡ k) × (awaited_charge w ≡ c)
-  AsksOnEntry (enter.Hit p) k c = p.key ≡ k
+  AsksOnEntry (enter.Hit p) k c = (p.key ≡ k) × (p.charge ≡ Some c)
 
   abbrev pub AsksOnPoll : Polled K V F → K → ℕ → Type 0
   AsksOnPoll (poll.Make m) k c = (made_key m ≡ k) × (made_charge m ≡ c)
   AsksOnPoll (poll.Wait w) k c = (awaited_key w ≡ k) × (awaited_charge w ≡ c)
-  AsksOnPoll (poll.Hit p) k c = p.key ≡ k
+  AsksOnPoll (poll.Hit p) k c = (p.key ≡ k) × (p.charge ≡ Some c)
   AsksOnPoll (poll.Refused u) k c = ⊤
   AsksOnPoll poll.Stray k c = ⊤
 

@@ -1,11 +1,11 @@
--- What the door of a cache answers: what each debt was asked with.
-use Rattle.std.specs.Prelude.{◌≡◌, ℕ}
-use Rattle.concurrent_lru.specs.Pins.{made_key, made_charge, awaited_key, awaited_charge}
+-- What the door of a cache answers to a begin, and to a wait.
+use Rattle.std.specs.Prelude.{◌≡◌, ℕ, Some}
+use Rattle.concurrent_lru.specs.Pins.{IsHandleFor, made_key, made_charge, awaited_key, awaited_charge}
 use Rattle.concurrent_lru.specs.declared.door.Met.{Met}
 use Rattle.concurrent_lru.specs.declared.door.Met.TheVariants as met
 
--- the debts are of a caller that asked for this key, with this charge
-abbrev pub AsksAtDoor : {K V R F : Type 0} → Met K V R F → K → ℕ → Type 0
-AsksAtDoor (met.Make m) k c = (made_key m ≡ k) × (made_charge m ≡ c)
-AsksAtDoor (met.Wait a) k c = (awaited_key a.waiting ≡ k) × (awaited_charge a.waiting ≡ c)
-AsksAtDoor (met.Hit p) k c = p.key ≡ k
+-- it is said to a caller that asked for this key, with this charge
+abbrev pub IsMetFor : {K V R F : Type 0} → (K → V → Type 0) → Met K V R F → K → ℕ → Type 0
+IsMetFor fits (met.Make m) k c = (made_key m.making ≡ k) × (made_charge m.making ≡ c)
+IsMetFor fits (met.Wait a) k c = (awaited_key a.waiting ≡ k) × (awaited_charge a.waiting ≡ c)
+IsMetFor fits (met.Hit h) k c = IsHandleFor fits h k (Some c)

@@ -1,14 +1,25 @@
 -- What a caller has in an entry, as clauses see it.
-use Rattle.std.specs.Prelude.{ℕ}
+use Rattle.std.specs.Prelude.{◌≡◌, ℕ, Option}
 use Rattle.concurrent_lru.specs.declared.locked.pins.Making.{Making}
 use Rattle.concurrent_lru.specs.declared.locked.pins.Waiting.{Waiting}
 use Rattle.concurrent_lru.specs.declared.locked.pins.Unread.{Unread}
 
--- a pin in a ready entry: the stamp of the entry, the key that was asked, and the value
+-- a pin in a ready entry: the stamp of the entry, the key and the charge that were asked, and the value
 pub record PinOf (K V : Type 0) : Type 0 where
   pub stamp : ℕ
   pub key : K
+  pub charge : Option ℕ
   pub value : V
+
+-- what a handle shows: the key that was asked, the charge if one was asked, and the value
+pub record Pinned (K V : Type 0) : Type 0 where
+  pub key : K
+  pub charge : Option ℕ
+  pub value : V
+
+-- a handle of a caller that asked for this key, with this charge, has a value that fits the key
+abbrev pub IsHandleFor : {K V : Type 0} → (K → V → Type 0) → Pinned K V → K → Option ℕ → Type 0
+IsHandleFor fits h k c = (h.key ≡ k) × (h.charge ≡ c) × fits k h.value
 
 module _ {K : Type 0} where
   -- the stamp of the entry that a caller makes, and the key and the charge that it asked

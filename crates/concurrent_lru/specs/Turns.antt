@@ -1,18 +1,13 @@
--- What the threaded calls answer: hits, turns, handles and errors.
-use Rattle.std.specs.Prelude.{◌≡◌, ℕ, ⊤}
+-- What the threaded calls answer: hits, turns and errors.
+use Rattle.std.specs.Prelude.{◌≡◌, ℕ, Some, ⊤}
 use Rattle.std.specs.Arc.{arc_value}
-use Rattle.concurrent_lru.specs.Pins.{made_key, made_charge}
+use Rattle.concurrent_lru.specs.Pins.{IsHandleFor, made_key, made_charge}
 use Rattle.concurrent_lru.specs.declared.step.Begun.{Begun}
 use Rattle.concurrent_lru.specs.declared.step.Begun.TheVariants as begun
 use Rattle.concurrent_lru.specs.declared.unsharded.Turn.{Turn}
 use Rattle.concurrent_lru.specs.declared.unsharded.Turn.TheVariants as turn
 use Rattle.concurrent_lru.specs.declared.get_error.GetError.{GetError}
 use Rattle.concurrent_lru.specs.declared.get_error.GetError.TheVariants as error
-
--- what a handle shows: the key that was asked, and the value
-pub record Pinned (K V : Type 0) : Type 0 where
-  pub key : K
-  pub value : V
 
 -- P of the value, where the answer is a hit
 abbrev pub IfHit : {V : Type 0} → Begun V → (V → Type 0) → Type 0
@@ -21,9 +16,9 @@ IfHit (begun.Wait s) P = ⊤
 IfHit (begun.Hit s a) P = P (arc_value a)
 
 -- the turn is of a caller that asked for this key, with this charge
-abbrev pub AsksOnTurn : {K V F : Type 0} → Turn K V F → K → ℕ → Type 0
-AsksOnTurn (turn.Make m) k c = (made_key m ≡ k) × (made_charge m ≡ c)
-AsksOnTurn (turn.Ready p) k c = p.key ≡ k
+abbrev pub IsTurnFor : {K V R F : Type 0} → (K → V → Type 0) → Turn K V R F → K → ℕ → Type 0
+IsTurnFor fits (turn.Make m) k c = (made_key m.making ≡ k) × (made_charge m.making ≡ c)
+IsTurnFor fits (turn.Ready h) k c = IsHandleFor fits h k (Some c)
 
 -- P of the error that the caller's init answered, where it is one
 abbrev pub IfInit : {E : Type 0} → GetError E → (E → Type 0) → Type 0

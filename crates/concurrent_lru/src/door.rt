@@ -1,15 +1,16 @@
 //! The lock of a cache, and the callers that wait at it. Each call gets the lock once and lets it go:
-//! what the call took out is then dropped, and whoever waits for it was woken.
-ghost use Rattle.std.specs.Prelude.{◌≡◌, ◌≢◌, ◌<◌, [], IfOk, IfErr, IfSome};
+//! what the call took out is then dropped, and whoever waits for what it did was woken.
+ghost use Rattle.std.specs.Prelude.{◌≡◌, ◌≢◌, ◌<◌, [], Some, None, IfOk, IfErr, IfSome};
 ghost use Rattle.std.specs.Arc.{arc_value};
 ghost use Rattle.std.specs.Sync.Mutex.{mutex_guard_value};
 ghost use Rattle.concurrent_lru.specs.Cache.{sum_of, IsLawful};
-ghost use Rattle.concurrent_lru.specs.Doors.{AsksAtDoor};
+ghost use Rattle.concurrent_lru.specs.Doors.{IsMetFor};
 ghost use Rattle.concurrent_lru.specs.Keys.{CopiesAreEqual};
-ghost use Rattle.concurrent_lru.specs.Pins.{made_key, awaited_key, awaited_charge};
+ghost use Rattle.concurrent_lru.specs.Pins.{IsHandleFor, made_key, made_charge, awaited_key, awaited_charge};
 ghost use Rattle.concurrent_lru.specs.Ready.{IsKept};
 
 use crate::fit::Fit;
+use crate::handle::CacheHandle;
 use crate::locked::{Entered, Locked, Making, Pin, Polled, Waiting};
 use crate::lru_core::Refusal;
 use std::alloc::Global;
@@ -31,22 +32,28 @@ pub struct Inside<'a, K: Hash + Eq + Clone, V, R: Wait, F: Fit<K, V>> {
     guard: MutexGuard<'a, Locked<K, V, F>>,
 }
 
+/// A debt: a value is this caller's to make, and is stored, or given up, at the door where it was
+/// asked.
+pub struct Maker<'a, K: Hash + Eq + Clone, V, R: Wait, F: Fit<K, V>> {
+    door: &'a Door<K, V, R, F>,
+    making: Making<K>,
+}
+
 /// A debt: a pin in an entry whose value another caller makes, and the lock, which the wait alone
 /// lets go, so that no wake is missed.
 pub struct Asleep<'a, K: Hash + Eq + Clone, V, R: Wait, F: Fit<K, V>> {
-    door: &'a Door<K, V, R, F>,
-    guard: MutexGuard<'a, Locked<K, V, F>>,
+    inside: Inside<'a, K, V, R, F>,
     waiting: Waiting<K>,
 }
 
 /// What a begin says, and each wake after it.
 pub enum Met<'a, K: Hash + Eq + Clone, V, R: Wait, F: Fit<K, V>> {
     /// The caller is to make the value.
-    Make(Making<K>),
+    Make(Maker<'a, K, V, R, F>),
     /// Another caller is making it.
     Wait(Asleep<'a, K, V, R, F>),
     /// The value is there.
-    Hit(Pin<K, V, F>),
+    Hit(CacheHandle<'a, K, V, R, F>),
 }
 
 impl<K: Hash + Eq + Clone + Drop, V: Drop, R: Wait, F: Fit<K, V>> Door<K, V, R, F> {
@@ -61,6 +68,11 @@ impl<K: Hash + Eq + Clone + Drop, V: Drop, R: Wait, F: Fit<K, V>> Door<K, V, R, 
         }
     }
 
+    /// The right to wait.
+    pub fn rt(&self) -> &R {
+        &self.rt
+    }
+
     /// Gets the lock. All calls get it here, so the clauses hold of every state that they meet.
     pub fn enter(&self) -> Inside<'_, K, V, R, F>
         ensures lawful { IsLawful K.eq (mutex_guard_value result.guard) }
@@ -71,67 +83,39 @@ impl<K: Hash + Eq + Clone + Drop, V: Drop, R: Wait, F: Fit<K, V>> Door<K, V, R, 
         guard.show();
         Inside { door: self, guard }
     }
-
-    /// The right to wait.
-    pub fn rt(&self) -> &R {
-        &self.rt
-    }
 }
 
 impl<'a, K: Hash + Eq + Clone + Drop, V: Drop, R: Wait, F: Fit<K, V>> Inside<'a, K, V, R, F> {
     /// `Locked::get`.
-    pub fn get(self, key: &K) -> Result<Option<Pin<K, V, F>>, Refusal>
-        ensures asked { IfOk result (λ found. IfSome found (λ p. p.key ≡ key.now)) }
+    pub fn get(self, key: &K) -> Result<Option<CacheHandle<'a, K, V, R, F>>, Refusal>
+        ensures found { IfOk result (λ found. IfSome found (λ h. IsHandleFor F.fits h key.now None)) }
         ensures never_stale { IfErr result (λ e. e ≢ Refusal.Stale) }
     {
-        let Self { door: _, mut guard } = self;
-        guard.get(key)
+        let Self { door, mut guard } = self;
+        match guard.get(key)? {
+            None => Ok(None),
+            Some(pin) => Ok(Some(CacheHandle::new(door, pin))),
+        }
     }
 
     /// `Locked::begin`. What it evicted is dropped without the lock.
     pub fn begin(self, key: &K, charge: u64) -> Result<Met<'a, K, V, R, F>, Refusal>
         requires charged { 0 < charge }
-        ensures asked { IfOk result (λ met. AsksAtDoor met key.now charge) }
+        ensures met { IfOk result (λ met. IsMetFor F.fits met key.now charge) }
         ensures never_stale { IfErr result (λ e. e ≢ Refusal.Stale) }
     {
         let Self { door, mut guard } = self;
         match guard.begin(key, charge)? {
             Entered::Make(making, evicted) => {
                 drop(evicted.open(guard));
-                Ok(Met::Make(making))
+                Ok(Met::Make(Maker { door, making }))
             }
-            Entered::Wait(waiting) => Ok(Met::Wait(Asleep {
-                door,
-                guard,
-                waiting,
-            })),
-            Entered::Hit(pin) => Ok(Met::Hit(pin)),
+            Entered::Wait(waiting) => {
+                let inside = Inside { door, guard };
+                Ok(Met::Wait(Asleep { inside, waiting }))
+            }
+            Entered::Hit(pin) => Ok(Met::Hit(CacheHandle::new(door, pin))),
         }
-    }
-
-    /// `Locked::ready`. Whoever waits is woken.
-    pub fn ready(self, making: Making<K>, key: &K, stored: Arc<V>, read: Arc<V>) -> Pin<K, V, F>
-        requires asked { made_key making ≡ key.now }
-        requires fits { F.fits key.now (arc_value stored) }
-        requires same { arc_value read ≡ arc_value stored }
-        ensures key { result.key ≡ key.now }
-        ensures value { result.value ≡ arc_value stored }
-    {
-        let Self { door, mut guard } = self;
-        let (pin, back, waiters) = guard.ready(making, key, stored, read);
-        waiters.wake(&door.woken);
-        let _ = back.open(guard);
-        pin
-    }
-
-    /// `Locked::fail`. Whoever waits is woken.
-    pub fn fail(self, making: Making<K>, key: &K)
-        requires { made_key making ≡ key.now }
-    {
-        let Self { door, mut guard } = self;
-        let (failed, waiters) = guard.fail(making, key);
-        waiters.wake(&door.woken);
-        drop(failed.open(guard));
     }
 
     /// `Locked::release`. The pin's Arc, and then what was evicted, are dropped without the lock.
@@ -144,22 +128,22 @@ impl<'a, K: Hash + Eq + Clone + Drop, V: Drop, R: Wait, F: Fit<K, V>> Inside<'a,
     /// `Locked::advice_evict`. What it evicted is dropped without the lock.
     pub fn advice_evict(self, key: &K) {
         let Self { door: _, mut guard } = self;
-        let evicted = guard.advice_evict(key);
-        drop(evicted.open(guard));
+        let advised = guard.advice_evict(key);
+        drop(advised.open(guard));
     }
 
     /// `Locked::prune`. What it evicted is dropped without the lock.
     pub fn prune(self) {
         let Self { door: _, mut guard } = self;
-        let evicted = guard.prune();
-        drop(evicted.open(guard));
+        let pruned = guard.prune();
+        drop(pruned.open(guard));
     }
 
     /// `Locked::set_capacity`. What it evicted is dropped without the lock.
     pub fn set_capacity(self, capacity: u64) {
         let Self { door: _, mut guard } = self;
-        let evicted = guard.set_capacity(capacity);
-        drop(evicted.open(guard));
+        let settled = guard.set_capacity(capacity);
+        drop(settled.open(guard));
     }
 
     /// `Locked::total`.
@@ -175,6 +159,35 @@ impl<'a, K: Hash + Eq + Clone + Drop, V: Drop, R: Wait, F: Fit<K, V>> Inside<'a,
     }
 }
 
+impl<'a, K: Hash + Eq + Clone + Drop, V: Drop, R: Wait, F: Fit<K, V>> Maker<'a, K, V, R, F> {
+    /// `Locked::ready`. Whoever waits to read is woken.
+    pub fn ready(self, key: &K, stored: Arc<V>, read: Arc<V>) -> CacheHandle<'a, K, V, R, F>
+        requires asked { made_key self.making ≡ key.now }
+        requires fits { F.fits key.now (arc_value stored) }
+        requires same { arc_value read ≡ arc_value stored }
+        ensures handle { IsHandleFor F.fits result key.now (Some (made_charge self.entry.making)) }
+        ensures value { result.value ≡ arc_value stored }
+    {
+        let Self { door, making } = self;
+        let Inside { door: _, mut guard } = door.enter();
+        let (pin, back, readers) = guard.ready(making, key, stored, read);
+        readers.wake(&door.woken);
+        let _ = back.open(guard);
+        CacheHandle::new(door, pin)
+    }
+
+    /// `Locked::fail`. Whoever waits is woken, since the next of them takes the making over.
+    pub fn fail(self, key: &K)
+        requires { made_key self.making ≡ key.now }
+    {
+        let Self { door, making } = self;
+        let Inside { door: _, mut guard } = door.enter();
+        let (failed, heirs) = guard.fail(making, key);
+        heirs.wake(&door.woken);
+        drop(failed.open(guard));
+    }
+}
+
 impl<'a, K: Hash + Eq + Clone + Drop, V: Drop, R: Wait, F: Fit<K, V>> Asleep<'a, K, V, R, F> {
     /// Waits to be woken, and then `Locked::poll`. None where the pin's entry is not the key's: then
     /// there is no pin.
@@ -182,26 +195,24 @@ impl<'a, K: Hash + Eq + Clone + Drop, V: Drop, R: Wait, F: Fit<K, V>> Asleep<'a,
     /// `Memory` where the value is there and its copy is refused: then the pin is given back.
     pub fn wait(self, key: &K) -> Result<Option<Met<'a, K, V, R, F>>, Refusal>
         requires { awaited_key self.waiting ≡ key.now }
-        ensures asked { IfOk result (λ woken. IfSome woken (λ met. AsksAtDoor met key.now (awaited_charge self.entry.waiting))) }
+        ensures met { IfOk result (λ woken. IfSome woken (λ met. IsMetFor F.fits met key.now (awaited_charge self.entry.waiting))) }
         ensures refused { IfErr result (λ e. e ≡ Refusal.Memory) }
     {
         let Self {
-            door,
-            guard,
+            inside: Inside { door, guard },
             waiting,
         } = self;
         let mut guard = door.woken.wait(&door.rt, guard);
         match guard.poll(waiting, key) {
-            Polled::Make(making) => Ok(Some(Met::Make(making))),
-            Polled::Wait(waiting) => Ok(Some(Met::Wait(Asleep {
-                door,
-                guard,
-                waiting,
-            }))),
-            Polled::Hit(pin) => Ok(Some(Met::Hit(pin))),
+            Polled::Make(making) => Ok(Some(Met::Make(Maker { door, making }))),
+            Polled::Wait(waiting) => {
+                let inside = Inside { door, guard };
+                Ok(Some(Met::Wait(Asleep { inside, waiting })))
+            }
+            Polled::Hit(pin) => Ok(Some(Met::Hit(CacheHandle::new(door, pin)))),
             Polled::Refused(unread) => {
-                let evicted = guard.give_up(unread);
-                drop(evicted.open(guard));
+                let given_up = guard.give_up(unread);
+                drop(given_up.open(guard));
                 Err(Refusal::Memory)
             }
             Polled::Stray => Ok(None),

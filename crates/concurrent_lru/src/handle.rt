@@ -12,24 +12,26 @@ use std::sync::Wait;
 /// A pinned value: its entry is not evicted while the handle is there. A handle that is
 /// forgotten keeps its pin for good.
 ///
-/// Clauses see the key that was asked and the value, which fits that key by the mark F.
+/// Clauses see the key and the charge that were asked (a `get` asks none), and the value, which
+/// fits that key by the mark F.
 pub struct CacheHandle<'a, K: Hash + Eq + Clone, V, R: Wait, F: Fit<K, V> = Anything> {
     door: &'a Door<K, V, R, F>,
     pin: Pin<K, V, F>,
 }
 
 impl<'a, K: Hash + Eq + Clone, V, R: Wait, F: Fit<K, V>> Model for CacheHandle<'a, K, V, R, F> {
-    ghost use Rattle.concurrent_lru.specs.Turns.{Pinned};
+    ghost use Rattle.concurrent_lru.specs.Pins.{Pinned};
 
     ghost Value = { Pinned K V };
 
-    ghost view = { λ h. record { key = h.pin.key; value = h.pin.value } };
+    ghost view = { λ h. record { key = h.pin.key; charge = h.pin.charge; value = h.pin.value } };
 }
 
 impl<'a, K: Hash + Eq + Clone, V, R: Wait, F: Fit<K, V>> CacheHandle<'a, K, V, R, F> {
-    // A handle of a pin, which is given back at the door.
+    // A handle of a pin, and the door where the pin was got and is given back.
     pub(crate) fn new(door: &'a Door<K, V, R, F>, pin: Pin<K, V, F>) -> Self
         ensures key { result.key ≡ pin.key }
+        ensures charge { result.charge ≡ pin.charge }
         ensures value { result.value ≡ pin.value }
         ensures fits { F.fits pin.key pin.value }
     {

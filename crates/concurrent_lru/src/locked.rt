@@ -1,11 +1,11 @@
 //! What lies under the lock: the core's state, whose ready values fit their keys.
 //! Each call is one step of the core, and what it leaves to be done is a debt, which is not `Drop`.
-ghost use Rattle.std.specs.Prelude.{◌≡◌, ◌≢◌, ◌<◌, true, [], Err, IsTrue, IsFalse, IfOk, IfErr, IfSome};
+ghost use Rattle.std.specs.Prelude.{◌≡◌, ◌≢◌, ◌<◌, true, [], Err, Some, None, IsTrue, IsFalse, IfOk, IfErr, IfSome};
 ghost use Rattle.std.specs.Arc.{arc_value};
 ghost use Rattle.concurrent_lru.specs.Cache.{empty_cache, sum_of, IsLawful};
 ghost use Rattle.concurrent_lru.specs.Debts.{entered, polled, found, AsksOnEntry, AsksOnPoll, IfEntered, IfPolled};
 ghost use Rattle.concurrent_lru.specs.Keys.{CopiesAreEqual};
-ghost use Rattle.concurrent_lru.specs.Pins.{made_at, made_key, awaited_at, awaited_key, awaited_charge, unread_at};
+ghost use Rattle.concurrent_lru.specs.Pins.{made_at, made_key, made_charge, awaited_at, awaited_key, awaited_charge, unread_at};
 ghost use Rattle.concurrent_lru.specs.Ready.{IsKept, HasEqualKeyAt};
 ghost use Rattle.concurrent_lru.specs.Request as ask;
 ghost use Rattle.concurrent_lru.specs.Results.{readied, failed, released, evicts};
@@ -90,7 +90,7 @@ impl<K: Hash + Eq + Clone + Drop, V: Drop, F: Fit<K, V>> Locked<K, V, F> {
             }
             Begun::Hit(stamp, value) => {
                 prove!(evicted.is_empty());
-                Ok(Entered::Hit(Pin::of(stamp, key, value)))
+                Ok(Entered::Hit(Pin::of(stamp, key, Some(charge), value)))
             }
         }
     }
@@ -98,13 +98,13 @@ impl<K: Hash + Eq + Clone + Drop, V: Drop, F: Fit<K, V>> Locked<K, V, F> {
     /// The core's `get`. The value found fits the key.
     pub fn get(&mut self, key: &K) -> Result<Option<Pin<K, V, F>>, Refusal>
         ensures step { Stands K.eq self.old (ask.get key.now) (found result) self.new }
-        ensures asked { IfOk result (λ found. IfSome found (λ p. p.key ≡ key.now)) }
+        ensures asked { IfOk result (λ found. IfSome found (λ p. (p.key ≡ key.now) × (p.charge ≡ None))) }
         ensures hit { IfOk result (λ found. IfSome found (λ p. F.fits key.now p.value)) }
         ensures never_stale { IfErr result (λ e. e ≢ Refusal.Stale) }
     {
         match self.state.get(key)? {
             None => Ok(None),
-            Some((stamp, value)) => Ok(Some(Pin::of(stamp, key, value))),
+            Some((stamp, value)) => Ok(Some(Pin::of(stamp, key, None, value))),
         }
     }
 
@@ -138,7 +138,7 @@ impl<K: Hash + Eq + Clone + Drop, V: Drop, F: Fit<K, V>> Locked<K, V, F> {
         match self.state.poll(stamp) {
             Ok(Begun::Make(own)) => Polled::Make(Making::of(own, key, charge)),
             Ok(Begun::Wait(own)) => Polled::Wait(Waiting::of(own, key, charge)),
-            Ok(Begun::Hit(own, value)) => Polled::Hit(Pin::of(own, key, value)),
+            Ok(Begun::Hit(own, value)) => Polled::Hit(Pin::of(own, key, Some(charge), value)),
             Err(Refusal::Memory) => Polled::Refused(Unread { stamp }),
             Err(_) => Polled::Stray,
         }
@@ -161,14 +161,14 @@ impl<K: Hash + Eq + Clone + Drop, V: Drop, F: Fit<K, V>> Locked<K, V, F> {
         ensures step { HasEqualKeyAt K.eq self.old (made_at making) key.now → Stands K.eq self.old (ask.ready (made_at making) (arc_value stored)) (readied result.1) self.new }
         ensures stray { (HasEqualKeyAt K.eq self.old (made_at making) key.now → ⊥) → (result.1 ≡ Err stored) × (self.new ≡ self.old) }
         ensures back { IfErr result.1 (λ a. arc_value a ≡ arc_value stored) }
-        ensures pin { result.0 ≡ record { stamp = made_at making; key = key.now; value = arc_value stored } }
+        ensures pin { result.0 ≡ record { stamp = made_at making; key = key.now; charge = Some (made_charge making); value = arc_value stored } }
     {
         let Making {
             stamp,
             asked: _,
-            charge: _,
+            charge,
         } = making;
-        let pin = Pin::of(stamp, key, read);
+        let pin = Pin::of(stamp, key, Some(charge), read);
         if !self.has_key(stamp, key) {
             return (pin, Sealed::of(Err(stored)), Waiters {});
         }
@@ -209,6 +209,7 @@ impl<K: Hash + Eq + Clone + Drop, V: Drop, F: Fit<K, V>> Locked<K, V, F> {
         let Pin {
             stamp,
             asked: _,
+            charge: _,
             value,
             mark: _,
         } = pin;

@@ -1,6 +1,6 @@
 //! Caches side by side, each behind a lock of its own, for any number of threads.
 //! A hasher chooses the shard that serves a key; shards wait for no other's lock.
-ghost use Rattle.std.specs.Prelude.{◌≡◌, ◌≢◌, ◌<◌, Ok, Err, IfOk, IfErr, IfSome, vec_len};
+ghost use Rattle.std.specs.Prelude.{◌≡◌, ◌≢◌, ◌<◌, Some, None, Ok, Err, IfOk, IfErr, IfSome, vec_len};
 ghost use Rattle.std.specs.Fn.{FnOnceReturnsAt, FnOnceTakesAt};
 ghost use Rattle.concurrent_lru.specs.Keys.{CopiesAreEqual};
 ghost use Rattle.concurrent_lru.specs.Turns.{IfInit};
@@ -39,13 +39,14 @@ pub struct LruCache<
 /// A pinned value: its entry is not evicted while the handle is there. A handle that is
 /// forgotten keeps its pin for good.
 ///
-/// Clauses see the key that was asked and the value, which fits that key by the mark F.
+/// Clauses see the key and the charge that were asked (a `get` asks none), and the value, which
+/// fits that key by the mark F.
 pub struct CacheHandle<'a, K: Hash + Eq + Clone, V, R: Wait, F: Fit<K, V> = Anything> {
     held: unsharded::CacheHandle<'a, K, V, R, F>,
 }
 
 impl<'a, K: Hash + Eq + Clone, V, R: Wait, F: Fit<K, V>> Model for CacheHandle<'a, K, V, R, F> {
-    ghost use Rattle.concurrent_lru.specs.Turns.{Pinned};
+    ghost use Rattle.concurrent_lru.specs.Pins.{Pinned};
 
     ghost Value = { Pinned K V };
 
@@ -170,6 +171,7 @@ impl<K: Hash + Eq + Clone + Drop, V: Drop, R: Wait, S: BuildHasher, F: Fit<K, V>
     /// the value is refused.
     pub fn get(&self, key: K) -> Result<Option<CacheHandle<'_, K, V, R, F>>, Refusal>
         ensures key { IfOk result (λ found. IfSome found (λ h. h.key ≡ key)) }
+        ensures charge { IfOk result (λ found. IfSome found (λ h. h.charge ≡ None)) }
         ensures fits { IfOk result (λ found. IfSome found (λ h. F.fits key h.value)) }
         ensures never_stale { IfErr result (λ e. e ≢ Refusal.Stale) }
     {
@@ -196,6 +198,7 @@ impl<K: Hash + Eq + Clone + Drop, V: Drop, R: Wait, S: BuildHasher, F: Fit<K, V>
         requires callable { FnOnceTakesAt I.FnOnce init key }
         requires fits { (v : V) → FnOnceReturnsAt I.FnOnce init key (Ok v) → F.fits key v }
         ensures key { IfOk result (λ h. h.key ≡ key) }
+        ensures charge { IfOk result (λ h. h.charge ≡ Some charge) }
         ensures fits { IfOk result (λ h. F.fits key h.value) }
         ensures error { IfErr result (λ e. IfInit e (λ x. FnOnceReturnsAt I.FnOnce init key (Err x))) }
     {
@@ -218,6 +221,7 @@ impl<K: Hash + Eq + Clone + Drop, V: Drop, R: Wait, S: BuildHasher, F: Fit<K, V>
         requires callable { FnOnceTakesAt I.FnOnce init key }
         requires fits { (v : V) → FnOnceReturnsAt I.FnOnce init key v → F.fits key v }
         ensures key { IfOk result (λ h. h.key ≡ key) }
+        ensures charge { IfOk result (λ h. h.charge ≡ Some charge) }
         ensures fits { IfOk result (λ h. F.fits key h.value) }
         ensures never_stale { IfErr result (λ e. e ≢ Refusal.Stale) }
     {

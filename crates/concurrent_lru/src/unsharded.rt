@@ -1,16 +1,15 @@
 //! One cache behind one lock, for any number of threads.
 //! Makers and the drops of values run without the lock; callers of a value in the making wait.
-ghost use Rattle.std.specs.Prelude.{◌≡◌, ◌≢◌, ◌<◌, Ok, Err, IfOk, IfErr, IfSome};
+ghost use Rattle.std.specs.Prelude.{◌≡◌, ◌≢◌, ◌<◌, Some, None, Ok, Err, IfOk, IfErr, IfSome};
 ghost use Rattle.std.specs.Fn.{FnOnceReturnsAt, FnOnceTakesAt};
 ghost use Rattle.concurrent_lru.specs.Keys.{CopiesAreEqual};
-ghost use Rattle.concurrent_lru.specs.Pins.{made_key, made_charge};
-ghost use Rattle.concurrent_lru.specs.Turns.{AsksOnTurn, IfInit};
+ghost use Rattle.concurrent_lru.specs.Pins.{IsHandleFor, made_key, made_charge};
+ghost use Rattle.concurrent_lru.specs.Turns.{IsTurnFor, IfInit};
 
-use crate::door::{Door, Met};
+use crate::door::{Door, Maker, Met};
 use crate::fit::{Anything, Fit};
 pub use crate::get_error::GetError;
 pub use crate::handle::CacheHandle;
-use crate::locked::{Making, Pin};
 use crate::lru_core::Refusal;
 use std::alloc::Global;
 use std::fmt;
@@ -56,13 +55,11 @@ impl<K: Hash + Eq + Clone + Drop, V: Drop, R: Wait, F: Fit<K, V>> LruCache<K, V,
     /// the value is refused.
     pub fn get(&self, key: K) -> Result<Option<CacheHandle<'_, K, V, R, F>>, Refusal>
         ensures key { IfOk result (λ found. IfSome found (λ h. h.key ≡ key)) }
+        ensures charge { IfOk result (λ found. IfSome found (λ h. h.charge ≡ None)) }
         ensures fits { IfOk result (λ found. IfSome found (λ h. F.fits key h.value)) }
         ensures never_stale { IfErr result (λ e. e ≢ Refusal.Stale) }
     {
-        match self.door.enter().get(&key)? {
-            None => Ok(None),
-            Some(pin) => Ok(Some(CacheHandle::new(&self.door, pin))),
-        }
+        self.door.enter().get(&key)
     }
 
     /// A handle of the key's value, which `init` makes where the key has no entry, or where the
@@ -90,18 +87,19 @@ impl<K: Hash + Eq + Clone + Drop, V: Drop, R: Wait, F: Fit<K, V>> LruCache<K, V,
         requires callable { FnOnceTakesAt I.FnOnce init key }
         requires fits { (v : V) → FnOnceReturnsAt I.FnOnce init key (Ok v) → F.fits key v }
         ensures key { IfOk result (λ h. h.key ≡ key) }
+        ensures charge { IfOk result (λ h. h.charge ≡ Some charge) }
         ensures fits { IfOk result (λ h. F.fits key h.value) }
         ensures error { IfErr result (λ e. IfInit e (λ x. FnOnceReturnsAt I.FnOnce init key (Err x))) }
     {
         match self.start(&key, charge) {
             Err(refusal) => Err(GetError::of_refusal(refusal)),
-            Ok(Turn::Ready(pin)) => Ok(CacheHandle::new(&self.door, pin)),
-            Ok(Turn::Make(making)) => match init(&key) {
+            Ok(Turn::Ready(handle)) => Ok(handle),
+            Ok(Turn::Make(maker)) => match init(&key) {
                 Err(error) => {
-                    self.door.enter().fail(making, &key);
+                    maker.fail(&key);
                     Err(GetError::Init(error))
                 }
-                Ok(value) => match self.finish(making, &key, charge, value) {
+                Ok(value) => match self.finish(maker, &key, value) {
                     Ok(handle) => Ok(handle),
                     Err(refusal) => Err(GetError::of_refusal(refusal)),
                 },
@@ -124,14 +122,15 @@ impl<K: Hash + Eq + Clone + Drop, V: Drop, R: Wait, F: Fit<K, V>> LruCache<K, V,
         requires callable { FnOnceTakesAt I.FnOnce init key }
         requires fits { (v : V) → FnOnceReturnsAt I.FnOnce init key v → F.fits key v }
         ensures key { IfOk result (λ h. h.key ≡ key) }
+        ensures charge { IfOk result (λ h. h.charge ≡ Some charge) }
         ensures fits { IfOk result (λ h. F.fits key h.value) }
         ensures never_stale { IfErr result (λ e. e ≢ Refusal.Stale) }
     {
         match self.start(&key, charge)? {
-            Turn::Ready(pin) => Ok(CacheHandle::new(&self.door, pin)),
-            Turn::Make(making) => {
+            Turn::Ready(handle) => Ok(handle),
+            Turn::Make(maker) => {
                 let value = init(&key);
-                self.finish(making, &key, charge, value)
+                self.finish(maker, &key, value)
             }
         }
     }
@@ -165,16 +164,16 @@ impl<K: Hash + Eq + Clone + Drop, V: Drop, R: Wait, F: Fit<K, V>> LruCache<K, V,
 
     // Begins, and waits while another caller makes the value. A waiter whose pin turns out to be
     // none begins anew.
-    fn start(&self, key: &K, charge: u64) -> Result<Turn<K, V, F>, Refusal>
+    fn start(&self, key: &K, charge: u64) -> Result<Turn<'_, K, V, R, F>, Refusal>
         requires { 0 < charge }
-        ensures asked { IfOk result (λ turn. AsksOnTurn turn key.now charge) }
+        ensures turn { IfOk result (λ turn. IsTurnFor F.fits turn key.now charge) }
         ensures never_stale { IfErr result (λ e. e ≢ Refusal.Stale) }
     {
         let mut met = self.door.enter().begin(key, charge)?;
         for _ in self.door.rt().forever() {
             met = match met {
-                Met::Make(making) => return Ok(Turn::Make(making)),
-                Met::Hit(pin) => return Ok(Turn::Ready(pin)),
+                Met::Make(maker) => return Ok(Turn::Make(maker)),
+                Met::Hit(handle) => return Ok(Turn::Ready(handle)),
                 Met::Wait(asleep) => match asleep.wait(key)? {
                     Some(woken) => woken,
                     None => self.door.enter().begin(key, charge)?,
@@ -185,41 +184,37 @@ impl<K: Hash + Eq + Clone + Drop, V: Drop, R: Wait, F: Fit<K, V>> LruCache<K, V,
     }
 
     // Stores what was made and wakes whoever waits for it. The making is given up where memory
-    // is refused. The charge is the one asked, which the making knows.
-    fn finish(
+    // is refused.
+    fn finish<'a>(
         &self,
-        making: Making<K>,
+        maker: Maker<'a, K, V, R, F>,
         key: &K,
-        charge: u64,
         value: V,
-    ) -> Result<CacheHandle<'_, K, V, R, F>, Refusal>
-        requires asked { made_key making ≡ key.now }
-        requires charged { made_charge making ≡ charge }
+    ) -> Result<CacheHandle<'a, K, V, R, F>, Refusal>
+        requires asked { made_key maker.making ≡ key.now }
         requires fits { F.fits key.now value }
-        ensures key { IfOk result (λ h. h.key ≡ key.now) }
+        ensures handle { IfOk result (λ h. IsHandleFor F.fits h key.now (Some (made_charge maker.entry.making))) }
         ensures value { IfOk result (λ h. h.value ≡ value) }
         ensures refused { IfErr result (λ e. e ≡ Refusal.Memory) }
     {
-        let _ = charge;
         let Ok(first) = Arc::new(self.alloc, value) else {
-            self.door.enter().fail(making, key);
+            maker.fail(key);
             return Err(Refusal::Memory);
         };
         let Ok(second) = Arc::try_clone(&first) else {
-            self.door.enter().fail(making, key);
+            maker.fail(key);
             return Err(Refusal::Memory);
         };
-        let pin = self.door.enter().ready(making, key, first, second);
-        Ok(CacheHandle::new(&self.door, pin))
+        Ok(maker.ready(key, first, second))
     }
 }
 
 // What a caller that asked for a value has to do.
-enum Turn<K: Hash + Eq + Clone, V, F: Fit<K, V>> {
+enum Turn<'a, K: Hash + Eq + Clone, V, R: Wait, F: Fit<K, V>> {
     // Make the value.
-    Make(Making<K>),
+    Make(Maker<'a, K, V, R, F>),
     // Read it.
-    Ready(Pin<K, V, F>),
+    Ready(CacheHandle<'a, K, V, R, F>),
 }
 
 // Ready entries as a map, under the lock.

@@ -65,11 +65,12 @@ pub struct Unread {
 
 /// A debt: a pin in a ready entry, and the value. `release` takes it.
 ///
-/// Clauses see the stamp of the entry, the key that was asked, and the value, which fits that key
-/// by the mark F.
+/// Clauses see the stamp of the entry, the key and the charge that were asked, and the value, which
+/// fits that key by the mark F.
 pub struct Pin<K: Hash + Eq + Clone, V, F: Fit<K, V>> {
     pub(super) stamp: u64,
     pub(super) asked: Snapshot<K>,
+    pub(super) charge: Snapshot<Option<u64>>,
     pub(super) value: Arc<V>,
     pub(super) mark: PhantomData<F>,
 }
@@ -80,20 +81,21 @@ impl<K: Hash + Eq + Clone, V, F: Fit<K, V>> Model for Pin<K, V, F> {
 
     ghost Value = { PinOf K V };
 
-    ghost view = { λ p. record { stamp = p.stamp; key = p.asked.value; value = arc_value p.value } };
+    ghost view = { λ p. record { stamp = p.stamp; key = p.asked.value; charge = p.charge.value; value = arc_value p.value } };
 
     ghost invariant = { λ p. F.fits p.asked.value (arc_value p.value) };
 }
 
 impl<K: Hash + Eq + Clone, V, F: Fit<K, V>> Pin<K, V, F> {
-    // A pin in the stamp's entry.
-    pub(super) fn of(stamp: u64, key: &K, value: Arc<V>) -> Self
+    // A pin in the stamp's entry. A get asks no charge.
+    pub(super) fn of(stamp: u64, key: &K, charge: Option<u64>, value: Arc<V>) -> Self
         requires { F.fits key.now (arc_value value) }
-        ensures { result ≡ record { stamp = stamp; key = key.now; value = arc_value value } }
+        ensures { result ≡ record { stamp = stamp; key = key.now; charge = charge; value = arc_value value } }
     {
         Pin {
             stamp,
             asked: Snapshot::of(key),
+            charge: Snapshot::of(&charge),
             value,
             mark: PhantomData,
         }
