@@ -20,6 +20,7 @@ use Rattle.concurrent_lru.proofs.list.Phase.TheSendSync as phase_sent
 use Rattle.lru_journal.specs.declared.tally.Identity as identity
 use Rattle.lru_journal.specs.contracts.desk.Desk as desk
 use Rattle.lru_journal.specs.contracts.desk.Desk.TheInside as desk_fields
+use Rattle.lru_journal.specs.contracts.door.Door as door
 use Rattle.lru_journal.specs.contracts.journal.Journal.TheInside as journal
 use Rattle.lru_journal.specs.contracts.twin.LruCache as twin
 use Rattle.lru_journal.proofs.record.Record.TheSendSync as record_sent
@@ -53,12 +54,17 @@ module _ (K V : RattleType) (key : IsSend K) (value : IsSend V) (shared : IsSync
       desk_send : IsSend (desk.the_row K V I h e c i)
       desk_send = view_send (desk_fields.the_row K V I h e c i) _ _ _ _ (declared_send (desk_fields.the_type K V I h e c i) (search (sendable, crosses, seat_sent.the_send, journal_send) depth 12))
 
-      -- The twin is Sync.
-      pub twin_sync : (R : RattleType) → IsSync R → IsSync (twin.the_row K V R I h e c i)
-      twin_sync R waits = declared_sync (twin.the_type K V R I h e c i) (
-        search (sendable, crosses, wide_sent.the_sync, global_sent.the_send, global_sent.the_sync),
-        (
-          as_row_sync (mutex.the_field (desk.the_row K V I h e c i)) (mutex_sent.the_sync (desk.the_row K V I h e c i) desk_send),
-          (as_row_sync (row_field R) waits, tt),
-        ),
-      )
+      module _ (R : RattleType) (waits : IsSync R) where
+        -- The door of the twin is Sync.
+        door_sync : IsSync (door.the_row K V R I h e c i)
+        door_sync = declared_sync (door.the_type K V R I h e c i) (
+          search (sendable, crosses, wide_sent.the_sync, global_sent.the_send, global_sent.the_sync),
+          (
+            as_row_sync (mutex.the_field (desk.the_row K V I h e c i)) (mutex_sent.the_sync (desk.the_row K V I h e c i) desk_send),
+            (as_row_sync (row_field R) waits, tt),
+          ),
+        )
+
+        -- The twin is Sync.
+        pub twin_sync : IsSync (twin.the_row K V R I h e c i)
+        twin_sync = declared_sync (twin.the_type K V R I h e c i) (door_sync, tt)

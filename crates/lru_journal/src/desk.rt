@@ -1,11 +1,14 @@
 //! What lies under the twin's lock: the journal, and the pass that knows all its records.
-//! Each call is one step of the journal; an accepted one gives the caller's tally its receipt.
+//! Each call is one step, whose receipt goes to the caller's tally; what it took out is sealed.
 ghost use Rattle.std.specs.Prelude.{◌≡◌, ◌+◌, ◌^◌, ◌<◌, ◌++◌, ◌∷◌, [], length, true, IfOk, IfErr, OnErr};
 ghost use Rattle.std.specs.Arc.{arc_value};
 ghost use Rattle.crossbeam_utils.specs.Seq.{cell_view};
 ghost use Rattle.lru_journal.specs.Replay.{recorded, told_begun, told_failed, told_found};
 ghost use Rattle.lru_journal.specs.Tallies.{knower, gained, all_parts, AllBelow, AreExactly, Receives};
 
+mod sealed;
+
+pub use self::sealed::Sealed;
 use crate::journal::Journal;
 use crate::record::{Record, Recorded, Told};
 use crate::tally::{Cell, Checks, Gives, Identity, Knows, Takes, Tally, append};
@@ -68,16 +71,16 @@ impl<K: Hash + Eq + Clone, V: Drop, I: Identity> Desk<K, V, I> {
         tally: &mut Tally<K, I>,
         key: &K,
         charge: u64,
-    ) -> Result<(Begun<V>, Evicted<K, V>), Refusal>
+    ) -> Result<(Begun<V>, Sealed<Evicted<K, V>>), Refusal>
         requires charged { 0 < charge }
         requires cell { cell.now.table.shared.table_id ≡ I.name.table }
         ensures accepted { IfOk result (λ r. (copy : K) × (K.eq copy key.now ≡ true) × Receives tally.old (recorded (Recorded.Begin copy charge) (told_begun r.0)) tally.new) }
         ensures refused { OnErr result (tally.new ≡ tally.old) }
         ensures parts { tally.new.parts ≡ tally.old.parts }
     {
-        let answer = self.journal.begin(key, charge)?;
+        let (begun, evicted) = self.journal.begin(key, charge)?;
         note(rt, cell, &mut self.keeper, tally, &self.journal);
-        Ok(answer)
+        Ok((begun, Sealed::of(evicted)))
     }
 
     /// Asks again by a stamp, as `Journal::poll`.
@@ -106,15 +109,15 @@ impl<K: Hash + Eq + Clone, V: Drop, I: Identity> Desk<K, V, I> {
         tally: &mut Tally<K, I>,
         stamp: u64,
         value: Arc<V>,
-    ) -> Result<(), (Refusal, Arc<V>)>
+    ) -> Result<(), (Refusal, Sealed<Arc<V>>)>
         requires { cell.now.table.shared.table_id ≡ I.name.table }
         ensures accepted { IfOk result (λ _. Receives tally.old (recorded (Recorded.Ready stamp) Told.Done) tally.new) }
         ensures refused { OnErr result (tally.new ≡ tally.old) }
         ensures parts { tally.new.parts ≡ tally.old.parts }
         ensures back { IfErr result (λ e. arc_value e.1 ≡ arc_value value) }
     {
-        if let Err(refused) = self.journal.ready(stamp, value) {
-            return Err(refused);
+        if let Err((refusal, value)) = self.journal.ready(stamp, value) {
+            return Err((refusal, Sealed::of(value)));
         }
         note(rt, cell, &mut self.keeper, tally, &self.journal);
         Ok(())
@@ -127,7 +130,7 @@ impl<K: Hash + Eq + Clone, V: Drop, I: Identity> Desk<K, V, I> {
         cell: &Cell<K>,
         tally: &mut Tally<K, I>,
         stamp: u64,
-    ) -> Result<Failed<K>, Refusal>
+    ) -> Result<Sealed<Failed<K>>, Refusal>
         requires { cell.now.table.shared.table_id ≡ I.name.table }
         ensures accepted { IfOk result (λ failed. Receives tally.old (recorded (Recorded.Fail stamp) (told_failed failed)) tally.new) }
         ensures refused { OnErr result (tally.new ≡ tally.old) }
@@ -135,7 +138,7 @@ impl<K: Hash + Eq + Clone, V: Drop, I: Identity> Desk<K, V, I> {
     {
         let failed = self.journal.fail(stamp)?;
         note(rt, cell, &mut self.keeper, tally, &self.journal);
-        Ok(failed)
+        Ok(Sealed::of(failed))
     }
 
     /// Looks a key up, as `Journal::get`.
@@ -163,7 +166,7 @@ impl<K: Hash + Eq + Clone, V: Drop, I: Identity> Desk<K, V, I> {
         cell: &Cell<K>,
         tally: &mut Tally<K, I>,
         stamp: u64,
-    ) -> Result<Evicted<K, V>, Refusal>
+    ) -> Result<Sealed<Evicted<K, V>>, Refusal>
         requires { cell.now.table.shared.table_id ≡ I.name.table }
         ensures accepted { IfOk result (λ _. Receives tally.old (recorded (Recorded.Release stamp) Told.Done) tally.new) }
         ensures refused { OnErr result (tally.new ≡ tally.old) }
@@ -171,7 +174,7 @@ impl<K: Hash + Eq + Clone, V: Drop, I: Identity> Desk<K, V, I> {
     {
         let evicted = self.journal.release(stamp)?;
         note(rt, cell, &mut self.keeper, tally, &self.journal);
-        Ok(evicted)
+        Ok(Sealed::of(evicted))
     }
 
     /// Evicts a key where it is idle, as `Journal::advice_evict`.
@@ -181,7 +184,7 @@ impl<K: Hash + Eq + Clone, V: Drop, I: Identity> Desk<K, V, I> {
         cell: &Cell<K>,
         tally: &mut Tally<K, I>,
         key: &K,
-    ) -> Result<Evicted<K, V>, Refusal>
+    ) -> Result<Sealed<Evicted<K, V>>, Refusal>
         requires { cell.now.table.shared.table_id ≡ I.name.table }
         ensures accepted { IfOk result (λ _. (copy : K) × (K.eq copy key.now ≡ true) × Receives tally.old (recorded (Recorded.AdviceEvict copy) Told.Done) tally.new) }
         ensures refused { OnErr result (tally.new ≡ tally.old) }
@@ -189,7 +192,7 @@ impl<K: Hash + Eq + Clone, V: Drop, I: Identity> Desk<K, V, I> {
     {
         let evicted = self.journal.advice_evict(key)?;
         note(rt, cell, &mut self.keeper, tally, &self.journal);
-        Ok(evicted)
+        Ok(Sealed::of(evicted))
     }
 
     /// Evicts every idle entry, as `Journal::prune`.
@@ -198,7 +201,7 @@ impl<K: Hash + Eq + Clone, V: Drop, I: Identity> Desk<K, V, I> {
         rt: &R,
         cell: &Cell<K>,
         tally: &mut Tally<K, I>,
-    ) -> Result<Evicted<K, V>, Refusal>
+    ) -> Result<Sealed<Evicted<K, V>>, Refusal>
         requires { cell.now.table.shared.table_id ≡ I.name.table }
         ensures accepted { IfOk result (λ _. Receives tally.old (recorded Recorded.Prune Told.Done) tally.new) }
         ensures refused { OnErr result (tally.new ≡ tally.old) }
@@ -206,7 +209,7 @@ impl<K: Hash + Eq + Clone, V: Drop, I: Identity> Desk<K, V, I> {
     {
         let evicted = self.journal.prune()?;
         note(rt, cell, &mut self.keeper, tally, &self.journal);
-        Ok(evicted)
+        Ok(Sealed::of(evicted))
     }
 
     /// Sets the capacity, as `Journal::set_capacity`.
@@ -216,7 +219,7 @@ impl<K: Hash + Eq + Clone, V: Drop, I: Identity> Desk<K, V, I> {
         cell: &Cell<K>,
         tally: &mut Tally<K, I>,
         capacity: u64,
-    ) -> Result<Evicted<K, V>, Refusal>
+    ) -> Result<Sealed<Evicted<K, V>>, Refusal>
         requires { cell.now.table.shared.table_id ≡ I.name.table }
         ensures accepted { IfOk result (λ _. Receives tally.old (recorded (Recorded.SetCapacity capacity) Told.Done) tally.new) }
         ensures refused { OnErr result (tally.new ≡ tally.old) }
@@ -224,7 +227,7 @@ impl<K: Hash + Eq + Clone, V: Drop, I: Identity> Desk<K, V, I> {
     {
         let evicted = self.journal.set_capacity(capacity)?;
         note(rt, cell, &mut self.keeper, tally, &self.journal);
-        Ok(evicted)
+        Ok(Sealed::of(evicted))
     }
 
     /// The sum of all charges, as `Journal::total`.

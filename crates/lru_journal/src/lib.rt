@@ -7,6 +7,7 @@
 #![tactic(auto)]
 
 mod desk;
+mod door;
 pub mod journal;
 mod pin;
 mod record;

@@ -1,5 +1,5 @@
 //! The twin: a journal that threads share, each with a tally of its own calls.
-//! A call takes the lock once, for one step of the journal; what it evicted is dropped without it.
+//! A call takes the lock once, for one step of the journal, by a door that drops what it evicted.
 ghost use Rattle.std.specs.Prelude.{◌≡◌, ◌-◌, ◌<◌, [], true, IfOk, IfErr, OnErr};
 ghost use Rattle.std.specs.Arc.{arc_value};
 ghost use Rattle.concurrent_lru.specs.Keys.{CopiesAreEqual};
@@ -9,15 +9,16 @@ ghost use Rattle.lru_journal.specs.Replay.{recorded, told_failed};
 ghost use Rattle.lru_journal.specs.Tallies.{hand, merged, all_parts, AreExactly, Receives};
 
 use crate::desk::Desk;
+use crate::door::Door;
 use crate::journal::Journal;
 use crate::pin::{Pin, Started, pin_of};
 use crate::record::{Recorded, Told};
-use crate::tally::{Cell, Gives, Identity, OnePart, Opening, Takes, Tally};
+use crate::tally::{Gives, Identity, OnePart, Opening, Takes, Tally};
 use concurrent_lru::lru_core::{Failed, Refusal};
 use std::alloc::Global;
 use std::hash::Hash;
 use std::marker::PhantomData;
-use std::sync::{Arc, Mutex, Wait};
+use std::sync::{Arc, Wait};
 
 /// A journaled cache that threads share.
 ///
@@ -26,10 +27,7 @@ use std::sync::{Arc, Mutex, Wait};
 /// tally. Any call may be refused with `Memory`, where there is no room for its record.
 #[derive(Drop)]
 pub struct LruCache<K: Hash + Eq + Clone, V, R, I: Identity> {
-    cell: Cell<K>,
-    desk: Mutex<Desk<K, V, I>>,
-    rt: R,
-    pub ghost own: { cell.table.shared.table_id ≡ I.name.table },
+    door: Door<K, V, R, I>,
 }
 
 impl<
@@ -61,9 +59,7 @@ impl<
             twin: PhantomData,
         };
         let twin = LruCache {
-            cell,
-            desk: Mutex::new(desk),
-            rt,
+            door: Door::new(cell, desk, rt),
         };
         (twin, tally)
     }
@@ -82,12 +78,7 @@ impl<
         ensures refused { OnErr result (tally.new ≡ tally.old) }
         ensures parts { tally.new.parts ≡ tally.old.parts }
     {
-        let answer = self
-            .desk
-            .lock(&self.rt)
-            .begin(&self.rt, &self.cell, tally, key, charge)?;
-        let (begun, evicted) = answer;
-        drop(evicted);
+        let begun = self.door.enter().begin(tally, key, charge)?;
         Ok(Started::of(begun))
     }
 
@@ -99,10 +90,7 @@ impl<
         ensures refused { OnErr result (tally.new ≡ tally.old) }
         ensures parts { tally.new.parts ≡ tally.old.parts }
     {
-        let begun = self
-            .desk
-            .lock(&self.rt)
-            .poll(&self.rt, &self.cell, tally, stamp)?;
+        let begun = self.door.enter().poll(tally, stamp)?;
         Ok(Started::of(begun))
     }
 
@@ -120,9 +108,7 @@ impl<
         ensures parts { tally.new.parts ≡ tally.old.parts }
         ensures back { IfErr result (λ e. arc_value e.1 ≡ arc_value value) }
     {
-        self.desk
-            .lock(&self.rt)
-            .ready(&self.rt, &self.cell, tally, stamp, value)
+        self.door.enter().ready(tally, stamp, value)
     }
 
     /// Gives a making up, and the pin with it.
@@ -133,9 +119,7 @@ impl<
         ensures refused { OnErr result (tally.new ≡ tally.old) }
         ensures parts { tally.new.parts ≡ tally.old.parts }
     {
-        self.desk
-            .lock(&self.rt)
-            .fail(&self.rt, &self.cell, tally, stamp)
+        self.door.enter().fail(tally, stamp)
     }
 
     /// The value of a key that is ready, pinned once more.
@@ -146,10 +130,7 @@ impl<
         ensures refused { OnErr result (tally.new ≡ tally.old) }
         ensures parts { tally.new.parts ≡ tally.old.parts }
     {
-        let found = self
-            .desk
-            .lock(&self.rt)
-            .get(&self.rt, &self.cell, tally, key)?;
+        let found = self.door.enter().get(tally, key)?;
         Ok(pin_of(found))
     }
 
@@ -163,15 +144,8 @@ impl<
         ensures back { IfErr result (λ e. e.1 ≡ pin) }
     {
         let stamp = pin.stamp();
-        let released = self
-            .desk
-            .lock(&self.rt)
-            .release(&self.rt, &self.cell, tally, stamp);
-        match released {
-            Ok(evicted) => {
-                drop(evicted);
-                Ok(())
-            }
+        match self.door.enter().release(tally, stamp) {
+            Ok(()) => Ok(()),
             Err(refusal) => Err((refusal, pin)),
         }
     }
@@ -182,12 +156,7 @@ impl<
         ensures refused { OnErr result (tally.new ≡ tally.old) }
         ensures parts { tally.new.parts ≡ tally.old.parts }
     {
-        let evicted = self
-            .desk
-            .lock(&self.rt)
-            .advice_evict(&self.rt, &self.cell, tally, key)?;
-        drop(evicted);
-        Ok(())
+        self.door.enter().advice_evict(tally, key)
     }
 
     /// Evicts every idle entry.
@@ -196,9 +165,7 @@ impl<
         ensures refused { OnErr result (tally.new ≡ tally.old) }
         ensures parts { tally.new.parts ≡ tally.old.parts }
     {
-        let evicted = self.desk.lock(&self.rt).prune(&self.rt, &self.cell, tally)?;
-        drop(evicted);
-        Ok(())
+        self.door.enter().prune(tally)
     }
 
     /// Sets the capacity, in the units of charges, and settles to it at once: idle entries leave,
@@ -210,12 +177,7 @@ impl<
         ensures refused { OnErr result (tally.new ≡ tally.old) }
         ensures parts { tally.new.parts ≡ tally.old.parts }
     {
-        let evicted = self
-            .desk
-            .lock(&self.rt)
-            .set_capacity(&self.rt, &self.cell, tally, capacity)?;
-        drop(evicted);
-        Ok(())
+        self.door.enter().set_capacity(tally, capacity)
     }
 
     /// The sum of the charges of all entries, those still being made included.
@@ -224,7 +186,7 @@ impl<
         ensures refused { OnErr result (tally.new ≡ tally.old) }
         ensures parts { tally.new.parts ≡ tally.old.parts }
     {
-        self.desk.lock(&self.rt).total(&self.rt, &self.cell, tally)
+        self.door.enter().total(tally)
     }
 
     /// The journal, for whoever has the whole tally. Its records are one legal history from the
@@ -236,8 +198,8 @@ impl<
         ensures history { IsHistory K.eq result }
         ensures began { result.began ≡ I.name.capacity }
     {
-        let LruCache { cell, desk, rt } = self;
-        let journal = desk.into_inner().close(&rt, &cell, tally);
+        let LruCache { door } = self;
+        let journal = door.close(tally);
         // Its invariant, as a clause.
         let _records = journal.records();
         journal
@@ -251,7 +213,7 @@ impl<K: Hash + Eq + Clone, I: Identity> Tally<K, I> {
         ensures given { result ≡ hand 1 [] }
         ensures kept { self.new ≡ hand (self.old.parts - 1) self.old.receipts }
     {
-        let pass = cache.cell.split_pass::<OnePart>(&mut self.pass);
+        let pass = cache.door.cell().split_pass::<OnePart>(&mut self.pass);
         Tally {
             pass,
             twin: PhantomData,
@@ -263,7 +225,8 @@ impl<K: Hash + Eq + Clone, I: Identity> Tally<K, I> {
         ensures { self.new ≡ merged self.old other }
     {
         let Tally { mut pass, twin: _ } = other;
-        let given = cache.cell.split_pass::<Gives>(&mut pass);
-        cache.cell.join_pass::<Takes>(&mut self.pass, given);
+        let cell = cache.door.cell();
+        let given = cell.split_pass::<Gives>(&mut pass);
+        cell.join_pass::<Takes>(&mut self.pass, given);
     }
 }

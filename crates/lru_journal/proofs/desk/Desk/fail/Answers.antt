@@ -1,8 +1,9 @@
-use Rattle.std.proofs.Common.{[], ◌∷◌, ◌++◌, sym, ◌∙◌, ap}
+use Rattle.std.proofs.Common.{[], ◌∷◌, ◌++◌, sym, ◌∙◌, ap, subst}
 use Rattle.crossbeam_utils.specs.Seq.{cell_view}
+use Rattle.concurrent_lru.specs.declared.step.Failed.{Failed}
 use Rattle.lru_journal.specs.Journals.{Journaled}
 use Rattle.lru_journal.specs.Replay.{recorded, told_failed}
-use Rattle.lru_journal.specs.Tallies.{knower}
+use Rattle.lru_journal.specs.Tallies.{Receives, knower}
 use Rattle.lru_journal.specs.declared.record.Recorded.TheVariants as step
 use Rattle.lru_journal.specs.declared.record.Told.{Told}
 use Rattle.lru_journal.proofs.Keeps.{failed_told}
@@ -34,7 +35,7 @@ returns g c =
     let keeper = cell_view c.self.inside.keeper in
     let r = (recorded (step.Fail c.args.stamp) (told_failed c.in_ok-failed.failed)) in
     record {
-      accepted = c.note.ensures.tally r (knows_more keeper c.self.inside.journal.records c.fail.new.self.records r c.self.invariant.1 (ap (λ (j : Journaled g.row.K.Denot g.row.V.Denot). j.records) c.in_ok-failed.ensures.1 ∙ ap (λ (t : Told). c.self.inside.journal.records ++ recorded (step.Fail c.args.stamp) t ∷ []) (sym (failed_told g.row.V.Denot c.args.stamp c.in_ok-failed.failed))));
+      accepted = subst (λ (f : Failed g.row.K.Denot). Receives c.args.tally.now (recorded (step.Fail c.args.stamp) (told_failed f)) c.note.new.tally) (sym c.of.ensures) (c.note.ensures.tally r (knows_more keeper c.self.inside.journal.records c.fail.new.self.records r c.self.invariant.1 (ap (λ (j : Journaled g.row.K.Denot g.row.V.Denot). j.records) c.in_ok-failed.ensures.1 ∙ ap (λ (t : Told). c.self.inside.journal.records ++ recorded (step.Fail c.args.stamp) t ∷ []) (sym (failed_told g.row.V.Denot c.args.stamp c.in_ok-failed.failed)))));
       refused = tt;
       parts = c.note.ensures.parts;
     }

@@ -6,12 +6,12 @@ use Rattle.lru_journal.proofs.Moves.{gives, takes}
 use Rattle.lru_journal.proofs.tally.Tally.join.Goals as goal
 
 pub split_pass-given-requires : goal.split_pass-given-requires
-split_pass-given-requires g c = (search rules, (search rules, (c.other.invariant.0 ∙ sym c.args.cache.now.own, gives _ _)))
+split_pass-given-requires g c = (search rules, (search rules, (c.other.invariant.0 ∙ sym c.cell-cell.ensures, gives _ _)))
 
 pub join_pass-requires : goal.join_pass-requires
 join_pass-requires g c =
     let m = c.split_pass-given.ensures in
-    (search rules, (search rules, ((c.self.invariant.0 ∙ sym c.args.cache.now.own, m.given.0 ∙ (c.other.invariant.0 ∙ sym c.self.invariant.0), m.given.2), takes _ _ _ _)))
+    (search rules, (search rules, ((c.self.invariant.0 ∙ sym c.cell-cell.ensures, m.given.0 ∙ (c.other.invariant.0 ∙ sym c.self.invariant.0), m.given.2), takes _ _ _ _)))
 
 pub returns : goal.returns
 returns g c =

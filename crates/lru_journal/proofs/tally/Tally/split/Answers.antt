@@ -6,7 +6,7 @@ use Rattle.lru_journal.proofs.Moves.{cuts}
 use Rattle.lru_journal.proofs.tally.Tally.split.Goals as goal
 
 pub split_pass-pass-requires : goal.split_pass-pass-requires
-split_pass-pass-requires g c = (search rules, (search rules, (c.self.invariant.0 ∙ sym c.args.cache.now.own, cuts _ _ (let e = ap (λ h. h.parts) c.self.view_is in omega (arith, e, c.requires)))))
+split_pass-pass-requires g c = (search rules, (search rules, (c.self.invariant.0 ∙ sym c.cell.ensures, cuts _ _ (let e = ap (λ h. h.parts) c.self.view_is in omega (arith, e, c.requires)))))
 
 pub returns : goal.returns
 returns g c =
