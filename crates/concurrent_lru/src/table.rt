@@ -58,6 +58,17 @@ impl<K: Hash + Eq + Clone, V: Drop> Table<K, V> {
         }
     }
 
+    /// Makes room for so many entries in all, those that are there included.
+    ///
+    /// `Memory` where a growth is refused; some room may have been made.
+    pub fn reserve(&mut self, entries: usize) -> Result<(), Refusal>
+        ensures err { IfErr result (λ e. e ≡ Refusal.Memory) }
+        ensures same { self.new ≡ self.old }
+    {
+        let more = entries.saturating_sub(self.by_stamp.len());
+        make_room(&mut self.nodes, &mut self.by_key, &mut self.by_stamp, more)
+    }
+
     /// The sum of the charges of all entries.
     pub fn total(&self) -> u64
         ensures { result ≡ charges_of self.now }
@@ -103,7 +114,7 @@ impl<K: Hash + Eq + Clone, V: Drop> Table<K, V> {
         let own = key.clone()?;
         let kept = key.clone()?;
         let node = Box::new(alloc, Node::new(stamp, own, charge))?;
-        reserve_one(&mut self.nodes, &mut self.by_key, &mut self.by_stamp)?;
+        make_room(&mut self.nodes, &mut self.by_key, &mut self.by_stamp, 1)?;
         let place = self.nodes.insert_reserved(node);
         let _by_key = self.by_key.insert(kept, place);
         let _by_stamp = self.by_stamp.insert(stamp, place);
@@ -233,22 +244,23 @@ impl<K: Hash + Eq + Clone, V: Drop> Table<K, V> {
     }
 }
 
-// Makes room for one more entry, so that its inserts cannot fail.
-fn reserve_one<K: Hash + Eq + Drop, V: Drop>(
+// Makes room for so many more entries, so that their inserts cannot fail.
+fn make_room<K: Hash + Eq + Drop, V: Drop>(
     nodes: &mut Nodes<K, V>,
     by_key: &mut HashMap<K, Place>,
     by_stamp: &mut HashMap<u64, Place>,
+    more: usize,
 ) -> Result<(), Refusal>
-    ensures ok { OnOk result ((0 < nodes.new.room) × (0 < spare by_key.new) × (0 < spare by_stamp.new)) }
+    ensures ok { OnOk result ((more ≤ nodes.new.room) × (more ≤ spare by_key.new) × (more ≤ spare by_stamp.new)) }
     ensures refusal { IfErr result (λ e. e ≡ Refusal.Memory) }
     ensures nodes { nodes.new.nodes ≡ nodes.old.nodes }
     ensures idle { nodes.new.idle ≡ nodes.old.idle }
     ensures by_key { (k : K) → hash.get K.eq by_key.new k ≡ hash.get K.eq by_key.old k }
     ensures by_stamp { (s : ℕ) → hash.get nat_eq by_stamp.new s ≡ hash.get nat_eq by_stamp.old s }
 {
-    nodes.reserve(1)?;
-    by_key.reserve(1)?;
-    by_stamp.reserve(1)?;
+    nodes.reserve(more)?;
+    by_key.reserve(more)?;
+    by_stamp.reserve(more)?;
     Ok(())
 }
 

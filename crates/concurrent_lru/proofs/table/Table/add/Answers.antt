@@ -12,20 +12,20 @@ use Rattle.concurrent_lru.proofs.table.Table.add.Goals.{Joined-by_key}
 
 pub invariant_of-self : goal.invariant_of-self
 invariant_of-self g c = record {
-  stored = stored_same c.self.invariant.stored c.reserve_one.ensures.nodes c.reserve_one.ensures.idle c.reserve_one.ensures.by_key c.reserve_one.ensures.by_stamp;
-  sums = c.self.invariant.sums ∙ ap charges_of (sym (entries_same c.self.inside.nodes c.reserve_one.new.nodes c.reserve_one.ensures.nodes c.reserve_one.ensures.idle));
+  stored = stored_same c.self.invariant.stored c.make_room.ensures.nodes c.make_room.ensures.idle c.make_room.ensures.by_key c.make_room.ensures.by_stamp;
+  sums = c.self.invariant.sums ∙ ap charges_of (sym (entries_same c.self.inside.nodes c.make_room.new.nodes c.make_room.ensures.nodes c.make_room.ensures.idle));
 }
 
-pub returns-in_err-reserve_one-clause-err : goal.returns-in_err-reserve_one-clause-err
-returns-in_err-reserve_one-clause-err g c = on_err _ (entries_same c.self.inside.nodes c.reserve_one.new.nodes c.reserve_one.ensures.nodes c.reserve_one.ensures.idle ∙ c.self.view_is)
+pub returns-in_err-make_room-clause-err : goal.returns-in_err-make_room-clause-err
+returns-in_err-make_room-clause-err g c = on_err _ (entries_same c.self.inside.nodes c.make_room.new.nodes c.make_room.ensures.nodes c.make_room.ensures.idle ∙ c.self.view_is)
 
 pub insert_reserved-place-requires-clause-fresh : goal.insert_reserved-place-requires-clause-fresh
 insert_reserved-place-requires-clause-fresh g c = λ p e h s.
     fresh_among c.self.invariant.stored c.args.stamp (subst (λ t. LacksStampIn t c.args.stamp) (sym c.self.view_is) c.requires.fresh) p e
-    (ap (λ m. get m p) (sym c.reserve_one.ensures.nodes) ∙ h)
+    (ap (λ m. get m p) (sym c.make_room.ensures.nodes) ∙ h)
     (s ∙ ap (λ n. (entry_of n).stamp) c.in_ok-node.ensures.ok ∙ ap (λ x. x.stamp) c.new.ensures.entry)
 
-added : (g : _) (c : Joined-by_key g) → IsAdded g.K.PartialEq.eq c.reserve_one.new.nodes c.insert_reserved-place.new.self c.reserve_one.new.by_key c.insert-by_key.new.self c.reserve_one.new.by_stamp c.insert-by_stamp.new.self c.insert_reserved-place.result (new_entry c.args.stamp c.in_ok-own.own c.args.charge) c.in_ok-kept.kept
+added : (g : _) (c : Joined-by_key g) → IsAdded g.K.PartialEq.eq c.make_room.new.nodes c.insert_reserved-place.new.self c.make_room.new.by_key c.insert-by_key.new.self c.make_room.new.by_stamp c.insert-by_stamp.new.self c.insert_reserved-place.result (new_entry c.args.stamp c.in_ok-own.own c.args.charge) c.in_ok-kept.kept
 added g c =
     let laws = g.met.K.Eq.laws in
     let copies = c.self.invariant.stored.copies in
@@ -34,36 +34,36 @@ added g c =
     let entry : entry_of c.in_ok-node.node.value ≡ new_entry c.args.stamp c.in_ok-own.own c.args.charge = ap entry_of c.in_ok-node.ensures.ok ∙ c.new.ensures.entry in
     record {
       free = c.insert_reserved-place.ensures.free;
-      nodes = c.insert_reserved-place.ensures.nodes ∙ ap (insert c.reserve_one.new.nodes.nodes c.insert_reserved-place.result) entry;
+      nodes = c.insert_reserved-place.ensures.nodes ∙ ap (insert c.make_room.new.nodes.nodes c.insert_reserved-place.result) entry;
       idle = c.insert_reserved-place.ensures.idle;
       pins = refl;
       same_key = laws.congr c.in_ok-kept.kept c.args.key.now c.in_ok-own.own kept ∙ laws.symm c.args.key.now c.in_ok-own.own ∙ own;
-      absent = c.reserve_one.ensures.by_key c.in_ok-kept.kept ∙ alike_get laws c.self.inside.by_key c.in_ok-kept.kept c.args.key.now kept
+      absent = c.make_room.ensures.by_key c.in_ok-kept.kept ∙ alike_get laws c.self.inside.by_key c.in_ok-kept.kept c.args.key.now kept
           ∙ lacks_key c.self.invariant.stored c.args.key.now (subst (λ t. LacksKeyIn g.K.PartialEq.eq t c.args.key.now) (sym c.self.view_is) c.requires.absent);
-      fresh = c.reserve_one.ensures.by_stamp c.args.stamp ∙ lacks_stamp c.self.invariant.stored c.args.stamp (subst (λ t. LacksStampIn t c.args.stamp) (sym c.self.view_is) c.requires.fresh);
-      keys_now = (at_ok c.insert-by_key.result (c.insert-by_key.ensures.succeeds c.in_ok-reserve_one.ensures.ok.1) c.insert-by_key.ensures.updates).0;
-      stamps_now = (at_ok c.insert-by_stamp.result (c.insert-by_stamp.ensures.succeeds c.in_ok-reserve_one.ensures.ok.2) c.insert-by_stamp.ensures.updates).0;
+      fresh = c.make_room.ensures.by_stamp c.args.stamp ∙ lacks_stamp c.self.invariant.stored c.args.stamp (subst (λ t. LacksStampIn t c.args.stamp) (sym c.self.view_is) c.requires.fresh);
+      keys_now = (at_ok c.insert-by_key.result (c.insert-by_key.ensures.succeeds c.in_ok-make_room.ensures.ok.1) c.insert-by_key.ensures.updates).0;
+      stamps_now = (at_ok c.insert-by_stamp.result (c.insert-by_stamp.ensures.succeeds c.in_ok-make_room.ensures.ok.2) c.insert-by_stamp.ensures.updates).0;
     }
 
 pub invariant_of-self-2 : goal.invariant_of-self-2
 invariant_of-self-2 g c =
-    let r = stored_same c.self.invariant.stored c.reserve_one.ensures.nodes c.reserve_one.ensures.idle c.reserve_one.ensures.by_key c.reserve_one.ensures.by_stamp in
-    let lacks = subst (λ t. LacksStampIn t c.args.stamp) (sym (entries_same c.self.inside.nodes c.reserve_one.new.nodes c.reserve_one.ensures.nodes c.reserve_one.ensures.idle ∙ c.self.view_is)) c.requires.fresh in
-    let sum = sum_with (entries_of c.reserve_one.new.nodes) (entries_of c.insert_reserved-place.new.self) c.args.stamp (new_held c.in_ok-own.own c.args.charge) (idle_with g.met.K.Eq.laws r (added g c)) (held_with g.met.K.Eq.laws r (added g c)) (unheld r c.args.stamp lacks) in
+    let r = stored_same c.self.invariant.stored c.make_room.ensures.nodes c.make_room.ensures.idle c.make_room.ensures.by_key c.make_room.ensures.by_stamp in
+    let lacks = subst (λ t. LacksStampIn t c.args.stamp) (sym (entries_same c.self.inside.nodes c.make_room.new.nodes c.make_room.ensures.nodes c.make_room.ensures.idle ∙ c.self.view_is)) c.requires.fresh in
+    let sum = sum_with (entries_of c.make_room.new.nodes) (entries_of c.insert_reserved-place.new.self) c.args.stamp (new_held c.in_ok-own.own c.args.charge) (idle_with g.met.K.Eq.laws r (added g c)) (held_with g.met.K.Eq.laws r (added g c)) (unheld r c.args.stamp lacks) in
     record {
       stored = stored_with g.met.K.Eq.laws r (added g c);
-      sums = ap (λ n. n + c.args.charge) (c.self.invariant.sums ∙ ap charges_of (sym (entries_same c.self.inside.nodes c.reserve_one.new.nodes c.reserve_one.ensures.nodes c.reserve_one.ensures.idle))) ∙ sym sum;
+      sums = ap (λ n. n + c.args.charge) (c.self.invariant.sums ∙ ap charges_of (sym (entries_same c.self.inside.nodes c.make_room.new.nodes c.make_room.ensures.nodes c.make_room.ensures.idle))) ∙ sym sum;
     }
 
 pub returns-clause-idle : goal.returns-clause-idle
 returns-clause-idle g c =
-    idle_with g.met.K.Eq.laws (stored_same c.self.invariant.stored c.reserve_one.ensures.nodes c.reserve_one.ensures.idle c.reserve_one.ensures.by_key c.reserve_one.ensures.by_stamp) (added g c)
-    ∙ ap (λ t. t.idle) (entries_same c.self.inside.nodes c.reserve_one.new.nodes c.reserve_one.ensures.nodes c.reserve_one.ensures.idle ∙ c.self.view_is)
+    idle_with g.met.K.Eq.laws (stored_same c.self.invariant.stored c.make_room.ensures.nodes c.make_room.ensures.idle c.make_room.ensures.by_key c.make_room.ensures.by_stamp) (added g c)
+    ∙ ap (λ t. t.idle) (entries_same c.self.inside.nodes c.make_room.new.nodes c.make_room.ensures.nodes c.make_room.ensures.idle ∙ c.self.view_is)
 
 pub returns-clause-ok : goal.returns-clause-ok
 returns-clause-ok g c = (
   c.in_ok-own.own,
   c.self.invariant.stored.copies c.args.key.now c.in_ok-own.own c.in_ok-own.ensures.cases,
-  held_with g.met.K.Eq.laws (stored_same c.self.invariant.stored c.reserve_one.ensures.nodes c.reserve_one.ensures.idle c.reserve_one.ensures.by_key c.reserve_one.ensures.by_stamp) (added g c)
-      ∙ ap (λ t. insert t.held c.args.stamp (new_held c.in_ok-own.own c.args.charge)) (entries_same c.self.inside.nodes c.reserve_one.new.nodes c.reserve_one.ensures.nodes c.reserve_one.ensures.idle ∙ c.self.view_is),
+  held_with g.met.K.Eq.laws (stored_same c.self.invariant.stored c.make_room.ensures.nodes c.make_room.ensures.idle c.make_room.ensures.by_key c.make_room.ensures.by_stamp) (added g c)
+      ∙ ap (λ t. insert t.held c.args.stamp (new_held c.in_ok-own.own c.args.charge)) (entries_same c.self.inside.nodes c.make_room.new.nodes c.make_room.ensures.nodes c.make_room.ensures.idle ∙ c.self.view_is),
 )
