@@ -1,12 +1,13 @@
 //! Caches side by side, each behind a lock of its own, for any number of threads.
 //! A hasher chooses the shard that serves a key; shards wait for no other's lock.
-ghost use Rattle.std.specs.Prelude.{◌≡◌, ◌≢◌, ◌<◌, Some, None, Ok, Err, IfOk, IfErr, IfSome, vec_len};
+ghost use Rattle.std.specs.Prelude.{◌≡◌, ◌≢◌, ◌<◌, Some, None, Ok, Err, IfOk, IfErr, IfSome};
 ghost use Rattle.std.specs.Fn.{FnOnceReturnsAt, FnOnceTakesAt};
 ghost use Rattle.concurrent_lru.specs.Keys.{CopiesAreEqual};
 ghost use Rattle.concurrent_lru.specs.Turns.{IfInit};
 
 use crate::fit::{Anything, Fit};
 use crate::lru_core::Refusal;
+use crate::route::Routes;
 pub use crate::shards::{ShardStep, Shards, capacity_per_shard};
 use crate::unsharded;
 use crate::unsharded::GetError;
@@ -31,9 +32,7 @@ pub struct LruCache<
     S: BuildHasher = RandomState,
     F: Fit<K, V> = Anything,
 > {
-    shards: Vec<unsharded::LruCache<K, V, R, F>>,
-    hasher: S,
-    ghost some: { 0 < vec_len shards },
+    routes: Routes<K, V, R, S, F>,
 }
 
 /// A pinned value: its entry is not evicted while the handle is there. A handle that is
@@ -136,17 +135,8 @@ impl<
         requires copies { CopiesAreEqual K.is_clone K.eq }
         ensures err { IfErr result (λ e. e ≡ Refusal.Memory) }
     {
-        let share = capacity_per_shard(capacity, shards);
-        let mut caches = Vec::new(alloc);
-        for _ in 0..shards {
-            let Ok(own_rt) = rt.clone() else {
-                return Err(Refusal::Memory);
-            };
-            caches.push(unsharded::LruCache::marked(alloc, own_rt, share))?;
-        }
         Ok(LruCache {
-            shards: caches,
-            hasher,
+            routes: Routes::new(alloc, rt, capacity, shards, hasher)?,
         })
     }
 }
@@ -158,12 +148,6 @@ impl<K: Hash + Eq + Clone + Drop, V: Drop, R: Wait, S: BuildHasher, F: Fit<K, V>
     S,
     F,
 > {
-    // The shard that serves a key.
-    fn shard(&self, key: &K) -> &unsharded::LruCache<K, V, R, F> {
-        let shard = self.hasher.hash_one(key) % self.shards.len() as u64;
-        &self.shards[shard as usize]
-    }
-
     /// A handle of the key's value, where it is ready; none where the key has no entry or its
     /// value is still being made. Waits for no maker.
     ///
@@ -175,7 +159,7 @@ impl<K: Hash + Eq + Clone + Drop, V: Drop, R: Wait, S: BuildHasher, F: Fit<K, V>
         ensures fits { IfOk result (λ found. IfSome found (λ h. F.fits key h.value)) }
         ensures never_stale { IfErr result (λ e. e ≢ Refusal.Stale) }
     {
-        match self.shard(&key).get(key)? {
+        match self.routes.of(&key).get(key)? {
             Some(held) => Ok(Some(CacheHandle { held })),
             None => Ok(None),
         }
@@ -202,7 +186,7 @@ impl<K: Hash + Eq + Clone + Drop, V: Drop, R: Wait, S: BuildHasher, F: Fit<K, V>
         ensures fits { IfOk result (λ h. F.fits key h.value) }
         ensures error { IfErr result (λ e. IfInit e (λ x. FnOnceReturnsAt I.FnOnce init key (Err x))) }
     {
-        let held = self.shard(&key).get_or_try_init(key, charge, init)?;
+        let held = self.routes.of(&key).get_or_try_init(key, charge, init)?;
         Ok(CacheHandle { held })
     }
 
@@ -225,53 +209,40 @@ impl<K: Hash + Eq + Clone + Drop, V: Drop, R: Wait, S: BuildHasher, F: Fit<K, V>
         ensures fits { IfOk result (λ h. F.fits key h.value) }
         ensures never_stale { IfErr result (λ e. e ≢ Refusal.Stale) }
     {
-        let held = self.shard(&key).get_or_init(key, charge, init)?;
+        let held = self.routes.of(&key).get_or_init(key, charge, init)?;
         Ok(CacheHandle { held })
     }
 
     /// Evicts the entry of a key, where it is idle; else nothing happens, now or later. Takes no
     /// memory.
     pub fn advice_evict(&self, key: K) {
-        self.shard(&key).advice_evict(key);
+        self.routes.of(&key).advice_evict(key);
     }
 
     /// Evicts every idle entry of each shard, one shard after another, and is no snapshot. Takes
     /// no memory.
     pub fn prune(&self) {
-        for shard in &self.shards {
-            shard.prune();
-        }
+        self.routes.prune();
     }
 
     /// Gives each shard its share of a capacity, `capacity_per_shard`, one shard after another, and
     /// is no snapshot: each settles to its share at once, as in the cache of one lock. Takes no
     /// memory.
     pub fn set_capacity(&self, capacity: u64) {
-        let share = capacity_per_shard(capacity, self.shards.len());
-        for shard in &self.shards {
-            shard.set_capacity(share);
-        }
+        self.routes.set_capacity(capacity);
     }
 
     /// The sum of the shards' capacities, which are read one after another and are no snapshot.
     /// Each share is rounded up, so the sum may be above the capacity that was given. Takes no
     /// memory.
     pub fn capacity(&self) -> u128 {
-        let mut capacity = 0;
-        for shard in &self.shards {
-            capacity += u128::from(shard.capacity());
-        }
-        capacity
+        self.routes.capacity()
     }
 
     /// The sum of the shards' totals, which are read one after another and are no snapshot. Takes
     /// no memory.
     pub fn total_charge(&self) -> u128 {
-        let mut total = 0;
-        for shard in &self.shards {
-            total += u128::from(shard.total_charge());
-        }
-        total
+        self.routes.total_charge()
     }
 }
 
@@ -284,6 +255,6 @@ impl<
     F: Fit<K, V>,
 > fmt::Debug for LruCache<K, V, R, S, F> {
     fn fmt<W: fmt::Write>(&self, f: &mut fmt::Formatter<W>) -> fmt::Result {
-        f.debug_list().entries(self.shards.iter()).finish()
+        self.routes.fmt(f)
     }
 }

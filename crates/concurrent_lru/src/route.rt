@@ -1,0 +1,120 @@
+//! The shards of a cache that threads share, and which of them serves a key.
+//! A single shard is reached by its key alone, so no call goes to another shard.
+ghost use Rattle.std.specs.Prelude.{◌≡◌, ◌<◌, ◌%◌, Some, IfErr, slice_get, vec_len};
+ghost use Rattle.concurrent_lru.specs.Keys.{CopiesAreEqual};
+ghost use Rattle.concurrent_lru.specs.Sharded.{key_number};
+
+use crate::fit::Fit;
+use crate::lru_core::Refusal;
+use crate::shards::capacity_per_shard;
+use crate::unsharded::LruCache;
+use std::alloc::Global;
+use std::fmt;
+use std::hash::{BuildHasher, Hash};
+use std::sync::Wait;
+
+/// Caches of one lock side by side, each for the keys that a hasher routes to it.
+#[derive(Drop)]
+pub struct Routes<K: Hash + Eq + Clone, V, R: Wait, S, F: Fit<K, V>> {
+    shards: Vec<LruCache<K, V, R, F>>,
+    hasher: S,
+    ghost some: { 0 < vec_len shards },
+}
+
+impl<
+    K: Hash + Eq + Clone + Drop,
+    V: Drop,
+    R: Wait + Clone,
+    S: BuildHasher + Drop,
+    F: Fit<K, V>,
+> Routes<K, V, R, S, F> {
+    /// So many empty caches, each with its share of the capacity.
+    ///
+    /// `Memory` where there is no room for them, or a copy of the right to wait is refused.
+    pub fn new(
+        alloc: Global,
+        rt: R,
+        capacity: u64,
+        shards: usize,
+        hasher: S,
+    ) -> Result<Self, Refusal>
+        requires some { 0 < shards }
+        requires copies { CopiesAreEqual K.is_clone K.eq }
+        ensures err { IfErr result (λ e. e ≡ Refusal.Memory) }
+    {
+        let share = capacity_per_shard(capacity, shards);
+        let mut caches = Vec::new(alloc);
+        for _ in 0..shards {
+            let Ok(own_rt) = rt.clone() else {
+                return Err(Refusal::Memory);
+            };
+            caches.push(LruCache::marked(alloc, own_rt, share))?;
+        }
+        Ok(Routes {
+            shards: caches,
+            hasher,
+        })
+    }
+}
+
+impl<K: Hash + Eq + Clone + Drop, V: Drop, R: Wait, S: BuildHasher, F: Fit<K, V>> Routes<
+    K,
+    V,
+    R,
+    S,
+    F,
+> {
+    /// The shard that serves a key: the hasher's number of it modulo the number of shards.
+    pub fn of(&self, key: &K) -> &LruCache<K, V, R, F>
+        ensures route { slice_get self.now.shards.items (key_number S.BuildHasher S.Hasher.Hasher K.hash_input self.now.hasher key.now % vec_len self.now.shards) ≡ Some result.now }
+    {
+        let shard = self.hasher.hash_one(key) % self.shards.len() as u64;
+        &self.shards[shard as usize]
+    }
+
+    /// `prune` of each shard, one after another.
+    pub fn prune(&self) {
+        for shard in &self.shards {
+            shard.prune();
+        }
+    }
+
+    /// `set_capacity` of each shard, one after another, with its share of the capacity.
+    pub fn set_capacity(&self, capacity: u64) {
+        let share = capacity_per_shard(capacity, self.shards.len());
+        for shard in &self.shards {
+            shard.set_capacity(share);
+        }
+    }
+
+    /// The sum of the shards' capacities, read one after another.
+    pub fn capacity(&self) -> u128 {
+        let mut capacity = 0;
+        for shard in &self.shards {
+            capacity += u128::from(shard.capacity());
+        }
+        capacity
+    }
+
+    /// The sum of the shards' totals, read one after another.
+    pub fn total_charge(&self) -> u128 {
+        let mut total = 0;
+        for shard in &self.shards {
+            total += u128::from(shard.total_charge());
+        }
+        total
+    }
+}
+
+// The shards as a list, each under its lock.
+impl<
+    K: Hash + Eq + Clone + Drop + fmt::Debug,
+    V: Drop + fmt::Debug,
+    R: Wait,
+    S: BuildHasher,
+    F: Fit<K, V>,
+> fmt::Debug for Routes<K, V, R, S, F> {
+    fn fmt<W: fmt::Write>(&self, f: &mut fmt::Formatter<W>) -> fmt::Result {
+        f.debug_list().entries(self.shards.iter()).finish()
+    }
+}
