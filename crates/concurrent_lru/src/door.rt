@@ -11,7 +11,7 @@ ghost use Rattle.concurrent_lru.specs.Ready.{IsKept};
 
 use crate::fit::Fit;
 use crate::handle::CacheHandle;
-use crate::locked::{Entered, Locked, Making, Pin, Polled, Waiting};
+use crate::locked::{Advised, Entered, Locked, Making, Pin, Polled, Pruned, Resized, Waiting};
 use crate::lru_core::Refusal;
 use std::alloc::Global;
 use std::fmt;
@@ -126,24 +126,31 @@ impl<'a, K: Hash + Eq + Clone + Drop, V: Drop, R: Wait, F: Fit<K, V>> Inside<'a,
     }
 
     /// `Locked::advice_evict`. What it evicted is dropped without the lock.
-    pub fn advice_evict(self, key: &K) {
+    pub fn advice_evict(self, key: &K) -> Advised<K>
+        ensures { result ≡ key.now }
+    {
         let Self { door: _, mut guard } = self;
-        let advised = guard.advice_evict(key);
-        drop(advised.open(guard));
+        let (gone, advised) = guard.advice_evict(key);
+        drop(gone.open(guard));
+        advised
     }
 
     /// `Locked::prune`. What it evicted is dropped without the lock.
-    pub fn prune(self) {
+    pub fn prune(self) -> Pruned {
         let Self { door: _, mut guard } = self;
-        let pruned = guard.prune();
-        drop(pruned.open(guard));
+        let (idle, pruned) = guard.prune();
+        drop(idle.open(guard));
+        pruned
     }
 
     /// `Locked::set_capacity`. What it evicted is dropped without the lock.
-    pub fn set_capacity(self, capacity: u64) {
+    pub fn set_capacity(self, capacity: u64) -> Resized
+        ensures { result ≡ capacity }
+    {
         let Self { door: _, mut guard } = self;
-        let settled = guard.set_capacity(capacity);
-        drop(settled.open(guard));
+        let (front, resized) = guard.set_capacity(capacity);
+        drop(front.open(guard));
+        resized
     }
 
     /// `Locked::total`.

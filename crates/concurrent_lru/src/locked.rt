@@ -11,9 +11,11 @@ ghost use Rattle.concurrent_lru.specs.Request as ask;
 ghost use Rattle.concurrent_lru.specs.Results.{readied, failed, released, evicts};
 ghost use Rattle.concurrent_lru.specs.Runs.{Stands};
 
+mod done;
 mod pins;
 mod sealed;
 
+pub use self::done::{Advised, Pruned, Resized};
 pub use self::pins::{Entered, Making, Pin, Polled, Unread, Waiting};
 pub use self::sealed::{Sealed, Waiters};
 use crate::fit::Fit;
@@ -170,9 +172,13 @@ impl<K: Hash + Eq + Clone + Drop, V: Drop, F: Fit<K, V>> Locked<K, V, F> {
         } = making;
         let pin = Pin::of(stamp, key, Some(charge), read);
         if !self.has_key(stamp, key) {
-            return (pin, Sealed::of(Err(stored)), Waiters {});
+            return (pin, Sealed::of(Err(stored)), Waiters::new());
         }
-        (pin, Sealed::of(self.state.ready(stamp, stored)), Waiters {})
+        (
+            pin,
+            Sealed::of(self.state.ready(stamp, stored)),
+            Waiters::new(),
+        )
     }
 
     /// The core's `fail`, where the making's entry has the key. Takes no memory.
@@ -193,9 +199,9 @@ impl<K: Hash + Eq + Clone + Drop, V: Drop, F: Fit<K, V>> Locked<K, V, F> {
             charge: _,
         } = making;
         if !self.has_key(stamp, key) {
-            return (Sealed::of(Err(Refusal::Stale)), Waiters {});
+            return (Sealed::of(Err(Refusal::Stale)), Waiters::new());
         }
-        (Sealed::of(self.state.fail(stamp)), Waiters {})
+        (Sealed::of(self.state.fail(stamp)), Waiters::new())
     }
 
     /// The core's `release`. Takes no memory. The pin's Arc of the value is sealed before what the
@@ -227,24 +233,29 @@ impl<K: Hash + Eq + Clone + Drop, V: Drop, F: Fit<K, V>> Locked<K, V, F> {
     }
 
     /// The core's `advice_evict`. Takes no memory.
-    pub fn advice_evict(&mut self, key: &K) -> Sealed<Evicted<K, V>>
-        ensures step { Stands K.eq self.old (ask.advice_evict key.now) (evicts result) self.new }
+    pub fn advice_evict(&mut self, key: &K) -> (Sealed<Evicted<K, V>>, Advised<K>)
+        ensures step { Stands K.eq self.old (ask.advice_evict key.now) (evicts result.0) self.new }
+        ensures done { result.1 ≡ key.now }
     {
-        Sealed::of(self.state.advice_evict(key))
+        (Sealed::of(self.state.advice_evict(key)), Advised::of(key))
     }
 
     /// The core's `prune`. Takes no memory.
-    pub fn prune(&mut self) -> Sealed<Evicted<K, V>>
-        ensures step { Stands K.eq self.old ask.prune (evicts result) self.new }
+    pub fn prune(&mut self) -> (Sealed<Evicted<K, V>>, Pruned)
+        ensures step { Stands K.eq self.old ask.prune (evicts result.0) self.new }
     {
-        Sealed::of(self.state.prune())
+        (Sealed::of(self.state.prune()), Pruned::new())
     }
 
     /// The core's `set_capacity`. Takes no memory.
-    pub fn set_capacity(&mut self, capacity: u64) -> Sealed<Evicted<K, V>>
-        ensures step { Stands K.eq self.old (ask.set_capacity capacity) (evicts result) self.new }
+    pub fn set_capacity(&mut self, capacity: u64) -> (Sealed<Evicted<K, V>>, Resized)
+        ensures step { Stands K.eq self.old (ask.set_capacity capacity) (evicts result.0) self.new }
+        ensures done { result.1 ≡ capacity }
     {
-        Sealed::of(self.state.set_capacity(capacity))
+        (
+            Sealed::of(self.state.set_capacity(capacity)),
+            Resized::of(capacity),
+        )
     }
 
     /// The sum of the charges of all entries, those still being made included.

@@ -5,6 +5,7 @@ ghost use Rattle.concurrent_lru.specs.Keys.{CopiesAreEqual};
 ghost use Rattle.concurrent_lru.specs.Sharded.{key_number};
 
 use crate::fit::Fit;
+use crate::locked::{Pruned, Resized};
 use crate::lru_core::Refusal;
 use crate::shards::capacity_per_shard;
 use crate::unsharded::LruCache;
@@ -75,7 +76,7 @@ impl<K: Hash + Eq + Clone + Drop, V: Drop, R: Wait, S: BuildHasher, F: Fit<K, V>
     /// `prune` of each shard, one after another.
     pub fn prune(&self) {
         for shard in &self.shards {
-            shard.prune();
+            let _: Pruned = shard.pruned();
         }
     }
 
@@ -83,7 +84,7 @@ impl<K: Hash + Eq + Clone + Drop, V: Drop, R: Wait, S: BuildHasher, F: Fit<K, V>
     pub fn set_capacity(&self, capacity: u64) {
         let share = capacity_per_shard(capacity, self.shards.len());
         for shard in &self.shards {
-            shard.set_capacity(share);
+            let _: Resized = shard.resized(share);
         }
     }
 

@@ -6,6 +6,7 @@ ghost use Rattle.concurrent_lru.specs.Keys.{CopiesAreEqual};
 ghost use Rattle.concurrent_lru.specs.Turns.{IfInit};
 
 use crate::fit::{Anything, Fit};
+use crate::locked::Advised;
 use crate::lru_core::Refusal;
 use crate::route::Routes;
 pub use crate::shards::{ShardStep, Shards, capacity_per_shard};
@@ -216,7 +217,7 @@ impl<K: Hash + Eq + Clone + Drop, V: Drop, R: Wait, S: BuildHasher, F: Fit<K, V>
     /// Evicts the entry of a key, where it is idle; else nothing happens, now or later. Takes no
     /// memory.
     pub fn advice_evict(&self, key: K) {
-        self.routes.of(&key).advice_evict(key);
+        let _: Advised<K> = self.routes.of(&key).advised(&key);
     }
 
     /// Evicts every idle entry of each shard, one shard after another, and is no snapshot. Takes

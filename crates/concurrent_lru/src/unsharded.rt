@@ -10,6 +10,7 @@ use crate::door::{Door, Maker, Met};
 use crate::fit::{Anything, Fit};
 pub use crate::get_error::GetError;
 pub use crate::handle::CacheHandle;
+use crate::locked::{Advised, Pruned, Resized};
 use crate::lru_core::Refusal;
 use std::alloc::Global;
 use std::fmt;
@@ -138,18 +139,18 @@ impl<K: Hash + Eq + Clone + Drop, V: Drop, R: Wait, F: Fit<K, V>> LruCache<K, V,
     /// Evicts the entry of a key, where it is idle; else nothing happens, now or later. Takes no
     /// memory.
     pub fn advice_evict(&self, key: K) {
-        self.door.enter().advice_evict(&key);
+        let _: Advised<K> = self.advised(&key);
     }
 
     /// Evicts every idle entry, oldest first. Takes no memory.
     pub fn prune(&self) {
-        self.door.enter().prune();
+        let _: Pruned = self.pruned();
     }
 
     /// Sets the capacity, and the cache settles to it at once: idle entries are evicted, oldest
     /// first, while the total is above it. Takes no memory.
     pub fn set_capacity(&self, capacity: u64) {
-        self.door.enter().set_capacity(capacity);
+        let _: Resized = self.resized(capacity);
     }
 
     /// The greatest total of charges that idle entries are kept for. Takes no memory.
@@ -160,6 +161,23 @@ impl<K: Hash + Eq + Clone + Drop, V: Drop, R: Wait, F: Fit<K, V>> LruCache<K, V,
     /// The sum of the charges of all entries, those still being made included. Takes no memory.
     pub fn total_charge(&self) -> u64 {
         self.door.enter().total()
+    }
+
+    // The calls above, each with what was asked under the lock.
+    pub(crate) fn advised(&self, key: &K) -> Advised<K>
+        ensures { result ≡ key.now }
+    {
+        self.door.enter().advice_evict(key)
+    }
+
+    pub(crate) fn pruned(&self) -> Pruned {
+        self.door.enter().prune()
+    }
+
+    pub(crate) fn resized(&self, capacity: u64) -> Resized
+        ensures { result ≡ capacity }
+    {
+        self.door.enter().set_capacity(capacity)
     }
 
     // Begins, and waits while another caller makes the value. A waiter whose pin turns out to be

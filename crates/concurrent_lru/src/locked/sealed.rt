@@ -38,12 +38,17 @@ impl<T> Sealed<T> {
 }
 
 /// A debt: callers may wait for what was just done. `wake` takes it.
-pub struct Waiters {}
+pub struct Waiters(());
 
 impl Waiters {
+    // Those that wait for what a call did, if any.
+    pub(super) fn new() -> Self {
+        Waiters(())
+    }
+
     /// Wakes all that wait.
     pub fn wake(self, woken: &Condvar) {
-        let Self {} = self;
+        let Self(()) = self;
         woken.notify_all();
     }
 }

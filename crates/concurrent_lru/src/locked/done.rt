@@ -1,0 +1,62 @@
+//! What was asked under the lock, and done: each is made by the one call of its name, so that no
+//! other call can stand in its place. They have no bytes.
+ghost use Rattle.std.specs.Prelude.{◌≡◌};
+
+use std::marker::Model;
+use std::snapshot::Snapshot;
+
+/// `advice_evict` was called. Clauses see the key.
+#[derive(Drop)]
+pub struct Advised<K> {
+    asked: Snapshot<K>,
+}
+
+impl<K> Model for Advised<K> {
+    ghost Value = { K };
+
+    ghost view = { λ a. a.asked.value };
+}
+
+impl<K> Advised<K> {
+    pub(super) fn of(key: &K) -> Self
+        ensures { result ≡ key.now }
+    {
+        Advised {
+            asked: Snapshot::of(key),
+        }
+    }
+}
+
+/// `prune` was called.
+#[derive(Drop)]
+pub struct Pruned(());
+
+impl Pruned {
+    pub(super) fn new() -> Self {
+        Pruned(())
+    }
+}
+
+/// `set_capacity` was called. Clauses see the capacity.
+#[derive(Drop)]
+pub struct Resized {
+    asked: Snapshot<u64>,
+}
+
+impl Model for Resized {
+    ghost use Rattle.std.specs.Prelude.{ℕ};
+
+    ghost Value = { ℕ };
+
+    ghost view = { λ r. r.asked.value };
+}
+
+impl Resized {
+    pub(super) fn of(capacity: u64) -> Self
+        ensures { result ≡ capacity }
+    {
+        Resized {
+            asked: Snapshot::of(&capacity),
+        }
+    }
+}
