@@ -1,5 +1,4 @@
 -- The twin may be shared between threads: what a caller that sends a `&` to it needs.
-use denote.Hole.FixSend.{fix_send, Sends}
 use denote.Param.Send.{IsSend, IsSync, sendable, view_send}
 use denote.Param.SendFields.{declared_send, declared_sync, as_row_sync}
 use denote.RattleType.{RattleType}
@@ -13,10 +12,8 @@ use Rattle.std.proofs.alloc.Global.TheSendSync as global_sent
 use Rattle.std.proofs.sync.Mutex.TheSendSync as mutex_sent
 use Rattle.atomic_table.proofs.shared.Seat.TheSendSync as seat_sent
 use Rattle.crossbeam_utils.proofs.atomic.seq_cell.Wide.TheSendSync as wide_sent
-use Rattle.concurrent_lru.specs.contracts.list.Node as node
-use Rattle.concurrent_lru.specs.contracts.list.Nodes.TheInside as nodes
 use Rattle.concurrent_lru.specs.contracts.lru_core.State.TheInside as state
-use Rattle.concurrent_lru.proofs.list.Phase.TheSendSync as phase_sent
+use Rattle.concurrent_lru.proofs.Sent.{state_send}
 use Rattle.lru_journal.specs.declared.tally.Identity as identity
 use Rattle.lru_journal.specs.contracts.desk.Desk as desk
 use Rattle.lru_journal.specs.contracts.desk.Desk.TheInside as desk_fields
@@ -26,28 +23,14 @@ use Rattle.lru_journal.specs.contracts.twin.LruCache as twin
 use Rattle.lru_journal.proofs.record.Record.TheSendSync as record_sent
 
 module _ (K V : RattleType) (key : IsSend K) (value : IsSend V) (shared : IsSync V) where
-  -- What stands for a node where its type names itself is Send, as its layer is over any such.
-  hole_send : IsSend (node.the_hole K V)
-  hole_send = fix_send (node.the_ring K V)
-      (node.by_members K V (Sends (node.the_ring K V)) record { send = λ h all. declared_send (node.the_layer K V h) (search (sendable, crosses, phase_sent.the_send, all) depth 12) })
-      (node.the_member K V)
-
-  -- A node is Send.
-  node_send : IsSend (node.the_row K V)
-  node_send = declared_send (node.the_type K V) (search (sendable, crosses, phase_sent.the_send, hole_send) depth 12)
-
-  -- The nodes of a cache are Send.
-  nodes_send : IsSend (nodes.the_row K V)
-  nodes_send = declared_send (nodes.the_type K V) (search (sendable, crosses, node_send) depth 12)
-
   module _ (h : hash.Ghosts K.Denot) (e : partial_eq.Ghosts K.Denot) (c : clone.Ghosts K.Denot) where
-    -- The cache for one owner is Send.
-    state_send : IsSend (state.the_row K V h e c)
-    state_send = declared_send (state.the_type K V h e c) (search (sendable, crosses, global_sent.the_send, nodes_send) depth 12)
+    -- What a journal keeps its records of is Send.
+    cache_send : IsSend (state.the_row K V h e c)
+    cache_send = state_send K V key value shared h e c
 
     -- The journal is Send.
     journal_send : IsSend (journal.the_row K V h e c)
-    journal_send = declared_send (journal.the_type K V h e c) (search (sendable, crosses, record_sent.the_send, state_send) depth 12)
+    journal_send = declared_send (journal.the_type K V h e c) (search (sendable, crosses, record_sent.the_send, cache_send) depth 12)
 
     module _ (I : RattleType) (i : identity.Ghosts I.Denot) (named : IsSend I) where
       -- What lies under the twin's lock is Send.
