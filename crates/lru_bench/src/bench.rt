@@ -1,0 +1,127 @@
+//! A plan run from its first workload to its last, one after another.
+
+use crate::failure::Failure;
+use crate::keys::Keys;
+use crate::plan::Plan;
+use crate::report::{Report, Work};
+use crate::stress::stress;
+use crate::uses::{fill, hit_get, hit_init, miss_evict};
+use concurrent_lru::{sharded, unsharded};
+use std::alloc::Global;
+use std::hash::RandomState;
+use std::io::Write;
+use std::num::NonZeroU64;
+use std::random::RandomSource;
+use std::rt::Clock;
+use std::sync::Wait;
+use std::thread::Threads;
+
+const ON_ONE_LOCK: &str = "port-unsharded";
+
+const IN_SHARDS: &str = "port-sharded";
+
+// The capacity of the stress workload on one lock, and in shards.
+const LOCK_CAPACITY: u64 = 100;
+
+const SHARDS_CAPACITY: u64 = 128;
+
+/// Runs a plan and writes a line for each workload. What was written before a failure stays
+/// written.
+pub fn run<R: Threads + Wait + Clock + RandomSource + Sync, O: Write>(
+    rt: &R,
+    alloc: Global,
+    plan: &Plan,
+    out: &mut O,
+) -> Result<(), Failure> {
+    let mut report = Report::new(rt, out, plan.shown);
+    for entries in &plan.entries {
+        use_alone(rt, alloc, *entries, plan.operations, &mut report)?;
+    }
+    for threads in [1, 2, 4, 8] {
+        stress_lock(rt, alloc, threads, plan.calls, &mut report)?;
+        stress_shards(rt, alloc, threads, plan.calls, &mut report)?;
+    }
+    Ok(())
+}
+
+// The three workloads of one thread, on one cache that is full from the start.
+fn use_alone<R: Wait + Clock, O: Write>(
+    rt: &R,
+    alloc: Global,
+    entries: NonZeroU64,
+    operations: u32,
+    report: &mut Report<'_, R, O>,
+) -> Result<(), Failure> {
+    let cache: unsharded::LruCache<u64, u64, &R> = unsharded::LruCache::new(
+        alloc,
+        rt,
+        entries.get(),
+    );
+    fill(&cache, entries.get())?;
+    let mut keys = Keys::of(entries);
+    let work = |name| Work {
+        system: ON_ONE_LOCK,
+        name,
+        entries: entries.get(),
+        threads: 1,
+        operations,
+    };
+    let begin = report.start()?;
+    let sum = hit_get(&cache, &mut keys, operations)?;
+    report.end(&work("hit_get"), begin, sum)?;
+    let begin = report.start()?;
+    let sum = hit_init(&cache, &mut keys, operations)?;
+    report.end(&work("hit_init"), begin, sum)?;
+    let begin = report.start()?;
+    let sum = miss_evict(&cache, operations)?;
+    report.end(&work("miss_evict"), begin, sum)
+}
+
+fn stress_lock<R: Threads + Wait + Clock + Sync, O: Write>(
+    rt: &R,
+    alloc: Global,
+    threads: u32,
+    calls: u32,
+    report: &mut Report<'_, R, O>,
+) -> Result<(), Failure> {
+    let cache: unsharded::LruCache<u64, u64, &R> = unsharded::LruCache::new(
+        alloc,
+        rt,
+        LOCK_CAPACITY,
+    );
+    let begin = report.start()?;
+    let sum = stress(rt, &cache, threads, calls)?;
+    let work = Work {
+        system: ON_ONE_LOCK,
+        name: "stress",
+        entries: LOCK_CAPACITY,
+        threads,
+        operations: calls,
+    };
+    report.end(&work, begin, sum)
+}
+
+fn stress_shards<R: Threads + Wait + Clock + RandomSource + Sync, O: Write>(
+    rt: &R,
+    alloc: Global,
+    threads: u32,
+    calls: u32,
+    report: &mut Report<'_, R, O>,
+) -> Result<(), Failure> {
+    let cache: sharded::LruCache<u64, u64, &R> = sharded::LruCache::new(
+        alloc,
+        rt,
+        SHARDS_CAPACITY,
+        RandomState::new(rt)?,
+    )?;
+    let begin = report.start()?;
+    let sum = stress(rt, &cache, threads, calls)?;
+    let work = Work {
+        system: IN_SHARDS,
+        name: "stress",
+        entries: SHARDS_CAPACITY,
+        threads,
+        operations: calls,
+    };
+    report.end(&work, begin, sum)
+}

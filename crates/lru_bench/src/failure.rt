@@ -1,0 +1,58 @@
+//! Why the program ends early.
+//! Each failure has its line on standard error, and its status.
+
+use concurrent_lru::lru_core::Refusal;
+use std::alloc::{AllocError, AllocFailed};
+use std::io;
+use std::io::Write;
+
+/// Why the program does not end with status 0.
+#[derive(Clone, Copy, Debug, PartialEq, Eq)]
+pub enum Failure {
+    /// The words are none that the program knows.
+    Usage,
+    /// A call of the cache was refused; a growth of the program's own counts as one too.
+    Refused(Refusal),
+    /// A write failed, or the clock or the system's random numbers did.
+    System,
+}
+
+impl Failure {
+    /// Tells the failure on `err`, in one line, and answers the status to end with: 2 for the
+    /// wrong words, else 1.
+    pub fn report<E: Write>(self, err: &mut E) -> u8 {
+        let told = match self {
+            Failure::Usage => writeln!(err, "usage: check | time [ENTRIES ..]"),
+            Failure::Refused(refusal) => writeln!(err, "refused {}", refusal.code()),
+            Failure::System => writeln!(err, "a write, the clock or random numbers failed"),
+        };
+        match (self, told) {
+            (Failure::Usage, Ok(())) => 2,
+            _ => 1,
+        }
+    }
+}
+
+impl From<Refusal> for Failure {
+    fn from(refusal: Refusal) -> Failure {
+        Failure::Refused(refusal)
+    }
+}
+
+impl From<AllocError> for Failure {
+    fn from(error: AllocError) -> Failure {
+        Failure::Refused(Refusal::from(error))
+    }
+}
+
+impl<T: Drop> From<AllocFailed<T>> for Failure {
+    fn from(_: AllocFailed<T>) -> Failure {
+        Failure::Refused(Refusal::Memory)
+    }
+}
+
+impl From<io::Error> for Failure {
+    fn from(_: io::Error) -> Failure {
+        Failure::System
+    }
+}

@@ -1,0 +1,107 @@
+//! How much of each workload is run, and what is shown of it.
+
+use crate::failure::Failure;
+use std::alloc::{AllocError, Global};
+use std::num::NonZeroU64;
+
+/// What a line ends with.
+#[derive(Clone, Copy, Debug, PartialEq, Eq)]
+pub enum Shown {
+    /// The sum of the values that were read, which no schedule changes.
+    Sum,
+    /// The nanoseconds that an operation took.
+    Time,
+}
+
+/// The sizes of the workloads.
+#[derive(Drop)]
+pub struct Plan {
+    /// How many entries the cache of one thread has, run after run.
+    pub entries: Vec<NonZeroU64>,
+    /// How many operations a workload of one thread is.
+    pub operations: u32,
+    /// How many calls a worker of the stress workload makes.
+    pub calls: u32,
+    /// What is shown.
+    pub shown: Shown,
+}
+
+impl Plan {
+    /// Small workloads, whose sums are shown.
+    pub fn check(alloc: Global) -> Result<Plan, Failure> {
+        Ok(Plan {
+            entries: sizes(alloc, &[8, 100])?,
+            operations: 1_000,
+            calls: 500,
+            shown: Shown::Sum,
+        })
+    }
+
+    /// Workloads that are long enough to be timed, on caches of so many entries, or of 1,000 and
+    /// of 1,000,000 where no word says how many.
+    ///
+    /// `Usage` at a word that is no number above 0.
+    pub fn time(alloc: Global, words: &[String]) -> Result<Plan, Failure> {
+        let mut entries = parsed(alloc, words)?;
+        if words.is_empty() {
+            entries = sizes(alloc, &[1_000, 1_000_000])?;
+        }
+        Ok(Plan {
+            entries,
+            operations: 1_000_000,
+            calls: 500_000,
+            shown: Shown::Time,
+        })
+    }
+}
+
+// Those of the numbers that are above 0.
+fn sizes(alloc: Global, numbers: &[u64]) -> Result<Vec<NonZeroU64>, AllocError> {
+    numbers
+        .iter()
+        .filter_map(|number| NonZeroU64::new(*number))
+        .collect(alloc)
+}
+
+// The numbers that the words are.
+fn parsed(alloc: Global, words: &[String]) -> Result<Vec<NonZeroU64>, Failure> {
+    let mut entries = Vec::new(alloc);
+    for word in words {
+        let Ok(number) = word.as_str().parse::<u64>() else {
+            return Err(Failure::Usage);
+        };
+        let Some(number) = NonZeroU64::new(number) else {
+            return Err(Failure::Usage);
+        };
+        entries.push(number)?;
+    }
+    Ok(entries)
+}
+
+#[cfg(test)]
+mod tests {
+    use super::*;
+
+    // The numbers of entries that `time` takes from its words.
+    fn entries(alloc: Global, words: &[&str]) -> Result<Vec<u64>, Failure> {
+        let words: Vec<String> = words
+            .iter()
+            .map(|word| String::from_str(alloc, *word))
+            .try_collect(alloc)?;
+        let plan = Plan::time(alloc, &words)?;
+        Ok(plan.entries.iter().map(|size| size.get()).collect(alloc)?)
+    }
+
+    #[test]
+    fn times_the_sizes_it_is_told(rt: HostRuntime) -> Result<(), Failure> {
+        let alloc = rt.alloc();
+        assert_eq!(rt;
+            entries(alloc, &[])?.as_slice(),
+            [1_000, 1_000_000].as_slice()
+        );
+        assert_eq!(rt; entries(alloc, &["8", "3"])?.as_slice(), [8, 3].as_slice());
+        assert_eq!(rt; entries(alloc, &["8", "0"]).err(), Some(Failure::Usage));
+        assert_eq!(rt; entries(alloc, &["-1"]).err(), Some(Failure::Usage));
+        Ok(())
+    }
+}

@@ -1,0 +1,55 @@
+//! The stress workload: workers that share a cache, each with calls of its own.
+
+use crate::calls::Calls;
+use crate::shared::Shared;
+use concurrent_lru::lru_core::Refusal;
+use std::sync::Wait;
+use std::sync::atomic::{AtomicU64, Ordering};
+use std::thread;
+use std::thread::Threads;
+
+/// Makes `calls` calls in each of some threads, and answers the sum of what was read by the calls
+/// whose making would not fail. It is the same on every schedule.
+///
+/// `Memory` where a thread could not be started, or a call was refused.
+pub fn stress<R: Threads + Wait + Sync, C: Shared + Sync>(
+    rt: &R,
+    cache: &C,
+    threads: u32,
+    calls: u32,
+) -> Result<u64, Refusal> {
+    let (sum, ended) = (AtomicU64::new(0), AtomicU64::new(0));
+    let (all, done) = (&sum, &ended);
+    thread::scope(thread::scope_env(), rt, |scope| {
+        for worker in 0..threads {
+            let _started = scope.spawn(move || {
+                if let Ok(read) = work(cache, worker, calls) {
+                    all.fetch_add(read, Ordering::SeqCst);
+                    done.fetch_add(1, Ordering::SeqCst);
+                }
+            });
+        }
+    });
+    if ended.load(Ordering::SeqCst) == u64::from(threads) {
+        Ok(sum.load(Ordering::SeqCst))
+    } else {
+        Err(Refusal::Memory)
+    }
+}
+
+// One worker's calls, and the sum of what it read. Where a making would fail, whether a value is
+// read depends on the others, so it is not counted.
+fn work<C: Shared>(cache: &C, worker: u32, calls: u32) -> Result<u64, Refusal> {
+    let mut drawn = Calls::of_worker(worker);
+    let mut sum: u64 = 0;
+    for _ in 0..calls {
+        let call = drawn.draw();
+        let read = cache.fetch(&call)?;
+        if let Some(value) = read
+            && !call.fails
+        {
+            sum = sum.wrapping_add(value);
+        }
+    }
+    Ok(sum)
+}

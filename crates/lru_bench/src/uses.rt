@@ -1,0 +1,58 @@
+//! The workloads of one thread, on a full cache on one lock. Each handle is dropped at once.
+
+use crate::keys::Keys;
+use concurrent_lru::lru_core::Refusal;
+use concurrent_lru::unsharded::LruCache;
+use std::sync::Wait;
+
+// The first key that `fill` never makes.
+const FIRST_ABSENT: u64 = 10_000_000;
+
+/// Makes the keys from 0 up to `entries`, at charge 1, each with itself as its value.
+pub fn fill<R: Wait>(cache: &LruCache<u64, u64, R>, entries: u64) -> Result<(), Refusal> {
+    for key in 0..entries {
+        drop(cache.get_or_init(key, 1, |key| *key)?);
+    }
+    Ok(())
+}
+
+/// Looks present keys up by `get`, and answers the sum of their values.
+pub fn hit_get<R: Wait>(
+    cache: &LruCache<u64, u64, R>,
+    keys: &mut Keys,
+    operations: u32,
+) -> Result<u64, Refusal> {
+    let mut sum: u64 = 0;
+    for _ in 0..operations {
+        if let Some(handle) = cache.get(keys.draw())? {
+            sum = sum.wrapping_add(*handle.value());
+        }
+    }
+    Ok(sum)
+}
+
+/// Asks for present keys by `get_or_init`, and answers the sum of their values. One that had to
+/// be made would count as 0.
+pub fn hit_init<R: Wait>(
+    cache: &LruCache<u64, u64, R>,
+    keys: &mut Keys,
+    operations: u32,
+) -> Result<u64, Refusal> {
+    let mut sum: u64 = 0;
+    for _ in 0..operations {
+        let handle = cache.get_or_init(keys.draw(), 1, |_| 0)?;
+        sum = sum.wrapping_add(*handle.value());
+    }
+    Ok(sum)
+}
+
+/// Makes absent keys, for each of which an idle one is evicted, and answers the sum of their
+/// values.
+pub fn miss_evict<R: Wait>(cache: &LruCache<u64, u64, R>, operations: u32) -> Result<u64, Refusal> {
+    let mut sum: u64 = 0;
+    for number in 0..operations {
+        let handle = cache.get_or_init(FIRST_ABSENT + u64::from(number), 1, |key| *key)?;
+        sum = sum.wrapping_add(*handle.value());
+    }
+    Ok(sum)
+}
