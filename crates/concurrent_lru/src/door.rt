@@ -1,5 +1,5 @@
-//! The lock of a cache, and the callers that wait at it. Each call gets the lock once and lets it go:
-//! what the call took out is then dropped, and whoever waits for what it did was woken.
+//! The lock of a cache, and the callers that wait at it. A call gets the lock once and lets it go;
+//! what it took out is dropped after that, and whoever waits for what it did is woken.
 ghost use Rattle.std.specs.Prelude.{◌≡◌, ◌≢◌, ◌<◌, [], Some, None, IfOk, IfErr, IfSome};
 ghost use Rattle.std.specs.Arc.{arc_value};
 ghost use Rattle.std.specs.Sync.Mutex.{mutex_guard_value};
@@ -196,8 +196,8 @@ impl<'a, K: Hash + Eq + Clone + Drop, V: Drop, R: Wait, F: Fit<K, V>> Maker<'a, 
 }
 
 impl<'a, K: Hash + Eq + Clone + Drop, V: Drop, R: Wait, F: Fit<K, V>> Asleep<'a, K, V, R, F> {
-    /// Waits to be woken, and then `Locked::poll`. None where the pin's entry is not the key's: then
-    /// there is no pin.
+    /// Waits to be woken, and then `Locked::poll`. None where there is no pin, since the entry of
+    /// its stamp is not the key's.
     ///
     /// `Memory` where the value is there and its copy is refused: then the pin is given back.
     pub fn wait(self, key: &K) -> Result<Option<Met<'a, K, V, R, F>>, Refusal>

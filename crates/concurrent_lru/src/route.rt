@@ -1,6 +1,6 @@
 //! The shards of a cache that threads share, and which of them serves a key.
 //! A single shard is reached by its key alone, so no call goes to another shard.
-ghost use Rattle.std.specs.Prelude.{◌≡◌, ◌<◌, ◌%◌, Some, IfErr, slice_get, vec_len};
+ghost use Rattle.std.specs.Prelude.{◌≡◌, ◌<◌, ◌+◌, ◌-◌, ◌/◌, ◌%◌, Some, IfErr, slice_get, vec_len};
 ghost use Rattle.concurrent_lru.specs.Keys.{CopiesAreEqual};
 ghost use Rattle.concurrent_lru.specs.Sharded.{key_number};
 
@@ -82,10 +82,16 @@ impl<K: Hash + Eq + Clone + Drop, V: Drop, R: Wait, S: BuildHasher, F: Fit<K, V>
 
     /// `set_capacity` of each shard, one after another, with its share of the capacity.
     pub fn set_capacity(&self, capacity: u64) {
-        let share = capacity_per_shard(capacity, self.shards.len());
         for shard in &self.shards {
-            let _: Resized = shard.resized(share);
+            let _: Resized = self.resized(shard, capacity);
         }
+    }
+
+    // Gives a shard its share of a capacity.
+    fn resized(&self, shard: &LruCache<K, V, R, F>, capacity: u64) -> Resized
+        ensures { result ≡ (capacity + vec_len self.now.shards - 1) / vec_len self.now.shards }
+    {
+        shard.resized(capacity_per_shard(capacity, self.shards.len()))
     }
 
     /// The sum of the shards' capacities, read one after another.

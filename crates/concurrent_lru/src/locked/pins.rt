@@ -34,8 +34,8 @@ impl<K> Making<K> {
     }
 }
 
-/// A debt: a pin in an entry whose value another caller makes. `poll` takes it, and no release, since
-/// such a pin can't be released. It knows the key and the charge that were asked.
+/// A debt: a pin in an entry whose value another caller makes. `poll` takes it; a release would not,
+/// since there is no value yet. It knows the key and the charge that were asked.
 pub struct Waiting<K> {
     pub(super) stamp: u64,
     pub(super) asked: Snapshot<K>,
