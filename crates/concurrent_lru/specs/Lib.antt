@@ -5,7 +5,10 @@ pub mod Reply
 pub mod Steps
 pub mod Runs
 pub mod NodeTable
-pub mod Boxes
+pub mod Order
+pub mod Slots
+pub mod Relinks
+pub mod SlotTable
 pub mod Representation
 pub mod Entries
 pub mod Indexes

@@ -1,0 +1,33 @@
+//! A count of the writes of the idle order, which takes no bytes: contracts alone see it.
+ghost use Rattle.std.specs.Prelude.{◌≡◌, ◌+◌, ℕ};
+ghost use base.Fml.{ftrue};
+
+use std::marker::{Model, PhantomData};
+
+// How often `tick` was called.
+#[derive(Drop)]
+pub struct Work {
+    mark: PhantomData<()>,
+    pub ghost count: { ℕ },
+}
+
+// It has nothing that threads could share.
+unsafe impl Send for Work {}
+
+unsafe impl Sync for Work {}
+
+impl Model for Work {
+    ghost also_owns = { λ _. ftrue };
+}
+
+impl Work {
+    pub(crate) fn new() -> Work
+        ensures { result.count ≡ 0 }
+    {
+        Work { mark: PhantomData }
+    }
+
+    pub(crate) fn tick(&mut self)
+        ensures { self.new.count ≡ self.old.count + 1 }
+    {}
+}
