@@ -1,6 +1,6 @@
 -- The cache for one owner may be sent between threads, where its keys and values may.
 use denote.Hole.FixSend.{fix_send, Sends}
-use denote.Param.Send.{IsSend, IsSync, sendable}
+use denote.Param.Send.{IsSend, IsSync, owning_send, sendable, view_send}
 use denote.Param.SendFields.{declared_send}
 use denote.RattleType.{RattleType}
 use Rattle.std.specs.declared.hash.Hash as hash
@@ -9,11 +9,22 @@ use Rattle.std.specs.declared.clone.Clone as clone
 use Rattle.std.proofs.Crossing.{crosses}
 use Rattle.std.proofs.MapsCrossing.{HashMap-send}
 use Rattle.std.proofs.alloc.Global.TheSendSync as global_sent
+use Rattle.std.specs.contracts.alloc.Global as global
+use Rattle.std.specs.contracts.impls.GlobalAllocator.TheImpl as allocator
+use Rattle.slab.specs.contracts.Slab as slots
+use Rattle.slab.specs.contracts.Slab.TheInside as slots_inside
 use Rattle.concurrent_lru.specs.contracts.list.Node as node
 use Rattle.concurrent_lru.specs.contracts.list.Nodes.TheInside as nodes
-use Rattle.concurrent_lru.specs.contracts.lru_core.State.TheInside as state
+use Rattle.concurrent_lru.specs.contracts.list.Slot as slot
+use Rattle.concurrent_lru.specs.contracts.lru_core.State as state
+use Rattle.concurrent_lru.specs.contracts.lru_core.State.TheInside as state_inside
 use Rattle.concurrent_lru.specs.contracts.table.Table.TheInside as table
+use Rattle.concurrent_lru.specs.contracts.work.Work as work
 use Rattle.concurrent_lru.proofs.list.Phase.TheSendSync as phase_sent
+
+-- The count of the writes of an order owns nothing, so it is Send.
+work_send : IsSend work.the_row
+work_send = owning_send work.the_type (search sendable, tt) (λ d. tt) (λ k x w. tt)
 
 module _ (K V : RattleType) (key : IsSend K) (value : IsSend V) (shared : IsSync V) where
   -- What stands for a node where its type names itself is Send, as its layer is over any such.
@@ -26,9 +37,18 @@ module _ (K V : RattleType) (key : IsSend K) (value : IsSend V) (shared : IsSync
   node_send : IsSend (node.the_row K V)
   node_send = declared_send (node.the_type K V) (search (sendable, crosses, phase_sent.the_send, hole_send) depth 12)
 
+  -- A slot of the nodes is Send.
+  slot_send : IsSend (slot.the_row K V)
+  slot_send = declared_send (slot.the_type K V) (search (sendable, crosses, node_send) depth 12)
+
+  -- The slots of a cache are Send.
+  slots_send : IsSend (slots.the_row (slot.the_row K V) global.the_row allocator.ghosts)
+  slots_send = view_send (slots_inside.the_row (slot.the_row K V) global.the_row allocator.ghosts) _ _ _ _
+      (declared_send (slots_inside.the_type (slot.the_row K V) global.the_row allocator.ghosts) (search (sendable, crosses, slot_send) depth 12))
+
   -- The nodes of a cache are Send.
   nodes_send : IsSend (nodes.the_row K V)
-  nodes_send = declared_send (nodes.the_type K V) (search (sendable, crosses, node_send) depth 12)
+  nodes_send = declared_send (nodes.the_type K V) (search (sendable, crosses, slots_send, work_send) depth 12)
 
   module _ (h : hash.Ghosts K.Denot) (e : partial_eq.Ghosts K.Denot) (c : clone.Ghosts K.Denot) where
     -- The entries of a cache are Send.
@@ -37,4 +57,5 @@ module _ (K V : RattleType) (key : IsSend K) (value : IsSend V) (shared : IsSync
 
     -- The cache for one owner is Send.
     pub state_send : IsSend (state.the_row K V h e c)
-    state_send = declared_send (state.the_type K V h e c) (search (sendable, crosses, global_sent.the_send, table_send) depth 12)
+    state_send = view_send (state_inside.the_row K V h e c) _ _ _ _
+        (declared_send (state_inside.the_type K V h e c) (search (sendable, crosses, global_sent.the_send, table_send) depth 12))
