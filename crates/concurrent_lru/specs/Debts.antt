@@ -1,6 +1,7 @@
 -- What the calls under the lock answer: each as an outcome of the abstract cache, and what its debts were asked with.
 use Rattle.std.specs.Prelude.{◌≡◌, ℕ, [], Option, Some, None, Result, Ok, Err, ⊤}
-use Rattle.concurrent_lru.specs.Pins.{PinOf, made_at, made_key, made_charge, awaited_at, awaited_key, awaited_charge}
+use Rattle.concurrent_lru.specs.Cache.{Cache}
+use Rattle.concurrent_lru.specs.Pins.{PinOf, made_at, made_key, made_charge, awaited_at, awaited_key, awaited_charge, left_by}
 use Rattle.concurrent_lru.specs.Reply as say
 use Rattle.concurrent_lru.specs.Runs.{Outcome, accepted, refused}
 use Rattle.concurrent_lru.specs.declared.list.Refusal.{Refusal}
@@ -23,25 +24,25 @@ module _ {K V F : Type 0} where
   entered (Ok (enter.Hit p)) = accepted (say.hit p.stamp p.value) []
   entered (Err e) = refused e
 
-  abbrev pub polled : Polled K V F → Outcome K V
-  polled (poll.Make m) = accepted (say.make (made_at m)) []
-  polled (poll.Wait w) = accepted (say.wait (awaited_at w)) []
-  polled (poll.Hit p) = accepted (say.hit p.stamp p.value) []
-  polled (poll.Refused u) = refused Memory
-  polled poll.Stray = refused Stale
+  abbrev pub resumed : Polled K V F → Outcome K V
+  resumed (poll.Make m) = accepted (say.make (made_at m)) []
+  resumed (poll.Wait w) = accepted (say.wait (awaited_at w)) []
+  resumed (poll.Hit p) = accepted (say.hit p.stamp p.value) []
+  resumed (poll.Refused u) = refused Memory
+  resumed poll.Stray = refused Stale
 
-  -- the debts are of a caller that asked for this key, with this charge
-  abbrev pub AsksOnEntry : Entered K V F → K → ℕ → Type 0
-  AsksOnEntry (enter.Make m evicted) k c = (made_key m ≡ k) × (made_charge m ≡ c)
-  AsksOnEntry (enter.Wait w) k c = (awaited_key w ≡ k) × (awaited_charge w ≡ c)
-  AsksOnEntry (enter.Hit p) k c = (p.key ≡ k) × (p.charge ≡ Some c)
+  -- the debts are of a caller that asked for this key, with this charge, from a call that left this cache under the lock
+  abbrev pub AsksOnEntry : Entered K V F → K → ℕ → Cache K V → Type 0
+  AsksOnEntry (enter.Make m evicted) k c new = (made_key m ≡ k) × (made_charge m ≡ c)
+  AsksOnEntry (enter.Wait w) k c new = (awaited_key w ≡ k) × (awaited_charge w ≡ c) × (left_by w ≡ new)
+  AsksOnEntry (enter.Hit p) k c new = (p.key ≡ k) × (p.charge ≡ Some c)
 
-  abbrev pub AsksOnPoll : Polled K V F → K → ℕ → Type 0
-  AsksOnPoll (poll.Make m) k c = (made_key m ≡ k) × (made_charge m ≡ c)
-  AsksOnPoll (poll.Wait w) k c = (awaited_key w ≡ k) × (awaited_charge w ≡ c)
-  AsksOnPoll (poll.Hit p) k c = (p.key ≡ k) × (p.charge ≡ Some c)
-  AsksOnPoll (poll.Refused u) k c = ⊤
-  AsksOnPoll poll.Stray k c = ⊤
+  abbrev pub AsksOnPoll : Polled K V F → K → ℕ → Cache K V → Type 0
+  AsksOnPoll (poll.Make m) k c new = (made_key m ≡ k) × (made_charge m ≡ c)
+  AsksOnPoll (poll.Wait w) k c new = (awaited_key w ≡ k) × (awaited_charge w ≡ c) × (left_by w ≡ new)
+  AsksOnPoll (poll.Hit p) k c new = (p.key ≡ k) × (p.charge ≡ Some c)
+  AsksOnPoll (poll.Refused u) k c new = ⊤
+  AsksOnPoll poll.Stray k c new = ⊤
 
   -- P of the value, where the answer is a hit
   abbrev pub IfEntered : Entered K V F → (V → Type 0) → Type 0

@@ -1,7 +1,9 @@
 -- What a caller has in an entry, as clauses see it.
 use Rattle.std.specs.Prelude.{◌≡◌, ℕ, Option}
+use Rattle.concurrent_lru.specs.Cache.{Cache}
 use Rattle.concurrent_lru.specs.declared.locked.pins.Making.{Making}
 use Rattle.concurrent_lru.specs.declared.locked.pins.Waiting.{Waiting}
+use Rattle.concurrent_lru.specs.declared.locked.pins.Woken.{Woken}
 use Rattle.concurrent_lru.specs.declared.locked.pins.Unread.{Unread}
 
 -- a pin in a ready entry: the stamp of the entry, the key and the charge that were asked, and the value
@@ -32,15 +34,29 @@ module _ {K : Type 0} where
   abbrev pub made_charge : Making K → ℕ
   made_charge m = m.charge
 
-  -- the same of the entry that a caller waits for
-  abbrev pub awaited_at : Waiting K → ℕ
+  -- the same of the entry that a caller waited for
+  abbrev pub woken_at : Woken K → ℕ
+  woken_at w = w.stamp
+
+  abbrev pub woken_key : Woken K → K
+  woken_key w = w.asked.value
+
+  abbrev pub woken_charge : Woken K → ℕ
+  woken_charge w = w.charge
+
+module _ {K V F : Type 0} where
+  -- the same of the entry that a caller is to wait for, and what was left under the lock
+  abbrev pub awaited_at : Waiting K V F → ℕ
   awaited_at w = w.stamp
 
-  abbrev pub awaited_key : Waiting K → K
+  abbrev pub awaited_key : Waiting K V F → K
   awaited_key w = w.asked.value
 
-  abbrev pub awaited_charge : Waiting K → ℕ
+  abbrev pub awaited_charge : Waiting K V F → ℕ
   awaited_charge w = w.charge
+
+  abbrev pub left_by : Waiting K V F → Cache K V
+  left_by w = w.left.value
 
 -- the stamp of the entry whose value was not read
 abbrev pub unread_at : Unread → ℕ

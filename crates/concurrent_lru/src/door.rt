@@ -4,7 +4,7 @@ ghost use Rattle.std.specs.Prelude.{◌≡◌, ◌≢◌, ◌<◌, [], Some, Non
 ghost use Rattle.std.specs.Arc.{arc_value};
 ghost use Rattle.std.specs.Sync.Mutex.{mutex_guard_value};
 ghost use Rattle.concurrent_lru.specs.Cache.{sum_of, IsLawful};
-ghost use Rattle.concurrent_lru.specs.Doors.{IsMetFor};
+ghost use Rattle.concurrent_lru.specs.Doors.{IsAwake, IsMetFor};
 ghost use Rattle.concurrent_lru.specs.Keys.{CopiesAreEqual};
 ghost use Rattle.concurrent_lru.specs.Pins.{IsHandleFor, made_key, made_charge, awaited_key, awaited_charge};
 ghost use Rattle.concurrent_lru.specs.Ready.{IsKept};
@@ -43,7 +43,7 @@ pub struct Maker<'a, K: Hash + Eq + Clone, V, R: Wait, F: Fit<K, V>> {
 /// lets go, so that no wake is missed.
 pub struct Asleep<'a, K: Hash + Eq + Clone, V, R: Wait, F: Fit<K, V>> {
     inside: Inside<'a, K, V, R, F>,
-    waiting: Waiting<K>,
+    waiting: Waiting<K, V, F>,
 }
 
 /// What a begin says, and each wake after it.
@@ -201,7 +201,8 @@ impl<'a, K: Hash + Eq + Clone + Drop, V: Drop, R: Wait, F: Fit<K, V>> Asleep<'a,
     ///
     /// `Memory` where the value is there and its copy is refused: then the pin is given back.
     pub fn wait(self, key: &K) -> Result<Option<Met<'a, K, V, R, F>>, Refusal>
-        requires { awaited_key self.waiting ≡ key.now }
+        requires asked { awaited_key self.waiting ≡ key.now }
+        requires awake { IsAwake self }
         ensures met { IfOk result (λ woken. IfSome woken (λ met. IsMetFor F.fits met key.now (awaited_charge self.entry.waiting))) }
         ensures refused { IfErr result (λ e. e ≡ Refusal.Memory) }
     {
@@ -209,8 +210,8 @@ impl<'a, K: Hash + Eq + Clone + Drop, V: Drop, R: Wait, F: Fit<K, V>> Asleep<'a,
             inside: Inside { door, guard },
             waiting,
         } = self;
-        let mut guard = door.woken.wait(&door.rt, guard);
-        match guard.poll(waiting, key) {
+        let (mut guard, woken) = waiting.sleep(&door.rt, &door.woken, guard);
+        match guard.poll(woken, key) {
             Polled::Make(making) => Ok(Some(Met::Make(Maker { door, making }))),
             Polled::Wait(waiting) => {
                 let inside = Inside { door, guard };

@@ -3,20 +3,21 @@
 ghost use Rattle.std.specs.Prelude.{◌≡◌, ◌≢◌, ◌<◌, true, [], Err, Some, None, IsTrue, IsFalse, IfOk, IfErr, IfSome};
 ghost use Rattle.std.specs.Arc.{arc_value};
 ghost use Rattle.concurrent_lru.specs.Cache.{empty_cache, sum_of, IsLawful};
-ghost use Rattle.concurrent_lru.specs.Debts.{entered, polled, found, AsksOnEntry, AsksOnPoll, IfEntered, IfPolled};
+ghost use Rattle.concurrent_lru.specs.Debts.{entered, resumed, found, AsksOnEntry, AsksOnPoll, IfEntered, IfPolled};
 ghost use Rattle.concurrent_lru.specs.Keys.{CopiesAreEqual};
-ghost use Rattle.concurrent_lru.specs.Pins.{made_at, made_key, made_charge, awaited_at, awaited_key, awaited_charge, unread_at};
+ghost use Rattle.concurrent_lru.specs.Pins.{made_at, made_key, made_charge, woken_at, woken_key, woken_charge, unread_at};
 ghost use Rattle.concurrent_lru.specs.Ready.{IsKept, HasEqualKeyAt};
 ghost use Rattle.concurrent_lru.specs.Request as ask;
-ghost use Rattle.concurrent_lru.specs.Results.{readied, failed, released, evicts};
+ghost use Rattle.concurrent_lru.specs.Results.{begun, polled, readied, failed, released, evicts};
 ghost use Rattle.concurrent_lru.specs.Runs.{Stands};
+ghost use Rattle.concurrent_lru.specs.Turns.{IfHit};
 
 mod done;
 mod pins;
 mod sealed;
 
 pub use self::done::{Advised, Pruned, Resized};
-pub use self::pins::{Entered, Making, Pin, Polled, Unread, Waiting};
+pub use self::pins::{Entered, Making, Pin, Polled, Unread, Waiting, Woken};
 pub use self::sealed::{Sealed, Waiters};
 use crate::fit::Fit;
 use crate::lru_core::{Begun, Evicted, Failed, Refusal, State};
@@ -75,11 +76,11 @@ impl<K: Hash + Eq + Clone + Drop, V: Drop, F: Fit<K, V>> Locked<K, V, F> {
     pub fn begin(&mut self, key: &K, charge: u64) -> Result<Entered<K, V, F>, Refusal>
         requires charged { 0 < charge }
         ensures step { Stands K.eq self.old (ask.begin key.now charge) (entered result) self.new }
-        ensures asked { IfOk result (λ e. AsksOnEntry e key.now charge) }
+        ensures asked { IfOk result (λ e. AsksOnEntry e key.now charge self.new) }
         ensures hit { IfOk result (λ e. IfEntered e (F.fits key.now)) }
         ensures never_stale { IfErr result (λ e. e ≢ Refusal.Stale) }
     {
-        let (begun, evicted) = self.state.begin(key, charge)?;
+        let (begun, evicted) = self.begun(key, charge)?;
         match begun {
             Begun::Make(stamp) => {
                 let making = Making::of(stamp, key, charge);
@@ -88,13 +89,23 @@ impl<K: Hash + Eq + Clone + Drop, V: Drop, F: Fit<K, V>> Locked<K, V, F> {
             // A begin that meets an entry evicts nothing, so there is nothing to seal.
             Begun::Wait(stamp) => {
                 prove!(evicted.is_empty());
-                Ok(Entered::Wait(Waiting::of(stamp, key, charge)))
+                Ok(Entered::Wait(Waiting::of(stamp, key, charge, self)))
             }
             Begun::Hit(stamp, value) => {
                 prove!(evicted.is_empty());
                 Ok(Entered::Hit(Pin::of(stamp, key, Some(charge), value)))
             }
         }
+    }
+
+    // The core's `begin`, with its own answer.
+    fn begun(&mut self, key: &K, charge: u64) -> Result<(Begun<V>, Evicted<K, V>), Refusal>
+        requires charged { 0 < charge }
+        ensures step { Stands K.eq self.old (ask.begin key.now charge) (begun result) self.new }
+        ensures hit { IfOk result (λ r. IfHit r.0 (F.fits key.now)) }
+        ensures never_stale { IfErr result (λ e. e ≢ Refusal.Stale) }
+    {
+        self.state.begin(key, charge)
     }
 
     /// The core's `get`. The value found fits the key.
@@ -122,28 +133,37 @@ impl<K: Hash + Eq + Clone + Drop, V: Drop, F: Fit<K, V>> Locked<K, V, F> {
     }
 
     /// The core's `poll`, where the pin's entry has the key. The value of a hit fits the key.
-    pub fn poll(&mut self, waiting: Waiting<K>, key: &K) -> Polled<K, V, F>
-        requires asked { awaited_key waiting ≡ key.now }
-        ensures step { HasEqualKeyAt K.eq self.old (awaited_at waiting) key.now → Stands K.eq self.old (ask.poll (awaited_at waiting)) (polled result) self.new }
-        ensures stray { (HasEqualKeyAt K.eq self.old (awaited_at waiting) key.now → ⊥) → (result ≡ Polled.Stray) × (self.new ≡ self.old) }
-        ensures asked { AsksOnPoll result key.now (awaited_charge waiting) }
+    pub fn poll(&mut self, woken: Woken<K>, key: &K) -> Polled<K, V, F>
+        requires asked { woken_key woken ≡ key.now }
+        ensures step { HasEqualKeyAt K.eq self.old (woken_at woken) key.now → Stands K.eq self.old (ask.poll (woken_at woken)) (resumed result) self.new }
+        ensures stray { (HasEqualKeyAt K.eq self.old (woken_at woken) key.now → ⊥) → (result ≡ Polled.Stray) × (self.new ≡ self.old) }
+        ensures asked { AsksOnPoll result key.now (woken_charge woken) self.new }
         ensures hit { IfPolled result (F.fits key.now) }
     {
-        let Waiting {
+        let Woken {
             stamp,
             asked: _,
             charge,
-        } = waiting;
-        if !self.has_key(stamp, key) {
-            return Polled::Stray;
-        }
-        match self.state.poll(stamp) {
+        } = woken;
+        match self.polled(stamp, key) {
             Ok(Begun::Make(own)) => Polled::Make(Making::of(own, key, charge)),
-            Ok(Begun::Wait(own)) => Polled::Wait(Waiting::of(own, key, charge)),
+            Ok(Begun::Wait(own)) => Polled::Wait(Waiting::of(own, key, charge, self)),
             Ok(Begun::Hit(own, value)) => Polled::Hit(Pin::of(own, key, Some(charge), value)),
             Err(Refusal::Memory) => Polled::Refused(Unread { stamp }),
             Err(_) => Polled::Stray,
         }
+    }
+
+    // The core's `poll`, where the stamp's entry has the key, with its own answer.
+    fn polled(&mut self, stamp: u64, key: &K) -> Result<Begun<V>, Refusal>
+        ensures step { HasEqualKeyAt K.eq self.old stamp key.now → Stands K.eq self.old (ask.poll stamp) (polled result) self.new }
+        ensures stray { (HasEqualKeyAt K.eq self.old stamp key.now → ⊥) → (result ≡ Err Refusal.Stale) × (self.new ≡ self.old) }
+        ensures hit { IfOk result (λ b. IfHit b (F.fits key.now)) }
+    {
+        if !self.has_key(stamp, key) {
+            return Err(Refusal::Stale);
+        }
+        self.state.poll(stamp)
     }
 
     /// The core's `ready`, where the making's entry has the key: the entry gets `stored`, and the

@@ -2,14 +2,16 @@
 //! a path on which one is forgotten. Each is taken by the call that settles it, and by no other.
 ghost use Rattle.std.specs.Prelude.{◌≡◌};
 ghost use Rattle.std.specs.Arc.{arc_value};
+ghost use Rattle.std.specs.Sync.Mutex.{mutex_guard_value};
 
 use crate::fit::Fit;
+use crate::locked::Locked;
 use crate::locked::sealed::Sealed;
 use crate::lru_core::Evicted;
 use std::hash::Hash;
 use std::marker::{Model, PhantomData};
 use std::snapshot::Snapshot;
-use std::sync::Arc;
+use std::sync::{Arc, Condvar, MutexGuard, Wait};
 
 /// A debt: the value of an entry is this caller's to make. `ready` and `fail` take it. It knows the
 /// key and the charge that were asked.
@@ -34,27 +36,71 @@ impl<K> Making<K> {
     }
 }
 
-/// A debt: a pin in an entry whose value another caller makes. `poll` takes it; a release would not,
-/// since there is no value yet. It knows the key and the charge that were asked.
-pub struct Waiting<K> {
+/// A debt: a pin in an entry whose value another caller makes. `sleep` takes it; a release would not,
+/// since there is no value yet. It knows the key and the charge that were asked, and what the call
+/// that answered it left under the lock.
+pub struct Waiting<K: Hash + Eq + Clone, V, F: Fit<K, V>> {
     pub(super) stamp: u64,
     pub(super) asked: Snapshot<K>,
     pub(super) charge: u64,
+    pub(super) left: Snapshot<Locked<K, V, F>>,
 }
 
-impl<K> Waiting<K> {
+impl<K: Hash + Eq + Clone, V, F: Fit<K, V>> Waiting<K, V, F> {
     // A pin in the stamp's entry.
-    pub(super) fn of(stamp: u64, key: &K, charge: u64) -> Self
+    pub(super) fn of(stamp: u64, key: &K, charge: u64, left: &Locked<K, V, F>) -> Self
         ensures stamp { result.stamp ≡ stamp }
         ensures asked { result.asked.value ≡ key.now }
         ensures charge { result.charge ≡ charge }
+        ensures left { result.left.value ≡ left.now }
     {
         Waiting {
             stamp,
             asked: Snapshot::of(key),
             charge,
+            left: Snapshot::of(left),
         }
     }
+
+    /// Lets the lock go and sleeps, in one, until it is woken; then gets the lock again.
+    ///
+    /// Nothing is known of a lock that was let go, so the guard is that of the call that answered
+    /// the pin: no wake comes between that call and the sleep.
+    pub fn sleep<'a, R: Wait>(
+        self,
+        rt: &R,
+        woken: &Condvar,
+        guard: MutexGuard<'a, Locked<K, V, F>>,
+    ) -> (MutexGuard<'a, Locked<K, V, F>>, Woken<K>)
+        requires awake { mutex_guard_value guard ≡ self.left.value }
+        ensures stamp { result.1.stamp ≡ self.stamp }
+        ensures asked { result.1.asked.value ≡ self.asked.value }
+        ensures charge { result.1.charge ≡ self.charge }
+    {
+        let Self {
+            stamp,
+            asked,
+            charge,
+            left: _,
+        } = self;
+        let guard = woken.wait(rt, guard);
+        (
+            guard,
+            Woken {
+                stamp,
+                asked,
+                charge,
+            },
+        )
+    }
+}
+
+/// A debt: a pin of a caller that has slept, in an entry whose value another caller made, or makes
+/// still. `poll` takes it.
+pub struct Woken<K> {
+    pub(super) stamp: u64,
+    pub(super) asked: Snapshot<K>,
+    pub(super) charge: u64,
 }
 
 /// A debt: a pin in a ready entry whose value was not read, since its copy was refused. `give_up`
@@ -115,7 +161,7 @@ pub enum Entered<K: Hash + Eq + Clone, V, F: Fit<K, V>> {
     /// The caller is to make the value. What its charge evicted is beside it.
     Make(Making<K>, Sealed<Evicted<K, V>>),
     /// Another caller is making it; ask again by `poll`.
-    Wait(Waiting<K>),
+    Wait(Waiting<K, V, F>),
     /// The value is there.
     Hit(Pin<K, V, F>),
 }
@@ -125,7 +171,7 @@ pub enum Polled<K: Hash + Eq + Clone, V, F: Fit<K, V>> {
     /// The caller is to make the value, since its maker has failed.
     Make(Making<K>),
     /// Another caller is making it; ask again by `poll`.
-    Wait(Waiting<K>),
+    Wait(Waiting<K, V, F>),
     /// The value is there.
     Hit(Pin<K, V, F>),
     /// The value is there, and its copy is refused.

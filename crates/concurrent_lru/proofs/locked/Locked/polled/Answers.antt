@@ -1,0 +1,15 @@
+use Rattle.std.proofs.Common.{sym, subst}
+use Rattle.concurrent_lru.specs.Ready.{HasEqualKeyAt}
+use Rattle.concurrent_lru.proofs.Ready.{poll_kept, poll_hit}
+use Rattle.concurrent_lru.proofs.locked.Locked.polled.Goals as goal
+
+pub invariant_of-self : goal.invariant_of-self
+invariant_of-self g c = record {
+  lawful = c.poll.ensures.lawful;
+  kept = poll_kept _ _ _ _ _ _ c.poll.ensures.step c.self.invariant.kept;
+}
+
+pub returns-clause-hit : goal.returns-clause-hit
+returns-clause-hit g c =
+    let at = subst (λ s. HasEqualKeyAt g.K.PartialEq.eq s c.args.stamp c.args.key.now) (sym c.self.view_is) (c.has_key.ensures.yes c.if-not-has_key.false) in
+    poll_hit _ _ _ _ _ _ c.poll.result g.met.F.Fit.equal_keys c.self.invariant.lawful c.self.invariant.kept at c.poll.ensures.step
