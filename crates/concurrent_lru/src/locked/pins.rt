@@ -40,10 +40,10 @@ impl<K> Making<K> {
 /// since there is no value yet. It knows the key and the charge that were asked, and what the call
 /// that answered it left under the lock.
 pub struct Waiting<K: Hash + Eq + Clone, V, F: Fit<K, V>> {
-    pub(super) stamp: u64,
-    pub(super) asked: Snapshot<K>,
-    pub(super) charge: u64,
-    pub(super) left: Snapshot<Locked<K, V, F>>,
+    stamp: u64,
+    asked: Snapshot<K>,
+    charge: u64,
+    left: Snapshot<Locked<K, V, F>>,
 }
 
 impl<K: Hash + Eq + Clone, V, F: Fit<K, V>> Waiting<K, V, F> {
