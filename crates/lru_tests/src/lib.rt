@@ -9,8 +9,14 @@ mod ends;
 #[cfg(test)]
 mod list;
 #[cfg(test)]
+mod seeded;
+#[cfg(test)]
 mod steps;
 #[cfg(test)]
 mod support;
 #[cfg(test)]
+mod told;
+#[cfg(test)]
 mod uses;
+#[cfg(test)]
+mod vectors;
