@@ -1,8 +1,10 @@
 -- The cache for one owner may be sent between threads, where its keys and values may.
-use denote.Hole.FixSend.{fix_send, Sends}
-use denote.Param.Send.{IsSend, IsSync, owning_send, sendable, view_send}
-use denote.Param.SendFields.{declared_send}
+use denote.Hole.FixSend.{fix_send, fix_sync, Sends, Syncs}
+use denote.Memory.{part_of, raw_all}
+use denote.Param.Send.{IsSend, IsSync, cell_keyless, owning_send, sendable, struct_sync, view_send, view_sync}
+use denote.Param.SendFields.{declared_send, declared_sync, owner_send}
 use denote.RattleType.{RattleType}
+use denote.Struct.Owning.{shape, to}
 use Rattle.std.specs.declared.hash.Hash as hash
 use Rattle.std.specs.declared.cmp.PartialEq as partial_eq
 use Rattle.std.specs.declared.clone.Clone as clone
@@ -14,7 +16,8 @@ use Rattle.std.specs.contracts.impls.GlobalAllocator.TheImpl as allocator
 use Rattle.slab.specs.contracts.Slab as slots
 use Rattle.slab.specs.contracts.Slab.TheInside as slots_inside
 use Rattle.concurrent_lru.specs.contracts.list.Node as node
-use Rattle.concurrent_lru.specs.contracts.list.Nodes.TheInside as nodes
+use Rattle.concurrent_lru.specs.contracts.list.Nodes as nodes
+use Rattle.concurrent_lru.specs.contracts.list.Nodes.TheInside as nodes_inside
 use Rattle.concurrent_lru.specs.contracts.list.Slot as slot
 use Rattle.concurrent_lru.specs.contracts.lru_core.State as state
 use Rattle.concurrent_lru.specs.contracts.lru_core.State.TheInside as state_inside
@@ -25,6 +28,11 @@ use Rattle.concurrent_lru.proofs.list.Phase.TheSendSync as phase_sent
 -- The count of the writes of an order owns nothing, so it is Send.
 work_send : IsSend work.the_row
 work_send = owning_send work.the_type (search sendable, tt) (λ d. tt) (λ k x w. tt)
+
+-- A `&` to the count is a share of what owns nothing, so it is Sync.
+work_sync : IsSync work.the_row
+unfolding part_of
+work_sync = record { shared = λ d b o κ. λ q vs. (cell_keyless q (raw_all work.the_row.mir) vs b o, work_send.owned d vs) }
 
 module _ (K V : RattleType) (key : IsSend K) (value : IsSend V) (shared : IsSync V) where
   -- What stands for a node where its type names itself is Send, as its layer is over any such.
@@ -47,8 +55,9 @@ module _ (K V : RattleType) (key : IsSend K) (value : IsSend V) (shared : IsSync
       (declared_send (slots_inside.the_type (slot.the_row K V) global.the_row allocator.ghosts) (search (sendable, crosses, slot_send) depth 12))
 
   -- The nodes of a cache are Send.
-  nodes_send : IsSend (nodes.the_row K V)
-  nodes_send = declared_send (nodes.the_type K V) (search (sendable, crosses, slots_send, work_send) depth 12)
+  pub nodes_send : IsSend (nodes.the_row K V)
+  nodes_send = view_send (nodes_inside.the_row K V) _ _ _ _
+      (owner_send (nodes_inside.the_type K V) (search (sendable, crosses, slots_send, work_send) depth 12) (λ d. tt) (λ k x w. (tt, (tt, (tt, (tt, tt))))))
 
   module _ (h : hash.Ghosts K.Denot) (e : partial_eq.Ghosts K.Denot) (c : clone.Ghosts K.Denot) where
     -- The entries of a cache are Send.
@@ -59,3 +68,28 @@ module _ (K V : RattleType) (key : IsSend K) (value : IsSend V) (shared : IsSync
     pub state_send : IsSend (state.the_row K V h e c)
     state_send = view_send (state_inside.the_row K V h e c) _ _ _ _
         (declared_send (state_inside.the_type K V h e c) (search (sendable, crosses, global_sent.the_send, table_send) depth 12))
+
+module _ (K V : RattleType) (key : IsSync K) (value : IsSend V) (shared : IsSync V) where
+  -- What stands for a node where its type names itself is Sync, as its layer is over any such.
+  hole_sync : IsSync (node.the_hole K V)
+  hole_sync = fix_sync (node.the_ring K V)
+      (node.by_members K V (Syncs (node.the_ring K V)) record { sync = λ h all. declared_sync (node.the_layer K V h) (search (sendable, crosses, phase_sent.the_sync, all) depth 12) })
+      (node.the_member K V)
+
+  -- A node is Sync.
+  node_sync : IsSync (node.the_row K V)
+  node_sync = declared_sync (node.the_type K V) (search (sendable, crosses, phase_sent.the_sync, hole_sync) depth 12)
+
+  -- A slot of the nodes is Sync.
+  slot_sync : IsSync (slot.the_row K V)
+  slot_sync = declared_sync (slot.the_type K V) (search (sendable, crosses, node_sync) depth 12)
+
+  -- The slots of a cache are Sync.
+  slots_sync : IsSync (slots.the_row (slot.the_row K V) global.the_row allocator.ghosts)
+  slots_sync = view_sync (slots_inside.the_row (slot.the_row K V) global.the_row allocator.ghosts) _ _ _ _
+      (declared_sync (slots_inside.the_type (slot.the_row K V) global.the_row allocator.ghosts) (search (sendable, crosses, slot_sync) depth 12))
+
+  -- The nodes of a cache are Sync: a `&` to them holds a `&` to each field, and nothing else.
+  pub nodes_sync : IsSync (nodes.the_row K V)
+  nodes_sync = view_sync (nodes_inside.the_row K V) _ _ _ _
+      record { shared = λ d b o κ. ((struct_sync (shape (nodes_inside.the_type K V)) (search (sendable, crosses, slots_sync, work_sync) depth 12)).shared (to (nodes_inside.the_type K V) d) b o κ, tt) }
