@@ -1,6 +1,6 @@
 -- What the model of a `Nodes` says of its fields.
 use Rattle.std.proofs.Common.{◌≡◌, ◌≢◌, ℕ, suc, ◌+◌, ◌-◌, List, [], ◌∷◌, map, Option, Some, None, refl, sym, ap, ◌∙◌, subst, arith, ◌≤◌, IsSome, inl, inr, Bool, eqb}
-use Rattle.std.proofs.Common.{is_some, count_by, cond, false, zero-add}
+use Rattle.std.proofs.Common.{is_some, count_by, cond, zero-add}
 use Rattle.std.specs.List.{list_any}
 use Rattle.std.proofs.lemmas.List.Sums.{sum_by-cons}
 use Rattle.std.proofs.lemmas.Bool.{cases_eq}

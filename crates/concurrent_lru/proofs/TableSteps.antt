@@ -67,7 +67,7 @@ module _ {K V : Type 0} (E : K → K → Bool) (capacity most next : ℕ) where
     copy = copy;
     same_key = equal;
     settles = record {
-      front = subst (λ (t : Entries K V). IsFront (charges_of t) capacity t.idle out new.idle) (λ j. record { idle = idle j; held = held j; stamps = added.stamps }) front;
+      front = subst (λ (t : Entries K V). IsFront (charges_of t) capacity t.idle out new.idle) (λ j. record { idle = idle j; held = held j; stamps = added.stamps; work = added.work }) front;
       others = λ j. record { capacity = capacity; most_pins = most; next = next + 1; idle = new.idle; held = (settled ∙ held) j };
     };
   }
@@ -147,8 +147,8 @@ module _ {K V : Type 0} (E : K → K → Bool) (capacity most next : ℕ) where
         let known : w.was.stamp ≡ s = same_Some _ _ (sym w.was.at ∙ at) in
         let there : get t.held s ≡ Some (held_entry e) = ap (get t.held) (sym stamp) ∙ here.held (λ none. omega (arith, none, last)) in
         let is : w.was.entry ≡ held_entry e = same_Some _ _ (sym w.was.held ∙ ap (get t.held) known ∙ there) in
-        let changed : mid ≡ record t { idle = t.idle ++ record { stamp = s; key = e.key; charge = e.charge; value = w.was.value } ∷ []; held = remove t.held s } =
-        w.changed ∙ (λ j. record t { idle = t.idle ++ record { stamp = known j; key = (is j).key; charge = (is j).charge; value = w.was.value } ∷ []; held = remove t.held (known j) }) in
+        let changed : mid ≡ record t { idle = t.idle ++ record { stamp = s; key = e.key; charge = e.charge; value = w.was.value } ∷ []; held = remove t.held s; work = t.work + 1 } =
+        w.changed ∙ (λ j. record t { idle = t.idle ++ record { stamp = known j; key = (is j).key; charge = (is j).charge; value = w.was.value } ∷ []; held = remove t.held (known j); work = t.work + 1 }) in
         record {
           entry = held_entry e;
           value = w.was.value;

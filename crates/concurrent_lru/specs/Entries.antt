@@ -8,17 +8,18 @@ use Rattle.concurrent_lru.specs.Steps.{without, held_by_one, idle_again}
 use Rattle.concurrent_lru.specs.NodeTable.{Entry}
 use Rattle.concurrent_lru.specs.Representation.{as_idle, held_entry, held_charges}
 
--- the idle entries stand oldest first; a place is where an entry lies until it is taken away
+-- the idle entries stand oldest first; a place is where an entry lies until it is taken away; work is how often the idle order was written
 pub record Entries (K V : Type 0) : Type 0 where
   pub idle : List (Idle K V)
   pub held : finmap.FinMap nat_cmp (Held K V)
   pub stamps : finmap.FinMap nat_cmp ℕ
+  pub work : ℕ
 
 module _ {K V : Type 0} where
   abbrev pub entries_code : Coded K → Coded V → Coded (Entries K V)
   entries_code k v =
-      code_by (List (Idle K V) × (finmap.FinMap nat_cmp (Held K V) × finmap.FinMap nat_cmp ℕ)) (coded× (coded_list (idle_code k v)) (coded× (finmap.code coded_ℕ (held_code k v)) (finmap.code coded_ℕ coded_ℕ)))
-      (λ t. (t.idle, (t.held, t.stamps))) (λ p. record { idle = p.0; held = p.1.0; stamps = p.1.1 }) (λ _. refl)
+      code_by (List (Idle K V) × (finmap.FinMap nat_cmp (Held K V) × (finmap.FinMap nat_cmp ℕ × ℕ))) (coded× (coded_list (idle_code k v)) (coded× (finmap.code coded_ℕ (held_code k v)) (coded× (finmap.code coded_ℕ coded_ℕ) coded_ℕ)))
+      (λ t. (t.idle, (t.held, (t.stamps, t.work)))) (λ p. record { idle = p.0; held = p.1.0; stamps = p.1.1.0; work = p.1.1.1 }) (λ _. refl)
 
   -- the cache of these entries with these numbers, and whatever its numbers
   abbrev pub cache_with : ℕ → ℕ → ℕ → Entries K V → Cache K V
@@ -88,7 +89,7 @@ module _ {K V : Type 0} where
     pub entry : Idle K V
     pub at : finmap.get old.stamps p ≡ Some stamp
     pub idle : idle_at (cache_of old) stamp ≡ Some entry
-    pub changed : new ≡ record old { idle = without stamp old.idle; held = finmap.insert old.held stamp (held_by_one entry) }
+    pub changed : new ≡ record old { idle = without stamp old.idle; held = finmap.insert old.held stamp (held_by_one entry); work = old.work + 1 }
 
   -- the held entry of the place is ready
   pub record IsReadyAt (t : Entries K V) (p : ℕ) : Type 0 where
@@ -102,7 +103,7 @@ module _ {K V : Type 0} where
   -- it becomes the newest idle one
   pub record RestsAt (old : Entries K V) (p : ℕ) (new : Entries K V) : Type 0 where
     pub was : IsReadyAt old p
-    pub changed : new ≡ record old { idle = old.idle ++ idle_again was.stamp was.entry was.value ∷ []; held = finmap.remove old.held was.stamp }
+    pub changed : new ≡ record old { idle = old.idle ++ idle_again was.stamp was.entry was.value ∷ []; held = finmap.remove old.held was.stamp; work = old.work + 1 }
 
   -- the cache is lawful, and an entry may have a pin
   pub record IsSound (E : K → K → Bool) (cache : Cache K V) : Type 0 where

@@ -22,7 +22,7 @@ module _ {K V : Type 0} where
   stamps_of nodes = finmap.from_entries (map (λ e. (e.0, e.1.stamp)) (finmap.entries nodes))
 
   abbrev pub entries_of : NodeTable K V → Entries K V
-  entries_of nodes = record { idle = idle_in nodes; held = held_in nodes (finmap.keys nodes.nodes); stamps = stamps_of nodes.nodes }
+  entries_of nodes = record { idle = idle_in nodes; held = held_in nodes (finmap.keys nodes.nodes); stamps = stamps_of nodes.nodes; work = nodes.work }
 
   -- the nodes stand for entries, the two maps index them, and copies of keys equal them
   pub record IsStored {S T : Type 0} (is_clone : K → K → Type 0) (E : K → K → Bool) (nodes : NodeTable K V) (by_key : HashMap K ℕ S) (by_stamp : HashMap ℕ ℕ T) : Type 0 where

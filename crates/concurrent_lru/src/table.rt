@@ -1,6 +1,6 @@
 //! The entries of a cache as one value: nodes, two hashed maps that find their places, and the total of the charges.
 //! No rule of the cache is decided here but the order of eviction: what happens when is the core's.
-ghost use Rattle.std.specs.Prelude.{◌≡◌, ◌≢◌, ℕ, ◌+◌, ◌<◌, ◌≤◌, ◌^◌, Some, None, [], IsSome, OnOk, OnErr, IfErr, IfSome, MatchOption, filter_map, ◌∷◌, ◌++◌, true, cond, nat_eq};
+ghost use Rattle.std.specs.Prelude.{◌≡◌, ◌≢◌, ℕ, ◌+◌, ◌<◌, ◌≤◌, ◌^◌, Some, None, [], IsSome, OnOk, OnErr, IfErr, IfSome, MatchOption, filter_map, length, ◌∷◌, ◌++◌, true, cond, nat_eq};
 ghost use Rattle.std.specs.HashMap as hash;
 ghost use Rattle.std.specs.HashMap.{spare};
 ghost use Rattle.concurrent_lru.specs.Cache.{idle_at, IsFront};
@@ -49,6 +49,7 @@ impl<K: Hash + Eq + Clone, V: Drop> Table<K, V> {
         ensures idle { result.idle ≡ [] }
         ensures held { result.held ≡ map.empty }
         ensures stamps { result.stamps ≡ map.empty }
+        ensures work { result.work ≡ 0 }
     {
         Table {
             nodes: Nodes::new(alloc),
@@ -110,6 +111,7 @@ impl<K: Hash + Eq + Clone, V: Drop> Table<K, V> {
         ensures ok { OnOk result ((copy : K) × (K.eq copy key.now ≡ true) × (self.new.held ≡ map.insert self.old.held stamp (new_held copy charge))) }
         ensures err { OnErr result (self.new ≡ self.old) }
         ensures refusal { IfErr result (λ e. e ≡ Refusal.Memory) }
+        ensures work { self.new.work ≡ self.old.work }
     {
         let own = key.clone()?;
         let kept = key.clone()?;
@@ -183,6 +185,7 @@ impl<K: Hash + Eq + Clone, V: Drop> Table<K, V> {
         ensures idle { self.new.idle ≡ self.old.idle }
         ensures held { self.new.held ≡ map.remove self.old.held (entry_of result.value).stamp }
         ensures stamps { self.new.stamps ≡ map.remove self.old.stamps place }
+        ensures work { self.new.work ≡ self.old.work }
     {
         take_away(
             &mut self.nodes,
@@ -203,6 +206,7 @@ impl<K: Hash + Eq + Clone, V: Drop> Table<K, V> {
         ensures idle { self.new.idle ≡ without (entry_of result.value).stamp self.old.idle }
         ensures held { self.new.held ≡ self.old.held }
         ensures stamps { self.new.stamps ≡ map.remove self.old.stamps place }
+        ensures work { self.new.work ≡ self.old.work + 1 }
     {
         self.nodes.remove(place);
         take_away(
@@ -220,6 +224,7 @@ impl<K: Hash + Eq + Clone, V: Drop> Table<K, V> {
         ensures idle { MatchOption result ((self.old.idle ≡ []) × (self.new.idle ≡ [])) (λ node. self.old.idle ≡ filter_map as_idle (entry_of node.value ∷ []) ++ self.new.idle) }
         ensures ready { IfSome result (λ node. IsSome (as_idle (entry_of node.value))) }
         ensures alone { IfSome result (λ node. chain_of node.value ≡ []) }
+        ensures work { MatchOption result (self.new.work ≡ self.old.work) (λ _. self.new.work ≡ self.old.work + 1) }
     {
         let place = self.nodes.oldest()?;
         Some(self.evict(place))
@@ -229,6 +234,7 @@ impl<K: Hash + Eq + Clone, V: Drop> Table<K, V> {
     pub fn settle(&mut self, capacity: u64) -> Evicted<K, V>
         ensures held { self.new.held ≡ self.old.held }
         ensures front { IsFront (charges_of self.old) capacity self.old.idle result self.new.idle }
+        ensures work { self.new.work ≡ self.old.work + length result }
     {
         let mut newest_first = None;
         while self.total() > capacity {
@@ -255,6 +261,7 @@ fn make_room<K: Hash + Eq + Drop, V: Drop>(
     ensures refusal { IfErr result (λ e. e ≡ Refusal.Memory) }
     ensures nodes { nodes.new.nodes ≡ nodes.old.nodes }
     ensures idle { nodes.new.idle ≡ nodes.old.idle }
+    ensures work { nodes.new.work ≡ nodes.old.work }
     ensures by_key { (k : K) → hash.get K.eq by_key.new k ≡ hash.get K.eq by_key.old k }
     ensures by_stamp { (s : ℕ) → hash.get nat_eq by_stamp.new s ≡ hash.get nat_eq by_stamp.old s }
 {
@@ -279,6 +286,7 @@ fn take_away<K: Hash + Eq + Drop, V: Drop>(
     ensures alone { chain_of result.value ≡ [] }
     ensures nodes { nodes.new.nodes ≡ map.remove nodes.old.nodes place }
     ensures idle { nodes.new.idle ≡ nodes.old.idle }
+    ensures work { nodes.new.work ≡ nodes.old.work }
     ensures by_key { (k : K) → hash.get K.eq by_key.new k ≡ cond (K.eq (entry_of result.value).key k) None (hash.get K.eq by_key.old k) }
     ensures by_stamp { (s : ℕ) → hash.get nat_eq by_stamp.new s ≡ cond (nat_eq (entry_of result.value).stamp s) None (hash.get nat_eq by_stamp.old s) }
     ensures total { total.new + (entry_of result.value).charge ≡ total.old }

@@ -13,11 +13,11 @@ use Rattle.concurrent_lru.proofs.table.Table.add.Goals.{Joined-by_key}
 pub invariant_of-self : goal.invariant_of-self
 invariant_of-self g c = record {
   stored = stored_same c.self.invariant.stored c.make_room.ensures.nodes c.make_room.ensures.idle c.make_room.ensures.by_key c.make_room.ensures.by_stamp;
-  sums = c.self.invariant.sums ∙ ap charges_of (sym (entries_same c.self.inside.nodes c.make_room.new.nodes c.make_room.ensures.nodes c.make_room.ensures.idle));
+  sums = c.self.invariant.sums ∙ ap charges_of (sym (entries_same c.self.inside.nodes c.make_room.new.nodes c.make_room.ensures.nodes c.make_room.ensures.idle c.make_room.ensures.work));
 }
 
 pub returns-in_err-make_room-clause-err : goal.returns-in_err-make_room-clause-err
-returns-in_err-make_room-clause-err g c = on_err _ (entries_same c.self.inside.nodes c.make_room.new.nodes c.make_room.ensures.nodes c.make_room.ensures.idle ∙ c.self.view_is)
+returns-in_err-make_room-clause-err g c = on_err _ (entries_same c.self.inside.nodes c.make_room.new.nodes c.make_room.ensures.nodes c.make_room.ensures.idle c.make_room.ensures.work ∙ c.self.view_is)
 
 pub insert_reserved-place-requires-clause-fresh : goal.insert_reserved-place-requires-clause-fresh
 insert_reserved-place-requires-clause-fresh g c = λ p e h s.
@@ -48,22 +48,22 @@ added g c =
 pub invariant_of-self-2 : goal.invariant_of-self-2
 invariant_of-self-2 g c =
     let r = stored_same c.self.invariant.stored c.make_room.ensures.nodes c.make_room.ensures.idle c.make_room.ensures.by_key c.make_room.ensures.by_stamp in
-    let lacks = subst (λ t. LacksStampIn t c.args.stamp) (sym (entries_same c.self.inside.nodes c.make_room.new.nodes c.make_room.ensures.nodes c.make_room.ensures.idle ∙ c.self.view_is)) c.requires.fresh in
+    let lacks = subst (λ t. LacksStampIn t c.args.stamp) (sym (entries_same c.self.inside.nodes c.make_room.new.nodes c.make_room.ensures.nodes c.make_room.ensures.idle c.make_room.ensures.work ∙ c.self.view_is)) c.requires.fresh in
     let sum = sum_with (entries_of c.make_room.new.nodes) (entries_of c.insert_reserved-place.new.self) c.args.stamp (new_held c.in_ok-own.own c.args.charge) (idle_with g.met.K.Eq.laws r (added g c)) (held_with g.met.K.Eq.laws r (added g c)) (unheld r c.args.stamp lacks) in
     record {
       stored = stored_with g.met.K.Eq.laws r (added g c);
-      sums = ap (λ n. n + c.args.charge) (c.self.invariant.sums ∙ ap charges_of (sym (entries_same c.self.inside.nodes c.make_room.new.nodes c.make_room.ensures.nodes c.make_room.ensures.idle))) ∙ sym sum;
+      sums = ap (λ n. n + c.args.charge) (c.self.invariant.sums ∙ ap charges_of (sym (entries_same c.self.inside.nodes c.make_room.new.nodes c.make_room.ensures.nodes c.make_room.ensures.idle c.make_room.ensures.work))) ∙ sym sum;
     }
 
 pub returns-clause-idle : goal.returns-clause-idle
 returns-clause-idle g c =
     idle_with g.met.K.Eq.laws (stored_same c.self.invariant.stored c.make_room.ensures.nodes c.make_room.ensures.idle c.make_room.ensures.by_key c.make_room.ensures.by_stamp) (added g c)
-    ∙ ap (λ t. t.idle) (entries_same c.self.inside.nodes c.make_room.new.nodes c.make_room.ensures.nodes c.make_room.ensures.idle ∙ c.self.view_is)
+    ∙ ap (λ t. t.idle) (entries_same c.self.inside.nodes c.make_room.new.nodes c.make_room.ensures.nodes c.make_room.ensures.idle c.make_room.ensures.work ∙ c.self.view_is)
 
 pub returns-clause-ok : goal.returns-clause-ok
 returns-clause-ok g c = (
   c.in_ok-own.own,
   c.self.invariant.stored.copies c.args.key.now c.in_ok-own.own c.in_ok-own.ensures.cases,
   held_with g.met.K.Eq.laws (stored_same c.self.invariant.stored c.make_room.ensures.nodes c.make_room.ensures.idle c.make_room.ensures.by_key c.make_room.ensures.by_stamp) (added g c)
-      ∙ ap (λ t. insert t.held c.args.stamp (new_held c.in_ok-own.own c.args.charge)) (entries_same c.self.inside.nodes c.make_room.new.nodes c.make_room.ensures.nodes c.make_room.ensures.idle ∙ c.self.view_is),
+      ∙ ap (λ t. insert t.held c.args.stamp (new_held c.in_ok-own.own c.args.charge)) (entries_same c.self.inside.nodes c.make_room.new.nodes c.make_room.ensures.nodes c.make_room.ensures.idle c.make_room.ensures.work ∙ c.self.view_is),
 )

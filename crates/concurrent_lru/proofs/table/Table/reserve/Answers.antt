@@ -6,8 +6,8 @@ use Rattle.concurrent_lru.proofs.table.Table.reserve.Goals as goal
 pub invariant_of-self : goal.invariant_of-self
 invariant_of-self g c = record {
   stored = stored_same c.self.invariant.stored c.make_room.ensures.nodes c.make_room.ensures.idle c.make_room.ensures.by_key c.make_room.ensures.by_stamp;
-  sums = c.self.invariant.sums ∙ ap charges_of (sym (entries_same c.self.inside.nodes c.make_room.new.nodes c.make_room.ensures.nodes c.make_room.ensures.idle));
+  sums = c.self.invariant.sums ∙ ap charges_of (sym (entries_same c.self.inside.nodes c.make_room.new.nodes c.make_room.ensures.nodes c.make_room.ensures.idle c.make_room.ensures.work));
 }
 
 pub returns-clause-same : goal.returns-clause-same
-returns-clause-same g c = entries_same c.self.inside.nodes c.make_room.new.nodes c.make_room.ensures.nodes c.make_room.ensures.idle ∙ c.self.view_is
+returns-clause-same g c = entries_same c.self.inside.nodes c.make_room.new.nodes c.make_room.ensures.nodes c.make_room.ensures.idle c.make_room.ensures.work ∙ c.self.view_is

@@ -1,4 +1,4 @@
-use Rattle.std.proofs.Common.{◌++◌, ◌∷◌, [], refl, sym, ap, ◌∙◌, subst, eqb}
+use Rattle.std.proofs.Common.{◌+◌, ◌++◌, ◌∷◌, [], refl, sym, ap, ◌∙◌, subst, eqb}
 use Rattle.std.specs.Prelude.{is_some}
 use Rattle.std.specs.List.{list_any}
 use Rattle.std.specs.FinMap.{get}
@@ -33,7 +33,7 @@ invariant_of-self g c =
     let h = subst (λ t. IsReadyAt t c.args.place) (sym c.self.view_is) c.requires in
     let n = some_node c.self.invariant.stored c.args.place (h.stamp, h.at) in
     let l = ready_like c.self.invariant.stored c.args.place n.0 h n.1 in
-    let changed = entries_rested c.self.invariant.stored (rests_nodes c.self.inside.nodes c.set_pins.new.self c.append.new.self c.args.place n.0 n.1 c.set_pins.ensures.nodes c.append.ensures.nodes) refl h.value (c.append.ensures.idle ∙ ap (λ xs. xs ++ c.args.place ∷ []) c.set_pins.ensures.idle) l.0 refl l.1 in
+    let changed = entries_rested c.self.invariant.stored (rests_nodes c.self.inside.nodes c.set_pins.new.self c.append.new.self c.args.place n.0 n.1 c.set_pins.ensures.nodes c.append.ensures.nodes) refl h.value (c.append.ensures.idle ∙ ap (λ xs. xs ++ c.args.place ∷ []) c.set_pins.ensures.idle) l.0 refl l.1 (c.append.ensures.work ∙ ap (λ n. n + 1) c.set_pins.ensures.work) in
     record {
       stored = stored_rested c.self.invariant.stored (rests_nodes c.self.inside.nodes c.set_pins.new.self c.append.new.self c.args.place n.0 n.1 c.set_pins.ensures.nodes c.append.ensures.nodes) refl h.value (c.append.ensures.idle ∙ ap (λ xs. xs ++ c.args.place ∷ []) c.set_pins.ensures.idle) l.0 refl l.1;
       sums = c.self.invariant.sums ∙ sym (sum_rested (entries_of c.self.inside.nodes) (entries_of c.append.new.self) n.0.stamp _ _ (ap (λ t. t.idle) changed) (ap (λ t. t.held) changed) (held_found c.self.invariant.stored c.args.place n.0 n.1 l.0) refl);
@@ -53,5 +53,5 @@ returns g c =
         held = held_found c.self.invariant.stored c.args.place n.0 n.1 l.0;
         phase = l.1;
       };
-      changed = entries_rested c.self.invariant.stored (rests_nodes c.self.inside.nodes c.set_pins.new.self c.append.new.self c.args.place n.0 n.1 c.set_pins.ensures.nodes c.append.ensures.nodes) refl h.value (c.append.ensures.idle ∙ ap (λ xs. xs ++ c.args.place ∷ []) c.set_pins.ensures.idle) l.0 refl l.1;
+      changed = entries_rested c.self.invariant.stored (rests_nodes c.self.inside.nodes c.set_pins.new.self c.append.new.self c.args.place n.0 n.1 c.set_pins.ensures.nodes c.append.ensures.nodes) refl h.value (c.append.ensures.idle ∙ ap (λ xs. xs ++ c.args.place ∷ []) c.set_pins.ensures.idle) l.0 refl l.1 (c.append.ensures.work ∙ ap (λ n. n + 1) c.set_pins.ensures.work);
     })

@@ -24,7 +24,7 @@ invariant_of-self g c =
     let n = some_node c.self.invariant.stored c.args.place (h.0, h.1) in
     let m = idle_node c.self.invariant.stored c.args.place h in
     let l = idle_like c.self.invariant.stored c.args.place n.0 n.1 m in
-    let changed = entries_revived_by_one c.self.invariant.stored (revives_nodes c.self.inside.nodes c.remove.new.self c.set_pins.new.self c.args.place n.0 n.1 c.remove.ensures.nodes c.set_pins.ensures.nodes) l.0 (c.set_pins.ensures.idle ∙ c.remove.ensures.idle) l.1 l.2 in
+    let changed = entries_revived_by_one c.self.invariant.stored (revives_nodes c.self.inside.nodes c.remove.new.self c.set_pins.new.self c.args.place n.0 n.1 c.remove.ensures.nodes c.set_pins.ensures.nodes) l.0 (c.set_pins.ensures.idle ∙ c.remove.ensures.idle) l.1 l.2 (c.set_pins.ensures.work ∙ c.remove.ensures.work) in
     record {
       stored = stored_revived c.self.invariant.stored (revives_nodes c.self.inside.nodes c.remove.new.self c.set_pins.new.self c.args.place n.0 n.1 c.remove.ensures.nodes c.set_pins.ensures.nodes) refl (c.set_pins.ensures.idle ∙ c.remove.ensures.idle) refl;
       sums = c.self.invariant.sums ∙ sym (sum_revived (entries_of c.self.inside.nodes) (entries_of c.set_pins.new.self) n.0.stamp (record { stamp = n.0.stamp; key = n.0.key; charge = n.0.charge; value = l.0 }) _
@@ -43,5 +43,5 @@ returns g c =
       entry = record { stamp = n.0.stamp; key = n.0.key; charge = n.0.charge; value = l.0 };
       at = place_at c.self.invariant.stored c.args.place n.0 n.1;
       idle = (idle_found c.self.invariant.stored c.args.place n.0 n.1 m).1 ∙ as_idle-ready n.0 l.0 l.2;
-      changed = entries_revived_by_one c.self.invariant.stored (revives_nodes c.self.inside.nodes c.remove.new.self c.set_pins.new.self c.args.place n.0 n.1 c.remove.ensures.nodes c.set_pins.ensures.nodes) l.0 (c.set_pins.ensures.idle ∙ c.remove.ensures.idle) l.1 l.2;
+      changed = entries_revived_by_one c.self.invariant.stored (revives_nodes c.self.inside.nodes c.remove.new.self c.set_pins.new.self c.args.place n.0 n.1 c.remove.ensures.nodes c.set_pins.ensures.nodes) l.0 (c.set_pins.ensures.idle ∙ c.remove.ensures.idle) l.1 l.2 (c.set_pins.ensures.work ∙ c.remove.ensures.work);
     })

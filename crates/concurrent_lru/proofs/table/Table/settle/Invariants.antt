@@ -6,6 +6,7 @@ use Rattle.concurrent_lru.proofs.table.Table.settle.Given as goal
 
 abbrev pub invariant-loop-self : goal.invariant-loop-self
 invariant-loop-self g l = record {
+  work : l.self.work ≡ l.initial.self.work + length (reverse (chained l.newest_first));
   held : l.self.held ≡ l.initial.self.held;
   ready : AreReady (chain_from l.newest_first);
   idle : l.initial.self.idle ≡ reverse (chained l.newest_first) ++ l.self.idle;
