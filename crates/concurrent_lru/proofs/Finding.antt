@@ -1,4 +1,4 @@
--- What is found in the maps, in words of the entries.
+-- What the two maps find, in words of the entries.
 use Rattle.std.proofs.Common.{◌≡◌, ℕ, Bool, true, Option, Some, None, refl, sym, ap, ◌∙◌, subst, eqb}
 use Rattle.std.specs.Prelude.{MatchOption}
 use Rattle.std.specs.Option.{option_map}

@@ -1,4 +1,4 @@
--- The tie of the nodes to the maps that find them: at a start, after a growth, an insert, a write and a removal.
+-- The nodes and the two maps that index them: at a start, after a growth, an insert, a write and a removal.
 use Rattle.std.proofs.Common.{◌≡◌, ℕ, ◌⊎◌, inl, inr, Bool, true, false, cond, Option, Some, None, refl, sym, ap, ◌∙◌, eqb}
 use Rattle.std.specs.Ordering.{nat_cmp}
 use Rattle.std.specs.Cmp.{IsEquivalence}

@@ -1,4 +1,4 @@
--- How the links change.
+-- The idle order by its links: at its end one more, one taken out, and read from its oldest on.
 use Rattle.std.proofs.Common.{◌≡◌, ◌≢◌, ◌⊎◌, inl, inr, ℕ, zero, suc, ◌+◌, ◌<◌, ◌≤◌, List, [], ◌∷◌, ◌++◌, length, refl, sym, ap, ◌∙◌, subst, arith, Option, Some, None, Contains, get_or, Bool, true, false, cond, eqb, filter, not}
 use Rattle.concurrent_lru.specs.Order.{Link, link, first_or, last_or, Absent, Distinct, Linked, IsOrder, after_of, order}
 

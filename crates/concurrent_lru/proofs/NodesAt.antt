@@ -1,4 +1,4 @@
--- The node at a place that is shown.
+-- The node at a place that an entry has.
 use Rattle.std.proofs.Common.{◌≡◌, ◌≢◌, ℕ, inr, List, [], ◌∷◌, ◌++◌, Option, Bool, true, false, Some, None, refl, sym, ap, ◌∙◌, subst, eqb, ◌==◌}
 use Rattle.std.specs.Prelude.{IsSome, is_some, slice_get}
 use Rattle.std.specs.FinMap.{get, keys}

@@ -1,5 +1,5 @@
--- What a change of links does to the model.
-use Rattle.std.proofs.Common.{◌≡◌, ◌≢◌, ℕ, zero, suc, ◌<◌, List, [], ◌∷◌, ◌++◌, map, length, get_or, true, false, Option, Some, None, refl, sym, ap, ◌∙◌, subst, arith, inl, inr, eqb, ◌||◌}
+-- Slots whose links change: what stays, and the order with a key appended.
+use Rattle.std.proofs.Common.{IsSome, ◌≡◌, ◌≢◌, ℕ, zero, suc, ◌<◌, List, [], ◌∷◌, ◌++◌, map, length, get_or, true, false, Option, Some, None, refl, sym, ap, ◌∙◌, subst, arith, inl, inr, eqb, ◌||◌}
 use Rattle.std.specs.List.{AllByRecursion, IsDistinct, list_any}
 use Rattle.std.proofs.lemmas.Bool.{cases_eq, eq-eqb, ne_eqb, true≢false}
 use Rattle.std.proofs.lemmas.Map.Steps.{length-le_from_distinct_below}
@@ -11,7 +11,7 @@ use Rattle.concurrent_lru.specs.Slots.{made}
 use Rattle.concurrent_lru.specs.Relinks.{cell_at, Holds, Relinks, before_in, after_in, before_at, after_at}
 use Rattle.concurrent_lru.specs.SlotTable.{link_of, link_at, entry_in, idle_of, IsGood, IsGoodAt, AreGood, IsEnd, IsTable}
 use Rattle.concurrent_lru.proofs.SlotMaps.{made_same}
-use Rattle.concurrent_lru.proofs.Linking.{order_read, order_push}
+use Rattle.concurrent_lru.proofs.Linking.{order_read, order_push, first_of}
 
 -- ---- lists of places
 pub get_or-map_option : {X Y : Type 0} (f : Option X → Option Y) → f None ≡ None → (xs : List (Option X)) (k : ℕ) → get_or (map f xs) k None ≡ f (get_or xs k None)
@@ -85,8 +85,8 @@ module _ {K V : Type 0} where
       ];
     }
 
-    pub link_there : link_at ds k ≡ Some (link (b) (a))
-    link_there = ap link_of r.now ∙ (λ i. Some (link ((r.node.before i)) ((r.node.after i))))
+    pub link_there : link_at ds k ≡ Some (link b a)
+    link_there = ap link_of r.now ∙ (λ i. Some (link (r.node.before i) (r.node.after i)))
 
     pub link_else : (q : ℕ) → q ≢ k → link_at ds q ≡ link_at cs q
     link_else q ne = ap link_of (r.others q ne)
@@ -131,7 +131,7 @@ module _ {K V : Type 0} where
     pub ordered : IsOrder (link_at ds) o (Some own) (ks ++ own ∷ [])
     pub good : AreGood ds (ks ++ own ∷ [])
 
-  pub table_pushed : (s t : Slab (Slot K V)) (o p : Option ℕ) (n : Option ℕ) (own : ℕ) → IsTable s o n → Holds s.slots own → Pushed s.slots t.slots p (idle_of s.slots o) own → IsTable t p (Some own)
+  table_pushed : (s t : Slab (Slot K V)) (o p : Option ℕ) (n : Option ℕ) (own : ℕ) → IsTable s o n → Holds s.slots own → Pushed s.slots t.slots p (idle_of s.slots o) own → IsTable t p (Some own)
   table_pushed s t o p n own kept h u =
       let e = read t.slots p (Some own) (idle_of s.slots o ++ own ∷ []) u.ordered in
       record {
@@ -142,7 +142,7 @@ module _ {K V : Type 0} where
       }
 
   module _ (cs cs1 : List (Option (Slot K V))) (o : Option ℕ) (n : Option ℕ) (ks : List ℕ) (own : ℕ)
-      (i : IsOrder (link_at cs) o (n) ks) (g : AreGood cs ks) (gn : IsGood cs n) (ho : Holds cs own) (out : Absent own ks) (r : Relinks cs cs1 own n None) where
+      (i : IsOrder (link_at cs) o n ks) (g : AreGood cs ks) (gn : IsGood cs n) (ho : Holds cs own) (out : Absent own ks) (r : Relinks cs cs1 own n None) where
     abbrev k : ℕ
     k = own
 
@@ -157,11 +157,11 @@ module _ {K V : Type 0} where
     good1 = (subst (IsGood cs1) (sym (before_there cs cs1 k n None r)) (good_kept cs cs1 q1 n gn), subst (IsGood cs1) (sym (after_there cs cs1 k n None r)) tt)
 
     -- into an empty list
-    pub pushed_first : n ≡ None → Pushed cs cs1 (Some k) ks own
+    pushed_first : n ≡ None → Pushed cs cs1 (Some k) ks own
     pushed_first e = record {
       quiet = q1;
-      ordered = subst (λ v. IsOrder (link_at cs1) v (Some k) (ks ++ k ∷ [])) (ap (Rattle.concurrent_lru.proofs.Linking.first_of (link_at cs) (link_at cs1) o (n) k) (e))
-          (order_push (link_at cs) (link_at cs1) o (n) k ks i out (link_there cs cs1 k n None r) (λ m b a s was. absurd (none_some m (sym (e) ∙ s))) (λ q ne no. link_else cs cs1 k n None r q ne));
+      ordered = subst (λ v. IsOrder (link_at cs1) v (Some k) (ks ++ k ∷ [])) (ap (first_of (link_at cs) (link_at cs1) o n k) e)
+          (order_push (link_at cs) (link_at cs1) o n k ks i out (link_there cs cs1 k n None r) (λ m b a s was. absurd (none_some m (sym e ∙ s))) (λ q ne no. link_else cs cs1 k n None r q ne));
       good = good_push cs1 ks k (are_good cs cs1 k stays1 ks out g) good1;
     }
       where
@@ -209,11 +209,11 @@ module _ {K V : Type 0} where
         subst (IsGood cs2) (sym (after_else cs1 cs2 m (before_at cs1 m) (Some own) r2 k apart ∙ after_there cs cs1 k n None r)) tt,
       )
 
-      pub pushed_after : Pushed cs cs2 o ks own
+      pushed_after : Pushed cs cs2 o ks own
       pushed_after = record {
         quiet = q2;
-        ordered = subst (λ v. IsOrder (link_at cs2) v (Some k) (ks ++ k ∷ [])) (ap (Rattle.concurrent_lru.proofs.Linking.first_of (link_at cs) (link_at cs2) o (n) k) (some))
-            (order_push (link_at cs) (link_at cs2) o (n) k ks i out
+        ordered = subst (λ v. IsOrder (link_at cs2) v (Some k) (ks ++ k ∷ [])) (ap (first_of (link_at cs) (link_at cs2) o n k) some)
+            (order_push (link_at cs) (link_at cs2) o n k ks i out
             (link_else cs1 cs2 m (before_at cs1 m) (Some own) r2 k apart ∙ link_there cs cs1 k n None r)
             (λ p b a s was.
             let at : Some p ≡ Some m = sym s ∙ some in let is : p ≡ m = cc in
@@ -222,3 +222,28 @@ module _ {K V : Type 0} where
             (λ q ne no. link_else cs1 cs2 m (before_at cs1 m) (Some own) r2 q (λ e. no (some ∙ ap Some (sym e))) ∙ link_else cs cs1 k n None r q ne));
         good = good_push cs2 ks k (are_good cs cs2 k stays2 ks out g) good2;
       }
+
+  pub has_slot : (x : Option (Slot K V)) → IsSome x → (c : Slot K V) × (x ≡ Some c)
+  has_slot None h = cc
+  has_slot (Some c) h = (c, refl)
+
+  -- a key appended to the order
+  pub record IsAppended (s t : Slab (Slot K V)) (o p : Option ℕ) (k : ℕ) : Type 0 where
+    pub table : IsTable t p (Some k)
+    pub nodes : made (map entry_in t.slots) ≡ made (map entry_in s.slots)
+    pub idle : idle_of t.slots p ≡ idle_of s.slots o ++ k ∷ []
+
+  appended : (s t : Slab (Slot K V)) (o p n : Option ℕ) (k : ℕ) → IsTable s o n → Holds s.slots k → Pushed s.slots t.slots p (idle_of s.slots o) k → IsAppended s t o p k
+  appended s t o p n k kept slot u = record { table = table_pushed s t o p n k kept slot u; nodes = entries_kept s.slots t.slots u.quiet; idle = read t.slots p (Some k) (idle_of s.slots o ++ k ∷ []) u.ordered }
+
+  -- to an empty one, and after the newest
+  pub appended_first : (s t : Slab (Slot K V)) (o n : Option ℕ) (k : ℕ) → IsTable s o n → IsSome (cell_at s.slots k) → list_any (eqb k) (idle_of s.slots o) ≡ false → Relinks s.slots t.slots k n None → n ≡ None → IsAppended s t o (Some k) k
+  appended_first s t o n k kept present held r none =
+      let slot = has_slot (cell_at s.slots k) present in
+      appended s t o (Some k) n k kept slot (pushed_first s.slots t.slots o n (idle_of s.slots o) k kept.ordered kept.good kept.last_good slot (absent_from k (idle_of s.slots o) held) r none)
+
+  pub appended_after : (s t : Slab (Slot K V)) (o n : Option ℕ) (k last : ℕ) (cs : List (Option (Slot K V))) → IsTable s o n → IsSome (cell_at s.slots k) → list_any (eqb k) (idle_of s.slots o) ≡ false
+      → Relinks s.slots cs k n None → n ≡ Some last → Relinks cs t.slots last (before_at cs last) (Some k) → IsAppended s t o o k
+  appended_after s t o n k last cs kept present held r is after =
+      let slot = has_slot (cell_at s.slots k) present in
+      appended s t o o n k kept slot (pushed_after s.slots cs o n (idle_of s.slots o) k kept.ordered kept.good kept.last_good slot (absent_from k (idle_of s.slots o) held) r t.slots last is after)

@@ -1,4 +1,4 @@
--- What a table keeps and shows where one node is written: a held one, one that is revived, one that comes to rest.
+-- What a table stores, and its entries, where one node is written: a held one, one that is revived, one that comes to rest.
 use Rattle.std.proofs.Common.{◌≡◌, ℕ, Bool, ◌<◌, ◌+◌, ◌++◌, ◌∷◌, [], false, not, Some, refl, ap, ◌∙◌, eqb, ◌==◌, arith}
 use Rattle.std.specs.List.{filter}
 use Rattle.std.specs.FinMap.{get, insert, remove, keys}

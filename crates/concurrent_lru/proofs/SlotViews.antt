@@ -1,4 +1,4 @@
--- What the model of a `Nodes` says of its fields.
+-- What slots show: the node at a place, whether it is idle, and what an insert, a write and a removal do to both.
 use Rattle.std.proofs.Common.{◌≡◌, ◌≢◌, ℕ, suc, ◌+◌, ◌-◌, List, [], ◌∷◌, map, Option, Some, None, refl, sym, ap, ◌∙◌, subst, arith, ◌≤◌, IsSome, inl, inr, Bool, eqb}
 use Rattle.std.proofs.Common.{is_some, count_by, cond, zero-add}
 use Rattle.std.specs.List.{list_any}
@@ -20,9 +20,8 @@ use Rattle.std.specs.List.{IsDistinct}
 use Rattle.std.specs.Option.{option_map_or}
 use Rattle.slab.specs.Slab.{slab_len}
 use Rattle.concurrent_lru.proofs.Members.{IsIn}
-use Rattle.concurrent_lru.proofs.Relinking.{distinct, read, link_told_at, get_or-map_option}
-use Rattle.concurrent_lru.proofs.Linking.{linked_at}
-use Rattle.concurrent_lru.proofs.Unlinking.{cut_at, linked_present, has_slot}
+use Rattle.concurrent_lru.proofs.Relinking.{has_slot, distinct, read, link_told_at, get_or-map_option}
+use Rattle.concurrent_lru.proofs.Unlinking.{present_in}
 
 -- the place is not the key
 abbrev pub NotKey : ℕ → Option ℕ → Type 0
@@ -60,7 +59,7 @@ module _ {K V : Type 0} where
 
   -- a change under a key that is not idle
   module _ (cs ds : List (Option (Slot K V))) (key : ℕ) (others : (q : ℕ) → q ≢ key → cell_at ds q ≡ cell_at cs q) where
-    good_less : (w : Option ℕ) → NotKey key (w) → IsGood cs w → IsGood ds w
+    good_less : (w : Option ℕ) → NotKey key w → IsGood cs w → IsGood ds w
     good_less None h g = tt
     good_less (Some l) h g = (g.0, others l (h l refl) ∙ g.1)
 
@@ -80,15 +79,15 @@ module _ {K V : Type 0} where
   table_else s t o n key kept out others ends =
       let cs = s.slots in let ds = t.slots in let ks = idle_of cs o in
       let i = kept.ordered in
-      let j : IsOrder (link_at ds) o (n) ks = record {
+      let j : IsOrder (link_at ds) o n ks = record {
         first = i.first;
         last = i.last;
         linked = linked_same (link_at cs) (link_at ds) None ks None (same_but (link_at cs) (link_at ds) key key (λ q ne _. ap link_of (others q ne)) ks out out) i.linked;
         distinct = i.distinct;
       } in
-      let e = read ds o (n) ks j in (
+      let e = read ds o n ks j in (
         record {
-          ordered = subst (IsOrder (link_at ds) o (n)) (sym e) j;
+          ordered = subst (IsOrder (link_at ds) o n) (sym e) j;
           good = subst (AreGood ds) (sym e) (are_less cs ds key others None ks None i.linked out (λ z is. cc) (λ z is. cc) kept.good);
           last_good = good_less cs ds key others n (λ z is. last_not key None ks out (λ y h. cc) z (sym i.last ∙ is)) kept.last_good;
           ends = λ q. elim (cases_eq q key) [
@@ -199,9 +198,7 @@ module _ {K V : Type 0} where
   -- what is in the order has a node, and stands there once
   pub idle_within : (s : Slab (Slot K V)) (o n : Option ℕ) (w p : ℕ) → IsTable s o n → IsIn p (idle_of s.slots o) → IsSome (fin.get (table_of s o w).nodes p)
   idle_within s o n w p t m =
-      let ks = idle_of s.slots o in
-      let cut = cut_at ks p m in
-      let slot = has_slot (cell_at s.slots p) (linked_present s.slots p _ (linked_at (link_at s.slots) None ks None p cut.0 cut.1 cut.2 t.ordered.linked)) in
+      let slot = has_slot (cell_at s.slots p) (present_in s o n p t m) in
       ap is_some (node_is s o w p ∙ ap entry_in slot.1)
 
   pub idle_once : (s : Slab (Slot K V)) (o n : Option ℕ) → IsTable s o n → IsDistinct eqb (idle_of s.slots o)

@@ -1,4 +1,4 @@
--- A write of one slot.
+-- One slot written, as the slots that it leaves.
 use Rattle.std.proofs.Common.{◌≡◌, ℕ, zero, suc, ◌<◌, List, [], ◌∷◌, length, set, Option, Some, None, ap, ◌∙◌, arith}
 use Rattle.std.proofs.lemmas.List.{get_or-set_same, get_or-set_other}
 use Rattle.concurrent_lru.specs.Relinks.{cell_at, IsRelinked, Relinks, IsRevalued, Revalues}

@@ -1,4 +1,4 @@
--- What a table keeps and what it shows: after a growth, with an entry more, with an entry less.
+-- What a table stores, and its entries: after a growth, with an entry more, with an entry less.
 use Rattle.std.proofs.Common.{◌≡◌, ℕ, ◌++◌, ◌∷◌, [], Bool, true, false, cond, not, Some, None, Result, Ok, Err, refl, sym, ap, ◌∙◌, eqb, ◌==◌}
 use Rattle.std.specs.Prelude.{IsSome, IsOk, OnOk, OnErr}
 use Rattle.std.specs.List.{filter, filter_map}
