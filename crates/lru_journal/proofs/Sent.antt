@@ -12,7 +12,7 @@ use Rattle.std.proofs.alloc.Global.TheSendSync as global_sent
 use Rattle.std.proofs.sync.Mutex.TheSendSync as mutex_sent
 use Rattle.atomic_table.proofs.shared.Seat.TheSendSync as seat_sent
 use Rattle.crossbeam_utils.proofs.atomic.seq_cell.Wide.TheSendSync as wide_sent
-use Rattle.concurrent_lru.specs.contracts.lru_core.State.TheInside as state
+use Rattle.concurrent_lru.specs.contracts.lru_core.State as state
 use Rattle.concurrent_lru.proofs.Sent.{state_send}
 use Rattle.lru_journal.specs.declared.tally.Identity as identity
 use Rattle.lru_journal.specs.contracts.desk.Desk as desk

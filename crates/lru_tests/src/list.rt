@@ -36,6 +36,20 @@ fn keeps_a_node_from_its_insert_to_its_end(rt: HostRuntime) -> Result<(), Fail> 
 }
 
 #[test]
+fn gives_a_free_place_out_again(rt: HostRuntime) -> Result<(), Fail> {
+    let alloc = rt.alloc();
+    let mut nodes: Nodes<u64, u64> = Nodes::new(alloc);
+    nodes.reserve(3)?;
+    let first = nodes.insert_reserved(Box::new(alloc, Node::new(0, 1, 1))?);
+    let second = nodes.insert_reserved(Box::new(alloc, Node::new(1, 2, 1))?);
+    drop(nodes.take(first));
+    let third = nodes.insert_reserved(Box::new(alloc, Node::new(2, 3, 1))?);
+    assert!(rt; third == first);
+    assert!(rt; third != second);
+    Ok(())
+}
+
+#[test]
 fn numbers_its_refusals(rt: HostRuntime) {
     assert_eq!(rt; Refusal::Memory.code(), 1);
     assert_eq!(rt; Refusal::Overflow.code(), 2);
