@@ -275,10 +275,6 @@ module _ {K V : Type 0} (E : K → K → Bool) where
   begin_never_stale old new k charge (Ok x) h = tt
   begin_never_stale old new k charge (Err e) h = λ is. subst (λ x. Refuses E old (ask.begin k charge) x) is h.0
 
-  pub get_never_stale : (old new : Cache K V) (k : K) (r : Result (Option (ℕ × Arc V Global)) Refusal) → Stands E old (ask.get k) (got r) new → IfErr r (λ e. e ≢ Stale)
-  get_never_stale old new k (Ok x) h = tt
-  get_never_stale old new k (Err e) h = λ is. subst (λ x. Refuses E old (ask.get k) x) is h.0
-
   module _ (fits : K → V → Type 0) where
     kept_fewer : (old new : Cache K V) → FewerReady old new → IsKept fits old → IsKept fits new
     kept_fewer old new fewer kept k v h = kept k v (fewer k v h)

@@ -1,5 +1,6 @@
 //! A capacity set at run time: what it evicts, and the pins that meet it.
 
+use crate::makings::comes_second;
 use crate::recorded::{Record, Recorded};
 use crate::turns::{meets, pause, raise};
 use concurrent_lru::unsharded::LruCache;
@@ -83,23 +84,6 @@ fn makes_meanwhile<R: Wait>(cache: &LruCache<u64, u64, R>, meeting: &Meeting) ->
     }
 }
 
-// The value of key 1, waited for while it is made; none where this caller made it anew.
-fn waits_meanwhile<R: Wait>(cache: &LruCache<u64, u64, R>, meeting: &Meeting) -> Option<u64> {
-    if !meets(&meeting.started) {
-        return None;
-    }
-    raise(&meeting.coming);
-    let mut ran = false;
-    let found = cache.get_or_init(1, 7, |_| {
-        ran = true;
-        6
-    });
-    match found {
-        Ok(handle) if !ran => Some(*handle.value()),
-        _ => None,
-    }
-}
-
 // Sets the capacity to 0 while the first caller makes the value and the second waits, and says
 // the total then.
 fn shrinks_meanwhile<R: Wait>(cache: &LruCache<u64, u64, R>, meeting: &Meeting) -> Option<u64> {
@@ -123,7 +107,7 @@ fn makers_and_waiters_outlive_a_change(rt: HostRuntime) -> Result<(), Fail> {
         || makes_meanwhile(&cache, &meeting),
         || thread::join(
             &rt,
-            || waits_meanwhile(&cache, &meeting),
+            || comes_second(&cache, &meeting.started, &meeting.coming),
             || shrinks_meanwhile(&cache, &meeting),
         ),
     );

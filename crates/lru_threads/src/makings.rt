@@ -26,8 +26,8 @@ fn makes_first<R: Wait>(
     }
 }
 
-// The value of key 1, asked for while it is made; none where this caller made it anew.
-fn comes_second<R: Wait>(
+/// The value of key 1, asked for while it is made; none where this caller made it anew.
+pub(crate) fn comes_second<R: Wait>(
     cache: &LruCache<u64, u64, R>,
     started: &AtomicU64,
     coming: &AtomicU64,
