@@ -11,7 +11,9 @@ ghost use Rattle.concurrent_lru.specs.Ready.{IsKept};
 
 use crate::fit::Fit;
 use crate::handle::CacheHandle;
-use crate::locked::{Advised, Entered, Locked, Making, Pin, Polled, Pruned, Resized, Waiting};
+use crate::locked::{
+    Advised, Entered, Locked, Making, Pin, Polled, Pruned, Reserved, Resized, Waiting,
+};
 use crate::lru_core::Refusal;
 use std::alloc::Global;
 use std::fmt;
@@ -86,6 +88,15 @@ impl<K: Hash + Eq + Clone + Drop, V: Drop, R: Wait, F: Fit<K, V>> Door<K, V, R, 
 }
 
 impl<'a, K: Hash + Eq + Clone + Drop, V: Drop, R: Wait, F: Fit<K, V>> Inside<'a, K, V, R, F> {
+    /// `Locked::reserve`.
+    pub fn reserve(self, entries: usize) -> Result<Reserved, Refusal>
+        ensures err { IfErr result (λ e. e ≡ Refusal.Memory) }
+        ensures done { IfOk result (λ reserved. reserved ≡ entries) }
+    {
+        let Self { door: _, mut guard } = self;
+        guard.reserve(entries)
+    }
+
     /// `Locked::get`.
     pub fn get(self, key: &K) -> Result<Option<CacheHandle<'a, K, V, R, F>>, Refusal>
         ensures found { IfOk result (λ found. IfSome found (λ h. IsHandleFor F.fits h key.now None)) }

@@ -16,7 +16,7 @@ mod done;
 mod pins;
 mod sealed;
 
-pub use self::done::{Advised, Pruned, Resized};
+pub use self::done::{Advised, Pruned, Reserved, Resized};
 pub use self::pins::{Entered, Making, Pin, Polled, Unread, Waiting, Woken};
 pub use self::sealed::{Sealed, Waiters};
 use crate::fit::Fit;
@@ -61,6 +61,18 @@ impl<K: Hash + Eq + Clone + Drop, V: Drop, F: Fit<K, V>> Locked<K, V, F> {
             state: State::new(alloc, capacity),
             mark: PhantomData,
         }
+    }
+
+    /// The core's `reserve`: room for so many entries in all.
+    ///
+    /// `Memory` where the allocator refuses.
+    pub fn reserve(&mut self, entries: usize) -> Result<Reserved, Refusal>
+        ensures err { IfErr result (λ e. e ≡ Refusal.Memory) }
+        ensures same { self.new ≡ self.old }
+        ensures done { IfOk result (λ reserved. reserved ≡ entries) }
+    {
+        self.state.reserve(entries)?;
+        Ok(Reserved::of(entries))
     }
 
     /// Does nothing; its contract tells what holds whenever the lock is got.

@@ -1,11 +1,11 @@
 //! The shards of a cache that threads share, and which of them serves a key.
 //! A single shard is reached by its key alone, so no call goes to another shard.
-ghost use Rattle.std.specs.Prelude.{◌≡◌, ◌<◌, ◌+◌, ◌-◌, ◌/◌, ◌%◌, Some, IfErr, slice_get, vec_len};
+ghost use Rattle.std.specs.Prelude.{◌≡◌, ◌<◌, ◌+◌, ◌-◌, ◌/◌, ◌%◌, Some, IfErr, IfOk, slice_get, vec_len};
 ghost use Rattle.concurrent_lru.specs.Keys.{CopiesAreEqual};
 ghost use Rattle.concurrent_lru.specs.Sharded.{key_number};
 
 use crate::fit::Fit;
-use crate::locked::{Pruned, Resized};
+use crate::locked::{Pruned, Reserved, Resized};
 use crate::lru_core::Refusal;
 use crate::shards::capacity_per_shard;
 use crate::unsharded::LruCache;
@@ -71,6 +71,27 @@ impl<K: Hash + Eq + Clone + Drop, V: Drop, R: Wait, S: BuildHasher, F: Fit<K, V>
     {
         let shard = self.hasher.hash_one(key) % self.shards.len() as u64;
         &self.shards[shard as usize]
+    }
+
+    /// `reserve` of each shard, one after another, with its share of the entries.
+    ///
+    /// `Memory` where the allocator refuses; the shards before that one keep their room.
+    pub fn reserve(&self, entries: usize) -> Result<(), Refusal>
+        ensures { IfErr result (λ e. e ≡ Refusal.Memory) }
+    {
+        for shard in &self.shards {
+            let _: Reserved = self.reserved(shard, entries)?;
+        }
+        Ok(())
+    }
+
+    // Asks a shard to make room for its share of so many entries.
+    fn reserved(&self, shard: &LruCache<K, V, R, F>, entries: usize) -> Result<Reserved, Refusal>
+        ensures err { IfErr result (λ e. e ≡ Refusal.Memory) }
+        ensures done { IfOk result (λ reserved. reserved ≡ (entries + vec_len self.now.shards - 1) / vec_len self.now.shards) }
+    {
+        let reserved = shard.reserved(entries.div_ceil(self.shards.len()))?;
+        Ok(reserved)
     }
 
     /// `prune` of each shard, one after another.

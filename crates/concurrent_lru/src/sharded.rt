@@ -149,6 +149,18 @@ impl<K: Hash + Eq + Clone + Drop, V: Drop, R: Wait, S: BuildHasher, F: Fit<K, V>
     S,
     F,
 > {
+    /// Makes room in each shard for its share of `entries` entries, the quotient by the number of
+    /// shards rounded up, as the cache of one lock does, one shard after another. A hasher may
+    /// give a shard more keys than its share, and that shard then grows as it would.
+    ///
+    /// `Memory` where the allocator refuses; no entry changes in either case, though some room
+    /// may have been made.
+    pub fn reserve(&self, entries: usize) -> Result<(), Refusal>
+        ensures { IfErr result (λ e. e ≡ Refusal.Memory) }
+    {
+        self.routes.reserve(entries)
+    }
+
     /// A handle of the key's value, where it is ready; none where the key has no entry or its
     /// value is still being made. Waits for no maker.
     ///

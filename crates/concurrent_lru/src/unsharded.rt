@@ -10,7 +10,7 @@ use crate::door::{Door, Maker, Met};
 use crate::fit::{Anything, Fit};
 pub use crate::get_error::GetError;
 pub use crate::handle::CacheHandle;
-use crate::locked::{Advised, Pruned, Resized};
+use crate::locked::{Advised, Pruned, Reserved, Resized};
 use crate::lru_core::Refusal;
 use std::alloc::Global;
 use std::fmt;
@@ -47,6 +47,20 @@ impl<K: Hash + Eq + Clone + Drop, V: Drop, R: Wait, F: Fit<K, V>> LruCache<K, V,
             alloc,
             door: Door::new(alloc, rt, capacity),
         }
+    }
+
+    /// Makes room for `entries` entries in all, those that are there included, as
+    /// `State::reserve` does: until there are more, no call grows the tables under the lock where
+    /// no entry was removed since. A new entry asks for the memory of its node and of its value
+    /// all the same.
+    ///
+    /// `Memory` where the allocator refuses; no entry changes in either case, though some room
+    /// may have been made.
+    pub fn reserve(&self, entries: usize) -> Result<(), Refusal>
+        ensures { IfErr result (λ e. e ≡ Refusal.Memory) }
+    {
+        let _: Reserved = self.reserved(entries)?;
+        Ok(())
     }
 
     /// A handle of the key's value, where it is ready; none where the key has no entry or its
@@ -164,6 +178,13 @@ impl<K: Hash + Eq + Clone + Drop, V: Drop, R: Wait, F: Fit<K, V>> LruCache<K, V,
     }
 
     // The calls above, each with what was asked under the lock.
+    pub(crate) fn reserved(&self, entries: usize) -> Result<Reserved, Refusal>
+        ensures err { IfErr result (λ e. e ≡ Refusal.Memory) }
+        ensures done { IfOk result (λ reserved. reserved ≡ entries) }
+    {
+        self.door.enter().reserve(entries)
+    }
+
     pub(crate) fn advised(&self, key: &K) -> Advised<K>
         ensures { result ≡ key.now }
     {

@@ -1,6 +1,7 @@
 //! The sharded cache of threads: worked rows, its total and its text.
 
 use crate::hashers::ByOwnNumber;
+use concurrent_lru::lru_core::Refusal;
 use concurrent_lru::sharded::LruCache;
 use concurrent_lru::unsharded::GetError;
 use std::hash::{BuildHasherDefault, FoldHasher, RandomState};
@@ -87,6 +88,17 @@ fn a_change_of_capacity_settles_each_shard(rt: HostRuntime) -> Result<(), Fail> 
     // Each shard's share is rounded up.
     cache.set_capacity(3);
     assert_eq!(rt; cache.capacity(), 4);
+    Ok(())
+}
+
+#[test]
+fn each_shard_makes_room_ahead_or_refuses(rt: HostRuntime) -> Result<(), Fail> {
+    let cache: Cache = LruCache::with_shards_hasher(rt.alloc(), rt.clone()?, 4, 2, ByOwnNumber)?;
+    drop(cache.get_or_init(1, 2, |key| *key)?);
+    assert_eq!(rt; cache.reserve(usize::MAX), Err(Refusal::Memory));
+    assert_eq!(rt; cache.reserve(100), Ok(()));
+    assert_eq!(rt; cache.total_charge(), 2);
+    assert!(rt; cache.get(1)?.is_some());
     Ok(())
 }
 

@@ -40,6 +40,18 @@ fn takes_a_total_up_to_the_greatest_number(rt: HostRuntime) -> Result<(), Fail> 
 }
 
 #[test]
+fn a_room_past_all_memory_is_refused(rt: HostRuntime) -> Result<(), Fail> {
+    let alloc = rt.alloc();
+    let mut state: State<u64, u64> = State::new(alloc, 9);
+    make(alloc, &mut state, &1, 4, 7)?;
+    assert_eq!(rt; state.reserve(usize::MAX), Err(Refusal::Memory));
+    assert_eq!(rt; state.reserve(100), Ok(()));
+    assert_eq!(rt; state.total(), 4);
+    assert!(rt; state.get(&1)?.is_some());
+    Ok(())
+}
+
+#[test]
 fn pins_a_making_up_to_its_limit(rt: HostRuntime) -> Result<(), Fail> {
     let mut state: State<u64, u64> = State::with_limits(rt.alloc(), 10, 0, 2);
     assert_eq!(rt; begin(&mut state, 1, 1), Ok(Said::Make(0)));

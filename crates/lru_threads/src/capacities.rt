@@ -1,8 +1,9 @@
-//! A capacity set at run time: what it evicts, and the pins that meet it.
+//! A capacity set at run time: what it evicts, and the pins that meet it; and room made ahead.
 
 use crate::makings::comes_second;
 use crate::recorded::{Record, Recorded};
 use crate::turns::{meets, pause, raise};
+use concurrent_lru::lru_core::Refusal;
 use concurrent_lru::unsharded::LruCache;
 use std::sync::Wait;
 use std::sync::atomic::AtomicU64;
@@ -28,6 +29,17 @@ fn a_smaller_capacity_evicts_at_once(rt: HostRuntime) -> Result<(), Fail> {
     cache.prune();
     assert!(rt; record.is([1, 2, 3].as_slice()));
     assert_eq!(rt; cache.capacity(), 9);
+    Ok(())
+}
+
+#[test]
+fn room_is_made_ahead_or_refused(rt: HostRuntime) -> Result<(), Fail> {
+    let cache: LruCache<u64, u64, HostRuntime> = LruCache::new(rt.alloc(), rt.clone()?, 9);
+    drop(cache.get_or_init(1, 4, |key| *key)?);
+    assert_eq!(rt; cache.reserve(usize::MAX), Err(Refusal::Memory));
+    assert_eq!(rt; cache.reserve(100), Ok(()));
+    assert_eq!(rt; cache.total_charge(), 4);
+    assert!(rt; cache.get(1)?.is_some());
     Ok(())
 }
 

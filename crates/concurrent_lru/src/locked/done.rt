@@ -37,6 +37,30 @@ impl Pruned {
     }
 }
 
+/// `reserve` was called, and there is room. Clauses see the number of entries.
+#[derive(Drop)]
+pub struct Reserved {
+    asked: Snapshot<usize>,
+}
+
+impl Model for Reserved {
+    ghost use Rattle.std.specs.Prelude.{ℕ};
+
+    ghost Value = { ℕ };
+
+    ghost view = { λ r. r.asked.value };
+}
+
+impl Reserved {
+    pub(super) fn of(entries: usize) -> Self
+        ensures { result ≡ entries }
+    {
+        Reserved {
+            asked: Snapshot::of(&entries),
+        }
+    }
+}
+
 /// `set_capacity` was called. Clauses see the capacity.
 #[derive(Drop)]
 pub struct Resized {
