@@ -5,7 +5,7 @@ use crate::keys::Keys;
 use crate::plan::Plan;
 use crate::report::{Report, Work};
 use crate::stress::stress;
-use crate::uses::{fill, hit_get, hit_init, miss_evict};
+use crate::uses::{fill, hit_get, hit_init, look_up, map_of, miss_evict};
 use concurrent_lru::{sharded, unsharded};
 use std::alloc::Global;
 use std::hash::RandomState;
@@ -19,6 +19,8 @@ use std::thread::Threads;
 const ON_ONE_LOCK: &str = "port-unsharded";
 
 const IN_SHARDS: &str = "port-sharded";
+
+const IN_A_MAP: &str = "std-map";
 
 // The capacity of the stress workload on one lock, and in shards.
 const LOCK_CAPACITY: u64 = 100;
@@ -35,6 +37,7 @@ pub fn run<R: Threads + Wait + Clock + RandomSource + Sync, O: Write>(
 ) -> Result<(), Failure> {
     let mut report = Report::new(rt, out, plan.shown);
     for entries in &plan.entries {
+        use_map(alloc, *entries, plan.operations, &mut report)?;
         use_alone(rt, alloc, *entries, plan.operations, &mut report)?;
     }
     for threads in [1, 2, 4, 8] {
@@ -42,6 +45,27 @@ pub fn run<R: Threads + Wait + Clock + RandomSource + Sync, O: Write>(
         stress_shards(rt, alloc, threads, plan.calls, &mut report)?;
     }
     Ok(())
+}
+
+// The look-ups of the first workload in a map, with no cache and no lock.
+fn use_map<R: Clock, O: Write>(
+    alloc: Global,
+    entries: NonZeroU64,
+    operations: u32,
+    report: &mut Report<'_, R, O>,
+) -> Result<(), Failure> {
+    let map = map_of(alloc, entries.get())?;
+    let mut keys = Keys::of(entries);
+    let begin = report.start()?;
+    let sum = look_up(&map, &mut keys, operations);
+    let work = Work {
+        system: IN_A_MAP,
+        name: "hit_get",
+        entries: entries.get(),
+        threads: 1,
+        operations,
+    };
+    report.end(&work, begin, sum)
 }
 
 // The three workloads of one thread, on one cache that is full from the start.

@@ -1,8 +1,11 @@
-//! The workloads of one thread, on a full cache on one lock. Each handle is dropped at once.
+//! The workloads of one thread, on a full cache on one lock. Each handle is dropped at once. And
+//! the look-ups of the first on a map alone, which say what the cache adds to its map.
 
 use crate::keys::Keys;
 use concurrent_lru::lru_core::Refusal;
 use concurrent_lru::unsharded::LruCache;
+use std::alloc::{AllocError, Global};
+use std::collections::HashMap;
 use std::sync::Wait;
 
 // The first key that `fill` never makes.
@@ -14,6 +17,26 @@ pub fn fill<R: Wait>(cache: &LruCache<u64, u64, R>, entries: u64) -> Result<(), 
         drop(cache.get_or_init(key, 1, |key| *key)?);
     }
     Ok(())
+}
+
+/// A map from the keys from 0 up to `entries` to themselves.
+pub fn map_of(alloc: Global, entries: u64) -> Result<HashMap<u64, u64>, AllocError> {
+    let mut map = HashMap::new(alloc);
+    for key in 0..entries {
+        map.insert(key, key)?;
+    }
+    Ok(map)
+}
+
+/// Looks present keys up in a map, and answers the sum of their values.
+pub fn look_up(map: &HashMap<u64, u64>, keys: &mut Keys, operations: u32) -> u64 {
+    let mut sum: u64 = 0;
+    for _ in 0..operations {
+        if let Some(value) = map.get(&keys.draw()) {
+            sum = sum.wrapping_add(*value);
+        }
+    }
+    sum
 }
 
 /// Looks present keys up by `get`, and answers the sum of their values.

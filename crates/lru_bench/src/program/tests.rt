@@ -8,9 +8,11 @@ use std::test::Fail;
 
 // As a cache in Rust reads them on the same workloads.
 const SUMS: &str = "\
+std-map hit_get 8 1 3506
 port-unsharded hit_get 8 1 3506
 port-unsharded hit_init 8 1 3342
 port-unsharded miss_evict 8 1 10000499500
+std-map hit_get 100 1 50962
 port-unsharded hit_get 100 1 50962
 port-unsharded hit_init 100 1 50006
 port-unsharded miss_evict 100 1 10000499500
