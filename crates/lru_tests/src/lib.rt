@@ -7,6 +7,8 @@ mod capacities;
 #[cfg(test)]
 mod ends;
 #[cfg(test)]
+mod example;
+#[cfg(test)]
 mod list;
 #[cfg(test)]
 mod seeded;

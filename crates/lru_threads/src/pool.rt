@@ -1,8 +1,9 @@
-//! The first example of the README: a pool that makes its values on demand, pins two, and lets
-//! one go.
+//! The first example of the README, whole: a pool that opens connections on demand, pins two, and
+//! closes one to make room.
 
-use concurrent_lru::unsharded::LruCache;
-use std::test::Fail;
+use concurrent_lru::lru_core::Refusal;
+use concurrent_lru::unsharded::{GetError, LruCache};
+use std::sync::Wait;
 
 /// Something that is dear to open.
 #[derive(Drop)]
@@ -10,26 +11,58 @@ struct Connection {
     port: u64,
 }
 
-impl Connection {
-    fn open(port: u64) -> Connection {
-        Connection { port }
+/// Why there is no connection.
+#[derive(Debug, Drop, PartialEq, Eq)]
+enum Failure {
+    /// The cache has no memory, or a number of it is at its end.
+    Refused(Refusal),
+    /// Nobody listens there.
+    Closed(u64),
+}
+
+impl From<Refusal> for Failure {
+    fn from(refusal: Refusal) -> Failure {
+        Failure::Refused(refusal)
     }
 }
 
+impl From<GetError<Failure>> for Failure {
+    fn from(error: GetError<Failure>) -> Failure {
+        match error {
+            GetError::Init(failure) => failure,
+            GetError::Memory => Failure::Refused(Refusal::Memory),
+            GetError::Overflow => Failure::Refused(Refusal::Overflow),
+        }
+    }
+}
+
+fn open(port: u64) -> Result<Connection, Failure> {
+    if port == 0 {
+        return Err(Failure::Closed(port));
+    }
+    Ok(Connection { port })
+}
+
+// Holds two connections at once, and answers their ports. R is the right to wait at the pool's
+// lock: only `main` and tests have it, so what uses a cache is generic in it.
+fn web_and_mail<R: Wait>(pool: &LruCache<u64, Connection, R>) -> Result<(u64, u64), Failure> {
+    let web = pool.get_or_try_init(80, 1, |port| open(*port))?;
+    let mail = pool.get_or_try_init(25, 1, |port| open(*port))?;
+    Ok((web.value().port, mail.value().port))
+}
+
 #[test]
-fn a_pool_of_connections(rt: HostRuntime) -> Result<(), Fail> {
+fn a_pool_of_connections(rt: HostRuntime) -> Result<(), Failure> {
     // Keeps idle connections as long as no more than one is open in all.
-    let pool: LruCache<u64, Connection, HostRuntime> = LruCache::new(rt.alloc(), rt.clone()?, 1);
-    let web = pool.get_or_init(80, 1, |port| Connection::open(*port))?;
-    let mail = pool.get_or_init(25, 1, |port| Connection::open(*port))?;
-    assert_eq!(rt; web.value().port, 80);
-    assert_eq!(rt; mail.value().port, 25);
-    // Both are in use, so both stay open.
-    assert_eq!(rt; pool.total_charge(), 2);
-    // One is let go, and is closed to make room.
-    drop(mail);
-    assert_eq!(rt; pool.total_charge(), 1);
+    let pool = LruCache::new(rt.alloc(), &rt, 1);
+    assert_eq!(rt; web_and_mail(&pool), Ok((80, 25)));
+    // In use, both were open; the one that was let go first was closed to make room.
     assert!(rt; pool.get(25)?.is_none());
     assert!(rt; pool.get(80)?.is_some());
+    assert_eq!(rt; web_and_mail(&pool), Ok((80, 25)));
+    // Room is made before the connection is tried, so one that fails may close another.
+    let closed = pool.get_or_try_init(0, 1, |port| open(*port)).err();
+    assert!(rt; matches!(&closed, Some(GetError::Init(Failure::Closed(0)))));
+    assert_eq!(rt; pool.total_charge(), 0);
     Ok(())
 }
