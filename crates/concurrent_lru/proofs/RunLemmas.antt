@@ -1,10 +1,12 @@
 -- Runs go on by one step, and may be cut and put together.
-use Rattle.std.proofs.Common.{◌≡◌, ℕ, ◌+◌, ◌<◌, ◌≤◌, Bool, List, [], ◌∷◌, ◌++◌, length, refl, sym, ap, ◌∙◌, subst, arith}
+use Rattle.std.proofs.Common.{◌≡◌, ℕ, ◌+◌, ◌<◌, ◌≤◌, Bool, List, [], ◌∷◌, ◌++◌, length, sum_by, refl, sym, ap, ◌∙◌, subst, arith}
 use Rattle.std.proofs.lemmas.List.{length-append}
+use Rattle.std.proofs.lemmas.List.Sums.{sum_by_push}
 use Rattle.concurrent_lru.specs.Cache.{Cache}
+use Rattle.concurrent_lru.specs.Counted.{Counted, WritesAtMostOneMore, WritesAtMostOneMoreAStep, most_writes}
 use Rattle.concurrent_lru.specs.Request.{Request}
 use Rattle.concurrent_lru.specs.Results.{IsAnswerTo, AreAnswersTo}
-use Rattle.concurrent_lru.specs.Runs.{Outcome, Stands, Run}
+use Rattle.concurrent_lru.specs.Runs.{Outcome, accepted, refused, Stands, Run}
 use Rattle.concurrent_lru.specs.declared.step.Answer.{Answer}
 use Rattle.concurrent_lru.specs.declared.step.Step.{Step as RustStep}
 
@@ -28,6 +30,19 @@ module _ {K V : Type 0} where
       (m.0, (h.0, h.1, m.1), m.2)
   Run-cut E old new [] qs (o ∷ os) ps n h = absurd (omega (arith, n))
   Run-cut E old new (r ∷ rs) qs [] ps n h = absurd (omega (arith, n))
+
+  -- what a run writes at most goes on by what its next step does
+  pub WritesAtMostOneMoreAStep-push : (old mid new : Counted K V) (os : List (Outcome K V)) (o : Outcome K V) → WritesAtMostOneMoreAStep old os mid → WritesAtMostOneMore mid o new → WritesAtMostOneMoreAStep old (os ++ o ∷ []) new
+  WritesAtMostOneMoreAStep-push old mid new os (accepted reply evicted) so_far more =
+      let before : mid.work ≤ old.work + sum_by most_writes os = so_far in
+      let step : new.work ≤ mid.work + 1 + length evicted = more in
+      let sum : sum_by most_writes (os ++ accepted reply evicted ∷ []) ≡ sum_by most_writes os + (1 + length evicted) = sum_by_push most_writes os (accepted reply evicted) in
+      omega (arith, before, step, sum)
+  WritesAtMostOneMoreAStep-push old mid new os (refused e) so_far more =
+      let before : mid.work ≤ old.work + sum_by most_writes os = so_far in
+      let step : new.work ≡ mid.work = more in
+      let sum : sum_by most_writes (os ++ refused e ∷ []) ≡ sum_by most_writes os + 0 = sum_by_push most_writes os (refused e) in
+      omega (arith, before, step, sum)
 
   pub AreAnswersTo-push : (ss : List (RustStep K V)) (others : List (Answer K V)) (s : RustStep K V) (a : Answer K V) → AreAnswersTo ss others → IsAnswerTo s a → AreAnswersTo (ss ++ s ∷ []) (others ++ a ∷ [])
   AreAnswersTo-push [] [] s a h k = (k, tt)

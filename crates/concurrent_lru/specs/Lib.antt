@@ -11,6 +11,7 @@ pub mod Relinks
 pub mod SlotTable
 pub mod Representation
 pub mod Entries
+pub mod Counted
 pub mod Indexes
 pub mod Chain
 pub mod Results

@@ -46,9 +46,9 @@ impl<K: Hash + Eq + Clone, V, F: Fit<K, V>> Model for Locked<K, V, F> {
 
     ghost coded = { cache_code K.code V.code };
 
-    ghost view = { λ a. a.state };
+    ghost view = { λ a. a.state.cache };
 
-    ghost invariant = { λ a. IsSoundUnderLock K.eq F.fits a.state };
+    ghost invariant = { λ a. IsSoundUnderLock K.eq F.fits a.state.cache };
 }
 
 impl<K: Hash + Eq + Clone + Drop, V: Drop, F: Fit<K, V>> Locked<K, V, F> {

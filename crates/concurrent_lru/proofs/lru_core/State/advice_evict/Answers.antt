@@ -1,4 +1,4 @@
-use Rattle.std.proofs.Common.{◌≡◌, ◌≤◌, ℕ, refl, subst, inl, inr, arith}
+use Rattle.std.proofs.Common.{◌≡◌, ◌≤◌, ℕ, refl, ap, subst, inl, inr, arith}
 use Rattle.concurrent_lru.specs.Steps.{Drops, IsNotIdle}
 use Rattle.concurrent_lru.specs.NodeTable.{entry_of}
 use Rattle.concurrent_lru.specs.Entries.{cache_with}
@@ -11,7 +11,7 @@ use Rattle.concurrent_lru.proofs.lru_core.State.advice_evict.Goals.{After-one}
 
 pub returns-in_default-clause-step : goal.returns-in_default-clause-step
 returns-in_default-clause-step g c = inr (
-  subst (λ old. IsNotIdle g.K.PartialEq.eq old c.args.key.now) c.self.view_is
+  subst (λ old. IsNotIdle g.K.PartialEq.eq old c.args.key.now) (ap (λ x. x.cache) c.self.view_is)
       (absent_not_idle g.K.PartialEq.eq (cache_with c.self.inside.capacity c.self.inside.most_pins c.self.inside.next c.self.inside.table) c.args.key.now c.in_default.ensures),
   record { same = refl; none = c.none.ensures },
 )
@@ -21,7 +21,7 @@ returns-then-node-gt0-clause-step g c =
     let here = c.node.ensures.entry in
     let some = c.if-node-gt0.true in
     inr (
-      subst (λ old. IsNotIdle g.K.PartialEq.eq old c.args.key.now) c.self.view_is
+      subst (λ old. IsNotIdle g.K.PartialEq.eq old c.args.key.now) (ap (λ x. x.cache) c.self.view_is)
           (is_not_idle here c.self.invariant.lawful c.args.key.now g.met.K.Eq.laws (key_is here c.self.invariant.lawful c.args.key.now c.in-Some.ensures) (λ none. omega (arith, none, some))),
       record { same = refl; none = c.none-then-node-gt0.ensures },
     )
@@ -42,7 +42,7 @@ pub invariant_of-self : goal.invariant_of-self
 invariant_of-self g c = record { lawful = drops_lawful _ _ _ _ _ c.self.invariant.lawful (gone g c); pins_above = c.self.invariant.pins_above }
 
 pub returns-clause-step : goal.returns-clause-step
-returns-clause-step g c = inl (subst (λ old. Drops g.K.PartialEq.eq old c.args.key.now c.one.result (cache_with c.self.inside.capacity c.self.inside.most_pins c.self.inside.next c.evict-node.new.self)) c.self.view_is (gone g c))
+returns-clause-step g c = inl (subst (λ old. Drops g.K.PartialEq.eq old c.args.key.now c.one.result (cache_with c.self.inside.capacity c.self.inside.most_pins c.self.inside.next c.evict-node.new.self)) (ap (λ x. x.cache) c.self.view_is) (gone g c))
 
 pub returns-clause-lawful : goal.returns-clause-lawful
 returns-clause-lawful g c = drops_lawful _ _ _ _ _ c.self.invariant.lawful (gone g c)

@@ -15,13 +15,13 @@ use Rattle.concurrent_lru.proofs.lru_core.State.begin.Goals as goal
 use Rattle.concurrent_lru.proofs.lru_core.State.begin.Goals.{After-none, After-none-in-Untaken, After-none-in-Ready}
 
 pub make-requires-clause-absent : goal.make-requires-clause-absent
-make-requires-clause-absent g c = subst (λ k. IsAbsent g.K.PartialEq.eq k c.args.key.now) c.self.view_is c.in_default.ensures
+make-requires-clause-absent g c = subst (λ k. IsAbsent g.K.PartialEq.eq k c.args.key.now) (ap (λ x. x.cache) c.self.view_is) c.in_default.ensures
 
 pub returns-then-pins-self-clause-step : goal.returns-then-pins-self-clause-step
 returns-then-pins-self-clause-step g c =
     let here = c.node-node.ensures.entry in
     let equal = key_is here c.self.invariant.lawful c.args.key.now c.in-Some.ensures in (
-      subst (λ old. Overflows g.K.PartialEq.eq old (ask.begin c.args.key.now c.args.charge)) c.self.view_is
+      subst (λ old. Overflows g.K.PartialEq.eq old (ask.begin c.args.key.now c.args.charge)) (ap (λ x. x.cache) c.self.view_is)
           (inr (is_full here g.K.PartialEq.eq c.self.inside.capacity c.self.inside.most_pins c.self.inside.next c.args.key.now c.self.invariant.pins_above equal c.if-pins-self.true)),
       refl,
     )
@@ -47,8 +47,8 @@ pub returns-in-Making-clause-step : goal.returns-in-Making-clause-step
 returns-in-Making-clause-step g c =
     let s = (entry_of c.node-node.result.now).stamp in
     let new = cache_with c.self.inside.capacity c.self.inside.most_pins c.self.inside.next c.hold.new.self in
-    let step : Joins g.K.PartialEq.eq c.args.self.now c.args.key.now s making making [] new = subst (λ old. Joins g.K.PartialEq.eq old c.args.key.now s making making [] new) c.self.view_is (waits g c) in
-    subst (λ out. Joins g.K.PartialEq.eq c.args.self.now c.args.key.now s making making out new) (sym c.none.ensures) step
+    let step : Joins g.K.PartialEq.eq c.args.self.now.cache c.args.key.now s making making [] new = subst (λ old. Joins g.K.PartialEq.eq old c.args.key.now s making making [] new) (ap (λ x. x.cache) c.self.view_is) (waits g c) in
+    subst (λ out. Joins g.K.PartialEq.eq c.args.self.now.cache c.args.key.now s making making out new) (sym c.none.ensures) step
 
 pub returns-in-Making-clause-lawful : goal.returns-in-Making-clause-lawful
 returns-in-Making-clause-lawful g c = joins_lawful _ _ _ _ _ _ _ _ c.self.invariant.lawful (waits g c)
@@ -78,8 +78,8 @@ pub returns-in-Untaken-clause-step : goal.returns-in-Untaken-clause-step
 returns-in-Untaken-clause-step g c =
     let s = (entry_of c.node-node.result.now).stamp in
     let new = cache_with c.self.inside.capacity c.self.inside.most_pins c.self.inside.next c.turn.new.self in
-    let step : Joins g.K.PartialEq.eq c.args.self.now c.args.key.now s untaken making [] new = subst (λ old. Joins g.K.PartialEq.eq old c.args.key.now s untaken making [] new) c.self.view_is (takes g c) in
-    inr (subst (λ out. Joins g.K.PartialEq.eq c.args.self.now c.args.key.now s untaken making out new) (sym c.none-in-Untaken.ensures) step)
+    let step : Joins g.K.PartialEq.eq c.args.self.now.cache c.args.key.now s untaken making [] new = subst (λ old. Joins g.K.PartialEq.eq old c.args.key.now s untaken making [] new) (ap (λ x. x.cache) c.self.view_is) (takes g c) in
+    inr (subst (λ out. Joins g.K.PartialEq.eq c.args.self.now.cache c.args.key.now s untaken making out new) (sym c.none-in-Untaken.ensures) step)
 
 pub returns-in-Untaken-clause-lawful : goal.returns-in-Untaken-clause-lawful
 returns-in-Untaken-clause-lawful g c = joins_lawful _ _ _ _ _ _ _ _ c.self.invariant.lawful (takes g c)
@@ -87,8 +87,8 @@ returns-in-Untaken-clause-lawful g c = joins_lawful _ _ _ _ _ _ _ _ c.self.invar
 pub returns-in_err-value-in-Ready-clause-step : goal.returns-in_err-value-in-Ready-clause-step
 returns-in_err-value-in-Ready-clause-step g c =
     let here = c.node-node.ensures.entry in
-    begun_memory g.K.PartialEq.eq c.args.self.now (ask.begin c.args.key.now c.args.charge) c.from_residual.result _ c.from_residual.ensures.1 refl
-    (subst (λ old. TakesMemory g.K.PartialEq.eq old (ask.begin c.args.key.now c.args.charge)) c.self.view_is
+    begun_memory g.K.PartialEq.eq c.args.self.now.cache (ask.begin c.args.key.now c.args.charge) c.from_residual.result _ c.from_residual.ensures.1 refl
+    (subst (λ old. TakesMemory g.K.PartialEq.eq old (ask.begin c.args.key.now c.args.charge)) (ap (λ x. x.cache) c.self.view_is)
     (inr (would_hit here g.K.PartialEq.eq c.self.inside.capacity c.self.inside.most_pins c.self.inside.next c.args.key.now c.in-Ready.value.value
     (has_room here c.self.invariant.lawful c.self.invariant.pins_above c.if-pins-self.false)
     (key_is here c.self.invariant.lawful c.args.key.now c.in-Some.ensures) (ap phase_of c.in-Ready.is))))
@@ -120,5 +120,5 @@ returns-in_ok-value-in-Ready-clause-step g c =
     let s = (entry_of c.node-node.result.now).stamp in
     let v = c.in_ok-value-in-Ready.value.value in
     let new = cache_with c.self.inside.capacity c.self.inside.most_pins c.self.inside.next c.pin.new.self in
-    let step : Hits g.K.PartialEq.eq c.args.self.now c.args.key.now s v [] new = subst (λ old. Hits g.K.PartialEq.eq old c.args.key.now s v [] new) c.self.view_is (found g c) in
-    subst (λ out. Hits g.K.PartialEq.eq c.args.self.now c.args.key.now s v out new) (sym c.none-in-Ready.ensures) step
+    let step : Hits g.K.PartialEq.eq c.args.self.now.cache c.args.key.now s v [] new = subst (λ old. Hits g.K.PartialEq.eq old c.args.key.now s v [] new) (ap (λ x. x.cache) c.self.view_is) (found g c) in
+    subst (λ out. Hits g.K.PartialEq.eq c.args.self.now.cache c.args.key.now s v out new) (sym c.none-in-Ready.ensures) step

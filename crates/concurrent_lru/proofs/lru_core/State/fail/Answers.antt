@@ -13,17 +13,18 @@ use Rattle.concurrent_lru.proofs.lru_core.State.fail.Goals as goal
 use Rattle.concurrent_lru.proofs.lru_core.State.fail.Goals.{After-turn, After-into_inner-key}
 
 pub returns-in_default-clause-step : goal.returns-in_default-clause-step
-returns-in_default-clause-step g c = (λ h holds. c.in_default.ensures h.key h.charge (inr (h, ap (λ k. held_at k c.args.stamp) c.self.view_is ∙ holds.at, refl, refl)), refl)
+returns-in_default-clause-step g c = (λ h holds. c.in_default.ensures h.key h.charge (inr (h, ap (λ k. held_at k.cache c.args.stamp) c.self.view_is ∙ holds.at, refl, refl)), refl)
 
 pub returns-in_default-phase : goal.returns-in_default-phase
 returns-in_default-phase g c = record {
   step = (
     λ h holds.
-        let node = held_is c.node-node.ensures.entry c.self.invariant.lawful c.args.stamp h c.in-Some.ensures (ap (λ k. held_at k c.args.stamp) c.self.view_is ∙ holds.at) in
+        let node = held_is c.node-node.ensures.entry c.self.invariant.lawful c.args.stamp h c.in-Some.ensures (ap (λ k. held_at k.cache c.args.stamp) c.self.view_is ∙ holds.at) in
         c.in_default-phase.not-Making (phase_making _ (ap (λ x. x.phase) (sym node.1) ∙ holds.phase)),
     refl,
   );
-  lawful = subst (IsLawful _) c.self.view_is c.self.invariant.lawful;
+  work = refl;
+  lawful = subst (IsLawful _) (ap (λ x. x.cache) c.self.view_is) c.self.invariant.lawful;
 }
 
 pub hold-requires-clause-held : goal.hold-requires-clause-held
@@ -43,7 +44,7 @@ pub invariant_of-self : goal.invariant_of-self
 invariant_of-self g c = record { lawful = leaves_lawful _ _ _ _ _ _ _ c.self.invariant.lawful (gives_up g c); pins_above = c.self.invariant.pins_above }
 
 pub returns-then-pins-gt1-clause-step : goal.returns-then-pins-gt1-clause-step
-returns-then-pins-gt1-clause-step g c = subst (λ old. Leaves g.K.PartialEq.eq old c.args.stamp making untaken [] (cache_with c.self.inside.capacity c.self.inside.most_pins c.self.inside.next c.turn.new.self)) c.self.view_is (gives_up g c)
+returns-then-pins-gt1-clause-step g c = subst (λ old. Leaves g.K.PartialEq.eq old c.args.stamp making untaken [] (cache_with c.self.inside.capacity c.self.inside.most_pins c.self.inside.next c.turn.new.self)) (ap (λ x. x.cache) c.self.view_is) (gives_up g c)
 
 pub returns-then-pins-gt1-clause-lawful : goal.returns-then-pins-gt1-clause-lawful
 returns-then-pins-gt1-clause-lawful g c = leaves_lawful _ _ _ _ _ _ _ c.self.invariant.lawful (gives_up g c)
@@ -71,7 +72,7 @@ invariant_of-self-2 g c = record { lawful = removes_lawful _ _ _ _ _ _ c.self.in
 pub returns-clause-step : goal.returns-clause-step
 returns-clause-step g c =
     let new = cache_with c.self.inside.capacity c.self.inside.most_pins c.self.inside.next c.take_held-node.new.self in
-    subst (λ old. Removes g.K.PartialEq.eq old c.args.stamp (entry_of c.into_inner-key.result).key [] new) c.self.view_is (gone g (goal.at.returns-clause-step g c).After-into_inner-key)
+    subst (λ old. Removes g.K.PartialEq.eq old c.args.stamp (entry_of c.into_inner-key.result).key [] new) (ap (λ x. x.cache) c.self.view_is) (gone g (goal.at.returns-clause-step g c).After-into_inner-key)
 
 pub returns-clause-lawful : goal.returns-clause-lawful
 returns-clause-lawful g c = removes_lawful _ _ _ _ _ _ c.self.invariant.lawful (gone g (goal.at.returns-clause-lawful g c).After-into_inner-key)

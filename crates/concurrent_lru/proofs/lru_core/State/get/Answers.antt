@@ -16,7 +16,7 @@ use Rattle.concurrent_lru.proofs.lru_core.State.get.Goals.{After-pin}
 pub returns-in_default-clause-step : goal.returns-in_default-clause-step
 returns-in_default-clause-step g c =
     let unready = absent_unready g.K.PartialEq.eq (cache_with c.self.inside.capacity c.self.inside.most_pins c.self.inside.next c.self.inside.table) c.args.key.now c.in_default.ensures in
-    (subst (λ old. IsUnready g.K.PartialEq.eq old c.args.key.now) c.self.view_is unready, record { same = refl; none = refl })
+    (subst (λ old. IsUnready g.K.PartialEq.eq old c.args.key.now) (ap (λ x. x.cache) c.self.view_is) unready, record { same = refl; none = refl })
 
 pub returns-in_default-phase : goal.returns-in_default-phase
 returns-in_default-phase g c =
@@ -24,15 +24,16 @@ returns-in_default-phase g c =
     let phase = unready_phase _ c.in_default-phase.not-Ready in
     let unready = is_unready here c.self.invariant.lawful c.args.key.now g.met.K.Eq.laws (key_is here c.self.invariant.lawful c.args.key.now c.in-Some.ensures) phase (unready_pinned here (unready_not_ready _ phase)) in
     record {
-      step = (subst (λ old. IsUnready g.K.PartialEq.eq old c.args.key.now) c.self.view_is unready, record { same = refl; none = refl });
-      lawful = subst (IsLawful _) c.self.view_is c.self.invariant.lawful;
+      step = (subst (λ old. IsUnready g.K.PartialEq.eq old c.args.key.now) (ap (λ x. x.cache) c.self.view_is) unready, record { same = refl; none = refl });
+      work = omega arith;
+      lawful = subst (IsLawful _) (ap (λ x. x.cache) c.self.view_is) c.self.invariant.lawful;
     }
 
 pub returns-then-pins-self-clause-step : goal.returns-then-pins-self-clause-step
 returns-then-pins-self-clause-step g c =
     let here = c.node-node.ensures.entry in
     let equal = key_is here c.self.invariant.lawful c.args.key.now c.in-Some.ensures in (
-      subst (λ old. Overflows g.K.PartialEq.eq old (ask.get c.args.key.now)) c.self.view_is
+      subst (λ old. Overflows g.K.PartialEq.eq old (ask.get c.args.key.now)) (ap (λ x. x.cache) c.self.view_is)
           (get_overflows here g.K.PartialEq.eq c.self.inside.capacity c.self.inside.most_pins c.self.inside.next c.args.key.now c.in-Ready.value.value c.self.invariant.pins_above equal c.if-pins-self.true (ap phase_of c.in-Ready.is)),
       refl,
     )
@@ -40,8 +41,8 @@ returns-then-pins-self-clause-step g c =
 pub returns-in_err-value-clause-step : goal.returns-in_err-value-clause-step
 returns-in_err-value-clause-step g c =
     let here = c.node-node.ensures.entry in
-    got_memory g.K.PartialEq.eq c.args.self.now (ask.get c.args.key.now) c.from_residual.result _ c.from_residual.ensures.1 refl
-    (subst (λ old. TakesMemory g.K.PartialEq.eq old (ask.get c.args.key.now)) c.self.view_is
+    got_memory g.K.PartialEq.eq c.args.self.now.cache (ask.get c.args.key.now) c.from_residual.result _ c.from_residual.ensures.1 refl
+    (subst (λ old. TakesMemory g.K.PartialEq.eq old (ask.get c.args.key.now)) (ap (λ x. x.cache) c.self.view_is)
     (would_hit here g.K.PartialEq.eq c.self.inside.capacity c.self.inside.most_pins c.self.inside.next c.args.key.now c.in-Ready.value.value
     (has_room here c.self.invariant.lawful c.self.invariant.pins_above c.if-pins-self.false)
     (key_is here c.self.invariant.lawful c.args.key.now c.in-Some.ensures) (ap phase_of c.in-Ready.is)))
@@ -66,7 +67,7 @@ pub invariant_of-self : goal.invariant_of-self
 invariant_of-self g c = record { lawful = hits_lawful _ g.met.K.Eq.laws _ c.self.invariant.lawful c.self.invariant.pins_above _ _ _ _ _ (found g c); pins_above = c.self.invariant.pins_above }
 
 pub returns-clause-step : goal.returns-clause-step
-returns-clause-step g c = subst (λ old. Hits g.K.PartialEq.eq old c.args.key.now (entry_of c.node-node.result.now).stamp c.in_ok-value.value.value [] (cache_with c.self.inside.capacity c.self.inside.most_pins c.self.inside.next c.pin.new.self)) c.self.view_is (found g c)
+returns-clause-step g c = subst (λ old. Hits g.K.PartialEq.eq old c.args.key.now (entry_of c.node-node.result.now).stamp c.in_ok-value.value.value [] (cache_with c.self.inside.capacity c.self.inside.most_pins c.self.inside.next c.pin.new.self)) (ap (λ x. x.cache) c.self.view_is) (found g c)
 
 pub returns-clause-lawful : goal.returns-clause-lawful
 returns-clause-lawful g c = hits_lawful _ g.met.K.Eq.laws _ c.self.invariant.lawful c.self.invariant.pins_above _ _ _ _ _ (found g c)

@@ -1,4 +1,4 @@
-use Rattle.std.proofs.Common.{◌≡◌, ℕ, ◌+◌, ◌-◌, ◌<◌, ◌≤◌, ◌^◌, sym, subst, arith}
+use Rattle.std.proofs.Common.{◌≡◌, ℕ, ◌+◌, ◌-◌, ◌<◌, ◌≤◌, ◌^◌, sym, ap, subst, arith}
 use Rattle.concurrent_lru.specs.Steps.{IsAbsent, Makes}
 use Rattle.concurrent_lru.specs.Entries.{charges_of, cache_with}
 use Rattle.concurrent_lru.proofs.Begins.{makes_lawful}
@@ -7,7 +7,7 @@ use Rattle.concurrent_lru.proofs.lru_core.State.make.Goals as goal
 use Rattle.concurrent_lru.proofs.lru_core.State.make.Goals.{After-settle-evicted}
 
 pub add-requires-clause-absent : goal.add-requires-clause-absent
-add-requires-clause-absent g c = subst (λ k. IsAbsent g.K.PartialEq.eq k c.args.key.now) (sym c.self.view_is) c.requires.absent
+add-requires-clause-absent g c = subst (λ k. IsAbsent g.K.PartialEq.eq k c.args.key.now) (sym (ap (λ x. x.cache) c.self.view_is)) c.requires.absent
 
 pub add-requires-clause-fresh : goal.add-requires-clause-fresh
 add-requires-clause-fresh g c = λ k m e. let low : c.self.inside.next < c.self.inside.next = c.self.invariant.lawful.below_next c.self.inside.next k m e in omega (arith, low)
@@ -17,7 +17,7 @@ below_end n h k = omega arith
 
 makes : (g : _) (c : After-settle-evicted g) → Makes g.K.PartialEq.eq (cache_with c.self.inside.capacity c.self.inside.most_pins c.self.inside.next c.self.inside.table) c.args.key.now c.args.charge c.self.inside.next c.settle-evicted.result (cache_with c.self.inside.capacity c.self.inside.most_pins (c.self.inside.next + 1) c.settle-evicted.new.self)
 makes g c =
-    let absent = subst (λ k. IsAbsent g.K.PartialEq.eq k c.args.key.now) (sym c.self.view_is) c.requires.absent in
+    let absent = subst (λ k. IsAbsent g.K.PartialEq.eq k c.args.key.now) (sym (ap (λ x. x.cache) c.self.view_is)) c.requires.absent in
     let sum_fits : charges_of c.self.inside.table < 2 ^ 64 = c.self.invariant.lawful.sum_fits in
     let total : c.total.result ≡ charges_of c.self.inside.table = c.total.ensures in
     let small : c.args.charge ≤ 18446744073709551615 - c.total.result = c.if-charge-total.false in

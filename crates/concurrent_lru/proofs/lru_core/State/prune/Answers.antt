@@ -1,4 +1,4 @@
-use Rattle.std.proofs.Common.{◌≡◌, [], subst}
+use Rattle.std.proofs.Common.{◌≡◌, [], ap, subst, ◌+◌, length, ◌∙◌}
 use Rattle.concurrent_lru.specs.Entries.{cache_with}
 use Rattle.concurrent_lru.proofs.ClearLaws.{prunes_lawful}
 use Rattle.concurrent_lru.proofs.Prunes.{prunes}
@@ -14,6 +14,7 @@ pub returns : goal.returns
 returns g c =
     let step = prunes c.self.inside.table c.settle.new.self c.settle.result c.self.invariant.lawful c.settle.ensures.held c.settle.ensures.front in
     record {
-      step = subst (λ old. (c.settle.result ≡ old.idle) × (cache_with c.self.inside.capacity c.self.inside.most_pins c.self.inside.next c.settle.new.self ≡ record old { idle = [] })) c.self.view_is step;
+      step = subst (λ old. (c.settle.result ≡ old.idle) × (cache_with c.self.inside.capacity c.self.inside.most_pins c.self.inside.next c.settle.new.self ≡ record old { idle = [] })) (ap (λ x. x.cache) c.self.view_is) step;
+      work = c.settle.ensures.work ∙ ap (λ x. x.work + length c.settle.result) c.self.view_is;
       lawful = prunes_lawful _ _ _ c.self.invariant.lawful step.1;
     }

@@ -11,18 +11,19 @@ use Rattle.concurrent_lru.proofs.lru_core.State.ready.Goals as goal
 use Rattle.concurrent_lru.proofs.lru_core.State.ready.Goals.{After-turn}
 
 pub returns-in_default-clause-step : goal.returns-in_default-clause-step
-returns-in_default-clause-step g c = (λ h holds. c.in_default.ensures h.key h.charge (inr (h, ap (λ k. held_at k c.args.stamp) c.self.view_is ∙ holds.at, refl, refl)), refl)
+returns-in_default-clause-step g c = (λ h holds. c.in_default.ensures h.key h.charge (inr (h, ap (λ k. held_at k.cache c.args.stamp) c.self.view_is ∙ holds.at, refl, refl)), refl)
 
 pub returns-in_default-phase : goal.returns-in_default-phase
 returns-in_default-phase g c = record {
   step = (
     λ h holds.
-        let node = held_is c.node-node.ensures.entry c.self.invariant.lawful c.args.stamp h c.in-Some.ensures (ap (λ k. held_at k c.args.stamp) c.self.view_is ∙ holds.at) in
+        let node = held_is c.node-node.ensures.entry c.self.invariant.lawful c.args.stamp h c.in-Some.ensures (ap (λ k. held_at k.cache c.args.stamp) c.self.view_is ∙ holds.at) in
         c.in_default-phase.not-Making (phase_making _ (ap (λ x. x.phase) (sym node.1) ∙ holds.phase)),
     refl,
   );
+  work = refl;
   back = refl;
-  lawful = subst (IsLawful _) c.self.view_is c.self.invariant.lawful;
+  lawful = subst (IsLawful _) (ap (λ x. x.cache) c.self.view_is) c.self.invariant.lawful;
 }
 
 pub turn-requires : goal.turn-requires
@@ -38,7 +39,7 @@ pub invariant_of-self : goal.invariant_of-self
 invariant_of-self g c = record { lawful = turns_lawful _ _ _ _ _ _ _ c.self.invariant.lawful (gives g c); pins_above = c.self.invariant.pins_above }
 
 pub returns-clause-step : goal.returns-clause-step
-returns-clause-step g c = subst (λ old. Turns g.K.PartialEq.eq old c.args.stamp making (ready c.args.value.value) [] (cache_with c.self.inside.capacity c.self.inside.most_pins c.self.inside.next c.turn.new.self)) c.self.view_is (gives g c)
+returns-clause-step g c = subst (λ old. Turns g.K.PartialEq.eq old c.args.stamp making (ready c.args.value.value) [] (cache_with c.self.inside.capacity c.self.inside.most_pins c.self.inside.next c.turn.new.self)) (ap (λ x. x.cache) c.self.view_is) (gives g c)
 
 pub returns-clause-lawful : goal.returns-clause-lawful
 returns-clause-lawful g c = turns_lawful _ _ _ _ _ _ _ c.self.invariant.lawful (gives g c)

@@ -10,23 +10,24 @@ use Rattle.concurrent_lru.proofs.lru_core.State.release.Goals as goal
 use Rattle.concurrent_lru.proofs.lru_core.State.release.Goals.{After-none, After-settle}
 
 pub returns-in_default-clause-step : goal.returns-in_default-clause-step
-returns-in_default-clause-step g c = (λ h v holds. c.in_default.ensures h.key h.charge (inr (h, ap (λ k. held_at k c.args.stamp) c.self.view_is ∙ holds.at, refl, refl)), refl)
+returns-in_default-clause-step g c = (λ h v holds. c.in_default.ensures h.key h.charge (inr (h, ap (λ k. held_at k.cache c.args.stamp) c.self.view_is ∙ holds.at, refl, refl)), refl)
 
 pub returns-in_default-phase : goal.returns-in_default-phase
 returns-in_default-phase g c = record {
   step = (
     λ h v holds.
-        let node = held_is c.node-node.ensures.entry c.self.invariant.lawful c.args.stamp h c.in-Some.ensures (ap (λ k. held_at k c.args.stamp) c.self.view_is ∙ holds.at) in
+        let node = held_is c.node-node.ensures.entry c.self.invariant.lawful c.args.stamp h c.in-Some.ensures (ap (λ k. held_at k.cache c.args.stamp) c.self.view_is ∙ holds.at) in
         let r = phase_ready _ v (ap (λ x. x.phase) (sym node.1) ∙ holds.phase) in
         c.in_default-phase.not-Ready r.0 r.1,
     refl,
   );
-  lawful = subst (IsLawful _) c.self.view_is c.self.invariant.lawful;
+  work = refl;
+  lawful = subst (IsLawful _) (ap (λ x. x.cache) c.self.view_is) c.self.invariant.lawful;
 }
 
 pub returns-then-pins-eq0-clause-step : goal.returns-then-pins-eq0-clause-step
 returns-then-pins-eq0-clause-step g c = (
-  λ h v holds. (held_is c.node-node.ensures.entry c.self.invariant.lawful c.args.stamp h c.in-Some.ensures (ap (λ k. held_at k c.args.stamp) c.self.view_is ∙ holds.at)).0 c.if-pins-eq0.true,
+  λ h v holds. (held_is c.node-node.ensures.entry c.self.invariant.lawful c.args.stamp h c.in-Some.ensures (ap (λ k. held_at k.cache c.args.stamp) c.self.view_is ∙ holds.at)).0 c.if-pins-eq0.true,
   refl,
 )
 
@@ -43,8 +44,8 @@ pub returns-then-pins-gt1-clause-step : goal.returns-then-pins-gt1-clause-step
 returns-then-pins-gt1-clause-step g c =
     let v = c.in-Ready.field-0.value in
     let new = cache_with c.self.inside.capacity c.self.inside.most_pins c.self.inside.next c.hold.new.self in
-    let step : Leaves g.K.PartialEq.eq c.args.self.now c.args.stamp (ready v) (ready v) [] new = subst (λ old. Leaves g.K.PartialEq.eq old c.args.stamp (ready v) (ready v) [] new) c.self.view_is (unpinned g c) in
-    inl (v, subst (λ out. Leaves g.K.PartialEq.eq c.args.self.now c.args.stamp (ready v) (ready v) out new) (sym c.none.ensures) step)
+    let step : Leaves g.K.PartialEq.eq c.args.self.now.cache c.args.stamp (ready v) (ready v) [] new = subst (λ old. Leaves g.K.PartialEq.eq old c.args.stamp (ready v) (ready v) [] new) (ap (λ x. x.cache) c.self.view_is) (unpinned g c) in
+    inl (v, subst (λ out. Leaves g.K.PartialEq.eq c.args.self.now.cache c.args.stamp (ready v) (ready v) out new) (sym c.none.ensures) step)
 
 pub returns-then-pins-gt1-clause-lawful : goal.returns-then-pins-gt1-clause-lawful
 returns-then-pins-gt1-clause-lawful g c = leaves_lawful _ _ _ _ _ _ _ c.self.invariant.lawful (unpinned g c)
@@ -65,7 +66,7 @@ pub invariant_of-self-2 : goal.invariant_of-self-2
 invariant_of-self-2 g c = record { lawful = rests_lawful _ _ _ _ _ c.self.invariant.lawful (rested g c); pins_above = c.self.invariant.pins_above }
 
 pub returns-clause-step : goal.returns-clause-step
-returns-clause-step g c = inr (subst (λ old. Rests g.K.PartialEq.eq old c.args.stamp c.settle.result (cache_with c.self.inside.capacity c.self.inside.most_pins c.self.inside.next c.settle.new.self)) c.self.view_is (rested g c))
+returns-clause-step g c = inr (subst (λ old. Rests g.K.PartialEq.eq old c.args.stamp c.settle.result (cache_with c.self.inside.capacity c.self.inside.most_pins c.self.inside.next c.settle.new.self)) (ap (λ x. x.cache) c.self.view_is) (rested g c))
 
 pub returns-clause-lawful : goal.returns-clause-lawful
 returns-clause-lawful g c = rests_lawful _ _ _ _ _ c.self.invariant.lawful (rested g c)
