@@ -1,10 +1,11 @@
 -- One cache of many is changed, and a run at many caches goes on by one step.
 use Rattle.std.proofs.Common.{◌≡◌, ◌≢◌, ℕ, ◌<◌, ◌==◌, Bool, true, false, List, [], ◌∷◌, ◌++◌, map, length, slice_index_or, slice_set, replicate, if◌then◌else◌, refl, sym, ap, ◌∙◌, subst, arith, append-nil}
 use Rattle.std.specs.List.{All, AllByRecursion, AllZip}
-use Rattle.std.proofs.lemmas.List.{map_push, length-set, length-replicate, same_lists}
+use Rattle.std.proofs.lemmas.List.{map_push, map-set, get_or-map, get_or-set_same, get_or-set_other, length-map, length-set, length-replicate, same_lists}
 use Rattle.std.proofs.lemmas.List.Elements.{All-set, All-replicate}
 use Rattle.std.proofs.lemmas.Bool.{true≢false, eq-eqb, ne_eqb, eqb-true}
 use Rattle.concurrent_lru.specs.Cache.{Cache, IsLawful, empty_cache}
+use Rattle.concurrent_lru.specs.Counted.{Counted, caches_in}
 use Rattle.concurrent_lru.specs.Request.{Request}
 use Rattle.concurrent_lru.specs.Runs.{Outcome, refused, Stands, Run}
 use Rattle.concurrent_lru.specs.Sharded.{Sharded}
@@ -41,16 +42,41 @@ AllZip-push R (a ∷ xs) [] x y h r = absurd h
 
 module _ {K V : Type 0} (E : K → K → Bool) where
   -- some caches, all lawful, stay so where one becomes another lawful cache
-  pub lawful-set : (cs : List (Cache K V)) (i : ℕ) (c : Cache K V) → (0 < length cs) × All (IsLawful E) cs → IsLawful E c → (0 < length (slice_set cs i c)) × All (IsLawful E) (slice_set cs i c)
-  lawful-set cs i c h l = (subst (λ n. 0 < n) (sym (length-set cs i c)) h.0, All-set (IsLawful E) cs i c l h.1)
+  pub lawful-set : (cs : List (Counted K V)) (i : ℕ) (c : Counted K V) → (0 < length cs) × All (IsLawful E) (caches_in cs) → IsLawful E c.cache → (0 < length (slice_set cs i c)) × All (IsLawful E) (caches_in (slice_set cs i c))
+  lawful-set cs i c h l = (subst (λ n. 0 < n) (sym (length-set cs i c)) h.0, subst (All (IsLawful E)) (sym (map-set (λ x. x.cache) cs i c)) (All-set (IsLawful E) (caches_in cs) i c.cache l h.1))
 
   -- some empty caches are lawful
-  pub lawful-empties : (cs : List (Cache K V)) (n capacity most next : ℕ) → 0 < n → cs ≡ replicate n (empty_cache capacity most next) → (0 < length cs) × All (IsLawful E) cs
+  pub lawful-empties : (cs : List (Counted K V)) (n capacity most next : ℕ) → 0 < n → caches_in cs ≡ replicate n (empty_cache capacity most next) → (0 < length cs) × All (IsLawful E) (caches_in cs)
   lawful-empties cs n capacity most next some is =
-      subst (λ xs. (0 < length xs) × All (IsLawful E) xs) (sym is)
-      (subst (λ m. 0 < m) (sym (length-replicate n (empty_cache {K = K} {V = V} capacity most next))) some, All-replicate (IsLawful E) n (empty_cache capacity most next) (empty_lawful E capacity most next))
+      let count : length cs ≡ n = sym (length-map cs (λ c. c.cache)) ∙ ap length is ∙ length-replicate n (empty_cache {K = K} {V = V} capacity most next) in
+      (subst (λ m. 0 < m) (sym count) some, subst (All (IsLawful E)) (sym is) (All-replicate (IsLawful E) n (empty_cache capacity most next) (empty_lawful E capacity most next)))
 
 module _ {K V S : Type 0} (E : K → K → Bool) where
+  -- where the cache at i takes a step, all of them take it at the shard i
+  pub stands-set : (old : Sharded K V S) (hasher : S) (cs : List (Counted K V)) (i : ℕ) (was new : Counted K V) (r : Request K V) (o : Outcome K V)
+      → record { hasher = hasher; caches = caches_in cs } ≡ old → i < length cs → was ≡ slice_index_or cs i was → Stands E was.cache r o new.cache
+      → StandsAt E old i r o (record { hasher = hasher; caches = caches_in (slice_set cs i new) })
+  stands-set old hasher cs i was new r o is within at step =
+      let here : i < length (caches_in cs) = subst (λ n. i < n) (sym (length-map cs (λ c. c.cache))) within in
+      let stands : StandsAt E (record { hasher = hasher; caches = caches_in cs }) i r o (record { hasher = hasher; caches = slice_set (caches_in cs) i new.cache }) = record {
+        hasher = refl;
+        count = length-set (caches_in cs) i new.cache;
+        own = λ d lt. rw (get_or-map (λ c. c.cache) cs i was d within ∙ ap (λ c. c.cache) (sym at), get_or-set_same (caches_in cs) i new.cache d here) step;
+        others = λ j d other. get_or-set_other (caches_in cs) i j new.cache d other;
+        stranger = λ past. absurd (omega (arith, here, past));
+      } in
+      subst (λ s. StandsAt E s i r o (record { hasher = hasher; caches = caches_in (slice_set cs i new) })) is
+      (subst (λ ds. StandsAt E (record { hasher = hasher; caches = caches_in cs }) i r o (record { hasher = hasher; caches = ds })) (sym (map-set (λ c. c.cache) cs i new)) stands)
+
+  -- the same where the shard is found among those that are seen
+  pub stands-set-at : (old : Sharded K V S) (hasher : S) (cs : List (Counted K V)) (i j : ℕ) (was new : Counted K V) (r : Request K V) (o : Outcome K V)
+      → record { hasher = hasher; caches = caches_in cs } ≡ old → i ≡ j → i < length old.caches → was ≡ slice_index_or cs i was → Stands E was.cache r o new.cache
+      → StandsAt E old j r o (record { hasher = hasher; caches = caches_in (slice_set cs i new) })
+  stands-set-at old hasher cs i j was new r o is same within at step =
+      let as_many : length cs ≡ length old.caches = sym (length-map cs (λ c. c.cache)) ∙ ap (λ s. length s.caches) is in
+      subst (λ k. StandsAt E old k r o (record { hasher = hasher; caches = caches_in (slice_set cs i new) })) same
+      (stands-set old hasher cs i was new r o is (subst (λ n. i < n) (sym as_many) within) at step)
+
   pub apart-nothing : (old : Sharded K V S) → RunsApart E old [] [] old
   apart-nothing old = record { hasher = refl; count = refl; shards = refl; apart = λ i d lt. refl; strangers = _ }
 

@@ -1,5 +1,5 @@
 -- What a `State` is seen as: the abstract cache, and beside it a count of the writes of its idle order. What the outcome of a call adds to the count.
-use Rattle.std.specs.Prelude.{◌≡◌, ℕ, ◌+◌, ◌≤◌, List, length, sum_by, refl}
+use Rattle.std.specs.Prelude.{◌≡◌, ℕ, ◌+◌, ◌≤◌, List, length, map, sum_by, refl}
 use Rattle.std.specs.Coded.{Coded, code_by, coded×, coded_ℕ}
 use Rattle.concurrent_lru.specs.Cache.{Cache, cache_code}
 use Rattle.concurrent_lru.specs.Entries.{Entries, cache_with}
@@ -17,6 +17,10 @@ module _ {K V : Type 0} where
   -- the cache of these entries with these numbers, and the count of its entries
   abbrev pub counted_with : ℕ → ℕ → ℕ → Entries K V → Counted K V
   counted_with capacity most_pins next t = record { cache = cache_with capacity most_pins next t; work = t.work }
+
+  -- the caches alone
+  abbrev pub caches_in : List (Counted K V) → List (Cache K V)
+  caches_in cs = map (λ c. c.cache) cs
 
   -- the order was written at most once more than entries were evicted, and on a refusal it was not written
   abbrev pub WritesAtMostOneMore : Counted K V → Outcome K V → Counted K V → Type 0

@@ -75,10 +75,11 @@ impl<K: Hash + Eq + Clone, V, S> Model for Shards<K, V, S> {
     ghost use Rattle.std.specs.Prelude.{◌<◌, length};
     ghost use Rattle.std.specs.List.{All};
     ghost use Rattle.concurrent_lru.specs.Cache.{IsLawful};
+    ghost use Rattle.concurrent_lru.specs.Counted.{caches_in};
 
-    ghost view = { λ a. record { hasher = a.hasher; caches = a.shards.items } };
+    ghost view = { λ a. record { hasher = a.hasher; caches = caches_in a.shards.items } };
 
-    ghost invariant = { λ a. (0 < length a.shards.items) × All (IsLawful K.eq) a.shards.items };
+    ghost invariant = { λ a. (0 < length a.shards.items) × All (IsLawful K.eq) (caches_in a.shards.items) };
 }
 
 impl<K: Hash + Eq + Clone, V: Drop, S: BuildHasher + Drop> Shards<K, V, S> {
