@@ -7,10 +7,10 @@ use Rattle.lru_journal.proofs.Keeps.{keeps_on, accepts, no_room, refuses, found_
 use Rattle.lru_journal.proofs.journal.Journal.get.Goals as goal
 
 pub returns-in_err-reserve : goal.returns-in_err-reserve
-returns-in_err-reserve g c = (c.args.key.now, g.met.K.Eq.laws.refl _, no_room g.K.PartialEq.eq (ask.get c.args.key.now) got c.from_residual.result _ (λ x. refl) c.from_residual.ensures.1 refl (ap (λ l. record { cache = c.self.inside.state; records = l; began = c.self.inside.began }) c.reserve.ensures.items ∙ c.self.view_is))
+returns-in_err-reserve g c = (c.args.key.now, g.met.K.Eq.laws.refl _, no_room g.K.PartialEq.eq (ask.get c.args.key.now) got c.from_residual.result _ (λ x. refl) c.from_residual.ensures.1 refl (ap (λ l. record { cache = c.self.inside.state.cache; records = l; began = c.self.inside.began }) c.reserve.ensures.items ∙ c.self.view_is))
 
 pub returns-in_err-copy : goal.returns-in_err-copy
-returns-in_err-copy g c = (c.args.key.now, g.met.K.Eq.laws.refl _, no_room g.K.PartialEq.eq (ask.get c.args.key.now) got c.from_residual-in_err-copy.result _ (λ x. refl) c.from_residual-in_err-copy.ensures.1 refl (ap (λ l. record { cache = c.self.inside.state; records = l; began = c.self.inside.began }) c.reserve.ensures.items ∙ c.self.view_is))
+returns-in_err-copy g c = (c.args.key.now, g.met.K.Eq.laws.refl _, no_room g.K.PartialEq.eq (ask.get c.args.key.now) got c.from_residual-in_err-copy.result _ (λ x. refl) c.from_residual-in_err-copy.ensures.1 refl (ap (λ l. record { cache = c.self.inside.state.cache; records = l; began = c.self.inside.began }) c.reserve.ensures.items ∙ c.self.view_is))
 
 pub invariant_of-self-2 : goal.invariant_of-self-2
 invariant_of-self-2 g c = keeps_on (ask.get c.in_ok-copy.copy) (found_of c.in_ok-found.found) [] c.self.invariant c.in_ok-found.ensures.lawful c.in_ok-found.ensures.step c.reserve.ensures.items c.add_record.ensures

@@ -7,7 +7,7 @@ use Rattle.lru_journal.proofs.Keeps.{keeps_on, accepts, no_room, polled_told}
 use Rattle.lru_journal.proofs.journal.Journal.poll.Goals as goal
 
 pub returns-in_err-reserve : goal.returns-in_err-reserve
-returns-in_err-reserve g c = no_room g.K.PartialEq.eq (ask.poll c.args.stamp) polled c.from_residual.result _ (λ x. refl) c.from_residual.ensures.1 refl (ap (λ l. record { cache = c.self.inside.state; records = l; began = c.self.inside.began }) c.reserve.ensures.items ∙ c.self.view_is)
+returns-in_err-reserve g c = no_room g.K.PartialEq.eq (ask.poll c.args.stamp) polled c.from_residual.result _ (λ x. refl) c.from_residual.ensures.1 refl (ap (λ l. record { cache = c.self.inside.state.cache; records = l; began = c.self.inside.began }) c.reserve.ensures.items ∙ c.self.view_is)
 
 pub invariant_of-self-2 : goal.invariant_of-self-2
 invariant_of-self-2 g c = keeps_on (ask.poll c.args.stamp) (reply_of c.in_ok-begun.begun) [] c.self.invariant c.in_ok-begun.ensures.lawful c.in_ok-begun.ensures.step c.reserve.ensures.items c.add_record.ensures

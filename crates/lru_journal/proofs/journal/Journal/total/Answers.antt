@@ -6,7 +6,7 @@ use Rattle.lru_journal.proofs.Keeps.{keeps_on, accepts, no_room}
 use Rattle.lru_journal.proofs.journal.Journal.total.Goals as goal
 
 pub returns-in_err-reserve : goal.returns-in_err-reserve
-returns-in_err-reserve g c = no_room g.K.PartialEq.eq ask.total summed c.from_residual.result _ (λ x. refl) c.from_residual.ensures.1 refl (ap (λ l. record { cache = c.self.inside.state; records = l; began = c.self.inside.began }) c.reserve.ensures.items ∙ c.self.view_is)
+returns-in_err-reserve g c = no_room g.K.PartialEq.eq ask.total summed c.from_residual.result _ (λ x. refl) c.from_residual.ensures.1 refl (ap (λ l. record { cache = c.self.inside.state.cache; records = l; began = c.self.inside.began }) c.reserve.ensures.items ∙ c.self.view_is)
 
 pub invariant_of-self-2 : goal.invariant_of-self-2
 invariant_of-self-2 g c = keeps_on ask.total (say.sum c.total-total.result) [] c.self.invariant c.total-total.ensures.lawful c.total-total.ensures.step c.reserve.ensures.items c.add_record.ensures
