@@ -2,7 +2,7 @@
 //! Its keys are numbers, and the value of a key is the key itself.
 ghost use Rattle.std.specs.Prelude.{◌<◌};
 
-use concurrent_lru::lru_core::{Begun, Evicted, Refusal, State};
+use concurrent_lru::lru_core::{Begun, Evicted, Failed, Refusal, State};
 use std::alloc::Global;
 use std::sync::Arc;
 
@@ -49,14 +49,15 @@ impl Watched {
         self.release(stamp)
     }
 
-    /// Begins to make the value of a key and gives the making up.
-    pub fn make_in_vain(&mut self, key: u64, charge: u64) -> Result<(), Refusal>
+    /// Begins to make the value of a key and gives the making up. Says whether the entry went
+    /// with it.
+    pub fn make_in_vain(&mut self, key: u64, charge: u64) -> Result<bool, Refusal>
         requires { 0 < charge }
     {
-        if let Begun::Make(stamp) = self.begin(key, charge)? {
-            self.state.fail(stamp)?;
-        }
-        Ok(())
+        let Begun::Make(stamp) = self.begin(key, charge)? else {
+            return Ok(false);
+        };
+        Ok(matches!(self.state.fail(stamp)?, Failed::Removed(_)))
     }
 
     /// Gives a pin back.

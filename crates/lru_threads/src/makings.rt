@@ -73,7 +73,7 @@ fn one_value_for_two_callers(rt: HostRuntime) -> Result<(), Fail> {
     Ok(())
 }
 
-// Fails to make key 1, once the other caller comes.
+// Fails to make key 1 once the other caller comes, and says whether it did.
 fn fails_first<R: Wait>(
     cache: &LruCache<u64, u64, R>,
     started: &AtomicU64,
@@ -81,9 +81,9 @@ fn fails_first<R: Wait>(
 ) -> bool {
     let made = cache.get_or_try_init(1, 3, |_| -> Result<u64, u8> {
         raise(started);
-        let _met = meets(coming);
+        let error = if meets(coming) { 9 } else { 8 };
         pause();
-        Err(9)
+        Err(error)
     });
     matches!(&made, Err(GetError::Init(9)))
 }

@@ -10,8 +10,11 @@ pub fn evicts_before_a_failed_making(alloc: Global) -> Result<Vec<Part>, Refusal
     let mut cache = Watched::new(alloc, 2);
     cache.make(1, 1)?;
     cache.make(2, 1)?;
-    cache.make_in_vain(3, 2)?;
-    let mut parts = vec![in alloc; Part::Numbers(cache.evicted()?), Part::NotMade]?;
+    let made = match cache.make_in_vain(3, 2)? {
+        true => Part::NotMade,
+        false => Part::Made,
+    };
+    let mut parts = vec![in alloc; Part::Numbers(cache.evicted()?), made]?;
     for key in [1, 2] {
         parts.push(Part::Found(cache.find(key)?))?;
     }
