@@ -14,7 +14,7 @@ module _ {K V : Type 0} where
   abbrev pub counted_code : Coded K → Coded V → Coded (Counted K V)
   counted_code k v = code_by (Cache K V × ℕ) (coded× (cache_code k v) coded_ℕ) (λ c. (c.cache, c.work)) (λ p. record { cache = p.0; work = p.1 }) (λ _. refl)
 
-  -- the cache of these entries with these numbers, and the count of its entries
+  -- the cache of these entries with these numbers, and beside it how often their order was written
   abbrev pub counted_with : ℕ → ℕ → ℕ → Entries K V → Counted K V
   counted_with capacity most_pins next t = record { cache = cache_with capacity most_pins next t; work = t.work }
 
