@@ -6,8 +6,12 @@ pub mod Steps
 pub mod Runs
 pub mod NodeTable
 pub mod Order
+pub mod Cells
+pub mod CellOwnership
+pub mod CellLends
 pub mod Slots
 pub mod Relinks
+pub mod SlotPointers
 pub mod SlotTable
 pub mod Representation
 pub mod Entries

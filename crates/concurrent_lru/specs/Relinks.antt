@@ -1,65 +1,97 @@
--- What a change of links leaves.
-use Rattle.std.specs.Prelude.{◌≡◌, ◌≢◌, ℕ, List, Option, Some, None, slice_index_or}
+-- The cells of nodes, with the links that these carry, and what a change of links leaves.
+use Rattle.std.specs.Prelude.{◌≡◌, ◌≢◌, ℕ, List, Option, Some, None}
+use Rattle.std.specs.declared.alloc.Global.{Global}
+use denote.RawPtr.{Ptr}
+use Rattle.concurrent_lru.specs.Cells.{Cell, cell_at, key_at, AtKey}
 use Rattle.concurrent_lru.specs.NodeTable.{Entry, entry_of, chain_of}
-use Rattle.concurrent_lru.specs.declared.list.Slot.{Slot}
+use Rattle.concurrent_lru.specs.declared.list.Node.{Node, out-Node}
+
+abbrev pub NodeCell : Type 0 → Type 0 → Type 0
+NodeCell K V = Cell (Node K V) Global
+
+abbrev pub NodeCells : Type 0 → Type 0 → Type 0
+NodeCells K V = List (Option (NodeCell K V))
 
 module _ {K V : Type 0} where
-  abbrev pub cell_at : List (Option (Slot K V)) → ℕ → Option (Slot K V)
-  cell_at cs k = slice_index_or cs k None
+  -- a node's own key, and its links to its neighbours
+  abbrev pub place_of : Node K V → ℕ
+  place_of n = (out-Node K V n).place
 
-  abbrev pub Holds : List (Option (Slot K V)) → ℕ → Type 0
-  Holds cs k = (c : Slot K V) × (cell_at cs k ≡ Some c)
+  abbrev pub before_link : Node K V → Option Ptr
+  before_link n = (out-Node K V n).before
 
-  -- the same slot with other links
-  pub record IsRelinked (old new : Slot K V) (b a : Option ℕ) : Type 0 where
-    pub node : new.node ≡ old.node
-    pub before : new.before ≡ b
-    pub after : new.after ≡ a
+  abbrev pub after_link : Node K V → Option Ptr
+  after_link n = (out-Node K V n).after
 
-  -- the slot under the key has these links, and nothing else changed
-  pub record Relinks (cs ds : List (Option (Slot K V))) (k : ℕ) (b a : Option ℕ) : Type 0 where
+  abbrev pub Holds : NodeCells K V → ℕ → Type 0
+  Holds cs k = (c : NodeCell K V) × (cell_at cs k ≡ Some c)
+
+  -- the key of the node that a link leads to
+  abbrev pub key_in : NodeCells K V → Option Ptr → Option ℕ
+  key_in cs None = None
+  key_in cs (Some p) = key_at cs p
+
+  -- the same node under its own key
+  pub record IsPlaced (old new : Node K V) (key : ℕ) : Type 0 where
+    pub entry : entry_of new ≡ entry_of old
+    pub chain : chain_of new ≡ chain_of old
+    pub place : place_of new ≡ key
+
+  -- the same node with other links
+  pub record IsRelinked (old new : Node K V) (b a : Option Ptr) : Type 0 where
+    pub entry : entry_of new ≡ entry_of old
+    pub chain : chain_of new ≡ chain_of old
+    pub place : place_of new ≡ place_of old
+    pub before : before_link new ≡ b
+    pub after : after_link new ≡ a
+
+  -- the node under the key has these links, and nothing else changed
+  pub record Relinks (cs ds : NodeCells K V) (k : ℕ) (b a : Option Ptr) : Type 0 where
     pub others : (j : ℕ) → j ≢ k → cell_at ds j ≡ cell_at cs j
-    pub old : Slot K V
-    pub new : Slot K V
+    pub old : NodeCell K V
+    pub new : NodeCell K V
     pub was : cell_at cs k ≡ Some old
     pub now : cell_at ds k ≡ Some new
-    pub node : IsRelinked old new b a
+    pub at : new.at ≡ old.at
+    pub node : IsRelinked old.value new.value b a
 
-  -- the same slot with another entry
-  pub record IsRevalued (old new : Slot K V) (e : Entry K V) : Type 0 where
-    pub entry : entry_of new.node.value ≡ e
-    pub chain : chain_of new.node.value ≡ chain_of old.node.value
-    pub before : new.before ≡ old.before
-    pub after : new.after ≡ old.after
+  -- the same node with another entry
+  pub record IsRevalued (old new : Node K V) (e : Entry K V) : Type 0 where
+    pub entry : entry_of new ≡ e
+    pub chain : chain_of new ≡ chain_of old
+    pub place : place_of new ≡ place_of old
+    pub before : before_link new ≡ before_link old
+    pub after : after_link new ≡ after_link old
 
-  pub record Revalues (cs ds : List (Option (Slot K V))) (k : ℕ) (f : Entry K V → Entry K V) : Type 0 where
+  pub record Revalues (cs ds : NodeCells K V) (k : ℕ) (f : Entry K V → Entry K V) : Type 0 where
     pub others : (j : ℕ) → j ≢ k → cell_at ds j ≡ cell_at cs j
-    pub old : Slot K V
-    pub new : Slot K V
+    pub old : NodeCell K V
+    pub new : NodeCell K V
     pub was : cell_at cs k ≡ Some old
     pub now : cell_at ds k ≡ Some new
-    pub node : IsRevalued old new (f (entry_of old.node.value))
+    pub at : new.at ≡ old.at
+    pub node : IsRevalued old.value new.value (f (entry_of old.value))
 
-  abbrev pub before_in : Option (Slot K V) → Option ℕ
+  abbrev pub before_in : Option (NodeCell K V) → Option Ptr
   before_in None = None
-  before_in (Some c) = c.before
+  before_in (Some c) = before_link c.value
 
-  abbrev pub after_in : Option (Slot K V) → Option ℕ
+  abbrev pub after_in : Option (NodeCell K V) → Option Ptr
   after_in None = None
-  after_in (Some c) = c.after
+  after_in (Some c) = after_link c.value
 
-  abbrev pub before_at : List (Option (Slot K V)) → ℕ → Option ℕ
+  abbrev pub before_at : NodeCells K V → ℕ → Option Ptr
   before_at cs k = before_in (cell_at cs k)
 
-  abbrev pub after_at : List (Option (Slot K V)) → ℕ → Option ℕ
+  abbrev pub after_at : NodeCells K V → ℕ → Option Ptr
   after_at cs k = after_in (cell_at cs k)
 
   -- the places before and after were joined, seen from the one before, where there is one
-  abbrev pub LeftJoined : List (Option (Slot K V)) → List (Option (Slot K V)) → Option ℕ → Option ℕ → Option ℕ → Option ℕ → Type 0
-  LeftJoined cs ds o p None a = (ds ≡ cs) × (p ≡ a)
-  LeftJoined cs ds o p (Some l) a = Relinks cs ds l (before_at cs l) a × (p ≡ o)
+  abbrev pub LeftJoined : NodeCells K V → NodeCells K V → Option ℕ → Option ℕ → Option Ptr → Option Ptr → Type 0
+  LeftJoined cs ds o p None a = (ds ≡ cs) × (p ≡ key_in cs a)
+  LeftJoined cs ds o p (Some l) a = AtKey cs l (λ k. Relinks cs ds k (before_at cs k) a) × (p ≡ o)
 
   -- and from the one after
-  abbrev pub RightJoined : List (Option (Slot K V)) → List (Option (Slot K V)) → Option ℕ → Option ℕ → Option ℕ → Option ℕ → Type 0
+  abbrev pub RightJoined : NodeCells K V → NodeCells K V → Option Ptr → Option Ptr → Option Ptr → Option Ptr → Type 0
   RightJoined cs ds n m b None = (ds ≡ cs) × (m ≡ b)
-  RightJoined cs ds n m b (Some l) = Relinks cs ds l b (after_at cs l) × (m ≡ n)
+  RightJoined cs ds n m b (Some l) = AtKey cs l (λ k. Relinks cs ds k b (after_at cs k)) × (m ≡ n)

@@ -1,49 +1,53 @@
 -- The slots of a `Nodes`: what they and their two ends are seen as, and what holds of them.
-use Rattle.std.specs.Prelude.{◌≡◌, ℕ, ◌-◌, List, [], ◌∷◌, map, length, Option, Some, None}
-use Rattle.slab.specs.Slab.{Slab, slab_len}
+use Rattle.std.specs.Prelude.{◌≡◌, ℕ, ◌-◌, List, [], ◌∷◌, map, length, Option, Some, None, IsSome}
+use denote.RawPtr.{Ptr}
+use Rattle.slab.specs.Slab.{slab_len}
 use Rattle.concurrent_lru.specs.Order.{Link, link, IsOrder, order}
 use Rattle.concurrent_lru.specs.Slots.{made}
+use Rattle.concurrent_lru.specs.Cells.{cell_at, key_at}
 use Rattle.concurrent_lru.specs.NodeTable.{NodeTable, Entry, entry_of, chain_of}
-use Rattle.concurrent_lru.specs.Relinks.{cell_at, Holds, before_at, after_at}
-use Rattle.concurrent_lru.specs.declared.list.Slot.{Slot}
+use Rattle.concurrent_lru.specs.Relinks.{NodeCell, NodeCells, before_link, after_link, key_in, before_at, after_at}
+use Rattle.concurrent_lru.specs.SlotPointers.{IsTied}
+use Rattle.concurrent_lru.specs.declared.list.slots.Slots.{Slots}
 
 module _ {K V : Type 0} where
-  abbrev pub link_of : Option (Slot K V) → Option Link
-  link_of None = None
-  link_of (Some s) = Some (link s.before s.after)
+  abbrev pub link_of : NodeCells K V → Option (NodeCell K V) → Option Link
+  link_of cs None = None
+  link_of cs (Some c) = Some (link (key_in cs (before_link c.value)) (key_in cs (after_link c.value)))
 
-  abbrev pub entry_in : Option (Slot K V) → Option (Entry K V)
+  abbrev pub entry_in : Option (NodeCell K V) → Option (Entry K V)
   entry_in None = None
-  entry_in (Some s) = Some (entry_of s.node.value)
+  entry_in (Some c) = Some (entry_of c.value)
 
-  abbrev pub link_at : List (Option (Slot K V)) → ℕ → Option Link
-  link_at cs k = link_of (cell_at cs k)
+  abbrev pub link_at : NodeCells K V → ℕ → Option Link
+  link_at cs k = link_of cs (cell_at cs k)
 
-  abbrev pub idle_of : List (Option (Slot K V)) → Option ℕ → List ℕ
+  abbrev pub idle_of : NodeCells K V → Option ℕ → List ℕ
   idle_of cs oldest = order (length cs) (link_at cs) oldest
 
-  abbrev pub table_of : Slab (Slot K V) → Option ℕ → ℕ → NodeTable K V
-  table_of s oldest work = record { nodes = made (map entry_in s.slots); idle = idle_of s.slots oldest; room = s.capacity - slab_len s; work = work }
+  abbrev pub table_of : Slots K V → Option ℕ → ℕ → NodeTable K V
+  table_of s oldest work = record { nodes = made (map entry_in s.memory.cells); idle = idle_of s.memory.cells oldest; room = s.pointers.capacity - slab_len s.pointers; work = work; looks = s.looks.count }
 
-  -- the key has a slot
-  abbrev pub IsGood : List (Option (Slot K V)) → Option ℕ → Type 0
+  -- the link leads to a node
+  abbrev pub IsGood : NodeCells K V → Option Ptr → Type 0
   IsGood cs None = Unit {0}
-  IsGood cs (Some l) = Holds cs l
+  IsGood cs (Some p) = IsSome (key_at cs p)
 
-  abbrev pub IsGoodAt : List (Option (Slot K V)) → ℕ → Type 0
+  abbrev pub IsGoodAt : NodeCells K V → ℕ → Type 0
   IsGoodAt cs k = IsGood cs (before_at cs k) × IsGood cs (after_at cs k)
 
-  abbrev pub AreGood : List (Option (Slot K V)) → List ℕ → Type 0
+  abbrev pub AreGood : NodeCells K V → List ℕ → Type 0
   AreGood cs [] = Unit {0}
   AreGood cs (k ∷ ks) = IsGoodAt cs k × AreGood cs ks
 
   -- the node is the last of its chain
-  abbrev pub IsEnd : Option (Slot K V) → Type 0
+  abbrev pub IsEnd : Option (NodeCell K V) → Type 0
   IsEnd None = Unit {0}
-  IsEnd (Some s) = chain_of s.node.value ≡ []
+  IsEnd (Some c) = chain_of c.value ≡ []
 
-  pub record IsTable (s : Slab (Slot K V)) (oldest newest : Option ℕ) : Type 0 where
-    pub ordered : IsOrder (link_at s.slots) oldest newest (idle_of s.slots oldest)
-    pub good : AreGood s.slots (idle_of s.slots oldest)
-    pub last_good : IsGood s.slots newest
-    pub ends : (k : ℕ) → IsEnd (cell_at s.slots k)
+  pub record IsTable (s : Slots K V) (oldest : Option ℕ) (newest : Option Ptr) : Type 0 where
+    pub tied : IsTied s
+    pub ordered : IsOrder (link_at s.memory.cells) oldest (key_in s.memory.cells newest) (idle_of s.memory.cells oldest)
+    pub good : AreGood s.memory.cells (idle_of s.memory.cells oldest)
+    pub last_good : IsGood s.memory.cells newest
+    pub ends : (k : ℕ) → IsEnd (cell_at s.memory.cells k)

@@ -7,7 +7,6 @@ mod eviction;
 pub mod fit;
 mod get_error;
 mod handle;
-mod links;
 pub mod list;
 pub mod locked;
 pub mod lru_core;

@@ -1,4 +1,4 @@
-//! A count of the writes of the idle order, which takes no bytes: contracts alone see it.
+//! A count, of writes of the idle order or of looks, that takes no bytes: contracts alone see it.
 ghost use Rattle.std.specs.Prelude.{◌≡◌, ◌+◌, ℕ};
 ghost use base.Fml.{ftrue};
 

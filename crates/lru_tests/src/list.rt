@@ -1,6 +1,8 @@
-//! Nodes by place and the order of the idle ones: each public call on its happy path.
+//! Nodes by place and the order of the idle ones: each public call on its happy path, and the
+//! end of many nodes, idle and held.
 
 use concurrent_lru::list::{Node, Nodes, Phase, Refusal};
+use concurrent_lru::lru_core::{Begun, State};
 use std::sync::Arc;
 use std::test::Fail;
 
@@ -54,4 +56,47 @@ fn numbers_its_refusals(rt: HostRuntime) {
     assert_eq!(rt; Refusal::Memory.code(), 1);
     assert_eq!(rt; Refusal::Overflow.code(), 2);
     assert_eq!(rt; Refusal::Stale.code(), 3);
+}
+
+// Makes a new key's value, and leaves the entry held, or idle.
+fn keep(state: &mut State<u64, u64>, key: u64, value: &Arc<u64>, held: bool) -> Result<(), Fail> {
+    let (begun, _) = state.begin(&key, 1)?;
+    let Begun::Make(stamp) = begun else {
+        return Err(Fail::new("the key is new"));
+    };
+    if state.ready(stamp, value.clone()?).is_err() {
+        return Err(Fail::new("the value is asked for"));
+    }
+    if !held {
+        drop(state.release(stamp)?);
+    }
+    Ok(())
+}
+
+#[test]
+fn frees_idle_and_held_nodes_at_its_end(rt: HostRuntime) -> Result<(), Fail> {
+    let alloc = rt.alloc();
+    let value = Arc::new(alloc, 7u64)?;
+    let mut state: State<u64, u64> = State::new(alloc, 1010);
+    for key in 0..1010u64 {
+        keep(&mut state, key, &value, key >= 1000)?;
+    }
+    assert_eq!(rt; Arc::strong_count(&value), 1011);
+    drop(state);
+    assert_eq!(rt; Arc::strong_count(&value), 1);
+    Ok(())
+}
+
+#[test]
+fn frees_what_its_slots_held_before(rt: HostRuntime) -> Result<(), Fail> {
+    let alloc = rt.alloc();
+    let value = Arc::new(alloc, 7u64)?;
+    let mut state: State<u64, u64> = State::new(alloc, 4);
+    for key in 0..304u64 {
+        keep(&mut state, key, &value, false)?;
+    }
+    assert_eq!(rt; Arc::strong_count(&value), 5);
+    drop(state);
+    assert_eq!(rt; Arc::strong_count(&value), 1);
+    Ok(())
 }

@@ -1,0 +1,132 @@
+-- Cells by key and by pointer: one put, one written, and the key at which a value lies.
+use Rattle.std.proofs.Common.{◌≡◌, ◌≢◌, ℕ, zero, suc, List, [], ◌∷◌, Bool, true, false, cond, ◌&&◌, ◌==◌, Option, Some, None, IsSome, refl, sym, ap, ◌∙◌, T, eqb→eq}
+use lib.Dec.{eqb_refl}
+use denote.RawPtr.{Ptr, block_ptr, null_ptr}
+use Rattle.concurrent_lru.specs.Cells.{Cell, cell, cell_at, put_at, same_ptr, next_key, ptr_in, key_at, write_to, IsApartFrom, AreApart}
+
+-- ---- pointers
+holds_true : (b : Bool) → T b → b ≡ true
+holds_true true t = refl
+holds_true false t = absurd t
+
+both_true : (x y : Bool) → (x && y) ≡ true → T x × T y
+both_true true true e = (tt, tt)
+both_true true false e = cc
+both_true false y e = cc
+
+pub same_as_itself : (p : Ptr) → same_ptr p p ≡ true
+same_as_itself (block_ptr b o) = λ i. holds_true (b == b) (eqb_refl b) i && holds_true (o == o) (eqb_refl o) i
+same_as_itself null_ptr = refl
+
+pub equal_ptrs : (p q : Ptr) → same_ptr p q ≡ true → p ≡ q
+equal_ptrs (block_ptr b o) (block_ptr c r) e = let t = both_true (b == c) (o == r) e in λ i. block_ptr (eqb→eq b c t.0 i) (eqb→eq o r t.1 i)
+equal_ptrs (block_ptr b o) null_ptr e = cc
+equal_ptrs null_ptr (block_ptr c r) e = cc
+equal_ptrs null_ptr null_ptr e = refl
+
+-- ---- cells by key
+module _ {X : Type 0} where
+  beyond : (key : ℕ) → cell_at {X = X} [] key ≡ None
+  beyond zero = refl
+  beyond (suc key) = refl
+
+  pub put_same : (key : ℕ) (x : Option X) (cells : List (Option X)) → cell_at (put_at key x cells) key ≡ x
+  put_same zero x [] = refl
+  put_same zero x (c ∷ cells) = refl
+  put_same (suc key) x [] = put_same key x []
+  put_same (suc key) x (c ∷ cells) = put_same key x cells
+
+  pub put_twice : (key : ℕ) (x y : Option X) (cells : List (Option X)) → put_at key x (put_at key y cells) ≡ put_at key x cells
+  put_twice zero x y [] = refl
+  put_twice zero x y (c ∷ cells) = refl
+  put_twice (suc key) x y [] = ap (λ rest. None ∷ rest) (put_twice key x y [])
+  put_twice (suc key) x y (c ∷ cells) = ap (λ rest. c ∷ rest) (put_twice key x y cells)
+
+  pub put_other : (key other : ℕ) (x : Option X) (cells : List (Option X)) → other ≢ key → cell_at (put_at key x cells) other ≡ cell_at cells other
+  put_other zero zero x cells ne = absurd (ne refl)
+  put_other zero (suc other) x [] ne = beyond other
+  put_other zero (suc other) x (c ∷ cells) ne = refl
+  put_other (suc key) zero x [] ne = refl
+  put_other (suc key) zero x (c ∷ cells) ne = refl
+  put_other (suc key) (suc other) x [] ne = put_other key other x [] (λ e. ne (ap suc e)) ∙ beyond other
+  put_other (suc key) (suc other) x (c ∷ cells) ne = put_other key other x cells (λ e. ne (ap suc e))
+
+-- ---- cells by pointer
+next_is : (x : Option ℕ) (key : ℕ) → next_key x ≡ Some key → (before : ℕ) × (x ≡ Some before) × (key ≡ suc before)
+next_is None key e = cc
+next_is (Some before) key e = let same : suc before ≡ key = cc in (before, refl, sym same)
+
+ptr_beyond : (T A : Type 0) (key : ℕ) → ptr_in (cell_at {X = Cell T A} [] key) ≡ None
+ptr_beyond T A zero = refl
+ptr_beyond T A (suc key) = refl
+
+module _ {T A : Type 0} where
+  -- the value at the first key lies there
+  pub value_at_key : (cells : List (Option (Cell T A))) (p : Ptr) (key : ℕ) → key_at cells p ≡ Some key → (c : Cell T A) × (cell_at cells key ≡ Some c) × (c.at ≡ p)
+  value_at_key [] p key e = cc
+  value_at_key (None ∷ cells) p key e =
+      let on = next_is (key_at cells p) key e in let rest = value_at_key cells p on.0 on.1 in
+      (rest.0, ap (cell_at (None ∷ cells)) on.2 ∙ rest.1, rest.2)
+  value_at_key (Some c ∷ cells) p key e = elim (same_ptr c.at p) as (λ b. same_ptr c.at p ≡ b → cond b (Some 0) (next_key (key_at cells p)) ≡ Some key → (d : Cell T A) × (cell_at (Some c ∷ cells) key ≡ Some d) × (d.at ≡ p)) [
+    | true ↦ λ is f. let first : 0 ≡ key = cc in (c, sym (ap (cell_at (Some c ∷ cells)) first), equal_ptrs c.at p is)
+    | false ↦ λ is f.
+        let on = next_is (key_at cells p) key f in let rest = value_at_key cells p on.0 on.1 in
+        (rest.0, ap (cell_at (Some c ∷ cells)) on.2 ∙ rest.1, rest.2)
+  ] refl e
+
+  -- a pointer that is held has a first key
+  pub key_of_held : (cells : List (Option (Cell T A))) (p : Ptr) → IsSome (key_at cells p) → (key : ℕ) × (key_at cells p ≡ Some key)
+  key_of_held cells p = some (key_at cells p)
+    where
+      some : (x : Option ℕ) → IsSome x → (key : ℕ) × (x ≡ Some key)
+      some None h = cc
+      some (Some key) h = (key, refl)
+
+  -- a write through the pointer is one under its key
+  pub write_is_put : (cells : List (Option (Cell T A))) (p : Ptr) (w : T) (key : ℕ) (c : Cell T A) → key_at cells p ≡ Some key → cell_at cells key ≡ Some c → write_to p w cells ≡ put_at key (Some (cell c.at c.alloc w)) cells
+  write_is_put [] p w key c e is = cc
+  write_is_put (None ∷ cells) p w key c e is =
+      let on = next_is (key_at cells p) key e in
+      ap (λ rest. None ∷ rest) (write_is_put cells p w on.0 c on.1 (sym (ap (cell_at (None ∷ cells)) on.2) ∙ is)) ∙ sym (ap (λ k. put_at k (Some (cell c.at c.alloc w)) (None ∷ cells)) on.2)
+  write_is_put (Some d ∷ cells) p w key c e is = elim (same_ptr d.at p) as (λ b. cond b (Some 0) (next_key (key_at cells p)) ≡ Some key
+      → cond b (Some (cell d.at d.alloc w) ∷ cells) (Some d ∷ write_to p w cells) ≡ put_at key (Some (cell c.at c.alloc w)) (Some d ∷ cells)) [
+        | true ↦ λ f.
+            let first : 0 ≡ key = cc in
+            let here : Some d ≡ Some c = ap (cell_at (Some d ∷ cells)) first ∙ is in let same : d ≡ c = cc in
+            (λ i. Some (cell (same i).at (same i).alloc w) ∷ cells) ∙ ap (λ k. put_at k (Some (cell c.at c.alloc w)) (Some d ∷ cells)) first
+        | false ↦ λ f.
+            let on = next_is (key_at cells p) key f in
+            ap (λ rest. Some d ∷ rest) (write_is_put cells p w on.0 c on.1 (sym (ap (cell_at (Some d ∷ cells)) on.2) ∙ is)) ∙ sym (ap (λ k. put_at k (Some (cell c.at c.alloc w)) (Some d ∷ cells)) on.2)
+      ] e
+
+  -- of values that lie apart each is the first at its pointer
+  apart_at : (c : Cell T A) (cells : List (Option (Cell T A))) (key : ℕ) (p : Ptr) → IsApartFrom c cells → ptr_in (cell_at cells key) ≡ Some p → same_ptr c.at p ≡ false
+  apart_at c [] key p a e = let none : None ≡ Some p = sym (ptr_beyond T A key) ∙ e in cc
+  apart_at c (None ∷ cells) zero p a e = cc
+  apart_at c (Some d ∷ cells) zero p a e = let at : d.at ≡ p = cc in sym (ap (same_ptr c.at) at) ∙ a.0
+  apart_at c (None ∷ cells) (suc key) p a e = apart_at c cells key p a e
+  apart_at c (Some d ∷ cells) (suc key) p a e = apart_at c cells key p a.1 e
+
+  pub first_of_apart : (cells : List (Option (Cell T A))) → AreApart cells → (key : ℕ) (p : Ptr) → ptr_in (cell_at cells key) ≡ Some p → key_at cells p ≡ Some key
+  first_of_apart [] a key p e = let none : None ≡ Some p = sym (ptr_beyond T A key) ∙ e in cc
+  first_of_apart (None ∷ cells) a zero p e = cc
+  first_of_apart (Some c ∷ cells) a zero p e = let at : c.at ≡ p = cc in ap (λ b. cond b (Some 0) (next_key (key_at cells p))) (ap (λ q. same_ptr q p) at ∙ same_as_itself p)
+  first_of_apart (None ∷ cells) a (suc key) p e = ap next_key (first_of_apart cells a key p e)
+  first_of_apart (Some c ∷ cells) a (suc key) p e =
+      ap (λ b. cond b (Some 0) (next_key (key_at cells p))) (apart_at c cells key p a.0 e) ∙ ap next_key (first_of_apart cells a.1 key p e)
+
+  -- cells whose values lie where they lay have their keys
+  no_key : (cells : List (Option (Cell T A))) (p : Ptr) → ((key : ℕ) → ptr_in (cell_at cells key) ≡ None) → key_at cells p ≡ None
+  no_key [] p h = refl
+  no_key (None ∷ cells) p h = ap next_key (no_key cells p (λ key. h (suc key)))
+  no_key (Some c ∷ cells) p h = let none : Some c.at ≡ None = h 0 in cc
+
+  pub keys_kept : (old new : List (Option (Cell T A))) → ((key : ℕ) → ptr_in (cell_at new key) ≡ ptr_in (cell_at old key)) → (p : Ptr) → key_at new p ≡ key_at old p
+  keys_kept [] new h p = no_key new p (λ key. h key ∙ ptr_beyond T A key)
+  keys_kept (c ∷ old) [] h p = sym (no_key (c ∷ old) p (λ key. sym (h key) ∙ ptr_beyond T A key))
+  keys_kept (None ∷ old) (None ∷ new) h p = ap next_key (keys_kept old new (λ key. h (suc key)) p)
+  keys_kept (None ∷ old) (Some d ∷ new) h p = let none : Some d.at ≡ None = h 0 in cc
+  keys_kept (Some c ∷ old) (None ∷ new) h p = let none : None ≡ Some c.at = h 0 in cc
+  keys_kept (Some c ∷ old) (Some d ∷ new) h p =
+      let at : Some d.at ≡ Some c.at = h 0 in let same : d.at ≡ c.at = cc in
+      λ i. cond (same_ptr (same i) p) (Some 0) (next_key (keys_kept old new (λ key. h (suc key)) p i))

@@ -1,0 +1,5 @@
+use Rattle.concurrent_lru.proofs.SlotWrites.{relinked_before}
+use Rattle.concurrent_lru.proofs.list.links.set_before.Goals as goal
+
+pub returns-clause-cells : goal.returns-clause-cells
+returns-clause-cells g c = relinked_before c.args.slots.now.memory.cells c.args.link c.follow_mut-node.result.now c.set_links.new.node c.follow_mut-node.ensures.value c.requires c.args.before c.set_links.ensures

@@ -1,0 +1,14 @@
+-- What a `Memory` ends as, once a `&mut` to a value of it has ended.
+use Rattle.std.specs.Borrow.{Fml, RattleType, MutBor, Lends}
+use denote.RawPtr.{Ptr}
+use Rattle.std.specs.declared.alloc.Allocator.{Ghosts}
+use Rattle.concurrent_lru.specs.Cells.{write_to}
+use Rattle.concurrent_lru.specs.declared.list.memory.Memory.{Memory}
+use Rattle.concurrent_lru.specs.contracts.list.memory.Memory.{the_row}
+
+-- the same memory with w as the first value that lies at p
+abbrev pub with_value : {T A : Type 0} → Memory T A → Ptr → T → Memory T A
+with_value m p w = record m { cells = write_to p w m.cells }
+
+abbrev pub lends_value : (T A : RattleType) → Ghosts A.Denot → MutBor (Memory T.Denot A.Denot) → Ptr → MutBor T.Denot → Fml
+lends_value T A g m p r = Lends (the_row T A g) T m r (with_value m.now p)

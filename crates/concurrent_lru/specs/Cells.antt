@@ -1,0 +1,78 @@
+-- The values that a `Memory` owns, each in a cell under a key.
+use Rattle.std.specs.Prelude.{◌≡◌, ℕ, zero, suc, List, [], ◌∷◌, Option, Some, None, Bool, true, false, cond, ◌&&◌, ◌==◌, slice_index_or}
+use denote.RawPtr.{Ptr, block_ptr, null_ptr}
+
+-- a value: where it lies, the handle that frees it, and what it is
+pub record Cell (T A : Type 0) : Type 0 where
+  pub at : Ptr
+  pub alloc : A
+  pub value : T
+
+-- whether two pointers are the same
+abbrev pub same_ptr : Ptr → Ptr → Bool
+same_ptr (block_ptr block offset) (block_ptr other place) = (block == other) && (offset == place)
+same_ptr (block_ptr block offset) null_ptr = false
+same_ptr null_ptr (block_ptr other place) = false
+same_ptr null_ptr null_ptr = true
+
+-- a key, seen from one cell further on
+abbrev pub next_key : Option ℕ → Option ℕ
+next_key None = None
+next_key (Some key) = Some (suc key)
+
+module _ {X : Type 0} where
+  -- what is under a key
+  abbrev pub cell_at : List (Option X) → ℕ → Option X
+  cell_at cells key = slice_index_or cells key None
+
+  -- the same cells with this under the key
+  abbrev pub put_at : ℕ → Option X → List (Option X) → List (Option X)
+  put_at zero x [] = x ∷ []
+  put_at zero x (c ∷ cells) = x ∷ cells
+  put_at (suc key) x [] = None ∷ put_at key x []
+  put_at (suc key) x (c ∷ cells) = c ∷ put_at key x cells
+
+module _ {T A : Type 0} where
+  abbrev pub cell : Ptr → A → T → Cell T A
+  cell p a x = record { at = p; alloc = a; value = x }
+
+  -- the value under the key lies at p, and this handle frees it
+  abbrev pub HoldsBy : List (Option (Cell T A)) → ℕ → Ptr → A → Type 0
+  HoldsBy cells key p a = (c : Cell T A) × (cell_at cells key ≡ Some c) × (c.at ≡ p) × (c.alloc ≡ a)
+
+  -- where the value of a cell lies
+  abbrev pub ptr_in : Option (Cell T A) → Option Ptr
+  ptr_in None = None
+  ptr_in (Some c) = Some c.at
+
+  -- the first key whose value lies at p
+  abbrev pub key_at : List (Option (Cell T A)) → Ptr → Option ℕ
+  key_at [] p = None
+  key_at (None ∷ cells) p = next_key (key_at cells p)
+  key_at (Some c ∷ cells) p = cond (same_ptr c.at p) (Some 0) (next_key (key_at cells p))
+
+  -- a value lies at p, and P holds of its key
+  abbrev pub AtKey : List (Option (Cell T A)) → Ptr → (ℕ → Type 0) → Type 0
+  AtKey cells p P = (key : ℕ) × (key_at cells p ≡ Some key) × P key
+
+  -- P holds of the first value that lies at p, with its key
+  abbrev pub AtFirst : List (Option (Cell T A)) → Ptr → (ℕ → Cell T A → Type 0) → Type 0
+  AtFirst cells p P = (key : ℕ) (c : Cell T A) → key_at cells p ≡ Some key → cell_at cells key ≡ Some c → P key c
+
+  -- the same cells with w as the first value that lies at p
+  abbrev pub write_to : Ptr → T → List (Option (Cell T A)) → List (Option (Cell T A))
+  write_to p w [] = []
+  write_to p w (None ∷ cells) = None ∷ write_to p w cells
+  write_to p w (Some c ∷ cells) = cond (same_ptr c.at p) (Some (cell c.at c.alloc w) ∷ cells) (Some c ∷ write_to p w cells)
+
+  -- no value of the cells lies where c does
+  abbrev pub IsApartFrom : Cell T A → List (Option (Cell T A)) → Type 0
+  IsApartFrom c [] = Unit {0}
+  IsApartFrom c (None ∷ cells) = IsApartFrom c cells
+  IsApartFrom c (Some d ∷ cells) = (same_ptr c.at d.at ≡ false) × IsApartFrom c cells
+
+  -- no two values lie at one place
+  abbrev pub AreApart : List (Option (Cell T A)) → Type 0
+  AreApart [] = Unit {0}
+  AreApart (None ∷ cells) = AreApart cells
+  AreApart (Some c ∷ cells) = IsApartFrom c cells × AreApart cells

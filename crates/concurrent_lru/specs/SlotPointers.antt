@@ -1,0 +1,37 @@
+-- How the slab of pointers and the memory that they reach go together.
+use Rattle.std.specs.Prelude.{◌≡◌, ℕ, Option, Some, None}
+use Rattle.std.specs.Borrow.{Fml, RattleType, MutBor, Lends}
+use Rattle.slab.specs.Slab.{get}
+use denote.RawPtr.{Ptr}
+use Rattle.concurrent_lru.specs.Cells.{cell_at, ptr_in, key_at}
+use Rattle.concurrent_lru.specs.CellLends.{with_value}
+use Rattle.concurrent_lru.specs.Relinks.{NodeCell, place_of}
+use Rattle.concurrent_lru.specs.declared.list.memory.At.{At}
+use Rattle.concurrent_lru.specs.declared.list.Node.{Node}
+use Rattle.concurrent_lru.specs.declared.list.slots.Slots.{Slots}
+use Rattle.concurrent_lru.specs.contracts.list.Node as node
+use Rattle.concurrent_lru.specs.contracts.list.slots.Slots as slots
+
+-- the pointer in a slot
+abbrev pub ptr_of : {T : Type 0} → Option (At T) → Option Ptr
+ptr_of None = None
+ptr_of (Some at) = Some at.ptr
+
+module _ {K V : Type 0} where
+  -- the own key of a node that is there
+  abbrev pub place_in : Option (NodeCell K V) → Option ℕ
+  place_in None = None
+  place_in (Some c) = Some (place_of c.value)
+
+  -- each pointer is that of the node under its key, no two are the same, and each node has its own key
+  pub record IsTied (s : Slots K V) : Type 0 where
+    pub pointers : (key : ℕ) → ptr_in (cell_at s.memory.cells key) ≡ ptr_of (get s.pointers key)
+    pub apart : (key : ℕ) (p : Ptr) → ptr_in (cell_at s.memory.cells key) ≡ Some p → key_at s.memory.cells p ≡ Some key
+    pub placed : (key place : ℕ) → place_in (cell_at s.memory.cells key) ≡ Some place → place ≡ key
+
+  -- the slots with this node at a pointer
+  abbrev pub with_node : Slots K V → Ptr → Node K V → Slots K V
+  with_node s p n = record s { memory = with_value s.memory p n }
+
+abbrev pub lends_node : (K V : RattleType) → MutBor (Slots K.Denot V.Denot) → Ptr → MutBor (Node K.Denot V.Denot) → Fml
+lends_node K V s p r = Lends (slots.the_row K V) (node.the_row K V) s r (with_node s.now p)

@@ -1,0 +1,200 @@
+//! The idle order as links among nodes: each idle one has the pointers of its neighbours.
+//! Free functions over the slots and the two ends, which may break the order for a moment.
+ghost use Rattle.std.specs.Prelude.{◌≡◌, ◌+◌, ◌∷◌, [], ◌++◌, ◌==◌, map, filter, not, nat_eq, true, false, None, Some, IsSome};
+ghost use Rattle.std.specs.List.{list_any};
+ghost use Rattle.concurrent_lru.specs.Cells.{cell_at, key_at, AtKey};
+ghost use Rattle.concurrent_lru.specs.SlotTable.{IsTable, IsGood, idle_of, entry_in};
+ghost use Rattle.concurrent_lru.specs.SlotPointers.{IsTied};
+ghost use Rattle.concurrent_lru.specs.Slots.{made};
+ghost use Rattle.concurrent_lru.specs.NodeTable.{phase_of, pinned_by, in_phase};
+ghost use Rattle.concurrent_lru.specs.Relinks.{IsRelinked, Relinks, Revalues, LeftJoined, RightJoined, key_in, before_at, after_at};
+
+use crate::list::slots::Slots;
+use crate::list::{Node, Phase};
+
+// The neighbours of one node.
+fn set_links<K, V>(
+    node: &mut Node<K, V>,
+    before: Option<*mut Node<K, V>>,
+    after: Option<*mut Node<K, V>>,
+)
+    ensures { IsRelinked node.old node.new before after }
+{
+    node.before = before;
+    node.after = after;
+}
+
+fn relink<K: Drop, V: Drop>(
+    slots: &mut Slots<K, V>,
+    link: *mut Node<K, V>,
+    before: Option<*mut Node<K, V>>,
+    after: Option<*mut Node<K, V>>,
+)
+    requires { IsSome (key_at slots.old.memory.cells link) }
+    ensures slots { slots.new ≡ record slots.old { memory = slots.new.memory } }
+    ensures cells { AtKey slots.old.memory.cells link (λ k. Relinks slots.old.memory.cells slots.new.memory.cells k before after) }
+{
+    set_links(slots.follow_mut(link), before, after);
+}
+
+fn set_after<K: Drop, V: Drop>(
+    slots: &mut Slots<K, V>,
+    link: *mut Node<K, V>,
+    after: Option<*mut Node<K, V>>,
+)
+    requires { IsSome (key_at slots.old.memory.cells link) }
+    ensures slots { slots.new ≡ record slots.old { memory = slots.new.memory } }
+    ensures cells { AtKey slots.old.memory.cells link (λ k. Relinks slots.old.memory.cells slots.new.memory.cells k (before_at slots.old.memory.cells k) after) }
+{
+    let node = slots.follow_mut(link);
+    let before = node.before;
+    set_links(node, before, after);
+}
+
+fn set_before<K: Drop, V: Drop>(
+    slots: &mut Slots<K, V>,
+    link: *mut Node<K, V>,
+    before: Option<*mut Node<K, V>>,
+)
+    requires { IsSome (key_at slots.old.memory.cells link) }
+    ensures slots { slots.new ≡ record slots.old { memory = slots.new.memory } }
+    ensures cells { AtKey slots.old.memory.cells link (λ k. Relinks slots.old.memory.cells slots.new.memory.cells k before (after_at slots.old.memory.cells k)) }
+{
+    let node = slots.follow_mut(link);
+    let after = node.after;
+    set_links(node, before, after);
+}
+
+// Makes the node under a key the newest idle one.
+pub(super) fn append_at<K: Drop, V: Drop>(
+    slots: &mut Slots<K, V>,
+    oldest: &mut Option<usize>,
+    newest: &mut Option<*mut Node<K, V>>,
+    key: usize,
+)
+    requires table { IsTable slots.old oldest.old newest.old }
+    requires present { IsSome (cell_at slots.old.memory.cells key) }
+    requires held { list_any (nat_eq key) (idle_of slots.old.memory.cells oldest.old) ≡ false }
+    ensures table { IsTable slots.new oldest.new newest.new }
+    ensures nodes { made (map entry_in slots.new.memory.cells) ≡ made (map entry_in slots.old.memory.cells) }
+    ensures idle { idle_of slots.new.memory.cells oldest.new ≡ idle_of slots.old.memory.cells oldest.old ++ key ∷ [] }
+    ensures pointers { slots.new.pointers ≡ slots.old.pointers }
+    ensures looks { slots.new.looks.count ≡ slots.old.looks.count + 1 }
+{
+    let own = slots.look(key);
+    relink(slots, own, *newest, None);
+    match *newest {
+        Some(last) => set_after(slots, last, Some(own)),
+        None => *oldest = Some(key),
+    }
+    *newest = Some(own);
+}
+
+// Cuts a node's links, and tells what they were.
+fn unlink<K: Drop, V: Drop>(
+    slots: &mut Slots<K, V>,
+    link: *mut Node<K, V>,
+) -> (Option<*mut Node<K, V>>, Option<*mut Node<K, V>>)
+    requires { IsSome (key_at slots.old.memory.cells link) }
+    ensures slots { slots.new ≡ record slots.old { memory = slots.new.memory } }
+    ensures cells { AtKey slots.old.memory.cells link (λ k. Relinks slots.old.memory.cells slots.new.memory.cells k None None) }
+    ensures before { AtKey slots.old.memory.cells link (λ k. result.0 ≡ before_at slots.old.memory.cells k) }
+    ensures after { AtKey slots.old.memory.cells link (λ k. result.1 ≡ after_at slots.old.memory.cells k) }
+{
+    let node = slots.follow_mut(link);
+    let before = node.before;
+    let after = node.after;
+    set_links(node, None, None);
+    (before, after)
+}
+
+// The key of the node that a link leads to, which the node itself carries.
+fn key_of<K: Drop, V: Drop>(slots: &Slots<K, V>, link: Option<*mut Node<K, V>>) -> Option<usize>
+    requires tied { IsTied slots.now }
+    requires good { IsGood slots.now.memory.cells link }
+    ensures { result ≡ key_in slots.now.memory.cells link }
+{
+    match link {
+        Some(link) => Some(slots.follow(link).place),
+        None => None,
+    }
+}
+
+// Joins the neighbours of a node that was taken out, seen from the one before, or from the end.
+fn join_left<K: Drop, V: Drop>(
+    slots: &mut Slots<K, V>,
+    oldest: &mut Option<usize>,
+    before: Option<*mut Node<K, V>>,
+    after: Option<*mut Node<K, V>>,
+)
+    requires tied { IsTied slots.old }
+    requires before { IsGood slots.old.memory.cells before }
+    requires after { IsGood slots.old.memory.cells after }
+    ensures slots { slots.new ≡ record slots.old { memory = slots.new.memory } }
+    ensures joined { LeftJoined slots.old.memory.cells slots.new.memory.cells oldest.old oldest.new before after }
+{
+    match before {
+        Some(link) => set_after(slots, link, after),
+        None => *oldest = key_of(slots, after),
+    }
+}
+
+// And from the one after.
+fn join_right<K: Drop, V: Drop>(
+    slots: &mut Slots<K, V>,
+    newest: &mut Option<*mut Node<K, V>>,
+    before: Option<*mut Node<K, V>>,
+    after: Option<*mut Node<K, V>>,
+)
+    requires { IsGood slots.old.memory.cells after }
+    ensures slots { slots.new ≡ record slots.old { memory = slots.new.memory } }
+    ensures joined { RightJoined slots.old.memory.cells slots.new.memory.cells newest.old newest.new before after }
+{
+    match after {
+        Some(link) => set_before(slots, link, before),
+        None => *newest = before,
+    }
+}
+
+// Takes the node under a key out of the idle order.
+pub(super) fn remove_at<K: Drop, V: Drop>(
+    slots: &mut Slots<K, V>,
+    oldest: &mut Option<usize>,
+    newest: &mut Option<*mut Node<K, V>>,
+    key: usize,
+)
+    requires table { IsTable slots.old oldest.old newest.old }
+    requires idle { list_any (nat_eq key) (idle_of slots.old.memory.cells oldest.old) ≡ true }
+    ensures table { IsTable slots.new oldest.new newest.new }
+    ensures nodes { made (map entry_in slots.new.memory.cells) ≡ made (map entry_in slots.old.memory.cells) }
+    ensures idle { idle_of slots.new.memory.cells oldest.new ≡ filter (λ q. not (q == key)) (idle_of slots.old.memory.cells oldest.old) }
+    ensures pointers { slots.new.pointers ≡ slots.old.pointers }
+    ensures looks { slots.new.looks.count ≡ slots.old.looks.count + 1 }
+{
+    let own = slots.look(key);
+    let (before, after) = unlink(slots, own);
+    join_left(slots, oldest, before, after);
+    join_right(slots, newest, before, after);
+}
+
+// Writes the pins of the node under a key.
+pub(super) fn write_pins<K: Drop, V: Drop>(slots: &mut Slots<K, V>, key: usize, pins: u32)
+    requires tied { IsTied slots.old }
+    requires present { IsSome (cell_at slots.old.memory.cells key) }
+    ensures slots { slots.new ≡ record slots.old { memory = slots.new.memory; looks = slots.new.looks } }
+    ensures cells { Revalues slots.old.memory.cells slots.new.memory.cells key (pinned_by pins) }
+{
+    let link = slots.look(key);
+    slots.follow_mut(link).hold(pins);
+}
+
+// Writes the phase of the node under a key.
+pub(super) fn write_phase<K: Drop, V: Drop>(slots: &mut Slots<K, V>, key: usize, phase: Phase<V>)
+    requires tied { IsTied slots.old }
+    requires present { IsSome (cell_at slots.old.memory.cells key) }
+    ensures slots { slots.new ≡ record slots.old { memory = slots.new.memory; looks = slots.new.looks } }
+    ensures cells { Revalues slots.old.memory.cells slots.new.memory.cells key (in_phase (phase_of phase)) }
+{
+    let link = slots.look(key);
+    slots.follow_mut(link).turn(phase);
+}

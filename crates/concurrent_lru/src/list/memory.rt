@@ -1,0 +1,114 @@
+//! Boxed values turned into raw pointers, and the one owner of what these point to.
+//! The owner takes no bytes: contracts alone see which value lies where, and under which key.
+ghost use Rattle.std.specs.Prelude.{◌≡◌, ◌<◌, List as Seq, [], None, Some, IsSome, Option as Maybe};
+ghost use Rattle.std.specs.Mem.{type_size};
+ghost use Rattle.std.specs.Borrow.{sem};
+ghost use Rattle.concurrent_lru.specs.Cells.{Cell, cell, cell_at, key_at, put_at, HoldsBy, AtFirst, AreApart};
+ghost use Rattle.concurrent_lru.specs.CellOwnership.{cells_own, cells_lent};
+
+use std::alloc::{AllocError, Allocator};
+use std::marker::{Model, PhantomData, Send, Sync};
+
+// Where a value lies. It owns nothing.
+pub(super) struct At<T> {
+    pub(super) ptr: *mut T,
+}
+
+impl<T> Clone for At<T> {
+    ghost use Rattle.std.specs.Prelude.{⊤};
+
+    ghost is_clone = { λ x y. y ≡ x };
+
+    ghost is_infallible = { λ _. ⊤ };
+
+    fn clone(&self) -> Result<At<T>, AllocError> {
+        Ok(*self)
+    }
+}
+
+impl<T> Copy for At<T> {}
+
+// Whoever has the memory may use the value; the pointer alone gives no way to it.
+unsafe impl<T> Send for At<T> {}
+
+unsafe impl<T> Sync for At<T> {}
+
+// The owner of the values that the pointers reach, each under a key.
+pub(super) struct Memory<T, A: Allocator> {
+    mark: PhantomData<*mut (T, A)>,
+    ghost cells: { Seq (Maybe (Cell T A)) },
+}
+
+impl<T, A: Allocator> Model for Memory<T, A> {
+    ghost also_owns = { λ m. cells_own T.row A.row A.dealloc_token m.cells };
+
+    ghost also_shares = { λ m _ κ. cells_lent T.row A.row m.cells κ };
+}
+
+// It owns its values as boxes would.
+unsafe impl<T: Send, A: Allocator + Send> Send for Memory<T, A> {}
+
+unsafe impl<T: Sync, A: Allocator + Sync> Sync for Memory<T, A> {}
+
+impl<T, A: Allocator> Memory<T, A> {
+    ghost use Rattle.concurrent_lru.specs.CellLends.{lends_value};
+
+    pub(super) fn new() -> Memory<T, A>
+        ensures { result.cells ≡ [] }
+    {
+        Memory { mark: PhantomData }
+    }
+
+    // Takes a box over, under a key that is free.
+    pub(super) fn put(&mut self, value: Box<T, A>, key: usize) -> (At<T>, A)
+    where
+        T: Drop,
+        requires { cell_at self.old.cells key ≡ None }
+        ensures { self.new.cells ≡ put_at key (Some (cell result.0.ptr result.1 value.value)) self.old.cells }
+    {
+        let _ = key;
+        let (ptr, alloc) = Box::into_raw_with_allocator(value);
+        (At { ptr }, alloc)
+    }
+
+    // The value that lies there.
+    pub(super) fn get(&self, at: At<T>) -> &T
+        requires { IsSome (key_at self.now.cells at.ptr) }
+        ensures { AtFirst self.now.cells at.ptr (λ _ c. result.now ≡ c.value) }
+    {
+        unsafe { &*at.ptr }
+    }
+
+    // Lends the value that lies there for writing.
+    pub(super) fn lend(&mut self, at: At<T>) -> &mut T
+        requires { IsSome (key_at self.old.cells at.ptr) }
+        ensures* writes_back { sem 𝓛 (lends_value T.row A.row A.Allocator self.entry at.ptr result) }
+        ensures value { AtFirst self.old.cells at.ptr (λ _ c. result.now ≡ c.value) }
+    {
+        unsafe { &mut *at.ptr }
+    }
+
+    // Gives the value under a key back in its box.
+    pub(super) fn take(&mut self, at: At<T>, key: usize, alloc: A) -> Box<T, A>
+        requires { HoldsBy self.old.cells key at.ptr alloc }
+        ensures value { (c : Cell T A) → cell_at self.old.cells key ≡ Some c → result.value ≡ c.value }
+        ensures cells { self.new.cells ≡ put_at key None self.old.cells }
+    {
+        let _ = key;
+        unsafe { Box::from_raw(alloc, at.ptr) }
+    }
+
+    // Tells that values of some bytes lie apart, as each is owned.
+    pub(super) fn apart(&mut self)
+        requires { 0 < type_size T.row }
+        ensures same { self.new ≡ self.old }
+        ensures apart { AreApart self.old.cells }
+    {}
+
+    // The memory of no values goes.
+    pub(super) fn end(self)
+        requires { (k : _) → cell_at self.cells k ≡ None }
+    {
+        let Memory { mark: _ } = self;
+    }
+}
