@@ -32,9 +32,6 @@ module _ {T A : Type 0} where
   the_cell None h = cc
   the_cell (Some c) h = (c, refl)
 
-  pub ptr_told : (x : Option (Cell T A)) (o : Option (At T)) (c : Cell T A) (at : At T) → ptr_in x ≡ ptr_of o → x ≡ Some c → o ≡ Some at → c.at ≡ at.ptr
-  ptr_told x o c at e is was = let both : Some c.at ≡ Some at.ptr = sym (ap ptr_in is) ∙ e ∙ ap ptr_of was in cc
-
 module _ {K V : Type 0} where
   -- one slot and its cell changed alike
   pub tied_put : (s t : Slots K V) (key : ℕ) (o : Option (At (Node K V))) (x : Option (NodeCell K V)) → IsTied s → Updates s.pointers t.pointers key o → t.memory.cells ≡ put_at key x s.memory.cells
@@ -53,10 +50,6 @@ module _ {K V : Type 0} where
           | inr ne ↦ tied.placed k place (sym (ap place_in (others k ne)) ∙ h)
         ];
       }
-
-  -- the pointer of a key's slot has that key
-  pub key_told : (s : Slots K V) (key : ℕ) (at : At (Node K V)) → IsTied s → get s.pointers key ≡ Some at → key_at s.memory.cells at.ptr ≡ Some key
-  key_told s key at tied is = tied.apart key at.ptr (tied.pointers key ∙ ap ptr_of is)
 
   -- a node's own key is the one at its pointer
   pub own_key : (s : Slots K V) (p : Ptr) (n : Node K V) → IsTied s → IsSome (key_at s.memory.cells p) → AtFirst s.memory.cells p (λ _ c. n ≡ c.value) → Some (place_of n) ≡ key_at s.memory.cells p
