@@ -6,16 +6,16 @@ use Rattle.std.specs.HashMap as hash
 use Rattle.std.specs.HashMap.{HashMap}
 use Rattle.std.proofs.lemmas.Bool.{true≢false, eqb-true, eq-eqb, ne_eqb}
 use Rattle.std.proofs.lemmas.Option.{none-some, same_Some}
-use Rattle.concurrent_lru.specs.Cache.{Idle, ready, idle_at, held_at}
+use Rattle.concurrent_lru.specs.Cache.{Idle, Held, ready, idle_at, held_at}
 use Rattle.concurrent_lru.specs.NodeTable.{Entry, NodeTable}
 use Rattle.concurrent_lru.specs.Representation.{as_idle, held_entry, held_in, idle_in, idle_at_place}
-use Rattle.concurrent_lru.specs.Entries.{IsPlace, IsIdleAt, IsHeldAt, IsAt, IsReadyAt, LacksStampIn, cache_of}
+use Rattle.concurrent_lru.specs.Entries.{IsPlace, IsIdleAt, IsHeldAt, IsAt, IsReadyAt, LacksStampIn, cache_of, pins_at}
 use Rattle.concurrent_lru.specs.Indexes.{IsStored, entries_of}
 use Rattle.concurrent_lru.proofs.Changes.{held_in-get, held_in-found}
 use Rattle.concurrent_lru.proofs.Members.{IsIn, in_self}
 use Rattle.concurrent_lru.proofs.Begins.{found_idle, idle_in-get, as_idle-ready}
 use Rattle.std.specs.List.{AllByRecursion, filter_map, cons_option}
-use Rattle.std.specs.Option.{option_and_then, option_map}
+use Rattle.std.specs.Option.{option_and_then, option_map, option_map_or}
 use Rattle.concurrent_lru.specs.Steps.{without}
 use Rattle.concurrent_lru.proofs.TableSums.{stamps_apart, first_out}
 use Rattle.concurrent_lru.proofs.NodePlaces.{get_stamps, all_values}
@@ -132,6 +132,17 @@ module _ {K V S T : Type 0} {C : K → K → Type 0} {E : K → K → Bool} {t :
         let here : f.place ≡ p = one_place r.indexed f.place p f.entry e f.at at f.stamp in
         let same : f.entry ≡ e = same_Some _ _ (sym f.at ∙ ap (get t.nodes) here ∙ at) in
         absurd (true≢false (sym (eq-eqb e.pins 0 (idle_like p e at m).1) ∙ ap (λ y. y.pins == 0) (sym same) ∙ f.pinned))
+  ] refl
+
+  -- the pins at a place, by what is held under its stamp
+  pins_by : (p s : ℕ) (o : Option (Held K V)) → get (entries_of t).stamps p ≡ Some s → get (entries_of t).held s ≡ o → pins_at (entries_of t) p ≡ option_map_or (λ h. h.pins) o 0
+  pins_by p s o at held = ap (λ n. option_map_or (λ i. option_map_or (λ h. h.pins) (get (entries_of t).held i) 0) n 0) at ∙ ap (λ n. option_map_or (λ h. h.pins) n 0) held
+
+  -- they are its node's
+  pub node_pins : (p : ℕ) (e : Entry K V) → get t.nodes p ≡ Some e → pins_at (entries_of t) p ≡ e.pins
+  node_pins p e at = elim (e.pins == 0) as (λ b. (e.pins == 0) ≡ b → pins_at (entries_of t) p ≡ e.pins) [
+    | true ↦ λ b. let none : e.pins ≡ 0 = eqb-true e.pins 0 b in pins_by p e.stamp None (place_at p e at) (idle_unheld p e at (r.represents.resting p e at none)) ∙ sym none
+    | false ↦ λ b. pins_by p e.stamp (Some (held_entry e)) (place_at p e at) (held_found p e at b)
   ] refl
 
   -- the stamp of a place is its node's

@@ -1,5 +1,6 @@
 -- What a `Table` is seen as: its entries, idle and held, and the stamp of the entry at each place. What each of its calls does to them.
 use Rattle.std.specs.Prelude.{◌≡◌, ◌≢◌, ℕ, ◌<◌, ◌+◌, ◌++◌, ◌∷◌, [], Bool, true, false, List, IsSome, Some, refl}
+use Rattle.std.specs.Option.{option_map_or}
 use Rattle.std.specs.Ordering.{nat_cmp}
 use Rattle.std.specs.Coded.{Coded, code_by, coded×, coded_ℕ, coded_list}
 use Rattle.std.specs.FinMap as finmap
@@ -67,6 +68,10 @@ module _ {K V : Type 0} where
     pub at : finmap.get t.stamps p ≡ Some e.stamp
     pub idle : e.pins ≡ 0 → IsSome (as_idle e) × (idle_at (cache_of t) e.stamp ≡ as_idle e)
     pub held : e.pins ≢ 0 → held_at (cache_of t) e.stamp ≡ Some (held_entry e)
+
+  -- the pins of the entry at the place: none where it is not held
+  abbrev pub pins_at : Entries K V → ℕ → ℕ
+  pins_at t p = option_map_or (λ s. option_map_or (λ e. e.pins) (finmap.get t.held s) 0) (finmap.get t.stamps p) 0
 
   -- a held entry as a new one is
   abbrev pub new_held : K → ℕ → Held K V

@@ -2,6 +2,7 @@ pub mod Cache
 pub mod Keys
 pub mod Request
 pub mod Reply
+pub mod Messages
 pub mod Steps
 pub mod Runs
 pub mod NodeTable

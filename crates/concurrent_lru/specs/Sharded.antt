@@ -24,6 +24,10 @@ key_number build run bytes s k = run.finish (fold run.write (build.build_hasher 
 abbrev pub shard_of : {K V S : Type 0} → (S → K → ℕ) → Sharded K V S → K → ℕ
 shard_of number c k = number c.hasher k % length c.caches
 
+-- the same, by the hasher's own numbers
+abbrev pub key_shard : {K V S H : Type 0} → builder.Ghosts S H → hasher.Ghosts H → (K → List (List ℕ)) → Sharded K V S → K → ℕ
+key_shard build run bytes c k = shard_of (key_number build run bytes) c k
+
 -- every shard is lawful
 abbrev pub AreLawful : {K V S : Type 0} → (K → K → Bool) → Sharded K V S → Type 0
 AreLawful E c = All (IsLawful E) c.caches

@@ -133,6 +133,7 @@ impl<'a, K: Hash + Eq + Clone + Drop, V: Drop, R: Wait, F: Fit<K, V>> Inside<'a,
     pub fn release(self, pin: Pin<K, V, F>) {
         let Self { door: _, mut guard } = self;
         let released = guard.release(pin);
+        // Where it is refused as `Stale`, there is no pin to give back and nothing was evicted.
         drop(released.open(guard));
     }
 
@@ -190,6 +191,7 @@ impl<'a, K: Hash + Eq + Clone + Drop, V: Drop, R: Wait, F: Fit<K, V>> Maker<'a, 
         let Inside { door: _, mut guard } = door.enter();
         let (pin, back, readers) = guard.ready(making, key, stored, read);
         readers.wake(&door.woken);
+        // Where the Arc comes back, no entry takes the value, and the handle reads the other Arc.
         let _ = back.open(guard);
         CacheHandle::new(door, pin)
     }
@@ -202,6 +204,7 @@ impl<'a, K: Hash + Eq + Clone + Drop, V: Drop, R: Wait, F: Fit<K, V>> Maker<'a, 
         let Inside { door: _, mut guard } = door.enter();
         let (failed, heirs) = guard.fail(making, key);
         heirs.wake(&door.woken);
+        // Where it is refused as `Stale`, there is no making to give up.
         drop(failed.open(guard));
     }
 }
@@ -231,6 +234,7 @@ impl<'a, K: Hash + Eq + Clone + Drop, V: Drop, R: Wait, F: Fit<K, V>> Asleep<'a,
             Polled::Hit(pin) => Ok(Some(Met::Hit(CacheHandle::new(door, pin)))),
             Polled::Refused(unread) => {
                 let given_up = guard.give_up(unread);
+                // Where it is refused as `Stale`, there is no pin to give back.
                 drop(given_up.open(guard));
                 Err(Refusal::Memory)
             }

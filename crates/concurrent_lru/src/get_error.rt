@@ -4,9 +4,11 @@ ghost use Rattle.std.specs.Prelude.{◌≡◌, ◌≢◌};
 ghost use Rattle.concurrent_lru.specs.Turns.{IsNotInit};
 
 use crate::list::Refusal;
+use std::error::Error;
+use std::fmt;
 
 /// Why `get_or_try_init` gave no handle.
-#[derive(Debug, Drop)]
+#[derive(Debug, Drop, PartialEq, Eq)]
 pub enum GetError<E> {
     /// A growth or a copy was refused by the allocator.
     Memory,
@@ -44,3 +46,23 @@ impl<E> GetError<E> {
         }
     }
 }
+
+// The error of `init` prints its own text.
+impl<E: fmt::Display> fmt::Display for GetError<E> {
+    ghost use Rattle.std.specs.Fmt.{padded};
+    ghost use Rattle.concurrent_lru.specs.Messages.{get_error_text, styled_get_error_text};
+
+    ghost output = { get_error_text E.output };
+
+    ghost styled_output = { styled_get_error_text padded E.styled_output };
+
+    fn fmt<W: fmt::Write>(&self, f: &mut fmt::Formatter<W>) -> fmt::Result {
+        match self {
+            GetError::Memory => fmt::Display::fmt(&Refusal::Memory, f),
+            GetError::Overflow => fmt::Display::fmt(&Refusal::Overflow, f),
+            GetError::Init(error) => fmt::Display::fmt(error, f),
+        }
+    }
+}
+
+impl<E: Error> Error for GetError<E> {}

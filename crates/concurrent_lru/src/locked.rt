@@ -2,7 +2,7 @@
 //! Each call is one step of the core, and what it leaves to be done is a debt, which is not `Drop`.
 ghost use Rattle.std.specs.Prelude.{◌≡◌, ◌≢◌, ◌<◌, true, [], Err, Some, None, IsTrue, IsFalse, IfOk, IfErr, IfSome};
 ghost use Rattle.std.specs.Arc.{arc_value};
-ghost use Rattle.concurrent_lru.specs.Cache.{empty_cache, sum_of, IsLawful};
+ghost use Rattle.concurrent_lru.specs.Cache.{empty_cache, most_pins_by_default, sum_of, IsLawful};
 ghost use Rattle.concurrent_lru.specs.Debts.{entered, resumed, found, AsksOnEntry, AsksOnPoll, IfEntered, IfPolled};
 ghost use Rattle.concurrent_lru.specs.Keys.{CopiesAreEqual};
 ghost use Rattle.concurrent_lru.specs.Pins.{made_at, made_key, made_charge, woken_at, woken_key, woken_charge, unread_at};
@@ -55,7 +55,7 @@ impl<K: Hash + Eq + Clone + Drop, V: Drop, F: Fit<K, V>> Locked<K, V, F> {
     /// An empty cache that settles to `capacity`. Takes no memory.
     pub fn new(alloc: Global, capacity: u64) -> Self
         requires copies { CopiesAreEqual K.is_clone K.eq }
-        ensures empty { result ≡ empty_cache capacity 4294967295 0 }
+        ensures empty { result ≡ empty_cache capacity most_pins_by_default 0 }
     {
         Locked {
             state: State::new(alloc, capacity),
@@ -162,6 +162,7 @@ impl<K: Hash + Eq + Clone + Drop, V: Drop, F: Fit<K, V>> Locked<K, V, F> {
             Ok(Begun::Wait(own)) => Polled::Wait(Waiting::of(own, key, charge, self)),
             Ok(Begun::Hit(own, value)) => Polled::Hit(Pin::of(own, key, Some(charge), value)),
             Err(Refusal::Memory) => Polled::Refused(Unread { stamp }),
+            // A poll never overflows: this is `Stale`, and there is no pin to give back.
             Err(_) => Polled::Stray,
         }
     }

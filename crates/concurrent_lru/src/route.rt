@@ -7,7 +7,7 @@ ghost use Rattle.concurrent_lru.specs.Sharded.{key_number};
 use crate::fit::Fit;
 use crate::locked::{Pruned, Reserved, Resized};
 use crate::lru_core::Refusal;
-use crate::shards::capacity_per_shard;
+use crate::shards::{capacity_per_shard, choose_shard};
 use crate::unsharded::LruCache;
 use std::alloc::Global;
 use std::fmt;
@@ -69,8 +69,7 @@ impl<K: Hash + Eq + Clone + Drop, V: Drop, R: Wait, S: BuildHasher, F: Fit<K, V>
     pub fn of(&self, key: &K) -> &LruCache<K, V, R, F>
         ensures route { slice_get self.now.shards.items (key_number S.BuildHasher S.Hasher.Hasher K.hash_input self.now.hasher key.now % vec_len self.now.shards) ≡ Some result.now }
     {
-        let shard = self.hasher.hash_one(key) % self.shards.len() as u64;
-        &self.shards[shard as usize]
+        &self.shards[choose_shard(&self.hasher, key, self.shards.len())]
     }
 
     /// `reserve` of each shard, one after another, with its share of the entries.
@@ -90,6 +89,7 @@ impl<K: Hash + Eq + Clone + Drop, V: Drop, R: Wait, S: BuildHasher, F: Fit<K, V>
         ensures err { IfErr result (λ e. e ≡ Refusal.Memory) }
         ensures done { IfOk result (λ reserved. reserved ≡ (entries + vec_len self.now.shards - 1) / vec_len self.now.shards) }
     {
+        // Taken out and wrapped again, since the clause on the share is found by the cases of `?`.
         let reserved = shard.reserved(entries.div_ceil(self.shards.len()))?;
         Ok(reserved)
     }

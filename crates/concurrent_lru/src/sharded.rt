@@ -5,13 +5,13 @@ ghost use Rattle.std.specs.Fn.{FnOnceReturnsAt, FnOnceTakesAt};
 ghost use Rattle.concurrent_lru.specs.Keys.{CopiesAreEqual};
 ghost use Rattle.concurrent_lru.specs.Turns.{IfInit};
 
-use crate::fit::{Anything, Fit};
+pub use crate::fit::{Anything, Fit};
+pub use crate::get_error::GetError;
 use crate::locked::Advised;
-use crate::lru_core::Refusal;
+pub use crate::lru_core::Refusal;
 use crate::route::Routes;
 pub use crate::shards::{ShardStep, Shards, capacity_per_shard};
 use crate::unsharded;
-use crate::unsharded::GetError;
 use std::alloc::Global;
 use std::fmt;
 use std::hash::{BuildHasher, Hash, RandomState};

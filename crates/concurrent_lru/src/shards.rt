@@ -1,16 +1,16 @@
 //! Caches side by side for one owner, each for the keys that are routed to it.
 //! A step changes the one shard that its key has, or that it names, and no other.
-ghost use Rattle.std.specs.Prelude.{◌≡◌, ◌+◌, ◌-◌, ◌/◌, ◌<◌, length, replicate, map, IfOk, IfErr, IfSome, OnErr};
+ghost use Rattle.std.specs.Prelude.{◌≡◌, ◌+◌, ◌-◌, ◌/◌, ◌%◌, ◌<◌, length, replicate, map, IfOk, IfErr, IfSome, OnErr};
 ghost use Rattle.std.specs.Arc.{arc_value};
 ghost use Rattle.std.specs.List.{AllByRecursion, AllZip};
-ghost use Rattle.concurrent_lru.specs.Cache.{empty_cache};
+ghost use Rattle.concurrent_lru.specs.Cache.{empty_cache, most_pins_by_default};
 ghost use Rattle.concurrent_lru.specs.Keys.{CopiesAreEqual};
 ghost use Rattle.concurrent_lru.specs.Parts.{EachTakes, StandsAt, RunsApart};
 ghost use Rattle.concurrent_lru.specs.Request as ask;
 ghost use Rattle.concurrent_lru.specs.Results.{IsCharged, evicts, failed, outcome_of, polled, readied, released, request_of};
 ghost use Rattle.concurrent_lru.specs.Runs.{refused};
 ghost use Rattle.concurrent_lru.specs.declared.list.Refusal.TheVariants.{Stale};
-ghost use Rattle.concurrent_lru.specs.Sharded.{AreLawful, key_number, shard_of};
+ghost use Rattle.concurrent_lru.specs.Sharded.{AreLawful, key_number, key_shard};
 ghost use Rattle.concurrent_lru.specs.ShardSteps.{asked, begun_at, got_at, evicted_at, shard_asked, step_of, told, totals_at, IsShardAnswerTo, TellsNoShard};
 
 use crate::lru_core::{Answer, Begun, Evicted, Failed, Refusal, State, Step};
@@ -27,9 +27,18 @@ pub fn capacity_per_shard(capacity: u64, shards: usize) -> u64
     capacity.div_ceil(shards as u64)
 }
 
+// The shard, of so many, that serves a key: the hasher's number of it modulo their number.
+pub(crate) fn choose_shard<K: Hash, S: BuildHasher>(hasher: &S, key: &K, shards: usize) -> usize
+    requires { 0 < shards }
+    ensures chosen { result ≡ key_number S.BuildHasher S.Hasher.Hasher K.hash_input hasher.now key.now % shards }
+    ensures within { result < shards }
+{
+    (hasher.hash_one(key) % shards as u64) as usize
+}
+
 /// A step of a run over shards. Charges are above 0. A step with a key goes to the key's shard;
 /// the others name their shard first.
-#[derive(Drop)]
+#[derive(Debug, Drop, PartialEq, Eq)]
 pub enum ShardStep<K, V> {
     /// `begin` with a key and a charge.
     Begin(K, u64),
@@ -96,7 +105,7 @@ impl<K: Hash + Eq + Clone, V: Drop, S: BuildHasher + Drop> Shards<K, V, S> {
         requires some { 0 < shards }
         requires copies { CopiesAreEqual K.is_clone K.eq }
         ensures hasher { IfOk result (λ s. s.hasher ≡ hasher) }
-        ensures empty { IfOk result (λ s. s.caches ≡ replicate shards (empty_cache ((capacity + shards - 1) / shards) 4294967295 0)) }
+        ensures empty { IfOk result (λ s. s.caches ≡ replicate shards (empty_cache ((capacity + shards - 1) / shards) most_pins_by_default 0)) }
         ensures lawful { IfOk result (AreLawful K.eq) }
         ensures err { IfErr result (λ e. e ≡ Refusal.Memory) }
     {
@@ -115,10 +124,10 @@ impl<K: Hash + Eq + Clone, V: Drop, S: BuildHasher + Drop> Shards<K, V, S> {
 
     /// The shard of a key: the hasher's number of it modulo the number of shards.
     pub fn route(&self, key: &K) -> usize
-        ensures route { result ≡ shard_of (key_number S.BuildHasher S.Hasher.Hasher K.hash_input) self.now key.now }
+        ensures route { result ≡ key_shard S.BuildHasher S.Hasher.Hasher K.hash_input self.now key.now }
         ensures within { result < length self.now.caches }
     {
-        (self.hasher.hash_one(key) % self.shards.len() as u64) as usize
+        choose_shard(&self.hasher, key, self.shards.len())
     }
 
     /// `begin` at the key's shard, which is answered first.
@@ -130,8 +139,8 @@ impl<K: Hash + Eq + Clone, V: Drop, S: BuildHasher + Drop> Shards<K, V, S> {
         charge: u64,
     ) -> Result<(usize, Begun<V>, Evicted<K, V>), Refusal>
         requires { 0 < charge }
-        ensures shard { IfOk result (λ r. r.0 ≡ shard_of (key_number S.BuildHasher S.Hasher.Hasher K.hash_input) self.old key.now) }
-        ensures step { StandsAt K.eq self.old (shard_of (key_number S.BuildHasher S.Hasher.Hasher K.hash_input) self.old key.now) (ask.begin key.now charge) (begun_at result) self.new }
+        ensures shard { IfOk result (λ r. r.0 ≡ key_shard S.BuildHasher S.Hasher.Hasher K.hash_input self.old key.now) }
+        ensures step { StandsAt K.eq self.old (key_shard S.BuildHasher S.Hasher.Hasher K.hash_input self.old key.now) (ask.begin key.now charge) (begun_at result) self.new }
         ensures lawful { AreLawful K.eq self.new }
     {
         let shard = self.route(key);
@@ -143,8 +152,8 @@ impl<K: Hash + Eq + Clone, V: Drop, S: BuildHasher + Drop> Shards<K, V, S> {
     ///
     /// `Overflow` and `Memory` as in one cache.
     pub fn get(&mut self, key: &K) -> Result<Option<(usize, u64, Arc<V>)>, Refusal>
-        ensures shard { IfOk result (λ found. IfSome found (λ r. r.0 ≡ shard_of (key_number S.BuildHasher S.Hasher.Hasher K.hash_input) self.old key.now)) }
-        ensures step { StandsAt K.eq self.old (shard_of (key_number S.BuildHasher S.Hasher.Hasher K.hash_input) self.old key.now) (ask.get key.now) (got_at result) self.new }
+        ensures shard { IfOk result (λ found. IfSome found (λ r. r.0 ≡ key_shard S.BuildHasher S.Hasher.Hasher K.hash_input self.old key.now)) }
+        ensures step { StandsAt K.eq self.old (key_shard S.BuildHasher S.Hasher.Hasher K.hash_input self.old key.now) (ask.get key.now) (got_at result) self.new }
         ensures lawful { AreLawful K.eq self.new }
     {
         let shard = self.route(key);
@@ -154,7 +163,7 @@ impl<K: Hash + Eq + Clone, V: Drop, S: BuildHasher + Drop> Shards<K, V, S> {
 
     /// `advice_evict` at the key's shard. Takes no memory.
     pub fn advice_evict(&mut self, key: &K) -> Evicted<K, V>
-        ensures step { StandsAt K.eq self.old (shard_of (key_number S.BuildHasher S.Hasher.Hasher K.hash_input) self.old key.now) (ask.advice_evict key.now) (evicts result) self.new }
+        ensures step { StandsAt K.eq self.old (key_shard S.BuildHasher S.Hasher.Hasher K.hash_input self.old key.now) (ask.advice_evict key.now) (evicts result) self.new }
         ensures lawful { AreLawful K.eq self.new }
     {
         let shard = self.route(key);
@@ -271,7 +280,7 @@ impl<K: Hash + Eq + Clone, V: Drop, S: BuildHasher + Drop> Shards<K, V, S> {
 
     // The shard of a step, and the step that it takes.
     fn address(&self, step: ShardStep<K, V>) -> (usize, Step<K, V>)
-        ensures shard { result.0 ≡ shard_asked (shard_of (key_number S.BuildHasher S.Hasher.Hasher K.hash_input) self.now) step }
+        ensures shard { result.0 ≡ shard_asked (key_shard S.BuildHasher S.Hasher.Hasher K.hash_input self.now) step }
         ensures step { result.1 ≡ step_of step }
     {
         match step {
@@ -291,7 +300,7 @@ impl<K: Hash + Eq + Clone, V: Drop, S: BuildHasher + Drop> Shards<K, V, S> {
     // Takes one step.
     fn step(&mut self, step: ShardStep<K, V>) -> (usize, Answer<K, V>)
         requires { IsCharged (request_of (step_of step)) }
-        ensures shard { result.0 ≡ shard_asked (shard_of (key_number S.BuildHasher S.Hasher.Hasher K.hash_input) self.old) step }
+        ensures shard { result.0 ≡ shard_asked (key_shard S.BuildHasher S.Hasher.Hasher K.hash_input self.old) step }
         ensures step { StandsAt K.eq self.old result.0 (request_of (step_of step)) (outcome_of result.1) self.new }
         ensures kind { IsShardAnswerTo step result }
         ensures lawful { AreLawful K.eq self.new }
@@ -313,7 +322,7 @@ impl<K: Hash + Eq + Clone, V: Drop, S: BuildHasher + Drop> Shards<K, V, S> {
         steps: Vec<ShardStep<K, V>>,
     ) -> Result<Vec<(usize, Answer<K, V>)>, Refusal>
         requires { AllByRecursion IsCharged (map request_of (map step_of steps.items)) }
-        ensures run { IfOk result (λ answers. RunsApart K.eq self.old (map (asked (shard_of (key_number S.BuildHasher S.Hasher.Hasher K.hash_input) self.old)) steps.items) (map told answers.items) self.new) }
+        ensures run { IfOk result (λ answers. RunsApart K.eq self.old (map (asked (key_shard S.BuildHasher S.Hasher.Hasher K.hash_input self.old)) steps.items) (map told answers.items) self.new) }
         ensures kinds { IfOk result (λ answers. AllZip IsShardAnswerTo steps.items answers.items) }
         ensures err { IfErr result (λ e. e ≡ Refusal.Memory) }
         ensures same { OnErr result (self.new ≡ self.old) }
@@ -323,6 +332,7 @@ impl<K: Hash + Eq + Clone, V: Drop, S: BuildHasher + Drop> Shards<K, V, S> {
         answers.reserve(steps.len())?;
         for step in steps {
             let answer = self.step(step);
+            // Never refused: the room was asked for before the first step.
             let _kept = answers.push(answer);
         }
         Ok(answers)

@@ -8,7 +8,7 @@ ghost use Rattle.std.specs.FinMap as map;
 ghost use Rattle.concurrent_lru.specs.Keys.{CopiesAreEqual};
 ghost use Rattle.concurrent_lru.specs.NodeTable.{Entry, entry_of, chain_of, phase_of, HasNode, LacksIdle};
 ghost use Rattle.concurrent_lru.specs.Representation.{as_idle, held_entry, HasEntry};
-ghost use Rattle.concurrent_lru.specs.Entries.{cache_of, charges_of, HasEntryIn, LacksStampIn, LacksKeyIn, IsPlaceOfKey, IsPlace, IsIdleAt, IsHeldAt, IsAt, IsReadyAt, Rewrites, RevivesAt, RestsAt, with_pins, new_held};
+ghost use Rattle.concurrent_lru.specs.Entries.{cache_of, charges_of, HasEntryIn, LacksStampIn, LacksKeyIn, IsPlaceOfKey, IsPlace, IsIdleAt, IsHeldAt, IsAt, IsReadyAt, Rewrites, RevivesAt, RestsAt, pins_at, with_pins, new_held};
 ghost use Rattle.concurrent_lru.specs.Steps.{without, in_phase};
 
 use crate::eviction::{Evicted, reversed};
@@ -95,6 +95,7 @@ impl<K: Hash + Eq + Clone, V: Drop> Table<K, V> {
     pub fn node(&self, place: Place) -> &Node<K, V>
         requires { IsPlace self.now place }
         ensures entry { IsAt self.now place (entry_of result.now) }
+        ensures pins { pins_at self.now place ≡ (entry_of result.now).pins }
         ensures alone { chain_of result.now ≡ [] }
     {
         self.nodes.node(place)
@@ -118,21 +119,21 @@ impl<K: Hash + Eq + Clone, V: Drop> Table<K, V> {
         let node = Box::new(alloc, Node::new(stamp, own, charge))?;
         make_room(&mut self.nodes, &mut self.by_key, &mut self.by_stamp, 1)?;
         let place = self.nodes.insert_reserved(node);
+        // Neither is refused, since there is room, and neither had the key or the stamp before.
         let _by_key = self.by_key.insert(kept, place);
         let _by_stamp = self.by_stamp.insert(stamp, place);
         self.total += charge;
         Ok(())
     }
 
-    /// Pins an entry once more, of which this is the number of pins: an idle one leaves the idle
-    /// order. Takes no memory.
-    pub fn pin(&mut self, place: Place, pins: u32)
-        requires room { pins + 1 < 2 ^ 32 }
-        requires resting { pins ≡ 0 → IsIdleAt self.old place }
-        requires pinned { pins ≢ 0 → IsHeldAt self.old place }
-        ensures revived { pins ≡ 0 → RevivesAt self.old place self.new }
-        ensures held { pins ≢ 0 → Rewrites (with_pins (pins + 1)) self.old place self.new }
+    /// Pins an entry once more: an idle one leaves the idle order. Takes no memory.
+    pub fn pin(&mut self, place: Place)
+        requires place { IsPlace self.old place }
+        requires room { pins_at self.old place + 1 < 2 ^ 32 }
+        ensures revived { pins_at self.old place ≡ 0 → RevivesAt self.old place self.new }
+        ensures held { pins_at self.old place ≢ 0 → Rewrites (with_pins (pins_at self.old place + 1)) self.old place self.new }
     {
+        let pins = self.node(place).pins;
         if pins == 0 {
             self.revive(place);
         } else {
@@ -292,6 +293,7 @@ fn take_away<K: Hash + Eq + Drop, V: Drop>(
     ensures total { total.new + (entry_of result.value).charge ≡ total.old }
 {
     let node = nodes.take(place);
+    // Both answer the place, which is no longer that of a node.
     let _by_key = by_key.remove(&node.key);
     let _by_stamp = by_stamp.remove(&node.stamp);
     *total -= node.charge;

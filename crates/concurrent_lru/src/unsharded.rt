@@ -7,11 +7,11 @@ ghost use Rattle.concurrent_lru.specs.Pins.{IsHandleFor, made_key, made_charge};
 ghost use Rattle.concurrent_lru.specs.Turns.{IsTurnFor, IfInit};
 
 use crate::door::{Door, Maker, Met};
-use crate::fit::{Anything, Fit};
+pub use crate::fit::{Anything, Fit};
 pub use crate::get_error::GetError;
 pub use crate::handle::CacheHandle;
 use crate::locked::{Advised, Pruned, Reserved, Resized};
-use crate::lru_core::Refusal;
+pub use crate::lru_core::Refusal;
 use std::alloc::Global;
 use std::fmt;
 use std::hash::Hash;

@@ -21,4 +21,6 @@ mod told;
 #[cfg(test)]
 mod uses;
 #[cfg(test)]
+mod values;
+#[cfg(test)]
 mod vectors;

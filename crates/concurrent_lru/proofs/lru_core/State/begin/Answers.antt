@@ -5,7 +5,7 @@ use Rattle.concurrent_lru.specs.NodeTable.{entry_of, phase_of}
 use Rattle.concurrent_lru.specs.Entries.{cache_with}
 use Rattle.concurrent_lru.specs.Request as ask
 use Rattle.concurrent_lru.specs.Runs.{Overflows, TakesMemory}
-use Rattle.concurrent_lru.proofs.EntryAt.{key_is, has_room, held_place, idle_place, unready_pinned, would_hit, is_full}
+use Rattle.concurrent_lru.proofs.EntryAt.{key_is, has_room, held_place, unready_pinned, would_hit, is_full}
 use Rattle.concurrent_lru.proofs.Hits.{unready_not_ready}
 use Rattle.concurrent_lru.proofs.Joins.{joins_lawful}
 use Rattle.concurrent_lru.proofs.Lawful.{hits_lawful}
@@ -93,21 +93,21 @@ returns-in_err-value-in-Ready-clause-step g c =
     (has_room here c.self.invariant.lawful c.self.invariant.pins_above c.if-pins-self.false)
     (key_is here c.self.invariant.lawful c.args.key.now c.in-Some.ensures) (ap phase_of c.in-Ready.is))))
 
+pub pin-requires-clause-place : goal.pin-requires-clause-place
+pin-requires-clause-place g c = ((entry_of c.node-node.result.now).stamp, c.node-node.ensures.entry.at)
+
 pub pin-requires-clause-room : goal.pin-requires-clause-room
-pin-requires-clause-room g c = let room = has_room c.node-node.ensures.entry c.self.invariant.lawful c.self.invariant.pins_above c.if-pins-self.false in omega (arith, room)
-
-pub pin-requires-clause-resting : goal.pin-requires-clause-resting
-pin-requires-clause-resting g c = idle_place c.node-node.ensures.entry
-
-pub pin-requires-clause-pinned : goal.pin-requires-clause-pinned
-pin-requires-clause-pinned g c = held_place c.node-node.ensures.entry
+pin-requires-clause-room g c =
+    let room = has_room c.node-node.ensures.entry c.self.invariant.lawful c.self.invariant.pins_above c.if-pins-self.false in
+    let same = c.node-node.ensures.pins in
+    omega (arith, room, same)
 
 found : (g : _) (c : After-none-in-Ready g) → Hits g.K.PartialEq.eq (cache_with c.self.inside.capacity c.self.inside.most_pins c.self.inside.next c.self.inside.table) c.args.key.now (entry_of c.node-node.result.now).stamp c.in_ok-value-in-Ready.value.value [] (cache_with c.self.inside.capacity c.self.inside.most_pins c.self.inside.next c.pin.new.self)
 found g c =
     let here = c.node-node.ensures.entry in
     hits g.K.PartialEq.eq c.self.inside.capacity c.self.inside.most_pins c.self.inside.next here c.pin.new.self c.args.key.now c.in_ok-value-in-Ready.value.value
     (key_is here c.self.invariant.lawful c.args.key.now c.in-Some.ensures) (has_room here c.self.invariant.lawful c.self.invariant.pins_above c.if-pins-self.false)
-    (ap phase_of c.in-Ready.is ∙ ap ready (sym c.in_ok-value-in-Ready.ensures.cases)) c.pin.ensures.revived c.pin.ensures.held
+    (ap phase_of c.in-Ready.is ∙ ap ready (sym c.in_ok-value-in-Ready.ensures.cases)) c.node-node.ensures.pins c.pin.ensures.revived c.pin.ensures.held
 
 pub invariant_of-self-in-Ready : goal.invariant_of-self-in-Ready
 invariant_of-self-in-Ready g c = record { lawful = hits_lawful _ g.met.K.Eq.laws _ c.self.invariant.lawful c.self.invariant.pins_above _ _ _ _ _ (found g c); pins_above = c.self.invariant.pins_above }

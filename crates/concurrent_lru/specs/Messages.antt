@@ -1,0 +1,23 @@
+-- What `{}` prints of an error.
+use Rattle.std.specs.Prelude.{ℕ, List, Option, Some, codes}
+use Rattle.concurrent_lru.specs.declared.list.Refusal.{Refusal}
+use Rattle.concurrent_lru.specs.declared.list.Refusal.TheVariants as refusal
+use Rattle.concurrent_lru.specs.declared.get_error.GetError.{GetError}
+use Rattle.concurrent_lru.specs.declared.get_error.GetError.TheVariants as error
+
+abbrev pub refusal_text : Refusal → List ℕ
+refusal_text refusal.Memory = codes "no memory"
+refusal_text refusal.Overflow = codes "a number is at its end"
+refusal_text refusal.Stale = codes "the stamp fits no entry"
+
+-- the error of `init` prints its own text
+abbrev pub get_error_text : {X : Type 0} → (X → Option (List ℕ)) → GetError X → Option (List ℕ)
+get_error_text own error.Memory = Some (refusal_text refusal.Memory)
+get_error_text own error.Overflow = Some (refusal_text refusal.Overflow)
+get_error_text own (error.Init x) = own x
+
+-- the same under the options of a hole, by which pad fills a text up
+abbrev pub styled_get_error_text : {X O : Type 0} → (O → List ℕ → List ℕ) → (X → O → Option (List ℕ)) → GetError X → O → Option (List ℕ)
+styled_get_error_text pad own error.Memory options = Some (pad options (refusal_text refusal.Memory))
+styled_get_error_text pad own error.Overflow options = Some (pad options (refusal_text refusal.Overflow))
+styled_get_error_text pad own (error.Init x) options = own x options
