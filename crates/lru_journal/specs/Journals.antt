@@ -1,5 +1,5 @@
 -- A journal: a cache beside the records of its accepted steps, and what each of its calls does.
-use Rattle.std.specs.Prelude.{◌≡◌, ℕ, ◌⊎◌, Bool, List, [], ◌∷◌, ◌++◌, Result, Ok, Err}
+use Rattle.std.specs.Prelude.{◌≡◌, ℕ, ◌⊎◌, Bool, List, [], ◌∷◌, ◌++◌, Result, Ok, Err, IfOk, OnErr}
 use Rattle.std.specs.declared.sync.Arc.{Arc}
 use Rattle.std.specs.declared.alloc.Global.{Global}
 use Rattle.concurrent_lru.specs.Cache.{Cache, empty_cache, IsLawful}
@@ -44,6 +44,12 @@ module _ {K V : Type 0} where
       Step E old.cache r reply evicted new.cache
       × (new ≡ record { cache = new.cache; records = old.records ++ recorded (step_of r) (told_of r reply) ∷ []; began = old.began })
   Journals E old r (refused e) new = ((e ≡ Memory) ⊎ Refuses E old.cache r e) × (new ≡ old)
+
+-- a step and its record, which is told of the answer: an accepted step adds it, a refused one changes nothing
+pub record IsRecorded {K V T E : Type 0} (old : Journaled K V) (is_record : T → Record K → Type 0) (result : Result T E) (new : Journaled K V) : Type 0 where
+  pub began : new.began ≡ old.began
+  pub accepted : IfOk result (λ x. (r : Record K) × is_record x r × (new.records ≡ old.records ++ r ∷ []))
+  pub refused : OnErr result (new ≡ old)
 
 module _ {K V : Type 0} where
   -- what every journal keeps: its records are its history, and a copy of a key equals it

@@ -1,5 +1,5 @@
 -- The rule of the cell that ties tallies to the records of their twin.
-use Rattle.std.specs.Prelude.{◌≡◌, ◌==◌, ◌<◌, ℕ, zero, suc, ◌+◌, ◌-◌, List, [], ◌∷◌, ◌++◌, length, Some, slice_get, slice_index, Bool, true, false, if◌then◌else◌}
+use Rattle.std.specs.Prelude.{◌≡◌, ◌==◌, ◌<◌, ℕ, zero, suc, ◌+◌, ◌-◌, List, [], ◌∷◌, ◌++◌, length, Some, Result, IfOk, OnErr, slice_get, slice_index, Bool, true, false, if◌then◌else◌}
 use mathlib.Core.Option.{some}
 use lib.ListN.{get_elem?}
 use Rattle.atomic_table.specs.Seated.{TableId}
@@ -86,6 +86,11 @@ pub record Receives {K : Type 0} (old : Hand K) (r : Record K) (new : Hand K) : 
   pub position : ℕ
   pub past : AllBelow position old.receipts
   pub gains : new ≡ gained old position r
+
+-- a call and its tally: an accepted one adds the receipt of its record, which is told of the answer; a refused one leaves the tally
+pub record IsTallied {K T E : Type 0} (old : Hand K) (is_record : T → Record K → Type 0) (result : Result T E) (new : Hand K) : Type 0 where
+  pub accepted : IfOk result (λ x. (r : Record K) × is_record x r × Receives old r new)
+  pub refused : OnErr result (new ≡ old)
 
 -- a tally with another's parts and receipts
 abbrev pub merged : {K : Type 0} → Hand K → Hand K → Hand K

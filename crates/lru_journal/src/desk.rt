@@ -1,21 +1,21 @@
 //! What lies under the twin's lock: the journal, and the pass that knows all its records.
 //! Each call is one step, whose receipt goes to the caller's tally; what it took out is sealed.
-ghost use Rattle.std.specs.Prelude.{◌≡◌, ◌+◌, ◌^◌, ◌<◌, ◌++◌, ◌∷◌, [], length, true, IfOk, IfErr, OnErr};
-ghost use Rattle.std.specs.Arc.{arc_value};
+ghost use Rattle.std.specs.Prelude.{◌≡◌, ◌++◌, ◌∷◌, [], IfErr};
 ghost use Rattle.crossbeam_utils.specs.Seq.{cell_view};
-ghost use Rattle.lru_journal.specs.Replay.{recorded, told_begun, told_failed, told_found};
-ghost use Rattle.lru_journal.specs.Tallies.{knower, gained, all_parts, AllBelow, AreExactly, Receives};
+ghost use Rattle.lru_journal.specs.Journals.{IsRecorded};
+ghost use Rattle.lru_journal.specs.Tallies.{knower, all_parts, AreExactly, Receives, IsTallied};
 
 mod sealed;
+pub mod step;
 
 pub use self::sealed::Sealed;
+use self::step::Call;
 use crate::journal::Journal;
-use crate::record::{Record, Recorded, Told};
+use crate::record::Record;
 use crate::tally::{Cell, Checks, Gives, Identity, Knows, Takes, Tally, append};
-use concurrent_lru::lru_core::{Begun, Evicted, Failed, Refusal};
 use std::hash::Hash;
 use std::marker::{Brand, Model, PhantomData};
-use std::sync::{Arc, Wait};
+use std::sync::Wait;
 
 /// A journal, and the pass that knows its records.
 #[derive(Drop)]
@@ -63,188 +63,28 @@ fn note<K: Hash + Eq + Clone, V: Drop, I: Identity, R: Wait>(
 }
 
 impl<K: Hash + Eq + Clone, V: Drop, I: Identity> Desk<K, V, I> {
-    /// Asks for the value of a key, as `Journal::begin`.
-    pub(crate) fn begin<R: Wait>(
+    /// One step of the journal, and its receipt: an accepted step adds its record, whose receipt
+    /// goes to the tally; a refused one leaves journal and tally as they were.
+    pub(crate) fn call<S: Call<K, V>, R: Wait>(
         &mut self,
         rt: &R,
         cell: &Cell<K>,
         tally: &mut Tally<K, I>,
-        key: &K,
-        charge: u64,
-    ) -> Result<(Begun<V>, Sealed<Evicted<K, V>>), Refusal>
-        requires charged { 0 < charge }
-        requires cell { cell.now.table.shared.table_id ≡ I.name.table }
-        ensures accepted { IfOk result (λ r. (copy : K) × (K.eq copy key.now ≡ true) × Receives tally.old (recorded (Recorded.Begin copy charge) (told_begun r.0)) tally.new) }
-        ensures refused { OnErr result (tally.new ≡ tally.old) }
-        ensures parts { tally.new.parts ≡ tally.old.parts }
-    {
-        let (begun, evicted) = self.journal.begin(key, charge)?;
-        note(rt, cell, &mut self.keeper, tally, &self.journal);
-        Ok((begun, Sealed::of(evicted)))
-    }
-
-    /// Asks again by a stamp, as `Journal::poll`.
-    pub(crate) fn poll<R: Wait>(
-        &mut self,
-        rt: &R,
-        cell: &Cell<K>,
-        tally: &mut Tally<K, I>,
-        stamp: u64,
-    ) -> Result<Begun<V>, Refusal>
+        step: S,
+    ) -> Sealed<Result<S::Answer, S::Refused>>
         requires { cell.now.table.shared.table_id ≡ I.name.table }
-        ensures accepted { IfOk result (λ begun. Receives tally.old (recorded (Recorded.Poll stamp) (told_begun begun)) tally.new) }
-        ensures refused { OnErr result (tally.new ≡ tally.old) }
+        ensures recorded { IsRecorded self.old (S.is_record step) result self.new }
+        ensures tallied { IsTallied tally.old (S.is_record step) result tally.new }
         ensures parts { tally.new.parts ≡ tally.old.parts }
+        ensures refusal { IfErr result (S.may_refuse step) }
     {
-        let begun = self.journal.poll(stamp)?;
-        note(rt, cell, &mut self.keeper, tally, &self.journal);
-        Ok(begun)
-    }
-
-    /// Gives the value of an entry that is being made, as `Journal::ready`.
-    pub(crate) fn ready<R: Wait>(
-        &mut self,
-        rt: &R,
-        cell: &Cell<K>,
-        tally: &mut Tally<K, I>,
-        stamp: u64,
-        value: Arc<V>,
-    ) -> Result<(), (Refusal, Sealed<Arc<V>>)>
-        requires { cell.now.table.shared.table_id ≡ I.name.table }
-        ensures accepted { IfOk result (λ _. Receives tally.old (recorded (Recorded.Ready stamp) Told.Done) tally.new) }
-        ensures refused { OnErr result (tally.new ≡ tally.old) }
-        ensures parts { tally.new.parts ≡ tally.old.parts }
-        ensures back { IfErr result (λ e. arc_value e.1 ≡ arc_value value) }
-    {
-        if let Err((refusal, value)) = self.journal.ready(stamp, value) {
-            return Err((refusal, Sealed::of(value)));
+        match step.take(&mut self.journal) {
+            Ok(answer) => {
+                note(rt, cell, &mut self.keeper, tally, &self.journal);
+                Sealed::of(Ok(answer))
+            }
+            Err(refused) => Sealed::of(Err(refused)),
         }
-        note(rt, cell, &mut self.keeper, tally, &self.journal);
-        Ok(())
-    }
-
-    /// Gives a making up, as `Journal::fail`.
-    pub(crate) fn fail<R: Wait>(
-        &mut self,
-        rt: &R,
-        cell: &Cell<K>,
-        tally: &mut Tally<K, I>,
-        stamp: u64,
-    ) -> Result<Sealed<Failed<K>>, Refusal>
-        requires { cell.now.table.shared.table_id ≡ I.name.table }
-        ensures accepted { IfOk result (λ failed. Receives tally.old (recorded (Recorded.Fail stamp) (told_failed failed)) tally.new) }
-        ensures refused { OnErr result (tally.new ≡ tally.old) }
-        ensures parts { tally.new.parts ≡ tally.old.parts }
-    {
-        let failed = self.journal.fail(stamp)?;
-        note(rt, cell, &mut self.keeper, tally, &self.journal);
-        Ok(Sealed::of(failed))
-    }
-
-    /// Looks a key up, as `Journal::get`.
-    pub(crate) fn get<R: Wait>(
-        &mut self,
-        rt: &R,
-        cell: &Cell<K>,
-        tally: &mut Tally<K, I>,
-        key: &K,
-    ) -> Result<Option<(u64, Arc<V>)>, Refusal>
-        requires { cell.now.table.shared.table_id ≡ I.name.table }
-        ensures accepted { IfOk result (λ found. (copy : K) × (K.eq copy key.now ≡ true) × Receives tally.old (recorded (Recorded.Get copy) (told_found found)) tally.new) }
-        ensures refused { OnErr result (tally.new ≡ tally.old) }
-        ensures parts { tally.new.parts ≡ tally.old.parts }
-    {
-        let found = self.journal.get(key)?;
-        note(rt, cell, &mut self.keeper, tally, &self.journal);
-        Ok(found)
-    }
-
-    /// Gives a pin back, as `Journal::release`.
-    pub(crate) fn release<R: Wait>(
-        &mut self,
-        rt: &R,
-        cell: &Cell<K>,
-        tally: &mut Tally<K, I>,
-        stamp: u64,
-    ) -> Result<Sealed<Evicted<K, V>>, Refusal>
-        requires { cell.now.table.shared.table_id ≡ I.name.table }
-        ensures accepted { IfOk result (λ _. Receives tally.old (recorded (Recorded.Release stamp) Told.Done) tally.new) }
-        ensures refused { OnErr result (tally.new ≡ tally.old) }
-        ensures parts { tally.new.parts ≡ tally.old.parts }
-    {
-        let evicted = self.journal.release(stamp)?;
-        note(rt, cell, &mut self.keeper, tally, &self.journal);
-        Ok(Sealed::of(evicted))
-    }
-
-    /// Evicts a key where it is idle, as `Journal::advice_evict`.
-    pub(crate) fn advice_evict<R: Wait>(
-        &mut self,
-        rt: &R,
-        cell: &Cell<K>,
-        tally: &mut Tally<K, I>,
-        key: &K,
-    ) -> Result<Sealed<Evicted<K, V>>, Refusal>
-        requires { cell.now.table.shared.table_id ≡ I.name.table }
-        ensures accepted { IfOk result (λ _. (copy : K) × (K.eq copy key.now ≡ true) × Receives tally.old (recorded (Recorded.AdviceEvict copy) Told.Done) tally.new) }
-        ensures refused { OnErr result (tally.new ≡ tally.old) }
-        ensures parts { tally.new.parts ≡ tally.old.parts }
-    {
-        let evicted = self.journal.advice_evict(key)?;
-        note(rt, cell, &mut self.keeper, tally, &self.journal);
-        Ok(Sealed::of(evicted))
-    }
-
-    /// Evicts every idle entry, as `Journal::prune`.
-    pub(crate) fn prune<R: Wait>(
-        &mut self,
-        rt: &R,
-        cell: &Cell<K>,
-        tally: &mut Tally<K, I>,
-    ) -> Result<Sealed<Evicted<K, V>>, Refusal>
-        requires { cell.now.table.shared.table_id ≡ I.name.table }
-        ensures accepted { IfOk result (λ _. Receives tally.old (recorded Recorded.Prune Told.Done) tally.new) }
-        ensures refused { OnErr result (tally.new ≡ tally.old) }
-        ensures parts { tally.new.parts ≡ tally.old.parts }
-    {
-        let evicted = self.journal.prune()?;
-        note(rt, cell, &mut self.keeper, tally, &self.journal);
-        Ok(Sealed::of(evicted))
-    }
-
-    /// Sets the capacity, as `Journal::set_capacity`.
-    pub(crate) fn set_capacity<R: Wait>(
-        &mut self,
-        rt: &R,
-        cell: &Cell<K>,
-        tally: &mut Tally<K, I>,
-        capacity: u64,
-    ) -> Result<Sealed<Evicted<K, V>>, Refusal>
-        requires { cell.now.table.shared.table_id ≡ I.name.table }
-        ensures accepted { IfOk result (λ _. Receives tally.old (recorded (Recorded.SetCapacity capacity) Told.Done) tally.new) }
-        ensures refused { OnErr result (tally.new ≡ tally.old) }
-        ensures parts { tally.new.parts ≡ tally.old.parts }
-    {
-        let evicted = self.journal.set_capacity(capacity)?;
-        note(rt, cell, &mut self.keeper, tally, &self.journal);
-        Ok(Sealed::of(evicted))
-    }
-
-    /// The sum of all charges, as `Journal::total`.
-    pub(crate) fn total<R: Wait>(
-        &mut self,
-        rt: &R,
-        cell: &Cell<K>,
-        tally: &mut Tally<K, I>,
-    ) -> Result<u64, Refusal>
-        requires { cell.now.table.shared.table_id ≡ I.name.table }
-        ensures accepted { IfOk result (λ total. Receives tally.old (recorded Recorded.Total (Told.Total total)) tally.new) }
-        ensures refused { OnErr result (tally.new ≡ tally.old) }
-        ensures parts { tally.new.parts ≡ tally.old.parts }
-    {
-        let total = self.journal.total()?;
-        note(rt, cell, &mut self.keeper, tally, &self.journal);
-        Ok(total)
     }
 
     /// The journal. The whole tally has exactly its records.

@@ -1,6 +1,6 @@
 //! The tallies of a twin, and the ruled cell that ties their receipts to its records.
 //! Passes of that cell have no bytes; the cell's one word counts the records.
-ghost use Rattle.std.specs.Prelude.{◌≡◌, ◌+◌, ◌^◌, ◌<◌, ◌++◌, ◌∷◌, [], length, IfOk};
+ghost use Rattle.std.specs.Prelude.{◌≡◌, ◌+◌, ◌^◌, ◌<◌, ◌++◌, ◌∷◌, [], length, IfOk, IfErr};
 ghost use Rattle.crossbeam_utils.specs.Seq.{cell_view};
 ghost use Rattle.lru_journal.specs.Tallies.{knower, gained, AllBelow};
 
@@ -150,7 +150,8 @@ impl<K> Opening<K> {
     /// For a twin that settles to `capacity` until another is set. `Memory` where there is no room
     /// for the cell.
     pub fn new(alloc: Global, capacity: u64) -> Result<Opening<K>, Refusal>
-        ensures { IfOk result (λ o. o.capacity ≡ capacity) }
+        ensures capacity { IfOk result (λ o. o.capacity ≡ capacity) }
+        ensures memory { IfErr result (λ e. e ≡ Refusal.Memory) }
     {
         let Ok((cell, first)) = Cell::<K>::ruled(alloc, [0]) else {
             return Err(Refusal::Memory);

@@ -1,14 +1,14 @@
 //! The twin: a journal that threads share, each with a tally of its own calls.
 //! A call takes the lock once, for one step of the journal, by a door that drops what it evicted.
-ghost use Rattle.std.specs.Prelude.{◌≡◌, ◌-◌, ◌<◌, [], true, IfOk, IfErr, OnErr};
+ghost use Rattle.std.specs.Prelude.{◌≡◌, ◌≢◌, ◌-◌, ◌<◌, [], true, IfErr};
 ghost use Rattle.std.specs.Arc.{arc_value};
 ghost use Rattle.concurrent_lru.specs.Keys.{CopiesAreEqual};
 ghost use Rattle.lru_journal.specs.Calls.{told_started, told_pinned};
 ghost use Rattle.lru_journal.specs.Journals.{IsHistory};
-ghost use Rattle.lru_journal.specs.Replay.{recorded, told_failed};
-ghost use Rattle.lru_journal.specs.Tallies.{hand, merged, all_parts, AreExactly, Receives};
+ghost use Rattle.lru_journal.specs.Replay.{recorded, told_failed, IsOfCopy};
+ghost use Rattle.lru_journal.specs.Tallies.{hand, merged, all_parts, AreExactly, IsTallied};
 
-use crate::desk::Desk;
+use crate::desk::{Desk, step};
 use crate::door::Door;
 use crate::journal::Journal;
 use crate::pin::{Pin, Started, pin_of};
@@ -74,11 +74,12 @@ impl<
         charge: u64,
     ) -> Result<Started<V>, Refusal>
         requires { 0 < charge }
-        ensures accepted { IfOk result (λ started. (copy : K) × (K.eq copy key.now ≡ true) × Receives tally.old (recorded (Recorded.Begin copy charge) (told_started started)) tally.new) }
-        ensures refused { OnErr result (tally.new ≡ tally.old) }
+        ensures tallied { IsTallied tally.old (λ started. IsOfCopy K.eq key.now (λ copy. recorded (Recorded.Begin copy charge) (told_started started))) result tally.new }
         ensures parts { tally.new.parts ≡ tally.old.parts }
+        ensures never_stale { IfErr result (λ e. e ≢ Refusal.Stale) }
     {
-        let begun = self.door.enter().begin(tally, key, charge)?;
+        let (begun, evicted) = self.door.enter().call(tally, step::Begin { key, charge })?;
+        drop(evicted);
         Ok(Started::of(begun))
     }
 
@@ -86,11 +87,11 @@ impl<
     ///
     /// `Stale` where no held entry has the stamp.
     pub fn poll(&self, tally: &mut Tally<K, I>, stamp: u64) -> Result<Started<V>, Refusal>
-        ensures accepted { IfOk result (λ started. Receives tally.old (recorded (Recorded.Poll stamp) (told_started started)) tally.new) }
-        ensures refused { OnErr result (tally.new ≡ tally.old) }
+        ensures tallied { IsTallied tally.old (λ started r. r ≡ recorded (Recorded.Poll stamp) (told_started started)) result tally.new }
         ensures parts { tally.new.parts ≡ tally.old.parts }
+        ensures never_overflow { IfErr result (λ e. e ≢ Refusal.Overflow) }
     {
-        let begun = self.door.enter().poll(tally, stamp)?;
+        let begun = self.door.enter().call(tally, step::Poll { stamp })?;
         Ok(Started::of(begun))
     }
 
@@ -103,34 +104,34 @@ impl<
         stamp: u64,
         value: Arc<V>,
     ) -> Result<(), (Refusal, Arc<V>)>
-        ensures accepted { IfOk result (λ _. Receives tally.old (recorded (Recorded.Ready stamp) Told.Done) tally.new) }
-        ensures refused { OnErr result (tally.new ≡ tally.old) }
+        ensures tallied { IsTallied tally.old (λ _ r. r ≡ recorded (Recorded.Ready stamp) Told.Done) result tally.new }
         ensures parts { tally.new.parts ≡ tally.old.parts }
+        ensures never_overflow { IfErr result (λ e. e.0 ≢ Refusal.Overflow) }
         ensures back { IfErr result (λ e. arc_value e.1 ≡ arc_value value) }
     {
-        self.door.enter().ready(tally, stamp, value)
+        self.door.enter().call(tally, step::Ready { stamp, value })
     }
 
     /// Gives a making up, and the pin with it.
     ///
     /// `Stale` where no entry is being made under that stamp.
     pub fn fail(&self, tally: &mut Tally<K, I>, stamp: u64) -> Result<Failed<K>, Refusal>
-        ensures accepted { IfOk result (λ failed. Receives tally.old (recorded (Recorded.Fail stamp) (told_failed failed)) tally.new) }
-        ensures refused { OnErr result (tally.new ≡ tally.old) }
+        ensures tallied { IsTallied tally.old (λ failed r. r ≡ recorded (Recorded.Fail stamp) (told_failed failed)) result tally.new }
         ensures parts { tally.new.parts ≡ tally.old.parts }
+        ensures never_overflow { IfErr result (λ e. e ≢ Refusal.Overflow) }
     {
-        self.door.enter().fail(tally, stamp)
+        self.door.enter().call(tally, step::Fail { stamp })
     }
 
     /// The value of a key that is ready, pinned once more.
     ///
     /// `Overflow` where the entry has the greatest number of pins.
     pub fn get(&self, tally: &mut Tally<K, I>, key: &K) -> Result<Option<Pin<V>>, Refusal>
-        ensures accepted { IfOk result (λ found. (copy : K) × (K.eq copy key.now ≡ true) × Receives tally.old (recorded (Recorded.Get copy) (told_pinned found)) tally.new) }
-        ensures refused { OnErr result (tally.new ≡ tally.old) }
+        ensures tallied { IsTallied tally.old (λ found. IsOfCopy K.eq key.now (λ copy. recorded (Recorded.Get copy) (told_pinned found))) result tally.new }
         ensures parts { tally.new.parts ≡ tally.old.parts }
+        ensures never_stale { IfErr result (λ e. e ≢ Refusal.Stale) }
     {
-        let found = self.door.enter().get(tally, key)?;
+        let found = self.door.enter().call(tally, step::Get { key })?;
         Ok(pin_of(found))
     }
 
@@ -138,34 +139,41 @@ impl<
     ///
     /// `Stale` where no held and ready entry has its stamp.
     pub fn release(&self, tally: &mut Tally<K, I>, pin: Pin<V>) -> Result<(), (Refusal, Pin<V>)>
-        ensures accepted { IfOk result (λ _. Receives tally.old (recorded (Recorded.Release pin.stamp) Told.Done) tally.new) }
-        ensures refused { OnErr result (tally.new ≡ tally.old) }
+        ensures tallied { IsTallied tally.old (λ _ r. r ≡ recorded (Recorded.Release pin.stamp) Told.Done) result tally.new }
         ensures parts { tally.new.parts ≡ tally.old.parts }
+        ensures never_overflow { IfErr result (λ e. e.0 ≢ Refusal.Overflow) }
         ensures back { IfErr result (λ e. e.1 ≡ pin) }
     {
         let stamp = pin.stamp();
-        match self.door.enter().release(tally, stamp) {
-            Ok(()) => Ok(()),
+        match self.door.enter().call(tally, step::Release { stamp }) {
+            Ok(evicted) => {
+                drop(evicted);
+                Ok(())
+            }
             Err(refusal) => Err((refusal, pin)),
         }
     }
 
     /// Evicts the entry of a key, where it is idle; else nothing happens.
     pub fn advice_evict(&self, tally: &mut Tally<K, I>, key: &K) -> Result<(), Refusal>
-        ensures accepted { IfOk result (λ _. (copy : K) × (K.eq copy key.now ≡ true) × Receives tally.old (recorded (Recorded.AdviceEvict copy) Told.Done) tally.new) }
-        ensures refused { OnErr result (tally.new ≡ tally.old) }
+        ensures tallied { IsTallied tally.old (λ _. IsOfCopy K.eq key.now (λ copy. recorded (Recorded.AdviceEvict copy) Told.Done)) result tally.new }
         ensures parts { tally.new.parts ≡ tally.old.parts }
+        ensures memory { IfErr result (λ e. e ≡ Refusal.Memory) }
     {
-        self.door.enter().advice_evict(tally, key)
+        let evicted = self.door.enter().call(tally, step::AdviceEvict { key })?;
+        drop(evicted);
+        Ok(())
     }
 
     /// Evicts every idle entry.
     pub fn prune(&self, tally: &mut Tally<K, I>) -> Result<(), Refusal>
-        ensures accepted { IfOk result (λ _. Receives tally.old (recorded Recorded.Prune Told.Done) tally.new) }
-        ensures refused { OnErr result (tally.new ≡ tally.old) }
+        ensures tallied { IsTallied tally.old (λ _ r. r ≡ recorded Recorded.Prune Told.Done) result tally.new }
         ensures parts { tally.new.parts ≡ tally.old.parts }
+        ensures memory { IfErr result (λ e. e ≡ Refusal.Memory) }
     {
-        self.door.enter().prune(tally)
+        let evicted = self.door.enter().call(tally, step::Prune)?;
+        drop(evicted);
+        Ok(())
     }
 
     /// Sets the capacity, in the units of charges, and settles to it at once: idle entries leave,
@@ -173,20 +181,25 @@ impl<
     ///
     /// A refusal leaves the capacity as it was.
     pub fn set_capacity(&self, tally: &mut Tally<K, I>, capacity: u64) -> Result<(), Refusal>
-        ensures accepted { IfOk result (λ _. Receives tally.old (recorded (Recorded.SetCapacity capacity) Told.Done) tally.new) }
-        ensures refused { OnErr result (tally.new ≡ tally.old) }
+        ensures tallied { IsTallied tally.old (λ _ r. r ≡ recorded (Recorded.SetCapacity capacity) Told.Done) result tally.new }
         ensures parts { tally.new.parts ≡ tally.old.parts }
+        ensures memory { IfErr result (λ e. e ≡ Refusal.Memory) }
     {
-        self.door.enter().set_capacity(tally, capacity)
+        let evicted = self
+            .door
+            .enter()
+            .call(tally, step::SetCapacity { capacity })?;
+        drop(evicted);
+        Ok(())
     }
 
     /// The sum of the charges of all entries, those still being made included.
     pub fn total(&self, tally: &mut Tally<K, I>) -> Result<u64, Refusal>
-        ensures accepted { IfOk result (λ total. Receives tally.old (recorded Recorded.Total (Told.Total total)) tally.new) }
-        ensures refused { OnErr result (tally.new ≡ tally.old) }
+        ensures tallied { IsTallied tally.old (λ total r. r ≡ recorded Recorded.Total (Told.Total total)) result tally.new }
         ensures parts { tally.new.parts ≡ tally.old.parts }
+        ensures memory { IfErr result (λ e. e ≡ Refusal.Memory) }
     {
-        self.door.enter().total(tally)
+        self.door.enter().call(tally, step::Total)
     }
 
     /// The journal, for whoever has the whole tally. Its records are one legal history from the

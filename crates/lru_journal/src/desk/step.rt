@@ -1,0 +1,285 @@
+//! The steps of a journal as values, each with what is recorded of it and how it may be refused.
+//! A step is one call of the journal; what it answers goes out as it is, to be sealed.
+ghost use Rattle.std.specs.Prelude.{◌<◌, IfErr};
+ghost use Rattle.lru_journal.specs.Journals.{IsRecorded};
+
+use crate::journal::Journal;
+use concurrent_lru::lru_core::{Begun, Evicted, Failed, Refusal};
+use std::hash::Hash;
+use std::sync::Arc;
+
+/// A step of the journal.
+pub trait Call<K: Hash + Eq + Clone, V> {
+    /// What an accepted step answers.
+    type Answer;
+
+    /// What a refused step answers.
+    type Refused;
+
+    ghost use Rattle.lru_journal.specs.declared.record.Record.{Record};
+
+    ghost is_record: { Self → Self.Answer → Record K → Type 0 };
+
+    ghost may_refuse: { Self → Self.Refused → Type 0 };
+
+    /// Takes the step.
+    fn take(self, journal: &mut Journal<K, V>) -> Result<Self::Answer, Self::Refused>
+        ensures recorded { IsRecorded journal.old (is_record self) result journal.new }
+        ensures refusal { IfErr result (may_refuse self) };
+}
+
+/// `Journal::begin`.
+#[derive(Drop)]
+pub struct Begin<'a, K> {
+    pub(crate) key: &'a K,
+    pub(crate) charge: u64,
+    ghost charged: { 0 < charge },
+}
+
+impl<'a, K: Hash + Eq + Clone, V: Drop> Call<K, V> for Begin<'a, K> {
+    type Answer = (Begun<V>, Evicted<K, V>);
+
+    type Refused = Refusal;
+
+    ghost use Rattle.std.specs.Prelude.{◌≢◌};
+    ghost use Rattle.concurrent_lru.specs.declared.list.Refusal.TheVariants.{Stale};
+    ghost use Rattle.lru_journal.specs.Replay.{recorded, told_begun, IsOfCopy};
+    ghost use Rattle.lru_journal.specs.declared.record.Recorded.TheVariants as step;
+
+    ghost is_record = { λ s begun. IsOfCopy K.eq s.key.now (λ copy. recorded (step.Begin copy s.charge) (told_begun begun.0)) };
+
+    ghost may_refuse = { λ s e. e ≢ Stale };
+
+    fn take(self, journal: &mut Journal<K, V>) -> Result<(Begun<V>, Evicted<K, V>), Refusal> {
+        journal.begin(self.key, self.charge)
+    }
+}
+
+/// `Journal::poll`.
+#[derive(Drop)]
+pub struct Poll {
+    pub(crate) stamp: u64,
+}
+
+impl<K: Hash + Eq + Clone, V: Drop> Call<K, V> for Poll {
+    type Answer = Begun<V>;
+
+    type Refused = Refusal;
+
+    ghost use Rattle.std.specs.Prelude.{◌≡◌, ◌≢◌};
+    ghost use Rattle.concurrent_lru.specs.declared.list.Refusal.TheVariants.{Overflow};
+    ghost use Rattle.lru_journal.specs.Replay.{recorded, told_begun};
+    ghost use Rattle.lru_journal.specs.declared.record.Recorded.TheVariants as step;
+
+    ghost is_record = { λ s begun r. r ≡ recorded (step.Poll s.stamp) (told_begun begun) };
+
+    ghost may_refuse = { λ s e. e ≢ Overflow };
+
+    fn take(self, journal: &mut Journal<K, V>) -> Result<Begun<V>, Refusal> {
+        journal.poll(self.stamp)
+    }
+}
+
+/// `Journal::ready`.
+#[derive(Drop)]
+pub struct Ready<V> {
+    pub(crate) stamp: u64,
+    pub(crate) value: Arc<V>,
+}
+
+impl<K: Hash + Eq + Clone, V: Drop> Call<K, V> for Ready<V> {
+    type Answer = ();
+
+    type Refused = (Refusal, Arc<V>);
+
+    ghost use Rattle.std.specs.Prelude.{◌≡◌, ◌≢◌};
+    ghost use Rattle.std.specs.Arc.{arc_value};
+    ghost use Rattle.concurrent_lru.specs.declared.list.Refusal.TheVariants.{Overflow};
+    ghost use Rattle.lru_journal.specs.Replay.{recorded};
+    ghost use Rattle.lru_journal.specs.declared.record.Recorded.TheVariants as step;
+    ghost use Rattle.lru_journal.specs.declared.record.Told.TheVariants.{Done};
+
+    ghost is_record = { λ s _ r. r ≡ recorded (step.Ready s.stamp) Done };
+
+    ghost may_refuse = { λ s e. (e.0 ≢ Overflow) × (arc_value e.1 ≡ arc_value s.value) };
+
+    fn take(self, journal: &mut Journal<K, V>) -> Result<(), (Refusal, Arc<V>)> {
+        journal.ready(self.stamp, self.value)
+    }
+}
+
+/// `Journal::fail`.
+#[derive(Drop)]
+pub struct Fail {
+    pub(crate) stamp: u64,
+}
+
+impl<K: Hash + Eq + Clone, V: Drop> Call<K, V> for Fail {
+    type Answer = Failed<K>;
+
+    type Refused = Refusal;
+
+    ghost use Rattle.std.specs.Prelude.{◌≡◌, ◌≢◌};
+    ghost use Rattle.concurrent_lru.specs.declared.list.Refusal.TheVariants.{Overflow};
+    ghost use Rattle.lru_journal.specs.Replay.{recorded, told_failed};
+    ghost use Rattle.lru_journal.specs.declared.record.Recorded.TheVariants as step;
+
+    ghost is_record = { λ s failed r. r ≡ recorded (step.Fail s.stamp) (told_failed failed) };
+
+    ghost may_refuse = { λ s e. e ≢ Overflow };
+
+    fn take(self, journal: &mut Journal<K, V>) -> Result<Failed<K>, Refusal> {
+        journal.fail(self.stamp)
+    }
+}
+
+/// `Journal::get`.
+#[derive(Drop)]
+pub struct Get<'a, K> {
+    pub(crate) key: &'a K,
+}
+
+impl<'a, K: Hash + Eq + Clone, V: Drop> Call<K, V> for Get<'a, K> {
+    type Answer = Option<(u64, Arc<V>)>;
+
+    type Refused = Refusal;
+
+    ghost use Rattle.std.specs.Prelude.{◌≢◌};
+    ghost use Rattle.concurrent_lru.specs.declared.list.Refusal.TheVariants.{Stale};
+    ghost use Rattle.lru_journal.specs.Replay.{recorded, told_found, IsOfCopy};
+    ghost use Rattle.lru_journal.specs.declared.record.Recorded.TheVariants as step;
+
+    ghost is_record = { λ s found. IsOfCopy K.eq s.key.now (λ copy. recorded (step.Get copy) (told_found found)) };
+
+    ghost may_refuse = { λ s e. e ≢ Stale };
+
+    fn take(self, journal: &mut Journal<K, V>) -> Result<Option<(u64, Arc<V>)>, Refusal> {
+        journal.get(self.key)
+    }
+}
+
+/// `Journal::release`.
+#[derive(Drop)]
+pub struct Release {
+    pub(crate) stamp: u64,
+}
+
+impl<K: Hash + Eq + Clone, V: Drop> Call<K, V> for Release {
+    type Answer = Evicted<K, V>;
+
+    type Refused = Refusal;
+
+    ghost use Rattle.std.specs.Prelude.{◌≡◌, ◌≢◌};
+    ghost use Rattle.concurrent_lru.specs.declared.list.Refusal.TheVariants.{Overflow};
+    ghost use Rattle.lru_journal.specs.Replay.{recorded};
+    ghost use Rattle.lru_journal.specs.declared.record.Recorded.TheVariants as step;
+    ghost use Rattle.lru_journal.specs.declared.record.Told.TheVariants.{Done};
+
+    ghost is_record = { λ s _ r. r ≡ recorded (step.Release s.stamp) Done };
+
+    ghost may_refuse = { λ s e. e ≢ Overflow };
+
+    fn take(self, journal: &mut Journal<K, V>) -> Result<Evicted<K, V>, Refusal> {
+        journal.release(self.stamp)
+    }
+}
+
+/// `Journal::advice_evict`.
+#[derive(Drop)]
+pub struct AdviceEvict<'a, K> {
+    pub(crate) key: &'a K,
+}
+
+impl<'a, K: Hash + Eq + Clone, V: Drop> Call<K, V> for AdviceEvict<'a, K> {
+    type Answer = Evicted<K, V>;
+
+    type Refused = Refusal;
+
+    ghost use Rattle.std.specs.Prelude.{◌≡◌};
+    ghost use Rattle.concurrent_lru.specs.declared.list.Refusal.TheVariants.{Memory};
+    ghost use Rattle.lru_journal.specs.Replay.{recorded, IsOfCopy};
+    ghost use Rattle.lru_journal.specs.declared.record.Recorded.TheVariants as step;
+    ghost use Rattle.lru_journal.specs.declared.record.Told.TheVariants.{Done};
+
+    ghost is_record = { λ s _. IsOfCopy K.eq s.key.now (λ copy. recorded (step.AdviceEvict copy) Done) };
+
+    ghost may_refuse = { λ s e. e ≡ Memory };
+
+    fn take(self, journal: &mut Journal<K, V>) -> Result<Evicted<K, V>, Refusal> {
+        journal.advice_evict(self.key)
+    }
+}
+
+/// `Journal::prune`.
+#[derive(Drop)]
+pub struct Prune;
+
+impl<K: Hash + Eq + Clone, V: Drop> Call<K, V> for Prune {
+    type Answer = Evicted<K, V>;
+
+    type Refused = Refusal;
+
+    ghost use Rattle.std.specs.Prelude.{◌≡◌};
+    ghost use Rattle.concurrent_lru.specs.declared.list.Refusal.TheVariants.{Memory};
+    ghost use Rattle.lru_journal.specs.Replay.{recorded};
+    ghost use Rattle.lru_journal.specs.declared.record.Recorded.TheVariants as step;
+    ghost use Rattle.lru_journal.specs.declared.record.Told.TheVariants.{Done};
+
+    ghost is_record = { λ s _ r. r ≡ recorded step.Prune Done };
+
+    ghost may_refuse = { λ s e. e ≡ Memory };
+
+    fn take(self, journal: &mut Journal<K, V>) -> Result<Evicted<K, V>, Refusal> {
+        journal.prune()
+    }
+}
+
+/// `Journal::set_capacity`.
+#[derive(Drop)]
+pub struct SetCapacity {
+    pub(crate) capacity: u64,
+}
+
+impl<K: Hash + Eq + Clone, V: Drop> Call<K, V> for SetCapacity {
+    type Answer = Evicted<K, V>;
+
+    type Refused = Refusal;
+
+    ghost use Rattle.std.specs.Prelude.{◌≡◌};
+    ghost use Rattle.concurrent_lru.specs.declared.list.Refusal.TheVariants.{Memory};
+    ghost use Rattle.lru_journal.specs.Replay.{recorded};
+    ghost use Rattle.lru_journal.specs.declared.record.Recorded.TheVariants as step;
+    ghost use Rattle.lru_journal.specs.declared.record.Told.TheVariants.{Done};
+
+    ghost is_record = { λ s _ r. r ≡ recorded (step.SetCapacity s.capacity) Done };
+
+    ghost may_refuse = { λ s e. e ≡ Memory };
+
+    fn take(self, journal: &mut Journal<K, V>) -> Result<Evicted<K, V>, Refusal> {
+        journal.set_capacity(self.capacity)
+    }
+}
+
+/// `Journal::total`.
+#[derive(Drop)]
+pub struct Total;
+
+impl<K: Hash + Eq + Clone, V: Drop> Call<K, V> for Total {
+    type Answer = u64;
+
+    type Refused = Refusal;
+
+    ghost use Rattle.std.specs.Prelude.{◌≡◌};
+    ghost use Rattle.concurrent_lru.specs.declared.list.Refusal.TheVariants.{Memory};
+    ghost use Rattle.lru_journal.specs.Replay.{recorded};
+    ghost use Rattle.lru_journal.specs.declared.record.Recorded.TheVariants as step;
+    ghost use Rattle.lru_journal.specs.declared.record.Told.TheVariants.{Total};
+
+    ghost is_record = { λ s total r. r ≡ recorded step.Total (Total total) };
+
+    ghost may_refuse = { λ s e. e ≡ Memory };
+
+    fn take(self, journal: &mut Journal<K, V>) -> Result<u64, Refusal> {
+        journal.total()
+    }
+}
