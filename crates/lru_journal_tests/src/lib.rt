@@ -3,14 +3,22 @@
 #![tactic(auto)]
 
 #[cfg(test)]
-mod example;
+mod caller;
 #[cfg(test)]
-mod journal;
+mod calls;
+#[cfg(test)]
+mod example;
 #[cfg(test)]
 mod lines;
 #[cfg(test)]
+mod owner;
+#[cfg(test)]
 mod records;
 #[cfg(test)]
-mod threads;
+mod seeded;
 #[cfg(test)]
-mod twin;
+mod steps;
+#[cfg(test)]
+mod table;
+#[cfg(test)]
+mod threads;

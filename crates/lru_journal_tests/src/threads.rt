@@ -1,14 +1,14 @@
 //! The twin under two callers, each with a part of the tally.
-ghost use Rattle.std.specs.Prelude.{◌≡◌, IfOk};
+ghost use Rattle.std.specs.Prelude.{◌≡◌, ◌<◌, IfOk};
 
+use crate::caller::ask;
+use crate::steps::{Answer, Step};
 use concurrent_lru::lru_core::Refusal;
-use lru_journal::journal::{
-    Identity, LruCache, Opening, Pin, Record, Recorded, Started, Tally, Told,
-};
+use lru_journal::journal::{Identity, LruCache, Opening, Record, Recorded, Tally, Told};
 use std::alloc::Global;
 use std::marker::Brand;
 use std::process::Abort;
-use std::sync::{Arc, Wait};
+use std::sync::Wait;
 use std::test::Fail;
 use std::thread::{Threads, join};
 
@@ -17,11 +17,37 @@ const CAPACITY: u64 = 4;
 #[test]
 fn two_callers_make_one_history(rt: HostRuntime) -> Result<(), Fail> {
     let opening = Opening::<u64>::new(rt.alloc(), CAPACITY)?;
-    uses_twenty_keys::<Brand, HostRuntime>(&rt, rt.alloc(), opening)
+    use_twenty_keys::<Brand, HostRuntime>(&rt, rt.alloc(), opening)
 }
 
-// Makes ten keys from this one on, one after the other, and gives each pin back at once.
-fn uses_ten_keys<I: Identity, R: Wait + Drop>(
+// Makes the value of a key that no other caller asks for, asks for it twice more while it is
+// pinned, and gives the three pins back. The records tell what each step was answered.
+fn use_key<I: Identity, R: Wait + Drop>(
+    alloc: Global,
+    cache: &LruCache<u64, u64, R, I>,
+    tally: &mut Tally<u64, I>,
+    key: u64,
+) -> Result<(), Refusal>
+    ensures { tally.new.parts ≡ tally.old.parts }
+{
+    let Answer::Make(stamp) = ask(alloc, cache, tally, Step::Begin(key, 1))? else {
+        return Err(Refusal::Stale);
+    };
+    for step in [
+        Step::Ready(stamp, key),
+        Step::Begin(key, 1),
+        Step::Get(key),
+        Step::Release(stamp, key),
+        Step::Release(stamp, key),
+        Step::Release(stamp, key),
+    ] {
+        ask(alloc, cache, tally, step)?;
+    }
+    Ok(())
+}
+
+// Uses ten keys from this one on, one after the other.
+fn use_ten_keys<I: Identity, R: Wait + Drop>(
     cache: &LruCache<u64, u64, R, I>,
     alloc: Global,
     mut tally: Tally<u64, I>,
@@ -30,17 +56,7 @@ fn uses_ten_keys<I: Identity, R: Wait + Drop>(
     ensures { IfOk result (λ t. t.parts ≡ tally.parts) }
 {
     for next in 0..10u64 {
-        let key = u64::from(first) + next;
-        let Started::Make(stamp) = cache.begin(&mut tally, &key, 1)? else {
-            return Err(Refusal::Stale);
-        };
-        let value = Arc::new(alloc, key)?;
-        if let Err((refusal, _)) = cache.ready(&mut tally, stamp, value.clone()?) {
-            return Err(refusal);
-        }
-        if let Err((refusal, _)) = cache.release(&mut tally, Pin::new(stamp, value)) {
-            return Err(refusal);
-        }
+        use_key(alloc, cache, &mut tally, u64::from(first) + next)?;
     }
     Ok(tally)
 }
@@ -63,14 +79,14 @@ fn use_on_two_threads<I: Identity + Send + Sync, R: Threads + Wait + Sync>(
         rt,
         move || -> Result<Tally<u64, I>, Refusal>
             ensures { IfOk result (λ t. t.parts ≡ one.parts) }
-        { uses_ten_keys(cache, alloc, one, 0) },
+        { use_ten_keys(cache, alloc, one, 0) },
         move || -> Result<Tally<u64, I>, Refusal>
             ensures { IfOk result (λ t. t.parts ≡ two.parts) }
-        { uses_ten_keys(cache, alloc, two, 10) },
+        { use_ten_keys(cache, alloc, two, 10) },
     )
 }
 
-fn uses_twenty_keys<I: Identity + Send + Sync, R: Threads + Wait + Abort + Sync>(
+fn use_twenty_keys<I: Identity + Send + Sync, R: Threads + Wait + Abort + Sync>(
     rt: &R,
     alloc: Global,
     opening: Opening<u64>,
@@ -84,8 +100,7 @@ fn uses_twenty_keys<I: Identity + Send + Sync, R: Threads + Wait + Abort + Sync>
     whole.join(&cache, one?);
     whole.join(&cache, two?);
     let mut journal = cache.into_journal(whole);
-    assert_eq!(rt; journal.records().len(), 60);
-    assert_eq!(rt; count_of_makes(journal.records()), 20);
+    assert_eq!(rt; counts_of(journal.records()), [20, 20, 20, 20, 60, 0]);
     for key in 0..20u64 {
         assert!(rt; has_use_of(journal.records(), key), "key {key}");
     }
@@ -93,19 +108,33 @@ fn uses_twenty_keys<I: Identity + Send + Sync, R: Threads + Wait + Abort + Sync>
     Ok(())
 }
 
-// How many records tell a caller to make a value.
-fn count_of_makes(records: &[Record<u64>]) -> usize {
-    let mut count = 0usize;
+// How many records there are of each kind.
+fn counts_of(records: &[Record<u64>]) -> [u32; 6] {
+    let mut counts = [0u32; 6];
     for record in records {
-        if let Told::Make(_) = record.reply {
-            count = count.saturating_add(1);
-        }
+        let kind = kind_of(record);
+        counts[kind] = counts[kind].saturating_add(1);
     }
-    count
+    counts
 }
 
-// Whether the records have the begin of a key, the ready of its stamp and the release, in this
-// order and each answered as its caller saw it.
+// The kind of a record: a making, a ready, a hit, a find, a release, or a step or a reply that no
+// use has.
+fn kind_of(record: &Record<u64>) -> usize
+    ensures { result < 6 }
+{
+    match (&record.step, record.reply) {
+        (Recorded::Begin(_, 1), Told::Make(_)) => 0,
+        (Recorded::Ready(_), Told::Done) => 1,
+        (Recorded::Begin(_, 1), Told::Hit(_)) => 2,
+        (Recorded::Get(_), Told::Found(_)) => 3,
+        (Recorded::Release(_), Told::Done) => 4,
+        _ => 5,
+    }
+}
+
+// Whether the records have the begin of a key, the ready of its stamp and a release, in this order
+// and each answered as its caller saw it.
 fn has_use_of(records: &[Record<u64>], key: u64) -> bool {
     let mut made = None;
     let mut is_ready = false;

@@ -1,5 +1,5 @@
 use Rattle.std.proofs.Common.{◌≡◌}
-use Rattle.lru_journal_tests.proofs.threads.uses_ten_keys.Given as goal
+use Rattle.lru_journal_tests.proofs.threads.use_ten_keys.Given as goal
 
 -- the parts of the tally stay
 abbrev pub invariant-loop-next : goal.invariant-loop-next

@@ -1,0 +1,139 @@
+//! Long runs of steps that seeds decide, asked of a twin and of a journal for one owner.
+//! The twin answers each step as the journal does, and its records are the journal's.
+ghost use Rattle.std.specs.Prelude.{◌≡◌};
+
+use crate::steps::{Answer, Step};
+use crate::{caller, owner};
+use lru_journal::journal::{Identity, Journal, LruCache, Opening, Record};
+use rand_core::{Rng, SeedableRng};
+use rand_xoshiro::Xoshiro256PlusPlus;
+use std::alloc::Global;
+use std::marker::Brand;
+use std::process::Abort;
+use std::sync::Wait;
+use std::test::Fail;
+
+const CAPACITY: u64 = 8;
+
+// What decides the next step: a generator, the stamps of the last pins that were got, and what is
+// due of the steps by which the pin before these is given back.
+#[derive(Drop)]
+struct Draws {
+    generator: Xoshiro256PlusPlus,
+    pins: [u64; 4],
+    due: Option<Step>,
+}
+
+impl Draws {
+    // No entry ever has the stamps that stand for no pin.
+    fn from_seed(seed: u64) -> Draws {
+        Draws {
+            generator: Xoshiro256PlusPlus::seed_from_u64(seed),
+            pins: [u64::MAX; 4],
+            due: None,
+        }
+    }
+
+    fn next(&mut self) -> Step {
+        match self.due {
+            Some(step) => {
+                self.due = next_due(step);
+                step
+            }
+            None => self.draw(),
+        }
+    }
+
+    // A step at one of six keys or of the last pins.
+    fn draw(&mut self) -> Step {
+        let kind = self.generator.next_u64() % 16;
+        let key = self.generator.next_u64() % 6;
+        let number = self.generator.next_u64() % 8;
+        let stamp = self.pins[(self.generator.next_u64() % 4) as usize];
+        match kind {
+            0 => Step::Poll(stamp),
+            1 => Step::Ready(stamp, number),
+            2 => Step::Fail(stamp),
+            3 => Step::Release(stamp, number),
+            4 | 5 => Step::Get(key),
+            6 | 7 => Step::AdviceEvict(key),
+            8 => Step::Prune,
+            9 => Step::SetCapacity(4 + number),
+            10 => Step::Total,
+            _ => Step::Begin(key, 1 + number % 3),
+        }
+    }
+
+    // Keeps the stamp where the step got a pin, and lets the oldest pin be given back.
+    fn note(&mut self, step: Step, answer: Answer) {
+        if let Step::Begin(..) | Step::Get(_) = step
+            && let Answer::Make(stamp)
+            | Answer::Wait(stamp)
+            | Answer::Hit(stamp, _)
+            | Answer::Found(stamp, _) = answer
+        {
+            let [oldest, one, two, three] = self.pins;
+            self.pins = [one, two, three, stamp];
+            self.due = Some(Step::Poll(oldest));
+        }
+    }
+}
+
+// A pin is given back after a poll, which takes a failed making over, and a ready.
+fn next_due(step: Step) -> Option<Step> {
+    match step {
+        Step::Poll(stamp) => Some(Step::Ready(stamp, stamp)),
+        Step::Ready(stamp, value) => Some(Step::Release(stamp, value)),
+        _ => None,
+    }
+}
+
+#[test]
+fn a_twin_answers_and_records_as_a_journal_does(rt: HostRuntime) -> Result<(), Fail> {
+    for seed in 1..=20u64 {
+        let opening = Opening::<u64>::new(rt.alloc(), CAPACITY)?;
+        compare::<Brand, HostRuntime>(&rt, rt.alloc(), opening, seed)?;
+    }
+    Ok(())
+}
+
+fn compare<I: Identity, R: Wait + Abort>(
+    rt: &R,
+    alloc: Global,
+    opening: Opening<u64>,
+    seed: u64,
+) -> Result<(), Fail>
+    requires { opening ≡ I.name }
+{
+    let mut journal = Journal::new(alloc, CAPACITY);
+    let (cache, mut tally) = LruCache::<u64, u64, &R, I>::new(alloc, rt, opening);
+    let mut draws = Draws::from_seed(seed);
+    for number in 0..300u32 {
+        let step = draws.next();
+        let answer = caller::ask(alloc, &cache, &mut tally, step)?;
+        let wanted = owner::ask(alloc, &mut journal, step)?.answer;
+        assert_eq!(rt; answer, wanted, "at step {number} of seed {seed}, {step:?}");
+        draws.note(step, answer);
+    }
+    let recorded = cache.into_journal(tally);
+    compare_records(rt, alloc, recorded.records(), journal.records(), seed)
+}
+
+// Record by record, as texts.
+fn compare_records<R: Abort>(
+    rt: &R,
+    alloc: Global,
+    records: &[Record<u64>],
+    wanted: &[Record<u64>],
+    seed: u64,
+) -> Result<(), Fail> {
+    for (number, (record, wanted)) in records.iter().zip(wanted).enumerate() {
+        assert_eq!(rt;
+            format!(in alloc; "{record}")?,
+            format!(in alloc; "{wanted}")?,
+            "record {number} of seed {seed}"
+        );
+    }
+    assert_eq!(rt; records.len(), wanted.len(), "records of seed {seed}");
+    Ok(())
+}
