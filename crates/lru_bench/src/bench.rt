@@ -58,13 +58,7 @@ fn use_map<R: Clock, O: Write>(
     let mut keys = Keys::of(entries);
     let begin = report.start()?;
     let sum = look_up(&map, &mut keys, operations);
-    let work = Work {
-        system: IN_A_MAP,
-        name: "hit_get",
-        entries: entries.get(),
-        threads: 1,
-        operations,
-    };
+    let work = Work::new(IN_A_MAP, "hit_get", entries.get(), 1, operations);
     report.end(&work, begin, sum)
 }
 
@@ -83,13 +77,7 @@ fn use_alone<R: Wait + Clock, O: Write>(
     );
     fill(&cache, entries.get())?;
     let mut keys = Keys::of(entries);
-    let work = |name| Work {
-        system: ON_ONE_LOCK,
-        name,
-        entries: entries.get(),
-        threads: 1,
-        operations,
-    };
+    let work = |name| Work::new(ON_ONE_LOCK, name, entries.get(), 1, operations);
     let begin = report.start()?;
     let sum = hit_get(&cache, &mut keys, operations)?;
     report.end(&work("hit_get"), begin, sum)?;
@@ -115,13 +103,7 @@ fn stress_lock<R: Threads + Wait + Clock + Sync, O: Write>(
     );
     let begin = report.start()?;
     let sum = stress(rt, &cache, threads, calls)?;
-    let work = Work {
-        system: ON_ONE_LOCK,
-        name: "stress",
-        entries: LOCK_CAPACITY,
-        threads,
-        operations: calls,
-    };
+    let work = Work::new(ON_ONE_LOCK, "stress", LOCK_CAPACITY, threads, calls);
     report.end(&work, begin, sum)
 }
 
@@ -140,12 +122,6 @@ fn stress_shards<R: Threads + Wait + Clock + RandomSource + Sync, O: Write>(
     )?;
     let begin = report.start()?;
     let sum = stress(rt, &cache, threads, calls)?;
-    let work = Work {
-        system: IN_SHARDS,
-        name: "stress",
-        entries: SHARDS_CAPACITY,
-        threads,
-        operations: calls,
-    };
+    let work = Work::new(IN_SHARDS, "stress", SHARDS_CAPACITY, threads, calls);
     report.end(&work, begin, sum)
 }

@@ -4,7 +4,7 @@
 use concurrent_lru::lru_core::Refusal;
 use std::alloc::{AllocError, AllocFailed};
 use std::io;
-use std::io::Write;
+use std::io::{ErrorKind, Write};
 
 /// Why the program does not end with status 0.
 #[derive(Clone, Copy, Debug, PartialEq, Eq)]
@@ -18,6 +18,15 @@ pub enum Failure {
 }
 
 impl Failure {
+    /// The failure of reading the words with this error: one that is no text is no word that the
+    /// program knows.
+    pub fn of_words(error: &io::Error) -> Failure {
+        match error.kind() {
+            ErrorKind::OutOfMemory => Failure::Refused(Refusal::Memory),
+            _ => Failure::Usage,
+        }
+    }
+
     /// Tells the failure on `err`, in one line, and answers the status to end with: 2 for the
     /// wrong words, else 1.
     pub fn report<E: Write>(self, err: &mut E) -> u8 {

@@ -13,29 +13,15 @@ mod shared;
 mod stress;
 mod uses;
 
-use concurrent_lru::lru_core::Refusal;
 use failure::Failure;
+use lru_fixtures::words;
 use program::program;
-use std::env;
-use std::io::ErrorKind;
 use std::process::ExitCode;
-use std::rt::Env;
 
 fn main(rt: HostRuntime) -> ExitCode {
-    let status = match words(&rt) {
+    let status = match words::after_name(&rt) {
         Ok(words) => program(&rt, rt.alloc(), &words, &mut rt.stdout(), &mut rt.stderr()),
-        Err(failure) => failure.report(&mut rt.stderr()),
+        Err(error) => Failure::of_words(&error).report(&mut rt.stderr()),
     };
     ExitCode::from(status)
-}
-
-// The words after the program's name. One that is no text is no word that the program knows.
-fn words<R: Env + AllocGlobal>(rt: &R) -> Result<Vec<String>, Failure> {
-    match env::args(rt) {
-        Ok(args) => Ok(args.skip(1).collect(rt.alloc())?),
-        Err(error) if error.kind() == ErrorKind::OutOfMemory => {
-            Err(Failure::Refused(Refusal::Memory))
-        }
-        Err(_) => Err(Failure::Usage),
-    }
 }

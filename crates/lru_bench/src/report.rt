@@ -22,6 +22,26 @@ pub struct Work {
     pub operations: u32,
 }
 
+impl Work {
+    /// A workload of this name, on this cache of this capacity, of so many threads with so many
+    /// operations each.
+    pub fn new(
+        system: &'static str,
+        name: &'static str,
+        entries: u64,
+        threads: u32,
+        operations: u32,
+    ) -> Work {
+        Work {
+            system,
+            name,
+            entries,
+            threads,
+            operations,
+        }
+    }
+}
+
 impl fmt::Display for Work {
     fn fmt<W: fmt::Write>(&self, f: &mut fmt::Formatter<W>) -> fmt::Result {
         write!(
@@ -103,13 +123,7 @@ mod tests {
             (1, 0, 9, "0.0"),
         ];
         for (threads, operations, nanoseconds, text) in cases {
-            let work = Work {
-                system: "port-unsharded",
-                name: "stress",
-                entries: 100,
-                threads,
-                operations,
-            };
+            let work = Work::new("port-unsharded", "stress", 100, threads, operations);
             let each = PerOperation::of(Duration::from_nanos(nanoseconds), &work);
             assert_eq!(rt; format!(in alloc; "{each}")?.as_str(), text);
         }

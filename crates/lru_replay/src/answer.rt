@@ -3,7 +3,7 @@
 use std::fmt;
 
 /// What a step was answered. A value is told by its number.
-#[derive(Clone, Copy, Debug, PartialEq, Eq)]
+#[derive(Clone, Copy)]
 pub enum Answer {
     /// A handle of the value that this step made.
     Made(u64),

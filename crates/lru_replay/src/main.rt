@@ -3,7 +3,6 @@
 #![tactic(auto)]
 
 mod answer;
-mod drops;
 mod expected;
 mod failure;
 mod lines;
@@ -15,6 +14,7 @@ mod slots;
 mod step;
 
 use failure::Failure;
+use lru_fixtures::words;
 use program::program;
 use std::io::{self, BufReader, LineWriter};
 use std::process::ExitCode;
@@ -25,9 +25,12 @@ fn main(rt: HostRuntime) -> ExitCode {
         input,
         LineWriter::new(alloc, rt.stdout())?,
     )));
-    let status = match streams {
-        Ok((input, mut out)) => program(alloc, &rt, input, &mut out, &mut rt.stderr()),
-        Err(error) => Failure::of_reading(&error).report(&mut rt.stderr()),
+    let status = match (words::after_name(&rt), streams) {
+        (Ok(words), Ok((input, mut out))) => {
+            program(alloc, &rt, &words, input, &mut out, &mut rt.stderr())
+        }
+        (Err(error), _) => Failure::of_words(&error).report(&mut rt.stderr()),
+        (_, Err(error)) => Failure::of_reading(&error).report(&mut rt.stderr()),
     };
     ExitCode::from(status)
 }

@@ -7,14 +7,14 @@ ghost use Rattle.lru_replay.specs.declared.step.Outcome.{Outcome};
 ghost use Rattle.lru_replay.specs.declared.step.Making.{Making};
 ghost use Rattle.lru_replay.specs.declared.step.Step.{Step};
 
-use crate::expected::Expected;
+use crate::expected::{Expected, Wrong};
 use crate::step::{Fate, Making, Outcome, Slot, Step};
 
 /// The step that the words of a line spell.
 ///
 /// The error tells what was expected: at the first word that is wrong, where the step has a name
-/// and as many words as it takes, else for the step as a whole.
-pub fn parse(words: &[&str]) -> Result<Step, Expected>
+/// and as many words as it takes; at the name where no step has it; else of the line as a whole.
+pub fn parse<'a>(words: &[&'a str]) -> Result<Step, Wrong<'a>>
     ensures read { IfOk result (Spells words.now) }
     ensures all { (step : Step) → Spells words.now step → result ≡ Ok step }
 {
@@ -37,26 +37,26 @@ pub fn parse(words: &[&str]) -> Result<Step, Expected>
         ["advice", key] => Ok(Step::Advice(parse_number(key)?)),
         ["prune"] => Ok(Step::Prune),
         ["total"] => Ok(Step::Total),
-        [name, ..] => Err(expected_of(name)),
-        [] => Err(Expected::Step),
+        [name, ..] => Err(wrong_of(name)),
+        [] => Err(Wrong::line(Expected::Step)),
     }
 }
 
-// What is expected of a line with this first word.
-fn expected_of(name: &str) -> Expected {
+// What is wrong with a line with this first word, whose words are not as its step takes them.
+fn wrong_of<'a>(name: &'a str) -> Wrong<'a> {
     match name {
-        "new" => Expected::New,
-        "init" => Expected::Init,
-        "get" => Expected::Get,
-        "release" => Expected::Release,
-        "advice" => Expected::Advice,
-        "prune" => Expected::Prune,
-        "total" => Expected::Total,
-        _ => Expected::Step,
+        "new" => Wrong::line(Expected::New),
+        "init" => Wrong::line(Expected::Init),
+        "get" => Wrong::line(Expected::Get),
+        "release" => Wrong::line(Expected::Release),
+        "advice" => Wrong::line(Expected::Advice),
+        "prune" => Wrong::line(Expected::Prune),
+        "total" => Wrong::line(Expected::Total),
+        _ => Wrong::word(Expected::Step, name),
     }
 }
 
-fn parse_making(key: &str, charge: &str, outcome: &str) -> Result<Making, Expected>
+fn parse_making<'a>(key: &'a str, charge: &'a str, outcome: &'a str) -> Result<Making, Wrong<'a>>
     ensures read { IfOk result (SpellsMaking key.now charge.now outcome.now) }
     ensures all { (making : Making) → SpellsMaking key.now charge.now outcome.now making → result ≡ Ok making }
 {
@@ -68,41 +68,41 @@ fn parse_making(key: &str, charge: &str, outcome: &str) -> Result<Making, Expect
 }
 
 // A sign is no digit.
-fn parse_number(word: &str) -> Result<u64, Expected>
+fn parse_number<'a>(word: &'a str) -> Result<u64, Wrong<'a>>
     ensures read { IfOk result (Writes word.now) }
     ensures all { (number : ℕ) → Writes word.now number → result ≡ Ok number }
 {
     if word.starts_with('+') {
-        return Err(Expected::Number);
+        return Err(Wrong::word(Expected::Number, word));
     }
     match word.parse() {
         Ok(number) => Ok(number),
-        Err(_) => Err(Expected::Number),
+        Err(_) => Err(Wrong::word(Expected::Number, word)),
     }
 }
 
-fn parse_charge(word: &str) -> Result<u64, Expected>
+fn parse_charge<'a>(word: &'a str) -> Result<u64, Wrong<'a>>
     ensures read { IfOk result (WritesCharge word.now) }
     ensures all { (charge : ℕ) → WritesCharge word.now charge → result ≡ Ok charge }
 {
     match parse_number(word)? {
-        0 => Err(Expected::Charge),
+        0 => Err(Wrong::word(Expected::Charge, word)),
         charge => Ok(charge),
     }
 }
 
-fn parse_outcome(word: &str) -> Result<Outcome, Expected>
+fn parse_outcome<'a>(word: &'a str) -> Result<Outcome, Wrong<'a>>
     ensures read { IfOk result (SpellsOutcome word.now) }
     ensures all { (outcome : Outcome) → SpellsOutcome word.now outcome → result ≡ Ok outcome }
 {
     match word {
         "ok" => Ok(Outcome::Gives),
         "fail" => Ok(Outcome::Fails),
-        _ => Err(Expected::Outcome),
+        _ => Err(Wrong::word(Expected::Outcome, word)),
     }
 }
 
-fn parse_slot(word: &str) -> Result<Slot, Expected>
+fn parse_slot<'a>(word: &'a str) -> Result<Slot, Wrong<'a>>
     ensures read { IfOk result (SpellsSlot word.now) }
     ensures all { (slot : Slot) → SpellsSlot word.now slot → result ≡ Ok slot }
 {
@@ -111,6 +111,6 @@ fn parse_slot(word: &str) -> Result<Slot, Expected>
         "1" => Ok(Slot::One),
         "2" => Ok(Slot::Two),
         "3" => Ok(Slot::Three),
-        _ => Err(Expected::Slot),
+        _ => Err(Wrong::word(Expected::Slot, word)),
     }
 }

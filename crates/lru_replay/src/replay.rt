@@ -26,7 +26,7 @@ pub fn replay<R: Wait + Clone + Drop, I: BufRead, O: Write>(
     let mut capacity = match lines.next()? {
         None => return Ok(()),
         Some(Step::New(capacity)) => capacity,
-        Some(_) => return Err(lines.expected(Expected::First)),
+        Some(_) => return Err(lines.is_not(Expected::First)),
     };
     for _ in 0..u64::MAX {
         match run_session(alloc, rt, capacity, lines, out)? {
@@ -71,18 +71,14 @@ fn run_steps<'a, R: Wait + Clone + Drop, I: BufRead, O: Write>(
     Err(Failure::Refused(Refusal::Overflow))
 }
 
-// Writes a step with its answer and its drops, and forgets the drops.
+// Writes a step with its answer and its drops.
 fn write_line<R: Wait + Clone + Drop, O: Write>(
     out: &mut O,
     session: &Session<R>,
     step: Step,
     answer: Answer,
 ) -> Result<(), Failure> {
-    let mut drops = session.drops();
-    let numbers = drops.numbers()?;
-    if writeln!(out, "{step} => {answer} {numbers:?}").is_err() {
-        return Err(Failure::Write);
-    }
-    drops.clear();
+    let drops = session.take_drops()?;
+    writeln!(out, "{step} => {answer} {drops:?}")?;
     Ok(())
 }

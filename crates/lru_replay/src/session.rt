@@ -1,16 +1,16 @@
 //! One cache, and what each step does with it and the slots.
 
 use crate::answer::Answer;
-use crate::drops::{Drops, Value};
 use crate::slots::Slots;
 use crate::step::{Fate, Making, Outcome, Step};
 use concurrent_lru::lru_core::Refusal;
 use concurrent_lru::unsharded::{CacheHandle, GetError, LruCache};
+use lru_fixtures::drops::{DropLog, Logged};
 use std::alloc::{AllocError, Global};
-use std::sync::{Arc, Mutex, MutexGuard, Wait};
+use std::sync::Wait;
 
 /// A handle of a value of the cache.
-pub type Handle<'a, R> = CacheHandle<'a, u64, Value<R>, R>;
+pub type Handle<'a, R> = CacheHandle<'a, u64, Logged<R>, R>;
 
 // Why an `init` gave no value.
 #[derive(Drop)]
@@ -30,26 +30,27 @@ impl From<AllocError> for NotMade {
 /// A cache, whose values note their drops.
 #[derive(Drop)]
 pub struct Session<R: Wait> {
-    rt: R,
-    drops: Arc<Mutex<Drops>>,
-    cache: LruCache<u64, Value<R>, R>,
+    log: DropLog<R>,
+    cache: LruCache<u64, Logged<R>, R>,
 }
 
 impl<R: Wait + Clone + Drop> Session<R> {
     /// An empty cache with this capacity.
     ///
-    /// `Memory` where the note of the drops is refused.
+    /// `Memory` where the log of the drops is refused.
     pub fn new(alloc: Global, rt: &R, capacity: u64) -> Result<Session<R>, Refusal> {
         Ok(Session {
-            rt: rt.clone()?,
-            drops: Arc::new(alloc, Mutex::new(Drops::new(alloc)))?,
+            log: DropLog::new(alloc, rt)?,
             cache: LruCache::new(alloc, rt.clone()?, capacity),
         })
     }
 
-    /// The drops that were noted and not yet cleared.
-    pub fn drops(&self) -> MutexGuard<'_, Drops> {
-        self.drops.lock(&self.rt)
+    /// The numbers of the values that were dropped since this was asked last, first dropped
+    /// first. `Memory` where one of them, or this list, was refused memory.
+    pub fn take_drops(&self) -> Result<Vec<u64>, Refusal> {
+        let numbers = self.log.numbers()?;
+        self.log.clear();
+        Ok(numbers)
     }
 
     /// Runs a step. A value that it makes gets this number. The step that made the cache has
@@ -85,7 +86,7 @@ impl<R: Wait + Clone + Drop> Session<R> {
         let made = self
             .cache
             .get_or_try_init(making.key, making.charge, |_| match making.outcome {
-                Outcome::Gives => Ok(Value::new(&self.rt, number, &self.drops)?),
+                Outcome::Gives => Ok(self.log.value(number)?),
                 Outcome::Fails => Err(NotMade::Asked),
             });
         match made {

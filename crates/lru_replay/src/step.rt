@@ -5,7 +5,7 @@ ghost use Rattle.std.specs.Prelude.{◌<◌};
 use std::fmt;
 
 /// One of the four places that keep a handle each.
-#[derive(Clone, Copy, Debug, PartialEq, Eq)]
+#[derive(Clone, Copy)]
 pub enum Slot {
     Zero,
     One,
@@ -14,7 +14,7 @@ pub enum Slot {
 }
 
 /// What becomes of the handle that a step gets.
-#[derive(Clone, Copy, Debug, PartialEq, Eq)]
+#[derive(Clone, Copy)]
 pub enum Fate {
     /// It is dropped at once.
     Drop,
@@ -23,7 +23,7 @@ pub enum Fate {
 }
 
 /// What `init` does, if it is called.
-#[derive(Clone, Copy, Debug, PartialEq, Eq)]
+#[derive(Clone, Copy)]
 pub enum Outcome {
     /// It gives a value with the step's number.
     Gives,
@@ -32,7 +32,7 @@ pub enum Outcome {
 }
 
 /// A value to be had: its key, its charge, which is above 0, and what making it comes to.
-#[derive(Clone, Copy, Debug, PartialEq, Eq)]
+#[derive(Clone, Copy)]
 pub struct Making {
     pub key: u64,
     pub charge: u64,
@@ -41,7 +41,7 @@ pub struct Making {
 }
 
 /// What a line asks for.
-#[derive(Clone, Copy, Debug, PartialEq, Eq)]
+#[derive(Clone, Copy)]
 pub enum Step {
     /// A new cache with this capacity. The cache before and the slots are gone.
     New(u64),
@@ -61,12 +61,12 @@ pub enum Step {
 
 impl fmt::Display for Slot {
     fn fmt<W: fmt::Write>(&self, f: &mut fmt::Formatter<W>) -> fmt::Result {
-        match self {
-            Slot::Zero => write!(f, "0"),
-            Slot::One => write!(f, "1"),
-            Slot::Two => write!(f, "2"),
-            Slot::Three => write!(f, "3"),
-        }
+        f.write_str(match self {
+            Slot::Zero => "0",
+            Slot::One => "1",
+            Slot::Two => "2",
+            Slot::Three => "3",
+        })
     }
 }
 
@@ -81,10 +81,10 @@ impl fmt::Display for Fate {
 
 impl fmt::Display for Outcome {
     fn fmt<W: fmt::Write>(&self, f: &mut fmt::Formatter<W>) -> fmt::Result {
-        match self {
-            Outcome::Gives => write!(f, "ok"),
-            Outcome::Fails => write!(f, "fail"),
-        }
+        f.write_str(match self {
+            Outcome::Gives => "ok",
+            Outcome::Fails => "fail",
+        })
     }
 }
 

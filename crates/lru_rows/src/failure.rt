@@ -4,10 +4,10 @@
 use concurrent_lru::lru_core::Refusal;
 use std::alloc::{AllocError, AllocFailed};
 use std::io;
-use std::io::Write;
+use std::io::{ErrorKind, Write};
 
 /// Why the program does not end with status 0.
-#[derive(Clone, Copy, Debug, PartialEq, Eq)]
+#[derive(Clone, Copy)]
 pub enum Failure {
     /// The words are none that the program knows.
     Usage,
@@ -18,6 +18,15 @@ pub enum Failure {
 }
 
 impl Failure {
+    /// The failure of reading the words with this error: one that is no text is no word that the
+    /// program knows.
+    pub fn of_words(error: &io::Error) -> Failure {
+        match error.kind() {
+            ErrorKind::OutOfMemory => Failure::Refused(Refusal::Memory),
+            _ => Failure::Usage,
+        }
+    }
+
     /// Tells the failure on `err`, in one line, and answers the status to end with: 2 for the
     /// wrong words, else 1. A failed write is not told.
     pub fn report<E: Write>(self, err: &mut E) -> u8 {
@@ -54,12 +63,16 @@ impl From<io::Error> for Failure {
 #[cfg(test)]
 mod tests {
     use super::*;
-    use std::io::ErrorKind;
     use std::test::Fail;
 
     #[test]
     fn has_a_line_and_a_status(rt: HostRuntime) -> Result<(), Fail> {
         let cases = [
+            (
+                Failure::of_words(&io::Error::from(ErrorKind::OutOfMemory)),
+                "refused 1\n",
+                1,
+            ),
             (Failure::Usage, "usage: rows | stress SEED\n", 2),
             (Failure::from(AllocError), "refused 1\n", 1),
             (Failure::from(Refusal::Memory), "refused 1\n", 1),
@@ -69,8 +82,8 @@ mod tests {
         ];
         for (failure, line, status) in cases {
             let mut err = Vec::new(rt.alloc());
-            assert_eq!(rt; failure.report(&mut err), status, "at {failure:?}");
-            assert_eq!(rt; str::from_utf8(&err)?, line, "at {failure:?}");
+            assert_eq!(rt; failure.report(&mut err), status, "at {line}");
+            assert_eq!(rt; str::from_utf8(&err)?, line, "at {line}");
         }
         Ok(())
     }

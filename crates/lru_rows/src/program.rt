@@ -2,7 +2,7 @@
 //! It writes to two writers that are handed in, so that tests run it over memory.
 
 use crate::failure::Failure;
-use crate::rows;
+use lru_fixtures::rows::{ROWS, Row};
 use std::alloc::Global;
 use std::io::Write;
 use std::sync::Wait;
@@ -33,9 +33,33 @@ fn run<R: Threads + Wait + Sync, O: Write>(
     out: &mut O,
 ) -> Result<(), Failure> {
     match words {
-        [word] if word.as_str() == "rows" => rows::write_all(rt, alloc, out),
+        [word] if word.as_str() == "rows" => write_rows(rt, alloc, out),
         _ => Err(Failure::Usage),
     }
+}
+
+// Writes every row, with its number. What was written before a failure stays written.
+fn write_rows<R: Threads + Wait + Sync, O: Write>(
+    rt: &R,
+    alloc: Global,
+    out: &mut O,
+) -> Result<(), Failure> {
+    for (index, row) in ROWS.iter().enumerate() {
+        write_row(rt, alloc, index + 1, *row, out)?;
+    }
+    Ok(())
+}
+
+fn write_row<R: Threads + Wait + Sync, O: Write>(
+    rt: &R,
+    alloc: Global,
+    number: usize,
+    row: Row,
+    out: &mut O,
+) -> Result<(), Failure> {
+    let text = row.text(rt, alloc)?;
+    writeln!(out, "row {number}: {text}")?;
+    Ok(())
 }
 
 #[cfg(test)]

@@ -1,9 +1,8 @@
 //! The program over memory: what it writes where, and its status.
 
 use super::program;
-use std::alloc::{AllocError, Global};
-use std::io;
-use std::io::{ErrorKind, Write};
+use lru_fixtures::words::words;
+use lru_fixtures::writer::Limited;
 use std::test::Fail;
 
 // As a cache in Rust reads them on the same workloads.
@@ -29,43 +28,6 @@ port-sharded stress 128 8 157468
 const USAGE: &str = "usage: check | time [ENTRIES ..]\n";
 
 const SYSTEM: &str = "a write, the clock or random numbers failed\n";
-
-// A writer over memory that takes a number of writes and refuses the others.
-#[derive(Drop)]
-struct Memory {
-    bytes: Vec<u8>,
-    writes_left: usize,
-}
-
-impl Memory {
-    fn taking(alloc: Global, writes: usize) -> Memory {
-        Memory {
-            bytes: Vec::new(alloc),
-            writes_left: writes,
-        }
-    }
-}
-
-impl Write for Memory {
-    fn write(&mut self, buf: &[u8]) -> io::Result<usize> {
-        if self.writes_left == 0 {
-            return Err(io::Error::from(ErrorKind::BrokenPipe));
-        }
-        self.writes_left -= 1;
-        self.bytes.write(buf)
-    }
-
-    fn flush(&mut self) -> io::Result<()> {
-        Ok(())
-    }
-}
-
-fn words(alloc: Global, words: &[&str]) -> Result<Vec<String>, AllocError> {
-    words
-        .iter()
-        .map(|word| String::from_str(alloc, *word))
-        .try_collect(alloc)
-}
 
 #[test]
 fn prints_the_sums(rt: HostRuntime) -> Result<(), Fail> {
@@ -103,14 +65,15 @@ fn tells_its_usage(rt: HostRuntime) -> Result<(), Fail> {
 fn ends_at_a_failed_write(rt: HostRuntime) -> Result<(), Fail> {
     let alloc = rt.alloc();
     let words = words(alloc, &["check"])?;
-    for writes in [0, 1, 20] {
-        let (mut out, mut err) = (Memory::taking(alloc, writes), Vec::new(alloc));
+    for room in [0, 1, 200, SUMS.len() - 1] {
+        let (mut out, mut err) = (Limited::new(alloc, room), Vec::new(alloc));
         let status = program(&rt, alloc, &words, &mut out, &mut err);
-        assert_eq!(rt; status, 1, "after {writes} writes");
-        assert_eq!(rt; str::from_utf8(&err)?, SYSTEM, "after {writes} writes");
-        assert!(rt;
-            SUMS.starts_with(str::from_utf8(&out.bytes)?),
-            "after {writes} writes"
+        assert_eq!(rt; status, 1, "at {room} bytes");
+        assert_eq!(rt; str::from_utf8(&err)?, SYSTEM, "at {room} bytes");
+        assert_eq!(rt;
+            Some(out.bytes()),
+            SUMS.as_bytes().get(..room),
+            "at {room} bytes"
         );
     }
     Ok(())

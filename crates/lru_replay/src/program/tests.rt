@@ -1,9 +1,12 @@
 //! The program over memory: what it writes where, and its status.
 
 use super::program;
+use lru_fixtures::words::words;
+use lru_fixtures::writer::Limited;
 use std::alloc::Global;
 use std::io;
-use std::io::{BufReader, ErrorKind, Read, Write};
+use std::io::{BufRead, BufReader, ErrorKind, Read};
+use std::sync::Wait;
 use std::test::Fail;
 
 const STEPS: &str = "\
@@ -39,35 +42,58 @@ init 1 2 ok drop => made 1 [1]
 init 1 1 fail keep 3 => err []
 ";
 
-// A writer over memory that takes a number of writes and refuses the others.
-#[derive(Drop)]
-struct Memory {
-    bytes: Vec<u8>,
-    writes_left: usize,
-}
+const USAGE: &str = "usage: lru_replay < STEPS\n";
 
-impl Memory {
-    fn taking(alloc: Global, writes: usize) -> Memory {
-        Memory {
-            bytes: Vec::new(alloc),
-            writes_left: writes,
-        }
-    }
-}
+// Lines that are no steps, and what is said of each.
+const WRONG: [(&str, &str); 20] = [
+    (
+        "",
+        "a step: new, init, get, release, advice, prune or total, not \"\"",
+    ),
+    (
+        "turn 1",
+        "a step: new, init, get, release, advice, prune or total, not \"turn\"",
+    ),
+    ("new", "`new CAPACITY`, not \"new\""),
+    ("new 1 2", "`new CAPACITY`, not \"new 1 2\""),
+    (
+        "init 1 2 ok",
+        "`init KEY CHARGE ok|fail drop|keep SLOT`, not \"init 1 2 ok\"",
+    ),
+    ("get 1", "`get KEY drop|keep SLOT`, not \"get 1\""),
+    (
+        "get 1 hold 2",
+        "`get KEY drop|keep SLOT`, not \"get 1 hold 2\"",
+    ),
+    ("release", "`release SLOT`, not \"release\""),
+    ("advice", "`advice KEY`, not \"advice\""),
+    ("prune 1", "`prune` alone, not \"prune 1\""),
+    ("total ", "`total` alone, not \"total \""),
+    (
+        "new 18446744073709551616",
+        "a number up to 18446744073709551615, not \"18446744073709551616\"",
+    ),
+    (
+        "advice +1",
+        "a number up to 18446744073709551615, not \"+1\"",
+    ),
+    (
+        "get -1 drop",
+        "a number up to 18446744073709551615, not \"-1\"",
+    ),
+    (
+        "init 1  ok drop",
+        "a number up to 18446744073709551615, not \"\"",
+    ),
+    ("init 1 0 ok drop", "a charge above 0, not \"0\""),
+    ("init 1 1 maybe drop", "ok or fail, not \"maybe\""),
+    ("get 1 keep 4", "a slot from 0 to 3, not \"4\""),
+    ("release 4", "a slot from 0 to 3, not \"4\""),
+    ("release 00", "a slot from 0 to 3, not \"00\""),
+];
 
-impl Write for Memory {
-    fn write(&mut self, buf: &[u8]) -> io::Result<usize> {
-        if self.writes_left == 0 {
-            return Err(io::Error::from(ErrorKind::BrokenPipe));
-        }
-        self.writes_left -= 1;
-        self.bytes.write(buf)
-    }
-
-    fn flush(&mut self) -> io::Result<()> {
-        Ok(())
-    }
-}
+// More bytes than any test writes.
+const ROOM: usize = 9_999;
 
 // A reader of some bytes that fails where they end.
 #[derive(Drop)]
@@ -82,84 +108,75 @@ impl<'a> Read for Broken<'a> {
     }
 }
 
+// Runs the program, whose first writer takes so many bytes, and checks its status and what it
+// wrote.
+fn ends<R: Wait + Clone + Drop, I: BufRead + Drop>(
+    rt: &R,
+    alloc: Global,
+    asked: &[&str],
+    input: I,
+    room: usize,
+) -> Result<(u8, Limited, Limited), Fail> {
+    let asked = words(alloc, asked)?;
+    let (mut out, mut err) = (Limited::new(alloc, room), Limited::new(alloc, ROOM));
+    let status = program(alloc, rt, &asked, input, &mut out, &mut err);
+    Ok((status, out, err))
+}
+
 #[test]
 fn answers_each_step(rt: HostRuntime) -> Result<(), Fail> {
-    let alloc = rt.alloc();
-    let (mut out, mut err) = (Vec::new(alloc), Vec::new(alloc));
-    let status = program(alloc, &rt, STEPS.as_bytes(), &mut out, &mut err);
-    assert_eq!(rt; str::from_utf8(&err)?, "");
-    assert_eq!(rt; str::from_utf8(&out)?, ANSWERS);
-    assert_eq!(rt; status, 0);
+    let cases = [
+        (STEPS, ANSWERS, "", 0),
+        ("", "", "", 0),
+        (
+            "prune\n",
+            "",
+            "line 1: expected `new CAPACITY` first, not \"prune\"\n",
+            1,
+        ),
+        (
+            "new 0\ninit 1 18446744073709551615 ok keep 0\ninit 2 1 ok drop\n",
+            "new 0 => done []\ninit 1 18446744073709551615 ok keep 0 => made 1 []\n",
+            "line 3: refused 2\n",
+            1,
+        ),
+    ];
+    for (input, told, said, wanted) in cases {
+        let (status, out, err) = ends(&rt, rt.alloc(), &[], input.as_bytes(), ROOM)?;
+        assert_eq!(rt; str::from_utf8(err.bytes())?, said, "at {input}");
+        assert_eq!(rt; str::from_utf8(out.bytes())?, told, "at {input}");
+        assert_eq!(rt; status, wanted, "at {input}");
+    }
     Ok(())
 }
 
 #[test]
-fn answers_nothing_to_nothing(rt: HostRuntime) -> Result<(), Fail> {
-    let alloc = rt.alloc();
-    let (mut out, mut err) = (Vec::new(alloc), Vec::new(alloc));
-    assert_eq!(rt; program(alloc, &rt, "".as_bytes(), &mut out, &mut err), 0);
-    assert!(rt; out.is_empty());
-    assert!(rt; err.is_empty());
+fn takes_no_words(rt: HostRuntime) -> Result<(), Fail> {
+    let cases: [&[&str]; 3] = [&["steps"], &[""], &["-h", "now"]];
+    for asked in cases {
+        let (status, out, err) = ends(&rt, rt.alloc(), asked, STEPS.as_bytes(), ROOM)?;
+        assert_eq!(rt; str::from_utf8(err.bytes())?, USAGE, "at {asked:?}");
+        assert!(rt; out.bytes().is_empty(), "at {asked:?}");
+        assert_eq!(rt; status, 2, "at {asked:?}");
+    }
     Ok(())
 }
 
 #[test]
 fn tells_what_a_line_should_be(rt: HostRuntime) -> Result<(), Fail> {
     let alloc = rt.alloc();
-    let cases = [
-        (
-            "",
-            "a step: new, init, get, release, advice, prune or total",
-        ),
-        (
-            "turn 1",
-            "a step: new, init, get, release, advice, prune or total",
-        ),
-        ("new", "`new CAPACITY`"),
-        ("new 1 2", "`new CAPACITY`"),
-        ("init 1 2 ok", "`init KEY CHARGE ok|fail drop|keep SLOT`"),
-        ("get 1", "`get KEY drop|keep SLOT`"),
-        ("get 1 hold 2", "`get KEY drop|keep SLOT`"),
-        ("release", "`release SLOT`"),
-        ("advice", "`advice KEY`"),
-        ("prune 1", "`prune` alone"),
-        ("total ", "`total` alone"),
-        (
-            "new 18446744073709551616",
-            "a number up to 18446744073709551615",
-        ),
-        ("advice +1", "a number up to 18446744073709551615"),
-        ("get -1 drop", "a number up to 18446744073709551615"),
-        ("init 1  ok drop", "a number up to 18446744073709551615"),
-        ("init 1 0 ok drop", "a charge above 0"),
-        ("init 1 1 maybe drop", "ok or fail"),
-        ("get 1 keep 4", "a slot from 0 to 3"),
-        ("release 4", "a slot from 0 to 3"),
-        ("release 00", "a slot from 0 to 3"),
-    ];
-    for (line, expected) in cases {
+    for (line, said) in WRONG {
         let input = format!(in alloc; "new 1\n{line}\nprune\n")?;
-        let told = format!(in alloc; "line 2: expected {expected}\n")?;
-        let (mut out, mut err) = (Vec::new(alloc), Vec::new(alloc));
-        let status = program(alloc, &rt, input.as_str().as_bytes(), &mut out, &mut err);
-        assert_eq!(rt; str::from_utf8(&err)?, told.as_str(), "at {line}");
-        assert_eq!(rt; str::from_utf8(&out)?, "new 1 => done []\n", "at {line}");
+        let said = format!(in alloc; "line 2: expected {said}\n")?;
+        let (status, out, err) = ends(&rt, alloc, &[], input.as_str().as_bytes(), ROOM)?;
+        assert_eq!(rt; str::from_utf8(err.bytes())?, said.as_str(), "at {line}");
+        assert_eq!(rt;
+            str::from_utf8(out.bytes())?,
+            "new 1 => done []\n",
+            "at {line}"
+        );
         assert_eq!(rt; status, 1, "at {line}");
     }
-    Ok(())
-}
-
-#[test]
-fn wants_a_cache_first(rt: HostRuntime) -> Result<(), Fail> {
-    let alloc = rt.alloc();
-    let (mut out, mut err) = (Vec::new(alloc), Vec::new(alloc));
-    let status = program(alloc, &rt, "prune\n".as_bytes(), &mut out, &mut err);
-    assert_eq!(rt;
-        str::from_utf8(&err)?,
-        "line 1: expected `new CAPACITY` first\n"
-    );
-    assert!(rt; out.is_empty());
-    assert_eq!(rt; status, 1);
     Ok(())
 }
 
@@ -171,62 +188,48 @@ fn reads_lines_up_to_their_limit(rt: HostRuntime) -> Result<(), Fail> {
         (996, "line 1: expected text of at most 1000 bytes\n"),
         (9_999, "line 1: expected text of at most 1000 bytes\n"),
     ] {
-        let mut input = String::from_str(alloc, "new ")?;
-        for _ in 0..zeros {
-            input.push('0')?;
-        }
-        input.push_str("1\n")?;
-        let (mut out, mut err) = (Vec::new(alloc), Vec::new(alloc));
-        let status = program(alloc, &rt, input.as_str().as_bytes(), &mut out, &mut err);
-        assert_eq!(rt; str::from_utf8(&err)?, told, "at {zeros} zeros");
+        let input = format!(in alloc; "new {:0>zeros$}1\n", "")?;
+        let (status, _, err) = ends(&rt, alloc, &[], input.as_str().as_bytes(), ROOM)?;
+        assert_eq!(rt; str::from_utf8(err.bytes())?, told, "at {zeros} zeros");
         assert_eq!(rt; status == 0, told.is_empty(), "at {zeros} zeros");
     }
     Ok(())
 }
 
 #[test]
-fn reads_text_alone(rt: HostRuntime) -> Result<(), Fail> {
-    let alloc = rt.alloc();
-    let (mut out, mut err) = (Vec::new(alloc), Vec::new(alloc));
-    let input: &[u8] = b"new \xff\n";
-    let status = program(alloc, &rt, input, &mut out, &mut err);
-    assert_eq!(rt;
-        str::from_utf8(&err)?,
-        "line 1: expected text of at most 1000 bytes\n"
-    );
-    assert_eq!(rt; status, 1);
-    Ok(())
-}
-
-#[test]
 fn ends_at_a_failed_write(rt: HostRuntime) -> Result<(), Fail> {
-    let alloc = rt.alloc();
-    for writes in 0..1_000 {
-        let (mut out, mut err) = (Memory::taking(alloc, writes), Vec::new(alloc));
-        let status = program(alloc, &rt, STEPS.as_bytes(), &mut out, &mut err);
-        assert_eq!(rt; str::from_utf8(&err)?, "", "after {writes} writes");
-        if status == 0 {
-            assert_eq!(rt; out.writes_left, 0, "after {writes} writes");
-            assert_eq!(rt; str::from_utf8(&out.bytes)?, ANSWERS);
-            return Ok(());
-        }
-        assert_eq!(rt; status, 1, "after {writes} writes");
-        assert!(rt;
-            ANSWERS.starts_with(str::from_utf8(&out.bytes)?),
-            "after {writes} writes"
+    for room in 0..=ANSWERS.len() {
+        let (status, out, err) = ends(&rt, rt.alloc(), &[], STEPS.as_bytes(), room)?;
+        assert!(rt; err.bytes().is_empty(), "at {room} bytes");
+        assert_eq!(rt; status == 0, room == ANSWERS.len(), "at {room} bytes");
+        assert_eq!(rt;
+            Some(out.bytes()),
+            ANSWERS.as_bytes().get(..room),
+            "at {room} bytes"
         );
     }
-    Err(Fail::new("the answers take more writes than were tried"))
+    Ok(())
 }
 
 #[test]
 fn ends_at_a_failed_read(rt: HostRuntime) -> Result<(), Fail> {
     let alloc = rt.alloc();
-    let (mut out, mut err) = (Vec::new(alloc), Vec::new(alloc));
     let input = BufReader::new(alloc, Broken("new 1\nprune".as_bytes()))?;
-    let status = program(alloc, &rt, input, &mut out, &mut err);
-    assert_eq!(rt; str::from_utf8(&out)?, "new 1 => done []\n");
-    assert!(rt; str::from_utf8(&err)?.starts_with("the input cannot be read: "));
+    let (status, out, err) = ends(&rt, alloc, &[], input, ROOM)?;
+    assert_eq!(rt; str::from_utf8(out.bytes())?, "new 1 => done []\n");
+    assert!(rt; str::from_utf8(err.bytes())?.starts_with("the input cannot be read: "));
+    assert_eq!(rt; status, 1);
+    Ok(())
+}
+
+#[test]
+fn reads_text_alone(rt: HostRuntime) -> Result<(), Fail> {
+    let input: &[u8] = b"new \xff\n";
+    let (status, _, err) = ends(&rt, rt.alloc(), &[], input, ROOM)?;
+    assert_eq!(rt;
+        str::from_utf8(err.bytes())?,
+        "line 1: expected text of at most 1000 bytes\n"
+    );
     assert_eq!(rt; status, 1);
     Ok(())
 }

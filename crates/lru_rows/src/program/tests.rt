@@ -1,10 +1,15 @@
 //! The program over memory: what it writes where, and its status.
 
 use super::program;
-use std::alloc::{AllocError, Global};
-use std::io;
-use std::io::{ErrorKind, Write};
+use crate::failure::Failure;
+use lru_fixtures::words::{after_name, words};
+use lru_fixtures::writer::Limited;
+use std::alloc::Global;
+use std::env::FillError;
+use std::rt::Env;
+use std::sync::Wait;
 use std::test::Fail;
+use std::thread::Threads;
 
 const ROWS: &str = "\
 row 1: 1; 2; 1
@@ -38,96 +43,95 @@ row 22: [0]; some; some; none
 
 const USAGE: &str = "usage: rows | stress SEED\n";
 
-// A writer over memory that takes a number of writes and refuses the others.
+// The arguments of a system that has nothing else.
 #[derive(Drop)]
-struct Memory {
-    bytes: Vec<u8>,
-    writes_left: usize,
-}
+struct Arguments<'a>(&'a [&'a [u8]]);
 
-impl Memory {
-    fn taking(alloc: Global, writes: usize) -> Memory {
-        Memory {
-            bytes: Vec::new(alloc),
-            writes_left: writes,
+impl<'a> Env for Arguments<'a> {
+    fn arg(&self, i: usize, buf: &mut [u8]) -> Result<usize, FillError> {
+        let Some(arg) = self.0.get(i) else {
+            return Err(FillError::NotPresent);
+        };
+        if arg.len() > buf.len() {
+            return Err(FillError::TooLong);
         }
+        buf[..arg.len()].copy_from_slice(*arg);
+        Ok(arg.len())
+    }
+
+    fn var(&self, _name: &str, _buf: &mut [u8]) -> Result<usize, FillError> {
+        Err(FillError::NotPresent)
+    }
+
+    fn var_at(&self, _i: usize, _buf: &mut [u8]) -> Result<usize, FillError> {
+        Err(FillError::NotPresent)
     }
 }
 
-impl Write for Memory {
-    fn write(&mut self, buf: &[u8]) -> io::Result<usize> {
-        if self.writes_left == 0 {
-            return Err(io::Error::from(ErrorKind::BrokenPipe));
-        }
-        self.writes_left -= 1;
-        self.bytes.write(buf)
-    }
-
-    fn flush(&mut self) -> io::Result<()> {
-        Ok(())
-    }
-}
-
-fn words(alloc: Global, words: &[&str]) -> Result<Vec<String>, AllocError> {
-    words
-        .iter()
-        .map(|word| String::from_str(alloc, *word))
-        .try_collect(alloc)
+// Runs the program with room for so many bytes on each of its writers.
+fn run<R: Threads + Wait + Sync>(
+    rt: &R,
+    alloc: Global,
+    asked: &[&str],
+    room: (usize, usize),
+) -> Result<(u8, Limited, Limited), Fail> {
+    let asked = words(alloc, asked)?;
+    let (mut out, mut err) = (Limited::new(alloc, room.0), Limited::new(alloc, room.1));
+    let status = program(rt, alloc, &asked, &mut out, &mut err);
+    Ok((status, out, err))
 }
 
 #[test]
-fn prints_the_rows(rt: HostRuntime) -> Result<(), Fail> {
-    let alloc = rt.alloc();
-    let (mut out, mut err) = (Vec::new(alloc), Vec::new(alloc));
-    let status = program(&rt, alloc, &words(alloc, &["rows"])?, &mut out, &mut err);
-    assert_eq!(rt; status, 0);
-    assert_eq!(rt; str::from_utf8(&out)?, ROWS);
-    assert_eq!(rt; str::from_utf8(&err)?, "");
-    Ok(())
-}
-
-#[test]
-fn tells_its_usage(rt: HostRuntime) -> Result<(), Fail> {
-    let alloc = rt.alloc();
-    let wrong: [&[&str]; 5] = [&[], &[""], &["row"], &["Rows"], &["rows", "rows"]];
-    for wrong in wrong {
-        let (mut out, mut err) = (Vec::new(alloc), Vec::new(alloc));
-        let status = program(&rt, alloc, &words(alloc, wrong)?, &mut out, &mut err);
-        assert_eq!(rt; status, 2, "at {wrong:?}");
-        assert_eq!(rt; str::from_utf8(&out)?, "", "at {wrong:?}");
-        assert_eq!(rt; str::from_utf8(&err)?, USAGE, "at {wrong:?}");
+fn ends_with_a_status(rt: HostRuntime) -> Result<(), Fail> {
+    // The words, how many bytes the two writers take, the status, and what was written.
+    let cases: [(&[&str], (usize, usize), u8, (&str, &str)); 8] = [
+        (&["rows"], (9_999, 9_999), 0, (ROWS, "")),
+        (&[], (9_999, 9_999), 2, ("", USAGE)),
+        (&[""], (9_999, 9_999), 2, ("", USAGE)),
+        (&["row"], (9_999, 9_999), 2, ("", USAGE)),
+        (&["Rows"], (9_999, 9_999), 2, ("", USAGE)),
+        (&["rows", "rows"], (9_999, 9_999), 2, ("", USAGE)),
+        (&[], (9_999, 0), 1, ("", "")),
+        (&["rows"], (0, 9_999), 1, ("", "")),
+    ];
+    for (asked, room, wanted, (told, said)) in cases {
+        let (status, out, err) = run(&rt, rt.alloc(), asked, room)?;
+        assert_eq!(rt; status, wanted, "at {asked:?}");
+        assert_eq!(rt; str::from_utf8(out.bytes())?, told, "at {asked:?}");
+        assert_eq!(rt; str::from_utf8(err.bytes())?, said, "at {asked:?}");
     }
     Ok(())
 }
 
 #[test]
 fn ends_at_a_failed_write(rt: HostRuntime) -> Result<(), Fail> {
-    let alloc = rt.alloc();
-    let words = words(alloc, &["rows"])?;
-    for writes in 0..1_000 {
-        let (mut out, mut err) = (Memory::taking(alloc, writes), Vec::new(alloc));
-        let status = program(&rt, alloc, &words, &mut out, &mut err);
-        assert_eq!(rt; str::from_utf8(&err)?, "", "after {writes} writes");
-        if status == 0 {
-            assert_eq!(rt; out.writes_left, 0, "after {writes} writes");
-            assert_eq!(rt; str::from_utf8(&out.bytes)?, ROWS);
-            return Ok(());
-        }
-        assert_eq!(rt; status, 1, "after {writes} writes");
-        assert!(rt;
-            ROWS.starts_with(str::from_utf8(&out.bytes)?),
-            "after {writes} writes"
+    for room in 0..=ROWS.len() {
+        let (status, out, err) = run(&rt, rt.alloc(), &["rows"], (room, 9_999))?;
+        assert_eq!(rt; status == 0, room == ROWS.len(), "at {room} bytes");
+        assert!(rt; err.bytes().is_empty(), "at {room} bytes");
+        assert_eq!(rt;
+            Some(out.bytes()),
+            ROWS.as_bytes().get(..room),
+            "at {room} bytes"
         );
     }
-    Err(Fail::new("the rows take more writes than were tried"))
+    Ok(())
 }
 
 #[test]
-fn ends_where_the_usage_is_not_written(rt: HostRuntime) -> Result<(), Fail> {
-    let alloc = rt.alloc();
-    let (mut out, mut err) = (Vec::new(alloc), Memory::taking(alloc, 0));
-    let status = program(&rt, alloc, &words(alloc, &[])?, &mut out, &mut err);
-    assert_eq!(rt; status, 1);
-    assert!(rt; out.is_empty());
+fn reads_its_words(rt: HostRuntime) -> Result<(), Fail> {
+    let args: &[&[u8]] = &[b"lru_rows", b"rows", b""];
+    let read = after_name(&(Arguments(args), rt.alloc()))?;
+    assert_eq!(rt; read.len(), 2);
+    assert_eq!(rt; read[0].as_str(), "rows");
+    assert_eq!(rt; read[1].as_str(), "");
     Ok(())
+}
+
+#[test]
+fn knows_no_word_that_is_no_text(rt: HostRuntime) {
+    let args: &[&[u8]] = &[b"lru_rows", &[0xff]];
+    let read = after_name(&(Arguments(args), rt.alloc()));
+    let failure = read.err().map(|error| Failure::of_words(&error));
+    assert!(rt; matches!(failure, Some(Failure::Usage)));
 }

@@ -1,7 +1,7 @@
 //! The row on a cache that two threads share.
 
-use crate::part::Part;
-use crate::rows::handles::found;
+use crate::rows::line::Line;
+use crate::rows::locked;
 use concurrent_lru::lru_core::Refusal;
 use concurrent_lru::unsharded::LruCache;
 use std::alloc::Global;
@@ -15,24 +15,18 @@ use std::thread::Threads;
 pub fn finds_what_another_thread_made<R: Threads + Wait + Sync>(
     rt: &R,
     alloc: Global,
-) -> Result<Vec<Part>, Refusal> {
+    line: &mut Line,
+) -> Result<(), Refusal> {
     let cache: LruCache<u64, u64, &R> = LruCache::new(alloc, rt, 10);
     let shared = &cache;
-    let found = thread::scope(thread::scope_env(), rt, |scope| -> Result<Part, Refusal> {
-        let Ok(maker) = scope.spawn(move || make(shared, 1, 7)) else {
+    thread::scope(thread::scope_env(), rt, |scope| -> Result<(), Refusal> {
+        let Ok(maker) = scope.spawn(move || locked::make(shared, 1, 7)) else {
             return Err(Refusal::Memory);
         };
         maker.join(rt)?;
-        let Ok(finder) = scope.spawn(move || found(shared, 1)) else {
+        let Ok(finder) = scope.spawn(move || locked::show_found_value(shared, 1, line)) else {
             return Err(Refusal::Memory);
         };
         finder.join(rt)
-    });
-    Ok(vec![in alloc; found?]?)
-}
-
-// Makes a key's value and drops the handle.
-fn make<R: Wait>(cache: &LruCache<u64, u64, R>, key: u64, value: u64) -> Result<(), Refusal> {
-    drop(cache.get_or_init(key, 1, |_| value)?);
-    Ok(())
+    })
 }

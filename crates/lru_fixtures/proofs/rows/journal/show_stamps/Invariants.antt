@@ -1,5 +1,5 @@
 use Rattle.std.proofs.Common.{length}
-use Rattle.lru_rows.proofs.rows.journal.records_accepted_steps.Given as goal
+use Rattle.lru_fixtures.proofs.rows.journal.show_stamps.Given as goal
 
 abbrev pub decreases-loop-gone : goal.decreases-loop-gone
 decreases-loop-gone l = length l.evicted

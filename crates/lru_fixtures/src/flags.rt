@@ -1,0 +1,39 @@
+//! Flags that threads raise for one another, and waiting for one with an end.
+//! A test that waits so fails, in place of hanging, where the other thread never comes.
+
+use std::sync::atomic::{AtomicU64, Ordering};
+use std::thread;
+
+// How often a thread looks for a flag before it gives up.
+const LOOKS: u32 = 10_000_000;
+
+// How often a thread that pauses yields.
+const YIELDS: u32 = 100_000;
+
+/// Raises a flag.
+pub fn raise(flag: &AtomicU64) {
+    flag.store(1, Ordering::SeqCst);
+}
+
+/// Whether the flag is raised.
+pub fn is_raised(flag: &AtomicU64) -> bool {
+    flag.load(Ordering::SeqCst) == 1
+}
+
+/// Yields until the flag is raised, and says whether it was before the thread gave up.
+pub fn meets(flag: &AtomicU64) -> bool {
+    for _ in 0..LOOKS {
+        if is_raised(flag) {
+            return true;
+        }
+        thread::yield_now();
+    }
+    false
+}
+
+/// Yields for a while, so that another thread gets on.
+pub fn pause() {
+    for _ in 0..YIELDS {
+        thread::yield_now();
+    }
+}

@@ -1,0 +1,51 @@
+//! The row on a cache that keeps a record of each accepted step.
+
+use crate::rows::line::Line;
+use concurrent_lru::lru_core::{Evicted, Refusal};
+use lru_journal::journal::Journal;
+use std::alloc::Global;
+use std::sync::Arc;
+
+/// What was accepted is recorded, also where nothing was found; what was refused is not.
+pub fn records_accepted_steps(alloc: Global, line: &mut Line) -> Result<(), Refusal> {
+    let mut journal = Journal::new(alloc, 1);
+    use_up(alloc, &mut journal, line)?;
+    line.show(journal.records().len())?;
+    for record in journal.records() {
+        line.show_below(record)?;
+    }
+    Ok(())
+}
+
+// Makes a value, evicts it and asks for it once more.
+fn use_up(alloc: Global, journal: &mut Journal<u64, u64>, line: &mut Line) -> Result<(), Refusal> {
+    journal.begin(&1, 1)?;
+    ready(alloc, journal)?;
+    journal.release(0)?;
+    let evicted = journal.begin(&2, 1)?.1;
+    show_stamps(alloc, evicted, line)?;
+    journal.get(&1)?;
+    match journal.release(0) {
+        Ok(evicted) => show_stamps(alloc, evicted, line),
+        Err(refusal) => line.show_refusal(refusal),
+    }
+}
+
+fn ready(alloc: Global, journal: &mut Journal<u64, u64>) -> Result<(), Refusal> {
+    match journal.ready(0, Arc::new(alloc, 1)?) {
+        Ok(()) => Ok(()),
+        Err((refusal, _)) => Err(refusal),
+    }
+}
+
+fn show_stamps(
+    alloc: Global,
+    mut evicted: Evicted<u64, u64>,
+    line: &mut Line,
+) -> Result<(), Refusal> {
+    let mut stamps = Vec::new(alloc);
+    while let Some(gone) = evicted.pop() {
+        stamps.push(gone.stamp)?;
+    }
+    line.show_numbers(&stamps)
+}

@@ -1,0 +1,76 @@
+//! The line of a row: its parts, with `; ` between them.
+//! A call that adds a part answers `Memory` where there is no room for its text.
+
+use concurrent_lru::lru_core::{Begun, Refusal};
+use std::alloc::Global;
+use std::fmt::{Display, Write};
+
+/// The parts of a row so far.
+#[derive(Drop)]
+pub struct Line {
+    text: String,
+}
+
+impl Line {
+    /// A line with no parts. Takes no memory.
+    pub fn new(alloc: Global) -> Line {
+        Line {
+            text: String::new(alloc),
+        }
+    }
+
+    /// The text of the line.
+    pub fn into_text(self) -> String {
+        self.text
+    }
+
+    /// Adds a part.
+    pub fn show<T: Display + Drop>(&mut self, part: T) -> Result<(), Refusal> {
+        let separator = if self.text.is_empty() { "" } else { "; " };
+        match write!(self.text, "{separator}{part}") {
+            Ok(()) => Ok(()),
+            Err(_) => Err(Refusal::Memory),
+        }
+    }
+
+    /// Adds some text below the parts.
+    pub fn show_below<T: Display + Drop>(&mut self, text: T) -> Result<(), Refusal> {
+        match write!(self.text, "\n{text}") {
+            Ok(()) => Ok(()),
+            Err(_) => Err(Refusal::Memory),
+        }
+    }
+
+    /// Adds whether a look-up found an entry.
+    pub fn show_found(&mut self, is_found: bool) -> Result<(), Refusal> {
+        self.show(if is_found { "some" } else { "none" })
+    }
+
+    /// Adds whether a making succeeded.
+    pub fn show_made(&mut self, is_made: bool) -> Result<(), Refusal> {
+        self.show(if is_made { "ok" } else { "err" })
+    }
+
+    /// Adds keys or stamps, in order.
+    pub fn show_numbers(&mut self, numbers: &[u64]) -> Result<(), Refusal> {
+        self.show(format_args!("{numbers:?}"))
+    }
+
+    /// Adds what `begin` or `poll` said.
+    pub fn show_begun<V>(&mut self, begun: &Begun<V>) -> Result<(), Refusal> {
+        match begun {
+            Begun::Make(stamp) => self.show(format_args!("make {stamp}")),
+            Begun::Wait(stamp) => self.show(format_args!("wait {stamp}")),
+            Begun::Hit(stamp, _) => self.show(format_args!("hit {stamp}")),
+        }
+    }
+
+    /// Adds a refusal. `Memory` is answered instead.
+    pub fn show_refusal(&mut self, refusal: Refusal) -> Result<(), Refusal> {
+        match refusal {
+            Refusal::Memory => Err(refusal),
+            Refusal::Overflow => self.show("overflow"),
+            Refusal::Stale => self.show("stale"),
+        }
+    }
+}

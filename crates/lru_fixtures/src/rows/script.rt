@@ -1,0 +1,239 @@
+//! Scripts: what is done with a cache without a lock, and what of it is shown.
+//! The value of a key is the key itself. A charge of 0 counts as 1, the least there is.
+ghost use Rattle.std.specs.Prelude.{◌<◌};
+
+use crate::rows::line::Line;
+use concurrent_lru::lru_core::{Begun, Evicted, Failed, Refusal, State};
+use std::alloc::Global;
+use std::sync::Arc;
+
+/// A new cache, and what is done with it.
+#[derive(Clone, Copy)]
+pub struct Script {
+    pub cache: Cache,
+    pub acts: &'static [Act],
+}
+
+/// A new, empty cache.
+#[derive(Clone, Copy)]
+pub enum Cache {
+    /// One with this capacity.
+    Of(u64),
+    /// One of capacity 10 whose stamps are at their end.
+    AtLastStamp,
+    /// One of capacity 10 whose entries have one pin each at most.
+    OfOnePin,
+}
+
+/// Something that is done with a cache. A refusal ends the script, where the act does not show it.
+#[derive(Clone, Copy)]
+pub enum Act {
+    /// Makes the value of a key at a charge, where it is not there, and gives the pin back.
+    Make(u64, u64),
+    /// The same, but keeps the pin.
+    Hold(u64, u64),
+    /// Gives a pin of the entry with this stamp back.
+    Release(u64),
+    /// Sets the capacity.
+    SetCapacity(u64),
+    /// Begins to make the value of a key at a charge and gives the making up. Shows the keys that
+    /// were evicted so far, and whether the making succeeded.
+    MakeInVain(u64, u64),
+    /// Looks a key up and gives the pin back, as by a handle that is dropped at once. Shows
+    /// whether it was found, or the refusal.
+    Find(u64),
+    /// Shows the keys that were evicted so far.
+    Evicted,
+    /// Evicts all idle entries, and shows their keys alone.
+    Prune,
+    /// Shows the total.
+    Total,
+    /// Begins on a key at a charge. Shows the answer or the refusal.
+    Begin(u64, u64),
+    /// Asks again for the entry with this stamp. Shows the answer or the refusal.
+    Poll(u64),
+    /// Gives the entry with this stamp its value. Shows whether it came back.
+    Ready(u64),
+    /// Gives the making of the entry with this stamp up. Shows the answer or the refusal.
+    Fail(u64),
+    /// Gives a pin of the entry with this stamp back. Shows the keys that this evicts, or the
+    /// refusal.
+    GiveBack(u64),
+}
+
+/// Runs scripts, one after another.
+pub fn run(alloc: Global, scripts: &[Script], line: &mut Line) -> Result<(), Refusal> {
+    for script in scripts {
+        let mut stage = Stage {
+            alloc,
+            state: script.cache.new(alloc),
+            evicted: Vec::new(alloc),
+        };
+        stage.play(script.acts, line)?;
+    }
+    Ok(())
+}
+
+impl Cache {
+    fn new(self, alloc: Global) -> State<u64, u64> {
+        match self {
+            Cache::Of(capacity) => State::new(alloc, capacity),
+            Cache::AtLastStamp => State::with_limits(alloc, 10, u64::MAX, 5),
+            Cache::OfOnePin => State::with_limits(alloc, 10, 0, 1),
+        }
+    }
+}
+
+// A cache, and the keys that it has evicted.
+#[derive(Drop)]
+struct Stage {
+    alloc: Global,
+    state: State<u64, u64>,
+    evicted: Vec<u64>,
+}
+
+impl Stage {
+    fn play(&mut self, acts: &[Act], line: &mut Line) -> Result<(), Refusal> {
+        for act in acts {
+            self.act(*act, line)?;
+        }
+        Ok(())
+    }
+
+    fn act(&mut self, act: Act, line: &mut Line) -> Result<(), Refusal> {
+        match act {
+            Act::Make(key, charge) => self.make(key, charge),
+            Act::Hold(key, charge) => self.hold(key, charge).map(|_| ()),
+            Act::Release(stamp) => self.release(stamp),
+            Act::SetCapacity(capacity) => self.set_capacity(capacity),
+            Act::MakeInVain(key, charge) => self.make_in_vain(key, charge, line),
+            Act::Find(key) => self.find(key, line),
+            Act::Evicted => line.show_numbers(&self.evicted),
+            Act::Prune => self.prune(line),
+            Act::Total => line.show(self.state.total()),
+            Act::Begin(key, charge) => self.show_begin(key, charge, line),
+            Act::Poll(stamp) => self.show_poll(stamp, line),
+            Act::Ready(stamp) => self.show_ready(stamp, line),
+            Act::Fail(stamp) => self.show_fail(stamp, line),
+            Act::GiveBack(stamp) => self.show_release(stamp, line),
+        }
+    }
+
+    fn make(&mut self, key: u64, charge: u64) -> Result<(), Refusal> {
+        let stamp = self.hold(key, charge)?;
+        self.release(stamp)
+    }
+
+    // Pins the entry of a key, whose value is made where it was not there, and answers its stamp.
+    fn hold(&mut self, key: u64, charge: u64) -> Result<u64, Refusal> {
+        match self.begin(key, charge)? {
+            Begun::Make(stamp) => self.ready(stamp, key),
+            Begun::Wait(stamp) | Begun::Hit(stamp, _) => Ok(stamp),
+        }
+    }
+
+    fn begin(&mut self, key: u64, charge: u64) -> Result<Begun<u64>, Refusal> {
+        let (begun, evicted) = self.state.begin(&key, charge.max(1))?;
+        self.note(evicted)?;
+        Ok(begun)
+    }
+
+    fn ready(&mut self, stamp: u64, value: u64) -> Result<u64, Refusal> {
+        let value = Arc::new(self.alloc, value)?;
+        match self.state.ready(stamp, value) {
+            Ok(()) => Ok(stamp),
+            Err(_) => Err(Refusal::Stale),
+        }
+    }
+
+    fn release(&mut self, stamp: u64) -> Result<(), Refusal> {
+        let evicted = self.state.release(stamp)?;
+        self.note(evicted)
+    }
+
+    fn set_capacity(&mut self, capacity: u64) -> Result<(), Refusal> {
+        let evicted = self.state.set_capacity(capacity);
+        self.note(evicted)
+    }
+
+    fn note(&mut self, evicted: Evicted<u64, u64>) -> Result<(), Refusal> {
+        push_keys(&mut self.evicted, evicted)
+    }
+
+    fn make_in_vain(&mut self, key: u64, charge: u64, line: &mut Line) -> Result<(), Refusal> {
+        let is_made = match self.begin(key, charge)? {
+            Begun::Make(stamp) => !matches!(self.state.fail(stamp)?, Failed::Removed(_)),
+            Begun::Wait(_) | Begun::Hit(..) => true,
+        };
+        line.show_numbers(&self.evicted)?;
+        line.show_made(is_made)
+    }
+
+    fn find(&mut self, key: u64, line: &mut Line) -> Result<(), Refusal> {
+        let found = match self.state.get(&key) {
+            Ok(found) => found.map(|(stamp, _)| stamp),
+            Err(refusal) => return line.show_refusal(refusal),
+        };
+        line.show_found(found.is_some())?;
+        match found {
+            Some(stamp) => self.release(stamp),
+            None => Ok(()),
+        }
+    }
+
+    fn prune(&mut self, line: &mut Line) -> Result<(), Refusal> {
+        let evicted = self.state.prune();
+        self.show_keys(evicted, line)
+    }
+
+    fn show_begin(&mut self, key: u64, charge: u64, line: &mut Line) -> Result<(), Refusal> {
+        match self.begin(key, charge) {
+            Ok(begun) => line.show_begun(&begun),
+            Err(refusal) => line.show_refusal(refusal),
+        }
+    }
+
+    fn show_poll(&mut self, stamp: u64, line: &mut Line) -> Result<(), Refusal> {
+        match self.state.poll(stamp) {
+            Ok(begun) => line.show_begun(&begun),
+            Err(refusal) => line.show_refusal(refusal),
+        }
+    }
+
+    fn show_ready(&mut self, stamp: u64, line: &mut Line) -> Result<(), Refusal> {
+        let value = Arc::new(self.alloc, stamp)?;
+        let is_back = self.state.ready(stamp, value).is_err();
+        line.show(if is_back { "back" } else { "done" })
+    }
+
+    fn show_fail(&mut self, stamp: u64, line: &mut Line) -> Result<(), Refusal> {
+        match self.state.fail(stamp) {
+            Ok(Failed::Left) => line.show("left"),
+            Ok(Failed::Removed(_)) => line.show("removed"),
+            Err(refusal) => line.show_refusal(refusal),
+        }
+    }
+
+    fn show_release(&mut self, stamp: u64, line: &mut Line) -> Result<(), Refusal> {
+        match self.state.release(stamp) {
+            Ok(evicted) => self.show_keys(evicted, line),
+            Err(refusal) => line.show_refusal(refusal),
+        }
+    }
+
+    fn show_keys(&self, evicted: Evicted<u64, u64>, line: &mut Line) -> Result<(), Refusal> {
+        let mut keys = Vec::new(self.alloc);
+        push_keys(&mut keys, evicted)?;
+        line.show_numbers(&keys)
+    }
+}
+
+/// Adds the keys of evicted entries to a list, oldest first.
+///
+/// `Memory` where there is no room for one; the list may then have those before it.
+pub fn push_keys(keys: &mut Vec<u64>, mut evicted: Evicted<u64, u64>) -> Result<(), Refusal> {
+    while let Some(gone) = evicted.pop() {
+        keys.push(gone.key)?;
+    }
+    Ok(())
+}
