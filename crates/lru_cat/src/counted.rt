@@ -1,0 +1,39 @@
+//! A reader that counts the blocks that were asked of it.
+
+use lru_pages::Blocks;
+use std::sync::atomic::{AtomicU64, Ordering};
+
+/// A reader of blocks, and how many were asked of it.
+#[derive(Drop)]
+pub struct Counted<B> {
+    blocks: B,
+    asked: AtomicU64,
+}
+
+impl<B: Blocks> Counted<B> {
+    /// A reader that nothing was asked of.
+    pub fn new(blocks: B) -> Counted<B> {
+        Counted {
+            blocks,
+            asked: AtomicU64::new(0),
+        }
+    }
+
+    /// How many blocks were asked of it.
+    pub fn asked(&self) -> u64 {
+        self.asked.load(Ordering::SeqCst)
+    }
+}
+
+impl<B: Blocks> Blocks for Counted<B> {
+    type Fault = B::Fault;
+
+    ghost is_block = { λ counted number bytes. B.is_block counted.blocks number bytes };
+
+    ghost is_fault = { λ counted number fault. B.is_fault counted.blocks number fault };
+
+    fn block(&self, number: u64) -> Result<Vec<u8>, B::Fault> {
+        self.asked.fetch_add(1, Ordering::SeqCst);
+        self.blocks.block(number)
+    }
+}

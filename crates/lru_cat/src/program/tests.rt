@@ -1,0 +1,194 @@
+//! The program over memory: what it writes where, and its status.
+
+use super::program;
+use std::alloc::{AllocError, Allocator, Global};
+use std::fs::{File, Files, Metadata, OpenOptions};
+use std::io::{ErrorKind, Write};
+use std::sync::Wait;
+use std::test::Fail;
+use std::{env, fs, io};
+
+const USAGE: &str = "usage: lru_cat FILE [PAGES]\n";
+
+// What a run wrote, and how it ended.
+#[derive(Drop)]
+struct Ended {
+    status: u8,
+    out: Vec<u8>,
+    err: Vec<u8>,
+}
+
+fn run<R: Wait, F: Files<File = File>>(
+    rt: &R,
+    files: &F,
+    alloc: Global,
+    words: &[&str],
+) -> Result<Ended, AllocError> {
+    let words: Vec<String> = words
+        .iter()
+        .map(|word| String::from_str(alloc, *word))
+        .try_collect(alloc)?;
+    let (mut out, mut err) = (Vec::new(alloc), Vec::new(alloc));
+    let status = program(rt, files, alloc, &words, &mut out, &mut err);
+    Ok(Ended { status, out, err })
+}
+
+#[test]
+fn tells_its_usage(rt: HostRuntime) -> Result<(), Fail> {
+    let wrong: [&[&str]; 5] = [
+        &[],
+        &["file", "many"],
+        &["file", "-1"],
+        &["file", ""],
+        &["file", "2", "3"],
+    ];
+    for words in wrong {
+        let ended = run(&rt, &rt, rt.alloc(), words)?;
+        assert_eq!(rt; ended.status, 2, "at {words:?}");
+        assert_eq!(rt; str::from_utf8(&ended.err)?, USAGE, "at {words:?}");
+    }
+    Ok(())
+}
+
+#[test]
+fn opens_nothing_but_files(rt: HostRuntime) -> Result<(), Fail> {
+    let cases = [
+        ("/no/such/file", "No such file or directory (os error 2)\n"),
+        ("/", "it is a folder\n"),
+        ("/dev/null", "it is no file of bytes\n"),
+    ];
+    for (path, why) in cases {
+        let ended = run(&rt, &rt, rt.alloc(), &[path])?;
+        assert_eq!(rt; ended.status, 1, "at {path}");
+        assert!(rt; ended.out.is_empty(), "at {path}");
+        let told = str::from_utf8(&ended.err)?;
+        assert_eq!(rt;
+            told.strip_prefix("lru_cat: not opened: "),
+            Some(why),
+            "at {path}"
+        );
+    }
+    Ok(())
+}
+
+#[test]
+fn prints_a_file_and_counts(rt: HostRuntime) -> Result<(), Fail> {
+    let alloc = rt.alloc();
+    let cases: [(usize, &str, &str); 7] = [
+        (0, "2", "0 blocks read, 0 answers from memory\n"),
+        (1, "2", "1 blocks read, 0 answers from memory\n"),
+        (512, "2", "1 blocks read, 3 answers from memory\n"),
+        (1024, "2", "2 blocks read, 6 answers from memory\n"),
+        (1300, "2", "3 blocks read, 8 answers from memory\n"),
+        (1300, "1", "3 blocks read, 8 answers from memory\n"),
+        (1300, "0", "11 blocks read, 0 answers from memory\n"),
+    ];
+    let mut path = env::temp_dir(&rt)?;
+    path.push("lru_cat_prints")?;
+    for (len, pages, counts) in cases {
+        let bytes: Vec<u8> = (0..len).map(|at| (at % 251) as u8).collect(alloc)?;
+        fs::write(&rt, path.as_path(), bytes.as_slice())?;
+        let ended = run(&rt, &rt, alloc, &[path.as_str(), pages])?;
+        assert_eq!(rt; ended.status, 0, "at {len} {pages}");
+        assert!(rt; ended.out == bytes, "at {len} {pages}");
+        assert_eq!(rt; str::from_utf8(&ended.err)?, counts, "at {len} {pages}");
+    }
+    fs::remove_file(&rt, path.as_path())?;
+    Ok(())
+}
+
+// A system in which no file may be read.
+#[derive(Drop)]
+struct Forbidden;
+
+fn denied<T>() -> io::Result<T> {
+    Err(io::Error::from(ErrorKind::PermissionDenied))
+}
+
+impl Files for Forbidden {
+    type File = File;
+
+    type Dir = File;
+
+    fn open_file(&self, _how: &OpenOptions, _path: &str) -> io::Result<File> {
+        denied()
+    }
+
+    fn open_dir(&self, _path: &str) -> io::Result<File> {
+        denied()
+    }
+
+    fn metadata(&self, _path: &str) -> io::Result<Metadata> {
+        Ok(Metadata::of_file(5))
+    }
+
+    fn symlink_metadata(&self, _path: &str) -> io::Result<Metadata> {
+        Ok(Metadata::of_file(5))
+    }
+
+    fn copy(&self, _from: &str, _to: &str) -> io::Result<u64> {
+        denied()
+    }
+
+    fn rename(&self, _from: &str, _to: &str) -> io::Result<()> {
+        denied()
+    }
+
+    fn remove_file(&self, _path: &str) -> io::Result<()> {
+        denied()
+    }
+
+    fn create_dir(&self, _path: &str) -> io::Result<()> {
+        denied()
+    }
+
+    fn remove_dir(&self, _path: &str) -> io::Result<()> {
+        denied()
+    }
+
+    fn remove_dir_all<B: Allocator>(&self, _alloc: B, _path: &str) -> io::Result<()> {
+        denied()
+    }
+}
+
+#[test]
+fn tells_that_a_file_may_not_be_read(rt: HostRuntime) -> Result<(), Fail> {
+    let ended = run(&rt, &Forbidden, rt.alloc(), &["file"])?;
+    assert_eq!(rt; ended.status, 1);
+    assert_eq!(rt;
+        str::from_utf8(&ended.err)?,
+        "lru_cat: not opened: permission denied\n"
+    );
+    Ok(())
+}
+
+// A writer that takes nothing.
+#[derive(Drop)]
+struct Full;
+
+impl Write for Full {
+    fn write(&mut self, _buf: &[u8]) -> io::Result<usize> {
+        Err(io::Error::from(ErrorKind::StorageFull))
+    }
+
+    fn flush(&mut self) -> io::Result<()> {
+        Ok(())
+    }
+}
+
+#[test]
+fn ends_at_a_failed_write(rt: HostRuntime) -> Result<(), Fail> {
+    let alloc = rt.alloc();
+    let mut path = env::temp_dir(&rt)?;
+    path.push("lru_cat_ends")?;
+    fs::write(&rt, path.as_path(), "some bytes")?;
+    let words = vec![in alloc; String::from_str(alloc, path.as_str())?]?;
+    let mut err = Vec::new(alloc);
+    assert_eq!(rt; program(&rt, &rt, alloc, &words, &mut Full, &mut err), 1);
+    assert_eq!(rt;
+        str::from_utf8(&err)?,
+        "lru_cat: not written: no storage space\n"
+    );
+    fs::remove_file(&rt, path.as_path())?;
+    Ok(())
+}

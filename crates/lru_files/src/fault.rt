@@ -1,0 +1,42 @@
+//! Why a block was not read.
+//! Each fault leaves nothing behind: a cache that meets one has no page of that block.
+ghost use Rattle.std.specs.Prelude.{◌≢◌};
+
+use std::io::ErrorKind;
+use std::{fmt, io};
+
+/// Why a block was not read.
+#[derive(Clone, Copy, Debug)]
+pub enum Fault {
+    /// It begins past the end of what was cut into blocks.
+    PastEnd,
+    /// There is no memory for its bytes.
+    Memory,
+    /// The file ended before it: it is shorter now than when it was opened.
+    Short,
+    /// The read failed, with the system's error.
+    Read(io::Error),
+}
+
+impl Fault {
+    // The fault of a read that failed.
+    pub(crate) fn of_read(error: io::Error) -> Fault
+        ensures { result ≢ Fault.PastEnd }
+    {
+        match error.kind() {
+            ErrorKind::UnexpectedEof => Fault::Short,
+            _ => Fault::Read(error),
+        }
+    }
+}
+
+impl fmt::Display for Fault {
+    fn fmt<W: fmt::Write>(&self, f: &mut fmt::Formatter<W>) -> fmt::Result {
+        match self {
+            Fault::PastEnd => write!(f, "the block is past the end"),
+            Fault::Memory => write!(f, "there is no memory for the block"),
+            Fault::Short => write!(f, "the file has become shorter"),
+            Fault::Read(error) => write!(f, "{error}"),
+        }
+    }
+}

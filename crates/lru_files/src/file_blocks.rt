@@ -1,0 +1,151 @@
+//! A file as blocks of a size: the reader of a page cache over a file.
+//! Its contract says which offset and how many bytes are read for a number.
+ghost use Rattle.std.specs.Prelude.{◌≡◌, ◌<◌, ◌≤◌, ◌↔◌, IfSome, IfNone, IsTrue};
+ghost use Rattle.lru_files.specs.Cuts.{start_of};
+
+use crate::fault::Fault;
+use crate::open_error::OpenError;
+use crate::read_at::ReadAt;
+use lru_pages::Blocks;
+use std::alloc::Global;
+use std::fs;
+use std::fs::{File, Files, Metadata};
+use std::marker::Model;
+use std::path::AsPath;
+
+/// A file as blocks of a size: block n has the bytes from n times the size on, and the last has
+/// what is left. S is `File`, or what stands in for one.
+///
+/// The length is that when the file was opened: what was written to its end since is in no block,
+/// and where it was cut short the blocks that lost bytes are `Short`. Bytes that were overwritten
+/// are read as they are then; a page that was read before keeps those that it has.
+///
+/// Clauses see the source, the length and the size of a block. Which bytes of a block the disk
+/// gave is a thing that no contract says.
+#[derive(Drop)]
+pub struct FileBlocks<S: ReadAt = File> {
+    alloc: Global,
+    source: S,
+    len: u64,
+    size: u64,
+}
+
+impl<S: ReadAt> Model for FileBlocks<S> {
+    ghost use Rattle.std.specs.Prelude.{◌<◌};
+    ghost use Rattle.lru_files.specs.Cuts.{Cut};
+
+    ghost Value = { Cut S };
+
+    ghost view = { λ b. record { source = b.source; len = b.len; size = b.size } };
+
+    ghost invariant = { λ b. 0 < b.size };
+}
+
+impl FileBlocks<File> {
+    /// Opens a file for reading, as blocks of `size` bytes. It stays open as long as the blocks.
+    ///
+    /// `Folder` and `Special` where the path is that of no file of bytes, which is not opened;
+    /// `System` where nothing is there, where it may not be read, or where the system fails.
+    pub fn open<F: Files<File = File>, P: AsPath + Copy>(
+        alloc: Global,
+        files: &F,
+        path: P,
+        size: u64,
+    ) -> Result<Self, OpenError>
+        requires { 0 < size }
+    {
+        // A pipe waits for its writer when it is opened, so what it is comes first.
+        file_len(&fs::metadata(files, path)?)?;
+        let file = File::open(files, path)?;
+        let len = file_len(&file.metadata()?)?;
+        Ok(FileBlocks::new(alloc, file, len, size))
+    }
+}
+
+impl<S: ReadAt> FileBlocks<S> {
+    /// The first `len` bytes of a source, as blocks of `size` bytes. Takes no memory.
+    pub fn new(alloc: Global, source: S, len: u64, size: u64) -> Self
+        requires { 0 < size }
+        ensures { result ≡ record { source = source; len = len; size = size } }
+    {
+        FileBlocks {
+            alloc,
+            source,
+            len,
+            size,
+        }
+    }
+
+    /// How many bytes all blocks have.
+    pub fn len(&self) -> u64
+        ensures { result ≡ self.now.len }
+    {
+        self.len
+    }
+
+    /// Whether there is no block.
+    pub fn is_empty(&self) -> bool
+        ensures { IsTrue result ↔ (self.now.len ≡ 0) }
+    {
+        self.len == 0
+    }
+
+    /// How many bytes a block has, but for the last.
+    pub fn size(&self) -> u64
+        ensures size { result ≡ self.now.size }
+        ensures above { 0 < result }
+    {
+        self.size
+    }
+
+    // Where a block begins; none where that is past the end.
+    fn start(&self, number: u64) -> Option<u64>
+        ensures some { IfSome result (λ start. (start ≡ start_of self.now number) × (start < self.now.len)) }
+        ensures none { IfNone result (self.now.len ≤ start_of self.now number) }
+    {
+        prove!(self.len <= u64::MAX);
+        let Some(start) = number.checked_mul(self.size) else {
+            return None;
+        };
+        if start < self.len {
+            return Some(start);
+        }
+        None
+    }
+}
+
+impl<S: ReadAt> Blocks for FileBlocks<S> {
+    ghost use Rattle.lru_files.specs.Cuts.{IsBlockOf};
+    ghost use Rattle.lru_files.specs.Faults.{IsFaultOf};
+
+    type Fault = Fault;
+
+    ghost is_block = { IsBlockOf S.has };
+
+    ghost is_fault = { IsFaultOf };
+
+    fn block(&self, number: u64) -> Result<Vec<u8>, Fault> {
+        let Some(start) = self.start(number) else {
+            return Err(Fault::PastEnd);
+        };
+        let len = self.size.min(self.len - start);
+        let Ok(mut bytes) = vec![in self.alloc; 0u8; len as usize] else {
+            return Err(Fault::Memory);
+        };
+        match self.source.fill(&mut bytes, start) {
+            Ok(()) => Ok(bytes),
+            Err(error) => Err(Fault::of_read(error)),
+        }
+    }
+}
+
+// The length of a file of bytes.
+fn file_len(metadata: &Metadata) -> Result<u64, OpenError> {
+    if metadata.is_dir() {
+        return Err(OpenError::Folder);
+    }
+    if !metadata.is_file() {
+        return Err(OpenError::Special);
+    }
+    Ok(metadata.len())
+}

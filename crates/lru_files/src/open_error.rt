@@ -1,0 +1,31 @@
+//! Why a file was not opened as one of blocks.
+
+use std::{fmt, io};
+
+/// Why a file was not opened.
+#[derive(Clone, Copy, Debug)]
+pub enum OpenError {
+    /// The path is that of a folder.
+    Folder,
+    /// It is neither a file nor a folder: a device, a pipe or a socket, which has no length.
+    Special,
+    /// The system's error: `NotFound` where nothing is there, `PermissionDenied` where it may not
+    /// be read.
+    System(io::Error),
+}
+
+impl From<io::Error> for OpenError {
+    fn from(error: io::Error) -> OpenError {
+        OpenError::System(error)
+    }
+}
+
+impl fmt::Display for OpenError {
+    fn fmt<W: fmt::Write>(&self, f: &mut fmt::Formatter<W>) -> fmt::Result {
+        match self {
+            OpenError::Folder => write!(f, "it is a folder"),
+            OpenError::Special => write!(f, "it is no file of bytes"),
+            OpenError::System(error) => write!(f, "{error}"),
+        }
+    }
+}

@@ -1,0 +1,81 @@
+//! A cache of pages that threads share: each block is read once, while its page is there.
+//! It is an unsharded cache with the mark `Numbered`, in which every page has the charge 1.
+ghost use Rattle.std.specs.Prelude.{◌≡◌, Some, IfOk, IfErr};
+ghost use Rattle.concurrent_lru.specs.Turns.{IfInit};
+
+use crate::blocks::Blocks;
+use crate::page::{Numbered, Page};
+use concurrent_lru::unsharded::{CacheHandle, GetError, LruCache};
+use std::alloc::Global;
+use std::fmt;
+use std::sync::Wait;
+
+/// A cache of the pages of a reader, for any number of threads. R is the right to wait, which it
+/// was given when it was made.
+#[derive(Drop)]
+pub struct PageCache<'a, B: Blocks, R: Wait> {
+    reader: &'a B,
+    pages: LruCache<u64, Page<'a, B>, R, Numbered>,
+}
+
+impl<'a, B: Blocks, R: Wait> PageCache<'a, B, R> {
+    /// A cache of no pages that keeps those that nobody holds while there are no more than
+    /// `capacity` in all. Takes no memory.
+    pub fn new(alloc: Global, rt: R, reader: &'a B, capacity: u64) -> Self {
+        PageCache {
+            reader,
+            pages: LruCache::marked(alloc, rt, capacity),
+        }
+    }
+
+    /// A handle of the page of a number. Where it isn't there its block is read, at the charge 1
+    /// and without the lock, by one caller, for which the others that ask for it wait.
+    ///
+    /// `Init` with the reader's fault where the block could not be read; `Memory` where the
+    /// page's shared copies are refused after that. Then nothing of the page stays, and what was
+    /// evicted for it stays evicted. `Memory` where room for the page is refused, and `Overflow`
+    /// where the page has the greatest number of handles, where the total is at its end, or where
+    /// as many pages were read as there are stamps: then nothing changed.
+    pub fn page(
+        &self,
+        number: u64,
+    ) -> Result<CacheHandle<'_, u64, Page<'a, B>, R, Numbered>, GetError<B::Fault>>
+        ensures key { IfOk result (λ h. h.key ≡ number) }
+        ensures charge { IfOk result (λ h. h.charge ≡ Some 1) }
+        ensures number { IfOk result (λ h. h.value.number ≡ number) }
+        ensures fault { IfErr result (λ e. IfInit e (λ x. B.is_fault self.now.reader.now number x)) }
+    {
+        let reader = self.reader;
+        self.pages
+            .get_or_try_init(number, 1, |number| Page::read(reader, *number))
+    }
+
+    /// Evicts every page that nobody holds. Takes no memory.
+    pub fn prune(&self) {
+        self.pages.prune();
+    }
+
+    /// How many pages there are, those that are held and those that are being read included.
+    /// Takes no memory.
+    pub fn total_charge(&self) -> u64 {
+        self.pages.total_charge()
+    }
+
+    /// How many pages there may be for one that nobody holds to be kept. Takes no memory.
+    pub fn capacity(&self) -> u64 {
+        self.pages.capacity()
+    }
+
+    /// Sets the capacity; pages that nobody holds are evicted at once, the longest let go first,
+    /// while there are more than it. Takes no memory.
+    pub fn set_capacity(&self, capacity: u64) {
+        self.pages.set_capacity(capacity);
+    }
+}
+
+// Pages by their numbers, under the lock.
+impl<B: Blocks, R: Wait> fmt::Debug for PageCache<'_, B, R> {
+    fn fmt<W: fmt::Write>(&self, f: &mut fmt::Formatter<W>) -> fmt::Result {
+        self.pages.fmt(f)
+    }
+}

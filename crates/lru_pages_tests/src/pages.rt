@@ -1,0 +1,134 @@
+//! Pages of readers over memory: which blocks are read, which are found, what a fault leaves.
+
+use crate::fours::{Fault, Fours};
+use concurrent_lru::unsharded::GetError;
+use lru_pages::PageCache;
+use std::sync::Wait;
+use std::test::Fail;
+
+// A step of a run, and what comes of it. Each handle is let go at once.
+#[derive(Clone, Copy, Debug)]
+enum Step {
+    // The page of the number has four bytes that are this one.
+    Gives(u64, u8),
+    // There is no such block.
+    Lacks(u64),
+    // There are so many pages.
+    Holds(u64),
+    // All pages leave.
+    Prune,
+    // No more than so many stay.
+    Shrink(u64),
+}
+
+// Whether a step goes as it says.
+fn goes<R: Wait>(pages: &PageCache<'_, Fours<R>, R>, step: Step) -> bool {
+    match step {
+        Step::Gives(number, byte) => gives(pages, number, byte),
+        Step::Lacks(number) => lacks(pages, number),
+        Step::Holds(count) => pages.total_charge() == count,
+        Step::Prune => {
+            pages.prune();
+            true
+        }
+        Step::Shrink(capacity) => {
+            pages.set_capacity(capacity);
+            pages.capacity() == capacity
+        }
+    }
+}
+
+/// Whether the page of a number has four bytes that are this one.
+pub(crate) fn gives<R: Wait>(pages: &PageCache<'_, Fours<R>, R>, number: u64, byte: u8) -> bool {
+    match pages.page(number) {
+        Ok(page) => page.value().number() == number && page.value().bytes() == [byte; 4].as_slice(),
+        Err(_) => false,
+    }
+}
+
+fn lacks<R: Wait>(pages: &PageCache<'_, Fours<R>, R>, number: u64) -> bool {
+    matches!(pages.page(number), Err(GetError::Init(Fault::Absent)))
+}
+
+#[test]
+fn a_block_is_read_once_while_its_page_is_there(rt: HostRuntime) -> Result<(), Fail> {
+    let reader = Fours::new(rt.alloc(), &rt, 0);
+    let pages = PageCache::new(rt.alloc(), &rt, &reader, 2);
+    let steps = [
+        Step::Gives(1, 1),
+        Step::Gives(2, 2),
+        Step::Gives(1, 1),
+        Step::Gives(3, 3),
+        Step::Gives(2, 2),
+        Step::Lacks(9),
+        Step::Holds(1),
+        Step::Gives(2, 2),
+        Step::Gives(3, 3),
+        Step::Holds(2),
+        Step::Prune,
+        Step::Holds(0),
+    ];
+    for step in steps {
+        assert!(rt; goes(&pages, step), "at {step:?}");
+    }
+    assert!(rt; reader.was_asked([1, 2, 3, 2, 9, 3].as_slice()));
+    Ok(())
+}
+
+#[test]
+fn a_capacity_of_pages_is_set(rt: HostRuntime) -> Result<(), Fail> {
+    let reader = Fours::new(rt.alloc(), &rt, 0);
+    let pages = PageCache::new(rt.alloc(), &rt, &reader, 3);
+    let steps = [
+        Step::Gives(1, 1),
+        Step::Gives(2, 2),
+        Step::Gives(3, 3),
+        Step::Shrink(1),
+        Step::Holds(1),
+        Step::Gives(3, 3),
+        Step::Gives(2, 2),
+        Step::Shrink(0),
+        Step::Holds(0),
+    ];
+    assert_eq!(rt; pages.capacity(), 3);
+    for step in steps {
+        assert!(rt; goes(&pages, step), "at {step:?}");
+    }
+    assert!(rt; reader.was_asked([1, 2, 3, 2].as_slice()));
+    Ok(())
+}
+
+#[test]
+fn each_cache_has_its_own_reader(rt: HostRuntime) -> Result<(), Fail> {
+    let reader = Fours::new(rt.alloc(), &rt, 0);
+    let other = Fours::new(rt.alloc(), &rt, 100);
+    let pages = PageCache::new(rt.alloc(), &rt, &reader, 2);
+    let others = PageCache::new(rt.alloc(), &rt, &other, 2);
+    assert!(rt; gives(&pages, 5, 5));
+    assert!(rt; gives(&others, 5, 105));
+    assert!(rt; pages.page(5)?.value().reader().was_asked([5].as_slice()));
+    assert!(rt; gives(&others, 6, 106));
+    assert!(rt;
+        others
+            .page(5)?
+            .value()
+            .reader()
+            .was_asked([5, 6].as_slice())
+    );
+    Ok(())
+}
+
+#[test]
+fn pages_are_printed_by_their_numbers(rt: HostRuntime) -> Result<(), Fail> {
+    let alloc = rt.alloc();
+    let reader = Fours::new(alloc, &rt, 0);
+    let pages = PageCache::new(alloc, &rt, &reader, 2);
+    assert_eq!(rt; format!(in alloc; "{pages:?}")?.as_str(), "{}");
+    let held = pages.page(5)?;
+    assert_eq!(rt;
+        format!(in alloc; "{pages:?}")?.as_str(),
+        "{5: Page { number: 5, len: 4 }}"
+    );
+    drop(held);
+    Ok(())
+}

@@ -1,0 +1,19 @@
+//! Files of the tests, in the system's folder for such: each has a name of its own.
+
+use std::fs;
+use std::fs::Files;
+use std::path::PathBuf;
+use std::rt::Env;
+use std::{env, io};
+
+/// Writes a file of a test, and answers its path.
+pub(crate) fn file<R: Env + Files + AllocGlobal>(
+    rt: &R,
+    name: &str,
+    bytes: &[u8],
+) -> io::Result<PathBuf> {
+    let mut path = env::temp_dir(rt)?;
+    path.push(name)?;
+    fs::write(rt, path.as_path(), bytes)?;
+    Ok(path)
+}
