@@ -1,6 +1,6 @@
 //! A file as blocks of a size: the reader of a page cache over a file.
 //! Its contract says which offset and how many bytes are read for a number.
-ghost use Rattle.std.specs.Prelude.{◌≡◌, ◌<◌, ◌≤◌, ◌↔◌, IfSome, IfNone, IsTrue};
+ghost use Rattle.std.specs.Prelude.{◌≡◌, ◌<◌, ◌≤◌, ◌↔◌, IfOk, IfSome, IfNone, IsTrue};
 ghost use Rattle.lru_files.specs.Cuts.{start_of};
 
 use crate::fault::Fault;
@@ -53,6 +53,7 @@ impl FileBlocks<File> {
         size: u64,
     ) -> Result<Self, OpenError>
         requires { 0 < size }
+        ensures { IfOk result (λ blocks. blocks.size ≡ size) }
     {
         // A pipe waits for its writer when it is opened, so what it is comes first.
         file_len(&fs::metadata(files, path)?)?;

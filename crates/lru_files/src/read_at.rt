@@ -17,8 +17,8 @@ pub trait ReadAt {
         ensures has { OnOk result (has self.now offset buf.new) };
 }
 
-/// An open file. Which bytes the system gives is a thing that no contract can say, so every bytes
-/// may stand anywhere in it; what is proved above is where it was asked for them.
+/// An open file. Which bytes the system gives is a thing that no contract can say: any may stand
+/// anywhere in it. What is proved of its blocks is for which bytes the system was asked.
 impl ReadAt for File {
     fn fill(&self, buf: &mut [u8], offset: u64) -> io::Result<()> {
         self.read_exact_at(buf, offset)

@@ -2,6 +2,7 @@
 //! A log makes them, and tells which were dropped, in the order of their drops.
 
 use std::alloc::{AllocError, Global};
+use std::fmt;
 use std::sync::{Arc, Mutex, Wait};
 
 // The numbers of the values that were dropped.
@@ -89,6 +90,13 @@ impl<R: Wait> Logged<R> {
     /// The number.
     pub fn number(&self) -> u64 {
         self.number
+    }
+}
+
+// As its number.
+impl<R: Wait> fmt::Debug for Logged<R> {
+    fn fmt<W: fmt::Write>(&self, f: &mut fmt::Formatter<W>) -> fmt::Result {
+        self.number.fmt(f)
     }
 }
 

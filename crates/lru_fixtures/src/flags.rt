@@ -37,3 +37,21 @@ pub fn pause() {
         thread::yield_now();
     }
 }
+
+/// Yields until the count is this much or more, and says whether it was before the thread gave up.
+pub fn reaches(count: &AtomicU64, wanted: u64) -> bool {
+    for _ in 0..LOOKS {
+        if count.load(Ordering::SeqCst) >= wanted {
+            return true;
+        }
+        thread::yield_now();
+    }
+    false
+}
+
+/// Yields so many times.
+pub fn yield_times(times: u64) {
+    for _ in 0..times {
+        thread::yield_now();
+    }
+}

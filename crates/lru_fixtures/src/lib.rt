@@ -1,11 +1,15 @@
 //! What tests and programs of the caches share: flags, values that note their drops, hashers with
-//! known numbers, marks, a writer that fails, and the worked rows.
+//! known numbers, marks, tables of calls, a writer that fails, and the worked rows.
 #![tactic(auto)]
 
 pub mod drops;
 pub mod flags;
+pub mod gates;
 pub mod hashers;
+pub mod makes;
 pub mod marks;
 pub mod rows;
+pub mod tables;
+pub mod threaded;
 pub mod words;
 pub mod writer;

@@ -56,7 +56,8 @@ pub enum Row {
     FailedMaking,
     /// A prune evicts from every shard.
     PrunedShards,
-    /// What each of so many shards gets of a capacity: the quotient, rounded up.
+    /// What each of so many shards gets of a capacity: the quotient, rounded up. No shards count as
+    /// one.
     Shares(&'static [(u64, usize)]),
     /// A new entry evicts from its own shard alone.
     ShardOfAKey,

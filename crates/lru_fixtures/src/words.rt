@@ -1,9 +1,8 @@
 //! The words of a command line as a program is given them.
 
 use std::alloc::{AllocError, Global};
-use std::env;
-use std::io;
 use std::rt::Env;
+use std::{env, io};
 
 /// The words after the program's name. `OutOfMemory` where memory for one is refused; another
 /// error where one is no text.

@@ -5,7 +5,7 @@ use concurrent_lru::unsharded::GetError;
 use lru_files::{Fault, FileBlocks, OpenError, ReadAt};
 use lru_pages::{Blocks, PageCache};
 use std::alloc::{AllocError, Global};
-use std::fs::{File, OpenOptions};
+use std::fs::OpenOptions;
 use std::io::ErrorKind;
 use std::sync::Wait;
 use std::sync::atomic::{AtomicU64, Ordering};
@@ -25,10 +25,9 @@ fn bytes(alloc: Global, count: u32) -> Result<Vec<u8>, AllocError> {
 
 // Whether each page has the bytes of its block of the whole file.
 fn are_right<R: Wait>(pages: &PageCache<'_, FileBlocks, R>, whole: &[u8]) -> bool {
-    let mut number = 0u64;
-    for block in whole.chunks(SIZE) {
-        match pages.page(number) {
-            Ok(page) if page.value().bytes() == block => number = number.wrapping_add(1),
+    for (number, block) in whole.chunks(SIZE).enumerate() {
+        match pages.page(number as u64) {
+            Ok(page) if page.value().bytes() == block => {}
             _ => return false,
         }
     }
@@ -85,7 +84,11 @@ fn the_last_block_is_short(rt: HostRuntime) -> Result<(), Fail> {
     for (count, number, len) in cases {
         let path = scratch::file(&rt, "lru_pages_tests_last", &bytes(alloc, count)?)?;
         let reader = FileBlocks::open(alloc, &rt, path.as_path(), 32)?;
-        assert_eq!(rt; len_of(&reader, number), len, "block {number} of {count} bytes");
+        assert_eq!(rt;
+            len_of(&reader, number),
+            len,
+            "block {number} of {count} bytes"
+        );
         fs::remove_file(&rt, path.as_path())?;
     }
     Ok(())

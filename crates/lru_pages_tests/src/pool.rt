@@ -10,8 +10,8 @@ use std::sync::Wait;
 use std::test::Fail;
 use std::{env, fs, io};
 
-/// Open files by their paths: a file stays open while it is read, and no more than `capacity` stay
-/// open besides.
+/// Open files by their paths: one that is being read stays open, and one that nobody reads does as
+/// long as no more than `capacity` are open in all.
 #[derive(Drop)]
 struct Pool<'a, F: Files<File = File>, R: Wait> {
     alloc: Global,
@@ -68,7 +68,7 @@ fn a_pool_of_open_files(rt: HostRuntime) -> Result<(), Fail> {
     let pool = Pool::new(rt.alloc(), &rt, &rt, 1);
     let held = pool.file(fruit.as_path())?;
     assert_eq!(rt; start(pool.file(roots.as_path())?.value())?, *b"carro");
-    // The other was closed when it was let go, since this one is held: it is there for the next read.
+    // The other was closed when it was let go; the one that is held is there for the next read.
     assert_eq!(rt; pool.open.total_charge(), 1);
     assert_eq!(rt; start(held.value())?, *b"apple");
     drop(held);

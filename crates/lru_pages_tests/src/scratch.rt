@@ -1,10 +1,9 @@
 //! Files of the tests, in the system's folder for such: each has a name of its own.
 
-use std::fs;
 use std::fs::Files;
 use std::path::PathBuf;
 use std::rt::Env;
-use std::{env, io};
+use std::{env, fs, io};
 
 /// Writes a file of a test, and answers its path.
 pub(crate) fn file<R: Env + Files + AllocGlobal>(

@@ -9,7 +9,9 @@ use std::sync::Arc;
 /// What was accepted is recorded, also where nothing was found; what was refused is not.
 pub fn records_accepted_steps(alloc: Global, line: &mut Line) -> Result<(), Refusal> {
     let mut journal = Journal::new(alloc, 1);
-    use_up(alloc, &mut journal, line)?;
+    make(alloc, &mut journal)?;
+    evict(alloc, &mut journal, line)?;
+    release_again(alloc, &mut journal, line)?;
     line.show(journal.records().len())?;
     for record in journal.records() {
         line.show_below(record)?;
@@ -17,14 +19,28 @@ pub fn records_accepted_steps(alloc: Global, line: &mut Line) -> Result<(), Refu
     Ok(())
 }
 
-// Makes a value, evicts it and asks for it once more.
-fn use_up(alloc: Global, journal: &mut Journal<u64, u64>, line: &mut Line) -> Result<(), Refusal> {
+// Makes a value and gives its pin back.
+fn make(alloc: Global, journal: &mut Journal<u64, u64>) -> Result<(), Refusal> {
     journal.begin(&1, 1)?;
     ready(alloc, journal)?;
     journal.release(0)?;
-    let evicted = journal.begin(&2, 1)?.1;
+    Ok(())
+}
+
+// Begins on another key, and looks the evicted one up.
+fn evict(alloc: Global, journal: &mut Journal<u64, u64>, line: &mut Line) -> Result<(), Refusal> {
+    let (_, evicted) = journal.begin(&2, 1)?;
     show_stamps(alloc, evicted, line)?;
     journal.get(&1)?;
+    Ok(())
+}
+
+// Gives the evicted one's pin back, which is stale.
+fn release_again(
+    alloc: Global,
+    journal: &mut Journal<u64, u64>,
+    line: &mut Line,
+) -> Result<(), Refusal> {
     match journal.release(0) {
         Ok(evicted) => show_stamps(alloc, evicted, line),
         Err(refusal) => line.show_refusal(refusal),

@@ -1,7 +1,7 @@
 //! The line of a row: its parts, with `; ` between them.
 //! A call that adds a part answers `Memory` where there is no room for its text.
 
-use concurrent_lru::lru_core::{Begun, Refusal};
+use concurrent_lru::lru_core::{Begun, Failed, Refusal};
 use std::alloc::Global;
 use std::fmt::{Display, Write};
 
@@ -27,15 +27,16 @@ impl Line {
     /// Adds a part.
     pub fn show<T: Display + Drop>(&mut self, part: T) -> Result<(), Refusal> {
         let separator = if self.text.is_empty() { "" } else { "; " };
-        match write!(self.text, "{separator}{part}") {
-            Ok(()) => Ok(()),
-            Err(_) => Err(Refusal::Memory),
-        }
+        self.add(separator, part)
     }
 
     /// Adds some text below the parts.
     pub fn show_below<T: Display + Drop>(&mut self, text: T) -> Result<(), Refusal> {
-        match write!(self.text, "\n{text}") {
+        self.add("\n", text)
+    }
+
+    fn add<T: Display + Drop>(&mut self, separator: &str, text: T) -> Result<(), Refusal> {
+        match write!(self.text, "{separator}{text}") {
             Ok(()) => Ok(()),
             Err(_) => Err(Refusal::Memory),
         }
@@ -63,6 +64,14 @@ impl Line {
             Begun::Wait(stamp) => self.show(format_args!("wait {stamp}")),
             Begun::Hit(stamp, _) => self.show(format_args!("hit {stamp}")),
         }
+    }
+
+    /// Adds what `fail` did with the entry.
+    pub fn show_failed<K>(&mut self, failed: &Failed<K>) -> Result<(), Refusal> {
+        self.show(match failed {
+            Failed::Left => "left",
+            Failed::Removed(_) => "removed",
+        })
     }
 
     /// Adds a refusal. `Memory` is answered instead.

@@ -80,22 +80,22 @@ fn show_value<R: Wait>(
     }
 }
 
+// No call may leave the function while its handle
+// is there: such a path is dear to prove.
 fn advise<R: Wait>(cache: &LruCache<u64, u64, R>, line: &mut Line) -> Result<(), Refusal> {
     let pinned = handle(cache, 1, 3, Some(1))?;
-    cache.advice_evict(1);
-    show_found(cache, 1, line)?;
+    let while_pinned = is_found_after_advice(cache, 1);
     drop(pinned);
-    cache.advice_evict(1);
-    show_found(cache, 1, line)
+    line.show_found(while_pinned?)?;
+    line.show_found(is_found_after_advice(cache, 1)?)
 }
 
-fn show_found<R: Wait>(
+fn is_found_after_advice<R: Wait>(
     cache: &LruCache<u64, u64, R>,
     key: u64,
-    line: &mut Line,
-) -> Result<(), Refusal> {
-    let is_found = cache.get(key)?.is_some();
-    line.show_found(is_found)
+) -> Result<bool, Refusal> {
+    cache.advice_evict(key);
+    Ok(cache.get(key)?.is_some())
 }
 
 // A handle of a key's value, which is made where it is not there; none where its making failed,

@@ -103,7 +103,7 @@ impl Stage {
     fn act(&mut self, act: Act, line: &mut Line) -> Result<(), Refusal> {
         match act {
             Act::Make(key, charge) => self.make(key, charge),
-            Act::Hold(key, charge) => self.hold(key, charge).map(|_| ()),
+            Act::Hold(key, charge) => self.keep(key, charge),
             Act::Release(stamp) => self.release(stamp),
             Act::SetCapacity(capacity) => self.set_capacity(capacity),
             Act::MakeInVain(key, charge) => self.make_in_vain(key, charge, line),
@@ -122,6 +122,11 @@ impl Stage {
     fn make(&mut self, key: u64, charge: u64) -> Result<(), Refusal> {
         let stamp = self.hold(key, charge)?;
         self.release(stamp)
+    }
+
+    fn keep(&mut self, key: u64, charge: u64) -> Result<(), Refusal> {
+        let _stamp = self.hold(key, charge)?;
+        Ok(())
     }
 
     // Pins the entry of a key, whose value is made where it was not there, and answers its stamp.
@@ -170,15 +175,16 @@ impl Stage {
     }
 
     fn find(&mut self, key: u64, line: &mut Line) -> Result<(), Refusal> {
-        let found = match self.state.get(&key) {
-            Ok(found) => found.map(|(stamp, _)| stamp),
-            Err(refusal) => return line.show_refusal(refusal),
-        };
-        line.show_found(found.is_some())?;
-        match found {
-            Some(stamp) => self.release(stamp),
-            None => Ok(()),
+        match self.state.get(&key) {
+            Ok(Some((stamp, _))) => self.release_found(stamp, line),
+            Ok(None) => line.show_found(false),
+            Err(refusal) => line.show_refusal(refusal),
         }
+    }
+
+    fn release_found(&mut self, stamp: u64, line: &mut Line) -> Result<(), Refusal> {
+        line.show_found(true)?;
+        self.release(stamp)
     }
 
     fn prune(&mut self, line: &mut Line) -> Result<(), Refusal> {
@@ -208,8 +214,7 @@ impl Stage {
 
     fn show_fail(&mut self, stamp: u64, line: &mut Line) -> Result<(), Refusal> {
         match self.state.fail(stamp) {
-            Ok(Failed::Left) => line.show("left"),
-            Ok(Failed::Removed(_)) => line.show("removed"),
+            Ok(failed) => line.show_failed(&failed),
             Err(refusal) => line.show_refusal(refusal),
         }
     }

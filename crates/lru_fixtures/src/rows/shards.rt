@@ -38,10 +38,11 @@ fn show_found<R: Wait>(
     line.show_found(is_found)
 }
 
-/// What each of so many shards gets of a capacity: the quotient, rounded up.
+/// What each of so many shards gets of a capacity: the quotient, rounded up. No shards count as
+/// one.
 pub fn divides_its_capacity(shares: &[(u64, usize)], line: &mut Line) -> Result<(), Refusal> {
     for (capacity, shards) in shares {
-        line.show(capacity_per_shard(*capacity, *shards))?;
+        line.show(capacity_per_shard(*capacity, (*shards).max(1)))?;
     }
     Ok(())
 }

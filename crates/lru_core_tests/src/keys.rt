@@ -1,0 +1,56 @@
+//! Keys of other kinds: texts, whose copies take memory, and keys that all hash alike.
+
+use concurrent_lru::lru_core::State;
+use lru_fixtures::makes::make;
+use lru_fixtures::tables::says;
+use std::sync::Arc;
+use std::test::Fail;
+
+#[test]
+fn keeps_keys_of_text(rt: HostRuntime) -> Result<(), Fail> {
+    let alloc = rt.alloc();
+    let one = String::from_str(alloc, "one")?;
+    let two = String::from_str(alloc, "two")?;
+    let mut state: State<String, u64> = State::new(alloc, 1);
+    let ten = Arc::new(alloc, 10)?;
+    assert_eq!(rt; make(&mut state, &one, 1, ten), Ok(0));
+    let twenty = Arc::new(alloc, 20)?;
+    assert_eq!(rt; make(&mut state, &two, 1, twenty), Ok(1));
+    says(alloc, &state.key_of(0), "None")?;
+    says(alloc, &state.key_of(1), "Some(\"two\")")?;
+    says(alloc, &state.get(&one), "Ok(None)")?;
+    says(
+        alloc,
+        &state.prune(),
+        "[Gone { stamp: 1, key: \"two\", charge: 1, value: 20 }]",
+    )
+}
+
+// As many entries as a map whose keys all hash alike leaves time for.
+const MANY: u64 = 200;
+
+// A key whose hash feeds nothing, so that all keys hash alike.
+#[derive(Clone, Copy, PartialEq, Eq)]
+#[derive_where(Hash)]
+struct Careless {
+    #[derive_where(skip(Hash))]
+    number: u64,
+}
+
+#[test]
+fn tells_keys_of_one_hash_apart(rt: HostRuntime) {
+    let alloc = rt.alloc();
+    let mut state: State<Careless, u64> = State::new(alloc, MANY);
+    for number in 0..MANY {
+        let value = Arc::new(alloc, number).expect(&rt, "memory for the value");
+        let stamp = make(&mut state, &Careless { number }, 1, value);
+        assert_eq!(rt; stamp, Ok(number));
+    }
+    for number in 0..MANY {
+        let found = state
+            .get(&Careless { number })
+            .expect(&rt, "room for the copy");
+        let (stamp, value) = found.expect(&rt, "all keys fit");
+        assert_eq!(rt; (stamp, *value), (number, number));
+    }
+}

@@ -1,0 +1,28 @@
+//! Tests of the core, of its list and of whole runs, at concrete types.
+//! The library is empty: what its modules have is read for the tests alone.
+#![tactic(auto)]
+
+#[cfg(test)]
+mod capacities;
+#[cfg(test)]
+mod drops;
+#[cfg(test)]
+mod ends;
+#[cfg(test)]
+mod example;
+#[cfg(test)]
+mod keys;
+#[cfg(test)]
+mod list;
+#[cfg(test)]
+mod plain;
+#[cfg(test)]
+mod rows;
+#[cfg(test)]
+mod seeded;
+#[cfg(test)]
+mod steps;
+#[cfg(test)]
+mod uses;
+#[cfg(test)]
+mod values;

@@ -1,0 +1,102 @@
+//! Nodes by place and the order of the idle ones: each public call on its happy path, and the
+//! end of many nodes, idle and held.
+
+use concurrent_lru::list::{Node, Nodes, Phase, Refusal};
+use concurrent_lru::lru_core::State;
+use lru_fixtures::makes::{hold, make};
+use std::process::Abort;
+use std::sync::Arc;
+use std::test::Fail;
+
+#[test]
+fn keeps_a_node_from_its_insert_to_its_end(rt: HostRuntime) -> Result<(), Fail> {
+    let alloc = rt.alloc();
+    let mut nodes: Nodes<u64, u64> = Nodes::new(alloc);
+    assert!(rt; nodes.oldest().is_none());
+    nodes.reserve(1)?;
+    let place = nodes.insert_reserved(Box::new(alloc, Node::new(5, 1, 3))?);
+    let node = nodes.node(place);
+    assert_eq!(rt;
+        (node.stamp, node.key, node.charge, node.pins),
+        (5, 1, 3, 1)
+    );
+    assert!(rt; matches!(node.phase, Phase::Making));
+
+    nodes.set_phase(place, Phase::Ready(Arc::new(alloc, 7)?));
+    nodes.set_pins(place, 0);
+    nodes.append(place);
+    let oldest = nodes.oldest().ok_or("the node is idle")?;
+    let node = nodes.node(oldest);
+    let Phase::Ready(value) = &node.phase else {
+        return Err(Fail::new("the value was written"));
+    };
+    assert_eq!(rt; (node.stamp, node.pins, **value), (5, 0, 7));
+
+    nodes.remove(place);
+    assert!(rt; nodes.oldest().is_none());
+    let taken = Box::into_inner(nodes.take(place));
+    assert_eq!(rt; (taken.stamp, taken.key), (5, 1));
+    Ok(())
+}
+
+#[test]
+fn gives_a_free_place_out_again(rt: HostRuntime) -> Result<(), Fail> {
+    let alloc = rt.alloc();
+    let mut nodes: Nodes<u64, u64> = Nodes::new(alloc);
+    nodes.reserve(3)?;
+    let first = nodes.insert_reserved(Box::new(alloc, Node::new(0, 1, 1))?);
+    let second = nodes.insert_reserved(Box::new(alloc, Node::new(1, 2, 1))?);
+    drop(nodes.take(first));
+    let third = nodes.insert_reserved(Box::new(alloc, Node::new(2, 3, 1))?);
+    assert!(rt; third == first);
+    assert!(rt; third != second);
+    Ok(())
+}
+
+#[test]
+fn numbers_its_refusals(rt: HostRuntime) {
+    assert_eq!(rt; Refusal::Memory.code(), 1);
+    assert_eq!(rt; Refusal::Overflow.code(), 2);
+    assert_eq!(rt; Refusal::Stale.code(), 3);
+}
+
+// Makes the keys below `keys`, all with one value, and gives each pin back.
+fn make_all(rt: &impl Abort, state: &mut State<u64, u64>, keys: u64, value: &Arc<u64>) {
+    for key in 0..keys {
+        let value = value.clone().expect(rt, "room for an owner");
+        assert!(rt; make(state, &key, 1, value).is_ok());
+    }
+}
+
+// Makes the next ten keys, and keeps each pin.
+fn hold_ten(rt: &impl Abort, state: &mut State<u64, u64>, keys: u64, value: &Arc<u64>) {
+    for key in keys..keys.saturating_add(10) {
+        let value = value.clone().expect(rt, "room for an owner");
+        assert!(rt; hold(state, &key, 1, value).is_ok());
+    }
+}
+
+#[test]
+fn frees_idle_and_held_nodes_at_its_end(rt: HostRuntime) -> Result<(), Fail> {
+    let alloc = rt.alloc();
+    let value = Arc::new(alloc, 7u64)?;
+    let mut state: State<u64, u64> = State::new(alloc, 1010);
+    make_all(&rt, &mut state, 1000, &value);
+    hold_ten(&rt, &mut state, 1000, &value);
+    assert_eq!(rt; Arc::strong_count(&value), 1011);
+    drop(state);
+    assert_eq!(rt; Arc::strong_count(&value), 1);
+    Ok(())
+}
+
+#[test]
+fn frees_what_its_slots_held_before(rt: HostRuntime) -> Result<(), Fail> {
+    let alloc = rt.alloc();
+    let value = Arc::new(alloc, 7u64)?;
+    let mut state: State<u64, u64> = State::new(alloc, 4);
+    make_all(&rt, &mut state, 304, &value);
+    assert_eq!(rt; Arc::strong_count(&value), 5);
+    drop(state);
+    assert_eq!(rt; Arc::strong_count(&value), 1);
+    Ok(())
+}

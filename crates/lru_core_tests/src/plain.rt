@@ -1,0 +1,333 @@
+//! The same cache written as plainly as can be: an array of entries, which is walked at each call.
+//! What it answers is what the cache is expected to answer.
+
+use concurrent_lru::lru_core::Refusal;
+use lru_fixtures::tables::{Answers, Call, text_of};
+use std::alloc::{AllocError, Global};
+use std::fmt;
+
+/// The keys are the numbers below this one.
+pub(crate) const KEYS: usize = 12;
+
+// How far a value is.
+#[derive(Clone, Copy, PartialEq, Eq)]
+enum Phase {
+    Making,
+    Untaken,
+    Ready(u64),
+}
+
+#[derive(Clone, Copy)]
+struct Entry {
+    stamp: u64,
+    key: u64,
+    charge: u64,
+    pins: u32,
+    phase: Phase,
+    // When its last pin was given back: the number of that release.
+    rested: u64,
+}
+
+// What `begin` and `poll` say.
+#[derive(Clone, Copy, Debug)]
+enum Begun {
+    Make(u64),
+    Wait(u64),
+    Hit(u64, u64),
+}
+
+// What `fail` says.
+#[derive(Clone, Copy, Debug)]
+enum Failed {
+    Left,
+    Removed(u64),
+}
+
+// An entry that left the cache.
+#[derive(Clone, Copy, Debug)]
+struct Gone {
+    stamp: u64,
+    key: u64,
+    charge: u64,
+    value: u64,
+}
+
+// What left the cache, oldest first.
+#[derive(Clone, Copy)]
+struct Evicted([Option<Gone>; KEYS]);
+
+impl fmt::Debug for Evicted {
+    fn fmt<W: fmt::Write>(&self, f: &mut fmt::Formatter<W>) -> fmt::Result {
+        f.debug_list().entries(self.0.iter().flatten()).finish()
+    }
+}
+
+// The one of both that is idle for longer. The first is idle, where there is one.
+fn older(idle: Option<Entry>, other: Entry) -> Option<Entry> {
+    if other.pins > 0 || !matches!(other.phase, Phase::Ready(_)) {
+        return idle;
+    }
+    match idle {
+        Some(entry) if entry.rested < other.rested => Some(entry),
+        _ => Some(other),
+    }
+}
+
+/// A cache of numbers by numbers below `KEYS`.
+#[derive(Drop)]
+pub(crate) struct Plain {
+    capacity: u64,
+    most_pins: u32,
+    /// The stamp of the next new entry.
+    pub(crate) next: u64,
+    /// The stamp of the entry that the last call gave a pin, where it gave one.
+    pub(crate) pinned: Option<u64>,
+    releases: u64,
+    entries: [Option<Entry>; KEYS],
+}
+
+impl Plain {
+    /// An empty cache, as `State::with_limits` makes one.
+    pub(crate) fn with_limits(capacity: u64, first_stamp: u64, most_pins: u32) -> Plain {
+        Plain {
+            capacity,
+            most_pins,
+            next: first_stamp,
+            pinned: None,
+            releases: 0,
+            entries: [None; KEYS],
+        }
+    }
+
+    fn of_key(&self, key: u64) -> Option<Entry> {
+        for entry in self.entries.iter().flatten() {
+            if entry.key == key {
+                return Some(*entry);
+            }
+        }
+        None
+    }
+
+    fn of_stamp(&self, stamp: u64) -> Option<Entry> {
+        for entry in self.entries.iter().flatten() {
+            if entry.stamp == stamp {
+                return Some(*entry);
+            }
+        }
+        None
+    }
+
+    fn total(&self) -> u64 {
+        let mut total: u64 = 0;
+        for entry in self.entries.iter().flatten() {
+            total = total.saturating_add(entry.charge);
+        }
+        total
+    }
+
+    // Writes what a key has now.
+    fn put(&mut self, key: u64, entry: Option<Entry>) {
+        if let Some(place) = self.entries.get_mut(key as usize) {
+            *place = entry;
+        }
+    }
+
+    // Gives an entry one pin more.
+    fn pin(&mut self, mut entry: Entry) {
+        entry.pins = entry.pins.saturating_add(1);
+        self.put(entry.key, Some(entry));
+        self.pinned = Some(entry.stamp);
+    }
+
+    // Takes an idle entry away.
+    fn evict(&mut self, entry: Entry) -> Option<Gone> {
+        match entry.phase {
+            Phase::Ready(value) if entry.pins == 0 => {
+                self.put(entry.key, None);
+                Some(Gone {
+                    stamp: entry.stamp,
+                    key: entry.key,
+                    charge: entry.charge,
+                    value,
+                })
+            }
+            _ => None,
+        }
+    }
+
+    // The idle entry whose last pin was given back before those of the others.
+    fn oldest(&self) -> Option<Entry> {
+        let mut oldest: Option<Entry> = None;
+        for entry in self.entries.iter().flatten() {
+            oldest = older(oldest, *entry);
+        }
+        oldest
+    }
+
+    // Evicts the oldest idle entry, where the total is above `capacity`.
+    fn evict_oldest(&mut self, capacity: u64) -> Option<Gone> {
+        if self.total() <= capacity {
+            return None;
+        }
+        self.evict(self.oldest()?)
+    }
+
+    fn settle(&mut self, capacity: u64) -> Evicted {
+        let mut evicted = [None; KEYS];
+        for place in &mut evicted {
+            let Some(gone) = self.evict_oldest(capacity) else {
+                break;
+            };
+            *place = Some(gone);
+        }
+        Evicted(evicted)
+    }
+
+    fn begin(&mut self, key: u64, charge: u64) -> Result<(Begun, Evicted), Refusal> {
+        let Some(mut entry) = self.of_key(key) else {
+            return self.make(key, charge);
+        };
+        if entry.pins == self.most_pins {
+            return Err(Refusal::Overflow);
+        }
+        let begun = match entry.phase {
+            Phase::Making => Begun::Wait(entry.stamp),
+            Phase::Untaken => Begun::Make(entry.stamp),
+            Phase::Ready(value) => Begun::Hit(entry.stamp, value),
+        };
+        if entry.phase == Phase::Untaken {
+            entry.phase = Phase::Making;
+        }
+        self.pin(entry);
+        Ok((begun, Evicted([None; KEYS])))
+    }
+
+    fn make(&mut self, key: u64, charge: u64) -> Result<(Begun, Evicted), Refusal> {
+        let stamp = self.next;
+        let (Some(next), Some(_)) = (stamp.checked_add(1), self.total().checked_add(charge)) else {
+            return Err(Refusal::Overflow);
+        };
+        self.next = next;
+        self.pin(Entry {
+            stamp,
+            key,
+            charge,
+            pins: 0,
+            phase: Phase::Making,
+            rested: 0,
+        });
+        Ok((Begun::Make(stamp), self.settle(self.capacity)))
+    }
+
+    fn poll(&mut self, stamp: u64) -> Result<Begun, Refusal> {
+        let Some(mut entry) = self.of_stamp(stamp) else {
+            return Err(Refusal::Stale);
+        };
+        match entry.phase {
+            _ if entry.pins == 0 => Err(Refusal::Stale),
+            Phase::Making => Ok(Begun::Wait(stamp)),
+            Phase::Untaken => {
+                entry.phase = Phase::Making;
+                self.put(entry.key, Some(entry));
+                Ok(Begun::Make(stamp))
+            }
+            Phase::Ready(value) => Ok(Begun::Hit(stamp, value)),
+        }
+    }
+
+    // The entry with this stamp, where it is being made.
+    fn being_made(&self, stamp: u64) -> Option<Entry> {
+        match self.of_stamp(stamp) {
+            Some(entry) if entry.phase == Phase::Making => Some(entry),
+            _ => None,
+        }
+    }
+
+    fn ready(&mut self, stamp: u64, value: u64) -> Result<(), u64> {
+        let mut entry = self.being_made(stamp).ok_or(value)?;
+        entry.phase = Phase::Ready(value);
+        self.put(entry.key, Some(entry));
+        Ok(())
+    }
+
+    fn fail(&mut self, stamp: u64) -> Result<Failed, Refusal> {
+        let mut entry = self.being_made(stamp).ok_or(Refusal::Stale)?;
+        if entry.pins > 1 {
+            entry.pins -= 1;
+            entry.phase = Phase::Untaken;
+            self.put(entry.key, Some(entry));
+            return Ok(Failed::Left);
+        }
+        self.put(entry.key, None);
+        Ok(Failed::Removed(entry.key))
+    }
+
+    fn get(&mut self, key: u64) -> Result<Option<(u64, u64)>, Refusal> {
+        let Some(entry) = self.of_key(key) else {
+            return Ok(None);
+        };
+        let Phase::Ready(value) = entry.phase else {
+            return Ok(None);
+        };
+        if entry.pins == self.most_pins {
+            return Err(Refusal::Overflow);
+        }
+        self.pin(entry);
+        Ok(Some((entry.stamp, value)))
+    }
+
+    fn release(&mut self, stamp: u64) -> Result<Evicted, Refusal> {
+        let mut entry = self.of_stamp(stamp).ok_or(Refusal::Stale)?;
+        if entry.pins == 0 || !matches!(entry.phase, Phase::Ready(_)) {
+            return Err(Refusal::Stale);
+        }
+        entry.pins -= 1;
+        entry.rested = self.releases;
+        self.releases = self.releases.saturating_add(1);
+        self.put(entry.key, Some(entry));
+        let capacity = if entry.pins == 0 {
+            self.capacity
+        } else {
+            u64::MAX
+        };
+        Ok(self.settle(capacity))
+    }
+
+    fn advice_evict(&mut self, key: u64) -> Evicted {
+        let mut evicted = [None; KEYS];
+        if let Some(entry) = self.of_key(key) {
+            evicted[0] = self.evict(entry);
+        }
+        Evicted(evicted)
+    }
+
+    fn key_of(&self, stamp: u64) -> Option<u64> {
+        Some(self.of_stamp(stamp)?.key)
+    }
+
+    fn set_capacity(&mut self, capacity: u64) -> Evicted {
+        self.capacity = capacity;
+        self.settle(capacity)
+    }
+}
+
+impl Answers<Call> for Plain {
+    fn answer(&mut self, alloc: Global, call: Call) -> Result<String, AllocError> {
+        self.pinned = None;
+        match call {
+            Call::Begin(key, charge) => text_of(alloc, &self.begin(key, charge)),
+            Call::Poll(stamp) => text_of(alloc, &self.poll(stamp)),
+            Call::Ready(stamp, value) => text_of(alloc, &self.ready(stamp, value)),
+            Call::Fail(stamp) => text_of(alloc, &self.fail(stamp)),
+            Call::Get(key) => text_of(alloc, &self.get(key)),
+            Call::Release(stamp) => text_of(alloc, &self.release(stamp)),
+            Call::AdviceEvict(key) => text_of(alloc, &self.advice_evict(key)),
+            Call::Prune => text_of(alloc, &self.settle(0)),
+            Call::SetCapacity(capacity) => text_of(alloc, &self.set_capacity(capacity)),
+            Call::Total => text_of(alloc, &self.total()),
+            Call::Capacity => text_of(alloc, &self.capacity),
+            Call::KeyOf(stamp) => text_of(alloc, &self.key_of(stamp)),
+            Call::Reserve(_) | Call::Show => String::from_str(alloc, "no such call"),
+        }
+    }
+}

@@ -1,0 +1,142 @@
+//! Each public call of the core on its happy path, and the text of a cache.
+
+use concurrent_lru::lru_core::{State, Step};
+use lru_fixtures::tables::Call::{
+    AdviceEvict, Begin, Capacity, Fail, Get, KeyOf, Poll, Prune, Ready, Release, Show, Total,
+};
+use lru_fixtures::tables::{Call, answers_as_told, says};
+use std::sync::Arc;
+use std::test;
+
+const MAKES: [(Call, &str); 7] = [
+    (Capacity, "10"),
+    (Begin(1, 3), "Ok((Make(0), []))"),
+    (Begin(1, 7), "Ok((Wait(0), []))"),
+    (Poll(0), "Ok(Wait(0))"),
+    (KeyOf(0), "Some(1)"),
+    (KeyOf(1), "None"),
+    (Total, "3"),
+];
+
+#[test]
+fn makes_what_is_absent(rt: HostRuntime) -> Result<(), test::Fail> {
+    let alloc = rt.alloc();
+    answers_as_told(alloc, &mut State::new(alloc, 10), &MAKES)
+}
+
+const HITS: [(Call, &str); 6] = [
+    (Begin(1, 3), "Ok((Make(0), []))"),
+    (Ready(0, 2), "Ok(())"),
+    (Poll(0), "Ok(Hit(0, 2))"),
+    (Begin(1, 7), "Ok((Hit(0, 2), []))"),
+    (Get(1), "Ok(Some((0, 2)))"),
+    (Total, "3"),
+];
+
+#[test]
+fn hits_what_is_ready(rt: HostRuntime) -> Result<(), test::Fail> {
+    let alloc = rt.alloc();
+    answers_as_told(alloc, &mut State::new(alloc, 10), &HITS)
+}
+
+const ADVICES: [(Call, &str); 7] = [
+    (Begin(1, 3), "Ok((Make(0), []))"),
+    (Ready(0, 2), "Ok(())"),
+    (AdviceEvict(1), "[]"),
+    (Release(0), "Ok([])"),
+    (
+        AdviceEvict(1),
+        "[Gone { stamp: 0, key: 1, charge: 3, value: 2 }]",
+    ),
+    (AdviceEvict(1), "[]"),
+    (Total, "0"),
+];
+
+#[test]
+fn evicts_by_advice_what_nobody_pins(rt: HostRuntime) -> Result<(), test::Fail> {
+    let alloc = rt.alloc();
+    answers_as_told(alloc, &mut State::new(alloc, 10), &ADVICES)
+}
+
+const FAILS: [(Call, &str); 5] = [
+    (Begin(4, 1), "Ok((Make(0), []))"),
+    (Fail(0), "Ok(Removed(4))"),
+    (Get(4), "Ok(None)"),
+    (Prune, "[]"),
+    (Total, "0"),
+];
+
+#[test]
+fn gives_a_making_up(rt: HostRuntime) -> Result<(), test::Fail> {
+    let alloc = rt.alloc();
+    answers_as_told(alloc, &mut State::new(alloc, 10), &FAILS)
+}
+
+const LIMITS: [(Call, &str); 4] = [
+    (Capacity, "4"),
+    (Begin(1, 1), "Ok((Make(7), []))"),
+    (Begin(1, 1), "Ok((Wait(7), []))"),
+    (Begin(1, 1), "Err(Overflow)"),
+];
+
+#[test]
+fn starts_with_its_limits(rt: HostRuntime) -> Result<(), test::Fail> {
+    let alloc = rt.alloc();
+    answers_as_told(alloc, &mut State::with_limits(alloc, 4, 7, 2), &LIMITS)
+}
+
+const SHOWS: [(Call, &str); 5] = [
+    (Show, "{}"),
+    (Begin(1, 1), "Ok((Make(0), []))"),
+    // The value is being made.
+    (Show, "{}"),
+    (Ready(0, 2), "Ok(())"),
+    (Show, "{1: 2}"),
+];
+
+#[test]
+fn shows_what_is_ready(rt: HostRuntime) -> Result<(), test::Fail> {
+    let alloc = rt.alloc();
+    answers_as_told(alloc, &mut State::new(alloc, 10), &SHOWS)
+}
+
+#[test]
+fn runs_the_uses_of_a_key(rt: HostRuntime) -> Result<(), test::Fail> {
+    let alloc = rt.alloc();
+    let value = Arc::new(alloc, 7)?;
+    let steps = vec![in alloc;
+        Step::Begin(1, 1),
+        Step::Ready(0, value),
+        Step::Poll(0),
+        Step::Release(0),
+        Step::Get(1),
+    ]?;
+    let mut state: State<u64, u64> = State::new(alloc, 1);
+    says(
+        alloc,
+        &state.run(steps),
+        "Ok([Begun(Make(0), []), Done, Polled(Hit(0, 7)), Released([]), Got(Some((0, 7)))])",
+    )
+}
+
+#[test]
+fn runs_what_clears_a_cache(rt: HostRuntime) -> Result<(), test::Fail> {
+    let alloc = rt.alloc();
+    let value = Arc::new(alloc, 2)?;
+    let steps = vec![in alloc;
+        Step::Begin(1, 3),
+        Step::Ready(0, value),
+        Step::AdviceEvict(1),
+        Step::Release(0),
+        Step::Prune,
+        Step::Total,
+        Step::Fail(0),
+    ]?;
+    let mut state: State<u64, u64> = State::new(alloc, 10);
+    says(
+        alloc,
+        &state.run(steps),
+        "Ok([Begun(Make(0), []), Done, Gone([]), Released([]), \
+         Gone([Gone { stamp: 0, key: 1, charge: 3, value: 2 }]), Total(0), Refused(Stale)])",
+    )
+}

@@ -1,0 +1,110 @@
+//! Calls as rows of a table, each with the text of the answer that is wanted, and the one function
+//! that makes them.
+ghost use Rattle.std.specs.Prelude.{◌<◌};
+
+pub mod shards;
+
+use concurrent_lru::lru_core::State;
+use std::alloc::{AllocError, Global};
+use std::fmt::Debug;
+use std::sync::Arc;
+use std::test::Fail;
+
+/// A call of a cache whose keys and values are numbers.
+#[derive(Clone, Copy, Debug)]
+pub enum Call {
+    /// `begin` with a key and a charge, which is above 0.
+    Begin(u64, u64),
+    /// `poll` with a stamp.
+    Poll(u64),
+    /// `ready` with a stamp and a value.
+    Ready(u64, u64),
+    /// `fail` with a stamp.
+    Fail(u64),
+    /// `get` with a key.
+    Get(u64),
+    /// `release` with a stamp.
+    Release(u64),
+    /// `advice_evict` with a key.
+    AdviceEvict(u64),
+    /// `prune`.
+    Prune,
+    /// `set_capacity` with a capacity.
+    SetCapacity(u64),
+    /// `total`.
+    Total,
+    /// `capacity`.
+    Capacity,
+    /// `key_of` with a stamp.
+    KeyOf(u64),
+    /// `reserve` with a number of entries.
+    Reserve(usize),
+    /// The text of the cache.
+    Show,
+}
+
+/// A cache that calls can be made of. `C` is what such a call is.
+pub trait Answers<C> {
+    /// Makes the call, and answers the text of what it returned, as `{:?}` writes it.
+    ///
+    /// `AllocError` where memory for a value or for the text is refused.
+    fn answer(&mut self, alloc: Global, call: C) -> Result<String, AllocError>;
+}
+
+/// Makes the calls of a table in order, and fails at the first whose answer is not the one that
+/// is wanted: the failure tells the row's number, its call, what was answered and what was wanted.
+/// It fails too where memory is refused to a text.
+pub fn answers_as_told<C: Copy + Debug + Drop, T: Answers<C>>(
+    alloc: Global,
+    cache: &mut T,
+    table: &[(C, &str)],
+) -> Result<(), Fail> {
+    for (row, (call, wanted)) in table.iter().enumerate() {
+        let answer = cache.answer(alloc, *call)?;
+        if answer.as_str() != *wanted {
+            return Err(Fail::new(format_args!(
+                "at row {row}, {call:?}\n  answered: {answer}\n    wanted: {wanted}"
+            )));
+        }
+    }
+    Ok(())
+}
+
+/// Fails where the text of an answer is not the one that is wanted, and tells both.
+pub fn says<T: Debug>(alloc: Global, answer: &T, wanted: &str) -> Result<(), Fail> {
+    let answer = text_of(alloc, answer)?;
+    if answer.as_str() != wanted {
+        return Err(Fail::new(format_args!("\n  answered: {answer}\n    wanted: {wanted}")));
+    }
+    Ok(())
+}
+
+/// The text of an answer. `AllocError` where memory for it is refused.
+pub fn text_of<T: Debug>(alloc: Global, answer: &T) -> Result<String, AllocError> {
+    format!(in alloc; "{answer:?}")
+}
+
+impl Answers<Call> for State<u64, u64> {
+    fn answer(&mut self, alloc: Global, call: Call) -> Result<String, AllocError> {
+        match call {
+            Call::Begin(key, charge) if charge > 0 => text_of(alloc, &self.begin(&key, charge)),
+            Call::Begin(..) => String::from_str(alloc, "a charge is above 0"),
+            Call::Poll(stamp) => text_of(alloc, &self.poll(stamp)),
+            Call::Ready(stamp, value) => {
+                let value = Arc::new(alloc, value)?;
+                text_of(alloc, &self.ready(stamp, value))
+            }
+            Call::Fail(stamp) => text_of(alloc, &self.fail(stamp)),
+            Call::Get(key) => text_of(alloc, &self.get(&key)),
+            Call::Release(stamp) => text_of(alloc, &self.release(stamp)),
+            Call::AdviceEvict(key) => text_of(alloc, &self.advice_evict(&key)),
+            Call::Prune => text_of(alloc, &self.prune()),
+            Call::SetCapacity(capacity) => text_of(alloc, &self.set_capacity(capacity)),
+            Call::Total => text_of(alloc, &self.total()),
+            Call::Capacity => text_of(alloc, &self.capacity()),
+            Call::KeyOf(stamp) => text_of(alloc, &self.key_of(stamp)),
+            Call::Reserve(entries) => text_of(alloc, &self.reserve(entries)),
+            Call::Show => text_of(alloc, self),
+        }
+    }
+}

@@ -1,0 +1,65 @@
+//! Calls of a cache that threads share, as data, and what each is answered.
+//! The answer tells whether an `init` ran, and with which key.
+
+use concurrent_lru::lru_core::Refusal;
+
+/// What becomes of the handle that a call gives.
+#[derive(Clone, Copy, Debug)]
+pub enum Then {
+    /// It is let go at once.
+    AtOnce,
+    /// It is kept in this slot, and what the slot had is let go.
+    Keep(usize),
+    /// It is forgotten, and its pin with it.
+    Forget,
+}
+
+/// A call. Keys come first, then charges, then the value that an `init` would give.
+#[derive(Clone, Copy, Debug)]
+pub enum Call {
+    /// `get` with a key.
+    Get(u64, Then),
+    /// `get_or_init` with a key, a charge, and an `init` that gives this value.
+    Init(u64, u64, u64, Then),
+    /// `get_or_try_init` with a key, a charge, and an `init` that gives this value.
+    TryInit(u64, u64, u64, Then),
+    /// `get_or_try_init` with a key, a charge, and an `init` that fails.
+    Fail(u64, u64, Then),
+    /// The drop of what this slot has.
+    LetGo(usize),
+    /// `advice_evict` with a key.
+    AdviceEvict(u64),
+    /// `prune`.
+    Prune,
+    /// `set_capacity` with a capacity.
+    SetCapacity(u64),
+    /// `reserve` with a number of entries.
+    Reserve(usize),
+    /// `capacity`.
+    Capacity,
+    /// `total_charge`.
+    Total,
+    /// The text of the cache.
+    Show,
+}
+
+/// What a call is answered.
+#[derive(Clone, Copy, Debug)]
+pub enum Said {
+    /// A handle, and `init` ran: its key, and the handle's value.
+    Made(u64, u64),
+    /// A handle of this value, and no `init` ran.
+    Found(u64),
+    /// No handle.
+    Absent,
+    /// `init` failed: its key.
+    Failed(u64),
+    /// A refusal.
+    Refused(Refusal),
+    /// A capacity or a total.
+    Number(u128),
+    /// The call has no answer.
+    Done,
+    /// The call was not made, since its charge is 0.
+    Uncharged,
+}

@@ -1,0 +1,225 @@
+//! What a cache that threads share is to answer one thread: a cache of one owner, asked by steps.
+//! An `init` that does not run is dropped with its value; a value is dropped where it is evicted.
+ghost use Rattle.std.specs.Prelude.{◌<◌};
+
+use crate::tables::{Answers, text_of};
+use crate::threaded::calls::{Call, Said, Then};
+use crate::threaded::owned::Owned;
+use concurrent_lru::lru_core::{Begun, Evicted};
+use std::alloc::{AllocError, Global};
+use std::sync::Arc;
+
+// How many handles a model can hold, as many as a player.
+const SLOTS: usize = 4;
+
+// No model has more shards than this.
+const SHARDS: usize = 64;
+
+/// A cache of one owner, its ready entries by shard, key and value, the pins that are held in
+/// slots, and the values that were dropped by the last call.
+#[derive(Drop)]
+pub struct Model<P> {
+    owned: P,
+    entries: Vec<(usize, u64, u64)>,
+    pins: [Option<(usize, u64)>; SLOTS],
+    dropped: Vec<u64>,
+}
+
+impl<P: Owned> Model<P> {
+    /// A model of an empty cache. Takes no memory.
+    pub fn new(alloc: Global, owned: P) -> Model<P> {
+        Model {
+            owned,
+            entries: Vec::new(alloc),
+            pins: [None; SLOTS],
+            dropped: Vec::new(alloc),
+        }
+    }
+
+    fn take(&mut self, alloc: Global, call: Call) -> Result<Said, AllocError> {
+        match call {
+            Call::Get(key, then) => self.get(key, then),
+            Call::Init(key, charge, value, then) | Call::TryInit(key, charge, value, then) => {
+                self.init(alloc, key, charge, Some(value), then)
+            }
+            Call::Fail(key, charge, then) => self.init(alloc, key, charge, None, then),
+            Call::LetGo(slot) => self.let_go(slot),
+            Call::AdviceEvict(key) => {
+                let evicted = self.owned.advised(key);
+                self.note(evicted)
+            }
+            Call::Prune => self.prune(),
+            _ => Ok(Said::Number(self.total())),
+        }
+    }
+
+    fn get(&mut self, key: u64, then: Then) -> Result<Said, AllocError> {
+        match self.owned.found(key) {
+            Ok(Some((shard, stamp, value))) => {
+                self.keep(shard, stamp, then)?;
+                Ok(Said::Found(*value))
+            }
+            Ok(None) => Ok(Said::Absent),
+            Err(refusal) => Ok(Said::Refused(refusal)),
+        }
+    }
+
+    // A making that is to fail has no value.
+    fn init(
+        &mut self,
+        alloc: Global,
+        key: u64,
+        charge: u64,
+        value: Option<u64>,
+        then: Then,
+    ) -> Result<Said, AllocError> {
+        if charge == 0 {
+            return Ok(Said::Uncharged);
+        }
+        match self.owned.started(key, charge) {
+            Err(refusal) => {
+                self.drop_unused(value)?;
+                Ok(Said::Refused(refusal))
+            }
+            Ok((shard, begun, evicted)) => {
+                self.note(evicted)?;
+                self.begun(alloc, key, shard, begun, value, then)
+            }
+        }
+    }
+
+    fn begun(
+        &mut self,
+        alloc: Global,
+        key: u64,
+        shard: usize,
+        begun: Begun<u64>,
+        value: Option<u64>,
+        then: Then,
+    ) -> Result<Said, AllocError> {
+        match begun {
+            Begun::Make(stamp) => self.make(alloc, key, shard, stamp, value, then),
+            Begun::Hit(stamp, found) => {
+                self.drop_unused(value)?;
+                self.keep(shard, stamp, then)?;
+                Ok(Said::Found(*found))
+            }
+            // No player says so of an `init`: one thread meets no making of another.
+            Begun::Wait(_) => Ok(Said::Absent),
+        }
+    }
+
+    fn make(
+        &mut self,
+        alloc: Global,
+        key: u64,
+        shard: usize,
+        stamp: u64,
+        value: Option<u64>,
+        then: Then,
+    ) -> Result<Said, AllocError> {
+        let Some(value) = value else {
+            let _ = self.owned.failed(shard, stamp);
+            return Ok(Said::Failed(key));
+        };
+        let _ = self.owned.stored(shard, stamp, Arc::new(alloc, value)?);
+        self.entries.push((shard, key, value))?;
+        self.keep(shard, stamp, then)?;
+        Ok(Said::Made(key, value))
+    }
+
+    fn drop_unused(&mut self, value: Option<u64>) -> Result<(), AllocError> {
+        if let Some(value) = value {
+            self.dropped.push(value)?;
+        }
+        Ok(())
+    }
+
+    // Does with a pin what the call says of its handle.
+    fn keep(&mut self, shard: usize, stamp: u64, then: Then) -> Result<(), AllocError> {
+        match then {
+            Then::AtOnce => self.release(shard, stamp),
+            Then::Keep(slot) => {
+                let _: Said = self.let_go(slot)?;
+                if let Some(place) = self.pins.get_mut(slot) {
+                    *place = Some((shard, stamp));
+                }
+                Ok(())
+            }
+            Then::Forget => Ok(()),
+        }
+    }
+
+    fn let_go(&mut self, slot: usize) -> Result<Said, AllocError> {
+        if let Some(Some((shard, stamp))) = self.pins.get(slot).copied() {
+            self.release(shard, stamp)?;
+        }
+        if let Some(place) = self.pins.get_mut(slot) {
+            *place = None;
+        }
+        Ok(Said::Done)
+    }
+
+    fn release(&mut self, shard: usize, stamp: u64) -> Result<(), AllocError> {
+        if let Ok(evicted) = self.owned.released(shard, stamp) {
+            self.note(evicted)?;
+        }
+        Ok(())
+    }
+
+    fn prune(&mut self) -> Result<Said, AllocError> {
+        for shard in 0..SHARDS {
+            match self.owned.pruned(shard) {
+                Ok(evicted) => self.note(evicted)?,
+                Err(_) => return Ok(Said::Done),
+            };
+        }
+        Ok(Said::Done)
+    }
+
+    fn total(&self) -> u128 {
+        let mut total: u128 = 0;
+        for shard in 0..SHARDS {
+            match self.owned.total_of(shard) {
+                Ok(one) => total = total.saturating_add(u128::from(one)),
+                Err(_) => return total,
+            }
+        }
+        total
+    }
+
+    // What was evicted is dropped, oldest first.
+    fn note(&mut self, mut evicted: Evicted<u64, u64>) -> Result<Said, AllocError> {
+        while let Some(gone) = evicted.pop() {
+            self.dropped.push(*gone.value)?;
+            self.remove(gone.key);
+        }
+        Ok(Said::Done)
+    }
+
+    fn remove(&mut self, key: u64) {
+        for index in 0..self.entries.len() {
+            if self.entries[index].1 == key {
+                self.entries.swap_remove(index);
+                return;
+            }
+        }
+    }
+}
+
+// As a player of the cache: `Show` has the entries in the order of shards and keys.
+impl<P: Owned> Answers<Call> for Model<P> {
+    fn answer(&mut self, alloc: Global, call: Call) -> Result<String, AllocError> {
+        if let Call::Show = call {
+            self.entries.sort_unstable();
+            return text_of(alloc, &self.entries);
+        }
+        let said = self.take(alloc, call)?;
+        if self.dropped.is_empty() {
+            return text_of(alloc, &said);
+        }
+        let text = format!(in alloc; "{said:?}, drops {:?}", self.dropped);
+        self.dropped.clear();
+        text
+    }
+}

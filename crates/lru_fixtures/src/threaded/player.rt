@@ -1,0 +1,146 @@
+//! One thread that makes calls of a cache, and holds handles in slots.
+ghost use Rattle.std.specs.Prelude.{◌<◌};
+
+use crate::drops::{DropLog, Logged};
+use crate::tables::{Answers, text_of};
+use crate::threaded::cached::{Cached, NoHandle};
+use crate::threaded::calls::{Call, Said, Then};
+use std::alloc::{AllocError, Global};
+use std::mem;
+use std::sync::Wait;
+
+// How many handles a player can hold.
+const SLOTS: usize = 4;
+
+/// A cache, the log of its values, and the handles of it that are held in slots, at first none.
+#[derive(Drop)]
+pub struct Player<'l, R: Wait, C: Cached<Logged<R>>> {
+    cache: C,
+    log: &'l DropLog<R>,
+    slots: [Option<C::Handle>; SLOTS],
+}
+
+impl<'l, R: Wait + Clone + Drop, C: Cached<Logged<R>>> Player<'l, R, C> {
+    /// A player that holds nothing yet. Takes no memory.
+    pub fn new(cache: C, log: &'l DropLog<R>) -> Player<'l, R, C> {
+        Player {
+            cache,
+            log,
+            slots: [None, None, None, None],
+        }
+    }
+
+    /// Makes a call. `AllocError` where memory for a value is refused; then no call was made.
+    pub fn take(&mut self, call: Call) -> Result<Said, AllocError> {
+        match call {
+            Call::Init(key, charge, number, then) => {
+                let value = self.log.value(number)?;
+                Ok(self.init(key, charge, value, then))
+            }
+            Call::TryInit(key, charge, number, then) => {
+                let value = self.log.value(number)?;
+                Ok(self.try_init(key, charge, Some(value), then))
+            }
+            Call::Fail(key, charge, then) => Ok(self.try_init(key, charge, None, then)),
+            Call::Get(key, then) => Ok(self.get(key, then)),
+            Call::LetGo(slot) => {
+                self.put(slot, None);
+                Ok(Said::Done)
+            }
+            _ => Ok(asked(self.cache, call)),
+        }
+    }
+
+    // What the slot had is let go; a slot that is not there keeps nothing.
+    fn put(&mut self, slot: usize, handle: Option<C::Handle>) {
+        if let Some(place) = self.slots.get_mut(slot) {
+            *place = handle;
+        }
+    }
+
+    // Does with a handle what the call says. Answers the number of its value.
+    fn keep(&mut self, handle: C::Handle, then: Then) -> u64 {
+        let number = C::value_of(&handle).number();
+        match then {
+            Then::AtOnce => drop(handle),
+            Then::Keep(slot) => self.put(slot, Some(handle)),
+            Then::Forget => mem::forget(handle),
+        }
+        number
+    }
+
+    fn get(&mut self, key: u64, then: Then) -> Said {
+        match self.cache.found(key) {
+            Ok(Some(handle)) => Said::Found(self.keep(handle, then)),
+            Ok(None) => Said::Absent,
+            Err(refusal) => Said::Refused(refusal),
+        }
+    }
+
+    fn init(&mut self, key: u64, charge: u64, value: Logged<R>, then: Then) -> Said {
+        if charge == 0 {
+            return Said::Uncharged;
+        }
+        let mut ran = None;
+        let made = self.cache.made(key, charge, value, &mut ran);
+        self.told(made, ran, then)
+    }
+
+    fn try_init(&mut self, key: u64, charge: u64, value: Option<Logged<R>>, then: Then) -> Said {
+        if charge == 0 {
+            return Said::Uncharged;
+        }
+        let mut ran = None;
+        let made = self.cache.tried(key, charge, value, &mut ran);
+        self.told(made, ran, then)
+    }
+
+    fn told(&mut self, made: Result<C::Handle, NoHandle>, ran: Option<u64>, then: Then) -> Said {
+        match made {
+            Ok(handle) => said(ran, self.keep(handle, then)),
+            Err(NoHandle::Failed(key)) => Said::Failed(key),
+            Err(NoHandle::Refused(refusal)) => Said::Refused(refusal),
+        }
+    }
+}
+
+// What a handle says, of a value that an `init` made of this key, or that was there.
+fn said(ran: Option<u64>, number: u64) -> Said {
+    match ran {
+        Some(key) => Said::Made(key, number),
+        None => Said::Found(number),
+    }
+}
+
+// Makes a call that gives no handle.
+fn asked<V, C: Cached<V>>(cache: C, call: Call) -> Said {
+    match call {
+        Call::AdviceEvict(key) => cache.advise(key),
+        Call::Prune => cache.clear(),
+        Call::SetCapacity(capacity) => cache.resize(capacity),
+        Call::Reserve(entries) => {
+            if let Err(refusal) = cache.make_room(entries) {
+                return Said::Refused(refusal);
+            }
+        }
+        Call::Capacity => return Said::Number(cache.limit()),
+        _ => return Said::Number(cache.total()),
+    }
+    Said::Done
+}
+
+// The text of what was said, and then of the values that were dropped, if any were.
+impl<'l, R: Wait + Clone + Drop, C: Cached<Logged<R>>> Answers<Call> for Player<'l, R, C> {
+    fn answer(&mut self, alloc: Global, call: Call) -> Result<String, AllocError> {
+        if let Call::Show = call {
+            return text_of(alloc, &self.cache);
+        }
+        let said = self.take(call)?;
+        let dropped = self.log.numbers()?;
+        self.log.clear();
+        if dropped.is_empty() {
+            return text_of(alloc, &said);
+        }
+        format!(in alloc; "{said:?}, drops {dropped:?}")
+    }
+}

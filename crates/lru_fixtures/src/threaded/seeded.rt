@@ -1,0 +1,90 @@
+//! Long runs of calls that seeds decide, each answered as a model answers it.
+
+use crate::tables::{Answers, text_of};
+use crate::threaded::calls::{Call, Then};
+use rand_core::{Rng, SeedableRng};
+use rand_xoshiro::Xoshiro256PlusPlus;
+use std::alloc::{AllocError, Global};
+use std::process::Abort;
+
+// How many calls a run has.
+const CALLS: u64 = 2_000;
+
+// The next call, whose value would be its number. The numbers of 16 keys differ in their high
+// half alone, in their low half alone, or in both.
+fn draw(generator: &mut Xoshiro256PlusPlus, number: u64) -> Call {
+    let kind = generator.next_u64() % 24;
+    let key = generator.next_u64() % 4 * 4_294_967_296 + generator.next_u64() % 4;
+    let charge = 1 + generator.next_u64() % 9;
+    let slot = (generator.next_u64() % 8) as usize;
+    let then = if slot < 4 { Then::Keep(slot) } else { Then::AtOnce };
+    match kind {
+        0..5 => Call::Get(key, then),
+        5..10 => Call::Init(key, charge, number, then),
+        10..14 => Call::TryInit(key, charge, number, then),
+        14..17 => Call::Fail(key, charge, then),
+        17..20 => Call::LetGo(slot % 4),
+        20..22 => Call::AdviceEvict(key),
+        22 => Call::Prune,
+        _ => Call::Total,
+    }
+}
+
+/// Makes the calls that a seed decides, of a cache and of its model. Where the answers differ, or
+/// the entries that the text of the cache shows in each shard, the test ends.
+pub fn agree<C: Answers<Call>, M: Answers<Call>>(
+    rt: &impl Abort,
+    alloc: Global,
+    seed: u64,
+    cache: &mut C,
+    model: &mut M,
+) {
+    let mut generator = Xoshiro256PlusPlus::seed_from_u64(seed);
+    for number in 0..CALLS {
+        let call = draw(&mut generator, number);
+        let told = cache.answer(alloc, call).expect(rt, "memory");
+        let wanted = model.answer(alloc, call).expect(rt, "memory");
+        assert_eq!(rt; told.as_str(), wanted.as_str(), "at call {number} of seed {seed}, {call:?}");
+        let shown = entries_shown(alloc, cache).expect(rt, "memory");
+        let entries = model.answer(alloc, Call::Show).expect(rt, "memory");
+        assert_eq!(rt; shown.as_str(), entries.as_str(), "after call {number} of seed {seed}");
+    }
+}
+
+// The entries that the text of a cache shows, as the text of a list of shards, keys and values.
+fn entries_shown<C: Answers<Call>>(alloc: Global, cache: &mut C) -> Result<String, AllocError> {
+    let text = cache.answer(alloc, Call::Show)?;
+    text_of(alloc, &entries_of(alloc, text.as_str())?)
+}
+
+fn entries_of(alloc: Global, text: &str) -> Result<Vec<(usize, u64, u64)>, AllocError> {
+    let mut entries = Vec::new(alloc);
+    let mut shard: usize = 0;
+    for part in text.split('{').skip(1) {
+        push_entries(&mut entries, shard, part)?;
+        shard = shard.saturating_add(1);
+    }
+    entries.sort_unstable();
+    Ok(entries)
+}
+
+// The entries of one shard.
+fn push_entries(
+    entries: &mut Vec<(usize, u64, u64)>,
+    shard: usize,
+    part: &str,
+) -> Result<(), AllocError> {
+    for entry in part.split(',') {
+        if let Some((key, value)) = numbers_of(entry) {
+            entries.push((shard, key, value))?;
+        }
+    }
+    Ok(())
+}
+
+// A key and its value; none where there are no two numbers.
+fn numbers_of(entry: &str) -> Option<(u64, u64)> {
+    let (key, value) = entry.split_once(": ")?;
+    let value = value.trim_end_matches(']').trim_end_matches('}');
+    Some((key.trim().parse().ok()?, value.parse().ok()?))
+}

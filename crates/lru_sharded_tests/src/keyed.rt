@@ -1,0 +1,49 @@
+//! Keys of text, and numbers that no test chose.
+
+use concurrent_lru::sharded::LruCache;
+use std::alloc::Global;
+use std::hash::{BuildHasher, BuildHasherDefault, FoldHasher, RandomState};
+use std::sync::Wait;
+
+type ByText<R> = LruCache<String, u64, R, BuildHasherDefault<FoldHasher>>;
+
+// The value of a key, where it is ready.
+fn found<R: Wait>(alloc: Global, cache: &ByText<R>, key: &str) -> Option<u64> {
+    match cache.get(String::from_str(alloc, key).ok()?) {
+        Ok(Some(handle)) => Some(*handle.value()),
+        _ => None,
+    }
+}
+
+#[test]
+fn a_value_is_found_until_it_is_pruned(rt: HostRuntime) {
+    let alloc = rt.alloc();
+    let made: Result<ByText<&HostRuntime>, _> =
+        LruCache::with_shards_hasher(alloc, &rt, 10, 16, BuildHasherDefault::new());
+    let cache = made.expect(&rt, "memory");
+    let key = String::from_str(alloc, "foo").expect(&rt, "memory");
+    drop(cache.get_or_init(key, 1, |_| 7));
+    assert_eq!(rt; found(alloc, &cache, "foo"), Some(7));
+    cache.prune();
+    assert_eq!(rt; found(alloc, &cache, "foo"), None);
+}
+
+// Whether the value of each key below 100 could be made, as the key.
+fn makes_hundred<R: Wait, S: BuildHasher>(cache: &LruCache<u64, u64, R, S>) -> bool {
+    (0..100u64).all(|key| match cache.get_or_init(key, 1, |key| *key) {
+        Ok(handle) => *handle.value() == key,
+        Err(_) => false,
+    })
+}
+
+#[test]
+fn sixteen_shards_by_random_numbers(rt: HostRuntime) {
+    let alloc = rt.alloc();
+    let hasher = RandomState::new(&rt).expect(&rt, "random numbers");
+    let made: Result<LruCache<u64, u64, &HostRuntime>, _> = LruCache::new(alloc, &rt, 32, hasher);
+    let cache = made.expect(&rt, "memory");
+    let text = format!(in alloc; "{cache:?}").expect(&rt, "memory");
+    assert_eq!(rt; text.matches("{}").count(), 16);
+    assert!(rt; makes_hundred(&cache));
+    assert!(rt; cache.total_charge() <= 32);
+}

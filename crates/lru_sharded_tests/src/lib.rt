@@ -1,0 +1,28 @@
+//! Tests of the cache in shards: pure shards, tables of calls of one thread, and what threads do
+//! together. They stand apart from the cache, so that its crate is proved once.
+#![tactic(auto)]
+
+#[cfg(test)]
+mod crossings;
+#[cfg(test)]
+mod example;
+#[cfg(test)]
+mod files;
+#[cfg(test)]
+mod gates;
+#[cfg(test)]
+mod keyed;
+#[cfg(test)]
+mod makings;
+#[cfg(test)]
+mod pure;
+#[cfg(test)]
+mod runs;
+#[cfg(test)]
+mod seeded;
+#[cfg(test)]
+mod shares;
+#[cfg(test)]
+mod threaded;
+#[cfg(test)]
+mod workers;

@@ -1,0 +1,32 @@
+//! Tests of the cache of one lock: tables of calls of one thread, and what threads do together.
+//! They stand apart from the cache, so that its crate is proved once.
+#![tactic(auto)]
+
+#[cfg(test)]
+mod capacities;
+#[cfg(test)]
+mod changes;
+#[cfg(test)]
+mod crossings;
+#[cfg(test)]
+mod evictions;
+#[cfg(test)]
+mod gates;
+#[cfg(test)]
+mod handles;
+#[cfg(test)]
+mod makings;
+#[cfg(test)]
+mod marks;
+#[cfg(test)]
+mod play;
+#[cfg(test)]
+mod pool;
+#[cfg(test)]
+mod rows;
+#[cfg(test)]
+mod seeded;
+#[cfg(test)]
+mod waiting;
+#[cfg(test)]
+mod workers;

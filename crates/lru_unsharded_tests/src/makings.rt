@@ -1,0 +1,138 @@
+//! Two callers of one value: the second waits, takes over, or finds what the first made.
+
+use concurrent_lru::unsharded::{GetError, LruCache};
+use lru_fixtures::flags::{meets, pause, raise};
+use std::sync::Wait;
+use std::sync::atomic::AtomicU64;
+use std::thread;
+
+/// Where two callers of a value are: the first makes it, and the second comes.
+#[derive(Drop)]
+pub struct Meeting {
+    pub started: AtomicU64,
+    pub coming: AtomicU64,
+}
+
+impl Meeting {
+    /// Neither is there yet.
+    pub(crate) fn new() -> Meeting {
+        Meeting {
+            started: AtomicU64::new(0),
+            coming: AtomicU64::new(0),
+        }
+    }
+}
+
+// The value of key 1, made as 5 while the other caller comes.
+fn makes_first<R: Wait>(cache: &LruCache<u64, u64, R>, meeting: &Meeting) -> Option<u64> {
+    let mut met = false;
+    let made = cache.get_or_init(1, 3, |_| {
+        raise(&meeting.started);
+        met = meets(&meeting.coming);
+        pause();
+        5
+    });
+    match made {
+        Ok(handle) if met => Some(*handle.value()),
+        _ => None,
+    }
+}
+
+/// The value of key 1, asked for while it is made; none where this caller made it anew.
+pub(crate) fn comes_second<R: Wait>(
+    cache: &LruCache<u64, u64, R>,
+    meeting: &Meeting,
+) -> Option<u64> {
+    if !meets(&meeting.started) {
+        return None;
+    }
+    raise(&meeting.coming);
+    let mut ran = false;
+    let made = cache.get_or_init(1, 7, |_| {
+        ran = true;
+        6
+    });
+    match made {
+        Ok(handle) if !ran => Some(*handle.value()),
+        _ => None,
+    }
+}
+
+/// The value of key 1, where it is ready.
+pub(crate) fn found<R: Wait>(cache: &LruCache<u64, u64, R>) -> Option<u64> {
+    match cache.get(1) {
+        Ok(Some(handle)) => Some(*handle.value()),
+        _ => None,
+    }
+}
+
+#[test]
+fn one_value_for_two_callers(rt: HostRuntime) {
+    let cache: LruCache<u64, u64, &HostRuntime> = LruCache::new(rt.alloc(), &rt, 10);
+    let meeting = Meeting::new();
+    let values = thread::join(
+        &rt,
+        || makes_first(&cache, &meeting),
+        || comes_second(&cache, &meeting),
+    );
+    assert_eq!(rt; values, (Some(5), Some(5)));
+    let (third, total) = thread::join(&rt, || found(&cache), || cache.total_charge());
+    assert_eq!(rt; (third, total), (Some(5), 3));
+}
+
+// Fails to make key 1 once the other caller comes, and says whether it did.
+fn fails_first<R: Wait>(cache: &LruCache<u64, u64, R>, meeting: &Meeting) -> bool {
+    let made = cache.get_or_try_init(1, 3, |_| -> Result<u64, u8> {
+        raise(&meeting.started);
+        let error = if meets(&meeting.coming) { 9 } else { 8 };
+        pause();
+        Err(error)
+    });
+    matches!(&made, Err(GetError::Init(9)))
+}
+
+// The value of key 1, which this caller makes as 5 where the other has failed.
+fn takes_over<R: Wait>(cache: &LruCache<u64, u64, R>, meeting: &Meeting) -> Option<u64> {
+    if !meets(&meeting.started) {
+        return None;
+    }
+    raise(&meeting.coming);
+    match cache.get_or_try_init(1, 7, |_| -> Result<u64, u8> { Ok(5) }) {
+        Ok(handle) => Some(*handle.value()),
+        Err(_) => None,
+    }
+}
+
+#[test]
+fn another_takes_a_failed_making_over(rt: HostRuntime) {
+    let cache: LruCache<u64, u64, &HostRuntime> = LruCache::new(rt.alloc(), &rt, 10);
+    let meeting = Meeting::new();
+    let made = thread::join(
+        &rt,
+        || fails_first(&cache, &meeting),
+        || takes_over(&cache, &meeting),
+    );
+    assert_eq!(rt; made, (true, Some(5)));
+    // The first caller's charge stays where the second waited for it.
+    let total = cache.total_charge();
+    assert!(rt; total == 3 || total == 7);
+}
+
+// The value of key 1, whose `init` asks for key 2, made as 6.
+fn makes_by_another_key<R: Wait>(cache: &LruCache<u64, u64, R>) -> Option<u64> {
+    let made = cache.get_or_try_init(1, 1, |_| -> Result<u64, GetError<u8>> {
+        let inner = cache.get_or_try_init(2, 1, |_| -> Result<u64, u8> { Ok(6) })?;
+        Ok(*inner.value())
+    });
+    match made {
+        Ok(handle) => Some(*handle.value()),
+        Err(_) => None,
+    }
+}
+
+#[test]
+fn a_maker_may_use_the_cache(rt: HostRuntime) {
+    let cache: LruCache<u64, u64, &HostRuntime> = LruCache::new(rt.alloc(), &rt, 10);
+    assert_eq!(rt; makes_by_another_key(&cache), Some(6));
+    assert_eq!(rt; cache.total_charge(), 2);
+}
