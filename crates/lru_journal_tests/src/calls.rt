@@ -11,7 +11,7 @@ use crate::table::{Row, ask_all};
 use concurrent_lru::lru_core::Refusal::{Overflow, Stale};
 use std::test;
 
-const ACCEPTED_OR_REFUSED: [Row; 6] = [
+static ACCEPTED_OR_REFUSED: [Row; 6] = [
     (Begin(1, 1), Make(0), &[], "begin 1 1 -> make 0"),
     (Ready(0, 1), Done, &[], "ready 0 -> done"),
     (Release(0, 1), Done, &[], "release 0 -> done"),
@@ -27,7 +27,7 @@ fn accepted_steps_are_recorded_and_refused_ones_are_not(rt: HostRuntime) -> Resu
 
 // Each refusal but for want of memory, before, while and after the entry is made. The refused
 // begin used no stamp up. The total is past the capacity, so the release evicts.
-const REFUSED: [Row; 16] = [
+static REFUSED: [Row; 16] = [
     (Poll(0), Refused(Stale), &[], ""),
     (Ready(0, 7), Back(Stale, 0, 7), &[], ""),
     (Fail(0), Refused(Stale), &[], ""),
@@ -56,7 +56,7 @@ fn a_refused_step_hands_back_what_it_was_given(rt: HostRuntime) -> Result<(), te
     ask_all(&rt, rt.alloc(), 10, &REFUSED)
 }
 
-const IN_VAIN: [Row; 5] = [
+static IN_VAIN: [Row; 5] = [
     (Get(1), Missed, &[], "get 1 -> none"),
     (AdviceEvict(1), Done, &[], "advice 1 -> done"),
     (Prune, Done, &[], "prune -> done"),
@@ -69,7 +69,7 @@ fn a_step_that_finds_nothing_is_recorded(rt: HostRuntime) -> Result<(), test::Fa
     ask_all(&rt, rt.alloc(), 1, &IN_VAIN)
 }
 
-const EVERY_STEP: [Row; 17] = [
+static EVERY_STEP: [Row; 17] = [
     (Begin(1, 3), Make(0), &[], "begin 1 3 -> make 0"),
     (Begin(1, 7), Wait(0), &[], "begin 1 7 -> wait 0"),
     (Poll(0), Wait(0), &[], "poll 0 -> wait 0"),
@@ -94,7 +94,7 @@ fn every_step_can_be_recorded(rt: HostRuntime) -> Result<(), test::Fail> {
     ask_all(&rt, rt.alloc(), 10, &EVERY_STEP)
 }
 
-const HITS: [Row; 8] = [
+static HITS: [Row; 8] = [
     (Begin(1, 1), Make(0), &[], "begin 1 1 -> make 0"),
     (Ready(0, 7), Done, &[], "ready 0 -> done"),
     (Release(0, 7), Done, &[], "release 0 -> done"),
@@ -111,7 +111,7 @@ fn a_hit_gives_the_value_that_was_given(rt: HostRuntime) -> Result<(), test::Fai
 }
 
 // Advice evicts the idle entry of its own key, and no other.
-const ADVICE_AND_PRUNE: [Row; 19] = [
+static ADVICE_AND_PRUNE: [Row; 19] = [
     (Begin(1, 1), Make(0), &[], "begin 1 1 -> make 0"),
     (Ready(0, 1), Done, &[], "ready 0 -> done"),
     (Begin(2, 2), Make(1), &[], "begin 2 2 -> make 1"),
@@ -138,7 +138,7 @@ fn advice_evicts_one_key_and_a_prune_all_that_is_idle(rt: HostRuntime) -> Result
     ask_all(&rt, rt.alloc(), 10, &ADVICE_AND_PRUNE)
 }
 
-const SHRUNK_AT_ONCE: [Row; 5] = [
+static SHRUNK_AT_ONCE: [Row; 5] = [
     (Begin(1, 1), Make(0), &[], "begin 1 1 -> make 0"),
     (Ready(0, 1), Done, &[], "ready 0 -> done"),
     (Release(0, 1), Done, &[], "release 0 -> done"),
@@ -152,7 +152,7 @@ fn a_new_capacity_evicts_at_once_and_is_recorded(rt: HostRuntime) -> Result<(), 
 }
 
 // At capacity 1 a second entry evicts the first.
-const SHRUNK_FIRST: [Row; 7] = [
+static SHRUNK_FIRST: [Row; 7] = [
     (SetCapacity(1), Done, &[], "capacity 1 -> done"),
     (Begin(1, 1), Make(0), &[], "begin 1 1 -> make 0"),
     (Ready(0, 1), Done, &[], "ready 0 -> done"),
@@ -168,7 +168,7 @@ fn later_steps_settle_to_a_new_capacity(rt: HostRuntime) -> Result<(), test::Fai
 }
 
 // The entry is pinned while it is made, and evicted by its release.
-const SHRUNK_UNDER_A_MAKING: [Row; 7] = [
+static SHRUNK_UNDER_A_MAKING: [Row; 7] = [
     (Begin(1, 1), Make(0), &[], "begin 1 1 -> make 0"),
     (SetCapacity(0), Done, &[], "capacity 0 -> done"),
     (Total, Sum(1), &[], "total -> total 1"),

@@ -27,15 +27,19 @@ impl Heard {
 
     /// The stamps and keys of the entries that left, oldest first.
     pub(crate) fn gone(self, alloc: Global) -> Result<Vec<(u64, u64)>, AllocError> {
-        let mut all = Vec::new(alloc);
-        let Some(mut evicted) = self.evicted else {
-            return Ok(all);
-        };
-        while let Some(gone) = evicted.pop() {
-            all.push((gone.stamp, gone.key))?;
+        match self.evicted {
+            Some(evicted) => all_of(alloc, evicted),
+            None => Ok(Vec::new(alloc)),
         }
-        Ok(all)
     }
+}
+
+fn all_of(alloc: Global, mut evicted: Evicted<u64, u64>) -> Result<Vec<(u64, u64)>, AllocError> {
+    let mut all = Vec::new(alloc);
+    while let Some(gone) = evicted.pop() {
+        all.push((gone.stamp, gone.key))?;
+    }
+    Ok(all)
 }
 
 impl From<Answer> for Heard {

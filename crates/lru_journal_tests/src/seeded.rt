@@ -50,18 +50,26 @@ impl Draws {
         let key = self.generator.next_u64() % 6;
         let number = self.generator.next_u64() % 8;
         let stamp = self.pins[(self.generator.next_u64() % 4) as usize];
-        match kind {
-            0 => Step::Poll(stamp),
-            1 => Step::Ready(stamp, number),
-            2 => Step::Fail(stamp),
-            3 => Step::Release(stamp, number),
-            4 | 5 => Step::Get(key),
-            6 | 7 => Step::AdviceEvict(key),
-            8 => Step::Prune,
-            9 => Step::SetCapacity(4 + number),
-            10 => Step::Total,
-            _ => Step::Begin(key, 1 + number % 3),
-        }
+        let begin = Step::Begin(key, 1 + number % 3);
+        let steps = [
+            Step::Poll(stamp),
+            Step::Ready(stamp, number),
+            Step::Fail(stamp),
+            Step::Release(stamp, number),
+            Step::Get(key),
+            Step::Get(key),
+            Step::AdviceEvict(key),
+            Step::AdviceEvict(key),
+            Step::Prune,
+            Step::SetCapacity(4 + number),
+            Step::Total,
+            begin,
+            begin,
+            begin,
+            begin,
+            begin,
+        ];
+        steps[kind as usize]
     }
 
     // Keeps the stamp where the step got a pin, and lets the oldest pin be given back.

@@ -3,7 +3,7 @@
 use crate::scratch;
 use concurrent_lru::unsharded::GetError;
 use lru_files::{Fault, FileBlocks, OpenError, ReadAt};
-use lru_pages::{Blocks, PageCache};
+use lru_pages::PageCache;
 use std::alloc::{AllocError, Global};
 use std::fs::OpenOptions;
 use std::io::ErrorKind;
@@ -58,11 +58,39 @@ fn four_threads_read_a_file(rt: HostRuntime) -> Result<(), Fail> {
     Ok(())
 }
 
-// How many bytes a block has; none past the end.
-fn len_of<S: ReadAt>(reader: &FileBlocks<S>, number: u64) -> Option<usize> {
-    match reader.block(number) {
-        Ok(bytes) => Some(bytes.len()),
-        Err(_) => None,
+// What a page is answered.
+#[derive(Clone, Copy, Debug, PartialEq, Eq)]
+enum Told {
+    // So many bytes, the last of which is this one.
+    Bytes(usize, Option<u8>),
+    PastEnd,
+    Short,
+    Failed(ErrorKind),
+    // What the cache refuses, or want of memory.
+    Refused,
+}
+
+impl Told {
+    // The answer to a page, whose handle is let go at once.
+    fn of<S: ReadAt, R: Wait>(pages: &PageCache<'_, FileBlocks<S>, R>, number: u64) -> Told {
+        match pages.page(number) {
+            Ok(page) => Told::bytes(page.value().bytes()),
+            Err(GetError::Init(fault)) => Told::fault(fault),
+            Err(_) => Told::Refused,
+        }
+    }
+
+    fn bytes(bytes: &[u8]) -> Told {
+        Told::Bytes(bytes.len(), bytes.last().copied())
+    }
+
+    fn fault(fault: Fault) -> Told {
+        match fault {
+            Fault::PastEnd => Told::PastEnd,
+            Fault::Memory => Told::Refused,
+            Fault::Short => Told::Short,
+            Fault::Read(error) => Told::Failed(error.kind()),
+        }
     }
 }
 
@@ -70,26 +98,27 @@ fn len_of<S: ReadAt>(reader: &FileBlocks<S>, number: u64) -> Option<usize> {
 fn the_last_block_is_short(rt: HostRuntime) -> Result<(), Fail> {
     let alloc = rt.alloc();
     let cases = [
-        (0, 0, None),
-        (1, 0, Some(1)),
-        (31, 0, Some(31)),
-        (32, 0, Some(32)),
-        (32, 1, None),
-        (33, 0, Some(32)),
-        (33, 1, Some(1)),
-        (33, 2, None),
-        (33, u64::MAX, None),
-        (64, 1, Some(32)),
+        (0, 0, Told::PastEnd),
+        (1, 0, Told::Bytes(1, Some(0))),
+        (31, 0, Told::Bytes(31, Some(30))),
+        (32, 0, Told::Bytes(32, Some(31))),
+        (32, 1, Told::PastEnd),
+        (33, 0, Told::Bytes(32, Some(31))),
+        (33, 1, Told::Bytes(1, Some(32))),
+        (33, 2, Told::PastEnd),
+        (33, u64::MAX, Told::PastEnd),
+        (64, 1, Told::Bytes(32, Some(63))),
     ];
-    for (count, number, len) in cases {
+    for (count, number, told) in cases {
         let path = scratch::file(&rt, "lru_pages_tests_last", &bytes(alloc, count)?)?;
         let reader = FileBlocks::open(alloc, &rt, path.as_path(), 32)?;
+        let pages = PageCache::new(alloc, &rt, &reader, 3);
         assert_eq!(rt;
-            len_of(&reader, number),
-            len,
+            Told::of(&pages, number),
+            told,
             "block {number} of {count} bytes"
         );
-        fs::remove_file(&rt, path.as_path())?;
+        let _removed = fs::remove_file(&rt, path.as_path());
     }
     Ok(())
 }
@@ -101,14 +130,18 @@ fn a_file_that_was_cut_short_gives_no_page(rt: HostRuntime) -> Result<(), Fail> 
     let reader = FileBlocks::open(alloc, &rt, path.as_path(), 32)?;
     let pages = PageCache::new(alloc, &rt, &reader, 3);
     let file = OpenOptions::new().write(true).open(&rt, path.as_path())?;
-    file.set_len(40)?;
-    assert!(rt; matches!(pages.page(1), Err(GetError::Init(Fault::Short))));
-    assert!(rt; matches!(pages.page(2), Err(GetError::Init(Fault::PastEnd))));
-    assert_eq!(rt; pages.total_charge(), 0);
-    file.set_len(64)?;
-    assert_eq!(rt; pages.page(1)?.value().bytes()[7], 39);
-    assert_eq!(rt; pages.total_charge(), 1);
-    fs::remove_file(&rt, path.as_path())?;
+    let steps = [
+        (40, Told::Short, 0),
+        (64, Told::Bytes(32, Some(0)), 1),
+        // The page is there still.
+        (40, Told::Bytes(32, Some(0)), 1),
+    ];
+    for (len, told, total) in steps {
+        file.set_len(len)?;
+        assert_eq!(rt; Told::of(&pages, 1), told, "at {len} bytes");
+        assert_eq!(rt; pages.total_charge(), total, "at {len} bytes");
+    }
+    let _removed = fs::remove_file(&rt, path.as_path());
     Ok(())
 }
 
@@ -132,22 +165,21 @@ impl ReadAt for Worn {
 }
 
 #[test]
-fn a_read_that_fails_leaves_nothing(rt: HostRuntime) -> Result<(), Fail> {
+fn a_read_that_fails_leaves_nothing(rt: HostRuntime) {
     let worn = Worn {
         reads: AtomicU64::new(0),
     };
     let reader = FileBlocks::new(rt.alloc(), worn, 4, 4);
     let pages = PageCache::new(rt.alloc(), &rt, &reader, 3);
-    let failed = match pages.page(0) {
-        Err(GetError::Init(Fault::Read(error))) => Some(error.kind()),
-        _ => None,
-    };
-    assert_eq!(rt; failed, Some(ErrorKind::TimedOut));
-    assert!(rt; matches!(pages.page(0), Err(GetError::Init(Fault::Short))));
-    assert_eq!(rt; pages.total_charge(), 0);
-    assert_eq!(rt; pages.page(0)?.value().bytes(), [7; 4].as_slice());
-    assert_eq!(rt; pages.total_charge(), 1);
-    Ok(())
+    let steps = [
+        (Told::Failed(ErrorKind::TimedOut), 0),
+        (Told::Short, 0),
+        (Told::Bytes(4, Some(7)), 1),
+    ];
+    for (told, total) in steps {
+        assert_eq!(rt; Told::of(&pages, 0), told);
+        assert_eq!(rt; pages.total_charge(), total);
+    }
 }
 
 #[test]

@@ -1,10 +1,10 @@
-//! Sharded caches and their handles cross threads.
+//! Caches in shards, and their handles, across threads.
 
-use concurrent_lru::fit::Fit;
-use concurrent_lru::sharded::{CacheHandle, LruCache};
-use lru_fixtures::hashers::ByOwnNumber;
-use std::hash::{BuildHasher, Hash};
+use concurrent_lru::sharded::{CacheHandle, Fit, LruCache};
+use std::hash::{BuildHasher, BuildHasherDefault, FoldHasher, Hash};
 use std::sync::Wait;
+use std::test::Fail;
+use std::thread;
 
 // What may be sent to another thread and shared with it.
 fn crosses<T: Send + Sync>(_value: &T) {}
@@ -22,10 +22,21 @@ fn caches_cross<
 }
 
 #[test]
-fn caches_and_handles_cross_threads(rt: HostRuntime) {
-    let made: Result<LruCache<u64, u64, &HostRuntime, ByOwnNumber>, _> =
-        LruCache::with_shards_hasher(rt.alloc(), &rt, 10, 2, ByOwnNumber);
-    let cache = made.expect(&rt, "memory");
-    let handle = cache.get_or_init(1, 1, |key| *key).expect(&rt, "memory");
+fn sharded_caches_and_handles_cross_threads(rt: HostRuntime) -> Result<(), Fail> {
+    let cache: LruCache<u64, u64, HostRuntime, BuildHasherDefault<FoldHasher>> =
+        LruCache::with_shards_hasher(rt.alloc(), rt.clone()?, 1, 1, BuildHasherDefault::new())?;
+    let handle = cache.get_or_init(1, 3, |_| 5)?;
     caches_cross(&cache, &handle);
+    let shared = &cache;
+    // One thread gives the pin back, with which the entry goes, while this one waits for it.
+    let (total, _) = thread::join(
+        &rt,
+        move || {
+            drop(handle);
+            shared.total_charge()
+        },
+        || (),
+    );
+    assert_eq!(rt; total, 0);
+    Ok(())
 }

@@ -27,8 +27,13 @@ fn total_of<R: Wait + Threads + Sync + Send>(
     capacity: u64,
 ) -> Option<u128> {
     let gate = Arc::new(alloc, Gate::new()).ok()?;
-    let made: Result<LruCache<u64, Slow, &R, ByOwnNumber>, _> =
-        LruCache::with_shards_hasher(alloc, rt, capacity, 2, ByOwnNumber);
+    let made: Result<LruCache<u64, Slow, &R, ByOwnNumber>, _> = LruCache::with_shards_hasher(
+        alloc,
+        rt,
+        capacity,
+        2,
+        ByOwnNumber,
+    );
     let cache = made.ok()?;
     let (shared, met) = (&cache, &gate);
     let kept = made_for(shared, met, cause)?;
@@ -43,6 +48,10 @@ fn total_of<R: Wait + Threads + Sync + Send>(
 #[test]
 fn drops_run_without_the_lock(rt: HostRuntime) {
     for (cause, capacity, total) in CAUSES {
-        assert_eq!(rt; total_of(&rt, rt.alloc(), cause, capacity), Some(total), "{cause:?}");
+        assert_eq!(rt;
+            total_of(&rt, rt.alloc(), cause, capacity),
+            Some(total),
+            "{cause:?}"
+        );
     }
 }

@@ -18,8 +18,13 @@ fn found<R: Wait>(alloc: Global, cache: &ByText<R>, key: &str) -> Option<u64> {
 #[test]
 fn a_value_is_found_until_it_is_pruned(rt: HostRuntime) {
     let alloc = rt.alloc();
-    let made: Result<ByText<&HostRuntime>, _> =
-        LruCache::with_shards_hasher(alloc, &rt, 10, 16, BuildHasherDefault::new());
+    let made: Result<ByText<&HostRuntime>, _> = LruCache::with_shards_hasher(
+        alloc,
+        &rt,
+        10,
+        16,
+        BuildHasherDefault::new(),
+    );
     let cache = made.expect(&rt, "memory");
     let key = String::from_str(alloc, "foo").expect(&rt, "memory");
     drop(cache.get_or_init(key, 1, |_| 7));

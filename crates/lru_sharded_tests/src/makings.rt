@@ -10,11 +10,7 @@ use std::thread;
 type Cache<R> = LruCache<u64, u64, R, ByOwnNumber>;
 
 // The value of key 1, made as 5 while the other caller comes.
-fn makes_first<R: Wait>(
-    cache: &Cache<R>,
-    started: &AtomicU64,
-    coming: &AtomicU64,
-) -> Option<u64> {
+fn makes_first<R: Wait>(cache: &Cache<R>, started: &AtomicU64, coming: &AtomicU64) -> Option<u64> {
     let mut met = false;
     let made = cache.get_or_init(1, 3, |_| {
         raise(started);
@@ -29,11 +25,7 @@ fn makes_first<R: Wait>(
 }
 
 // The value of key 1, asked for while it is made; none where this caller made it anew.
-fn comes_second<R: Wait>(
-    cache: &Cache<R>,
-    started: &AtomicU64,
-    coming: &AtomicU64,
-) -> Option<u64> {
+fn comes_second<R: Wait>(cache: &Cache<R>, started: &AtomicU64, coming: &AtomicU64) -> Option<u64> {
     if !meets(started) {
         return None;
     }
@@ -59,8 +51,13 @@ fn found<R: Wait>(cache: &Cache<R>) -> Option<u64> {
 
 #[test]
 fn one_value_for_two_callers(rt: HostRuntime) {
-    let made: Result<Cache<&HostRuntime>, _> =
-        LruCache::with_shards_hasher(rt.alloc(), &rt, 10, 2, ByOwnNumber);
+    let made: Result<Cache<&HostRuntime>, _> = LruCache::with_shards_hasher(
+        rt.alloc(),
+        &rt,
+        10,
+        2,
+        ByOwnNumber,
+    );
     let cache = made.expect(&rt, "memory");
     let started = AtomicU64::new(0);
     let coming = AtomicU64::new(0);

@@ -6,40 +6,42 @@ use lru_fixtures::hashers::{ByOwnNumber, ByThree};
 use lru_fixtures::tables::answers_as_told;
 use lru_fixtures::tables::shards::ShardCall;
 use lru_fixtures::tables::shards::ShardCall::{
-    AdviceEvict, Begin, Fail, Get, Poll, Prune, Ready, Release, Route, SetCapacity, SetShard, Total,
-    Use,
+    AdviceEvict, Begin, Fail, Get, Poll, Prune, Ready, Release, Route, SetCapacity, SetShard,
+    Total, Use,
 };
 use std::alloc::Global;
 use std::hash::BuildHasher;
-use std::process::Abort;
+use std::test;
 
 // Makes the calls of a table of so many empty shards, which share this capacity.
 fn plays<S: BuildHasher + Drop>(
-    rt: &impl Abort,
     alloc: Global,
     capacity: u64,
     shards: usize,
     hasher: S,
     table: &[(ShardCall, &str)],
-)
+) -> Result<(), test::Fail>
     requires { 0 < shards }
 {
-    let made: Result<Shards<u64, u64, S>, _> = Shards::new(alloc, capacity, shards, hasher);
-    answers_as_told(rt, alloc, &mut made.expect(rt, "memory"), table);
+    let mut made: Shards<u64, u64, S> = Shards::new(alloc, capacity, shards, hasher)?;
+    answers_as_told(alloc, &mut made, table)
 }
 
 const EACH_FOR_ITSELF: [(ShardCall, &str); 6] = [
     (Use(1), "Ok((1, [], []))"),
     (Use(0), "Ok((0, [], []))"),
-    (Use(2), "Ok((0, [Gone { stamp: 0, key: 0, charge: 1, value: 0 }], []))"),
+    (
+        Use(2),
+        "Ok((0, [Gone { stamp: 0, key: 0, charge: 1, value: 0 }], []))",
+    ),
     (Get(1), "Ok(Some((1, 0, 1)))"),
     (Get(2), "Ok(Some((0, 1, 2)))"),
     (Get(0), "Ok(None)"),
 ];
 
 #[test]
-fn each_shard_evicts_for_itself(rt: HostRuntime) {
-    plays(&rt, rt.alloc(), 2, 2, ByOwnNumber, &EACH_FOR_ITSELF);
+fn each_shard_evicts_for_itself(rt: HostRuntime) -> Result<(), test::Fail> {
+    plays(rt.alloc(), 2, 2, ByOwnNumber, &EACH_FOR_ITSELF)
 }
 
 const SHARES: [(ShardCall, &str); 9] = [
@@ -48,21 +50,27 @@ const SHARES: [(ShardCall, &str); 9] = [
     (Use(6), "Ok((0, [], []))"),
     (Use(9), "Ok((0, [], []))"),
     (Total(0), "Ok(4)"),
-    (Use(12), "Ok((0, [Gone { stamp: 0, key: 0, charge: 1, value: 0 }], []))"),
+    (
+        Use(12),
+        "Ok((0, [Gone { stamp: 0, key: 0, charge: 1, value: 0 }], []))",
+    ),
     (Total(0), "Ok(4)"),
     (Total(1), "Ok(0)"),
     (Total(3), "Err(Stale)"),
 ];
 
 #[test]
-fn each_shard_has_its_own_share(rt: HostRuntime) {
-    plays(&rt, rt.alloc(), 10, 3, ByOwnNumber, &SHARES);
+fn each_shard_has_its_own_share(rt: HostRuntime) -> Result<(), test::Fail> {
+    plays(rt.alloc(), 10, 3, ByOwnNumber, &SHARES)
 }
 
 const PAST_THE_LAST: [(ShardCall, &str); 12] = [
     (Use(1), "Ok((3, [], []))"),
     (Use(2), "Ok((3, [], []))"),
-    (Use(3), "Ok((3, [Gone { stamp: 0, key: 1, charge: 1, value: 1 }], []))"),
+    (
+        Use(3),
+        "Ok((3, [Gone { stamp: 0, key: 1, charge: 1, value: 1 }], []))",
+    ),
     (Total(0), "Ok(0)"),
     (Total(3), "Ok(2)"),
     (Total(4), "Err(Stale)"),
@@ -75,8 +83,8 @@ const PAST_THE_LAST: [(ShardCall, &str); 12] = [
 ];
 
 #[test]
-fn there_is_no_shard_past_the_last(rt: HostRuntime) {
-    plays(&rt, rt.alloc(), 8, 4, ByThree, &PAST_THE_LAST);
+fn there_is_no_shard_past_the_last(rt: HostRuntime) -> Result<(), test::Fail> {
+    plays(rt.alloc(), 8, 4, ByThree, &PAST_THE_LAST)
 }
 
 const STAMPS: [(ShardCall, &str); 12] = [
@@ -87,16 +95,22 @@ const STAMPS: [(ShardCall, &str); 12] = [
     (Fail(1, 0), "Ok(Removed(1))"),
     (Use(3), "Ok((1, [], []))"),
     (Prune(0), "Ok([])"),
-    (Prune(1), "Ok([Gone { stamp: 1, key: 3, charge: 1, value: 3 }])"),
+    (
+        Prune(1),
+        "Ok([Gone { stamp: 1, key: 3, charge: 1, value: 3 }])",
+    ),
     (Use(5), "Ok((1, [], []))"),
     (AdviceEvict(3), "[]"),
-    (AdviceEvict(5), "[Gone { stamp: 2, key: 5, charge: 1, value: 5 }]"),
+    (
+        AdviceEvict(5),
+        "[Gone { stamp: 2, key: 5, charge: 1, value: 5 }]",
+    ),
     (Total(1), "Ok(0)"),
 ];
 
 #[test]
-fn a_stamp_is_known_in_its_shard_alone(rt: HostRuntime) {
-    plays(&rt, rt.alloc(), 10, 2, ByOwnNumber, &STAMPS);
+fn a_stamp_is_known_in_its_shard_alone(rt: HostRuntime) -> Result<(), test::Fail> {
+    plays(rt.alloc(), 10, 2, ByOwnNumber, &STAMPS)
 }
 
 const CHANGES: [(ShardCall, &str); 11] = [
@@ -119,13 +133,13 @@ const CHANGES: [(ShardCall, &str); 11] = [
 ];
 
 #[test]
-fn a_change_of_capacity_settles_each_shard(rt: HostRuntime) {
-    plays(&rt, rt.alloc(), 4, 2, ByOwnNumber, &CHANGES);
+fn a_change_of_capacity_settles_each_shard(rt: HostRuntime) -> Result<(), test::Fail> {
+    plays(rt.alloc(), 4, 2, ByOwnNumber, &CHANGES)
 }
 
 const ROUTES: [(ShardCall, &str); 2] = [(Route(7), "1"), (Route(u64::MAX), "0")];
 
 #[test]
-fn a_key_goes_to_the_remainder_of_its_number(rt: HostRuntime) {
-    plays(&rt, rt.alloc(), 10, 3, ByOwnNumber, &ROUTES);
+fn a_key_goes_to_the_remainder_of_its_number(rt: HostRuntime) -> Result<(), test::Fail> {
+    plays(rt.alloc(), 10, 3, ByOwnNumber, &ROUTES)
 }

@@ -33,7 +33,6 @@ fn a_run_is_answered_shard_by_shard(rt: HostRuntime) -> Result<(), test::Fail> {
     ]?;
     let made: Result<Shards<u64, u64, _>, _> = Shards::new(alloc, 2, 2, ByOwnNumber);
     says(
-        &rt,
         alloc,
         &made.expect(&rt, "memory").run(steps),
         "Ok([(1, Begun(Make(0), [])), (1, Done), (1, Released([])), \
@@ -44,8 +43,7 @@ fn a_run_is_answered_shard_by_shard(rt: HostRuntime) -> Result<(), test::Fail> {
          (1, Gone([Gone { stamp: 0, key: 1, charge: 1, value: 1 }])), (1, Total(0)), \
          (0, Gone([])), (0, Gone([])), \
          (0, Released([Gone { stamp: 1, key: 2, charge: 1, value: 2 }])), (0, Total(0))])",
-    );
-    Ok(())
+    )
 }
 
 #[test]
@@ -67,12 +65,10 @@ fn strangers_are_stale_and_change_nothing(rt: HostRuntime) -> Result<(), test::F
     ]?;
     let made: Result<Shards<u64, u64, _>, _> = Shards::new(alloc, 8, 4, ByThree);
     says(
-        &rt,
         alloc,
         &made.expect(&rt, "memory").run(steps),
         "Ok([(3, Begun(Make(0), [])), (4, Refused(Stale)), (4, Back(77)), (4, Refused(Stale)), \
          (4, Refused(Stale)), (4, Refused(Stale)), (4, Refused(Stale)), (4, Refused(Stale)), \
          (3, Begun(Make(1), [])), (3, Total(2)), (3, Failed(Removed(1))), (3, Total(1))])",
-    );
-    Ok(())
+    )
 }

@@ -5,32 +5,44 @@ use lru_fixtures::drops::{DropLog, Logged};
 use lru_fixtures::hashers::ByOwnNumber;
 use lru_fixtures::threaded::{Model, Player, agree};
 use std::alloc::Global;
-use std::process::Abort;
 use std::sync::Wait;
+use std::test::Fail;
 
 const CAPACITIES: [u64; 4] = [0, 1, 10, 37];
 
 // Makes the calls of a seed, of a cache of three shards, which share this capacity.
-fn agrees<R: Wait + Abort + Clone + Drop>(rt: &R, alloc: Global, seed: u64, capacity: u64) {
-    let log = DropLog::new(alloc, &rt).expect(rt, "memory");
-    let made: Result<LruCache<u64, Logged<&R>, &R, ByOwnNumber>, _> =
-        LruCache::with_shards_hasher(alloc, rt, capacity, 3, ByOwnNumber);
-    let cache = made.expect(rt, "memory");
-    let shards = Shards::new(alloc, capacity, 3, ByOwnNumber).expect(rt, "memory");
+fn agrees<R: Wait + Clone + Drop>(
+    rt: &R,
+    alloc: Global,
+    seed: u64,
+    capacity: u64,
+) -> Result<(), Fail> {
+    let log = DropLog::new(alloc, rt)?;
+    let cache: LruCache<u64, Logged<R>, R, ByOwnNumber> = LruCache::with_shards_hasher(
+        alloc,
+        rt.clone()?,
+        capacity,
+        3,
+        ByOwnNumber,
+    )?;
+    let shards = Shards::new(alloc, capacity, 3, ByOwnNumber)?;
     let mut model = Model::new(alloc, shards);
-    agree(rt, alloc, seed, &mut Player::new(&cache, &log), &mut model);
+    let mut player = Player::new(alloc, &cache, &log)?;
+    agree(alloc, seed, &mut player, &mut model)
 }
 
 #[test]
-fn one_thread_is_answered_as_one_owner(rt: HostRuntime) {
+fn one_thread_is_answered_as_one_owner(rt: HostRuntime) -> Result<(), Fail> {
     for seed in 1..=10u64 {
-        agrees(&rt, rt.alloc(), seed, CAPACITIES[(seed % 4) as usize]);
+        agrees(&rt, rt.alloc(), seed, CAPACITIES[(seed % 4) as usize])?;
     }
+    Ok(())
 }
 
 #[test]
-fn one_thread_is_answered_as_one_owner_again(rt: HostRuntime) {
+fn one_thread_is_answered_as_one_owner_again(rt: HostRuntime) -> Result<(), Fail> {
     for seed in 11..=20u64 {
-        agrees(&rt, rt.alloc(), seed, CAPACITIES[(seed % 4) as usize]);
+        agrees(&rt, rt.alloc(), seed, CAPACITIES[(seed % 4) as usize])?;
     }
+    Ok(())
 }

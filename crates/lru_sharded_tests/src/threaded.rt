@@ -6,29 +6,35 @@ use lru_fixtures::drops::{DropLog, Logged};
 use lru_fixtures::hashers::ByOwnNumber;
 use lru_fixtures::tables::answers_as_told;
 use lru_fixtures::threaded::Call::{
-    AdviceEvict, Capacity, Fail, Get, Init, LetGo, Prune, Reserve, SetCapacity, Show, Total, TryInit,
+    AdviceEvict, Capacity, Fail, Get, Init, LetGo, Prune, Reserve, SetCapacity, Show, Total,
+    TryInit,
 };
 use lru_fixtures::threaded::Then::{AtOnce, Keep};
 use lru_fixtures::threaded::{Call, Player};
 use std::alloc::Global;
-use std::process::Abort;
 use std::sync::Wait;
+use std::test;
 
 // Makes the calls of a table of an empty cache of so many shards, which share this capacity.
-fn plays<R: Wait + Abort + Clone + Drop>(
+fn plays<R: Wait + Clone + Drop>(
     rt: &R,
     alloc: Global,
     capacity: u64,
     shards: usize,
     table: &[(Call, &str)],
-)
+) -> Result<(), test::Fail>
     requires { 0 < shards }
 {
-    let log = DropLog::new(alloc, &rt).expect(rt, "memory");
-    let made: Result<LruCache<u64, Logged<&R>, &R, ByOwnNumber>, _> =
-        LruCache::with_shards_hasher(alloc, rt, capacity, shards, ByOwnNumber);
-    let cache = made.expect(rt, "memory");
-    answers_as_told(rt, alloc, &mut Player::new(&cache, &log), table);
+    let log = DropLog::new(alloc, rt)?;
+    let cache: LruCache<u64, Logged<R>, R, ByOwnNumber> = LruCache::with_shards_hasher(
+        alloc,
+        rt.clone()?,
+        capacity,
+        shards,
+        ByOwnNumber,
+    )?;
+    let mut player = Player::new(alloc, &cache, &log)?;
+    answers_as_told(alloc, &mut player, table)
 }
 
 const EACH_FOR_ITSELF: [(Call, &str); 10] = [
@@ -45,8 +51,8 @@ const EACH_FOR_ITSELF: [(Call, &str); 10] = [
 ];
 
 #[test]
-fn each_shard_evicts_for_itself(rt: HostRuntime) {
-    plays(&rt, rt.alloc(), 2, 2, &EACH_FOR_ITSELF);
+fn each_shard_evicts_for_itself(rt: HostRuntime) -> Result<(), test::Fail> {
+    plays(&rt, rt.alloc(), 2, 2, &EACH_FOR_ITSELF)
 }
 
 // The shards are pruned one after another, the first first.
@@ -68,8 +74,8 @@ const PRUNED: [(Call, &str); 14] = [
 ];
 
 #[test]
-fn a_prune_clears_every_shard(rt: HostRuntime) {
-    plays(&rt, rt.alloc(), 20, 4, &PRUNED);
+fn a_prune_clears_every_shard(rt: HostRuntime) -> Result<(), test::Fail> {
+    plays(&rt, rt.alloc(), 20, 4, &PRUNED)
 }
 
 const BEYOND: [(Call, &str); 6] = [
@@ -82,8 +88,8 @@ const BEYOND: [(Call, &str); 6] = [
 ];
 
 #[test]
-fn the_total_passes_the_end_of_one_shard(rt: HostRuntime) {
-    plays(&rt, rt.alloc(), u64::MAX, 2, &BEYOND);
+fn the_total_passes_the_end_of_one_shard(rt: HostRuntime) -> Result<(), test::Fail> {
+    plays(&rt, rt.alloc(), u64::MAX, 2, &BEYOND)
 }
 
 const CHANGES: [(Call, &str); 14] = [
@@ -105,8 +111,8 @@ const CHANGES: [(Call, &str); 14] = [
 ];
 
 #[test]
-fn a_change_of_capacity_settles_each_shard(rt: HostRuntime) {
-    plays(&rt, rt.alloc(), 4, 2, &CHANGES);
+fn a_change_of_capacity_settles_each_shard(rt: HostRuntime) -> Result<(), test::Fail> {
+    plays(&rt, rt.alloc(), 4, 2, &CHANGES)
 }
 
 const ROOM: [(Call, &str); 5] = [
@@ -118,8 +124,8 @@ const ROOM: [(Call, &str); 5] = [
 ];
 
 #[test]
-fn each_shard_makes_room_ahead_or_refuses(rt: HostRuntime) {
-    plays(&rt, rt.alloc(), 4, 2, &ROOM);
+fn each_shard_makes_room_ahead_or_refuses(rt: HostRuntime) -> Result<(), test::Fail> {
+    plays(&rt, rt.alloc(), 4, 2, &ROOM)
 }
 
 // The charge of the second making is its own.
@@ -132,8 +138,8 @@ const FAILED: [(Call, &str); 5] = [
 ];
 
 #[test]
-fn a_failed_making_leaves_nothing(rt: HostRuntime) {
-    plays(&rt, rt.alloc(), 10, 3, &FAILED);
+fn a_failed_making_leaves_nothing(rt: HostRuntime) -> Result<(), test::Fail> {
+    plays(&rt, rt.alloc(), 10, 3, &FAILED)
 }
 
 const TEXTS: [(Call, &str); 3] = [
@@ -143,6 +149,6 @@ const TEXTS: [(Call, &str); 3] = [
 ];
 
 #[test]
-fn its_text_is_a_list_of_shards(rt: HostRuntime) {
-    plays(&rt, rt.alloc(), 2, 2, &TEXTS);
+fn its_text_is_a_list_of_shards(rt: HostRuntime) -> Result<(), test::Fail> {
+    plays(&rt, rt.alloc(), 2, 2, &TEXTS)
 }

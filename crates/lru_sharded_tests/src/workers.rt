@@ -58,8 +58,13 @@ fn proves_its_double<R: Wait>(cache: &Doubles<R>, key: u64) -> bool {
 
 #[test]
 fn four_threads_read_doubles(rt: HostRuntime) {
-    let made: Result<Doubles<&HostRuntime>, _> =
-        LruCache::marked(rt.alloc(), &rt, 32, 16, BuildHasherDefault::new());
+    let made: Result<Doubles<&HostRuntime>, _> = LruCache::marked(
+        rt.alloc(),
+        &rt,
+        32,
+        16,
+        BuildHasherDefault::new(),
+    );
     let cache = made.expect(&rt, "memory");
     assert_eq!(rt; four_workers(&rt, &cache), 4);
     assert!(rt; cache.total_charge() <= 32);

@@ -4,6 +4,7 @@ use crate::play::plays;
 use lru_fixtures::threaded::Call;
 use lru_fixtures::threaded::Call::{Capacity, Get, Init, Prune, Reserve, SetCapacity, Total};
 use lru_fixtures::threaded::Then::AtOnce;
+use std::test;
 
 const SMALLER: [(Call, &str); 9] = [
     (Init(1, 3, 1, AtOnce), "Made(1, 1)"),
@@ -18,8 +19,8 @@ const SMALLER: [(Call, &str); 9] = [
 ];
 
 #[test]
-fn a_smaller_capacity_evicts_at_once(rt: HostRuntime) {
-    plays(&rt, rt.alloc(), 9, &SMALLER);
+fn a_smaller_capacity_evicts_at_once(rt: HostRuntime) -> Result<(), test::Fail> {
+    plays(&rt, rt.alloc(), 9, &SMALLER)
 }
 
 const ROOM: [(Call, &str); 5] = [
@@ -31,6 +32,6 @@ const ROOM: [(Call, &str); 5] = [
 ];
 
 #[test]
-fn room_is_made_ahead_or_refused(rt: HostRuntime) {
-    plays(&rt, rt.alloc(), 9, &ROOM);
+fn room_is_made_ahead_or_refused(rt: HostRuntime) -> Result<(), test::Fail> {
+    plays(&rt, rt.alloc(), 9, &ROOM)
 }

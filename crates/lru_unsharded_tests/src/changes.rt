@@ -12,6 +12,7 @@ use std::alloc::Global;
 use std::process::Abort;
 use std::sync::Wait;
 use std::sync::atomic::AtomicU64;
+use std::test::Fail;
 use std::thread;
 use std::thread::Threads;
 
@@ -26,23 +27,32 @@ const LET_GO: [(Call, &str); 3] = [
     (Total, "Number(0)"),
 ];
 
-// Plays the tables, and between them sets the capacity to 0 while another thread asks the total.
+// Sets the capacity to 0 while another thread asks the total, and answers what it was told.
+fn shrinks_beside<V: Drop + Send + Sync, R: Wait + Send + Sync, T: Threads>(
+    rt: &T,
+    cache: &LruCache<u64, V, R>,
+) -> u64 {
+    let (_, total) = thread::join(rt, || cache.set_capacity(0), || cache.total_charge());
+    total
+}
+
+// Plays the tables, and between them sets the capacity to 0.
 fn plays_around_a_change<R: Wait + Threads + Abort + Clone + Drop + Send + Sync>(
     rt: &R,
     alloc: Global,
-) {
-    let log = DropLog::new(alloc, &rt).expect(rt, "memory");
-    let cache: LruCache<u64, Logged<&R>, &R> = LruCache::new(alloc, rt, 9);
-    let mut player = Player::new(&cache, &log);
-    answers_as_told(rt, alloc, &mut player, &HELD);
-    let (_, total) = thread::join(rt, || cache.set_capacity(0), || cache.total_charge());
+) -> Result<(), Fail> {
+    let log = DropLog::new(alloc, rt)?;
+    let cache: LruCache<u64, Logged<R>, R> = LruCache::new(alloc, rt.clone()?, 9);
+    let mut player = Player::new(alloc, &cache, &log)?;
+    answers_as_told(alloc, &mut player, &HELD)?;
+    let total = shrinks_beside(rt, &cache);
     assert!(rt; total == 5 || total == 2);
-    answers_as_told(rt, alloc, &mut player, &LET_GO);
+    answers_as_told(alloc, &mut player, &LET_GO)
 }
 
 #[test]
-fn a_held_value_outlives_its_capacity(rt: HostRuntime) {
-    plays_around_a_change(&rt, rt.alloc());
+fn a_held_value_outlives_its_capacity(rt: HostRuntime) -> Result<(), Fail> {
+    plays_around_a_change(&rt, rt.alloc())
 }
 
 // The value of key 1, made as 5 once the capacity has shrunk.

@@ -4,6 +4,7 @@ use crate::play::plays;
 use lru_fixtures::threaded::Call;
 use lru_fixtures::threaded::Call::{Fail, Get, Init, LetGo, Prune, Total, TryInit};
 use lru_fixtures::threaded::Then::{AtOnce, Keep};
+use std::test;
 
 const OLDEST: [(Call, &str); 3] = [
     (Init(1, 1, 1, AtOnce), "Made(1, 1)"),
@@ -12,8 +13,8 @@ const OLDEST: [(Call, &str); 3] = [
 ];
 
 #[test]
-fn the_oldest_is_evicted(rt: HostRuntime) {
-    plays(&rt, rt.alloc(), 2, &OLDEST);
+fn the_oldest_is_evicted(rt: HostRuntime) -> Result<(), test::Fail> {
+    plays(&rt, rt.alloc(), 2, &OLDEST)
 }
 
 const PINNED: [(Call, &str); 9] = [
@@ -29,8 +30,8 @@ const PINNED: [(Call, &str); 9] = [
 ];
 
 #[test]
-fn a_pinned_value_outlives_the_idle(rt: HostRuntime) {
-    plays(&rt, rt.alloc(), 2, &PINNED);
+fn a_pinned_value_outlives_the_idle(rt: HostRuntime) -> Result<(), test::Fail> {
+    plays(&rt, rt.alloc(), 2, &PINNED)
 }
 
 const FAILED: [(Call, &str); 6] = [
@@ -43,8 +44,8 @@ const FAILED: [(Call, &str); 6] = [
 ];
 
 #[test]
-fn a_failed_making_has_evicted(rt: HostRuntime) {
-    plays(&rt, rt.alloc(), 2, &FAILED);
+fn a_failed_making_has_evicted(rt: HostRuntime) -> Result<(), test::Fail> {
+    plays(&rt, rt.alloc(), 2, &FAILED)
 }
 
 const HEAVY: [(Call, &str); 5] = [
@@ -56,8 +57,8 @@ const HEAVY: [(Call, &str); 5] = [
 ];
 
 #[test]
-fn too_heavy_a_value_lives_while_pinned(rt: HostRuntime) {
-    plays(&rt, rt.alloc(), 5, &HEAVY);
+fn too_heavy_a_value_lives_while_pinned(rt: HostRuntime) -> Result<(), test::Fail> {
+    plays(&rt, rt.alloc(), 5, &HEAVY)
 }
 
 // The value of an `init` that does not run is dropped with it.
@@ -69,8 +70,8 @@ const LATER: [(Call, &str); 4] = [
 ];
 
 #[test]
-fn a_later_charge_is_ignored(rt: HostRuntime) {
-    plays(&rt, rt.alloc(), 10, &LATER);
+fn a_later_charge_is_ignored(rt: HostRuntime) -> Result<(), test::Fail> {
+    plays(&rt, rt.alloc(), 10, &LATER)
 }
 
 const RELEASES: [(Call, &str); 5] = [
@@ -82,8 +83,8 @@ const RELEASES: [(Call, &str); 5] = [
 ];
 
 #[test]
-fn the_order_is_that_of_releases(rt: HostRuntime) {
-    plays(&rt, rt.alloc(), 2, &RELEASES);
+fn the_order_is_that_of_releases(rt: HostRuntime) -> Result<(), test::Fail> {
+    plays(&rt, rt.alloc(), 2, &RELEASES)
 }
 
 const WITHOUT: [(Call, &str); 2] = [
@@ -92,8 +93,8 @@ const WITHOUT: [(Call, &str); 2] = [
 ];
 
 #[test]
-fn without_capacity_a_release_evicts(rt: HostRuntime) {
-    plays(&rt, rt.alloc(), 0, &WITHOUT);
+fn without_capacity_a_release_evicts(rt: HostRuntime) -> Result<(), test::Fail> {
+    plays(&rt, rt.alloc(), 0, &WITHOUT)
 }
 
 const PRUNED: [(Call, &str); 8] = [
@@ -108,6 +109,6 @@ const PRUNED: [(Call, &str); 8] = [
 ];
 
 #[test]
-fn a_prune_evicts_oldest_first(rt: HostRuntime) {
-    plays(&rt, rt.alloc(), 10, &PRUNED);
+fn a_prune_evicts_oldest_first(rt: HostRuntime) -> Result<(), test::Fail> {
+    plays(&rt, rt.alloc(), 10, &PRUNED)
 }

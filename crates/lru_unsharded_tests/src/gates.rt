@@ -5,8 +5,8 @@ use concurrent_lru::unsharded::{CacheHandle, LruCache};
 use lru_fixtures::flags::{is_raised, meets, raise};
 use lru_fixtures::gates::{Cause, Gate, Slow, evict, made_for, total_meanwhile};
 use std::alloc::Global;
-use std::sync::{Arc, Wait};
 use std::sync::atomic::AtomicU64;
+use std::sync::{Arc, Wait};
 use std::thread::Threads;
 use std::{fmt, thread};
 
@@ -71,7 +71,11 @@ fn total_of<R: Wait + Threads + Sync + Send>(
 #[test]
 fn drops_run_without_the_lock(rt: HostRuntime) {
     for (cause, capacity, total) in CAUSES {
-        assert_eq!(rt; total_of(&rt, rt.alloc(), cause, capacity), Some(total), "{cause:?}");
+        assert_eq!(rt;
+            total_of(&rt, rt.alloc(), cause, capacity),
+            Some(total),
+            "{cause:?}"
+        );
     }
 }
 
@@ -85,12 +89,12 @@ struct Print {
 
 // A value whose Debug waits until the other thread has read it.
 #[derive(Drop)]
-struct Shown<'a> {
-    print: &'a Print,
+struct Shown {
+    print: Arc<Print>,
     number: u64,
 }
 
-impl fmt::Debug for Shown<'_> {
+impl fmt::Debug for Shown {
     fn fmt<W: fmt::Write>(&self, f: &mut fmt::Formatter<W>) -> fmt::Result {
         raise(&self.print.started);
         if meets(&self.print.read) {
@@ -102,7 +106,7 @@ impl fmt::Debug for Shown<'_> {
 
 // Reads a handle while the cache is printed under the lock.
 fn reads_in_a_print<R: Wait>(
-    handle: &CacheHandle<'_, u64, Shown<'_>, R>,
+    handle: &CacheHandle<'_, u64, Shown, R>,
     print: &Print,
 ) -> Option<u64> {
     if !meets(&print.started) {
@@ -113,31 +117,39 @@ fn reads_in_a_print<R: Wait>(
     Some(number)
 }
 
-// The text of a cache, and its value as it is read meanwhile.
-fn text_and_value<R: Wait + Threads + Sync + Send>(
-    rt: &R,
+// The text of a cache, and a value of it as it is read meanwhile.
+fn text_and_value<R: Wait + Send + Sync, T: Threads>(
+    rt: &T,
     alloc: Global,
+    cache: &LruCache<u64, Shown, R>,
+    handle: &CacheHandle<'_, u64, Shown, R>,
     print: &Print,
-) -> Option<(String, Option<u64>)> {
-    let cache: LruCache<u64, Shown<'_>, &R> = LruCache::new(alloc, rt, 10);
-    let made = cache.get_or_init(1, 1, |_| Shown { print, number: 7 });
-    let handle = made.ok()?;
-    let (text, number) = thread::join(
+) -> (Option<String>, Option<u64>) {
+    thread::join(
         rt,
-        || format!(in alloc; "{cache:?}"),
-        || reads_in_a_print(&handle, print),
-    );
-    Some((text.ok()?, number))
+        || format!(in alloc; "{cache:?}").ok(),
+        || reads_in_a_print(handle, print),
+    )
 }
 
 #[test]
 fn a_handle_is_read_without_the_lock(rt: HostRuntime) {
-    let print = Print {
+    let none = Print {
         started: AtomicU64::new(0),
         read: AtomicU64::new(0),
         met: AtomicU64::new(0),
     };
-    let (text, number) = text_and_value(&rt, rt.alloc(), &print).expect(&rt, "memory");
-    assert_eq!(rt; text.as_str(), "{1: 7}");
+    let print = Arc::new(rt.alloc(), none).expect(&rt, "memory");
+    let theirs = Arc::try_clone(&print).expect(&rt, "memory");
+    let cache: LruCache<u64, Shown, &HostRuntime> = LruCache::new(rt.alloc(), &rt, 10);
+    let shown = Shown {
+        print: theirs,
+        number: 7,
+    };
+    let handle = cache
+        .get_or_init(1, 1, move |_| shown)
+        .expect(&rt, "memory");
+    let (text, number) = text_and_value(&rt, rt.alloc(), &cache, &handle, &*print);
+    assert_eq!(rt; text.expect(&rt, "memory").as_str(), "{1: 7}");
     assert_eq!(rt; (number, is_raised(&print.met)), (Some(7), true));
 }

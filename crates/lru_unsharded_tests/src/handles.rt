@@ -7,6 +7,7 @@ use lru_fixtures::threaded::Call::{Get, Init, Prune, Show, Total};
 use lru_fixtures::threaded::Then::{AtOnce, Forget, Keep};
 use std::alloc::Global;
 use std::sync::Wait;
+use std::test;
 
 const FORGOTTEN: [(Call, &str); 6] = [
     (Init(1, 1, 1, Forget), "Made(1, 1)"),
@@ -18,8 +19,8 @@ const FORGOTTEN: [(Call, &str); 6] = [
 ];
 
 #[test]
-fn a_forgotten_handle_keeps_its_pin(rt: HostRuntime) {
-    plays(&rt, rt.alloc(), 1, &FORGOTTEN);
+fn a_forgotten_handle_keeps_its_pin(rt: HostRuntime) -> Result<(), test::Fail> {
+    plays(&rt, rt.alloc(), 1, &FORGOTTEN)
 }
 
 const PRINTED: [(Call, &str); 5] = [
@@ -31,8 +32,8 @@ const PRINTED: [(Call, &str); 5] = [
 ];
 
 #[test]
-fn prints_its_ready_entries(rt: HostRuntime) {
-    plays(&rt, rt.alloc(), 10, &PRINTED);
+fn prints_its_ready_entries(rt: HostRuntime) -> Result<(), test::Fail> {
+    plays(&rt, rt.alloc(), 10, &PRINTED)
 }
 
 // The text of an empty cache while its first value is made.

@@ -19,7 +19,9 @@ impl Fit<u64, u64> for Twice {
 fn a_handle_proves_its_value(rt: HostRuntime) {
     let cache: LruCache<u64, u64, &HostRuntime, Twice> = LruCache::marked(rt.alloc(), &rt, 10);
     for key in 0..50u64 {
-        let handle = cache.get_or_init(key, 1, |key| *key * 2).expect(&rt, "memory");
+        let handle = cache
+            .get_or_init(key, 1, |key| *key * 2)
+            .expect(&rt, "memory");
         prove!(*handle.value() == key * 2);
     }
     let found = cache.get(49).expect(&rt, "memory");

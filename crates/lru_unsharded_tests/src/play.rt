@@ -5,17 +5,18 @@ use lru_fixtures::drops::{DropLog, Logged};
 use lru_fixtures::tables::answers_as_told;
 use lru_fixtures::threaded::{Call, Player};
 use std::alloc::Global;
-use std::process::Abort;
 use std::sync::Wait;
+use std::test::Fail;
 
 /// Makes the calls of a table on an empty cache of this capacity, whose values note their drops.
-pub(crate) fn plays<R: Wait + Abort + Clone + Drop>(
+pub(crate) fn plays<R: Wait + Clone + Drop>(
     rt: &R,
     alloc: Global,
     capacity: u64,
     table: &[(Call, &str)],
-) {
-    let log = DropLog::new(alloc, &rt).expect(rt, "memory");
-    let cache: LruCache<u64, Logged<&R>, &R> = LruCache::new(alloc, rt, capacity);
-    answers_as_told(rt, alloc, &mut Player::new(&cache, &log), table);
+) -> Result<(), Fail> {
+    let log = DropLog::new(alloc, rt)?;
+    let cache: LruCache<u64, Logged<R>, R> = LruCache::new(alloc, rt.clone()?, capacity);
+    let mut player = Player::new(alloc, &cache, &log)?;
+    answers_as_told(alloc, &mut player, table)
 }

@@ -4,6 +4,7 @@ use crate::play::plays;
 use lru_fixtures::threaded::Call;
 use lru_fixtures::threaded::Call::{AdviceEvict, Fail, Get, Init, LetGo, Total, TryInit};
 use lru_fixtures::threaded::Then::{AtOnce, Keep};
+use std::test;
 
 const READY: [(Call, &str); 3] = [
     (Init(1, 1, 1, AtOnce), "Made(1, 1)"),
@@ -12,8 +13,8 @@ const READY: [(Call, &str); 3] = [
 ];
 
 #[test]
-fn a_ready_value_is_not_made_again(rt: HostRuntime) {
-    plays(&rt, rt.alloc(), 10, &READY);
+fn a_ready_value_is_not_made_again(rt: HostRuntime) -> Result<(), test::Fail> {
+    plays(&rt, rt.alloc(), 10, &READY)
 }
 
 const EVICTED: [(Call, &str); 3] = [
@@ -23,8 +24,8 @@ const EVICTED: [(Call, &str); 3] = [
 ];
 
 #[test]
-fn an_evicted_value_is_made_again(rt: HostRuntime) {
-    plays(&rt, rt.alloc(), 5, &EVICTED);
+fn an_evicted_value_is_made_again(rt: HostRuntime) -> Result<(), test::Fail> {
+    plays(&rt, rt.alloc(), 5, &EVICTED)
 }
 
 const ADVISED: [(Call, &str); 9] = [
@@ -40,8 +41,8 @@ const ADVISED: [(Call, &str); 9] = [
 ];
 
 #[test]
-fn advice_is_for_the_idle_alone(rt: HostRuntime) {
-    plays(&rt, rt.alloc(), 5, &ADVISED);
+fn advice_is_for_the_idle_alone(rt: HostRuntime) -> Result<(), test::Fail> {
+    plays(&rt, rt.alloc(), 5, &ADVISED)
 }
 
 const FAILED: [(Call, &str); 9] = [
@@ -57,8 +58,8 @@ const FAILED: [(Call, &str); 9] = [
 ];
 
 #[test]
-fn a_failed_making_leaves_nothing(rt: HostRuntime) {
-    plays(&rt, rt.alloc(), 10, &FAILED);
+fn a_failed_making_leaves_nothing(rt: HostRuntime) -> Result<(), test::Fail> {
+    plays(&rt, rt.alloc(), 10, &FAILED)
 }
 
 const ENDS: [(Call, &str); 5] = [
@@ -70,6 +71,6 @@ const ENDS: [(Call, &str); 5] = [
 ];
 
 #[test]
-fn ends_of_numbers_are_refused(rt: HostRuntime) {
-    plays(&rt, rt.alloc(), u64::MAX, &ENDS);
+fn ends_of_numbers_are_refused(rt: HostRuntime) -> Result<(), test::Fail> {
+    plays(&rt, rt.alloc(), u64::MAX, &ENDS)
 }

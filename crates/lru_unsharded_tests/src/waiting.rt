@@ -1,6 +1,5 @@
 //! Callers that wait for one making, which may be given up before a value is there.
 //! Where a caller is never woken, the test ends by a limit.
-ghost use Rattle.std.specs.Prelude.{◌<◌};
 
 use concurrent_lru::unsharded::LruCache;
 use lru_fixtures::flags::{reaches, yield_times};
@@ -11,7 +10,7 @@ use std::sync::atomic::{AtomicU64, Ordering};
 use std::thread;
 use std::thread::Threads;
 
-const ROUNDS: u64 = 150;
+const ROUNDS: u64 = 200;
 
 // How many callers ask for the value: one makes it, and three wait.
 const CALLERS: u64 = 4;
@@ -48,7 +47,11 @@ fn gets<R: Wait>(
         let before = counts.ran.fetch_add(1, Ordering::SeqCst);
         let all_came = reaches(&counts.came, CALLERS);
         yield_times(yields);
-        if all_came && before >= failures { Ok(5) } else { Err(before) }
+        if all_came && before >= failures {
+            Ok(5)
+        } else {
+            Err(before)
+        }
     });
     matches!(&made, Ok(handle) if *handle.value() == 5)
 }
@@ -66,6 +69,11 @@ fn asks<R: Wait>(cache: &LruCache<u64, u64, R>, counts: &Counts, failures: u64, 
     counts.ended.fetch_add(1, Ordering::SeqCst);
 }
 
+// How often a caller yields in a round.
+fn yields_of(round: u64, caller: u64) -> u64 {
+    round.wrapping_mul(37).wrapping_add(caller.wrapping_mul(11)) % 13
+}
+
 // Has all callers ask at once, each with yields of its own. Answers how often `init` ran, how
 // many got the value, and the total once the cache is pruned.
 fn round<R: Wait + Threads + Abort + Send + Sync>(
@@ -73,15 +81,13 @@ fn round<R: Wait + Threads + Abort + Send + Sync>(
     alloc: Global,
     number: u64,
     failures: u64,
-) -> (u64, u64, u64)
-    requires { number < 1000 }
-{
+) -> (u64, u64, u64) {
     let cache: LruCache<u64, u64, &R> = LruCache::new(alloc, rt, 10);
     let counts = Counts::new();
     let (shared, counted) = (&cache, &counts);
     thread::scope(thread::scope_env(), rt, |scope| {
         for caller in 0..CALLERS {
-            let yields = (number * 37 + caller * 11) % 97;
+            let yields = yields_of(number, caller);
             let _started = scope.spawn(move || asks(shared, counted, failures, yields));
         }
         assert!(rt; reaches(&counted.ended, CALLERS), "a caller is never woken");
@@ -97,13 +103,21 @@ fn round<R: Wait + Threads + Abort + Send + Sync>(
 #[test]
 fn every_caller_gets_the_value(rt: HostRuntime) {
     for number in 0..ROUNDS {
-        assert_eq!(rt; round(&rt, rt.alloc(), number, 0), (1, 4, 0), "in round {number}");
+        assert_eq!(rt;
+            round(&rt, rt.alloc(), number, 0),
+            (1, 4, 0),
+            "in round {number}"
+        );
     }
 }
 
 #[test]
 fn every_caller_gets_a_value_that_two_gave_up(rt: HostRuntime) {
     for number in 0..ROUNDS {
-        assert_eq!(rt; round(&rt, rt.alloc(), number, 2), (3, 4, 0), "in round {number}");
+        assert_eq!(rt;
+            round(&rt, rt.alloc(), number, 2),
+            (3, 4, 0),
+            "in round {number}"
+        );
     }
 }

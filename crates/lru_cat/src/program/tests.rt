@@ -71,24 +71,41 @@ fn opens_nothing_but_files(rt: HostRuntime) -> Result<(), Fail> {
     Ok(())
 }
 
+// The bytes of a file of a length.
+fn bytes_of(alloc: Global, len: usize) -> Result<Vec<u8>, AllocError> {
+    (0..len).map(|at| (at % 251) as u8).collect(alloc)
+}
+
+// What is printed of a file with these bytes.
+fn printed<R: Wait, F: Files<File = File>>(
+    rt: &R,
+    files: &F,
+    alloc: Global,
+    file: &str,
+    bytes: &[u8],
+    pages: &str,
+) -> Result<Ended, Fail> {
+    fs::write(files, file, bytes)?;
+    Ok(run(rt, files, alloc, &[file, pages])?)
+}
+
+// Files of some lengths, how many pages are kept, and what is told.
+const LENGTHS: [(usize, &str, &str); 7] = [
+    (0, "2", "0 blocks read, 0 answers from memory\n"),
+    (1, "2", "1 blocks read, 0 answers from memory\n"),
+    (512, "2", "1 blocks read, 3 answers from memory\n"),
+    (1024, "2", "2 blocks read, 6 answers from memory\n"),
+    (1300, "2", "3 blocks read, 8 answers from memory\n"),
+    (1300, "1", "3 blocks read, 8 answers from memory\n"),
+    (1300, "0", "11 blocks read, 0 answers from memory\n"),
+];
+
 #[test]
 fn prints_a_file_and_counts(rt: HostRuntime) -> Result<(), Fail> {
-    let alloc = rt.alloc();
-    let cases: [(usize, &str, &str); 7] = [
-        (0, "2", "0 blocks read, 0 answers from memory\n"),
-        (1, "2", "1 blocks read, 0 answers from memory\n"),
-        (512, "2", "1 blocks read, 3 answers from memory\n"),
-        (1024, "2", "2 blocks read, 6 answers from memory\n"),
-        (1300, "2", "3 blocks read, 8 answers from memory\n"),
-        (1300, "1", "3 blocks read, 8 answers from memory\n"),
-        (1300, "0", "11 blocks read, 0 answers from memory\n"),
-    ];
-    let mut path = env::temp_dir(&rt)?;
-    path.push("lru_cat_prints")?;
-    for (len, pages, counts) in cases {
-        let bytes: Vec<u8> = (0..len).map(|at| (at % 251) as u8).collect(alloc)?;
-        fs::write(&rt, path.as_path(), bytes.as_slice())?;
-        let ended = run(&rt, &rt, alloc, &[path.as_str(), pages])?;
+    let path = env::temp_dir(&rt)?.join(rt.alloc(), "lru_cat_prints")?;
+    for (len, pages, counts) in LENGTHS {
+        let bytes = bytes_of(rt.alloc(), len)?;
+        let ended = printed(&rt, &rt, rt.alloc(), path.as_str(), &bytes, pages)?;
         assert_eq!(rt; ended.status, 0, "at {len} {pages}");
         assert!(rt; ended.out == bytes, "at {len} {pages}");
         assert_eq!(rt; str::from_utf8(&ended.err)?, counts, "at {len} {pages}");

@@ -3,9 +3,8 @@
 ghost use Rattle.std.specs.Prelude.{◌<◌};
 
 use concurrent_lru::lru_core::Refusal;
-use concurrent_lru::sharded;
-use concurrent_lru::unsharded;
 use concurrent_lru::unsharded::GetError;
+use concurrent_lru::{sharded, unsharded};
 use std::fmt;
 use std::hash::BuildHasher;
 use std::sync::Wait;
@@ -106,14 +105,10 @@ impl<'a, V: Drop + fmt::Debug, R: Wait> Cached<V> for &'a unsharded::LruCache<u6
     ) -> Result<Self::Handle, NoHandle>
         requires { 0 < charge }
     {
-        let handle = self.get_or_init(
-            key,
-            charge,
-            |key| {
-                *ran = Some(*key);
-                value
-            },
-        )?;
+        let handle = self.get_or_init(key, charge, |key| {
+            *ran = Some(*key);
+            value
+        })?;
         Ok(handle)
     }
 
@@ -126,14 +121,10 @@ impl<'a, V: Drop + fmt::Debug, R: Wait> Cached<V> for &'a unsharded::LruCache<u6
     ) -> Result<Self::Handle, NoHandle>
         requires { 0 < charge }
     {
-        let handle = self.get_or_try_init(
-            key,
-            charge,
-            |key| {
-                *ran = Some(*key);
-                value.ok_or(*key)
-            },
-        )?;
+        let handle = self.get_or_try_init(key, charge, |key| {
+            *ran = Some(*key);
+            value.ok_or(*key)
+        })?;
         Ok(handle)
     }
 
@@ -183,14 +174,10 @@ impl<'a, V: Drop + fmt::Debug, R: Wait, S: BuildHasher> Cached<V>
     ) -> Result<Self::Handle, NoHandle>
         requires { 0 < charge }
     {
-        let handle = self.get_or_init(
-            key,
-            charge,
-            |key| {
-                *ran = Some(*key);
-                value
-            },
-        )?;
+        let handle = self.get_or_init(key, charge, |key| {
+            *ran = Some(*key);
+            value
+        })?;
         Ok(handle)
     }
 
@@ -203,14 +190,10 @@ impl<'a, V: Drop + fmt::Debug, R: Wait, S: BuildHasher> Cached<V>
     ) -> Result<Self::Handle, NoHandle>
         requires { 0 < charge }
     {
-        let handle = self.get_or_try_init(
-            key,
-            charge,
-            |key| {
-                *ran = Some(*key);
-                value.ok_or(*key)
-            },
-        )?;
+        let handle = self.get_or_try_init(key, charge, |key| {
+            *ran = Some(*key);
+            value.ok_or(*key)
+        })?;
         Ok(handle)
     }
 

@@ -17,17 +17,21 @@ const SLOTS: usize = 4;
 pub struct Player<'l, R: Wait, C: Cached<Logged<R>>> {
     cache: C,
     log: &'l DropLog<R>,
-    slots: [Option<C::Handle>; SLOTS],
+    slots: Vec<Option<C::Handle>>,
 }
 
 impl<'l, R: Wait + Clone + Drop, C: Cached<Logged<R>>> Player<'l, R, C> {
-    /// A player that holds nothing yet. Takes no memory.
-    pub fn new(cache: C, log: &'l DropLog<R>) -> Player<'l, R, C> {
-        Player {
-            cache,
-            log,
-            slots: [None, None, None, None],
+    /// A player that holds nothing yet. `AllocError` where there is no room for its slots.
+    pub fn new(
+        alloc: Global,
+        cache: C,
+        log: &'l DropLog<R>,
+    ) -> Result<Player<'l, R, C>, AllocError> {
+        let mut slots = Vec::new(alloc);
+        for _ in 0..SLOTS {
+            slots.push(None)?;
         }
+        Ok(Player { cache, log, slots })
     }
 
     /// Makes a call. `AllocError` where memory for a value is refused; then no call was made.

@@ -5,7 +5,7 @@ use crate::threaded::calls::{Call, Then};
 use rand_core::{Rng, SeedableRng};
 use rand_xoshiro::Xoshiro256PlusPlus;
 use std::alloc::{AllocError, Global};
-use std::process::Abort;
+use std::test::Fail;
 
 // How many calls a run has.
 const CALLS: u64 = 2_000;
@@ -17,7 +17,11 @@ fn draw(generator: &mut Xoshiro256PlusPlus, number: u64) -> Call {
     let key = generator.next_u64() % 4 * 4_294_967_296 + generator.next_u64() % 4;
     let charge = 1 + generator.next_u64() % 9;
     let slot = (generator.next_u64() % 8) as usize;
-    let then = if slot < 4 { Then::Keep(slot) } else { Then::AtOnce };
+    let then = if slot < 4 {
+        Then::Keep(slot)
+    } else {
+        Then::AtOnce
+    };
     match kind {
         0..5 => Call::Get(key, then),
         5..10 => Call::Init(key, charge, number, then),
@@ -30,25 +34,46 @@ fn draw(generator: &mut Xoshiro256PlusPlus, number: u64) -> Call {
     }
 }
 
-/// Makes the calls that a seed decides, of a cache and of its model. Where the answers differ, or
-/// the entries that the text of the cache shows in each shard, the test ends.
+/// Makes the calls that a seed decides, of a cache and of its model. Fails at the first call where
+/// their answers differ, or the entries that the text of the cache shows in each shard: the
+/// failure tells the seed, the call, what was answered and what was wanted.
 pub fn agree<C: Answers<Call>, M: Answers<Call>>(
-    rt: &impl Abort,
     alloc: Global,
     seed: u64,
     cache: &mut C,
     model: &mut M,
-) {
+) -> Result<(), Fail> {
     let mut generator = Xoshiro256PlusPlus::seed_from_u64(seed);
     for number in 0..CALLS {
         let call = draw(&mut generator, number);
-        let told = cache.answer(alloc, call).expect(rt, "memory");
-        let wanted = model.answer(alloc, call).expect(rt, "memory");
-        assert_eq!(rt; told.as_str(), wanted.as_str(), "at call {number} of seed {seed}, {call:?}");
-        let shown = entries_shown(alloc, cache).expect(rt, "memory");
-        let entries = model.answer(alloc, Call::Show).expect(rt, "memory");
-        assert_eq!(rt; shown.as_str(), entries.as_str(), "after call {number} of seed {seed}");
+        if let Some((answered, wanted)) = difference(alloc, cache, model, call)? {
+            return Err(Fail::new(format_args!(
+                "at call {number} of seed {seed}, {call:?}\n  answered: {answered}\n    wanted: {wanted}"
+            )));
+        }
     }
+    Ok(())
+}
+
+// Makes one call of both. Answers what they answered, or what they show after it, where it differs.
+fn difference<C: Answers<Call>, M: Answers<Call>>(
+    alloc: Global,
+    cache: &mut C,
+    model: &mut M,
+    call: Call,
+) -> Result<Option<(String, String)>, AllocError> {
+    let answers = (cache.answer(alloc, call)?, model.answer(alloc, call)?);
+    if answers.0.as_str() != answers.1.as_str() {
+        return Ok(Some(answers));
+    }
+    let shown = (
+        entries_shown(alloc, cache)?,
+        model.answer(alloc, Call::Show)?,
+    );
+    if shown.0.as_str() != shown.1.as_str() {
+        return Ok(Some(shown));
+    }
+    Ok(None)
 }
 
 // The entries that the text of a cache shows, as the text of a list of shards, keys and values.

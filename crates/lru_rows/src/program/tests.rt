@@ -2,7 +2,7 @@
 
 use super::program;
 use crate::failure::Failure;
-use lru_fixtures::words::{after_name, words};
+use lru_fixtures::words::after_name;
 use lru_fixtures::writer::Limited;
 use std::alloc::Global;
 use std::env::FillError;
@@ -68,33 +68,39 @@ impl<'a> Env for Arguments<'a> {
     }
 }
 
-// Runs the program with room for so many bytes on each of its writers.
+// Runs the program with room for so many bytes on each of its writers. Each word stands after a
+// slash.
 fn run<R: Threads + Wait + Sync>(
     rt: &R,
     alloc: Global,
-    asked: &[&str],
+    asked: &str,
     room: (usize, usize),
 ) -> Result<(u8, Limited, Limited), Fail> {
-    let asked = words(alloc, asked)?;
+    let asked: Vec<String> = asked
+        .split('/')
+        .skip(1)
+        .map(|word| String::from_str(alloc, word))
+        .try_collect(alloc)?;
     let (mut out, mut err) = (Limited::new(alloc, room.0), Limited::new(alloc, room.1));
     let status = program(rt, alloc, &asked, &mut out, &mut err);
     Ok((status, out, err))
 }
 
+// The words, how many bytes the two writers take, the status, and what was written.
+const ENDS: [(&str, (usize, usize), u8, &str, &str); 8] = [
+    ("/rows", (9_999, 9_999), 0, ROWS, ""),
+    ("", (9_999, 9_999), 2, "", USAGE),
+    ("/", (9_999, 9_999), 2, "", USAGE),
+    ("/row", (9_999, 9_999), 2, "", USAGE),
+    ("/Rows", (9_999, 9_999), 2, "", USAGE),
+    ("/rows/rows", (9_999, 9_999), 2, "", USAGE),
+    ("", (9_999, 0), 1, "", ""),
+    ("/rows", (0, 9_999), 1, "", ""),
+];
+
 #[test]
 fn ends_with_a_status(rt: HostRuntime) -> Result<(), Fail> {
-    // The words, how many bytes the two writers take, the status, and what was written.
-    let cases: [(&[&str], (usize, usize), u8, (&str, &str)); 8] = [
-        (&["rows"], (9_999, 9_999), 0, (ROWS, "")),
-        (&[], (9_999, 9_999), 2, ("", USAGE)),
-        (&[""], (9_999, 9_999), 2, ("", USAGE)),
-        (&["row"], (9_999, 9_999), 2, ("", USAGE)),
-        (&["Rows"], (9_999, 9_999), 2, ("", USAGE)),
-        (&["rows", "rows"], (9_999, 9_999), 2, ("", USAGE)),
-        (&[], (9_999, 0), 1, ("", "")),
-        (&["rows"], (0, 9_999), 1, ("", "")),
-    ];
-    for (asked, room, wanted, (told, said)) in cases {
+    for (asked, room, wanted, told, said) in ENDS {
         let (status, out, err) = run(&rt, rt.alloc(), asked, room)?;
         assert_eq!(rt; status, wanted, "at {asked:?}");
         assert_eq!(rt; str::from_utf8(out.bytes())?, told, "at {asked:?}");
@@ -106,7 +112,7 @@ fn ends_with_a_status(rt: HostRuntime) -> Result<(), Fail> {
 #[test]
 fn ends_at_a_failed_write(rt: HostRuntime) -> Result<(), Fail> {
     for room in 0..=ROWS.len() {
-        let (status, out, err) = run(&rt, rt.alloc(), &["rows"], (room, 9_999))?;
+        let (status, out, err) = run(&rt, rt.alloc(), "/rows", (room, 9_999))?;
         assert_eq!(rt; status == 0, room == ROWS.len(), "at {room} bytes");
         assert!(rt; err.bytes().is_empty(), "at {room} bytes");
         assert_eq!(rt;
