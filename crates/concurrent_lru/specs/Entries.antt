@@ -34,15 +34,15 @@ module _ {K V : Type 0} where
   charges_of t = charges t.idle + held_charges t.held
 
   -- an entry with the stamp s has the key k and the charge m
-  abbrev pub HasEntryIn : Entries K V → ℕ → K → ℕ → Type 0
-  HasEntryIn t s k m = IsEntry (cache_of t) s k m
+  abbrev pub ContainsEntry : Entries K V → ℕ → K → ℕ → Type 0
+  ContainsEntry t s k m = IsEntry (cache_of t) s k m
 
   -- no entry has the stamp; none has a key equal to k
-  abbrev pub LacksStampIn : Entries K V → ℕ → Type 0
-  LacksStampIn t s = (k : K) (m : ℕ) → ¬ (HasEntryIn t s k m)
+  abbrev pub ContainsNoStamp : Entries K V → ℕ → Type 0
+  ContainsNoStamp t s = (k : K) (m : ℕ) → ¬ (ContainsEntry t s k m)
 
-  abbrev pub LacksKeyIn : (K → K → Bool) → Entries K V → K → Type 0
-  LacksKeyIn E t k = (s : ℕ) (l : K) (m : ℕ) → HasEntryIn t s l m → E l k ≡ false
+  abbrev pub ContainsNoKey : (K → K → Bool) → Entries K V → K → Type 0
+  ContainsNoKey E t k = (s : ℕ) (l : K) (m : ℕ) → ContainsEntry t s l m → E l k ≡ false
 
   -- the place is that of an entry whose key equals k
   pub record IsPlaceOfKey (E : K → K → Bool) (t : Entries K V) (p : ℕ) (k : K) : Type 0 where
@@ -50,21 +50,21 @@ module _ {K V : Type 0} where
     pub key : K
     pub charge : ℕ
     pub at : finmap.get t.stamps p ≡ Some stamp
-    pub entry : HasEntryIn t stamp key charge
+    pub entry : ContainsEntry t stamp key charge
     pub same_key : E key k ≡ true
 
   -- the place is that of an entry; of an idle one; of a held one
-  abbrev pub IsPlace : Entries K V → ℕ → Type 0
-  IsPlace t p = (s : ℕ) × (finmap.get t.stamps p ≡ Some s)
+  abbrev pub ContainsPlace : Entries K V → ℕ → Type 0
+  ContainsPlace t p = (s : ℕ) × (finmap.get t.stamps p ≡ Some s)
 
-  abbrev pub IsIdleAt : Entries K V → ℕ → Type 0
-  IsIdleAt t p = (s : ℕ) × (finmap.get t.stamps p ≡ Some s) × IsSome (idle_at (cache_of t) s)
+  abbrev pub ContainsIdleAt : Entries K V → ℕ → Type 0
+  ContainsIdleAt t p = (s : ℕ) × (finmap.get t.stamps p ≡ Some s) × IsSome (idle_at (cache_of t) s)
 
-  abbrev pub IsHeldAt : Entries K V → ℕ → Type 0
-  IsHeldAt t p = (s : ℕ) × (finmap.get t.stamps p ≡ Some s) × IsSome (held_at (cache_of t) s)
+  abbrev pub ContainsHeldAt : Entries K V → ℕ → Type 0
+  ContainsHeldAt t p = (s : ℕ) × (finmap.get t.stamps p ≡ Some s) × IsSome (held_at (cache_of t) s)
 
   -- the entry e is at the place: idle where it has no pin, and else held
-  pub record IsAt (t : Entries K V) (p : ℕ) (e : Entry K V) : Type 0 where
+  pub record GetsAt (t : Entries K V) (p : ℕ) (e : Entry K V) : Type 0 where
     pub at : finmap.get t.stamps p ≡ Some e.stamp
     pub idle : e.pins ≡ 0 → IsSome (as_idle e) × (idle_at (cache_of t) e.stamp ≡ as_idle e)
     pub held : e.pins ≢ 0 → held_at (cache_of t) e.stamp ≡ Some (held_entry e)
@@ -85,8 +85,8 @@ module _ {K V : Type 0} where
     pub held : held_at (cache_of old) stamp ≡ Some entry
     pub changed : new ≡ record old { held = finmap.insert old.held stamp (f entry) }
 
-  abbrev pub with_pins : ℕ → Held K V → Held K V
-  with_pins n e = record e { pins = n }
+  abbrev pub held_with_pins : ℕ → Held K V → Held K V
+  held_with_pins n e = record e { pins = n }
 
   -- the idle entry of the place is held by one pin
   pub record RevivesAt (old : Entries K V) (p : ℕ) (new : Entries K V) : Type 0 where

@@ -1,3 +1,4 @@
+-- The definitions that the contracts of the cache cite.
 pub mod Cache
 pub mod Keys
 pub mod Request
@@ -24,7 +25,7 @@ pub mod Ready
 pub mod Pins
 pub mod Debts
 pub mod Doors
-pub mod Turns
+pub mod ThreadedCalls
 pub mod Sharded
 pub mod Parts
 pub mod ShardSteps
@@ -32,5 +33,5 @@ pub mod ShardLaws
 pub mod StepLaws
 pub mod Uses
 pub mod Weights
-pub mod Places
+pub mod StampCounts
 pub mod WholeRuns

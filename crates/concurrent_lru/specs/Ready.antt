@@ -31,10 +31,10 @@ module _ {K V : Type 0} where
   HasEqualKeyAt E c s k = (own : K) × HasKeyAt c s own × (E own k ≡ true)
 
   -- the value of every ready entry fits its key
-  abbrev pub IsKept : (K → V → Type 0) → Cache K V → Type 0
-  IsKept fits c = (k : K) (v : V) → HasReady c k v → fits k v
+  abbrev pub ValuesFit : (K → V → Type 0) → Cache K V → Type 0
+  ValuesFit fits c = (k : K) (v : V) → HasReady c k v → fits k v
 
   -- what holds of a cache under the lock
   pub record IsSoundUnderLock (E : K → K → Bool) (fits : K → V → Type 0) (c : Cache K V) : Type 0 where
     pub lawful : IsLawful E c
-    pub kept : IsKept fits c
+    pub kept : ValuesFit fits c

@@ -23,8 +23,8 @@ module _ {K V : Type 0} where
   abbrev pub after_link : Node K V → Option Ptr
   after_link n = (out-Node K V n).after
 
-  abbrev pub Holds : NodeCells K V → ℕ → Type 0
-  Holds cs k = (c : NodeCell K V) × (cell_at cs k ≡ Some c)
+  abbrev pub HasCell : NodeCells K V → ℕ → Type 0
+  HasCell cs k = (c : NodeCell K V) × (cell_at cs k ≡ Some c)
 
   -- the key of the node that a link leads to
   abbrev pub key_in : NodeCells K V → Option Ptr → Option ℕ

@@ -3,7 +3,7 @@ use Rattle.std.specs.Prelude.{◌≡◌, ℕ, ◌-◌, List, [], ◌∷◌, map,
 use denote.RawPtr.{Ptr}
 use Rattle.slab.specs.Slab.{slab_len}
 use Rattle.concurrent_lru.specs.Order.{Link, link, IsOrder, order}
-use Rattle.concurrent_lru.specs.Slots.{made}
+use Rattle.concurrent_lru.specs.Slots.{map_of_slots}
 use Rattle.concurrent_lru.specs.Cells.{cell_at, key_at}
 use Rattle.concurrent_lru.specs.NodeTable.{NodeTable, Entry, entry_of, chain_of}
 use Rattle.concurrent_lru.specs.Relinks.{NodeCell, NodeCells, before_link, after_link, key_in, before_at, after_at}
@@ -22,11 +22,11 @@ module _ {K V : Type 0} where
   abbrev pub link_at : NodeCells K V → ℕ → Option Link
   link_at cs k = link_of cs (cell_at cs k)
 
-  abbrev pub idle_of : NodeCells K V → Option ℕ → List ℕ
-  idle_of cs oldest = order (length cs) (link_at cs) oldest
+  abbrev pub idle_places : NodeCells K V → Option ℕ → List ℕ
+  idle_places cs oldest = order (length cs) (link_at cs) oldest
 
-  abbrev pub table_of : Slots K V → Option ℕ → ℕ → NodeTable K V
-  table_of s oldest work = record { nodes = made (map entry_in s.memory.cells); idle = idle_of s.memory.cells oldest; room = s.pointers.capacity - slab_len s.pointers; work = work; looks = s.looks.count }
+  abbrev pub node_table_of : Slots K V → Option ℕ → ℕ → NodeTable K V
+  node_table_of s oldest work = record { nodes = map_of_slots (map entry_in s.memory.cells); idle = idle_places s.memory.cells oldest; spare = s.pointers.capacity - slab_len s.pointers; work = work; looks = s.looks.count }
 
   -- the link leads to a node
   abbrev pub IsGood : NodeCells K V → Option Ptr → Type 0
@@ -45,9 +45,9 @@ module _ {K V : Type 0} where
   IsEnd None = Unit {0}
   IsEnd (Some c) = chain_of c.value ≡ []
 
-  pub record IsTable (s : Slots K V) (oldest : Option ℕ) (newest : Option Ptr) : Type 0 where
+  pub record IsNodeTable (s : Slots K V) (oldest : Option ℕ) (newest : Option Ptr) : Type 0 where
     pub tied : IsTied s
-    pub ordered : IsOrder (link_at s.memory.cells) oldest (key_in s.memory.cells newest) (idle_of s.memory.cells oldest)
-    pub good : AreGood s.memory.cells (idle_of s.memory.cells oldest)
+    pub ordered : IsOrder (link_at s.memory.cells) oldest (key_in s.memory.cells newest) (idle_places s.memory.cells oldest)
+    pub good : AreGood s.memory.cells (idle_places s.memory.cells oldest)
     pub last_good : IsGood s.memory.cells newest
     pub ends : (k : ℕ) → IsEnd (cell_at s.memory.cells k)

@@ -7,7 +7,7 @@ ghost use Rattle.concurrent_lru.specs.Cache.{sum_of, IsLawful};
 ghost use Rattle.concurrent_lru.specs.Doors.{IsAwake, IsMetFor};
 ghost use Rattle.concurrent_lru.specs.Keys.{CopiesAreEqual};
 ghost use Rattle.concurrent_lru.specs.Pins.{IsHandleFor, made_key, made_charge, awaited_key, awaited_charge};
-ghost use Rattle.concurrent_lru.specs.Ready.{IsKept};
+ghost use Rattle.concurrent_lru.specs.Ready.{ValuesFit};
 
 use crate::fit::Fit;
 use crate::handle::CacheHandle;
@@ -79,7 +79,7 @@ impl<K: Hash + Eq + Clone + Drop, V: Drop, R: Wait, F: Fit<K, V>> Door<K, V, R, 
     pub fn enter(&self) -> Inside<'_, K, V, R, F>
         ensures lawful { IsLawful K.eq (mutex_guard_value result.guard) }
         ensures settled { (mutex_guard_value result.guard).capacity < sum_of (mutex_guard_value result.guard) → (mutex_guard_value result.guard).idle ≡ [] }
-        ensures kept { IsKept F.fits (mutex_guard_value result.guard) }
+        ensures kept { ValuesFit F.fits (mutex_guard_value result.guard) }
     {
         let guard = self.locked.lock(&self.rt);
         guard.show();

@@ -1,7 +1,7 @@
 //! Why a making gave no handle: the error of `get_or_try_init`.
 //! The caller's own error is kept apart from the cache's.
 ghost use Rattle.std.specs.Prelude.{◌≡◌, ◌≢◌};
-ghost use Rattle.concurrent_lru.specs.Turns.{IsNotInit};
+ghost use Rattle.concurrent_lru.specs.ThreadedCalls.{IsNotInit};
 
 use crate::list::Refusal;
 use std::error::Error;

@@ -20,9 +20,9 @@ pub struct CacheHandle<'a, K: Hash + Eq + Clone, V, R: Wait, F: Fit<K, V> = Anyt
 }
 
 impl<'a, K: Hash + Eq + Clone, V, R: Wait, F: Fit<K, V>> Model for CacheHandle<'a, K, V, R, F> {
-    ghost use Rattle.concurrent_lru.specs.Pins.{Pinned};
+    ghost use Rattle.concurrent_lru.specs.Pins.{HandleOf};
 
-    ghost Value = { Pinned K V };
+    ghost Value = { HandleOf K V };
 
     ghost view = { λ h. record { key = h.pin.key; charge = h.pin.charge; value = h.pin.value } };
 }

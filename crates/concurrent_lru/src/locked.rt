@@ -3,14 +3,14 @@
 ghost use Rattle.std.specs.Prelude.{◌≡◌, ◌≢◌, ◌<◌, true, [], Err, Some, None, IsTrue, IsFalse, IfOk, IfErr, IfSome};
 ghost use Rattle.std.specs.Arc.{arc_value};
 ghost use Rattle.concurrent_lru.specs.Cache.{empty_cache, most_pins_by_default, sum_of, IsLawful};
-ghost use Rattle.concurrent_lru.specs.Debts.{entered, resumed, found, AsksOnEntry, AsksOnPoll, IfEntered, IfPolled};
+ghost use Rattle.concurrent_lru.specs.Debts.{outcome_of_locked_begin, outcome_of_locked_poll, outcome_of_locked_get, AsksOnEntry, AsksOnPoll, IfEntered, IfPolled};
 ghost use Rattle.concurrent_lru.specs.Keys.{CopiesAreEqual};
-ghost use Rattle.concurrent_lru.specs.Pins.{made_at, made_key, made_charge, woken_at, woken_key, woken_charge, unread_at};
-ghost use Rattle.concurrent_lru.specs.Ready.{IsKept, HasEqualKeyAt};
+ghost use Rattle.concurrent_lru.specs.Pins.{made_stamp, made_key, made_charge, woken_stamp, woken_key, woken_charge, unread_stamp};
+ghost use Rattle.concurrent_lru.specs.Ready.{ValuesFit, HasEqualKeyAt};
 ghost use Rattle.concurrent_lru.specs.Request as ask;
-ghost use Rattle.concurrent_lru.specs.Results.{begun, polled, readied, failed, released, evicts};
+ghost use Rattle.concurrent_lru.specs.Results.{outcome_of_begin, outcome_of_poll, outcome_of_ready, outcome_of_fail, outcome_of_release, outcome_of_evictions};
 ghost use Rattle.concurrent_lru.specs.Runs.{Stands};
-ghost use Rattle.concurrent_lru.specs.Turns.{IfHit};
+ghost use Rattle.concurrent_lru.specs.ThreadedCalls.{IfHit};
 
 mod done;
 mod pins;
@@ -79,7 +79,7 @@ impl<K: Hash + Eq + Clone + Drop, V: Drop, F: Fit<K, V>> Locked<K, V, F> {
     pub fn show(&self)
         ensures lawful { IsLawful K.eq self.now }
         ensures settled { self.now.capacity < sum_of self.now → self.now.idle ≡ [] }
-        ensures kept { IsKept F.fits self.now }
+        ensures kept { ValuesFit F.fits self.now }
     {
         let _ = &self.state;
     }
@@ -87,7 +87,7 @@ impl<K: Hash + Eq + Clone + Drop, V: Drop, F: Fit<K, V>> Locked<K, V, F> {
     /// The core's `begin`. The value of a hit fits the key.
     pub fn begin(&mut self, key: &K, charge: u64) -> Result<Entered<K, V, F>, Refusal>
         requires charged { 0 < charge }
-        ensures step { Stands K.eq self.old (ask.begin key.now charge) (entered result) self.new }
+        ensures step { Stands K.eq self.old (ask.begin key.now charge) (outcome_of_locked_begin result) self.new }
         ensures asked { IfOk result (λ e. AsksOnEntry e key.now charge self.new) }
         ensures hit { IfOk result (λ e. IfEntered e (F.fits key.now)) }
         ensures never_stale { IfErr result (λ e. e ≢ Refusal.Stale) }
@@ -113,7 +113,7 @@ impl<K: Hash + Eq + Clone + Drop, V: Drop, F: Fit<K, V>> Locked<K, V, F> {
     // The core's `begin`, with its own answer.
     fn begun(&mut self, key: &K, charge: u64) -> Result<(Begun<V>, Evicted<K, V>), Refusal>
         requires charged { 0 < charge }
-        ensures step { Stands K.eq self.old (ask.begin key.now charge) (begun result) self.new }
+        ensures step { Stands K.eq self.old (ask.begin key.now charge) (outcome_of_begin result) self.new }
         ensures hit { IfOk result (λ r. IfHit r.0 (F.fits key.now)) }
         ensures never_stale { IfErr result (λ e. e ≢ Refusal.Stale) }
     {
@@ -122,7 +122,7 @@ impl<K: Hash + Eq + Clone + Drop, V: Drop, F: Fit<K, V>> Locked<K, V, F> {
 
     /// The core's `get`. The value found fits the key.
     pub fn get(&mut self, key: &K) -> Result<Option<Pin<K, V, F>>, Refusal>
-        ensures step { Stands K.eq self.old (ask.get key.now) (found result) self.new }
+        ensures step { Stands K.eq self.old (ask.get key.now) (outcome_of_locked_get result) self.new }
         ensures asked { IfOk result (λ found. IfSome found (λ p. (p.key ≡ key.now) × (p.charge ≡ None))) }
         ensures hit { IfOk result (λ found. IfSome found (λ p. F.fits key.now p.value)) }
         ensures never_stale { IfErr result (λ e. e ≢ Refusal.Stale) }
@@ -147,8 +147,8 @@ impl<K: Hash + Eq + Clone + Drop, V: Drop, F: Fit<K, V>> Locked<K, V, F> {
     /// The core's `poll`, where the pin's entry has the key. The value of a hit fits the key.
     pub fn poll(&mut self, woken: Woken<K>, key: &K) -> Polled<K, V, F>
         requires asked { woken_key woken ≡ key.now }
-        ensures step { HasEqualKeyAt K.eq self.old (woken_at woken) key.now → Stands K.eq self.old (ask.poll (woken_at woken)) (resumed result) self.new }
-        ensures stray { (HasEqualKeyAt K.eq self.old (woken_at woken) key.now → ⊥) → (result ≡ Polled.Stray) × (self.new ≡ self.old) }
+        ensures step { HasEqualKeyAt K.eq self.old (woken_stamp woken) key.now → Stands K.eq self.old (ask.poll (woken_stamp woken)) (outcome_of_locked_poll result) self.new }
+        ensures stray { (HasEqualKeyAt K.eq self.old (woken_stamp woken) key.now → ⊥) → (result ≡ Polled.Stray) × (self.new ≡ self.old) }
         ensures asked { AsksOnPoll result key.now (woken_charge woken) self.new }
         ensures hit { IfPolled result (F.fits key.now) }
     {
@@ -169,7 +169,7 @@ impl<K: Hash + Eq + Clone + Drop, V: Drop, F: Fit<K, V>> Locked<K, V, F> {
 
     // The core's `poll`, where the stamp's entry has the key, with its own answer.
     fn polled(&mut self, stamp: u64, key: &K) -> Result<Begun<V>, Refusal>
-        ensures step { HasEqualKeyAt K.eq self.old stamp key.now → Stands K.eq self.old (ask.poll stamp) (polled result) self.new }
+        ensures step { HasEqualKeyAt K.eq self.old stamp key.now → Stands K.eq self.old (ask.poll stamp) (outcome_of_poll result) self.new }
         ensures stray { (HasEqualKeyAt K.eq self.old stamp key.now → ⊥) → (result ≡ Err Refusal.Stale) × (self.new ≡ self.old) }
         ensures hit { IfOk result (λ b. IfHit b (F.fits key.now)) }
     {
@@ -193,10 +193,10 @@ impl<K: Hash + Eq + Clone + Drop, V: Drop, F: Fit<K, V>> Locked<K, V, F> {
         requires asked { made_key making ≡ key.now }
         requires fits { F.fits key.now (arc_value stored) }
         requires same { arc_value read ≡ arc_value stored }
-        ensures step { HasEqualKeyAt K.eq self.old (made_at making) key.now → Stands K.eq self.old (ask.ready (made_at making) (arc_value stored)) (readied result.1) self.new }
-        ensures stray { (HasEqualKeyAt K.eq self.old (made_at making) key.now → ⊥) → (result.1 ≡ Err stored) × (self.new ≡ self.old) }
+        ensures step { HasEqualKeyAt K.eq self.old (made_stamp making) key.now → Stands K.eq self.old (ask.ready (made_stamp making) (arc_value stored)) (outcome_of_ready result.1) self.new }
+        ensures stray { (HasEqualKeyAt K.eq self.old (made_stamp making) key.now → ⊥) → (result.1 ≡ Err stored) × (self.new ≡ self.old) }
         ensures back { IfErr result.1 (λ a. arc_value a ≡ arc_value stored) }
-        ensures pin { result.0 ≡ record { stamp = made_at making; key = key.now; charge = Some (made_charge making); value = arc_value stored } }
+        ensures pin { result.0 ≡ record { stamp = made_stamp making; key = key.now; charge = Some (made_charge making); value = arc_value stored } }
     {
         let Making {
             stamp,
@@ -223,8 +223,8 @@ impl<K: Hash + Eq + Clone + Drop, V: Drop, F: Fit<K, V>> Locked<K, V, F> {
         key: &K,
     ) -> (Sealed<Result<Failed<K>, Refusal>>, Waiters)
         requires asked { made_key making ≡ key.now }
-        ensures step { HasEqualKeyAt K.eq self.old (made_at making) key.now → Stands K.eq self.old (ask.fail (made_at making)) (failed result.0) self.new }
-        ensures stray { (HasEqualKeyAt K.eq self.old (made_at making) key.now → ⊥) → (result.0 ≡ Err Refusal.Stale) × (self.new ≡ self.old) }
+        ensures step { HasEqualKeyAt K.eq self.old (made_stamp making) key.now → Stands K.eq self.old (ask.fail (made_stamp making)) (outcome_of_fail result.0) self.new }
+        ensures stray { (HasEqualKeyAt K.eq self.old (made_stamp making) key.now → ⊥) → (result.0 ≡ Err Refusal.Stale) × (self.new ≡ self.old) }
     {
         let Making {
             stamp,
@@ -242,7 +242,7 @@ impl<K: Hash + Eq + Clone + Drop, V: Drop, F: Fit<K, V>> Locked<K, V, F> {
     ///
     /// `Stale` where no held and ready entry has the stamp.
     pub fn release(&mut self, pin: Pin<K, V, F>) -> Sealed<(Arc<V>, Result<Evicted<K, V>, Refusal>)>
-        ensures step { Stands K.eq self.old (ask.release pin.stamp) (released result.1) self.new }
+        ensures step { Stands K.eq self.old (ask.release pin.stamp) (outcome_of_release result.1) self.new }
         ensures value { arc_value result.0 ≡ pin.value }
     {
         let Pin {
@@ -259,7 +259,7 @@ impl<K: Hash + Eq + Clone + Drop, V: Drop, F: Fit<K, V>> Locked<K, V, F> {
     ///
     /// `Stale` as in `release`.
     pub fn give_up(&mut self, unread: Unread) -> Sealed<Result<Evicted<K, V>, Refusal>>
-        ensures step { Stands K.eq self.old (ask.release (unread_at unread)) (released result) self.new }
+        ensures step { Stands K.eq self.old (ask.release (unread_stamp unread)) (outcome_of_release result) self.new }
     {
         let Unread { stamp } = unread;
         Sealed::of(self.state.release(stamp))
@@ -267,7 +267,7 @@ impl<K: Hash + Eq + Clone + Drop, V: Drop, F: Fit<K, V>> Locked<K, V, F> {
 
     /// The core's `advice_evict`. Takes no memory.
     pub fn advice_evict(&mut self, key: &K) -> (Sealed<Evicted<K, V>>, Advised<K>)
-        ensures step { Stands K.eq self.old (ask.advice_evict key.now) (evicts result.0) self.new }
+        ensures step { Stands K.eq self.old (ask.advice_evict key.now) (outcome_of_evictions result.0) self.new }
         ensures done { result.1 ≡ key.now }
     {
         (Sealed::of(self.state.advice_evict(key)), Advised::of(key))
@@ -275,14 +275,14 @@ impl<K: Hash + Eq + Clone + Drop, V: Drop, F: Fit<K, V>> Locked<K, V, F> {
 
     /// The core's `prune`. Takes no memory.
     pub fn prune(&mut self) -> (Sealed<Evicted<K, V>>, Pruned)
-        ensures step { Stands K.eq self.old ask.prune (evicts result.0) self.new }
+        ensures step { Stands K.eq self.old ask.prune (outcome_of_evictions result.0) self.new }
     {
         (Sealed::of(self.state.prune()), Pruned::new())
     }
 
     /// The core's `set_capacity`. Takes no memory.
     pub fn set_capacity(&mut self, capacity: u64) -> (Sealed<Evicted<K, V>>, Resized)
-        ensures step { Stands K.eq self.old (ask.set_capacity capacity) (evicts result.0) self.new }
+        ensures step { Stands K.eq self.old (ask.set_capacity capacity) (outcome_of_evictions result.0) self.new }
         ensures done { result.1 ≡ capacity }
     {
         (

@@ -3,7 +3,7 @@
 ghost use Rattle.std.specs.Prelude.{◌≡◌, ◌≢◌, ◌<◌, Some, None, Ok, Err, IfOk, IfErr, IfSome};
 ghost use Rattle.std.specs.Fn.{FnOnceReturnsAt, FnOnceTakesAt};
 ghost use Rattle.concurrent_lru.specs.Keys.{CopiesAreEqual};
-ghost use Rattle.concurrent_lru.specs.Turns.{IfInit};
+ghost use Rattle.concurrent_lru.specs.ThreadedCalls.{IfInit};
 
 pub use crate::fit::{Anything, Fit};
 pub use crate::get_error::GetError;
@@ -46,9 +46,9 @@ pub struct CacheHandle<'a, K: Hash + Eq + Clone, V, R: Wait, F: Fit<K, V> = Anyt
 }
 
 impl<'a, K: Hash + Eq + Clone, V, R: Wait, F: Fit<K, V>> Model for CacheHandle<'a, K, V, R, F> {
-    ghost use Rattle.concurrent_lru.specs.Pins.{Pinned};
+    ghost use Rattle.concurrent_lru.specs.Pins.{HandleOf};
 
-    ghost Value = { Pinned K V };
+    ghost Value = { HandleOf K V };
 
     ghost view = { λ h. h.held };
 }

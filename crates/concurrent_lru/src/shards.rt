@@ -7,11 +7,11 @@ ghost use Rattle.concurrent_lru.specs.Cache.{empty_cache, most_pins_by_default};
 ghost use Rattle.concurrent_lru.specs.Keys.{CopiesAreEqual};
 ghost use Rattle.concurrent_lru.specs.Parts.{EachTakes, StandsAt, RunsApart};
 ghost use Rattle.concurrent_lru.specs.Request as ask;
-ghost use Rattle.concurrent_lru.specs.Results.{IsCharged, evicts, failed, outcome_of, polled, readied, released, request_of};
+ghost use Rattle.concurrent_lru.specs.Results.{IsCharged, outcome_of_evictions, outcome_of_fail, outcome_of, outcome_of_poll, outcome_of_ready, outcome_of_release, request_of};
 ghost use Rattle.concurrent_lru.specs.Runs.{refused};
 ghost use Rattle.concurrent_lru.specs.declared.list.Refusal.TheVariants.{Stale};
 ghost use Rattle.concurrent_lru.specs.Sharded.{AreLawful, key_number, key_shard};
-ghost use Rattle.concurrent_lru.specs.ShardSteps.{asked, begun_at, got_at, evicted_at, shard_asked, step_of, told, totals_at, IsShardAnswerTo, TellsNoShard};
+ghost use Rattle.concurrent_lru.specs.ShardSteps.{request_at_shard, outcome_of_shard_begin, outcome_of_shard_get, outcome_of_shard_evictions, shard_of_step, step_at_shard, outcome_at_shard, outcome_of_shard_total, IsShardAnswerTo, TellsNoShard};
 
 use crate::lru_core::{Answer, Begun, Evicted, Failed, Refusal, State, Step};
 use std::alloc::Global;
@@ -140,7 +140,7 @@ impl<K: Hash + Eq + Clone, V: Drop, S: BuildHasher + Drop> Shards<K, V, S> {
     ) -> Result<(usize, Begun<V>, Evicted<K, V>), Refusal>
         requires { 0 < charge }
         ensures shard { IfOk result (λ r. r.0 ≡ key_shard S.BuildHasher S.Hasher.Hasher K.hash_input self.old key.now) }
-        ensures step { StandsAt K.eq self.old (key_shard S.BuildHasher S.Hasher.Hasher K.hash_input self.old key.now) (ask.begin key.now charge) (begun_at result) self.new }
+        ensures step { StandsAt K.eq self.old (key_shard S.BuildHasher S.Hasher.Hasher K.hash_input self.old key.now) (ask.begin key.now charge) (outcome_of_shard_begin result) self.new }
         ensures lawful { AreLawful K.eq self.new }
     {
         let shard = self.route(key);
@@ -153,7 +153,7 @@ impl<K: Hash + Eq + Clone, V: Drop, S: BuildHasher + Drop> Shards<K, V, S> {
     /// `Overflow` and `Memory` as in one cache.
     pub fn get(&mut self, key: &K) -> Result<Option<(usize, u64, Arc<V>)>, Refusal>
         ensures shard { IfOk result (λ found. IfSome found (λ r. r.0 ≡ key_shard S.BuildHasher S.Hasher.Hasher K.hash_input self.old key.now)) }
-        ensures step { StandsAt K.eq self.old (key_shard S.BuildHasher S.Hasher.Hasher K.hash_input self.old key.now) (ask.get key.now) (got_at result) self.new }
+        ensures step { StandsAt K.eq self.old (key_shard S.BuildHasher S.Hasher.Hasher K.hash_input self.old key.now) (ask.get key.now) (outcome_of_shard_get result) self.new }
         ensures lawful { AreLawful K.eq self.new }
     {
         let shard = self.route(key);
@@ -163,7 +163,7 @@ impl<K: Hash + Eq + Clone, V: Drop, S: BuildHasher + Drop> Shards<K, V, S> {
 
     /// `advice_evict` at the key's shard. Takes no memory.
     pub fn advice_evict(&mut self, key: &K) -> Evicted<K, V>
-        ensures step { StandsAt K.eq self.old (key_shard S.BuildHasher S.Hasher.Hasher K.hash_input self.old key.now) (ask.advice_evict key.now) (evicts result) self.new }
+        ensures step { StandsAt K.eq self.old (key_shard S.BuildHasher S.Hasher.Hasher K.hash_input self.old key.now) (ask.advice_evict key.now) (outcome_of_evictions result) self.new }
         ensures lawful { AreLawful K.eq self.new }
     {
         let shard = self.route(key);
@@ -172,7 +172,7 @@ impl<K: Hash + Eq + Clone, V: Drop, S: BuildHasher + Drop> Shards<K, V, S> {
 
     /// `poll` at a shard. `Stale` also where there is no such shard; `Memory` as in one cache.
     pub fn poll(&mut self, shard: usize, stamp: u64) -> Result<Begun<V>, Refusal>
-        ensures step { StandsAt K.eq self.old shard (ask.poll stamp) (polled result) self.new }
+        ensures step { StandsAt K.eq self.old shard (ask.poll stamp) (outcome_of_poll result) self.new }
         ensures lawful { AreLawful K.eq self.new }
     {
         let Some(cache) = self.shards.get_mut(shard) else {
@@ -184,7 +184,7 @@ impl<K: Hash + Eq + Clone, V: Drop, S: BuildHasher + Drop> Shards<K, V, S> {
     /// `ready` at a shard. The value comes back also where there is no such shard. Takes no
     /// memory.
     pub fn ready(&mut self, shard: usize, stamp: u64, value: Arc<V>) -> Result<(), Arc<V>>
-        ensures step { StandsAt K.eq self.old shard (ask.ready stamp (arc_value value)) (readied result) self.new }
+        ensures step { StandsAt K.eq self.old shard (ask.ready stamp (arc_value value)) (outcome_of_ready result) self.new }
         ensures back { IfErr result (λ a. arc_value a ≡ arc_value value) }
         ensures lawful { AreLawful K.eq self.new }
     {
@@ -196,7 +196,7 @@ impl<K: Hash + Eq + Clone, V: Drop, S: BuildHasher + Drop> Shards<K, V, S> {
 
     /// `fail` at a shard. `Stale` also where there is no such shard. Takes no memory.
     pub fn fail(&mut self, shard: usize, stamp: u64) -> Result<Failed<K>, Refusal>
-        ensures step { StandsAt K.eq self.old shard (ask.fail stamp) (failed result) self.new }
+        ensures step { StandsAt K.eq self.old shard (ask.fail stamp) (outcome_of_fail result) self.new }
         ensures lawful { AreLawful K.eq self.new }
     {
         let Some(cache) = self.shards.get_mut(shard) else {
@@ -207,7 +207,7 @@ impl<K: Hash + Eq + Clone, V: Drop, S: BuildHasher + Drop> Shards<K, V, S> {
 
     /// `release` at a shard. `Stale` also where there is no such shard. Takes no memory.
     pub fn release(&mut self, shard: usize, stamp: u64) -> Result<Evicted<K, V>, Refusal>
-        ensures step { StandsAt K.eq self.old shard (ask.release stamp) (released result) self.new }
+        ensures step { StandsAt K.eq self.old shard (ask.release stamp) (outcome_of_release result) self.new }
         ensures lawful { AreLawful K.eq self.new }
     {
         let Some(cache) = self.shards.get_mut(shard) else {
@@ -218,7 +218,7 @@ impl<K: Hash + Eq + Clone, V: Drop, S: BuildHasher + Drop> Shards<K, V, S> {
 
     /// `prune` at a shard. `Stale` where there is no such shard. Takes no memory.
     pub fn prune_shard(&mut self, shard: usize) -> Result<Evicted<K, V>, Refusal>
-        ensures step { StandsAt K.eq self.old shard ask.prune (evicted_at result) self.new }
+        ensures step { StandsAt K.eq self.old shard ask.prune (outcome_of_shard_evictions result) self.new }
         ensures lawful { AreLawful K.eq self.new }
     {
         let Some(cache) = self.shards.get_mut(shard) else {
@@ -234,7 +234,7 @@ impl<K: Hash + Eq + Clone, V: Drop, S: BuildHasher + Drop> Shards<K, V, S> {
         shard: usize,
         capacity: u64,
     ) -> Result<Evicted<K, V>, Refusal>
-        ensures step { StandsAt K.eq self.old shard (ask.set_capacity capacity) (evicted_at result) self.new }
+        ensures step { StandsAt K.eq self.old shard (ask.set_capacity capacity) (outcome_of_shard_evictions result) self.new }
         ensures lawful { AreLawful K.eq self.new }
     {
         let Some(cache) = self.shards.get_mut(shard) else {
@@ -246,7 +246,7 @@ impl<K: Hash + Eq + Clone, V: Drop, S: BuildHasher + Drop> Shards<K, V, S> {
     // The same where the shard is there.
     fn set_capacity_at(&mut self, shard: usize, capacity: u64) -> Evicted<K, V>
         requires { shard < length self.old.caches }
-        ensures step { StandsAt K.eq self.old shard (ask.set_capacity capacity) (evicts result) self.new }
+        ensures step { StandsAt K.eq self.old shard (ask.set_capacity capacity) (outcome_of_evictions result) self.new }
         ensures lawful { AreLawful K.eq self.new }
     {
         self.shards[shard].set_capacity(capacity)
@@ -269,7 +269,7 @@ impl<K: Hash + Eq + Clone, V: Drop, S: BuildHasher + Drop> Shards<K, V, S> {
 
     /// `total` of a shard. `Stale` where there is no such shard. Takes no memory.
     pub fn total_shard(&self, shard: usize) -> Result<u64, Refusal>
-        ensures step { StandsAt K.eq self.now shard ask.total (totals_at result) self.now }
+        ensures step { StandsAt K.eq self.now shard ask.total (outcome_of_shard_total result) self.now }
         ensures lawful { AreLawful K.eq self.now }
     {
         let Some(cache) = self.shards.get(shard) else {
@@ -280,8 +280,8 @@ impl<K: Hash + Eq + Clone, V: Drop, S: BuildHasher + Drop> Shards<K, V, S> {
 
     // The shard of a step, and the step that it takes.
     fn address(&self, step: ShardStep<K, V>) -> (usize, Step<K, V>)
-        ensures shard { result.0 ≡ shard_asked (key_shard S.BuildHasher S.Hasher.Hasher K.hash_input self.now) step }
-        ensures step { result.1 ≡ step_of step }
+        ensures shard { result.0 ≡ shard_of_step (key_shard S.BuildHasher S.Hasher.Hasher K.hash_input self.now) step }
+        ensures step { result.1 ≡ step_at_shard step }
     {
         match step {
             ShardStep::Begin(key, charge) => (self.route(&key), Step::Begin(key, charge)),
@@ -299,9 +299,9 @@ impl<K: Hash + Eq + Clone, V: Drop, S: BuildHasher + Drop> Shards<K, V, S> {
 
     // Takes one step.
     fn step(&mut self, step: ShardStep<K, V>) -> (usize, Answer<K, V>)
-        requires { IsCharged (request_of (step_of step)) }
-        ensures shard { result.0 ≡ shard_asked (key_shard S.BuildHasher S.Hasher.Hasher K.hash_input self.old) step }
-        ensures step { StandsAt K.eq self.old result.0 (request_of (step_of step)) (outcome_of result.1) self.new }
+        requires { IsCharged (request_of (step_at_shard step)) }
+        ensures shard { result.0 ≡ shard_of_step (key_shard S.BuildHasher S.Hasher.Hasher K.hash_input self.old) step }
+        ensures step { StandsAt K.eq self.old result.0 (request_of (step_at_shard step)) (outcome_of result.1) self.new }
         ensures kind { IsShardAnswerTo step result }
         ensures lawful { AreLawful K.eq self.new }
     {
@@ -321,8 +321,8 @@ impl<K: Hash + Eq + Clone, V: Drop, S: BuildHasher + Drop> Shards<K, V, S> {
         &mut self,
         steps: Vec<ShardStep<K, V>>,
     ) -> Result<Vec<(usize, Answer<K, V>)>, Refusal>
-        requires { AllByRecursion IsCharged (map request_of (map step_of steps.items)) }
-        ensures run { IfOk result (λ answers. RunsApart K.eq self.old (map (asked (key_shard S.BuildHasher S.Hasher.Hasher K.hash_input self.old)) steps.items) (map told answers.items) self.new) }
+        requires { AllByRecursion IsCharged (map request_of (map step_at_shard steps.items)) }
+        ensures run { IfOk result (λ answers. RunsApart K.eq self.old (map (request_at_shard (key_shard S.BuildHasher S.Hasher.Hasher K.hash_input self.old)) steps.items) (map outcome_at_shard answers.items) self.new) }
         ensures kinds { IfOk result (λ answers. AllZip IsShardAnswerTo steps.items answers.items) }
         ensures err { IfErr result (λ e. e ≡ Refusal.Memory) }
         ensures same { OnErr result (self.new ≡ self.old) }

@@ -6,10 +6,10 @@ ghost use Rattle.std.specs.HashMap.{spare};
 ghost use Rattle.concurrent_lru.specs.Cache.{idle_at, IsFront};
 ghost use Rattle.std.specs.FinMap as map;
 ghost use Rattle.concurrent_lru.specs.Keys.{CopiesAreEqual};
-ghost use Rattle.concurrent_lru.specs.NodeTable.{Entry, entry_of, chain_of, phase_of, HasNode, LacksIdle};
-ghost use Rattle.concurrent_lru.specs.Representation.{as_idle, held_entry, HasEntry};
-ghost use Rattle.concurrent_lru.specs.Entries.{cache_of, charges_of, HasEntryIn, LacksStampIn, LacksKeyIn, IsPlaceOfKey, IsPlace, IsIdleAt, IsHeldAt, IsAt, IsReadyAt, Rewrites, RevivesAt, RestsAt, pins_at, with_pins, new_held};
-ghost use Rattle.concurrent_lru.specs.Steps.{without, in_phase};
+ghost use Rattle.concurrent_lru.specs.NodeTable.{Entry, entry_of, chain_of, phase_of, ContainsNode, LacksIdle};
+ghost use Rattle.concurrent_lru.specs.Representation.{as_idle, held_entry, GetsEntry};
+ghost use Rattle.concurrent_lru.specs.Entries.{cache_of, charges_of, ContainsEntry, ContainsNoStamp, ContainsNoKey, IsPlaceOfKey, ContainsPlace, ContainsIdleAt, ContainsHeldAt, GetsAt, IsReadyAt, Rewrites, RevivesAt, RestsAt, pins_at, held_with_pins, new_held};
+ghost use Rattle.concurrent_lru.specs.Steps.{without, held_in_phase};
 
 use crate::eviction::{Evicted, reversed};
 use crate::list::{Node, Nodes, Phase, Place, Refusal};
@@ -79,22 +79,22 @@ impl<K: Hash + Eq + Clone, V: Drop> Table<K, V> {
 
     /// The place of the entry with this stamp.
     pub fn find_stamp(&self, stamp: u64) -> Option<Place>
-        ensures { MatchOption result (LacksStampIn self.now stamp) (λ p. map.get self.now.stamps p ≡ Some stamp) }
+        ensures { MatchOption result (ContainsNoStamp self.now stamp) (λ p. map.get self.now.stamps p ≡ Some stamp) }
     {
         self.by_stamp.get(&stamp).copied()
     }
 
     /// The place of the entry with an equal key.
     pub fn find_key(&self, key: &K) -> Option<Place>
-        ensures { MatchOption result (LacksKeyIn K.eq self.now key.now) (λ p. IsPlaceOfKey K.eq self.now p key.now) }
+        ensures { MatchOption result (ContainsNoKey K.eq self.now key.now) (λ p. IsPlaceOfKey K.eq self.now p key.now) }
     {
         self.by_key.get(key).copied()
     }
 
     /// The node at a place.
     pub fn node(&self, place: Place) -> &Node<K, V>
-        requires { IsPlace self.now place }
-        ensures entry { IsAt self.now place (entry_of result.now) }
+        requires { ContainsPlace self.now place }
+        ensures entry { GetsAt self.now place (entry_of result.now) }
         ensures pins { pins_at self.now place ≡ (entry_of result.now).pins }
         ensures alone { chain_of result.now ≡ [] }
     {
@@ -105,8 +105,8 @@ impl<K: Hash + Eq + Clone, V: Drop> Table<K, V> {
     ///
     /// `Memory` where a copy of the key or a growth is refused; nothing changes then.
     pub fn add(&mut self, alloc: Global, stamp: u64, key: &K, charge: u64) -> Result<(), Refusal>
-        requires absent { LacksKeyIn K.eq self.old key.now }
-        requires fresh { LacksStampIn self.old stamp }
+        requires absent { ContainsNoKey K.eq self.old key.now }
+        requires fresh { ContainsNoStamp self.old stamp }
         requires fits { charges_of self.old + charge < 2 ^ 64 }
         ensures idle { self.new.idle ≡ self.old.idle }
         ensures ok { OnOk result ((copy : K) × (K.eq copy key.now ≡ true) × (self.new.held ≡ map.insert self.old.held stamp (new_held copy charge))) }
@@ -128,10 +128,10 @@ impl<K: Hash + Eq + Clone, V: Drop> Table<K, V> {
 
     /// Pins an entry once more: an idle one leaves the idle order. Takes no memory.
     pub fn pin(&mut self, place: Place)
-        requires place { IsPlace self.old place }
+        requires place { ContainsPlace self.old place }
         requires room { pins_at self.old place + 1 < 2 ^ 32 }
         ensures revived { pins_at self.old place ≡ 0 → RevivesAt self.old place self.new }
-        ensures held { pins_at self.old place ≢ 0 → Rewrites (with_pins (pins_at self.old place + 1)) self.old place self.new }
+        ensures held { pins_at self.old place ≢ 0 → Rewrites (held_with_pins (pins_at self.old place + 1)) self.old place self.new }
     {
         let pins = self.node(place).pins;
         if pins == 0 {
@@ -143,25 +143,25 @@ impl<K: Hash + Eq + Clone, V: Drop> Table<K, V> {
 
     /// Writes the number of pins of a held entry, which stays held. Takes no memory.
     pub fn hold(&mut self, place: Place, pins: u32)
-        requires held { IsHeldAt self.old place }
+        requires held { ContainsHeldAt self.old place }
         requires some { 0 < pins }
-        ensures { Rewrites (with_pins pins) self.old place self.new }
+        ensures { Rewrites (held_with_pins pins) self.old place self.new }
     {
         self.nodes.set_pins(place, pins);
     }
 
     /// Writes the phase of a held entry: its making is handed over, or its value is there. Takes
     /// no memory.
-    pub fn turn(&mut self, place: Place, phase: Phase<V>)
-        requires { IsHeldAt self.old place }
-        ensures { Rewrites (in_phase (phase_of phase)) self.old place self.new }
+    pub fn set_phase(&mut self, place: Place, phase: Phase<V>)
+        requires { ContainsHeldAt self.old place }
+        ensures { Rewrites (held_in_phase (phase_of phase)) self.old place self.new }
     {
         self.nodes.set_phase(place, phase);
     }
 
     // Pins an idle entry, which is held from then on.
     fn revive(&mut self, place: Place)
-        requires { IsIdleAt self.old place }
+        requires { ContainsIdleAt self.old place }
         ensures { RevivesAt self.old place self.new }
     {
         self.nodes.remove(place);
@@ -179,7 +179,7 @@ impl<K: Hash + Eq + Clone, V: Drop> Table<K, V> {
 
     /// Takes a held entry away. Takes no memory.
     pub fn take_held(&mut self, place: Place) -> Box<Node<K, V>>
-        requires { IsHeldAt self.old place }
+        requires { ContainsHeldAt self.old place }
         ensures at { map.get self.old.stamps place ≡ Some (entry_of result.value).stamp }
         ensures entry { map.get self.old.held (entry_of result.value).stamp ≡ Some (held_entry (entry_of result.value)) }
         ensures alone { chain_of result.value ≡ [] }
@@ -199,7 +199,7 @@ impl<K: Hash + Eq + Clone, V: Drop> Table<K, V> {
 
     /// Takes an idle entry away. Takes no memory.
     pub fn evict(&mut self, place: Place) -> Box<Node<K, V>>
-        requires { IsIdleAt self.old place }
+        requires { ContainsIdleAt self.old place }
         ensures at { map.get self.old.stamps place ≡ Some (entry_of result.value).stamp }
         ensures ready { IsSome (as_idle (entry_of result.value)) }
         ensures entry { idle_at (cache_of self.old) (entry_of result.value).stamp ≡ as_idle (entry_of result.value) }
@@ -258,7 +258,7 @@ fn make_room<K: Hash + Eq + Drop, V: Drop>(
     by_stamp: &mut HashMap<u64, Place>,
     more: usize,
 ) -> Result<(), Refusal>
-    ensures ok { OnOk result ((more ≤ nodes.new.room) × (more ≤ spare by_key.new) × (more ≤ spare by_stamp.new)) }
+    ensures ok { OnOk result ((more ≤ nodes.new.spare) × (more ≤ spare by_key.new) × (more ≤ spare by_stamp.new)) }
     ensures refusal { IfErr result (λ e. e ≡ Refusal.Memory) }
     ensures nodes { nodes.new.nodes ≡ nodes.old.nodes }
     ensures idle { nodes.new.idle ≡ nodes.old.idle }
@@ -280,10 +280,10 @@ fn take_away<K: Hash + Eq + Drop, V: Drop>(
     total: &mut u64,
     place: Place,
 ) -> Box<Node<K, V>>
-    requires within { HasNode nodes.old place }
+    requires within { ContainsNode nodes.old place }
     requires apart { LacksIdle nodes.old place }
-    requires counted { (e : Entry K V) → HasEntry nodes.old place e → e.charge ≤ total.old }
-    ensures entry { HasEntry nodes.old place (entry_of result.value) }
+    requires counted { (e : Entry K V) → GetsEntry nodes.old place e → e.charge ≤ total.old }
+    ensures entry { GetsEntry nodes.old place (entry_of result.value) }
     ensures alone { chain_of result.value ≡ [] }
     ensures nodes { nodes.new.nodes ≡ map.remove nodes.old.nodes place }
     ensures idle { nodes.new.idle ≡ nodes.old.idle }

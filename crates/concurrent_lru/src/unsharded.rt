@@ -4,7 +4,7 @@ ghost use Rattle.std.specs.Prelude.{◌≡◌, ◌≢◌, ◌<◌, Some, None, O
 ghost use Rattle.std.specs.Fn.{FnOnceReturnsAt, FnOnceTakesAt};
 ghost use Rattle.concurrent_lru.specs.Keys.{CopiesAreEqual};
 ghost use Rattle.concurrent_lru.specs.Pins.{IsHandleFor, made_key, made_charge};
-ghost use Rattle.concurrent_lru.specs.Turns.{IsTurnFor, IfInit};
+ghost use Rattle.concurrent_lru.specs.ThreadedCalls.{IsTurnFor, IfInit};
 
 use crate::door::{Door, Maker, Met};
 pub use crate::fit::{Anything, Fit};

@@ -35,8 +35,14 @@ fn evicted_entries_are_printed_oldest_first(rt: HostRuntime) -> Result<(), Fail>
 #[test]
 fn an_error_of_init_is_told_as_it_tells_itself(rt: HostRuntime) -> Result<(), Fail> {
     let overflow: GetError<Refusal> = GetError::Overflow;
-    assert_eq!(rt; text_of(rt.alloc(), overflow)?.as_str(), "a number is at its end");
+    assert_eq!(rt;
+        text_of(rt.alloc(), overflow)?.as_str(),
+        "a number is at its end"
+    );
     let own = GetError::Init(Refusal::Stale);
-    assert_eq!(rt; text_of(rt.alloc(), own)?.as_str(), "the stamp fits no entry");
+    assert_eq!(rt;
+        text_of(rt.alloc(), own)?.as_str(),
+        "the stamp fits no entry"
+    );
     Ok(())
 }

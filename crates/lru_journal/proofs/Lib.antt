@@ -1,6 +1,4 @@
-pub mod Values
+-- The lemmas of the journal and the twin, in folders by subject.
 pub mod Replays
-pub mod Keeps
-pub mod Positions
-pub mod Moves
-pub mod Sent
+pub mod Receipts
+pub mod Threads

@@ -10,7 +10,7 @@ use Rattle.concurrent_lru.specs.Runs.{Outcome, accepted, refused, Refuses}
 use Rattle.concurrent_lru.specs.Steps.{Step}
 use Rattle.concurrent_lru.specs.declared.list.Refusal.{Refusal}
 use Rattle.concurrent_lru.specs.declared.list.Refusal.TheVariants.{Memory}
-use Rattle.lru_journal.specs.Replay.{forgotten, step_of, told_of, recorded, start, Replays}
+use Rattle.lru_journal.specs.Replay.{without_values, recorded_step, told_of, record_of, start, Replays}
 use Rattle.lru_journal.specs.declared.record.Record.{Record}
 
 -- a cache, the records of its accepted steps, and the capacity that it began with
@@ -21,28 +21,28 @@ pub record Journaled (K V : Type 0) : Type 0 where
 
 module _ {K V : Type 0} where
   -- an empty journal
-  abbrev pub opened : ℕ → Journaled K V
-  opened capacity = record { cache = empty_cache capacity 4294967295 0; records = []; began = capacity }
+  abbrev pub empty_journal : ℕ → Journaled K V
+  empty_journal capacity = record { cache = empty_cache capacity 4294967295 0; records = []; began = capacity }
 
   -- what the calls answer that the cache alone does not, as an outcome
-  abbrev pub readied : Result (Unit {0}) (Refusal × Arc V Global) → Outcome K V
-  readied (Ok _) = accepted say.done []
-  readied (Err e) = refused e.0
+  abbrev pub outcome_of_journal_ready : Result (Unit {0}) (Refusal × Arc V Global) → Outcome K V
+  outcome_of_journal_ready (Ok _) = accepted say.done []
+  outcome_of_journal_ready (Err e) = refused e.0
 
-  abbrev pub summed : Result ℕ Refusal → Outcome K V
-  summed (Ok n) = accepted (say.sum n) []
-  summed (Err e) = refused e
+  abbrev pub outcome_of_journal_total : Result ℕ Refusal → Outcome K V
+  outcome_of_journal_total (Ok n) = accepted (say.sum n) []
+  outcome_of_journal_total (Err e) = refused e
 
   -- the cache is lawful, and the records are a legal history from the empty cache to this one
   pub record IsHistory (E : K → K → Bool) (j : Journaled K V) : Type 0 where
     pub lawful : IsLawful E j.cache
-    pub legal : Replays E (start j.began) j.records (forgotten j.cache)
+    pub legal : Replays E (start j.began) j.records (without_values j.cache)
 
   -- From old, a journal may do this with the request: an accepted one is the cache's step and adds its own record; a refused one changes nothing, for want of memory or as the cache refuses it.
   abbrev pub Journals : (K → K → Bool) → Journaled K V → Request K V → Outcome K V → Journaled K V → Type 0
   Journals E old r (accepted reply evicted) new =
       Step E old.cache r reply evicted new.cache
-      × (new ≡ record { cache = new.cache; records = old.records ++ recorded (step_of r) (told_of r reply) ∷ []; began = old.began })
+      × (new ≡ record { cache = new.cache; records = old.records ++ record_of (recorded_step r) (told_of r reply) ∷ []; began = old.began })
   Journals E old r (refused e) new = ((e ≡ Memory) ⊎ Refuses E old.cache r e) × (new ≡ old)
 
 -- a step and its record, which is told of the answer: an accepted step adds it, a refused one changes nothing
@@ -53,6 +53,6 @@ pub record IsRecorded {K V T E : Type 0} (old : Journaled K V) (is_record : T �
 
 module _ {K V : Type 0} where
   -- what every journal keeps: its records are its history, and a copy of a key equals it
-  pub record IsKept (is_clone : K → K → Type 0) (E : K → K → Bool) (cache : Cache K V) (records : List (Record K)) (began : ℕ) : Type 0 where
+  pub record IsSoundJournal (is_clone : K → K → Type 0) (E : K → K → Bool) (cache : Cache K V) (records : List (Record K)) (began : ℕ) : Type 0 where
     pub copies : CopiesAreEqual is_clone E
     pub history : IsHistory E (record { cache = cache; records = records; began = began })

@@ -1,3 +1,4 @@
+-- The definitions that the contracts of the journal and the twin cite.
 pub mod Values
 pub mod Replay
 pub mod Journals

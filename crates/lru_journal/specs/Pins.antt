@@ -2,6 +2,6 @@
 use Rattle.std.specs.Prelude.{ℕ}
 
 -- the stamp of an entry, and its value
-pub record Pinned (V : Type 0) : Type 0 where
+pub record TwinPin (V : Type 0) : Type 0 where
   pub stamp : ℕ
   pub value : V

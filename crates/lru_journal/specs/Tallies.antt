@@ -29,19 +29,19 @@ abbrev pub all_parts : ℕ
 all_parts = 1000000
 
 -- f of each, added up
-abbrev pub total : {A : Type 0} → (A → ℕ) → List A → ℕ
-total f [] = 0
-total f (x ∷ xs) = f x + total f xs
+abbrev pub sum_over : {A : Type 0} → (A → ℕ) → List A → ℕ
+sum_over f [] = 0
+sum_over f (x ∷ xs) = f x + sum_over f xs
 
 -- the records of these receipts that stand at the position n
-abbrev pub at : {A : Type 0} → ℕ → List (ℕ × A) → List A
-at n [] = []
-at n (x ∷ xs) = if x.0 == n then x.1 ∷ at n xs else at n xs
+abbrev pub receipts_at : {A : Type 0} → ℕ → List (ℕ × A) → List A
+receipts_at n [] = []
+receipts_at n (x ∷ xs) = if x.0 == n then x.1 ∷ receipts_at n xs else receipts_at n xs
 
 -- how many of these receipts stand at the position n
-abbrev pub times : {A : Type 0} → ℕ → List (ℕ × A) → ℕ
-times n [] = 0
-times n (x ∷ xs) = if x.0 == n then suc (times n xs) else times n xs
+abbrev pub receipt_count_at : {A : Type 0} → ℕ → List (ℕ × A) → ℕ
+receipt_count_at n [] = 0
+receipt_count_at n (x ∷ xs) = if x.0 == n then suc (receipt_count_at n xs) else receipt_count_at n xs
 
 -- 1 for each number below the count
 abbrev pub once_below : ℕ → ℕ → ℕ
@@ -50,10 +50,10 @@ once_below zero (suc count) = 1
 once_below (suc n) (suc count) = once_below n count
 
 -- what stands at the position n, if anything
-abbrev pub slot : {A : Type 0} → ℕ → List A → List A
-slot n [] = []
-slot zero (x ∷ xs) = x ∷ []
-slot (suc n) (x ∷ xs) = slot n xs
+abbrev pub record_at : {A : Type 0} → ℕ → List A → List A
+record_at n [] = []
+record_at zero (x ∷ xs) = x ∷ []
+record_at (suc n) (x ∷ xs) = record_at n xs
 
 -- each receipt's record stands among the records, at its position
 abbrev pub Stand : {A : Type 0} → List A → List (ℕ × A) → Type 0
@@ -67,7 +67,7 @@ AllBelow count (x ∷ xs) = (x.0 < count) × AllBelow count xs
 
 -- position by position, the records are exactly the receipts
 abbrev pub AreExactly : {A : Type 0} → List A → List (ℕ × A) → Type 0
-AreExactly records receipts = (n : ℕ) → at n receipts ≡ slot n records
+AreExactly records receipts = (n : ℕ) → receipts_at n receipts ≡ record_at n records
 
 -- a tally: its parts and its receipts
 pub record Hand (K : Type 0) : Type 0 where
@@ -78,14 +78,14 @@ abbrev pub hand : {K : Type 0} → ℕ → List (ℕ × Record K) → Hand K
 hand parts receipts = record { parts = parts; receipts = receipts }
 
 -- a tally with one receipt more
-abbrev pub gained : {K : Type 0} → Hand K → ℕ → Record K → Hand K
-gained h n r = hand h.parts (h.receipts ++ (n, r) ∷ [])
+abbrev pub hand_with_receipt : {K : Type 0} → Hand K → ℕ → Record K → Hand K
+hand_with_receipt h n r = hand h.parts (h.receipts ++ (n, r) ∷ [])
 
 -- an accepted call: the receipt of its record comes last, at a position past all that the tally had
 pub record Receives {K : Type 0} (old : Hand K) (r : Record K) (new : Hand K) : Type 0 where
   pub position : ℕ
   pub past : AllBelow position old.receipts
-  pub gains : new ≡ gained old position r
+  pub gains : new ≡ hand_with_receipt old position r
 
 -- a call and its tally: an accepted one adds the receipt of its record, which is told of the answer; a refused one leaves the tally
 pub record IsTallied {K T E : Type 0} (old : Hand K) (is_record : T → Record K → Type 0) (result : Result T E) (new : Hand K) : Type 0 where
@@ -93,8 +93,8 @@ pub record IsTallied {K T E : Type 0} (old : Hand K) (is_record : T → Record K
   pub refused : OnErr result (new ≡ old)
 
 -- a tally with another's parts and receipts
-abbrev pub merged : {K : Type 0} → Hand K → Hand K → Hand K
-merged h k = hand (h.parts + k.parts) (h.receipts ++ k.receipts)
+abbrev pub hand_with_hand : {K : Type 0} → Hand K → Hand K → Hand K
+hand_with_hand h k = hand (h.parts + k.parts) (h.receipts ++ k.receipts)
 
 -- what a pass knows
 abbrev pub view : {K : Type 0} → Bool → List (Record K) → ℕ → List (ℕ × Record K) → View K
@@ -127,8 +127,8 @@ abbrev pub one_part : {K : Type 0} → View K → View K
 one_part v = view false [] 1 []
 
 -- a pass that takes another's parts and receipts in
-abbrev pub taken : {K : Type 0} → View K → View K → View K
-taken v w = view v.keeps v.all (v.parts + w.parts) (v.receipts ++ w.receipts)
+abbrev pub view_with_view : {K : Type 0} → View K → View K → View K
+view_with_view v w = view v.keeps v.all (v.parts + w.parts) (v.receipts ++ w.receipts)
 
 -- one pass at most knows all records. The records of its receipts stand among them. Without parts it has no receipts
 abbrev pub Fits : {K : Type 0} → ℕ → List (Record K) → ℕ → View K → Type 0
@@ -139,8 +139,8 @@ pub record IsCounted {K : Type 0} (words : List ℕ) (views : List (View K)) : T
   pub seat : ℕ
   pub log : List (Record K)
   pub count : slice_index words 0 ≡ length log
-  pub parts : total (λ v. v.parts) views ≡ all_parts
-  pub positions : (n : ℕ) → total (λ v. times n v.receipts) views ≡ once_below n (length log)
+  pub parts : sum_over (λ v. v.parts) views ≡ all_parts
+  pub positions : (n : ℕ) → sum_over (λ v. receipt_count_at n v.receipts) views ≡ once_below n (length log)
   pub fits : (by : ℕ) (v : View K) → get_elem? views by ≡ some v → Fits seat log by v
 
 -- the record is added to all records, and its receipt to the tally, past every position there

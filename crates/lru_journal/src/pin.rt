@@ -2,8 +2,8 @@
 //! A pin is given back by `release` alone, since the record of a release has to be made.
 ghost use Rattle.std.specs.Prelude.{◌≡◌};
 ghost use Rattle.std.specs.Arc.{arc_value};
-ghost use Rattle.lru_journal.specs.Replay.{told_begun, told_found};
-ghost use Rattle.lru_journal.specs.Calls.{pinned, told_started, told_pinned};
+ghost use Rattle.lru_journal.specs.Replay.{told_of_begun, told_of_found};
+ghost use Rattle.lru_journal.specs.Calls.{twin_pin, told_of_started, told_of_pin};
 
 use concurrent_lru::lru_core::Begun;
 use std::marker::Model;
@@ -17,10 +17,10 @@ pub struct Pin<V> {
 }
 
 impl<V> Model for Pin<V> {
-    ghost use Rattle.lru_journal.specs.Pins.{Pinned};
+    ghost use Rattle.lru_journal.specs.Pins.{TwinPin};
     ghost use Rattle.std.specs.Arc.{arc_value};
 
-    ghost Value = { Pinned V };
+    ghost Value = { TwinPin V };
 
     ghost view = { λ p. record { stamp = p.stamp; value = arc_value p.value } };
 }
@@ -28,7 +28,7 @@ impl<V> Model for Pin<V> {
 impl<V> Pin<V> {
     /// The pin of the entry with this stamp, of this value.
     pub fn new(stamp: u64, value: Arc<V>) -> Pin<V>
-        ensures { result ≡ pinned stamp (arc_value value) }
+        ensures { result ≡ twin_pin stamp (arc_value value) }
     {
         Pin { stamp, value }
     }
@@ -62,7 +62,7 @@ pub enum Started<V> {
 
 impl<V> Started<V> {
     pub(crate) fn of(begun: Begun<V>) -> Started<V>
-        ensures { told_started result ≡ told_begun begun }
+        ensures { told_of_started result ≡ told_of_begun begun }
     {
         match begun {
             Begun::Make(stamp) => Started::Make(stamp),
@@ -74,7 +74,7 @@ impl<V> Started<V> {
 
 // What `get` finds, as a pin.
 pub(crate) fn pin_of<V>(found: Option<(u64, Arc<V>)>) -> Option<Pin<V>>
-    ensures { told_pinned result ≡ told_found found }
+    ensures { told_of_pin result ≡ told_of_found found }
 {
     match found {
         Some((stamp, value)) => Some(Pin::new(stamp, value)),

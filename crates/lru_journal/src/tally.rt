@@ -2,7 +2,7 @@
 //! Passes of that cell have no bytes; the cell's one word counts the records.
 ghost use Rattle.std.specs.Prelude.{◌≡◌, ◌+◌, ◌^◌, ◌<◌, ◌++◌, ◌∷◌, [], length, IfOk, IfErr};
 ghost use Rattle.crossbeam_utils.specs.Seq.{cell_view};
-ghost use Rattle.lru_journal.specs.Tallies.{knower, gained, AllBelow};
+ghost use Rattle.lru_journal.specs.Tallies.{knower, hand_with_receipt, AllBelow};
 
 use crate::record::Record;
 use atomic_table::{Join, Split};
@@ -110,9 +110,9 @@ impl<K> Split<View<K>> for OnePart {
 pub struct Takes;
 
 impl<K> Join<View<K>> for Takes {
-    ghost use Rattle.lru_journal.specs.Tallies.{taken, nobody};
+    ghost use Rattle.lru_journal.specs.Tallies.{view_with_view, nobody};
 
-    ghost both = { taken };
+    ghost both = { view_with_view };
 
     ghost spent = { nobody };
 }
@@ -201,7 +201,7 @@ pub(crate) fn append<K, E: Noted<K>, I: Identity, R: Wait>(
     requires noted { noted.now ≡ E.made }
     requires room { number + 1 < 2 ^ 64 }
     ensures keeper { (keeper.new.table_id ≡ I.name.table) × (cell_view keeper.new ≡ knower ((cell_view keeper.old).all ++ noted.now ∷ [])) }
-    ensures tally { tally.new ≡ gained tally.old number noted.now }
+    ensures tally { tally.new ≡ hand_with_receipt tally.old number noted.now }
     ensures past { AllBelow number tally.old.receipts }
 {
     let mine = cell.split_pass::<Gives>(&mut tally.pass);

@@ -3,10 +3,10 @@
 ghost use Rattle.std.specs.Prelude.{◌≡◌, ◌≢◌, ◌-◌, ◌<◌, [], true, IfErr};
 ghost use Rattle.std.specs.Arc.{arc_value};
 ghost use Rattle.concurrent_lru.specs.Keys.{CopiesAreEqual};
-ghost use Rattle.lru_journal.specs.Calls.{told_started, told_pinned};
+ghost use Rattle.lru_journal.specs.Calls.{told_of_started, told_of_pin};
 ghost use Rattle.lru_journal.specs.Journals.{IsHistory};
-ghost use Rattle.lru_journal.specs.Replay.{recorded, told_failed, IsOfCopy};
-ghost use Rattle.lru_journal.specs.Tallies.{hand, merged, all_parts, AreExactly, IsTallied};
+ghost use Rattle.lru_journal.specs.Replay.{record_of, told_of_failed, IsOfCopy};
+ghost use Rattle.lru_journal.specs.Tallies.{hand, hand_with_hand, all_parts, AreExactly, IsTallied};
 
 use crate::desk::{Desk, step};
 use crate::door::Door;
@@ -74,7 +74,7 @@ impl<
         charge: u64,
     ) -> Result<Started<V>, Refusal>
         requires { 0 < charge }
-        ensures tallied { IsTallied tally.old (λ started. IsOfCopy K.eq key.now (λ copy. recorded (Recorded.Begin copy charge) (told_started started))) result tally.new }
+        ensures tallied { IsTallied tally.old (λ started. IsOfCopy K.eq key.now (λ copy. record_of (Recorded.Begin copy charge) (told_of_started started))) result tally.new }
         ensures parts { tally.new.parts ≡ tally.old.parts }
         ensures never_stale { IfErr result (λ e. e ≢ Refusal.Stale) }
     {
@@ -87,7 +87,7 @@ impl<
     ///
     /// `Stale` where no held entry has the stamp.
     pub fn poll(&self, tally: &mut Tally<K, I>, stamp: u64) -> Result<Started<V>, Refusal>
-        ensures tallied { IsTallied tally.old (λ started r. r ≡ recorded (Recorded.Poll stamp) (told_started started)) result tally.new }
+        ensures tallied { IsTallied tally.old (λ started r. r ≡ record_of (Recorded.Poll stamp) (told_of_started started)) result tally.new }
         ensures parts { tally.new.parts ≡ tally.old.parts }
         ensures never_overflow { IfErr result (λ e. e ≢ Refusal.Overflow) }
     {
@@ -104,7 +104,7 @@ impl<
         stamp: u64,
         value: Arc<V>,
     ) -> Result<(), (Refusal, Arc<V>)>
-        ensures tallied { IsTallied tally.old (λ _ r. r ≡ recorded (Recorded.Ready stamp) Told.Done) result tally.new }
+        ensures tallied { IsTallied tally.old (λ _ r. r ≡ record_of (Recorded.Ready stamp) Told.Done) result tally.new }
         ensures parts { tally.new.parts ≡ tally.old.parts }
         ensures never_overflow { IfErr result (λ e. e.0 ≢ Refusal.Overflow) }
         ensures back { IfErr result (λ e. arc_value e.1 ≡ arc_value value) }
@@ -116,7 +116,7 @@ impl<
     ///
     /// `Stale` where no entry is being made under that stamp.
     pub fn fail(&self, tally: &mut Tally<K, I>, stamp: u64) -> Result<Failed<K>, Refusal>
-        ensures tallied { IsTallied tally.old (λ failed r. r ≡ recorded (Recorded.Fail stamp) (told_failed failed)) result tally.new }
+        ensures tallied { IsTallied tally.old (λ failed r. r ≡ record_of (Recorded.Fail stamp) (told_of_failed failed)) result tally.new }
         ensures parts { tally.new.parts ≡ tally.old.parts }
         ensures never_overflow { IfErr result (λ e. e ≢ Refusal.Overflow) }
     {
@@ -127,7 +127,7 @@ impl<
     ///
     /// `Overflow` where the entry has the greatest number of pins.
     pub fn get(&self, tally: &mut Tally<K, I>, key: &K) -> Result<Option<Pin<V>>, Refusal>
-        ensures tallied { IsTallied tally.old (λ found. IsOfCopy K.eq key.now (λ copy. recorded (Recorded.Get copy) (told_pinned found))) result tally.new }
+        ensures tallied { IsTallied tally.old (λ found. IsOfCopy K.eq key.now (λ copy. record_of (Recorded.Get copy) (told_of_pin found))) result tally.new }
         ensures parts { tally.new.parts ≡ tally.old.parts }
         ensures never_stale { IfErr result (λ e. e ≢ Refusal.Stale) }
     {
@@ -139,7 +139,7 @@ impl<
     ///
     /// `Stale` where no held and ready entry has its stamp.
     pub fn release(&self, tally: &mut Tally<K, I>, pin: Pin<V>) -> Result<(), (Refusal, Pin<V>)>
-        ensures tallied { IsTallied tally.old (λ _ r. r ≡ recorded (Recorded.Release pin.stamp) Told.Done) result tally.new }
+        ensures tallied { IsTallied tally.old (λ _ r. r ≡ record_of (Recorded.Release pin.stamp) Told.Done) result tally.new }
         ensures parts { tally.new.parts ≡ tally.old.parts }
         ensures never_overflow { IfErr result (λ e. e.0 ≢ Refusal.Overflow) }
         ensures back { IfErr result (λ e. e.1 ≡ pin) }
@@ -156,7 +156,7 @@ impl<
 
     /// Evicts the entry of a key, where it is idle; else nothing happens.
     pub fn advice_evict(&self, tally: &mut Tally<K, I>, key: &K) -> Result<(), Refusal>
-        ensures tallied { IsTallied tally.old (λ _. IsOfCopy K.eq key.now (λ copy. recorded (Recorded.AdviceEvict copy) Told.Done)) result tally.new }
+        ensures tallied { IsTallied tally.old (λ _. IsOfCopy K.eq key.now (λ copy. record_of (Recorded.AdviceEvict copy) Told.Done)) result tally.new }
         ensures parts { tally.new.parts ≡ tally.old.parts }
         ensures memory { IfErr result (λ e. e ≡ Refusal.Memory) }
     {
@@ -167,7 +167,7 @@ impl<
 
     /// Evicts every idle entry.
     pub fn prune(&self, tally: &mut Tally<K, I>) -> Result<(), Refusal>
-        ensures tallied { IsTallied tally.old (λ _ r. r ≡ recorded Recorded.Prune Told.Done) result tally.new }
+        ensures tallied { IsTallied tally.old (λ _ r. r ≡ record_of Recorded.Prune Told.Done) result tally.new }
         ensures parts { tally.new.parts ≡ tally.old.parts }
         ensures memory { IfErr result (λ e. e ≡ Refusal.Memory) }
     {
@@ -181,7 +181,7 @@ impl<
     ///
     /// A refusal leaves the capacity as it was.
     pub fn set_capacity(&self, tally: &mut Tally<K, I>, capacity: u64) -> Result<(), Refusal>
-        ensures tallied { IsTallied tally.old (λ _ r. r ≡ recorded (Recorded.SetCapacity capacity) Told.Done) result tally.new }
+        ensures tallied { IsTallied tally.old (λ _ r. r ≡ record_of (Recorded.SetCapacity capacity) Told.Done) result tally.new }
         ensures parts { tally.new.parts ≡ tally.old.parts }
         ensures memory { IfErr result (λ e. e ≡ Refusal.Memory) }
     {
@@ -195,7 +195,7 @@ impl<
 
     /// The sum of the charges of all entries, those still being made included.
     pub fn total(&self, tally: &mut Tally<K, I>) -> Result<u64, Refusal>
-        ensures tallied { IsTallied tally.old (λ total r. r ≡ recorded Recorded.Total (Told.Total total)) result tally.new }
+        ensures tallied { IsTallied tally.old (λ total r. r ≡ record_of Recorded.Total (Told.Total total)) result tally.new }
         ensures parts { tally.new.parts ≡ tally.old.parts }
         ensures memory { IfErr result (λ e. e ≡ Refusal.Memory) }
     {
@@ -235,7 +235,7 @@ impl<K: Hash + Eq + Clone, I: Identity> Tally<K, I> {
 
     /// Takes in another tally's parts and receipts. Takes no lock and no memory.
     pub fn join<V, R>(&mut self, cache: &LruCache<K, V, R, I>, other: Tally<K, I>)
-        ensures { self.new ≡ merged self.old other }
+        ensures { self.new ≡ hand_with_hand self.old other }
     {
         let Tally { mut pass, twin: _ } = other;
         let cell = cache.door.cell();

@@ -1,7 +1,7 @@
 //! A cache of pages that threads share: each block is read once, while its page is there.
 //! It is an unsharded cache with the mark `Numbered`, in which every page has the charge 1.
 ghost use Rattle.std.specs.Prelude.{◌≡◌, Some, IfOk, IfErr};
-ghost use Rattle.concurrent_lru.specs.Turns.{IfInit};
+ghost use Rattle.concurrent_lru.specs.ThreadedCalls.{IfInit};
 
 use crate::blocks::Blocks;
 use crate::page::{Numbered, Page};

@@ -1,2 +1,3 @@
+-- The lemmas of the replay.
 pub mod Makings
 pub mod Inits

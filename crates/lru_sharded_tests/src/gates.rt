@@ -1,5 +1,5 @@
 //! What a sharded cache evicts is dropped without the lock of its shard.
-//! Two threads have to meet; where one held the lock, a limit of turns would end it.
+//! Two threads have to meet; where one held the lock, a limit of looks would end it.
 
 use concurrent_lru::sharded::LruCache;
 use lru_fixtures::gates::{Cause, Gate, Slow, evict, made_for, total_meanwhile};

@@ -1,5 +1,5 @@
 //! What runs without the lock: makers, drops, and the reading of a handle.
-//! In each gate two threads have to meet; where one held the lock, a limit of turns would end it.
+//! In each gate two threads have to meet; where one held the lock, a limit of looks would end it.
 
 use concurrent_lru::unsharded::{CacheHandle, LruCache};
 use lru_fixtures::flags::{is_raised, meets, raise};

@@ -3,10 +3,10 @@
 ghost use Rattle.std.specs.Prelude.{◌≡◌, ◌+◌, ◌∷◌, [], ◌++◌, ◌==◌, map, filter, not, nat_eq, true, false, None, Some, IsSome};
 ghost use Rattle.std.specs.List.{list_any};
 ghost use Rattle.concurrent_lru.specs.Cells.{cell_at, key_at, AtKey};
-ghost use Rattle.concurrent_lru.specs.SlotTable.{IsTable, IsGood, idle_of, entry_in};
+ghost use Rattle.concurrent_lru.specs.SlotTable.{IsNodeTable, IsGood, idle_places, entry_in};
 ghost use Rattle.concurrent_lru.specs.SlotPointers.{IsTied};
-ghost use Rattle.concurrent_lru.specs.Slots.{made};
-ghost use Rattle.concurrent_lru.specs.NodeTable.{phase_of, pinned_by, in_phase};
+ghost use Rattle.concurrent_lru.specs.Slots.{map_of_slots};
+ghost use Rattle.concurrent_lru.specs.NodeTable.{phase_of, entry_with_pins, entry_in_phase};
 ghost use Rattle.concurrent_lru.specs.Relinks.{IsRelinked, Relinks, Revalues, LeftJoined, RightJoined, key_in, before_at, after_at};
 
 use crate::list::slots::Slots;
@@ -72,12 +72,12 @@ pub(super) fn append_at<K: Drop, V: Drop>(
     newest: &mut Option<*mut Node<K, V>>,
     key: usize,
 )
-    requires table { IsTable slots.old oldest.old newest.old }
+    requires table { IsNodeTable slots.old oldest.old newest.old }
     requires present { IsSome (cell_at slots.old.memory.cells key) }
-    requires held { list_any (nat_eq key) (idle_of slots.old.memory.cells oldest.old) ≡ false }
-    ensures table { IsTable slots.new oldest.new newest.new }
-    ensures nodes { made (map entry_in slots.new.memory.cells) ≡ made (map entry_in slots.old.memory.cells) }
-    ensures idle { idle_of slots.new.memory.cells oldest.new ≡ idle_of slots.old.memory.cells oldest.old ++ key ∷ [] }
+    requires held { list_any (nat_eq key) (idle_places slots.old.memory.cells oldest.old) ≡ false }
+    ensures table { IsNodeTable slots.new oldest.new newest.new }
+    ensures nodes { map_of_slots (map entry_in slots.new.memory.cells) ≡ map_of_slots (map entry_in slots.old.memory.cells) }
+    ensures idle { idle_places slots.new.memory.cells oldest.new ≡ idle_places slots.old.memory.cells oldest.old ++ key ∷ [] }
     ensures pointers { slots.new.pointers ≡ slots.old.pointers }
     ensures looks { slots.new.looks.count ≡ slots.old.looks.count + 1 }
 {
@@ -163,11 +163,11 @@ pub(super) fn remove_at<K: Drop, V: Drop>(
     newest: &mut Option<*mut Node<K, V>>,
     key: usize,
 )
-    requires table { IsTable slots.old oldest.old newest.old }
-    requires idle { list_any (nat_eq key) (idle_of slots.old.memory.cells oldest.old) ≡ true }
-    ensures table { IsTable slots.new oldest.new newest.new }
-    ensures nodes { made (map entry_in slots.new.memory.cells) ≡ made (map entry_in slots.old.memory.cells) }
-    ensures idle { idle_of slots.new.memory.cells oldest.new ≡ filter (λ q. not (q == key)) (idle_of slots.old.memory.cells oldest.old) }
+    requires table { IsNodeTable slots.old oldest.old newest.old }
+    requires idle { list_any (nat_eq key) (idle_places slots.old.memory.cells oldest.old) ≡ true }
+    ensures table { IsNodeTable slots.new oldest.new newest.new }
+    ensures nodes { map_of_slots (map entry_in slots.new.memory.cells) ≡ map_of_slots (map entry_in slots.old.memory.cells) }
+    ensures idle { idle_places slots.new.memory.cells oldest.new ≡ filter (λ q. not (q == key)) (idle_places slots.old.memory.cells oldest.old) }
     ensures pointers { slots.new.pointers ≡ slots.old.pointers }
     ensures looks { slots.new.looks.count ≡ slots.old.looks.count + 1 }
 {
@@ -182,7 +182,7 @@ pub(super) fn write_pins<K: Drop, V: Drop>(slots: &mut Slots<K, V>, key: usize, 
     requires tied { IsTied slots.old }
     requires present { IsSome (cell_at slots.old.memory.cells key) }
     ensures slots { slots.new ≡ record slots.old { memory = slots.new.memory; looks = slots.new.looks } }
-    ensures cells { Revalues slots.old.memory.cells slots.new.memory.cells key (pinned_by pins) }
+    ensures cells { Revalues slots.old.memory.cells slots.new.memory.cells key (entry_with_pins pins) }
 {
     let link = slots.look(key);
     slots.follow_mut(link).hold(pins);
@@ -193,8 +193,8 @@ pub(super) fn write_phase<K: Drop, V: Drop>(slots: &mut Slots<K, V>, key: usize,
     requires tied { IsTied slots.old }
     requires present { IsSome (cell_at slots.old.memory.cells key) }
     ensures slots { slots.new ≡ record slots.old { memory = slots.new.memory; looks = slots.new.looks } }
-    ensures cells { Revalues slots.old.memory.cells slots.new.memory.cells key (in_phase (phase_of phase)) }
+    ensures cells { Revalues slots.old.memory.cells slots.new.memory.cells key (entry_in_phase (phase_of phase)) }
 {
     let link = slots.look(key);
-    slots.follow_mut(link).turn(phase);
+    slots.follow_mut(link).set_phase(phase);
 }

@@ -1,4 +1,4 @@
-use Rattle.concurrent_lru.proofs.PartLemmas.{refused-same}
+use Rattle.concurrent_lru.proofs.SideBySide.OneOfMany.{refused-same}
 use Rattle.concurrent_lru.proofs.shard_laws.refusals_change_nothing.Goals as goal
 
 pub returns : goal.returns

@@ -1,4 +1,4 @@
-use Rattle.concurrent_lru.proofs.Lawful as lawful
+use Rattle.concurrent_lru.proofs.Steps.StaysLawful as lawful
 use Rattle.concurrent_lru.proofs.step_laws.keeps_limits.Goals as goal
 
 pub returns : goal.returns

@@ -1,4 +1,4 @@
-use Rattle.concurrent_lru.proofs.OneStep as steps
+use Rattle.concurrent_lru.proofs.Steps.OneAnswer as steps
 use Rattle.concurrent_lru.proofs.step_laws.one_answer.Goals as goal
 
 pub returns : goal.returns

@@ -1,4 +1,4 @@
-use Rattle.concurrent_lru.proofs.Exclusions as refusals
+use Rattle.concurrent_lru.proofs.Steps.RefusalsExclude as refusals
 use Rattle.concurrent_lru.proofs.step_laws.refusals_exclude.Goals as goal
 
 pub returns : goal.returns

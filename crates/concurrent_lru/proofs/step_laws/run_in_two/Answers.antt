@@ -1,4 +1,4 @@
-use Rattle.concurrent_lru.proofs.RunLemmas.{Run-cut, Run-join}
+use Rattle.concurrent_lru.proofs.Runs.CutAndJoined.{Run-cut, Run-join}
 use Rattle.concurrent_lru.proofs.step_laws.run_in_two.Goals as goal
 
 pub returns : goal.returns

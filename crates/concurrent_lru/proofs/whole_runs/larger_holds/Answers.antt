@@ -1,4 +1,4 @@
-use Rattle.concurrent_lru.proofs.RunPromises as promises
+use Rattle.concurrent_lru.proofs.Runs.PromisesOfRuns as promises
 use Rattle.concurrent_lru.proofs.whole_runs.larger_holds.Goals as goal
 
 pub returns : goal.returns

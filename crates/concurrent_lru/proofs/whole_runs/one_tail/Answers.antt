@@ -1,4 +1,4 @@
-use Rattle.concurrent_lru.proofs.Inclusion as inclusion
+use Rattle.concurrent_lru.proofs.Runs.LargerCapacity as inclusion
 use Rattle.concurrent_lru.proofs.whole_runs.one_tail.Goals as goal
 
 pub returns : goal.returns

@@ -3,8 +3,8 @@ use Rattle.std.specs.Prelude.{IsSome, is_some}
 use Rattle.std.specs.Option.{option_map_or}
 use Rattle.std.specs.Ordering.{nat_cmp}
 use Rattle.std.specs.FinMap.{FinMap, get, insert, get-empty}
-use Rattle.concurrent_lru.specs.NodeTable.{Entry, updated}
-use Rattle.concurrent_lru.proofs.Changes.{inserted_at}
+use Rattle.concurrent_lru.specs.NodeTable.{Entry, update_at}
+use Rattle.concurrent_lru.proofs.Entries.NodeWrittenOrAdded.{inserted_at}
 use Rattle.lru_core_tests.proofs.list.keeps_a_node_from_its_insert_to_its_end.Goals as goal
 
 -- what was inserted is there
@@ -12,7 +12,7 @@ inserted : (m n : FinMap nat_cmp (Entry ℕ ℕ)) (p : ℕ) (e : Entry ℕ ℕ) 
 inserted m n p e is = ap is_some (ap (λ k. get k p) is ∙ inserted_at m p e)
 
 -- a node whose entry is changed stays
-changed : (m n : FinMap nat_cmp (Entry ℕ ℕ)) (f : Entry ℕ ℕ → Entry ℕ ℕ) (p : ℕ) → n ≡ updated f m p → IsSome (get m p) → IsSome (get n p)
+changed : (m n : FinMap nat_cmp (Entry ℕ ℕ)) (f : Entry ℕ ℕ → Entry ℕ ℕ) (p : ℕ) → n ≡ update_at f m p → IsSome (get m p) → IsSome (get n p)
 changed m n f p is here = subst (λ k. IsSome (get k p)) (sym is) (elim (get m p) as (λ o. get m p ≡ o → IsSome (get (option_map_or (λ e. insert m p (f e)) o m) p)) [
   | None ↦ λ _. here
   | Some e ↦ λ _. ap is_some (inserted_at m p (f e))

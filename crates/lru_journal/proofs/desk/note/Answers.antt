@@ -1,8 +1,8 @@
 use Rattle.std.proofs.Common.{ℕ, [], ◌∷◌, ◌++◌, length, sym, ◌∙◌, ap, subst}
 use Rattle.crossbeam_utils.specs.Seq.{cell_view}
 use Rattle.lru_journal.specs.declared.record.Record.{Record}
-use Rattle.lru_journal.specs.Tallies.{Hand, gained, knower, AllBelow}
-use Rattle.lru_journal.proofs.Positions.{count_last, last_is}
+use Rattle.lru_journal.specs.Tallies.{Hand, hand_with_receipt, knower, AllBelow}
+use Rattle.lru_journal.proofs.Receipts.Positions.{count_last, last_is}
 use Rattle.lru_journal.proofs.desk.note.Goals as goal
 
 pub append-requires-clause-keeper : goal.append-requires-clause-keeper
@@ -24,6 +24,6 @@ returns g c =
       tally = λ r is. record {
         position = length all;
         past = subst (λ (n : ℕ). AllBelow n c.args.tally.now.receipts) (sym (count_last all xs last.0 e)) a.past;
-        gains = a.tally ∙ (λ j. gained c.args.tally.now (sym (count_last all xs last.0 e) j) (last_is all xs r i.result (c.records-records.ensures.records ∙ is) i.is j));
+        gains = a.tally ∙ (λ j. hand_with_receipt c.args.tally.now (sym (count_last all xs last.0 e) j) (last_is all xs r i.result (c.records-records.ensures.records ∙ is) i.is j));
       };
     }

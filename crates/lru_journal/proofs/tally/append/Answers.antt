@@ -2,8 +2,8 @@ use Rattle.std.proofs.Common.{ℕ, ◌≡◌, ◌<◌, ◌++◌, ◌∷◌, [], 
 use Rattle.crossbeam_utils.specs.Seq.{cell_view}
 use Rattle.lru_journal.specs.declared.tally.View.{View}
 use Rattle.lru_journal.specs.declared.record.Record.{Record}
-use Rattle.lru_journal.specs.Tallies.{Hand, hand, gained, knower, keeper_of, hand_of, AllBelow}
-use Rattle.lru_journal.proofs.Moves.{gives, takes, appends_as, appended_as}
+use Rattle.lru_journal.specs.Tallies.{Hand, hand, hand_with_receipt, knower, keeper_of, hand_of, AllBelow}
+use Rattle.lru_journal.proofs.Receipts.StepsOfCell.{gives, takes, appends_as, appended_as}
 use Rattle.lru_journal.proofs.tally.append.Goals as goal
 
 pub split_pass-mine-requires : goal.split_pass-mine-requires
@@ -37,7 +37,7 @@ returns g c =
     let all = (cell_view c.args.keeper.now).all in
     record {
       keeper = (t.kept.0.0 ∙ (s.cell.0 ∙ (j.0.0 ∙ c.requires.cell.1)), t.kept.1 ∙ (ap keeper_of now.0 ∙ ap (λ (r : Record g.row.K.Denot). knower (all ++ r ∷ [])) same));
-      tally = ap (λ (v : View g.row.K.Denot). hand v.parts v.receipts) (t.given.1 ∙ ap hand_of now.0) ∙ (ap (λ (h : Hand g.row.K.Denot). gained h c.args.number made) c.tally.view_is ∙ ap (λ (r : Record g.row.K.Denot). gained c.args.tally.now c.args.number r) same);
+      tally = ap (λ (v : View g.row.K.Denot). hand v.parts v.receipts) (t.given.1 ∙ ap hand_of now.0) ∙ (ap (λ (h : Hand g.row.K.Denot). hand_with_receipt h c.args.number made) c.tally.view_is ∙ ap (λ (r : Record g.row.K.Denot). hand_with_receipt c.args.tally.now c.args.number r) same);
       past = subst (λ (h : Hand g.row.K.Denot). AllBelow c.args.number h.receipts) c.tally.view_is now.1;
     }
 

@@ -3,7 +3,7 @@ use Rattle.std.specs.List.{filter_map}
 use Rattle.std.proofs.lemmas.List.Elements.{filter_map-append}
 use Rattle.concurrent_lru.specs.Representation.{as_idle}
 use Rattle.concurrent_lru.specs.Chain.{chain_from}
-use Rattle.concurrent_lru.proofs.Chains.{filter_map-reverse}
+use Rattle.concurrent_lru.proofs.Entries.ChainsOfEvicted.{filter_map-reverse}
 use Rattle.concurrent_lru.proofs.eviction.Evicted.turned_onto.Goals as goal
 
 pub returns : goal.returns

@@ -36,7 +36,7 @@ use Rattle.std.proofs.option.Option.TheLaws as option_laws
 use Rattle.std.specs.contracts.option.Option as option
 use Rattle.concurrent_lru.proofs.list.slots.Slots.TheLaws as slots_laws
 use Rattle.concurrent_lru.proofs.work.Work.TheLaws as work_laws
-use Rattle.concurrent_lru.specs.SlotTable.{IsTable}
+use Rattle.concurrent_lru.specs.SlotTable.{IsNodeTable}
 use Rattle.concurrent_lru.specs.contracts.list.slots.Slots as slots
 use Rattle.concurrent_lru.specs.contracts.work.Work as work
 use Rattle.concurrent_lru.specs.contracts.list.Nodes as nodes
@@ -76,7 +76,7 @@ of_spec 𝓤 𝓛 𝓜 𝓡 wired K V L N =
     let back = of_field RawPtr-field RawPtr-laws refl (copy_shared RawPtr-field RawPtr-copy) in
     let laws : Laws S = slots_laws.the_row_laws X Y (param_laws 0 K L) (param_laws 1 V N) in
     let end_laws : Laws O = option_laws.the_row_laws usize end in let back_laws : Laws B = option_laws.the_row_laws RawPtr back in
-    qed 𝓛 ((raw (alive 𝓛 En.signature κs z.0.1) ⊛ ‵ (owns (types_at En.signature.params κs) a vss)) ∷ raw (fact 𝓤 _) ∷ raw (fact 𝓤 _) ∷ raw (fact 𝓤 (IsTable a.0 a.1.0 a.1.1.0)) ∷ []) ∵
+    qed 𝓛 ((raw (alive 𝓛 En.signature κs z.0.1) ⊛ ‵ (owns (types_at En.signature.params κs) a vss)) ∷ raw (fact 𝓤 _) ∷ raw (fact 𝓤 _) ∷ raw (fact 𝓤 (IsNodeTable a.0 a.1.0 a.1.1.0)) ∷ []) ∵
     move ! (3 ∷ []) $ heard ! _ (λ ok. keep ! (0 ∷ []) $ split ! $ move ! (1 ∷ []) $
     fsplit ! $ tells ! S laws a.0 vss.0 (λ u e t. move ! (1 ∷ []) $
     fsplit ! $ tells ! O end_laws a.1.0 vss.1.0 (λ u1 e1 t1. move ! (1 ∷ []) $

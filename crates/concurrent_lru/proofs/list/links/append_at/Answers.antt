@@ -1,5 +1,5 @@
 use Rattle.std.proofs.Common.{ap, ◌∙◌}
-use Rattle.concurrent_lru.proofs.Relinking.{last_held, appended_first, appended_after}
+use Rattle.concurrent_lru.proofs.Order.Appending.{last_held, appended_first, appended_after}
 use Rattle.concurrent_lru.proofs.list.links.append_at.Goals as goal
 
 pub set_after-requires : goal.set_after-requires

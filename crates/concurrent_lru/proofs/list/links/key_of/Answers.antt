@@ -1,7 +1,7 @@
 use Rattle.std.proofs.Common.{sym, ap, ◌∙◌, subst}
 use Rattle.concurrent_lru.specs.Relinks.{key_in}
 use Rattle.concurrent_lru.specs.SlotTable.{IsGood}
-use Rattle.concurrent_lru.proofs.SlotTies.{own_key}
+use Rattle.concurrent_lru.proofs.Nodes.PointersTied.{own_key}
 use Rattle.concurrent_lru.proofs.list.links.key_of.Goals as goal
 
 pub returns-in-Some : goal.returns-in-Some

@@ -1,4 +1,4 @@
-use Rattle.concurrent_lru.proofs.SlotWrites.{relinked}
+use Rattle.concurrent_lru.proofs.Nodes.NodeWrites.{relinked}
 use Rattle.concurrent_lru.proofs.list.links.relink.Goals as goal
 
 pub returns-clause-cells : goal.returns-clause-cells

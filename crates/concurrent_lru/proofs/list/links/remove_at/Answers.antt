@@ -1,8 +1,8 @@
 use Rattle.std.proofs.Common.{◌≡◌, None, sym, ap, ◌∙◌, subst}
 use Rattle.concurrent_lru.specs.Relinks.{Relinks, before_at, after_at}
 use Rattle.concurrent_lru.specs.SlotTable.{IsGood}
-use Rattle.concurrent_lru.proofs.Relinking.{quiet, good_kept, tied_kept, told_at}
-use Rattle.concurrent_lru.proofs.Unlinking.{Cuts, left_quiet, table_out, nodes_out, idle_out, good_beside, present_in}
+use Rattle.concurrent_lru.proofs.Order.Appending.{quiet, good_kept, tied_kept, told_at}
+use Rattle.concurrent_lru.proofs.Order.TakingOut.{Cuts, left_quiet, table_out, nodes_out, idle_out, good_beside, present_in}
 use Rattle.concurrent_lru.proofs.list.links.remove_at.Goals as goal
 use Rattle.concurrent_lru.proofs.list.links.remove_at.Goals.{After-join_right}
 

@@ -1,4 +1,4 @@
-use Rattle.concurrent_lru.proofs.SlotWrites.{relinked_after}
+use Rattle.concurrent_lru.proofs.Nodes.NodeWrites.{relinked_after}
 use Rattle.concurrent_lru.proofs.list.links.set_after.Goals as goal
 
 pub returns-clause-cells : goal.returns-clause-cells

@@ -1,4 +1,4 @@
-use Rattle.concurrent_lru.proofs.SlotWrites.{relinked_before}
+use Rattle.concurrent_lru.proofs.Nodes.NodeWrites.{relinked_before}
 use Rattle.concurrent_lru.proofs.list.links.set_before.Goals as goal
 
 pub returns-clause-cells : goal.returns-clause-cells

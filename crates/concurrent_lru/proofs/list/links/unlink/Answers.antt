@@ -1,5 +1,5 @@
 use Rattle.std.proofs.Common.{None}
-use Rattle.concurrent_lru.proofs.SlotWrites.{relinked, told_before, told_after}
+use Rattle.concurrent_lru.proofs.Nodes.NodeWrites.{relinked, told_before, told_after}
 use Rattle.concurrent_lru.proofs.list.links.unlink.Goals as goal
 
 pub returns-clause-cells : goal.returns-clause-cells

@@ -1,4 +1,4 @@
-use Rattle.concurrent_lru.proofs.Ready.{advice_evict_kept}
+use Rattle.concurrent_lru.proofs.Steps.ReadyValues.{advice_evict_kept}
 use Rattle.concurrent_lru.proofs.locked.Locked.advice_evict.Goals as goal
 
 pub invariant_of-self : goal.invariant_of-self

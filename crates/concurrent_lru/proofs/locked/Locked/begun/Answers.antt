@@ -1,4 +1,4 @@
-use Rattle.concurrent_lru.proofs.Ready.{begin_kept, begin_hit, begin_never_stale}
+use Rattle.concurrent_lru.proofs.Steps.ReadyValues.{begin_kept, begin_hit, begin_never_stale}
 use Rattle.concurrent_lru.proofs.locked.Locked.begun.Goals as goal
 
 pub invariant_of-self : goal.invariant_of-self

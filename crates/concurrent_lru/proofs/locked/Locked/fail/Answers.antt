@@ -1,4 +1,4 @@
-use Rattle.concurrent_lru.proofs.Ready.{fail_kept}
+use Rattle.concurrent_lru.proofs.Steps.ReadyValues.{fail_kept}
 use Rattle.concurrent_lru.proofs.locked.Locked.fail.Goals as goal
 
 pub invariant_of-self : goal.invariant_of-self

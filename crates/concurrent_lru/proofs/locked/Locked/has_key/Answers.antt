@@ -1,5 +1,5 @@
 use Rattle.std.proofs.Common.{sym, ◌∙◌}
-use Rattle.concurrent_lru.proofs.Ready.{equal_key_at, other_key_at, no_key_at}
+use Rattle.concurrent_lru.proofs.Steps.ReadyValues.{equal_key_at, other_key_at, no_key_at}
 use Rattle.concurrent_lru.proofs.locked.Locked.has_key.Goals as goal
 
 pub returns-in-Some-clause-yes : goal.returns-in-Some-clause-yes

@@ -1,7 +1,7 @@
 use Rattle.std.proofs.Common.{sym, subst}
 use Rattle.concurrent_lru.specs.Cache.{most_pins_by_default}
 use Rattle.concurrent_lru.specs.Ready.{IsSoundUnderLock}
-use Rattle.concurrent_lru.proofs.Ready.{empty_sound_under_lock}
+use Rattle.concurrent_lru.proofs.Steps.ReadyValues.{empty_sound_under_lock}
 use Rattle.concurrent_lru.proofs.locked.Locked.new.Goals as goal
 
 pub invariant_of-result : goal.invariant_of-result

@@ -1,6 +1,6 @@
 use Rattle.std.proofs.Common.{sym, subst}
 use Rattle.concurrent_lru.specs.Ready.{HasEqualKeyAt}
-use Rattle.concurrent_lru.proofs.Ready.{poll_kept, poll_hit}
+use Rattle.concurrent_lru.proofs.Steps.ReadyValues.{poll_kept, poll_hit}
 use Rattle.concurrent_lru.proofs.locked.Locked.polled.Goals as goal
 
 pub invariant_of-self : goal.invariant_of-self

@@ -1,4 +1,4 @@
-use Rattle.concurrent_lru.proofs.Ready.{prune_kept}
+use Rattle.concurrent_lru.proofs.Steps.ReadyValues.{prune_kept}
 use Rattle.concurrent_lru.proofs.locked.Locked.prune.Goals as goal
 
 pub invariant_of-self : goal.invariant_of-self

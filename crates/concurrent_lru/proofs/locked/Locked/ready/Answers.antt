@@ -1,6 +1,6 @@
 use Rattle.std.proofs.Common.{sym, subst}
 use Rattle.concurrent_lru.specs.Ready.{HasEqualKeyAt}
-use Rattle.concurrent_lru.proofs.Ready.{ready_kept}
+use Rattle.concurrent_lru.proofs.Steps.ReadyValues.{ready_kept}
 use Rattle.concurrent_lru.proofs.locked.Locked.ready.Goals as goal
 
 pub invariant_of-self : goal.invariant_of-self

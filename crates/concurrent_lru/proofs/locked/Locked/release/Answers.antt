@@ -1,4 +1,4 @@
-use Rattle.concurrent_lru.proofs.Ready.{release_kept}
+use Rattle.concurrent_lru.proofs.Steps.ReadyValues.{release_kept}
 use Rattle.concurrent_lru.proofs.locked.Locked.release.Goals as goal
 
 pub invariant_of-self : goal.invariant_of-self

@@ -1,4 +1,4 @@
-use Rattle.concurrent_lru.proofs.Ready.{set_capacity_kept}
+use Rattle.concurrent_lru.proofs.Steps.ReadyValues.{set_capacity_kept}
 use Rattle.concurrent_lru.proofs.locked.Locked.set_capacity.Goals as goal
 
 pub invariant_of-self : goal.invariant_of-self

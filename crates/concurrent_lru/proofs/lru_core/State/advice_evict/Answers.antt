@@ -2,10 +2,10 @@ use Rattle.std.proofs.Common.{◌≡◌, ◌≤◌, ℕ, refl, ap, subst, inl, i
 use Rattle.concurrent_lru.specs.Steps.{Drops, IsNotIdle}
 use Rattle.concurrent_lru.specs.NodeTable.{entry_of}
 use Rattle.concurrent_lru.specs.Entries.{cache_with}
-use Rattle.concurrent_lru.proofs.Advices.{absent_not_idle}
-use Rattle.concurrent_lru.proofs.ClearLaws.{drops_lawful}
-use Rattle.concurrent_lru.proofs.EntryAt.{key_is, idle_place, is_not_idle}
-use Rattle.concurrent_lru.proofs.TableSteps.{drops}
+use Rattle.concurrent_lru.proofs.Steps.AdviceOfAbsent.{absent_not_idle}
+use Rattle.concurrent_lru.proofs.Steps.LawfulAfterLeaving.{drops_lawful}
+use Rattle.concurrent_lru.proofs.Entries.EntryAtPlace.{key_is, idle_place, is_not_idle}
+use Rattle.concurrent_lru.proofs.Entries.StepsOfEntries.{drops}
 use Rattle.concurrent_lru.proofs.lru_core.State.advice_evict.Goals as goal
 use Rattle.concurrent_lru.proofs.lru_core.State.advice_evict.Goals.{After-one}
 

@@ -5,12 +5,12 @@ use Rattle.concurrent_lru.specs.NodeTable.{entry_of, phase_of}
 use Rattle.concurrent_lru.specs.Entries.{cache_with}
 use Rattle.concurrent_lru.specs.Request as ask
 use Rattle.concurrent_lru.specs.Runs.{Overflows, TakesMemory}
-use Rattle.concurrent_lru.proofs.EntryAt.{key_is, has_room, held_place, unready_pinned, would_hit, is_full}
-use Rattle.concurrent_lru.proofs.Hits.{unready_not_ready}
-use Rattle.concurrent_lru.proofs.Joins.{joins_lawful}
-use Rattle.concurrent_lru.proofs.Lawful.{hits_lawful}
-use Rattle.concurrent_lru.proofs.Refusals.{begun_memory}
-use Rattle.concurrent_lru.proofs.TableSteps.{still_held, rewritten_twice, joins, joins_as_it_is, hits}
+use Rattle.concurrent_lru.proofs.Entries.EntryAtPlace.{key_is, has_room, held_place, unready_pinned, would_hit, is_full}
+use Rattle.concurrent_lru.proofs.Steps.NotReady.{unready_not_ready}
+use Rattle.concurrent_lru.proofs.Steps.BeginOfHeld.{joins_lawful}
+use Rattle.concurrent_lru.proofs.Steps.StaysLawful.{hits_lawful}
+use Rattle.concurrent_lru.proofs.Steps.MemoryRefused.{begun_memory}
+use Rattle.concurrent_lru.proofs.Entries.StepsOfEntries.{still_held, rewritten_twice, joins, joins_as_it_is, hits}
 use Rattle.concurrent_lru.proofs.lru_core.State.begin.Goals as goal
 use Rattle.concurrent_lru.proofs.lru_core.State.begin.Goals.{After-none, After-none-in-Untaken, After-none-in-Ready}
 
@@ -59,17 +59,17 @@ overflow_add-pins-in-Untaken g c = let room = has_room c.node-node.ensures.entry
 pub hold-requires-in-Untaken-clause-held : goal.hold-requires-in-Untaken-clause-held
 hold-requires-in-Untaken-clause-held g c = let here = c.node-node.ensures.entry in held_place here (unready_pinned here (unready_not_ready _ (inr (ap phase_of c.in-Untaken.is))))
 
-pub turn-requires : goal.turn-requires
-turn-requires g c = still_held c.hold-in-Untaken.ensures
+pub set_phase-requires : goal.set_phase-requires
+set_phase-requires g c = still_held c.hold-in-Untaken.ensures
 
-takes : (g : _) (c : After-none-in-Untaken g) → Joins g.K.PartialEq.eq (cache_with c.self.inside.capacity c.self.inside.most_pins c.self.inside.next c.self.inside.table) c.args.key.now (entry_of c.node-node.result.now).stamp untaken making [] (cache_with c.self.inside.capacity c.self.inside.most_pins c.self.inside.next c.turn.new.self)
+takes : (g : _) (c : After-none-in-Untaken g) → Joins g.K.PartialEq.eq (cache_with c.self.inside.capacity c.self.inside.most_pins c.self.inside.next c.self.inside.table) c.args.key.now (entry_of c.node-node.result.now).stamp untaken making [] (cache_with c.self.inside.capacity c.self.inside.most_pins c.self.inside.next c.set_phase.new.self)
 takes g c =
     let here = c.node-node.ensures.entry in
     let phase = ap phase_of c.in-Untaken.is in
     let some = unready_pinned here (unready_not_ready _ (inr phase)) in
-    joins g.K.PartialEq.eq c.self.inside.capacity c.self.inside.most_pins c.self.inside.next here c.turn.new.self c.args.key.now untaken making
+    joins g.K.PartialEq.eq c.self.inside.capacity c.self.inside.most_pins c.self.inside.next here c.set_phase.new.self c.args.key.now untaken making
     (key_is here c.self.invariant.lawful c.args.key.now c.in-Some.ensures) some
-    (has_room here c.self.invariant.lawful c.self.invariant.pins_above c.if-pins-self.false) phase (rewritten_twice here some c.hold-in-Untaken.ensures c.turn.ensures)
+    (has_room here c.self.invariant.lawful c.self.invariant.pins_above c.if-pins-self.false) phase (rewritten_twice here some c.hold-in-Untaken.ensures c.set_phase.ensures)
 
 pub invariant_of-self-in-Untaken : goal.invariant_of-self-in-Untaken
 invariant_of-self-in-Untaken g c = record { lawful = joins_lawful _ _ _ _ _ _ _ _ c.self.invariant.lawful (takes g c); pins_above = c.self.invariant.pins_above }
@@ -77,7 +77,7 @@ invariant_of-self-in-Untaken g c = record { lawful = joins_lawful _ _ _ _ _ _ _ 
 pub returns-in-Untaken-clause-step : goal.returns-in-Untaken-clause-step
 returns-in-Untaken-clause-step g c =
     let s = (entry_of c.node-node.result.now).stamp in
-    let new = cache_with c.self.inside.capacity c.self.inside.most_pins c.self.inside.next c.turn.new.self in
+    let new = cache_with c.self.inside.capacity c.self.inside.most_pins c.self.inside.next c.set_phase.new.self in
     let step : Joins g.K.PartialEq.eq c.args.self.now.cache c.args.key.now s untaken making [] new = subst (λ old. Joins g.K.PartialEq.eq old c.args.key.now s untaken making [] new) (ap (λ x. x.cache) c.self.view_is) (takes g c) in
     inr (subst (λ out. Joins g.K.PartialEq.eq c.args.self.now.cache c.args.key.now s untaken making out new) (sym c.none-in-Untaken.ensures) step)
 

@@ -3,14 +3,14 @@ use Rattle.concurrent_lru.specs.Cache.{making, untaken, IsLawful, held_at}
 use Rattle.concurrent_lru.specs.Steps.{Leaves, Removes}
 use Rattle.concurrent_lru.specs.NodeTable.{entry_of, phase_of}
 use Rattle.concurrent_lru.specs.Entries.{cache_with}
-use Rattle.concurrent_lru.proofs.ClearLaws.{removes_lawful}
-use Rattle.concurrent_lru.proofs.EntryAt.{held_is, held_place, unready_pinned}
-use Rattle.concurrent_lru.proofs.Hits.{unready_not_ready}
-use Rattle.concurrent_lru.proofs.Readies.{phase_making}
-use Rattle.concurrent_lru.proofs.Releases.{leaves_lawful}
-use Rattle.concurrent_lru.proofs.TableSteps.{still_held, rewritten_twice, leaves, removes}
+use Rattle.concurrent_lru.proofs.Steps.LawfulAfterLeaving.{removes_lawful}
+use Rattle.concurrent_lru.proofs.Entries.EntryAtPlace.{held_is, held_place, unready_pinned}
+use Rattle.concurrent_lru.proofs.Steps.NotReady.{unready_not_ready}
+use Rattle.concurrent_lru.proofs.Steps.ReadyAndPoll.{phase_making}
+use Rattle.concurrent_lru.proofs.Steps.Release.{leaves_lawful}
+use Rattle.concurrent_lru.proofs.Entries.StepsOfEntries.{still_held, rewritten_twice, leaves, removes}
 use Rattle.concurrent_lru.proofs.lru_core.State.fail.Goals as goal
-use Rattle.concurrent_lru.proofs.lru_core.State.fail.Goals.{After-turn, After-into_inner-key}
+use Rattle.concurrent_lru.proofs.lru_core.State.fail.Goals.{After-set_phase, After-into_inner-key}
 
 pub returns-in_default-clause-step : goal.returns-in_default-clause-step
 returns-in_default-clause-step g c = (λ h holds. c.in_default.ensures h.key h.charge (inr (h, ap (λ k. held_at k.cache c.args.stamp) c.self.view_is ∙ holds.at, refl, refl)), refl)
@@ -30,21 +30,21 @@ returns-in_default-phase g c = record {
 pub hold-requires-clause-held : goal.hold-requires-clause-held
 hold-requires-clause-held g c = let many = c.if-pins-gt1.true in held_place c.node-node.ensures.entry (λ none. omega (arith, none, many))
 
-pub turn-requires : goal.turn-requires
-turn-requires g c = still_held c.hold.ensures
+pub set_phase-requires : goal.set_phase-requires
+set_phase-requires g c = still_held c.hold.ensures
 
-gives_up : (g : _) (c : After-turn g) → Leaves g.K.PartialEq.eq (cache_with c.self.inside.capacity c.self.inside.most_pins c.self.inside.next c.self.inside.table) c.args.stamp making untaken [] (cache_with c.self.inside.capacity c.self.inside.most_pins c.self.inside.next c.turn.new.self)
+gives_up : (g : _) (c : After-set_phase g) → Leaves g.K.PartialEq.eq (cache_with c.self.inside.capacity c.self.inside.most_pins c.self.inside.next c.self.inside.table) c.args.stamp making untaken [] (cache_with c.self.inside.capacity c.self.inside.most_pins c.self.inside.next c.set_phase.new.self)
 gives_up g c =
     let here = c.node-node.ensures.entry in
     let many = c.if-pins-gt1.true in
-    leaves g.K.PartialEq.eq c.self.inside.capacity c.self.inside.most_pins c.self.inside.next here c.turn.new.self c.args.stamp making untaken c.in-Some.ensures many (ap phase_of c.in-Making.is)
-    (rewritten_twice here (λ none. omega (arith, none, many)) c.hold.ensures c.turn.ensures)
+    leaves g.K.PartialEq.eq c.self.inside.capacity c.self.inside.most_pins c.self.inside.next here c.set_phase.new.self c.args.stamp making untaken c.in-Some.ensures many (ap phase_of c.in-Making.is)
+    (rewritten_twice here (λ none. omega (arith, none, many)) c.hold.ensures c.set_phase.ensures)
 
 pub invariant_of-self : goal.invariant_of-self
 invariant_of-self g c = record { lawful = leaves_lawful _ _ _ _ _ _ _ c.self.invariant.lawful (gives_up g c); pins_above = c.self.invariant.pins_above }
 
 pub returns-then-pins-gt1-clause-step : goal.returns-then-pins-gt1-clause-step
-returns-then-pins-gt1-clause-step g c = subst (λ old. Leaves g.K.PartialEq.eq old c.args.stamp making untaken [] (cache_with c.self.inside.capacity c.self.inside.most_pins c.self.inside.next c.turn.new.self)) (ap (λ x. x.cache) c.self.view_is) (gives_up g c)
+returns-then-pins-gt1-clause-step g c = subst (λ old. Leaves g.K.PartialEq.eq old c.args.stamp making untaken [] (cache_with c.self.inside.capacity c.self.inside.most_pins c.self.inside.next c.set_phase.new.self)) (ap (λ x. x.cache) c.self.view_is) (gives_up g c)
 
 pub returns-then-pins-gt1-clause-lawful : goal.returns-then-pins-gt1-clause-lawful
 returns-then-pins-gt1-clause-lawful g c = leaves_lawful _ _ _ _ _ _ _ c.self.invariant.lawful (gives_up g c)

@@ -5,11 +5,11 @@ use Rattle.concurrent_lru.specs.NodeTable.{entry_of, phase_of}
 use Rattle.concurrent_lru.specs.Entries.{cache_with}
 use Rattle.concurrent_lru.specs.Request as ask
 use Rattle.concurrent_lru.specs.Runs.{Overflows, TakesMemory}
-use Rattle.concurrent_lru.proofs.EntryAt.{key_is, has_room, unready_pinned, is_unready, would_hit, get_overflows}
-use Rattle.concurrent_lru.proofs.Hits.{absent_unready, unready_phase, unready_not_ready}
-use Rattle.concurrent_lru.proofs.Lawful.{hits_lawful}
-use Rattle.concurrent_lru.proofs.Refusals.{got_memory}
-use Rattle.concurrent_lru.proofs.TableSteps.{hits}
+use Rattle.concurrent_lru.proofs.Entries.EntryAtPlace.{key_is, has_room, unready_pinned, is_unready, would_hit, get_overflows}
+use Rattle.concurrent_lru.proofs.Steps.NotReady.{absent_unready, unready_phase, unready_not_ready}
+use Rattle.concurrent_lru.proofs.Steps.StaysLawful.{hits_lawful}
+use Rattle.concurrent_lru.proofs.Steps.MemoryRefused.{got_memory}
+use Rattle.concurrent_lru.proofs.Entries.StepsOfEntries.{hits}
 use Rattle.concurrent_lru.proofs.lru_core.State.get.Goals as goal
 use Rattle.concurrent_lru.proofs.lru_core.State.get.Goals.{After-pin}
 

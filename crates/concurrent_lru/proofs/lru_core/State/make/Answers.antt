@@ -1,8 +1,8 @@
 use Rattle.std.proofs.Common.{◌≡◌, ℕ, ◌+◌, ◌-◌, ◌<◌, ◌≤◌, ◌^◌, sym, ap, subst, arith}
 use Rattle.concurrent_lru.specs.Steps.{IsAbsent, Makes}
 use Rattle.concurrent_lru.specs.Entries.{charges_of, cache_with}
-use Rattle.concurrent_lru.proofs.Begins.{makes_lawful}
-use Rattle.concurrent_lru.proofs.TableSteps as steps
+use Rattle.concurrent_lru.proofs.Steps.BeginOfAbsent.{makes_lawful}
+use Rattle.concurrent_lru.proofs.Entries.StepsOfEntries as steps
 use Rattle.concurrent_lru.proofs.lru_core.State.make.Goals as goal
 use Rattle.concurrent_lru.proofs.lru_core.State.make.Goals.{After-settle-evicted}
 

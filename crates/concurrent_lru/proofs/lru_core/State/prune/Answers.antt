@@ -1,7 +1,7 @@
 use Rattle.std.proofs.Common.{◌≡◌, [], ap, subst, ◌+◌, length, ◌∙◌}
 use Rattle.concurrent_lru.specs.Entries.{cache_with}
-use Rattle.concurrent_lru.proofs.ClearLaws.{prunes_lawful}
-use Rattle.concurrent_lru.proofs.Prunes.{prunes}
+use Rattle.concurrent_lru.proofs.Steps.LawfulAfterLeaving.{prunes_lawful}
+use Rattle.concurrent_lru.proofs.Steps.Prune.{prunes}
 use Rattle.concurrent_lru.proofs.lru_core.State.prune.Goals as goal
 
 pub invariant_of-self : goal.invariant_of-self

@@ -1,14 +1,14 @@
 use Rattle.std.proofs.Common.{[], refl, sym, ap, ◌∙◌, subst, inl, inr}
 use Rattle.concurrent_lru.specs.Cache.{making, ready, IsLawful, held_at}
-use Rattle.concurrent_lru.specs.Steps.{Turns}
+use Rattle.concurrent_lru.specs.Steps.{ChangesPhase}
 use Rattle.concurrent_lru.specs.NodeTable.{phase_of}
 use Rattle.concurrent_lru.specs.Entries.{cache_with}
-use Rattle.concurrent_lru.proofs.EntryAt.{held_is, held_place, unready_pinned}
-use Rattle.concurrent_lru.proofs.Hits.{unready_not_ready}
-use Rattle.concurrent_lru.proofs.Readies.{phase_making, turns_lawful}
-use Rattle.concurrent_lru.proofs.TableSteps.{turns}
+use Rattle.concurrent_lru.proofs.Entries.EntryAtPlace.{held_is, held_place, unready_pinned}
+use Rattle.concurrent_lru.proofs.Steps.NotReady.{unready_not_ready}
+use Rattle.concurrent_lru.proofs.Steps.ReadyAndPoll.{phase_making, changes_phase_lawful}
+use Rattle.concurrent_lru.proofs.Entries.StepsOfEntries.{changes_phase}
 use Rattle.concurrent_lru.proofs.lru_core.State.ready.Goals as goal
-use Rattle.concurrent_lru.proofs.lru_core.State.ready.Goals.{After-turn}
+use Rattle.concurrent_lru.proofs.lru_core.State.ready.Goals.{After-set_phase}
 
 pub returns-in_default-clause-step : goal.returns-in_default-clause-step
 returns-in_default-clause-step g c = (λ h holds. c.in_default.ensures h.key h.charge (inr (h, ap (λ k. held_at k.cache c.args.stamp) c.self.view_is ∙ holds.at, refl, refl)), refl)
@@ -26,20 +26,20 @@ returns-in_default-phase g c = record {
   lawful = subst (IsLawful _) (ap (λ x. x.cache) c.self.view_is) c.self.invariant.lawful;
 }
 
-pub turn-requires : goal.turn-requires
-turn-requires g c = let here = c.node-node.ensures.entry in held_place here (unready_pinned here (unready_not_ready _ (inl (ap phase_of c.in-Making.is))))
+pub set_phase-requires : goal.set_phase-requires
+set_phase-requires g c = let here = c.node-node.ensures.entry in held_place here (unready_pinned here (unready_not_ready _ (inl (ap phase_of c.in-Making.is))))
 
-gives : (g : _) (c : After-turn g) → Turns g.K.PartialEq.eq (cache_with c.self.inside.capacity c.self.inside.most_pins c.self.inside.next c.self.inside.table) c.args.stamp making (ready c.args.value.value) [] (cache_with c.self.inside.capacity c.self.inside.most_pins c.self.inside.next c.turn.new.self)
+gives : (g : _) (c : After-set_phase g) → ChangesPhase g.K.PartialEq.eq (cache_with c.self.inside.capacity c.self.inside.most_pins c.self.inside.next c.self.inside.table) c.args.stamp making (ready c.args.value.value) [] (cache_with c.self.inside.capacity c.self.inside.most_pins c.self.inside.next c.set_phase.new.self)
 gives g c =
     let here = c.node-node.ensures.entry in
     let phase = ap phase_of c.in-Making.is in
-    turns g.K.PartialEq.eq c.self.inside.capacity c.self.inside.most_pins c.self.inside.next here c.turn.new.self c.args.stamp making (ready c.args.value.value) c.in-Some.ensures (unready_pinned here (unready_not_ready _ (inl phase))) phase c.turn.ensures
+    changes_phase g.K.PartialEq.eq c.self.inside.capacity c.self.inside.most_pins c.self.inside.next here c.set_phase.new.self c.args.stamp making (ready c.args.value.value) c.in-Some.ensures (unready_pinned here (unready_not_ready _ (inl phase))) phase c.set_phase.ensures
 
 pub invariant_of-self : goal.invariant_of-self
-invariant_of-self g c = record { lawful = turns_lawful _ _ _ _ _ _ _ c.self.invariant.lawful (gives g c); pins_above = c.self.invariant.pins_above }
+invariant_of-self g c = record { lawful = changes_phase_lawful _ _ _ _ _ _ _ c.self.invariant.lawful (gives g c); pins_above = c.self.invariant.pins_above }
 
 pub returns-clause-step : goal.returns-clause-step
-returns-clause-step g c = subst (λ old. Turns g.K.PartialEq.eq old c.args.stamp making (ready c.args.value.value) [] (cache_with c.self.inside.capacity c.self.inside.most_pins c.self.inside.next c.turn.new.self)) (ap (λ x. x.cache) c.self.view_is) (gives g c)
+returns-clause-step g c = subst (λ old. ChangesPhase g.K.PartialEq.eq old c.args.stamp making (ready c.args.value.value) [] (cache_with c.self.inside.capacity c.self.inside.most_pins c.self.inside.next c.set_phase.new.self)) (ap (λ x. x.cache) c.self.view_is) (gives g c)
 
 pub returns-clause-lawful : goal.returns-clause-lawful
-returns-clause-lawful g c = turns_lawful _ _ _ _ _ _ _ c.self.invariant.lawful (gives g c)
+returns-clause-lawful g c = changes_phase_lawful _ _ _ _ _ _ _ c.self.invariant.lawful (gives g c)

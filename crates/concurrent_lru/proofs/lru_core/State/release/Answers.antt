@@ -3,9 +3,9 @@ use Rattle.concurrent_lru.specs.Cache.{ready, IsLawful, held_at}
 use Rattle.concurrent_lru.specs.Steps.{Leaves, Rests}
 use Rattle.concurrent_lru.specs.NodeTable.{entry_of, phase_of}
 use Rattle.concurrent_lru.specs.Entries.{cache_with}
-use Rattle.concurrent_lru.proofs.EntryAt.{held_is, held_place, ready_place}
-use Rattle.concurrent_lru.proofs.Releases.{phase_ready, leaves_lawful, rests_lawful}
-use Rattle.concurrent_lru.proofs.TableSteps.{leaves_as_it_is, rests}
+use Rattle.concurrent_lru.proofs.Entries.EntryAtPlace.{held_is, held_place, ready_place}
+use Rattle.concurrent_lru.proofs.Steps.Release.{phase_ready, leaves_lawful, rests_lawful}
+use Rattle.concurrent_lru.proofs.Entries.StepsOfEntries.{leaves_as_it_is, rests}
 use Rattle.concurrent_lru.proofs.lru_core.State.release.Goals as goal
 use Rattle.concurrent_lru.proofs.lru_core.State.release.Goals.{After-none, After-settle}
 

@@ -1,4 +1,4 @@
-use Rattle.concurrent_lru.proofs.PartLemmas.{lawful-set, stands-set-at}
+use Rattle.concurrent_lru.proofs.SideBySide.OneOfMany.{lawful-set, stands-set-at}
 use Rattle.concurrent_lru.proofs.shards.Shards.advice_evict.Goals as goal
 
 pub invariant_of-self : goal.invariant_of-self

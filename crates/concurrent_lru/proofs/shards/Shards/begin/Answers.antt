@@ -1,7 +1,7 @@
 use Rattle.std.proofs.Common.{rules, ◌≡◌, Err}
-use Rattle.concurrent_lru.specs.Results.{begun}
-use Rattle.concurrent_lru.specs.ShardSteps.{begun_at}
-use Rattle.concurrent_lru.proofs.PartLemmas.{lawful-set, stands-set-at}
+use Rattle.concurrent_lru.specs.Results.{outcome_of_begin}
+use Rattle.concurrent_lru.specs.ShardSteps.{outcome_of_shard_begin}
+use Rattle.concurrent_lru.proofs.SideBySide.OneOfMany.{lawful-set, stands-set-at}
 use Rattle.concurrent_lru.proofs.shards.Shards.begin.Goals as goal
 
 pub invariant_of-self : goal.invariant_of-self
@@ -21,5 +21,5 @@ returns-clause-step g c = stands-set-at g.K.PartialEq.eq _ _ c.self.inside.shard
 
 pub returns-in_err-begun-clause-step : goal.returns-in_err-begun-clause-step
 returns-in_err-begun-clause-step g c =
-    let told : begun_at c.from_residual.result ≡ begun (Err c.in_err-begun.field-0.0) = search rules in
+    let told : outcome_of_shard_begin c.from_residual.result ≡ outcome_of_begin (Err c.in_err-begun.field-0.0) = search rules in
     rw told (stands-set-at g.K.PartialEq.eq _ _ c.self.inside.shards.items c.route-shard.result _ c.index_mut.result.now c.begin.new.self _ _ c.self.view_is c.route-shard.ensures.route c.route-shard.ensures.within c.index_mut.ensures.value c.in_err-begun.ensures.step)

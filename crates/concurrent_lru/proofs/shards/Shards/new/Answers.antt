@@ -1,6 +1,6 @@
 use Rattle.std.proofs.Common.{arith}
 use Rattle.concurrent_lru.specs.Cache.{most_pins_by_default}
-use Rattle.concurrent_lru.proofs.PartLemmas.{lawful-empties}
+use Rattle.concurrent_lru.proofs.SideBySide.OneOfMany.{lawful-empties}
 use Rattle.concurrent_lru.proofs.shards.Shards.new.Goals as goal
 
 pub invariant_of-result : goal.invariant_of-result

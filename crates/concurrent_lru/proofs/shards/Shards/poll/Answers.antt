@@ -1,4 +1,4 @@
-use Rattle.concurrent_lru.proofs.PartLemmas.{lawful-set, stands-set}
+use Rattle.concurrent_lru.proofs.SideBySide.OneOfMany.{lawful-set, stands-set}
 use Rattle.concurrent_lru.proofs.shards.Shards.poll.Goals as goal
 
 pub invariant_of-self-2 : goal.invariant_of-self-2

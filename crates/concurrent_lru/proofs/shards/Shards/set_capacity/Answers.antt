@@ -3,7 +3,7 @@ use Rattle.std.proofs.lemmas.List.{reverse-append, reverse-reverse}
 use Rattle.concurrent_lru.specs.Request as ask
 use Rattle.concurrent_lru.specs.Sharded.{AreLawful}
 use Rattle.concurrent_lru.specs.Parts.{FirstTake}
-use Rattle.concurrent_lru.proofs.FirstShards.{none_take, one_more_takes}
+use Rattle.concurrent_lru.proofs.SideBySide.FirstOfMany.{none_take, one_more_takes}
 use Rattle.concurrent_lru.proofs.shards.Shards.set_capacity.Goals as goal
 
 pub loop-shard-init : goal.loop-shard-init

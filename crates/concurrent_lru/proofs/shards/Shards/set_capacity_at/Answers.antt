@@ -1,5 +1,5 @@
 use Rattle.std.proofs.Common.{refl}
-use Rattle.concurrent_lru.proofs.PartLemmas.{lawful-set, stands-set-at}
+use Rattle.concurrent_lru.proofs.SideBySide.OneOfMany.{lawful-set, stands-set-at}
 use Rattle.concurrent_lru.proofs.shards.Shards.set_capacity_at.Goals as goal
 
 pub invariant_of-self : goal.invariant_of-self

@@ -1,7 +1,7 @@
 use Rattle.std.proofs.Common.{subst, inl}
 use Rattle.concurrent_lru.specs.Results.{IsAnswerTo, outcome_of, request_of}
 use Rattle.concurrent_lru.specs.Runs.{Stands}
-use Rattle.concurrent_lru.proofs.PartLemmas.{lawful-set, stands-set}
+use Rattle.concurrent_lru.proofs.SideBySide.OneOfMany.{lawful-set, stands-set}
 use Rattle.concurrent_lru.proofs.shards.Shards.step.Goals as goal
 
 pub invariant_of-self-2 : goal.invariant_of-self-2

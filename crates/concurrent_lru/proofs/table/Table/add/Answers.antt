@@ -1,12 +1,12 @@
 use Rattle.std.proofs.Common.{◌≡◌, ◌+◌, true, refl, sym, ap, ◌∙◌, subst}
 use Rattle.std.specs.FinMap.{get, insert}
 use Rattle.concurrent_lru.specs.NodeTable.{entry_of, new_entry}
-use Rattle.concurrent_lru.specs.Entries.{LacksKeyIn, LacksStampIn, new_held, charges_of}
+use Rattle.concurrent_lru.specs.Entries.{ContainsNoKey, ContainsNoStamp, new_held, charges_of}
 use Rattle.concurrent_lru.specs.Indexes.{entries_of}
-use Rattle.concurrent_lru.proofs.Finding.{lacks_key, lacks_stamp, alike_get, fresh_among}
-use Rattle.concurrent_lru.proofs.Storing.{IsAdded, stored_same, entries_same, stored_with, idle_with, held_with, at_ok, on_err}
-use Rattle.concurrent_lru.proofs.NodesAt.{unheld}
-use Rattle.concurrent_lru.proofs.TableSums.{sum_with}
+use Rattle.concurrent_lru.proofs.Entries.FoundByMaps.{lacks_key, lacks_stamp, alike_get, fresh_among}
+use Rattle.concurrent_lru.proofs.Entries.EntryAddedOrTaken.{IsAdded, stored_same, entries_same, stored_with, idle_with, held_with, at_ok, on_err}
+use Rattle.concurrent_lru.proofs.Entries.NodeAtPlace.{unheld}
+use Rattle.concurrent_lru.proofs.Entries.SumsOfCharges.{sum_with}
 use Rattle.concurrent_lru.proofs.table.Table.add.Goals as goal
 use Rattle.concurrent_lru.proofs.table.Table.add.Goals.{Joined-by_key}
 
@@ -21,7 +21,7 @@ returns-in_err-make_room-clause-err g c = on_err _ (entries_same c.self.inside.n
 
 pub insert_reserved-place-requires-clause-fresh : goal.insert_reserved-place-requires-clause-fresh
 insert_reserved-place-requires-clause-fresh g c = λ p e h s.
-    fresh_among c.self.invariant.stored c.args.stamp (subst (λ t. LacksStampIn t c.args.stamp) (sym c.self.view_is) c.requires.fresh) p e
+    fresh_among c.self.invariant.stored c.args.stamp (subst (λ t. ContainsNoStamp t c.args.stamp) (sym c.self.view_is) c.requires.fresh) p e
     (ap (λ m. get m p) (sym c.make_room.ensures.nodes) ∙ h)
     (s ∙ ap (λ n. (entry_of n).stamp) c.in_ok-node.ensures.ok ∙ ap (λ x. x.stamp) c.new.ensures.entry)
 
@@ -39,8 +39,8 @@ added g c =
       pins = refl;
       same_key = laws.congr c.in_ok-kept.kept c.args.key.now c.in_ok-own.own kept ∙ laws.symm c.args.key.now c.in_ok-own.own ∙ own;
       absent = c.make_room.ensures.by_key c.in_ok-kept.kept ∙ alike_get laws c.self.inside.by_key c.in_ok-kept.kept c.args.key.now kept
-          ∙ lacks_key c.self.invariant.stored c.args.key.now (subst (λ t. LacksKeyIn g.K.PartialEq.eq t c.args.key.now) (sym c.self.view_is) c.requires.absent);
-      fresh = c.make_room.ensures.by_stamp c.args.stamp ∙ lacks_stamp c.self.invariant.stored c.args.stamp (subst (λ t. LacksStampIn t c.args.stamp) (sym c.self.view_is) c.requires.fresh);
+          ∙ lacks_key c.self.invariant.stored c.args.key.now (subst (λ t. ContainsNoKey g.K.PartialEq.eq t c.args.key.now) (sym c.self.view_is) c.requires.absent);
+      fresh = c.make_room.ensures.by_stamp c.args.stamp ∙ lacks_stamp c.self.invariant.stored c.args.stamp (subst (λ t. ContainsNoStamp t c.args.stamp) (sym c.self.view_is) c.requires.fresh);
       keys_now = (at_ok c.insert-by_key.result (c.insert-by_key.ensures.succeeds c.in_ok-make_room.ensures.ok.1) c.insert-by_key.ensures.updates).0;
       stamps_now = (at_ok c.insert-by_stamp.result (c.insert-by_stamp.ensures.succeeds c.in_ok-make_room.ensures.ok.2) c.insert-by_stamp.ensures.updates).0;
     }
@@ -48,7 +48,7 @@ added g c =
 pub invariant_of-self-2 : goal.invariant_of-self-2
 invariant_of-self-2 g c =
     let r = stored_same c.self.invariant.stored c.make_room.ensures.nodes c.make_room.ensures.idle c.make_room.ensures.by_key c.make_room.ensures.by_stamp in
-    let lacks = subst (λ t. LacksStampIn t c.args.stamp) (sym (entries_same c.self.inside.nodes c.make_room.new.nodes c.make_room.ensures.nodes c.make_room.ensures.idle c.make_room.ensures.work ∙ c.self.view_is)) c.requires.fresh in
+    let lacks = subst (λ t. ContainsNoStamp t c.args.stamp) (sym (entries_same c.self.inside.nodes c.make_room.new.nodes c.make_room.ensures.nodes c.make_room.ensures.idle c.make_room.ensures.work ∙ c.self.view_is)) c.requires.fresh in
     let sum = sum_with (entries_of c.make_room.new.nodes) (entries_of c.insert_reserved-place.new.self) c.args.stamp (new_held c.in_ok-own.own c.args.charge) (idle_with g.met.K.Eq.laws r (added g c)) (held_with g.met.K.Eq.laws r (added g c)) (unheld r c.args.stamp lacks) in
     record {
       stored = stored_with g.met.K.Eq.laws r (added g c);

@@ -5,33 +5,33 @@ use Rattle.std.specs.FinMap.{get, remove}
 use Rattle.concurrent_lru.specs.Cache.{idle_at}
 use Rattle.concurrent_lru.specs.Steps.{without}
 use Rattle.concurrent_lru.specs.NodeTable.{entry_of}
-use Rattle.concurrent_lru.specs.Entries.{IsIdleAt, cache_of}
-use Rattle.concurrent_lru.proofs.Members.{IsIn}
-use Rattle.concurrent_lru.proofs.Idles.{list_any-filter_self}
-use Rattle.concurrent_lru.proofs.NodesAt.{has_node, idle_node, idle_found, place_at}
-use Rattle.concurrent_lru.proofs.Storing.{IsTaken, stored_without, ready_without, held_same, idle_without}
+use Rattle.concurrent_lru.specs.Entries.{ContainsIdleAt, cache_of}
+use Rattle.concurrent_lru.proofs.Lists.Members.{IsIn}
+use Rattle.concurrent_lru.proofs.Lists.DistinctNumbers.{list_any-filter_self}
+use Rattle.concurrent_lru.proofs.Entries.NodeAtPlace.{has_node, idle_node, idle_found, place_at}
+use Rattle.concurrent_lru.proofs.Entries.EntryAddedOrTaken.{IsTaken, stored_without, ready_without, held_same, idle_without}
 use Rattle.concurrent_lru.specs.Indexes.{entries_of}
-use Rattle.concurrent_lru.proofs.Begins.{as_idle-ready}
-use Rattle.concurrent_lru.proofs.NodesAt.{idle_like}
-use Rattle.concurrent_lru.proofs.TableSums.{sum_evicted, idle_bound, stamps_apart, less_alike}
+use Rattle.concurrent_lru.proofs.Steps.BeginOfAbsent.{as_idle-ready}
+use Rattle.concurrent_lru.proofs.Entries.NodeAtPlace.{idle_like}
+use Rattle.concurrent_lru.proofs.Entries.SumsOfCharges.{sum_evicted, idle_bound, stamps_apart, less_alike}
 use Rattle.concurrent_lru.specs.Indexes.{stamps_of}
-use Rattle.concurrent_lru.proofs.NodePlaces.{stamps_cut}
+use Rattle.concurrent_lru.proofs.Entries.PlacesOfNodes.{stamps_cut}
 use Rattle.concurrent_lru.proofs.table.Table.evict.Goals as goal
 use Rattle.concurrent_lru.proofs.table.Table.evict.Goals.{After-take_away}
 
 pub remove-requires : goal.remove-requires
-remove-requires g c = idle_node c.self.invariant.stored c.args.place (subst (λ t. IsIdleAt t c.args.place) (sym c.self.view_is) c.requires)
+remove-requires g c = idle_node c.self.invariant.stored c.args.place (subst (λ t. ContainsIdleAt t c.args.place) (sym c.self.view_is) c.requires)
 
 pub take_away-requires-clause-within : goal.take_away-requires-clause-within
 take_away-requires-clause-within g c =
-    let h = subst (λ t. IsIdleAt t c.args.place) (sym c.self.view_is) c.requires in
+    let h = subst (λ t. ContainsIdleAt t c.args.place) (sym c.self.view_is) c.requires in
     ap (λ m. is_some (get m c.args.place)) c.remove.ensures.nodes ∙ has_node c.self.invariant.stored c.args.place (h.0, h.1)
 
 pub take_away-requires-clause-apart : goal.take_away-requires-clause-apart
 take_away-requires-clause-apart g c = ap (list_any (eqb c.args.place)) c.remove.ensures.idle ∙ list_any-filter_self c.args.place c.self.inside.nodes.idle
 
 rests : (g : _) (c : After-take_away g) → IsIn c.args.place c.self.inside.nodes.idle
-rests g c = idle_node c.self.invariant.stored c.args.place (subst (λ t. IsIdleAt t c.args.place) (sym c.self.view_is) c.requires)
+rests g c = idle_node c.self.invariant.stored c.args.place (subst (λ t. ContainsIdleAt t c.args.place) (sym c.self.view_is) c.requires)
 
 taken : (g : _) (c : After-take_away g) → IsTaken g.K.PartialEq.eq c.self.inside.nodes c.take_away.new.nodes c.self.inside.by_key c.take_away.new.by_key c.self.inside.by_stamp c.take_away.new.by_stamp c.args.place (entry_of c.take_away.result.value)
 taken g c = record {
@@ -54,7 +54,7 @@ invariant_of-self g c =
 
 pub take_away-requires-clause-counted : goal.take_away-requires-clause-counted
 take_away-requires-clause-counted g c = λ e at.
-    let m = idle_node c.self.invariant.stored c.args.place (subst (λ t. IsIdleAt t c.args.place) (sym c.self.view_is) c.requires) in
+    let m = idle_node c.self.invariant.stored c.args.place (subst (λ t. ContainsIdleAt t c.args.place) (sym c.self.view_is) c.requires) in
     let at' = ap (λ m. get m c.args.place) (sym c.remove.ensures.nodes) ∙ at in
     let l = idle_like c.self.invariant.stored c.args.place e at' m in
     subst (λ n. e.charge ≤ n) (sym c.self.invariant.sums) (idle_bound (entries_of c.self.inside.nodes) e.stamp (record { stamp = e.stamp; key = e.key; charge = e.charge; value = l.0 }) (stamps_apart c.self.inside.nodes _ c.self.invariant.stored.represents) ((idle_found c.self.invariant.stored c.args.place e at' m).1 ∙ as_idle-ready e l.0 l.2))

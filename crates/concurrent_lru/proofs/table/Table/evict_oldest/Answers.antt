@@ -5,8 +5,8 @@ use Rattle.concurrent_lru.specs.Cache.{idle_at}
 use Rattle.concurrent_lru.specs.Steps.{without}
 use Rattle.concurrent_lru.specs.NodeTable.{entry_of}
 use Rattle.concurrent_lru.specs.Representation.{as_idle, idle_at_place}
-use Rattle.concurrent_lru.specs.Entries.{IsIdleAt, cache_of}
-use Rattle.concurrent_lru.proofs.NodesAt.{no_first, oldest_idle, oldest_out}
+use Rattle.concurrent_lru.specs.Entries.{ContainsIdleAt, cache_of}
+use Rattle.concurrent_lru.proofs.Entries.NodeAtPlace.{no_first, oldest_idle, oldest_out}
 use Rattle.concurrent_lru.proofs.table.Table.evict_oldest.Goals as goal
 
 pub returns-in_err-place-clause-idle : goal.returns-in_err-place-clause-idle
@@ -15,7 +15,7 @@ returns-in_err-place-clause-idle g c =
     rw c.from_residual.ensures (none, none)
 
 pub evict-requires : goal.evict-requires
-evict-requires g c = subst (λ t. IsIdleAt t c.in_ok-place.place) c.self.view_is (oldest_idle c.self.invariant.stored c.in_ok-place.place (sym c.oldest.ensures.first ∙ c.in_ok-place.was))
+evict-requires g c = subst (λ t. ContainsIdleAt t c.in_ok-place.place) c.self.view_is (oldest_idle c.self.invariant.stored c.in_ok-place.place (sym c.oldest.ensures.first ∙ c.in_ok-place.was))
 
 pub returns-clause-idle : goal.returns-clause-idle
 returns-clause-idle g c =

@@ -1,18 +1,18 @@
 use Rattle.std.proofs.Common.{refl, sym, ap, ◌∙◌, subst}
-use Rattle.concurrent_lru.specs.Entries.{IsHeldAt, Rewrites, with_pins}
+use Rattle.concurrent_lru.specs.Entries.{ContainsHeldAt, Rewrites, held_with_pins}
 use Rattle.concurrent_lru.specs.Indexes.{entries_of}
-use Rattle.concurrent_lru.proofs.NodesAt.{has_node, some_node, held_node, held_found, place_at}
-use Rattle.concurrent_lru.proofs.Releases.{pinned_writes}
-use Rattle.concurrent_lru.proofs.Rewriting.{stored_written, entries_written, not_zero}
-use Rattle.concurrent_lru.proofs.TableSums.{sum_written}
+use Rattle.concurrent_lru.proofs.Entries.NodeAtPlace.{has_node, some_node, held_node, held_found, place_at}
+use Rattle.concurrent_lru.proofs.Steps.Release.{pinned_writes}
+use Rattle.concurrent_lru.proofs.Entries.EntryWritten.{stored_written, entries_written, not_zero}
+use Rattle.concurrent_lru.proofs.Entries.SumsOfCharges.{sum_written}
 use Rattle.concurrent_lru.proofs.table.Table.hold.Goals as goal
 
 pub set_pins-requires : goal.set_pins-requires
-set_pins-requires g c = let h = subst (λ t. IsHeldAt t c.args.place) (sym c.self.view_is) c.requires.held in has_node c.self.invariant.stored c.args.place (h.0, h.1)
+set_pins-requires g c = let h = subst (λ t. ContainsHeldAt t c.args.place) (sym c.self.view_is) c.requires.held in has_node c.self.invariant.stored c.args.place (h.0, h.1)
 
 pub invariant_of-self : goal.invariant_of-self
 invariant_of-self g c =
-    let h = subst (λ t. IsHeldAt t c.args.place) (sym c.self.view_is) c.requires.held in
+    let h = subst (λ t. ContainsHeldAt t c.args.place) (sym c.self.view_is) c.requires.held in
     let n = some_node c.self.invariant.stored c.args.place (h.0, h.1) in
     let changed = entries_written c.self.invariant.stored (pinned_writes c.self.inside.nodes c.set_pins.new.self c.args.place c.args.pins n.0 n.1 c.set_pins.ensures.nodes) refl c.set_pins.ensures.idle (held_node c.self.invariant.stored c.args.place n.0 h n.1) (not_zero c.args.pins c.requires.some) c.set_pins.ensures.work in
     record {
@@ -22,9 +22,9 @@ invariant_of-self g c =
 
 pub returns : goal.returns
 returns g c =
-    let h = subst (λ t. IsHeldAt t c.args.place) (sym c.self.view_is) c.requires.held in
+    let h = subst (λ t. ContainsHeldAt t c.args.place) (sym c.self.view_is) c.requires.held in
     let n = some_node c.self.invariant.stored c.args.place (h.0, h.1) in
-    subst (λ t. Rewrites (with_pins c.args.pins) t c.args.place (entries_of c.set_pins.new.self)) c.self.view_is (record {
+    subst (λ t. Rewrites (held_with_pins c.args.pins) t c.args.place (entries_of c.set_pins.new.self)) c.self.view_is (record {
       stamp = n.0.stamp;
       entry = _;
       at = place_at c.self.invariant.stored c.args.place n.0 n.1;

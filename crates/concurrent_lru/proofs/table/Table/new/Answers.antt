@@ -1,11 +1,11 @@
 use Rattle.std.proofs.Common.{◌≡◌, Some, None, refl, sym, ap, ◌∙◌}
 use Rattle.std.specs.Map.{lookup}
-use Rattle.concurrent_lru.proofs.NodePlaces.{empty_represents, empty_held, no_stamps}
-use Rattle.concurrent_lru.proofs.Indexing.{indexed_empty}
+use Rattle.concurrent_lru.proofs.Entries.PlacesOfNodes.{empty_represents, empty_held, no_stamps}
+use Rattle.concurrent_lru.proofs.Entries.IndexedByMaps.{indexed_empty}
 use Rattle.std.specs.List.{filter_map}
 use Rattle.concurrent_lru.specs.Indexes.{entries_of}
 use Rattle.concurrent_lru.specs.Representation.{idle_at_place}
-use Rattle.concurrent_lru.proofs.TableSums.{sum_none}
+use Rattle.concurrent_lru.proofs.Entries.SumsOfCharges.{sum_none}
 use Rattle.concurrent_lru.proofs.table.Table.new.Goals as goal
 
 pub invariant_of-result : goal.invariant_of-result

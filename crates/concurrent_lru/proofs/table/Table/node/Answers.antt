@@ -1,14 +1,14 @@
 use Rattle.std.proofs.Common.{◌≡◌, sym, subst}
 use Rattle.concurrent_lru.specs.NodeTable.{entry_of}
-use Rattle.concurrent_lru.specs.Entries.{IsPlace, IsAt, pins_at}
-use Rattle.concurrent_lru.proofs.NodesAt.{has_node, node_is_at, node_pins}
+use Rattle.concurrent_lru.specs.Entries.{ContainsPlace, GetsAt, pins_at}
+use Rattle.concurrent_lru.proofs.Entries.NodeAtPlace.{has_node, node_is_at, node_pins}
 use Rattle.concurrent_lru.proofs.table.Table.node.Goals as goal
 
 pub node-requires : goal.node-requires
-node-requires g c = has_node c.self.invariant.stored c.args.place (subst (λ t. IsPlace t c.args.place) (sym c.self.view_is) c.requires)
+node-requires g c = has_node c.self.invariant.stored c.args.place (subst (λ t. ContainsPlace t c.args.place) (sym c.self.view_is) c.requires)
 
 pub returns-clause-entry : goal.returns-clause-entry
-returns-clause-entry g c = subst (λ t. IsAt t c.args.place (entry_of c.node.result.now)) c.self.view_is (node_is_at c.self.invariant.stored c.args.place (entry_of c.node.result.now) c.node.ensures.entry)
+returns-clause-entry g c = subst (λ t. GetsAt t c.args.place (entry_of c.node.result.now)) c.self.view_is (node_is_at c.self.invariant.stored c.args.place (entry_of c.node.result.now) c.node.ensures.entry)
 
 pub returns-clause-pins : goal.returns-clause-pins
 returns-clause-pins g c = subst (λ t. pins_at t c.args.place ≡ (entry_of c.node.result.now).pins) c.self.view_is (node_pins c.self.invariant.stored c.args.place (entry_of c.node.result.now) c.node.ensures.entry)

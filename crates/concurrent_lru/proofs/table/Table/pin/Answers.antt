@@ -1,4 +1,4 @@
-use Rattle.concurrent_lru.proofs.EntryAt.{held_place}
+use Rattle.concurrent_lru.proofs.Entries.EntryAtPlace.{held_place}
 use Rattle.concurrent_lru.proofs.table.Table.pin.Goals as goal
 
 pub hold-requires-clause-held : goal.hold-requires-clause-held

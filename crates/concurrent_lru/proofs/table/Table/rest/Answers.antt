@@ -4,12 +4,12 @@ use Rattle.std.specs.List.{list_any}
 use Rattle.std.specs.FinMap.{get}
 use Rattle.concurrent_lru.specs.Entries.{IsReadyAt, RestsAt}
 use Rattle.concurrent_lru.specs.Indexes.{entries_of}
-use Rattle.concurrent_lru.proofs.Changes.{inserted_at}
-use Rattle.concurrent_lru.proofs.Withdrawals.{held_not_idle}
-use Rattle.concurrent_lru.proofs.NodesAt.{has_node, some_node, held_found, ready_like, place_at}
-use Rattle.concurrent_lru.proofs.Releases.{pinned_writes}
-use Rattle.concurrent_lru.proofs.Rewriting.{rests_nodes, stored_rested, entries_rested}
-use Rattle.concurrent_lru.proofs.TableSums.{sum_rested}
+use Rattle.concurrent_lru.proofs.Entries.NodeWrittenOrAdded.{inserted_at}
+use Rattle.concurrent_lru.proofs.Entries.NodeTaken.{held_not_idle}
+use Rattle.concurrent_lru.proofs.Entries.NodeAtPlace.{has_node, some_node, held_found, ready_like, place_at}
+use Rattle.concurrent_lru.proofs.Steps.Release.{pinned_writes}
+use Rattle.concurrent_lru.proofs.Entries.EntryWritten.{rests_nodes, stored_rested, entries_rested}
+use Rattle.concurrent_lru.proofs.Entries.SumsOfCharges.{sum_rested}
 use Rattle.concurrent_lru.proofs.table.Table.rest.Goals as goal
 
 pub set_pins-requires : goal.set_pins-requires

@@ -1,26 +1,26 @@
 use Rattle.std.proofs.Common.{refl, sym, ap, ◌∙◌, subst}
 use Rattle.std.specs.Prelude.{is_some}
 use Rattle.std.specs.FinMap.{get}
-use Rattle.concurrent_lru.specs.Entries.{IsIdleAt, RevivesAt}
+use Rattle.concurrent_lru.specs.Entries.{ContainsIdleAt, RevivesAt}
 use Rattle.concurrent_lru.specs.Indexes.{entries_of}
-use Rattle.concurrent_lru.proofs.Begins.{as_idle-ready}
-use Rattle.concurrent_lru.proofs.NodesAt.{has_node, some_node, idle_node, idle_found, idle_like, place_at}
-use Rattle.concurrent_lru.proofs.Rewriting.{revives_nodes, stored_revived, entries_revived_by_one}
-use Rattle.concurrent_lru.proofs.NodesAt.{idle_unheld}
-use Rattle.concurrent_lru.proofs.TableSums.{sum_revived, stamps_apart}
+use Rattle.concurrent_lru.proofs.Steps.BeginOfAbsent.{as_idle-ready}
+use Rattle.concurrent_lru.proofs.Entries.NodeAtPlace.{has_node, some_node, idle_node, idle_found, idle_like, place_at}
+use Rattle.concurrent_lru.proofs.Entries.EntryWritten.{revives_nodes, stored_revived, entries_revived_by_one}
+use Rattle.concurrent_lru.proofs.Entries.NodeAtPlace.{idle_unheld}
+use Rattle.concurrent_lru.proofs.Entries.SumsOfCharges.{sum_revived, stamps_apart}
 use Rattle.concurrent_lru.proofs.table.Table.revive.Goals as goal
 
 pub remove-requires : goal.remove-requires
-remove-requires g c = idle_node c.self.invariant.stored c.args.place (subst (λ t. IsIdleAt t c.args.place) (sym c.self.view_is) c.requires)
+remove-requires g c = idle_node c.self.invariant.stored c.args.place (subst (λ t. ContainsIdleAt t c.args.place) (sym c.self.view_is) c.requires)
 
 pub set_pins-requires : goal.set_pins-requires
 set_pins-requires g c =
-    let h = subst (λ t. IsIdleAt t c.args.place) (sym c.self.view_is) c.requires in
+    let h = subst (λ t. ContainsIdleAt t c.args.place) (sym c.self.view_is) c.requires in
     ap (λ m. is_some (get m c.args.place)) c.remove.ensures.nodes ∙ has_node c.self.invariant.stored c.args.place (h.0, h.1)
 
 pub invariant_of-self : goal.invariant_of-self
 invariant_of-self g c =
-    let h = subst (λ t. IsIdleAt t c.args.place) (sym c.self.view_is) c.requires in
+    let h = subst (λ t. ContainsIdleAt t c.args.place) (sym c.self.view_is) c.requires in
     let n = some_node c.self.invariant.stored c.args.place (h.0, h.1) in
     let m = idle_node c.self.invariant.stored c.args.place h in
     let l = idle_like c.self.invariant.stored c.args.place n.0 n.1 m in
@@ -34,7 +34,7 @@ invariant_of-self g c =
 
 pub returns : goal.returns
 returns g c =
-    let h = subst (λ t. IsIdleAt t c.args.place) (sym c.self.view_is) c.requires in
+    let h = subst (λ t. ContainsIdleAt t c.args.place) (sym c.self.view_is) c.requires in
     let n = some_node c.self.invariant.stored c.args.place (h.0, h.1) in
     let m = idle_node c.self.invariant.stored c.args.place h in
     let l = idle_like c.self.invariant.stored c.args.place n.0 n.1 m in

@@ -1,7 +1,7 @@
 use Rattle.std.proofs.Common.{◌≡◌, ◌≤◌, ◌⊎◌, inl, inr, ◌++◌, [], sym, ap, ◌∙◌, reverse, subst}
-use Rattle.concurrent_lru.specs.Chain.{chained}
+use Rattle.concurrent_lru.specs.Chain.{idle_in_chain}
 use Rattle.concurrent_lru.specs.Entries.{charges_of}
-use Rattle.concurrent_lru.proofs.Chains.{front_from_steps}
+use Rattle.concurrent_lru.proofs.Entries.ChainsOfEvicted.{front_from_steps}
 use Rattle.concurrent_lru.proofs.table.Table.settle.Goals as goal
 use Rattle.concurrent_lru.proofs.table.Table.settle.Goals.{After-reversed, else-loop-self-test, then-loop-self-test+in-None}
 
@@ -16,4 +16,4 @@ pub returns-clause-front : goal.returns-clause-front
 returns-clause-front g c =
     let s = stopped g c in
     let i = c.loop-self.invariant in
-    rw c.reversed.ensures (front_from_steps _ (charges_of c.loop-self.self) c.args.capacity _ _ _ (i.idle ∙ ap (λ xs. reverse (chained c.loop-self.newest_first) ++ xs) s.0) i.total s.1 i.shortest)
+    rw c.reversed.ensures (front_from_steps _ (charges_of c.loop-self.self) c.args.capacity _ _ _ (i.idle ∙ ap (λ xs. reverse (idle_in_chain c.loop-self.newest_first) ++ xs) s.0) i.total s.1 i.shortest)

@@ -2,29 +2,29 @@ use Rattle.std.proofs.Common.{◌≡◌, ◌≤◌, false, sym, ap, ◌∙◌, s
 use Rattle.std.specs.FinMap.{get, remove}
 use Rattle.concurrent_lru.specs.NodeTable.{entry_of}
 use Rattle.concurrent_lru.specs.Representation.{held_entry}
-use Rattle.concurrent_lru.specs.Entries.{IsHeldAt}
+use Rattle.concurrent_lru.specs.Entries.{ContainsHeldAt}
 use Rattle.concurrent_lru.specs.Indexes.{entries_of}
-use Rattle.concurrent_lru.proofs.Idles.{filter_absent}
-use Rattle.concurrent_lru.proofs.Withdrawals.{held_not_idle}
-use Rattle.concurrent_lru.proofs.NodesAt.{has_node, some_node, held_node, held_found, place_at}
-use Rattle.concurrent_lru.proofs.Storing.{IsTaken, stored_without, held_without, idle_same}
-use Rattle.concurrent_lru.proofs.TableSums.{sum_less, held_bound, less_alike}
+use Rattle.concurrent_lru.proofs.Lists.DistinctNumbers.{filter_absent}
+use Rattle.concurrent_lru.proofs.Entries.NodeTaken.{held_not_idle}
+use Rattle.concurrent_lru.proofs.Entries.NodeAtPlace.{has_node, some_node, held_node, held_found, place_at}
+use Rattle.concurrent_lru.proofs.Entries.EntryAddedOrTaken.{IsTaken, stored_without, held_without, idle_same}
+use Rattle.concurrent_lru.proofs.Entries.SumsOfCharges.{sum_less, held_bound, less_alike}
 use Rattle.concurrent_lru.specs.Indexes.{stamps_of}
-use Rattle.concurrent_lru.proofs.NodePlaces.{stamps_cut}
+use Rattle.concurrent_lru.proofs.Entries.PlacesOfNodes.{stamps_cut}
 use Rattle.concurrent_lru.proofs.table.Table.take_held.Goals as goal
 use Rattle.concurrent_lru.proofs.table.Table.take_held.Goals.{After-take_away}
 
 pub take_away-requires-clause-within : goal.take_away-requires-clause-within
-take_away-requires-clause-within g c = let h = subst (λ t. IsHeldAt t c.args.place) (sym c.self.view_is) c.requires in has_node c.self.invariant.stored c.args.place (h.0, h.1)
+take_away-requires-clause-within g c = let h = subst (λ t. ContainsHeldAt t c.args.place) (sym c.self.view_is) c.requires in has_node c.self.invariant.stored c.args.place (h.0, h.1)
 
 pub take_away-requires-clause-apart : goal.take_away-requires-clause-apart
 take_away-requires-clause-apart g c =
-    let h = subst (λ t. IsHeldAt t c.args.place) (sym c.self.view_is) c.requires in
+    let h = subst (λ t. ContainsHeldAt t c.args.place) (sym c.self.view_is) c.requires in
     let n = some_node c.self.invariant.stored c.args.place (h.0, h.1) in
     held_not_idle c.self.inside.nodes _ c.args.place n.0 c.self.invariant.stored.represents n.1 (held_node c.self.invariant.stored c.args.place n.0 h n.1)
 
 pinned : (g : _) (c : After-take_away g) → ((entry_of c.take_away.result.value).pins == 0) ≡ false
-pinned g c = held_node c.self.invariant.stored c.args.place (entry_of c.take_away.result.value) (subst (λ t. IsHeldAt t c.args.place) (sym c.self.view_is) c.requires) c.take_away.ensures.entry
+pinned g c = held_node c.self.invariant.stored c.args.place (entry_of c.take_away.result.value) (subst (λ t. ContainsHeldAt t c.args.place) (sym c.self.view_is) c.requires) c.take_away.ensures.entry
 
 taken : (g : _) (c : After-take_away g) → IsTaken g.K.PartialEq.eq c.self.inside.nodes c.take_away.new.nodes c.self.inside.by_key c.take_away.new.by_key c.self.inside.by_stamp c.take_away.new.by_stamp c.args.place (entry_of c.take_away.result.value)
 taken g c = record {
@@ -46,7 +46,7 @@ invariant_of-self g c =
 
 pub take_away-requires-clause-counted : goal.take_away-requires-clause-counted
 take_away-requires-clause-counted g c = λ e at.
-    let h = subst (λ t. IsHeldAt t c.args.place) (sym c.self.view_is) c.requires in
+    let h = subst (λ t. ContainsHeldAt t c.args.place) (sym c.self.view_is) c.requires in
     subst (λ n. e.charge ≤ n) (sym c.self.invariant.sums) (held_bound (entries_of c.self.inside.nodes) e.stamp (held_entry e) (held_found c.self.invariant.stored c.args.place e at (held_node c.self.invariant.stored c.args.place e h at)))
 
 pub returns-clause-at : goal.returns-clause-at

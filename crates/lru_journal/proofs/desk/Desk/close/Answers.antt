@@ -1,7 +1,7 @@
 use Rattle.std.proofs.Common.{[], sym, ◌∙◌, ap, rules, subst}
 use Rattle.crossbeam_utils.specs.Seq.{cell_view}
 use Rattle.lru_journal.specs.Tallies.{Hand, AreExactly}
-use Rattle.lru_journal.proofs.Moves.{gives, takes, checks_as, checked_as}
+use Rattle.lru_journal.proofs.Receipts.StepsOfCell.{gives, takes, checks_as, checked_as}
 use Rattle.lru_journal.proofs.desk.Desk.close.Goals as goal
 
 pub split_pass-whole-requires : goal.split_pass-whole-requires

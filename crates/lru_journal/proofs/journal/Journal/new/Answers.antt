@@ -1,4 +1,4 @@
-use Rattle.lru_journal.proofs.Keeps.{opens}
+use Rattle.lru_journal.proofs.Replays.JournalAfterStep.{opens}
 use Rattle.lru_journal.proofs.journal.Journal.new.Goals as goal
 
 pub invariant_of-result : goal.invariant_of-result

@@ -1,7 +1,7 @@
 use Rattle.std.proofs.Common.{[], refl}
 use Rattle.concurrent_lru.specs.Request as ask
 use Rattle.concurrent_lru.specs.Reply as say
-use Rattle.lru_journal.proofs.Keeps.{keeps_on}
+use Rattle.lru_journal.proofs.Replays.JournalAfterStep.{keeps_on}
 use Rattle.lru_journal.proofs.journal.Journal.ready.Goals as goal
 
 pub invariant_of-self-2 : goal.invariant_of-self-2

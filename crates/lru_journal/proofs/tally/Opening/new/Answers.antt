@@ -1,5 +1,5 @@
 use Rattle.std.proofs.Common.{rules}
-use Rattle.lru_journal.proofs.Moves.{begins}
+use Rattle.lru_journal.proofs.Receipts.StepsOfCell.{begins}
 use Rattle.lru_journal.proofs.tally.Opening.new.Goals as goal
 
 pub ruled-requires : goal.ruled-requires

@@ -1,8 +1,8 @@
 use Rattle.std.proofs.Common.{◌≡◌, ◌+◌, sym, ◌∙◌, ap, arith, rules}
 use Rattle.crossbeam_utils.specs.Seq.{cell_view}
 use Rattle.lru_journal.specs.declared.tally.View.{View}
-use Rattle.lru_journal.specs.Tallies.{Hand, hand, taken, merged}
-use Rattle.lru_journal.proofs.Moves.{gives, takes}
+use Rattle.lru_journal.specs.Tallies.{Hand, hand, view_with_view, hand_with_hand}
+use Rattle.lru_journal.proofs.Receipts.StepsOfCell.{gives, takes}
 use Rattle.lru_journal.proofs.tally.Tally.join.Goals as goal
 
 pub split_pass-given-requires : goal.split_pass-given-requires
@@ -19,7 +19,7 @@ returns g c =
     let j = c.join_pass.ensures in
     let mine = cell_view c.self.inside.pass in
     let theirs = cell_view c.other.inside.pass in
-    ap (λ (v : View g.row.K.Denot). hand v.parts v.receipts) (j.1 ∙ ap (λ (w : View g.row.K.Denot). taken mine w) m.given.1) ∙ (ap (λ (h : Hand g.row.K.Denot). merged h (hand theirs.parts theirs.receipts)) c.self.view_is ∙ ap (λ (h : Hand g.row.K.Denot). merged c.args.self.now h) c.other.view_is)
+    ap (λ (v : View g.row.K.Denot). hand v.parts v.receipts) (j.1 ∙ ap (λ (w : View g.row.K.Denot). view_with_view mine w) m.given.1) ∙ (ap (λ (h : Hand g.row.K.Denot). hand_with_hand h (hand theirs.parts theirs.receipts)) c.self.view_is ∙ ap (λ (h : Hand g.row.K.Denot). hand_with_hand c.args.self.now h) c.other.view_is)
 
 pub invariant_of-self : goal.invariant_of-self
 invariant_of-self g c =

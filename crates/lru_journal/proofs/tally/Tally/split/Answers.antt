@@ -2,7 +2,7 @@ use Rattle.std.proofs.Common.{◌≡◌, ◌-◌, sym, ◌∙◌, ap, rules, ari
 use Rattle.crossbeam_utils.specs.Seq.{cell_view}
 use Rattle.lru_journal.specs.declared.tally.View.{View}
 use Rattle.lru_journal.specs.Tallies.{Hand, hand}
-use Rattle.lru_journal.proofs.Moves.{cuts}
+use Rattle.lru_journal.proofs.Receipts.StepsOfCell.{cuts}
 use Rattle.lru_journal.proofs.tally.Tally.split.Goals as goal
 
 pub split_pass-pass-requires : goal.split_pass-pass-requires

@@ -3,7 +3,7 @@ use Rattle.crossbeam_utils.specs.Seq.{cell_view}
 use Rattle.lru_journal.specs.declared.tally.View.{View}
 use Rattle.lru_journal.specs.Journals.{Journaled}
 use Rattle.lru_journal.specs.Tallies.{Name, hand, hand_of, keeper_of, knower, all_parts}
-use Rattle.lru_journal.proofs.Moves.{gives}
+use Rattle.lru_journal.proofs.Receipts.StepsOfCell.{gives}
 use Rattle.lru_journal.proofs.twin.LruCache.new.Goals as goal
 
 pub split_pass-pass-requires : goal.split_pass-pass-requires

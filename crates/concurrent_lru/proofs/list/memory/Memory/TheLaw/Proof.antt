@@ -12,7 +12,7 @@ use Rattle.core.specs.declared.alloc.Allocator.{Ghosts}
 use Rattle.core.specs.contracts.marker.PhantomData as marker
 use Rattle.concurrent_lru.specs.contracts.list.memory.Memory as C
 use Rattle.concurrent_lru.proofs.list.memory.Memory.TheLaw.Statement.{statement}
-use Rattle.concurrent_lru.proofs.CellSharing.{cells_lent_laws, Lends-cells}
+use Rattle.concurrent_lru.proofs.Memory.CellsShared.{cells_lent_laws, Lends-cells}
 
 pub shares : (T A : RattleType) (g : Ghosts A.Denot) (L : Laws T) (K : Laws A) → statement T A g L K
 shares T A g L K = of_Lends (C.struct T A g) (C.the_codes T.Denot A.Denot T.coded A.coded (marker.the_row RawPtr).coded) (C.the_heap T A g) (C.the_lent T A g)

@@ -32,13 +32,13 @@ use denote.Triple.Spec.{Meets, triple_of}
 use denote.Triple.Table.{entered, run_framed}
 use denote.Triple.Walked.{needs, Stays, stay_ref, walk_of, ends_at, Goes-ref, walk_Meets}
 use Rattle.std_alloc.proofs.BoxSteps.Form.{Bx, args, R}
-use Rattle.concurrent_lru.proofs.MemorySteps.{Mr, All, Mark, says_both, known}
+use Rattle.concurrent_lru.proofs.Memory.Walks.{Mr, All, Mark, says_both, known}
 use Rattle.concurrent_lru.specs.contracts.list.memory.Memory.apart.Key.{name as #self}
 use Rattle.concurrent_lru.proofs.list.memory.Memory.apart.Statement as stated
 use Rattle.concurrent_lru.proofs.list.memory.Memory.apart.Code as code
 use Rattle.std.specs.Mem.{type_size}
 use Rattle.concurrent_lru.specs.Cells.{AreApart}
-use Rattle.concurrent_lru.proofs.CellsApart.{all_apart}
+use Rattle.concurrent_lru.proofs.Memory.CellsApart.{all_apart}
 
 module _ (E : Bx) where
   abbrev function : Fn

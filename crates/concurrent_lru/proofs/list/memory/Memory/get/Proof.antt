@@ -40,8 +40,8 @@ use Rattle.std_alloc.proofs.VecSteps.Shapes.{after}
 use Rattle.std_alloc.proofs.RcSteps.{word, word-Good}
 use Rattle.std_alloc.proofs.BoxSteps.Form.{Bx, args, R, X}
 use Rattle.concurrent_lru.specs.Cells.{cell_at, key_at, AtFirst}
-use Rattle.concurrent_lru.proofs.MemorySteps.{Mr, Ar, One, word_had, cell_seen}
-use Rattle.concurrent_lru.proofs.CellKeys.{key_of_held, value_at_key}
+use Rattle.concurrent_lru.proofs.Memory.Walks.{Mr, Ar, One, word_had, cell_seen}
+use Rattle.concurrent_lru.proofs.Memory.CellKeys.{key_of_held, value_at_key}
 use Rattle.concurrent_lru.specs.contracts.list.memory.Memory.get.Key.{name as #self}
 use Rattle.concurrent_lru.proofs.list.memory.Memory.get.Statement as stated
 use Rattle.concurrent_lru.proofs.list.memory.Memory.get.Code as code

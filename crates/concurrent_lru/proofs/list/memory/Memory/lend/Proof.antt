@@ -42,8 +42,8 @@ use Rattle.std_alloc.proofs.RcSteps.{word, word-Good}
 use Rattle.std_alloc.proofs.BoxSteps.Form.{Bx, args, R, X}
 use Rattle.concurrent_lru.specs.Cells.{cell, cell_at, put_at, key_at, AtFirst}
 use Rattle.concurrent_lru.specs.CellLends.{with_value}
-use Rattle.concurrent_lru.proofs.MemorySteps.{Mr, Ar, Mark, One, Owns, All, word_had, cell_out, cell_in}
-use Rattle.concurrent_lru.proofs.CellKeys.{key_of_held, value_at_key, put_same, put_twice, write_is_put}
+use Rattle.concurrent_lru.proofs.Memory.Walks.{Mr, Ar, Mark, One, Owns, All, word_had, cell_out, cell_in}
+use Rattle.concurrent_lru.proofs.Memory.CellKeys.{key_of_held, value_at_key, put_same, put_twice, write_is_put}
 use Rattle.concurrent_lru.specs.contracts.list.memory.Memory.lend.Key.{name as #self}
 use Rattle.concurrent_lru.proofs.list.memory.Memory.lend.Statement as stated
 use Rattle.concurrent_lru.proofs.list.memory.Memory.lend.Code as code

@@ -26,7 +26,7 @@ use denote.Triple.Spec.{Meets, triple_of}
 use denote.Triple.Table.{entered, run_framed}
 use denote.Triple.Walked.{says, Stays, walk_of, ends_at, walk_Meets}
 use Rattle.std_alloc.proofs.BoxSteps.Form.{Bx, args}
-use Rattle.concurrent_lru.proofs.MemorySteps.{Mr, Mark, mark, mark_made}
+use Rattle.concurrent_lru.proofs.Memory.Walks.{Mr, Mark, mark, mark_made}
 use Rattle.concurrent_lru.specs.contracts.list.memory.Memory.new.Key.{name as #self}
 use Rattle.concurrent_lru.proofs.list.memory.Memory.new.Statement as stated
 use Rattle.concurrent_lru.proofs.list.memory.Memory.new.Code as code

@@ -37,7 +37,7 @@ use Rattle.std_alloc.proofs.ResultValues.{and_tt}
 use Rattle.std_alloc.specs.contracts.boxed.Box.into_raw_with_allocator as callee
 use Rattle.std_alloc.proofs.boxed.Box.into_raw_with_allocator.Met.{met}
 use Rattle.concurrent_lru.specs.Cells.{cell, cell_at, put_at}
-use Rattle.concurrent_lru.proofs.MemorySteps.{Mr, Ar, One, All, word_made, cell_in, pair_in, two}
+use Rattle.concurrent_lru.proofs.Memory.Walks.{Mr, Ar, One, All, word_made, cell_in, pair_in, two}
 use Rattle.concurrent_lru.specs.contracts.list.memory.Memory.put.{ended, clauses}
 use Rattle.concurrent_lru.specs.contracts.list.memory.Memory.put.Key.{name as #self}
 use Rattle.concurrent_lru.proofs.list.memory.Memory.put.Statement.{statement}

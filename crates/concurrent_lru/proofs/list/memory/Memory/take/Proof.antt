@@ -38,7 +38,7 @@ use Rattle.std_alloc.proofs.RcSteps.{word, word-Good}
 use Rattle.std_alloc.specs.contracts.boxed.Box.from_raw as callee
 use Rattle.std_alloc.proofs.boxed.Box.from_raw.Met.{met}
 use Rattle.concurrent_lru.specs.Cells.{cell_at, put_at}
-use Rattle.concurrent_lru.proofs.MemorySteps.{Mr, Ar, One, Owns, All, word_had, cell_out}
+use Rattle.concurrent_lru.proofs.Memory.Walks.{Mr, Ar, One, Owns, All, word_had, cell_out}
 use Rattle.concurrent_lru.specs.contracts.list.memory.Memory.take.{ended, clauses}
 use Rattle.concurrent_lru.specs.contracts.list.memory.Memory.take.Key.{name as #self}
 use Rattle.concurrent_lru.proofs.list.memory.Memory.take.Statement.{statement}

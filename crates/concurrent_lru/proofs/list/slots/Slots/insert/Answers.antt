@@ -3,8 +3,8 @@ use Rattle.concurrent_lru.specs.Cells.{cell, cell_at, put_at, AreApart}
 use Rattle.concurrent_lru.specs.NodeTable.{entry_of, chain_of}
 use Rattle.concurrent_lru.specs.Relinks.{place_of}
 use Rattle.concurrent_lru.specs.SlotTable.{entry_in, IsEnd}
-use Rattle.concurrent_lru.proofs.CellKeys.{put_same, put_other}
-use Rattle.concurrent_lru.proofs.SlotTies.{tied_put}
+use Rattle.concurrent_lru.proofs.Memory.CellKeys.{put_same, put_other}
+use Rattle.concurrent_lru.proofs.Nodes.PointersTied.{tied_put}
 use Rattle.concurrent_lru.proofs.list.slots.Slots.insert.Goals as goal
 
 pub returns-clause-tied : goal.returns-clause-tied

@@ -1,7 +1,7 @@
 use Rattle.std.proofs.Common.{None, refl, sym, ap, ◌∙◌, subst}
 use Rattle.concurrent_lru.specs.Cells.{cell_at, AreApart}
-use Rattle.concurrent_lru.proofs.CellKeys.{put_same, put_other}
-use Rattle.concurrent_lru.proofs.SlotTies.{tied_put}
+use Rattle.concurrent_lru.proofs.Memory.CellKeys.{put_same, put_other}
+use Rattle.concurrent_lru.proofs.Nodes.PointersTied.{tied_put}
 use Rattle.concurrent_lru.proofs.list.slots.Slots.take.Goals as goal
 
 pub returns-clause-tied : goal.returns-clause-tied

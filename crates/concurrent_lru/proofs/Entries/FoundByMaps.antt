@@ -1,0 +1,58 @@
+-- What the two maps find, in words of the entries.
+use Rattle.std.proofs.Common.{◌≡◌, ℕ, Bool, true, Option, Some, None, refl, sym, ap, ◌∙◌, subst, eqb}
+use Rattle.std.specs.Prelude.{MatchOption}
+use Rattle.std.specs.Option.{option_map}
+use Rattle.std.specs.Cmp.{IsEquivalence}
+use Rattle.std.specs.FinMap.{get, keys}
+use Rattle.std.specs.HashMap as hash
+use Rattle.std.specs.HashMap.{HashMap}
+use Rattle.std.specs.HashMap.Eq.{lookup_congr}
+use Rattle.std.proofs.lemmas.Bool.{true≢false, false_from_ne_true}
+use Rattle.std.proofs.lemmas.Option.{none-some}
+use Rattle.concurrent_lru.specs.NodeTable.{Entry, NodeTable}
+use Rattle.concurrent_lru.specs.Entries.{ContainsEntry, ContainsNoStamp, ContainsNoKey, IsPlaceOfKey}
+use Rattle.concurrent_lru.specs.Indexes.{IsStored, entries_of}
+use Rattle.concurrent_lru.proofs.Steps.BeginOfAbsent.{entry_node, node_entry}
+use Rattle.concurrent_lru.proofs.Entries.PlacesOfNodes.{get_stamps}
+
+-- equal keys have the same place
+pub alike_get : {K X S : Type 0} {E : K → K → Bool} → IsEquivalence E → (m : HashMap K X S) (k l : K) → E k l ≡ true → hash.get E m k ≡ hash.get E m l
+alike_get {E = E} eq m k l h = lookup_congr E eq.congr m.entries k l h
+
+module _ {K V S T : Type 0} {C : K → K → Type 0} {E : K → K → Bool} {t : NodeTable K V} {by_key : HashMap K ℕ S} {by_stamp : HashMap ℕ ℕ T} (r : IsStored C E t by_key by_stamp) where
+  -- a node is an entry
+  pub entry_at : (p : ℕ) (e : Entry K V) → get t.nodes p ≡ Some e → ContainsEntry (entries_of t) e.stamp e.key e.charge
+  entry_at p e h = node_entry 0 0 0 t (keys t.nodes) p e r.represents h
+
+  pub found_stamp : (s : ℕ) (o : Option ℕ) → o ≡ hash.get eqb by_stamp s → MatchOption o (ContainsNoStamp (entries_of t) s) (λ p. get (entries_of t).stamps p ≡ Some s)
+  found_stamp s None h = λ k m e.
+      let n = entry_node 0 0 0 t (keys t.nodes) s k m r.represents e in
+      none-some n.place (h ∙ ap (hash.get eqb by_stamp) (sym n.stamp) ∙ r.indexed.stamp_found n.place n.entry n.at)
+  found_stamp s (Some p) h =
+      let n = r.indexed.stamp_kept s p (sym h) in
+      get_stamps t.nodes p ∙ ap (option_map (λ x. x.stamp)) n.1 ∙ ap Some n.2
+
+  pub found_key : IsEquivalence E → (k : K) (o : Option ℕ) → o ≡ hash.get E by_key k → MatchOption o (ContainsNoKey E (entries_of t) k) (λ p. IsPlaceOfKey E (entries_of t) p k)
+  found_key eq k None h = λ s l m e.
+      let n = entry_node 0 0 0 t (keys t.nodes) s l m r.represents e in
+      false_from_ne_true (E l k) (λ b. none-some n.place (h ∙ sym (alike_get eq by_key n.entry.key k (ap (λ x. E x k) n.key_is ∙ b)) ∙ r.indexed.key_found n.place n.entry n.at))
+  found_key eq k (Some p) h =
+      let n = r.indexed.key_kept k p (sym h) in
+      record { stamp = n.0.stamp; key = n.0.key; charge = n.0.charge; at = get_stamps t.nodes p ∙ ap (option_map (λ x. x.stamp)) n.1; entry = entry_at p n.0 n.1; same_key = n.2 }
+
+  -- what has no entry is not found
+  pub lacks_stamp : (s : ℕ) → ContainsNoStamp (entries_of t) s → hash.get eqb by_stamp s ≡ None
+  lacks_stamp s none = elim (hash.get eqb by_stamp s) as (λ o. hash.get eqb by_stamp s ≡ o → o ≡ None) [
+    | None ↦ λ h. refl
+    | Some p ↦ λ h. let n = r.indexed.stamp_kept s p h in absurd (none n.0.key n.0.charge (subst (λ u. ContainsEntry (entries_of t) u n.0.key n.0.charge) n.2 (entry_at p n.0 n.1)))
+  ] refl
+
+  pub lacks_key : (k : K) → ContainsNoKey E (entries_of t) k → hash.get E by_key k ≡ None
+  lacks_key k none = elim (hash.get E by_key k) as (λ o. hash.get E by_key k ≡ o → o ≡ None) [
+    | None ↦ λ h. refl
+    | Some p ↦ λ h. let n = r.indexed.key_kept k p h in absurd (true≢false (sym n.2 ∙ none n.0.stamp n.0.key n.0.charge (entry_at p n.0 n.1)))
+  ] refl
+
+  -- no node has a stamp that no entry has
+  pub fresh_among : (s : ℕ) → ContainsNoStamp (entries_of t) s → (p : ℕ) (e : Entry K V) → get t.nodes p ≡ Some e → e.stamp ≡ s → ⊥
+  fresh_among s none p e h is = none e.key e.charge (subst (λ u. ContainsEntry (entries_of t) u e.key e.charge) is (entry_at p e h))

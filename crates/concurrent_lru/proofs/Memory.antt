@@ -1,0 +1,6 @@
+-- The memory of nodes: cells under keys, whether they lie apart, and on which threads they may be.
+pub mod CellKeys
+pub mod CellsShared
+pub mod CellsSent
+pub mod CellsApart
+pub mod Walks

@@ -1,0 +1,68 @@
+-- A node written through its pointer, as the cells that it leaves.
+use Rattle.std.proofs.Common.{◌≡◌, ℕ, Option, Some, IsSome, refl, sym, ap, ◌∙◌, subst}
+use denote.RawPtr.{Ptr}
+use Rattle.concurrent_lru.specs.Cells.{cell, cell_at, put_at, key_at, write_to, AtFirst, AtKey}
+use Rattle.concurrent_lru.specs.NodeTable.{Entry, entry_of}
+use Rattle.concurrent_lru.specs.Relinks.{NodeCell, NodeCells, before_link, after_link, before_in, after_in, before_at, after_at, IsRelinked, Relinks, IsRevalued, Revalues}
+use Rattle.concurrent_lru.specs.declared.list.Node.{Node}
+use Rattle.concurrent_lru.proofs.Memory.CellKeys.{key_of_held, value_at_key, put_same, put_other, write_is_put}
+
+-- the node at p, which is now, is written to new
+module _ {K V : Type 0} (cs : NodeCells K V) (p : Ptr) (now new : Node K V) (value : AtFirst cs p (λ _ c. now ≡ c.value)) where
+  module _ (k : ℕ) (at : key_at cs p ≡ Some k) where
+    there : (c : NodeCell K V) × (cell_at cs k ≡ Some c) × (c.at ≡ p)
+    there = value_at_key cs p k at
+
+    same : now ≡ there.0.value
+    same = value k there.0 at there.1
+
+    put : write_to p new cs ≡ put_at k (Some (cell there.0.at there.0.alloc new)) cs
+    put = write_is_put cs p new k there.0 at there.1
+
+    relinked_at : (b a : Option Ptr) → IsRelinked now new b a → Relinks cs (write_to p new cs) k b a
+    relinked_at b a r = record {
+      others = λ j ne. ap (λ l. cell_at l j) put ∙ put_other k j (Some (cell there.0.at there.0.alloc new)) cs ne;
+      old = there.0;
+      new = cell there.0.at there.0.alloc new;
+      was = there.1;
+      now = ap (λ l. cell_at l k) put ∙ put_same k (Some (cell there.0.at there.0.alloc new)) cs;
+      at = refl;
+      node = subst (λ n. IsRelinked n new b a) same r;
+    }
+
+    pub revalued_at : (f : Entry K V → Entry K V) → IsRevalued now new (f (entry_of now)) → Revalues cs (write_to p new cs) k f
+    revalued_at f r = record {
+      others = λ j ne. ap (λ l. cell_at l j) put ∙ put_other k j (Some (cell there.0.at there.0.alloc new)) cs ne;
+      old = there.0;
+      new = cell there.0.at there.0.alloc new;
+      was = there.1;
+      now = ap (λ l. cell_at l k) put ∙ put_same k (Some (cell there.0.at there.0.alloc new)) cs;
+      at = refl;
+      node = subst (λ n. IsRevalued n new (f (entry_of n))) same r;
+    }
+
+    -- its links are those that the cells tell
+    was_before : before_link now ≡ before_at cs k
+    was_before = ap before_link same ∙ sym (ap before_in there.1)
+
+    was_after : after_link now ≡ after_at cs k
+    was_after = ap after_link same ∙ sym (ap after_in there.1)
+
+  module _ (held : IsSome (key_at cs p)) where
+    at : (k : ℕ) × (key_at cs p ≡ Some k)
+    at = key_of_held cs p held
+
+    pub relinked : (b a : Option Ptr) → IsRelinked now new b a → AtKey cs p (λ k. Relinks cs (write_to p new cs) k b a)
+    relinked b a r = (at.0, at.1, relinked_at at.0 at.1 b a r)
+
+    pub relinked_after : (a : Option Ptr) → IsRelinked now new (before_link now) a → AtKey cs p (λ k. Relinks cs (write_to p new cs) k (before_at cs k) a)
+    relinked_after a r = (at.0, at.1, subst (λ b. Relinks cs (write_to p new cs) at.0 b a) (was_before at.0 at.1) (relinked_at at.0 at.1 (before_link now) a r))
+
+    pub relinked_before : (b : Option Ptr) → IsRelinked now new b (after_link now) → AtKey cs p (λ k. Relinks cs (write_to p new cs) k b (after_at cs k))
+    relinked_before b r = (at.0, at.1, subst (λ a. Relinks cs (write_to p new cs) at.0 b a) (was_after at.0 at.1) (relinked_at at.0 at.1 b (after_link now) r))
+
+    pub told_before : AtKey cs p (λ k. before_link now ≡ before_at cs k)
+    told_before = (at.0, at.1, was_before at.0 at.1)
+
+    pub told_after : AtKey cs p (λ k. after_link now ≡ after_at cs k)
+    told_after = (at.0, at.1, was_after at.0 at.1)

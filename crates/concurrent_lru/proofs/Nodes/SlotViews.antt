@@ -1,0 +1,221 @@
+-- What the slots show: the node at a place, whether it is idle, and what an insert, a write and a removal do to both.
+use Rattle.std.proofs.Common.{◌≡◌, ◌≢◌, ℕ, ◌-◌, List, [], ◌∷◌, map, Option, Some, None, refl, sym, ap, ◌∙◌, subst, arith, ◌≤◌, IsSome, inl, inr, Bool, eqb}
+use Rattle.std.proofs.Common.{is_some}
+use Rattle.std.specs.List.{list_any}
+use Rattle.std.proofs.lemmas.Bool.{cases_eq}
+use Rattle.std.specs.FinMap as fin
+use denote.RawPtr.{Ptr}
+use Rattle.concurrent_lru.specs.declared.list.slots.Slots.{Slots}
+use Rattle.concurrent_lru.specs.Cells.{cell_at, ptr_in, key_at}
+use Rattle.concurrent_lru.specs.SlotPointers.{IsTied, ptr_of, place_in}
+use Rattle.concurrent_lru.specs.Order.{Link, link, first_or, last_or, Absent, Linked, IsOrder}
+use Rattle.concurrent_lru.specs.Slots.{map_of_slots}
+use Rattle.concurrent_lru.specs.NodeTable.{NodeTable, Entry, entry_of}
+use Rattle.concurrent_lru.specs.Relinks.{NodeCell, NodeCells, key_in, before_in, after_in, before_at, after_at}
+use Rattle.concurrent_lru.specs.SlotTable.{link_of, link_at, entry_in, idle_places, node_table_of, IsGood, AreGood, IsEnd, IsNodeTable}
+use Rattle.concurrent_lru.proofs.Lists.SlotsAsMaps.{map_of_slots_at, made_insert, made_remove}
+use Rattle.concurrent_lru.proofs.Order.Links.{Same, linked_same}
+use Rattle.concurrent_lru.specs.Relinks.{Revalues}
+use Rattle.concurrent_lru.specs.NodeTable.{update_at}
+use Rattle.std.specs.List.{IsDistinct}
+use Rattle.std.specs.Option.{option_map_or}
+use Rattle.slab.specs.Slab.{get, slab_len}
+use Rattle.concurrent_lru.proofs.Lists.Members.{IsIn}
+use Rattle.concurrent_lru.proofs.Memory.CellKeys.{key_of_held, value_at_key, keys_kept}
+use Rattle.concurrent_lru.proofs.Order.Appending.{some_cell, distinct, read, link_told_at, links_same, get_or-map_option}
+use Rattle.concurrent_lru.proofs.Order.TakingOut.{present_in}
+
+-- the place is not the key
+abbrev pub NotKey : ℕ → Option ℕ → Type 0
+NotKey key w = (z : ℕ) → w ≡ Some z → z ≢ key
+
+first_not : (key : ℕ) (ks : List ℕ) (e : Option ℕ) → Absent key ks → NotKey key e → NotKey key (first_or ks e)
+first_not key [] e a h = h
+first_not key (k ∷ ks) e a h = λ z is eq. let same : k ≡ z = cc in a.0 (sym eq ∙ sym same)
+
+last_not : (key : ℕ) (b : Option ℕ) (ks : List ℕ) → Absent key ks → NotKey key b → NotKey key (last_or b ks)
+last_not key b [] a h = h
+last_not key b (k ∷ ks) a h = last_not key (Some k) ks a.1 (λ z is eq. let same : k ≡ z = cc in a.0 (sym eq ∙ sym same))
+
+module _ {K V : Type 0} where
+  node_is : (s : Slots K V) (o : Option ℕ) (w : ℕ) (k : ℕ) → fin.get (node_table_of s o w).nodes k ≡ entry_in (cell_at s.memory.cells k)
+  node_is s o w k = map_of_slots_at (map entry_in s.memory.cells) k ∙ get_or-map_option entry_in refl s.memory.cells k
+
+  module _ (s : Slots K V) (o : Option ℕ) (w : ℕ) (v : NodeTable K V) (e : node_table_of s o w ≡ v) where
+    pub node_had : (k p : ℕ) → k ≡ p → fin.get v.nodes p ≡ entry_in (cell_at s.memory.cells k)
+    node_had k p f = (λ i. fin.get (sym e i).nodes (sym f i)) ∙ node_is s o w k
+
+    present_cases : (x : Option (NodeCell K V)) → IsSome (entry_in x) → IsSome x
+    present_cases None h = h
+    present_cases (Some x) h = refl
+
+    pub present : (k p : ℕ) → k ≡ p → IsSome (fin.get v.nodes p) → IsSome (cell_at s.memory.cells k)
+    present k p f h = present_cases (cell_at s.memory.cells k) (subst IsSome (node_had k p f) h)
+
+    pub entry_there : (k p : ℕ) (n : NodeCell K V) → k ≡ p → cell_at s.memory.cells k ≡ Some n → fin.get v.nodes p ≡ Some (entry_of n.value)
+    entry_there k p n f h = node_had k p f ∙ ap entry_in h
+
+    -- whether the key is in the order
+    pub idle_there : (b : Bool) (k p : ℕ) → k ≡ p → list_any (eqb p) v.idle ≡ b → list_any (eqb k) (idle_places s.memory.cells o) ≡ b
+    idle_there b k p f h = subst (λ (q : List ℕ × ℕ). list_any (eqb q.1) q.0 ≡ b) (λ i. ((sym e i).idle, sym f i)) h
+
+  -- a change under a key that is not idle
+  module _ (cs ds : NodeCells K V) (key : ℕ) (others : (q : ℕ) → q ≢ key → cell_at ds q ≡ cell_at cs q) (apart : (q : ℕ) (p : Ptr) → ptr_in (cell_at ds q) ≡ Some p → key_at ds p ≡ Some q) where
+    -- a link that leads elsewhere leads where it led
+    link_else : (w : Option Ptr) → IsGood cs w → NotKey key (key_in cs w) → key_in ds w ≡ key_in cs w
+    link_else None g h = refl
+    link_else (Some p) g h =
+        let held = key_of_held cs p g in let there = value_at_key cs p held.0 held.1 in
+        apart held.0 p (ap ptr_in (others held.0 (h held.0 held.1) ∙ there.1) ∙ ap Some there.2) ∙ sym held.1
+
+    good_else : (w : Option Ptr) → IsGood cs w → NotKey key (key_in cs w) → IsGood ds w
+    good_else None g h = tt
+    good_else (Some p) g h = subst IsSome (sym (link_else (Some p) g h)) g
+
+    all_else : (b : Option ℕ) (ks : List ℕ) (e : Option ℕ) → Linked (link_at cs) b ks e → Absent key ks → NotKey key b → NotKey key e → AreGood cs ks → AreGood ds ks × Same (link_at cs) (link_at ds) ks
+    all_else b [] e l a nb ne g = (tt, tt)
+    all_else b (k ∷ ks) e l a nb ne g =
+        let nk : k ≢ key = (λ z. a.0 (sym z)) in
+        let tells = link_told_at cs k (link b (first_or ks e)) l.0 in
+        let left : NotKey key (key_in cs (before_at cs k)) = (λ z is. nb z (sym tells.0 ∙ is)) in
+        let right : NotKey key (key_in cs (after_at cs k)) = (λ z is. first_not key ks e a.1 ne z (sym tells.1 ∙ is)) in
+        let on = all_else (Some k) ks e l.1 a.1 (λ z is eq. let same : k ≡ z = cc in nk (same ∙ eq)) ne g.1 in (
+          (
+            (subst (IsGood ds) (sym (ap before_in (others k nk))) (good_else (before_at cs k) g.0.0 left), subst (IsGood ds) (sym (ap after_in (others k nk))) (good_else (after_at cs k) g.0.1 right)),
+            on.0,
+          ),
+          (ap (link_of ds) (others k nk) ∙ links_same cs ds (cell_at cs k) (link_else (before_at cs k) g.0.0 left) (link_else (after_at cs k) g.0.1 right), on.1),
+        )
+
+  pub table_else : (s t : Slots K V) (o : Option ℕ) (n : Option Ptr) (key : ℕ) → IsNodeTable s o n → Absent key (idle_places s.memory.cells o) → IsTied t → ((q : ℕ) → q ≢ key → cell_at t.memory.cells q ≡ cell_at s.memory.cells q) → IsEnd (cell_at t.memory.cells key)
+      → IsNodeTable t o n × (idle_places t.memory.cells o ≡ idle_places s.memory.cells o)
+  table_else s t o n key kept out tied others ends =
+      let cs = s.memory.cells in let ds = t.memory.cells in let ks = idle_places cs o in
+      let i = kept.ordered in
+      let stay = all_else cs ds key others tied.apart None ks None i.linked out (λ z is. cc) (λ z is. cc) kept.good in
+      let last : NotKey key (key_in cs n) = (λ z is. last_not key None ks out (λ y h. cc) z (sym i.last ∙ is)) in
+      let j : IsOrder (link_at ds) o (key_in ds n) ks = record {
+        first = i.first;
+        last = link_else cs ds key others tied.apart n kept.last_good last ∙ i.last;
+        linked = linked_same (link_at cs) (link_at ds) None ks None stay.1 i.linked;
+        distinct = i.distinct;
+      } in
+      let e = read ds o (key_in ds n) ks j in (
+        record {
+          tied = tied;
+          ordered = subst (IsOrder (link_at ds) o (key_in ds n)) (sym e) j;
+          good = subst (AreGood ds) (sym e) stay.0;
+          last_good = good_else cs ds key others tied.apart n kept.last_good last;
+          ends = λ q. elim (cases_eq q key) [
+            | inl is ↦ subst (λ x. IsEnd (cell_at ds x)) (sym is) ends
+            | inr ne ↦ subst IsEnd (sym (others q ne)) (kept.ends q)
+          ];
+        },
+        e,
+      )
+
+  vacant : (cs : NodeCells K V) (key : ℕ) (b : Option ℕ) (ks : List ℕ) (e : Option ℕ) → cell_at cs key ≡ None → Linked (link_at cs) b ks e → Absent key ks
+  vacant cs key b [] e h l = tt
+  vacant cs key b (k ∷ ks) e h l = ((λ is. none_some _ (sym (ap (link_of cs) h) ∙ ap (link_at cs) is ∙ l.0)), vacant cs key (Some k) ks e h l.1)
+    where
+      none_some : (x : Link) → None ≡ Some x → ⊥
+      none_some x e = cc
+
+  pub vacant_out : (s : Slots K V) (o : Option ℕ) (n : Option Ptr) (key : ℕ) → IsNodeTable s o n → cell_at s.memory.cells key ≡ None → Absent key (idle_places s.memory.cells o)
+  vacant_out s o n key kept h = vacant s.memory.cells key None (idle_places s.memory.cells o) None h kept.ordered.linked
+
+  pub entries_inserted : (cs ds : NodeCells K V) (key : ℕ) (x : Entry K V) → ((q : ℕ) → q ≢ key → cell_at ds q ≡ cell_at cs q) → entry_in (cell_at ds key) ≡ Some x → map_of_slots (map entry_in ds) ≡ fin.insert (map_of_slots (map entry_in cs)) key x
+  entries_inserted cs ds key x others h = made_insert (map entry_in cs) (map entry_in ds) key x (get_or-map_option entry_in refl ds key ∙ h)
+      (λ q ne. get_or-map_option entry_in refl ds q ∙ ap entry_in (others q ne) ∙ sym (get_or-map_option entry_in refl cs q))
+
+  pub entries_removed : (cs ds : NodeCells K V) (key : ℕ) → ((q : ℕ) → q ≢ key → cell_at ds q ≡ cell_at cs q) → cell_at ds key ≡ None → map_of_slots (map entry_in ds) ≡ fin.remove (map_of_slots (map entry_in cs)) key
+  entries_removed cs ds key others h = made_remove (map entry_in cs) (map entry_in ds) key (get_or-map_option entry_in refl ds key ∙ ap entry_in h)
+      (λ q ne. get_or-map_option entry_in refl ds q ∙ ap entry_in (others q ne) ∙ sym (get_or-map_option entry_in refl cs q))
+
+  -- another entry in a node that keeps its links
+  module _ (s t : Slots K V) (key : ℕ) (f : Entry K V → Entry K V) (pointers : t.pointers ≡ s.pointers) (r : Revalues s.memory.cells t.memory.cells key f) where
+    abbrev cs : NodeCells K V
+    cs = s.memory.cells
+
+    abbrev ds : NodeCells K V
+    ds = t.memory.cells
+
+    -- what is alike under the key is alike everywhere
+    alike : {X : Type 0} (g : Option (NodeCell K V) → X) → g (Some r.new) ≡ g (Some r.old) → (q : ℕ) → g (cell_at ds q) ≡ g (cell_at cs q)
+    alike g e q = elim (cases_eq q key) [
+      | inl is ↦ ap (λ j. g (cell_at ds j)) is ∙ ap g r.now ∙ e ∙ sym (ap g r.was) ∙ sym (ap (λ j. g (cell_at cs j)) is)
+      | inr ne ↦ ap g (r.others q ne)
+    ]
+
+    pointers_all : (q : ℕ) → ptr_in (cell_at ds q) ≡ ptr_in (cell_at cs q)
+    pointers_all = alike ptr_in (ap Some r.at)
+
+    keys_all : (w : Option Ptr) → key_in ds w ≡ key_in cs w
+    keys_all None = refl
+    keys_all (Some p) = keys_kept cs ds pointers_all p
+
+    before_all : (q : ℕ) → before_at ds q ≡ before_at cs q
+    before_all = alike before_in r.node.before
+
+    after_all : (q : ℕ) → after_at ds q ≡ after_at cs q
+    after_all = alike after_in r.node.after
+
+    good_all : (w : Option Ptr) → IsGood cs w → IsGood ds w
+    good_all None g = tt
+    good_all (Some p) g = subst IsSome (sym (keys_all (Some p))) g
+
+    are_all : (ks : List ℕ) → AreGood cs ks → AreGood ds ks
+    are_all [] g = tt
+    are_all (q ∷ qs) g = ((subst (IsGood ds) (sym (before_all q)) (good_all _ g.0.0), subst (IsGood ds) (sym (after_all q)) (good_all _ g.0.1)), are_all qs g.1)
+
+    links_all : (q : ℕ) → link_at ds q ≡ link_at cs q
+    links_all q = alike (link_of ds) (λ i. Some (link (key_in ds (r.node.before i)) (key_in ds (r.node.after i)))) q ∙ links_same cs ds (cell_at cs q) (keys_all (before_at cs q)) (keys_all (after_at cs q))
+
+    same_all : (ks : List ℕ) → Same (link_at cs) (link_at ds) ks
+    same_all [] = tt
+    same_all (q ∷ qs) = (links_all q, same_all qs)
+
+    module _ (o : Option ℕ) (n : Option Ptr) (kept : IsNodeTable s o n) where
+      order_all : IsOrder (link_at ds) o (key_in ds n) (idle_places cs o)
+      order_all = let i = kept.ordered in
+          record { first = i.first; last = keys_all n ∙ i.last; linked = linked_same (link_at cs) (link_at ds) None (idle_places cs o) None (same_all (idle_places cs o)) i.linked; distinct = i.distinct }
+
+      pub idle_written : idle_places ds o ≡ idle_places cs o
+      idle_written = read ds o (key_in ds n) (idle_places cs o) order_all
+
+      pub table_written : IsNodeTable t o n
+      table_written = record {
+        tied = record {
+          pointers = λ q. pointers_all q ∙ kept.tied.pointers q ∙ ap (λ l. ptr_of (get l q)) (sym pointers);
+          apart = λ q p e. keys_kept cs ds pointers_all p ∙ kept.tied.apart q p (sym (pointers_all q) ∙ e);
+          placed = λ q place e. kept.tied.placed q place (sym (alike place_in (ap Some r.node.place) q) ∙ e);
+        };
+        ordered = subst (IsOrder (link_at ds) o (key_in ds n)) (sym idle_written) order_all;
+        good = subst (AreGood ds) (sym idle_written) (are_all (idle_places cs o) kept.good);
+        last_good = good_all n kept.last_good;
+        ends = λ q. elim (cases_eq q key) [
+          | inl is ↦ subst IsEnd (sym (ap (cell_at ds) is ∙ r.now)) (r.node.chain ∙ subst IsEnd (ap (cell_at cs) is ∙ r.was) (kept.ends q))
+          | inr ne ↦ subst IsEnd (sym (r.others q ne)) (kept.ends q)
+        ];
+      }
+
+    pub nodes_written : (v : NodeTable K V) (o : Option ℕ) (w p : ℕ) → node_table_of s o w ≡ v → key ≡ p → map_of_slots (map entry_in ds) ≡ update_at f v.nodes p
+    nodes_written v o w p e is =
+        let at : fin.get v.nodes p ≡ Some (entry_of r.old.value) = node_had s o w v e key p is ∙ ap entry_in r.was in
+        entries_inserted cs ds key (f (entry_of r.old.value)) r.others (ap entry_in r.now ∙ ap Some r.node.entry) ∙ (λ n. fin.insert (e n).nodes (is n) (f (entry_of r.old.value))) ∙ ap (λ x. option_map_or (λ d. fin.insert v.nodes p (f d)) x v.nodes) (sym at)
+
+  -- what is in the order has a node, and stands there once
+  pub idle_within : (s : Slots K V) (o : Option ℕ) (n : Option Ptr) (w p : ℕ) → IsNodeTable s o n → IsIn p (idle_places s.memory.cells o) → IsSome (fin.get (node_table_of s o w).nodes p)
+  idle_within s o n w p t m =
+      let there = some_cell (cell_at s.memory.cells p) (present_in s o n p t m) in
+      ap is_some (node_is s o w p ∙ ap entry_in there.1)
+
+  pub idle_places_distinct : (s : Slots K V) (o : Option ℕ) (n : Option Ptr) → IsNodeTable s o n → IsDistinct eqb (idle_places s.memory.cells o)
+  idle_places_distinct s o n t = distinct (idle_places s.memory.cells o) t.ordered.distinct
+
+  -- as much to spare as before
+  pub spare_same : (s t : Slots K V) (v : NodeTable K V) (o : Option ℕ) (w : ℕ) → node_table_of s o w ≡ v → t.pointers ≡ s.pointers → v.spare ≤ t.pointers.capacity - slab_len t.pointers
+  spare_same s t v o w e same =
+      let was : s.pointers.capacity - slab_len s.pointers ≡ v.spare = ap (λ x. x.spare) e in
+      let now : t.pointers.capacity - slab_len t.pointers ≡ s.pointers.capacity - slab_len s.pointers = ap (λ l. l.capacity - slab_len l) same in
+      omega (arith, was, now)

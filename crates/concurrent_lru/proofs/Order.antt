@@ -1,0 +1,4 @@
+-- The idle order as links among nodes.
+pub mod Links
+pub mod Appending
+pub mod TakingOut

@@ -1,0 +1,14 @@
+-- The laws of whole runs.
+pub mod CutAndJoined
+pub mod GroupsOfPlainRun
+pub mod PlainRuns
+pub mod ChangingRuns
+pub mod LongestEnds
+pub mod LargerCapacity
+pub mod ChargeOfKey
+pub mod WeightOfKey
+pub mod Moments
+pub mod SteadyCapacity
+pub mod StampCounts
+pub mod StampsOnce
+pub mod PromisesOfRuns

@@ -1,0 +1,3 @@
+-- Caches side by side.
+pub mod OneOfMany
+pub mod FirstOfMany

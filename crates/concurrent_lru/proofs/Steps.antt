@@ -1,0 +1,21 @@
+-- The laws of one step of the cache.
+pub mod CasesOfSteps
+pub mod LawfulAfterChange
+pub mod LawfulAfterRest
+pub mod LawfulAfterRevival
+pub mod LawfulAfterLeaving
+pub mod BeginOfAbsent
+pub mod BeginOfHeld
+pub mod ReadyAndPoll
+pub mod PollWithoutChange
+pub mod Release
+pub mod AdviceOfAbsent
+pub mod Prune
+pub mod NotReady
+pub mod MemoryRefused
+pub mod RefusalsExclude
+pub mod OneAnswer
+pub mod OneFront
+pub mod EmptyCache
+pub mod StaysLawful
+pub mod ReadyValues

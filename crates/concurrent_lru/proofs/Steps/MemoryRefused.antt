@@ -1,0 +1,25 @@
+-- A refusal for want of memory, as an outcome.
+use Rattle.std.proofs.Common.{◌≡◌, Bool, List, Option, Result, Ok, Err, refl, sym, ◌∙◌, subst, ℕ}
+use Rattle.std.specs.Result.{IsErrAnd}
+use Rattle.std.specs.declared.sync.Arc.{Arc}
+use Rattle.std.specs.declared.alloc.Global.{Global}
+use Rattle.concurrent_lru.specs.declared.list.Refusal.{Refusal}
+use Rattle.concurrent_lru.specs.declared.list.Refusal.TheVariants.{Memory}
+use Rattle.concurrent_lru.specs.declared.step.Begun.{Begun}
+use Rattle.concurrent_lru.specs.Cache.{Cache, Idle}
+use Rattle.concurrent_lru.specs.Request.{Request}
+use Rattle.concurrent_lru.specs.Runs.{Stands, TakesMemory, Refuses}
+use Rattle.concurrent_lru.specs.Results.{outcome_of_begin, outcome_of_poll, outcome_of_get}
+
+module _ {K V : Type 0} where
+  pub begun_memory : (E : K → K → Bool) (old : Cache K V) (req : Request K V) (r : Result (Begun V × List (Idle K V)) Refusal) (x : Refusal) → IsErrAnd r (λ e. e ≡ x) → x ≡ Memory → TakesMemory E old req → Stands E old req (outcome_of_begin r) old
+  begun_memory E old req (Ok v) x h m t = absurd h
+  begun_memory E old req (Err e) x h m t = subst (λ y. Refuses E old req y × (old ≡ old)) (sym (h ∙ m)) (t, refl)
+
+  pub polled_memory : (E : K → K → Bool) (old : Cache K V) (req : Request K V) (r : Result (Begun V) Refusal) (x : Refusal) → IsErrAnd r (λ e. e ≡ x) → x ≡ Memory → TakesMemory E old req → Stands E old req (outcome_of_poll r) old
+  polled_memory E old req (Ok v) x h m t = absurd h
+  polled_memory E old req (Err e) x h m t = subst (λ y. Refuses E old req y × (old ≡ old)) (sym (h ∙ m)) (t, refl)
+
+  pub got_memory : (E : K → K → Bool) (old : Cache K V) (req : Request K V) (r : Result (Option (ℕ × Arc V Global)) Refusal) (x : Refusal) → IsErrAnd r (λ e. e ≡ x) → x ≡ Memory → TakesMemory E old req → Stands E old req (outcome_of_get r) old
+  got_memory E old req (Ok v) x h m t = absurd h
+  got_memory E old req (Err e) x h m t = subst (λ y. Refuses E old req y × (old ≡ old)) (sym (h ∙ m)) (t, refl)

@@ -1,0 +1,111 @@
+-- A request that is refused has no step, and is refused in one way.
+use Rattle.std.proofs.Common.{◌≡◌, ℕ, ◌+◌, ◌<◌, ◌≤◌, ◌^◌, ◌⊎◌, inl, inr, Bool, true, List, Some, refl, sym, ap, ◌∙◌, arith}
+use Rattle.std.specs.Cmp.{IsEquivalence}
+use Rattle.std.proofs.lemmas.Option.{none-some}
+use Rattle.concurrent_lru.specs.Cache.{Cache, Idle, Held, IsLawful, held_at, sum_of}
+use Rattle.concurrent_lru.specs.Request as ask
+use Rattle.concurrent_lru.specs.Request.{Request}
+use Rattle.concurrent_lru.specs.Reply.{Reply}
+use Rattle.concurrent_lru.specs.Runs.{IsFull, WouldHit, Overflows, IsStale, TakesMemory, Refuses}
+use Rattle.concurrent_lru.specs.Steps.{HasNumbers, Hits, Step}
+use Rattle.concurrent_lru.specs.StepLaws.{LeavesNoStep, OneRefusal}
+use Rattle.concurrent_lru.specs.declared.list.Refusal.{Refusal}
+use Rattle.concurrent_lru.specs.declared.list.Refusal.TheVariants.{Memory, Overflow, Stale}
+use Rattle.concurrent_lru.proofs.Steps.OneAnswer.{not_ready_too, same_entry, held_once, not_both, not_held, not_idle}
+use Rattle.concurrent_lru.proofs.Steps.CasesOfSteps.{begin_cases, poll_cases, ready_cases, fail_cases, get_cases, release_cases}
+
+module _ {K V : Type 0} (E : K → K → Bool) where
+  no_numbers : (c : Cache K V) (charge : ℕ) → HasNumbers E c charge → (2 ^ 64 ≤ sum_of c + charge) ⊎ (2 ^ 64 ≤ c.next + 1) → ⊥
+  no_numbers c charge h (inl k) = let a = h.0 in absurd (omega (arith, a, k))
+  no_numbers c charge h (inr k) = let a = h.1 in absurd (omega (arith, a, k))
+
+  -- a stale request is not one that overflows, or takes memory
+  stale_fits : (c : Cache K V) (r : Request K V) → IsStale E c r → Overflows E c r → ⊥
+  stale_fits c (ask.begin k charge) h o = h
+  stale_fits c (ask.get k) h o = h
+  stale_fits c r h o = o
+
+  stale_takes_none : (c : Cache K V) (r : Request K V) → IsStale E c r → TakesMemory E c r → ⊥
+  stale_takes_none c (ask.begin k charge) h m = h
+  stale_takes_none c (ask.get k) h m = h
+  stale_takes_none c (ask.poll s) h m = none-some m.0 (sym h ∙ m.2.at)
+  stale_takes_none c r h m = m
+
+  stale_stops : (c new : Cache K V) (r : Request K V) (p : Reply K V) (out : List (Idle K V)) → IsStale E c r → Step E c r p out new → ⊥
+  stale_stops c new (ask.poll s) p out h g = let a = poll_cases E c s p out new g in none-some a.2.entry (sym h ∙ a.2.holds.at)
+  stale_stops c new (ask.ready s v) p out h g = let a = ready_cases E c s v p out new g in h a.1.entry a.1.holds
+  stale_stops c new (ask.fail s) p out h g = elim (fail_cases E c s p out new g) [
+    | inl a ↦ h a.1.entry a.1.holds
+    | inr a ↦ h a.2.entry a.2.holds
+  ]
+  stale_stops c new (ask.release s) p out h g = elim (release_cases E c s p out new g).1 [
+    | inl a ↦ h a.1.entry a.0 a.1.holds
+    | inr a ↦ h a.entry a.value a.holds
+  ]
+  stale_stops c new r p out h g = absurd h
+
+  module _ (laws : IsEquivalence E) (c : Cache K V) (l : IsLawful E c) where
+    -- an entry of the key with room for a pin is not a full one
+    has_room : (k : K) (s : ℕ) (e : Held K V) → held_at c s ≡ Some e → E e.key k ≡ true → e.pins < c.most_pins → IsFull E c k → ⊥
+    has_room k s e at key room full =
+        let n : e.pins ≡ full.entry.pins = ap (λ x. x.pins) (held_once E laws c l k s full.stamp e full.entry at full.at key full.same_key).1 in
+        let most : full.entry.pins ≡ c.most_pins = full.full in
+        absurd (omega (arith, n, most, room))
+
+    hit_not_full : (k : K) (s : ℕ) (v : V) (out : List (Idle K V)) (new : Cache K V) → Hits E c k s v out new → IsFull E c k → ⊥
+    hit_not_full k s v out new (inl a) full = has_room k s a.entry a.holds.at a.same_key a.room full
+    hit_not_full k s v out new (inr a) full = not_both E laws c l k full.stamp s full.entry a.entry full.at a.at full.same_key a.same_key
+
+    would_hit_not_full : (k : K) → WouldHit E c k → IsFull E c k → ⊥
+    would_hit_not_full k (inl h) full = has_room k h.0 h.1 h.3.at h.4 h.5 full
+    would_hit_not_full k (inr h) full = not_both E laws c l k full.stamp h.0 full.entry h.1 full.at h.2 full.same_key h.3
+
+    overflow_stops : (new : Cache K V) (r : Request K V) (p : Reply K V) (out : List (Idle K V)) → Overflows E c r → Step E c r p out new → ⊥
+    overflow_stops new (ask.begin k charge) p out (inl h) g = elim (begin_cases E c k charge p out new g) [
+      | inl a ↦ no_numbers c charge a.2.fits h.1
+      | inr b ↦ elim b [
+        | inl a ↦ not_held E laws c l k a.0 a.3.entry h.0 a.3.holds.at a.3.same_key
+        | inr a ↦ not_idle E laws c l k a.0 a.3.entry h.0 a.3.at a.3.same_key
+      ]
+    ]
+    overflow_stops new (ask.begin k charge) p out (inr h) g = elim (begin_cases E c k charge p out new g) [
+      | inl a ↦ not_held E laws c l k h.stamp h.entry a.2.absent h.at h.same_key
+      | inr b ↦ elim b [
+        | inl a ↦ has_room k a.0 a.3.entry a.3.holds.at a.3.same_key a.3.room h
+        | inr a ↦ not_both E laws c l k h.stamp a.0 h.entry a.3.entry h.at a.3.at h.same_key a.3.same_key
+      ]
+    ]
+    overflow_stops new (ask.get k) p out h g = elim (get_cases E c k p out new g) [
+      | inl a ↦ hit_not_full k a.0 a.1 out new a.3 h.0
+      | inr a ↦
+          let u = a.1 h.0.stamp h.0.entry.key h.0.entry.charge (inr (h.0.entry, h.0.at, refl, refl)) h.0.same_key in
+          not_ready_too u.0.phase h.1 (ap (λ x. x.phase) (same_entry E c h.0.stamp u.0 h.0.entry u.1 h.0.at) ∙ h.2) u.2
+    ]
+    overflow_stops new r p out h g = absurd h
+
+    overflow_takes_none : (r : Request K V) → Overflows E c r → TakesMemory E c r → ⊥
+    overflow_takes_none (ask.begin k charge) (inl h) (inl m) = no_numbers c charge m.1 h.1
+    overflow_takes_none (ask.begin k charge) (inl h) (inr (inl m)) = not_held E laws c l k m.0 m.1 h.0 m.3.at m.4
+    overflow_takes_none (ask.begin k charge) (inl h) (inr (inr m)) = not_idle E laws c l k m.0 m.1 h.0 m.2 m.3
+    overflow_takes_none (ask.begin k charge) (inr h) (inl m) = not_held E laws c l k h.stamp h.entry m.0 h.at h.same_key
+    overflow_takes_none (ask.begin k charge) (inr h) (inr m) = would_hit_not_full k m h
+    overflow_takes_none (ask.get k) h m = would_hit_not_full k m h.0
+    overflow_takes_none r h m = absurd h
+
+    one_of : (r : Request K V) (e f : Refusal) → Refuses E c r e → Refuses E c r f → e ≡ f
+    one_of r Memory Memory a b = refl
+    one_of r Memory Overflow a b = absurd (overflow_takes_none r b a)
+    one_of r Memory Stale a b = absurd (stale_takes_none c r b a)
+    one_of r Overflow Memory a b = absurd (overflow_takes_none r a b)
+    one_of r Overflow Overflow a b = refl
+    one_of r Overflow Stale a b = absurd (stale_fits c r b a)
+    one_of r Stale Memory a b = absurd (stale_takes_none c r a b)
+    one_of r Stale Overflow a b = absurd (stale_fits c r a b)
+    one_of r Stale Stale a b = refl
+
+pub leaves_no_step : (K V : Type 0) (E : K → K → Bool) → IsEquivalence E → LeavesNoStep K V E
+leaves_no_step K V E laws old new r p out l (inl h) g = overflow_stops E laws old l new r p out h g
+leaves_no_step K V E laws old new r p out l (inr h) g = stale_stops E old new r p out h g
+
+pub one_refusal : (K V : Type 0) (E : K → K → Bool) → IsEquivalence E → OneRefusal K V E
+one_refusal K V E laws old r e f l a b = one_of E laws old l r e f a b

@@ -1,0 +1,2 @@
+-- What may go from one thread to another.
+pub mod CacheSent

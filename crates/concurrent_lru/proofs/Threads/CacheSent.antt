@@ -1,0 +1,117 @@
+-- The cache for one owner may be sent between threads, where its keys and values may.
+use denote.Hole.FixSend.{fix_send, fix_sync, Sends, Syncs}
+use denote.Memory.{part_of, raw_all}
+use denote.Param.Send.{IsSend, IsSync, cell_keyless, owning_send, sendable, struct_sync_at, view_send, view_sync}
+use denote.Param.SendFields.{declared_send, declared_sync, owner_send}
+use denote.Builtin.{usize}
+use denote.RattleType.{RattleType}
+use denote.RawPtr.{RawPtr}
+use denote.Struct.Owning.{shape, to}
+use Rattle.std.specs.declared.hash.Hash as hash
+use Rattle.std.specs.declared.cmp.PartialEq as partial_eq
+use Rattle.std.specs.declared.clone.Clone as clone
+use Rattle.std.proofs.Crossing.{crosses, frees}
+use Rattle.std.proofs.MapsCrossing.{HashMap-send}
+use Rattle.std.proofs.alloc.Global.TheSendSync as global_sent
+use Rattle.std.specs.contracts.alloc.Global as global
+use Rattle.std.specs.contracts.option.Option as option
+use Rattle.std.specs.contracts.impls.GlobalAllocator.TheImpl as allocator
+use Rattle.slab.specs.contracts.Slab as slab
+use Rattle.slab.specs.contracts.Slab.TheInside as slab_inside
+use Rattle.concurrent_lru.specs.contracts.list.Node as node
+use Rattle.concurrent_lru.specs.contracts.list.Nodes as nodes
+use Rattle.concurrent_lru.specs.contracts.list.Nodes.TheInside as nodes_inside
+use Rattle.concurrent_lru.specs.contracts.list.memory.At as at
+use Rattle.concurrent_lru.specs.contracts.list.memory.Memory as memory
+use Rattle.concurrent_lru.specs.contracts.list.slots.Slots as slots
+use Rattle.concurrent_lru.specs.contracts.lru_core.State as state
+use Rattle.concurrent_lru.specs.contracts.lru_core.State.TheInside as state_inside
+use Rattle.concurrent_lru.specs.contracts.table.Table.TheInside as table
+use Rattle.concurrent_lru.specs.contracts.work.Work as work
+use Rattle.concurrent_lru.proofs.Memory.CellsSent.{Memory-send, Memory-sync}
+use Rattle.concurrent_lru.proofs.list.Phase.TheSendSync as phase_sent
+use Rattle.concurrent_lru.proofs.list.memory.At.TheSendSync as at_sent
+
+-- The count of the writes of an order owns nothing, so it is Send.
+work_send : IsSend work.the_row
+work_send = owning_send work.the_type (search sendable, tt) (λ d. tt) (λ k x w. tt)
+
+-- A `&` to the count is a share of what owns nothing, so it is Sync.
+work_sync : IsSync work.the_row
+unfolding part_of
+work_sync = record { shared = λ d b o κ. λ q vs. (cell_keyless q (raw_all work.the_row.mir) vs b o, work_send.owned d vs) }
+
+module _ (K V : RattleType) (key : IsSend K) (value : IsSend V) (shared : IsSync V) where
+  -- What stands for a node where its type names itself is Send, as its layer is over any such.
+  hole_send : IsSend (node.the_hole K V)
+  hole_send = fix_send (node.the_ring K V)
+      (node.by_members K V (Sends (node.the_ring K V)) record { send = λ h all. declared_send (node.the_layer K V h) (search (sendable, crosses, phase_sent.the_send, all) depth 12) })
+      (node.the_member K V)
+
+  -- A node is Send.
+  node_send : IsSend (node.the_row K V)
+  node_send = declared_send (node.the_type K V) (search (sendable, crosses, phase_sent.the_send, hole_send) depth 12)
+
+  -- The pointers in a slab are Send.
+  pointers_send : IsSend (slab.the_row (at.the_row (node.the_row K V)) global.the_row allocator.ghosts)
+  pointers_send = view_send (slab_inside.the_row (at.the_row (node.the_row K V)) global.the_row allocator.ghosts) _ _ _ _
+      (declared_send (slab_inside.the_type (at.the_row (node.the_row K V)) global.the_row allocator.ghosts) (search (sendable, crosses, at_sent.the_send) depth 12))
+
+  -- The memory of the nodes is Send.
+  memory_send : IsSend (memory.the_row (node.the_row K V) global.the_row allocator.ghosts)
+  memory_send = Memory-send (node.the_row K V) global.the_row allocator.ghosts node_send frees
+
+  -- The slots of a cache are Send.
+  slots_send : IsSend (slots.the_row K V)
+  slots_send = declared_send (slots.the_type K V) (search (sendable, crosses, global_sent.the_send, pointers_send, memory_send, work_send) depth 12)
+
+  -- The nodes of a cache are Send.
+  pub nodes_send : IsSend (nodes.the_row K V)
+  nodes_send = view_send (nodes_inside.the_row K V) _ _ _ _
+      (owner_send (nodes_inside.the_type K V) (search (sendable, crosses, slots_send, work_send) depth 12) (λ d. tt) (λ k x w. ((tt, (tt, (tt, tt))), (tt, (tt, (tt, tt))))))
+
+  module _ (h : hash.Ghosts K.Denot) (e : partial_eq.Ghosts K.Denot) (c : clone.Ghosts K.Denot) where
+    -- The entries of a cache are Send.
+    table_send : IsSend (table.the_row K V h e c)
+    table_send = declared_send (table.the_type K V h e c) (search (sendable, crosses, HashMap-send, nodes_send) depth 12)
+
+    -- The cache for one owner is Send.
+    pub state_send : IsSend (state.the_row K V h e c)
+    state_send = view_send (state_inside.the_row K V h e c) _ _ _ _
+        (declared_send (state_inside.the_type K V h e c) (search (sendable, crosses, global_sent.the_send, table_send) depth 12))
+
+module _ (K V : RattleType) (key : IsSync K) (value : IsSend V) (shared : IsSync V) where
+  -- What stands for a node where its type names itself is Sync, as its layer is over any such.
+  hole_sync : IsSync (node.the_hole K V)
+  hole_sync = fix_sync (node.the_ring K V)
+      (node.by_members K V (Syncs (node.the_ring K V)) record { sync = λ h all. declared_sync (node.the_layer K V h) (search (sendable, crosses) depth 12, (search (sendable, crosses) depth 12, (search (sendable, crosses) depth 12, (search (sendable, crosses) depth 12, (search (sendable, crosses, phase_sent.the_sync) depth 12, (search (sendable, crosses, all) depth 12, (search (sendable, crosses) depth 12, (search (sendable, crosses) depth 12, (search (sendable, crosses) depth 12, tt))))))))) })
+      (node.the_member K V)
+
+  -- A node is Sync.
+  node_sync : IsSync (node.the_row K V)
+  node_sync = declared_sync (node.the_type K V) (search (sendable, crosses) depth 12, (search (sendable, crosses) depth 12, (search (sendable, crosses) depth 12, (search (sendable, crosses) depth 12, (search (sendable, crosses, phase_sent.the_sync) depth 12, (search (sendable, crosses, hole_sync) depth 12, (search (sendable, crosses) depth 12, (search (sendable, crosses) depth 12, (search (sendable, crosses) depth 12, tt)))))))))
+
+  -- The pointers in a slab are Sync.
+  pointers_sync : IsSync (slab.the_row (at.the_row (node.the_row K V)) global.the_row allocator.ghosts)
+  pointers_sync = view_sync (slab_inside.the_row (at.the_row (node.the_row K V)) global.the_row allocator.ghosts) _ _ _ _
+      (declared_sync (slab_inside.the_type (at.the_row (node.the_row K V)) global.the_row allocator.ghosts) (search (sendable, crosses, at_sent.the_sync) depth 12))
+
+  -- The memory of the nodes is Sync.
+  memory_sync : IsSync (memory.the_row (node.the_row K V) global.the_row allocator.ghosts)
+  memory_sync = Memory-sync (node.the_row K V) global.the_row allocator.ghosts node_sync
+
+  -- The slots of a cache are Sync.
+  slots_sync : IsSync (slots.the_row K V)
+  slots_sync = declared_sync (slots.the_type K V) (search (sendable, crosses, global_sent.the_sync, pointers_sync, memory_sync, work_sync) depth 12)
+
+  -- The ends of the order are Sync.
+  oldest_sync : IsSync (option.the_row usize)
+  oldest_sync = search (sendable, crosses) depth 12
+
+  newest_sync : IsSync (option.the_row RawPtr)
+  newest_sync = search (sendable, crosses) depth 12
+
+  -- The nodes of a cache are Sync: a `&` to them holds a `&` to each field, and nothing else.
+  pub nodes_sync : IsSync (nodes.the_row K V)
+  nodes_sync = view_sync (nodes_inside.the_row K V) _ _ _ _
+      record { shared = λ d b o κ. (struct_sync_at (shape (nodes_inside.the_type K V)) (to (nodes_inside.the_type K V) d) (slots_sync.shared d.slots, (oldest_sync.shared d.oldest, (newest_sync.shared d.newest, (work_sync.shared d.work, tt)))) b o κ, tt) }

@@ -1,0 +1,53 @@
+-- The twin may be shared between threads: what a caller that sends a `&` to it needs.
+use denote.Param.Send.{IsSend, IsSync, sendable, view_send}
+use denote.Param.SendFields.{declared_send, declared_sync, as_row_sync}
+use denote.RattleType.{RattleType}
+use denote.Struct.Field.{row_field}
+use Rattle.std.specs.declared.hash.Hash as hash
+use Rattle.std.specs.declared.cmp.PartialEq as partial_eq
+use Rattle.std.specs.declared.clone.Clone as clone
+use Rattle.std.specs.contracts.sync.Mutex as mutex
+use Rattle.std.proofs.Crossing.{crosses}
+use Rattle.std.proofs.alloc.Global.TheSendSync as global_sent
+use Rattle.std.proofs.sync.Mutex.TheSendSync as mutex_sent
+use Rattle.atomic_table.proofs.shared.Seat.TheSendSync as seat_sent
+use Rattle.crossbeam_utils.proofs.atomic.seq_cell.Wide.TheSendSync as wide_sent
+use Rattle.concurrent_lru.specs.contracts.lru_core.State as state
+use Rattle.concurrent_lru.proofs.Threads.CacheSent.{state_send}
+use Rattle.lru_journal.specs.declared.tally.Identity as identity
+use Rattle.lru_journal.specs.contracts.desk.Desk as desk
+use Rattle.lru_journal.specs.contracts.desk.Desk.TheInside as desk_fields
+use Rattle.lru_journal.specs.contracts.door.Door as door
+use Rattle.lru_journal.specs.contracts.journal.Journal.TheInside as journal
+use Rattle.lru_journal.specs.contracts.twin.LruCache as twin
+use Rattle.lru_journal.proofs.record.Record.TheSendSync as record_sent
+
+module _ (K V : RattleType) (key : IsSend K) (value : IsSend V) (shared : IsSync V) where
+  module _ (h : hash.Ghosts K.Denot) (e : partial_eq.Ghosts K.Denot) (c : clone.Ghosts K.Denot) where
+    -- What a journal keeps its records of is Send.
+    cache_send : IsSend (state.the_row K V h e c)
+    cache_send = state_send K V key value shared h e c
+
+    -- The journal is Send.
+    journal_send : IsSend (journal.the_row K V h e c)
+    journal_send = declared_send (journal.the_type K V h e c) (search (sendable, crosses, record_sent.the_send, cache_send) depth 12)
+
+    module _ (I : RattleType) (i : identity.Ghosts I.Denot) (named : IsSend I) where
+      -- What lies under the twin's lock is Send.
+      desk_send : IsSend (desk.the_row K V I h e c i)
+      desk_send = view_send (desk_fields.the_row K V I h e c i) _ _ _ _ (declared_send (desk_fields.the_type K V I h e c i) (search (sendable, crosses, seat_sent.the_send, journal_send) depth 12))
+
+      module _ (R : RattleType) (waits : IsSync R) where
+        -- The door of the twin is Sync.
+        door_sync : IsSync (door.the_row K V R I h e c i)
+        door_sync = declared_sync (door.the_type K V R I h e c i) (
+          search (sendable, crosses, wide_sent.the_sync, global_sent.the_send, global_sent.the_sync),
+          (
+            as_row_sync (mutex.the_field (desk.the_row K V I h e c i)) (mutex_sent.the_sync (desk.the_row K V I h e c i) desk_send),
+            (as_row_sync (row_field R) waits, tt),
+          ),
+        )
+
+        -- The twin is Sync.
+        pub twin_sync : IsSync (twin.the_row K V R I h e c i)
+        twin_sync = declared_sync (twin.the_type K V R I h e c i) (door_sync, tt)
