@@ -2,7 +2,7 @@
 use Rattle.std.specs.Prelude.{◌≡◌, ℕ, ◌⊎◌, Bool, List, [], ◌∷◌, ◌++◌, Result, Ok, Err, IfOk, OnErr}
 use Rattle.std.specs.declared.sync.Arc.{Arc}
 use Rattle.std.specs.declared.alloc.Global.{Global}
-use Rattle.concurrent_lru.specs.Cache.{Cache, empty_cache, IsLawful}
+use Rattle.concurrent_lru.specs.Cache.{Cache, empty_cache, most_pins_by_default, IsLawful}
 use Rattle.concurrent_lru.specs.Keys.{CopiesAreEqual}
 use Rattle.concurrent_lru.specs.Request.{Request}
 use Rattle.concurrent_lru.specs.Reply as say
@@ -22,7 +22,7 @@ pub record Journaled (K V : Type 0) : Type 0 where
 module _ {K V : Type 0} where
   -- an empty journal
   abbrev pub empty_journal : ℕ → Journaled K V
-  empty_journal capacity = record { cache = empty_cache capacity 4294967295 0; records = []; began = capacity }
+  empty_journal capacity = record { cache = empty_cache capacity most_pins_by_default 0; records = []; began = capacity }
 
   -- what the calls answer that the cache alone does not, as an outcome
   abbrev pub outcome_of_journal_ready : Result (Unit {0}) (Refusal × Arc V Global) → Outcome K V

@@ -5,8 +5,9 @@ use concurrent_lru::unsharded::GetError;
 use lru_files::{Fault, FileBlocks, OpenError, ReadAt};
 use lru_pages::PageCache;
 use std::alloc::{AllocError, Global};
-use std::fs::OpenOptions;
+use std::fs::{File, OpenOptions};
 use std::io::ErrorKind;
+use std::num::NonZeroU64;
 use std::sync::Wait;
 use std::sync::atomic::{AtomicU64, Ordering};
 use std::test::Fail;
@@ -66,7 +67,9 @@ enum Told {
     PastEnd,
     Short,
     Failed(ErrorKind),
-    // What the cache refuses, or want of memory.
+    // There is no memory for the bytes.
+    NoMemory,
+    // The cache refuses it.
     Refused,
 }
 
@@ -87,16 +90,42 @@ impl Told {
     fn fault(fault: Fault) -> Told {
         match fault {
             Fault::PastEnd => Told::PastEnd,
-            Fault::Memory => Told::Refused,
+            Fault::Memory => Told::NoMemory,
             Fault::Short => Told::Short,
             Fault::Read(error) => Told::Failed(error.kind()),
         }
     }
 }
 
+// A source whose byte at each place is the place's number below 251.
+#[derive(Drop)]
+struct Places;
+
+impl ReadAt for Places {
+    fn fill(&self, buf: &mut [u8], offset: u64) -> io::Result<()> {
+        for (place, byte) in (offset..).zip(buf) {
+            *byte = (place % 251) as u8;
+        }
+        Ok(())
+    }
+}
+
+// The page of a number, of so many bytes in blocks of a size, and how many pages there are then.
+fn told_of<R: Wait + Drop>(
+    alloc: Global,
+    rt: R,
+    len: u64,
+    size: NonZeroU64,
+    number: u64,
+) -> (Told, u64) {
+    let reader = FileBlocks::new(alloc, Places, len, size.get());
+    let pages = PageCache::new(alloc, rt, &reader, 3);
+    (Told::of(&pages, number), pages.total_charge())
+}
+
 #[test]
-fn the_last_block_is_short(rt: HostRuntime) -> Result<(), Fail> {
-    let alloc = rt.alloc();
+fn the_last_block_is_short(rt: HostRuntime) {
+    let size = NonZeroU64::new(32).expect(&rt, "a size");
     let cases = [
         (0, 0, Told::PastEnd),
         (1, 0, Told::Bytes(1, Some(0))),
@@ -109,27 +138,46 @@ fn the_last_block_is_short(rt: HostRuntime) -> Result<(), Fail> {
         (33, u64::MAX, Told::PastEnd),
         (64, 1, Told::Bytes(32, Some(63))),
     ];
-    for (count, number, told) in cases {
-        let path = scratch::file(&rt, "lru_pages_tests_last", &bytes(alloc, count)?)?;
-        let reader = FileBlocks::open(alloc, &rt, path.as_path(), 32)?;
-        let pages = PageCache::new(alloc, &rt, &reader, 3);
+    for (len, number, told) in cases {
+        let total = match told {
+            Told::Bytes(..) => 1,
+            _ => 0,
+        };
         assert_eq!(rt;
-            Told::of(&pages, number),
-            told,
-            "block {number} of {count} bytes"
+            told_of(rt.alloc(), &rt, len, size, number),
+            (told, total),
+            "block {number} of {len} bytes"
         );
-        let _removed = fs::remove_file(&rt, path.as_path());
     }
-    Ok(())
 }
 
 #[test]
-fn a_file_that_was_cut_short_gives_no_page(rt: HostRuntime) -> Result<(), Fail> {
+fn a_block_past_all_memory_leaves_nothing(rt: HostRuntime) {
+    assert_eq!(rt;
+        told_of(rt.alloc(), &rt, u64::MAX, NonZeroU64::MAX, 0),
+        (Told::NoMemory, 0)
+    );
+}
+
+// The page of block 1 once the file has so many bytes, and how many pages there are then.
+fn told_at<R: Wait>(file: &File, pages: &PageCache<'_, FileBlocks, R>, len: u64) -> (Told, u64) {
+    match file.set_len(len) {
+        Ok(()) => (Told::of(pages, 1), pages.total_charge()),
+        Err(error) => (Told::Failed(error.kind()), 0),
+    }
+}
+
+#[test]
+fn a_file_that_was_cut_short_gives_no_page(rt: HostRuntime) {
     let alloc = rt.alloc();
-    let path = scratch::file(&rt, "lru_pages_tests_cut", &bytes(alloc, 64)?)?;
-    let reader = FileBlocks::open(alloc, &rt, path.as_path(), 32)?;
+    let zeros = [0u8; 64];
+    let path = scratch::file(&rt, "lru_pages_tests_cut", &zeros).expect(&rt, "a file");
+    let reader = FileBlocks::open(alloc, &rt, path.as_path(), 32).expect(&rt, "blocks");
     let pages = PageCache::new(alloc, &rt, &reader, 3);
-    let file = OpenOptions::new().write(true).open(&rt, path.as_path())?;
+    let file = OpenOptions::new()
+        .write(true)
+        .open(&rt, path.as_path())
+        .expect(&rt, "the file again");
     let steps = [
         (40, Told::Short, 0),
         (64, Told::Bytes(32, Some(0)), 1),
@@ -137,12 +185,13 @@ fn a_file_that_was_cut_short_gives_no_page(rt: HostRuntime) -> Result<(), Fail> 
         (40, Told::Bytes(32, Some(0)), 1),
     ];
     for (len, told, total) in steps {
-        file.set_len(len)?;
-        assert_eq!(rt; Told::of(&pages, 1), told, "at {len} bytes");
-        assert_eq!(rt; pages.total_charge(), total, "at {len} bytes");
+        assert_eq!(rt;
+            told_at(&file, &pages, len),
+            (told, total),
+            "at {len} bytes"
+        );
     }
     let _removed = fs::remove_file(&rt, path.as_path());
-    Ok(())
 }
 
 // What the first read of it fails, and the second finds to be short.

@@ -38,7 +38,8 @@ fn let_go_by_another<R: Wait + Send + Sync, T: Threads>(
 
 #[test]
 fn threads_share_a_handle_and_hand_it_on(rt: HostRuntime) {
-    let cache: LruCache<u64, u64, &HostRuntime> = LruCache::new(rt.alloc(), &rt, 2);
+    let own = rt.clone().expect(&rt, "memory");
+    let cache: LruCache<u64, u64, HostRuntime> = LruCache::new(rt.alloc(), own, 2);
     let handle = cache.get_or_init(1, 3, |_| 5).expect(&rt, "memory");
     assert_eq!(rt; read_by_two(&rt, &handle), (5, 5));
     assert_eq!(rt; cache.total_charge(), 3);
@@ -78,7 +79,8 @@ fn caches_cross<
 
 #[test]
 fn caches_and_handles_cross_threads(rt: HostRuntime) {
-    let cache: LruCache<u64, u64, &HostRuntime> = LruCache::new(rt.alloc(), &rt, 10);
+    let own = rt.clone().expect(&rt, "memory");
+    let cache: LruCache<u64, u64, HostRuntime> = LruCache::new(rt.alloc(), own, 10);
     let handle = cache.get_or_init(1, 1, |key| *key).expect(&rt, "memory");
     caches_cross(&cache, &handle);
 }

@@ -28,7 +28,8 @@ fn meets_in_making<R: Wait>(
 
 #[test]
 fn makers_run_without_the_lock(rt: HostRuntime) {
-    let cache: LruCache<u64, u64, &HostRuntime> = LruCache::new(rt.alloc(), &rt, 10);
+    let own = rt.clone().expect(&rt, "memory");
+    let cache: LruCache<u64, u64, HostRuntime> = LruCache::new(rt.alloc(), own, 10);
     let first = AtomicU64::new(0);
     let second = AtomicU64::new(0);
     let met = thread::join(
@@ -50,14 +51,14 @@ const CAUSES: [(Cause, u64, u128); 6] = [
 ];
 
 // The total while a new cache of this capacity drops a value.
-fn total_of<R: Wait + Threads + Sync + Send>(
+fn total_of<R: Wait + Threads + Clone + Drop + Sync + Send>(
     rt: &R,
     alloc: Global,
     cause: Cause,
     capacity: u64,
 ) -> Option<u128> {
     let gate = Arc::new(alloc, Gate::new()).ok()?;
-    let cache: LruCache<u64, Slow, &R> = LruCache::new(alloc, rt, capacity);
+    let cache: LruCache<u64, Slow, R> = LruCache::new(alloc, rt.clone().ok()?, capacity);
     let (shared, met) = (&cache, &gate);
     let kept = made_for(shared, met, cause)?;
     let (_, total) = thread::join(
@@ -141,7 +142,8 @@ fn a_handle_is_read_without_the_lock(rt: HostRuntime) {
     };
     let print = Arc::new(rt.alloc(), none).expect(&rt, "memory");
     let theirs = Arc::try_clone(&print).expect(&rt, "memory");
-    let cache: LruCache<u64, Shown, &HostRuntime> = LruCache::new(rt.alloc(), &rt, 10);
+    let own = rt.clone().expect(&rt, "memory");
+    let cache: LruCache<u64, Shown, HostRuntime> = LruCache::new(rt.alloc(), own, 10);
     let shown = Shown {
         print: theirs,
         number: 7,

@@ -68,7 +68,8 @@ pub(crate) fn found<R: Wait>(cache: &LruCache<u64, u64, R>) -> Option<u64> {
 
 #[test]
 fn one_value_for_two_callers(rt: HostRuntime) {
-    let cache: LruCache<u64, u64, &HostRuntime> = LruCache::new(rt.alloc(), &rt, 10);
+    let own = rt.clone().expect(&rt, "memory");
+    let cache: LruCache<u64, u64, HostRuntime> = LruCache::new(rt.alloc(), own, 10);
     let meeting = Meeting::new();
     let values = thread::join(
         &rt,
@@ -105,7 +106,8 @@ fn takes_over<R: Wait>(cache: &LruCache<u64, u64, R>, meeting: &Meeting) -> Opti
 
 #[test]
 fn another_takes_a_failed_making_over(rt: HostRuntime) {
-    let cache: LruCache<u64, u64, &HostRuntime> = LruCache::new(rt.alloc(), &rt, 10);
+    let own = rt.clone().expect(&rt, "memory");
+    let cache: LruCache<u64, u64, HostRuntime> = LruCache::new(rt.alloc(), own, 10);
     let meeting = Meeting::new();
     let made = thread::join(
         &rt,
@@ -132,7 +134,8 @@ fn makes_by_another_key<R: Wait>(cache: &LruCache<u64, u64, R>) -> Option<u64> {
 
 #[test]
 fn a_maker_may_use_the_cache(rt: HostRuntime) {
-    let cache: LruCache<u64, u64, &HostRuntime> = LruCache::new(rt.alloc(), &rt, 10);
+    let own = rt.clone().expect(&rt, "memory");
+    let cache: LruCache<u64, u64, HostRuntime> = LruCache::new(rt.alloc(), own, 10);
     assert_eq!(rt; makes_by_another_key(&cache), Some(6));
     assert_eq!(rt; cache.total_charge(), 2);
 }

@@ -6,7 +6,7 @@ use Rattle.std.specs.declared.alloc.Global.{Global}
 use Rattle.std.specs.FinMap.{FinMap}
 use Rattle.std.specs.Ordering.{nat_cmp}
 use Rattle.concurrent_lru.proofs.Steps.EmptyCache.{empty_lawful}
-use Rattle.concurrent_lru.specs.Cache.{Cache, Held, Idle, IsLawful, empty_cache}
+use Rattle.concurrent_lru.specs.Cache.{Cache, Held, Idle, IsLawful, empty_cache, most_pins_by_default}
 use Rattle.concurrent_lru.specs.Keys.{CopiesAreEqual}
 use Rattle.concurrent_lru.specs.Request as ask
 use Rattle.concurrent_lru.specs.Request.{Request}
@@ -53,10 +53,10 @@ module _ (K V : Type 0) where
 
 module _ {K V : Type 0} where
   -- an empty journal keeps it
-  pub opens : {is_clone : K → K → Type 0} {E : K → K → Bool} {cache : Cache K V} {records : List (Record K)} (capacity : ℕ) → CopiesAreEqual is_clone E → cache ≡ empty_cache capacity 4294967295 0 → records ≡ [] → IsSoundJournal is_clone E cache records capacity
+  pub opens : {is_clone : K → K → Type 0} {E : K → K → Bool} {cache : Cache K V} {records : List (Record K)} (capacity : ℕ) → CopiesAreEqual is_clone E → cache ≡ empty_cache capacity most_pins_by_default 0 → records ≡ [] → IsSoundJournal is_clone E cache records capacity
   opens {is_clone} {E} {cache} {records} capacity copies is none =
       subst (λ (y : Cache K V × List (Record K)). IsSoundJournal is_clone E y.0 y.1 capacity) (λ i. (sym is i, sym none i))
-      (record { copies = copies; history = record { lawful = empty_lawful E capacity 4294967295 0; legal = empty_forgotten K V capacity 4294967295 0 } })
+      (record { copies = copies; history = record { lawful = empty_lawful E capacity most_pins_by_default 0; legal = empty_forgotten K V capacity most_pins_by_default 0 } })
 
   -- what the journal keeps is kept over a recorded step
   pub keeps_on : {is_clone : K → K → Type 0} {E : K → K → Bool} {old new : Cache K V} {rs mid all : List (Record K)} {began : ℕ} {rec : Record K} (r : Request K V) (p : Reply K V) (out : List (Idle K V))
