@@ -22,6 +22,7 @@ pub mod Indexes
 pub mod Chain
 pub mod Results
 pub mod Ready
+pub mod OtherPins
 pub mod Pins
 pub mod Debts
 pub mod Doors

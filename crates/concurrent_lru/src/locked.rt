@@ -5,6 +5,7 @@ ghost use Rattle.std.specs.Arc.{arc_value};
 ghost use Rattle.concurrent_lru.specs.Cache.{empty_cache, most_pins_by_default, sum_of, IsLawful};
 ghost use Rattle.concurrent_lru.specs.Debts.{outcome_of_locked_begin, outcome_of_locked_poll, outcome_of_locked_get, AsksOnEntry, AsksOnPoll, IfEntered, IfPolled};
 ghost use Rattle.concurrent_lru.specs.Keys.{CopiesAreEqual};
+ghost use Rattle.concurrent_lru.specs.OtherPins.{HasNoOtherPin};
 ghost use Rattle.concurrent_lru.specs.Pins.{made_stamp, made_key, made_charge, woken_stamp, woken_key, woken_charge, unread_stamp};
 ghost use Rattle.concurrent_lru.specs.Ready.{ValuesFit, HasEqualKeyAt};
 ghost use Rattle.concurrent_lru.specs.Request as ask;
@@ -20,6 +21,7 @@ pub use self::done::{Advised, Pruned, Reserved, Resized};
 pub use self::pins::{Entered, Making, Pin, Polled, Unread, Waiting, Woken};
 pub use self::sealed::{Sealed, Waiters};
 use crate::fit::Fit;
+use crate::list::Place;
 use crate::lru_core::{Begun, Evicted, Failed, Refusal, State};
 use std::alloc::Global;
 use std::fmt;
@@ -93,19 +95,20 @@ impl<K: Hash + Eq + Clone + Drop, V: Drop, F: Fit<K, V>> Locked<K, V, F> {
         ensures never_stale { IfErr result (λ e. e ≢ Refusal.Stale) }
     {
         let (begun, evicted) = self.begun(key, charge)?;
+        let place = self.state.near();
         match begun {
             Begun::Make(stamp) => {
-                let making = Making::of(stamp, key, charge);
+                let making = Making::of(stamp, place, key, charge);
                 Ok(Entered::Make(making, Sealed::of(evicted)))
             }
             // A begin that meets an entry evicts nothing, so there is nothing to seal.
             Begun::Wait(stamp) => {
                 prove!(evicted.is_empty());
-                Ok(Entered::Wait(Waiting::of(stamp, key, charge, self)))
+                Ok(Entered::Wait(Waiting::of(stamp, place, key, charge, self)))
             }
             Begun::Hit(stamp, value) => {
                 prove!(evicted.is_empty());
-                Ok(Entered::Hit(Pin::of(stamp, key, Some(charge), value)))
+                Ok(Entered::Hit(Pin::of(stamp, place, key, Some(charge), value)))
             }
         }
     }
@@ -129,8 +132,26 @@ impl<K: Hash + Eq + Clone + Drop, V: Drop, F: Fit<K, V>> Locked<K, V, F> {
     {
         match self.state.get(key)? {
             None => Ok(None),
-            Some((stamp, value)) => Ok(Some(Pin::of(stamp, key, None, value))),
+            Some((stamp, value)) => {
+                let place = self.state.near();
+                Ok(Some(Pin::of(stamp, place, key, None, value)))
+            }
         }
+    }
+
+    // Tells the next look by stamp to begin at a pin's place. The entry may have left it.
+    fn look_near(&mut self, place: Place)
+        ensures { self.new ≡ self.old }
+    {
+        self.state.look_near(place);
+    }
+
+    // Those that wait for the value of the entry with this stamp: whoever has a pin in it beside
+    // its maker.
+    fn waiters(&self, stamp: u64) -> Waiters
+        ensures { IsFalse result → HasNoOtherPin self.now stamp }
+    {
+        Waiters::of(self.state.is_shared(stamp))
     }
 
     // Whether the entry with this stamp has this key. A stamp whose entry has left may not.
@@ -154,25 +175,29 @@ impl<K: Hash + Eq + Clone + Drop, V: Drop, F: Fit<K, V>> Locked<K, V, F> {
     {
         let Woken {
             stamp,
+            place,
             asked: _,
             charge,
         } = woken;
-        match self.polled(stamp, key) {
-            Ok(Begun::Make(own)) => Polled::Make(Making::of(own, key, charge)),
-            Ok(Begun::Wait(own)) => Polled::Wait(Waiting::of(own, key, charge, self)),
-            Ok(Begun::Hit(own, value)) => Polled::Hit(Pin::of(own, key, Some(charge), value)),
-            Err(Refusal::Memory) => Polled::Refused(Unread { stamp }),
+        match self.polled(stamp, place, key) {
+            Ok(Begun::Make(own)) => Polled::Make(Making::of(own, place, key, charge)),
+            Ok(Begun::Wait(own)) => Polled::Wait(Waiting::of(own, place, key, charge, self)),
+            Ok(Begun::Hit(own, value)) => {
+                Polled::Hit(Pin::of(own, place, key, Some(charge), value))
+            }
+            Err(Refusal::Memory) => Polled::Refused(Unread { stamp, place }),
             // A poll never overflows: this is `Stale`, and there is no pin to give back.
             Err(_) => Polled::Stray,
         }
     }
 
     // The core's `poll`, where the stamp's entry has the key, with its own answer.
-    fn polled(&mut self, stamp: u64, key: &K) -> Result<Begun<V>, Refusal>
+    fn polled(&mut self, stamp: u64, place: Place, key: &K) -> Result<Begun<V>, Refusal>
         ensures step { HasEqualKeyAt K.eq self.old stamp key.now → Stands K.eq self.old (ask.poll stamp) (outcome_of_poll result) self.new }
         ensures stray { (HasEqualKeyAt K.eq self.old stamp key.now → ⊥) → (result ≡ Err Refusal.Stale) × (self.new ≡ self.old) }
         ensures hit { IfOk result (λ b. IfHit b (F.fits key.now)) }
     {
+        self.look_near(place);
         if !self.has_key(stamp, key) {
             return Err(Refusal::Stale);
         }
@@ -182,6 +207,7 @@ impl<K: Hash + Eq + Clone + Drop, V: Drop, F: Fit<K, V>> Locked<K, V, F> {
     /// The core's `ready`, where the making's entry has the key: the entry gets `stored`, and the
     /// pin has `read`, another Arc of the same value. Takes no memory.
     ///
+    /// There is nobody to wake only where no other pin is in the entry.
     /// Where no entry with this stamp and key is being made, `stored` comes back.
     pub fn ready(
         &mut self,
@@ -197,25 +223,26 @@ impl<K: Hash + Eq + Clone + Drop, V: Drop, F: Fit<K, V>> Locked<K, V, F> {
         ensures stray { (HasEqualKeyAt K.eq self.old (made_stamp making) key.now → ⊥) → (result.1 ≡ Err stored) × (self.new ≡ self.old) }
         ensures back { IfErr result.1 (λ a. arc_value a ≡ arc_value stored) }
         ensures pin { result.0 ≡ record { stamp = made_stamp making; key = key.now; charge = Some (made_charge making); value = arc_value stored } }
+        ensures quiet { IsFalse result.2 → HasNoOtherPin self.old (made_stamp making) }
     {
         let Making {
             stamp,
+            place,
             asked: _,
             charge,
         } = making;
-        let pin = Pin::of(stamp, key, Some(charge), read);
+        let pin = Pin::of(stamp, place, key, Some(charge), read);
+        self.look_near(place);
+        let readers = self.waiters(stamp);
         if !self.has_key(stamp, key) {
-            return (pin, Sealed::of(Err(stored)), Waiters::new());
+            return (pin, Sealed::of(Err(stored)), readers);
         }
-        (
-            pin,
-            Sealed::of(self.state.ready(stamp, stored)),
-            Waiters::new(),
-        )
+        (pin, Sealed::of(self.state.ready(stamp, stored)), readers)
     }
 
     /// The core's `fail`, where the making's entry has the key. Takes no memory.
     ///
+    /// There is nobody to wake only where no other pin is in the entry.
     /// `Stale` where no entry with this stamp and key is being made.
     pub fn fail(
         &mut self,
@@ -225,16 +252,20 @@ impl<K: Hash + Eq + Clone + Drop, V: Drop, F: Fit<K, V>> Locked<K, V, F> {
         requires asked { made_key making ≡ key.now }
         ensures step { HasEqualKeyAt K.eq self.old (made_stamp making) key.now → Stands K.eq self.old (ask.fail (made_stamp making)) (outcome_of_fail result.0) self.new }
         ensures stray { (HasEqualKeyAt K.eq self.old (made_stamp making) key.now → ⊥) → (result.0 ≡ Err Refusal.Stale) × (self.new ≡ self.old) }
+        ensures quiet { IsFalse result.1 → HasNoOtherPin self.old (made_stamp making) }
     {
         let Making {
             stamp,
+            place,
             asked: _,
             charge: _,
         } = making;
+        self.look_near(place);
+        let heirs = self.waiters(stamp);
         if !self.has_key(stamp, key) {
-            return (Sealed::of(Err(Refusal::Stale)), Waiters::new());
+            return (Sealed::of(Err(Refusal::Stale)), heirs);
         }
-        (Sealed::of(self.state.fail(stamp)), Waiters::new())
+        (Sealed::of(self.state.fail(stamp)), heirs)
     }
 
     /// The core's `release`. Takes no memory. The pin's Arc of the value is sealed before what the
@@ -247,11 +278,13 @@ impl<K: Hash + Eq + Clone + Drop, V: Drop, F: Fit<K, V>> Locked<K, V, F> {
     {
         let Pin {
             stamp,
+            place,
             asked: _,
             charge: _,
             value,
             mark: _,
         } = pin;
+        self.look_near(place);
         Sealed::of((value, self.state.release(stamp)))
     }
 
@@ -261,7 +294,8 @@ impl<K: Hash + Eq + Clone + Drop, V: Drop, F: Fit<K, V>> Locked<K, V, F> {
     pub fn give_up(&mut self, unread: Unread) -> Sealed<Result<Evicted<K, V>, Refusal>>
         ensures step { Stands K.eq self.old (ask.release (unread_stamp unread)) (outcome_of_release result) self.new }
     {
-        let Unread { stamp } = unread;
+        let Unread { stamp, place } = unread;
+        self.look_near(place);
         Sealed::of(self.state.release(stamp))
     }
 

@@ -26,6 +26,9 @@ pub struct Table<K: Hash + Eq + Clone, V> {
     by_key: HashMap<K, Place>,
     by_stamp: HashMap<u64, Place>,
     total: u64,
+    // Where a look by stamp begins: the place of the entry that was pinned last, or that a caller
+    // tells. It is a hint alone: any place will do.
+    near: Place,
 }
 
 impl<K: Hash + Eq + Clone, V> Model for Table<K, V> {
@@ -56,6 +59,7 @@ impl<K: Hash + Eq + Clone, V: Drop> Table<K, V> {
             by_key: HashMap::new(alloc),
             by_stamp: HashMap::new(alloc),
             total: 0,
+            near: Place::first(),
         }
     }
 
@@ -81,7 +85,22 @@ impl<K: Hash + Eq + Clone, V: Drop> Table<K, V> {
     pub fn find_stamp(&self, stamp: u64) -> Option<Place>
         ensures { MatchOption result (ContainsNoStamp self.now stamp) (λ p. map.get self.now.stamps p ≡ Some stamp) }
     {
+        if self.nodes.has_stamp(self.near, stamp) {
+            return Some(self.near);
+        }
         self.by_stamp.get(&stamp).copied()
+    }
+
+    /// The place of the entry that was pinned last, where no look was told to begin elsewhere.
+    pub fn near(&self) -> Place {
+        self.near
+    }
+
+    /// Tells the looks by stamp to begin at a place, which may be any.
+    pub fn look_near(&mut self, place: Place)
+        ensures { self.new ≡ self.old }
+    {
+        self.near = place;
     }
 
     /// The place of the entry with an equal key.
@@ -123,6 +142,7 @@ impl<K: Hash + Eq + Clone, V: Drop> Table<K, V> {
         let _by_key = self.by_key.insert(kept, place);
         let _by_stamp = self.by_stamp.insert(stamp, place);
         self.total += charge;
+        self.near = place;
         Ok(())
     }
 
@@ -148,6 +168,7 @@ impl<K: Hash + Eq + Clone, V: Drop> Table<K, V> {
         ensures { Rewrites (held_with_pins pins) self.old place self.new }
     {
         self.nodes.set_pins(place, pins);
+        self.near = place;
     }
 
     /// Writes the phase of a held entry: its making is handed over, or its value is there. Takes
@@ -166,6 +187,7 @@ impl<K: Hash + Eq + Clone, V: Drop> Table<K, V> {
     {
         self.nodes.remove(place);
         self.nodes.set_pins(place, 1);
+        self.near = place;
     }
 
     /// Takes the pins of a ready entry, which becomes the newest idle one. Takes no memory.

@@ -2,11 +2,12 @@
 //! Makers and the drops of values run without the lock; callers of a value in the making wait.
 ghost use Rattle.std.specs.Prelude.{◌≡◌, ◌≢◌, ◌<◌, Some, None, Ok, Err, IfOk, IfErr, IfSome};
 ghost use Rattle.std.specs.Fn.{FnOnceReturnsAt, FnOnceTakesAt};
+ghost use Rattle.concurrent_lru.specs.Doors.{IsAwake};
 ghost use Rattle.concurrent_lru.specs.Keys.{CopiesAreEqual};
-ghost use Rattle.concurrent_lru.specs.Pins.{IsHandleFor, made_key, made_charge};
+ghost use Rattle.concurrent_lru.specs.Pins.{IsHandleFor, made_key, made_charge, awaited_key, awaited_charge};
 ghost use Rattle.concurrent_lru.specs.ThreadedCalls.{IsTurnFor, IfInit};
 
-use crate::door::{Door, Maker, Met};
+use crate::door::{Asleep, Door, Maker, Met};
 pub use crate::fit::{Anything, Fit};
 pub use crate::get_error::GetError;
 pub use crate::handle::CacheHandle;
@@ -201,14 +202,36 @@ impl<K: Hash + Eq + Clone + Drop, V: Drop, R: Wait, F: Fit<K, V>> LruCache<K, V,
         self.door.enter().set_capacity(capacity)
     }
 
-    // Begins, and waits while another caller makes the value. A waiter whose pin turns out to be
-    // none begins anew.
+    // Begins, and waits while another caller makes the value.
     fn start(&self, key: &K, charge: u64) -> Result<Turn<'_, K, V, R, F>, Refusal>
         requires { 0 < charge }
         ensures turn { IfOk result (λ turn. IsTurnFor F.fits turn key.now charge) }
         ensures never_stale { IfErr result (λ e. e ≢ Refusal.Stale) }
     {
-        let mut met = self.door.enter().begin(key, charge)?;
+        match self.door.enter().begin(key, charge)? {
+            Met::Make(maker) => Ok(Turn::Make(maker)),
+            Met::Hit(handle) => Ok(Turn::Ready(handle)),
+            Met::Wait(asleep) => self.awaited(asleep, key, charge),
+        }
+    }
+
+    // Waits while another caller makes the value. A waiter whose pin turns out to be none begins
+    // anew.
+    #[cold]
+    fn awaited<'a>(
+        &'a self,
+        asleep: Asleep<'a, K, V, R, F>,
+        key: &K,
+        charge: u64,
+    ) -> Result<Turn<'a, K, V, R, F>, Refusal>
+        requires charged { 0 < charge }
+        requires asked { awaited_key asleep.waiting ≡ key.now }
+        requires charge { awaited_charge asleep.waiting ≡ charge }
+        requires awake { IsAwake asleep }
+        ensures turn { IfOk result (λ turn. IsTurnFor F.fits turn key.now charge) }
+        ensures never_stale { IfErr result (λ e. e ≢ Refusal.Stale) }
+    {
+        let mut met = Met::Wait(asleep);
         for _ in self.door.rt().forever() {
             met = match met {
                 Met::Make(maker) => return Ok(Turn::Make(maker)),

@@ -1,6 +1,6 @@
 //! The nodes under their keys: a slab of pointers alone, and the memory that these reach.
 //! A node is had for writing by a look, which is counted, or by a link that a node carries.
-ghost use Rattle.std.specs.Prelude.{◌≡◌, ◌≢◌, ◌+◌, [], Some, None, IsSome, OnOk};
+ghost use Rattle.std.specs.Prelude.{◌≡◌, ◌≢◌, ◌+◌, [], Some, None, IsSome, IsTrue, OnOk};
 ghost use Rattle.std.specs.Borrow.{sem};
 ghost use Rattle.slab.specs.Slab.{HasRoomFor, slab_len};
 ghost use Rattle.concurrent_lru.specs.Cells.{Cell, cell_at, key_at, AtFirst};
@@ -94,6 +94,14 @@ impl<K: Drop, V: Drop> Slots<K, V> {
         ensures { (c : Cell (Node K V) Global) → cell_at self.now.memory.cells key ≡ Some c → result.now ≡ c.value }
     {
         self.memory.get(self.pointers[key])
+    }
+
+    // Whether there is a node under a key, which may be any.
+    pub(super) fn contains(&self, key: usize) -> bool
+        requires { IsTied self.now }
+        ensures { IsTrue result → IsSome (cell_at self.now.memory.cells key) }
+    {
+        self.pointers.contains(key)
     }
 
     // The way to the node under a key, for writing.

@@ -5,6 +5,7 @@ ghost use Rattle.std.specs.Arc.{arc_value};
 ghost use Rattle.std.specs.Sync.Mutex.{mutex_guard_value};
 
 use crate::fit::Fit;
+use crate::list::Place;
 use crate::locked::Locked;
 use crate::locked::sealed::Sealed;
 use crate::lru_core::Evicted;
@@ -17,19 +18,21 @@ use std::sync::{Arc, Condvar, MutexGuard, Wait};
 /// key and the charge that were asked.
 pub struct Making<K> {
     pub(super) stamp: u64,
+    pub(super) place: Place,
     pub(super) asked: Snapshot<K>,
     pub(super) charge: u64,
 }
 
 impl<K> Making<K> {
     // The making of the stamp's entry.
-    pub(super) fn of(stamp: u64, key: &K, charge: u64) -> Self
+    pub(super) fn of(stamp: u64, place: Place, key: &K, charge: u64) -> Self
         ensures stamp { result.stamp ≡ stamp }
         ensures asked { result.asked.value ≡ key.now }
         ensures charge { result.charge ≡ charge }
     {
         Making {
             stamp,
+            place,
             asked: Snapshot::of(key),
             charge,
         }
@@ -41,6 +44,7 @@ impl<K> Making<K> {
 /// that answered it left under the lock.
 pub struct Waiting<K: Hash + Eq + Clone, V, F: Fit<K, V>> {
     stamp: u64,
+    place: Place,
     asked: Snapshot<K>,
     charge: u64,
     left: Snapshot<Locked<K, V, F>>,
@@ -48,7 +52,7 @@ pub struct Waiting<K: Hash + Eq + Clone, V, F: Fit<K, V>> {
 
 impl<K: Hash + Eq + Clone, V, F: Fit<K, V>> Waiting<K, V, F> {
     // A pin in the stamp's entry.
-    pub(super) fn of(stamp: u64, key: &K, charge: u64, left: &Locked<K, V, F>) -> Self
+    pub(super) fn of(stamp: u64, place: Place, key: &K, charge: u64, left: &Locked<K, V, F>) -> Self
         ensures stamp { result.stamp ≡ stamp }
         ensures asked { result.asked.value ≡ key.now }
         ensures charge { result.charge ≡ charge }
@@ -56,6 +60,7 @@ impl<K: Hash + Eq + Clone, V, F: Fit<K, V>> Waiting<K, V, F> {
     {
         Waiting {
             stamp,
+            place,
             asked: Snapshot::of(key),
             charge,
             left: Snapshot::of(left),
@@ -79,6 +84,7 @@ impl<K: Hash + Eq + Clone, V, F: Fit<K, V>> Waiting<K, V, F> {
     {
         let Self {
             stamp,
+            place,
             asked,
             charge,
             left: _,
@@ -88,6 +94,7 @@ impl<K: Hash + Eq + Clone, V, F: Fit<K, V>> Waiting<K, V, F> {
             guard,
             Woken {
                 stamp,
+                place,
                 asked,
                 charge,
             },
@@ -99,6 +106,7 @@ impl<K: Hash + Eq + Clone, V, F: Fit<K, V>> Waiting<K, V, F> {
 /// still. `poll` takes it.
 pub struct Woken<K> {
     pub(super) stamp: u64,
+    pub(super) place: Place,
     pub(super) asked: Snapshot<K>,
     pub(super) charge: u64,
 }
@@ -107,6 +115,7 @@ pub struct Woken<K> {
 /// takes it.
 pub struct Unread {
     pub(super) stamp: u64,
+    pub(super) place: Place,
 }
 
 /// A debt: a pin in a ready entry, and the value. `release` takes it.
@@ -115,6 +124,7 @@ pub struct Unread {
 /// fits that key by the mark F.
 pub struct Pin<K: Hash + Eq + Clone, V, F: Fit<K, V>> {
     pub(super) stamp: u64,
+    pub(super) place: Place,
     pub(super) asked: Snapshot<K>,
     pub(super) charge: Snapshot<Option<u64>>,
     pub(super) value: Arc<V>,
@@ -134,12 +144,13 @@ impl<K: Hash + Eq + Clone, V, F: Fit<K, V>> Model for Pin<K, V, F> {
 
 impl<K: Hash + Eq + Clone, V, F: Fit<K, V>> Pin<K, V, F> {
     // A pin in the stamp's entry. A get asks no charge.
-    pub(super) fn of(stamp: u64, key: &K, charge: Option<u64>, value: Arc<V>) -> Self
+    pub(super) fn of(stamp: u64, place: Place, key: &K, charge: Option<u64>, value: Arc<V>) -> Self
         requires { F.fits key.now (arc_value value) }
         ensures { result ≡ record { stamp = stamp; key = key.now; charge = charge; value = arc_value value } }
     {
         Pin {
             stamp,
+            place,
             asked: Snapshot::of(key),
             charge: Snapshot::of(&charge),
             value,

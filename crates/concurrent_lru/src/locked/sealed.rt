@@ -38,17 +38,33 @@ impl<T> Sealed<T> {
 }
 
 /// A debt: callers may wait for what was just done. `wake` takes it.
-pub struct Waiters(());
+///
+/// Clauses see whether there may be any.
+pub struct Waiters {
+    some: bool,
+}
+
+impl Model for Waiters {
+    ghost use Rattle.std.specs.Prelude.{Bool};
+
+    ghost Value = { Bool };
+
+    ghost view = { λ w. w.some };
+}
 
 impl Waiters {
-    // Those that wait for what a call did, if any.
-    pub(super) fn new() -> Self {
-        Waiters(())
+    // Those that wait for what a call did, or nobody.
+    pub(super) fn of(some: bool) -> Self
+        ensures { result ≡ some }
+    {
+        Waiters { some }
     }
 
-    /// Wakes all that wait.
+    /// Wakes all that wait, if there may be any.
     pub fn wake(self, woken: &Condvar) {
-        let Self(()) = self;
-        woken.notify_all();
+        let Self { some } = self;
+        if some {
+            woken.notify_all();
+        }
     }
 }

@@ -1,5 +1,5 @@
 use Rattle.concurrent_lru.specs.Doors.{IsMetFor}
-use Rattle.concurrent_lru.proofs.unsharded.LruCache.start.Given as goal
+use Rattle.concurrent_lru.proofs.unsharded.LruCache.awaited.Given as goal
 
 abbrev pub invariant-loop : goal.invariant-loop
 invariant-loop g l =
