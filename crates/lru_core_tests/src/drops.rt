@@ -7,7 +7,7 @@ use std::cell::Cell;
 use std::sync::Arc;
 
 // More entries than a drop that calls itself has stack for.
-const MANY: u64 = 40_000;
+const MANY: u64 = 100_000;
 
 // A value with a place in the order of drops. It counts its drop where those before it were
 // dropped, and where they were not nothing is counted any more.

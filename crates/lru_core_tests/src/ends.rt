@@ -57,89 +57,54 @@ fn a_room_past_all_memory_is_refused(rt: HostRuntime) -> Result<(), test::Fail> 
     answers_as_told(alloc, &mut State::new(alloc, 9), &ROOMS)
 }
 
-const PINNED_MAKINGS: [(Call, &str); 4] = [
+const PINS: [(Call, &str); 12] = [
     (Begin(1, 1), "Ok((Make(0), []))"),
     (Begin(1, 1), "Ok((Wait(0), []))"),
     (Begin(1, 1), "Err(Overflow)"),
     (Get(1), "Ok(None)"),
-];
-
-#[test]
-fn pins_a_making_up_to_its_limit(rt: HostRuntime) -> Result<(), test::Fail> {
-    let alloc = rt.alloc();
-    let mut state = State::with_limits(alloc, 10, 0, 2);
-    answers_as_told(alloc, &mut state, &PINNED_MAKINGS)
-}
-
-const PINNED_VALUES: [(Call, &str); 8] = [
-    (Begin(1, 1), "Ok((Make(0), []))"),
-    (Ready(0, 1), "Ok(())"),
+    (Ready(0, 7), "Ok(())"),
     (Get(1), "Err(Overflow)"),
+    (Release(0), "Ok([])"),
+    (Get(1), "Ok(Some((0, 7)))"),
     (Begin(1, 1), "Err(Overflow)"),
     (Release(0), "Ok([])"),
-    (Get(1), "Ok(Some((0, 1)))"),
     (Release(0), "Ok([])"),
     (Release(0), "Err(Stale)"),
 ];
 
 #[test]
-fn pins_a_value_up_to_its_limit(rt: HostRuntime) -> Result<(), test::Fail> {
+fn pins_an_entry_up_to_its_limit(rt: HostRuntime) -> Result<(), test::Fail> {
     let alloc = rt.alloc();
-    let mut state = State::with_limits(alloc, 10, 0, 1);
-    answers_as_told(alloc, &mut state, &PINNED_VALUES)
+    let mut state = State::with_limits(alloc, 10, 0, 2);
+    answers_as_told(alloc, &mut state, &PINS)
 }
 
-// Key 1 is given up by its maker while another waits.
-const UNTAKEN: [(Call, &str); 3] = [
+// Key 1 is given up by its maker while another waits, and made by a third. The charge stays the
+// first maker's.
+const UNTAKEN: [(Call, &str); 19] = [
     (Begin(1, 1), "Ok((Make(0), []))"),
     (Begin(1, 1), "Ok((Wait(0), []))"),
     (Fail(0), "Ok(Left)"),
-];
-
-const NO_MAKER: [(Call, &str); 7] = [
     (Fail(0), "Err(Stale)"),
-    (Ready(0, 1), "Err(1)"),
+    (Ready(0, 7), "Err(7)"),
     (Release(0), "Err(Stale)"),
     (Get(1), "Ok(None)"),
     (AdviceEvict(1), "[]"),
     (Prune, "[]"),
     (Total, "1"),
-];
-
-#[test]
-fn refuses_what_needs_a_maker(rt: HostRuntime) -> Result<(), test::Fail> {
-    let alloc = rt.alloc();
-    let mut state = State::new(alloc, 10);
-    answers_as_told(alloc, &mut state, &UNTAKEN)?;
-    answers_as_told(alloc, &mut state, &NO_MAKER)
-}
-
-const NEXT_MAKER: [(Call, &str); 5] = [
     (Begin(1, 5), "Ok((Make(0), []))"),
     (Total, "1"),
-    (Ready(0, 1), "Ok(())"),
-    (Fail(0), "Err(Stale)"),
-    (Poll(0), "Ok(Hit(0, 1))"),
-];
-
-#[test]
-fn hands_an_untaken_making_to_the_next(rt: HostRuntime) -> Result<(), test::Fail> {
-    let alloc = rt.alloc();
-    let mut state = State::new(alloc, 10);
-    answers_as_told(alloc, &mut state, &UNTAKEN)?;
-    answers_as_told(alloc, &mut state, &NEXT_MAKER)
-}
-
-const UNPINNED: [(Call, &str); 5] = [
-    (Begin(1, 1), "Ok((Make(0), []))"),
     (Ready(0, 7), "Ok(())"),
+    (Poll(0), "Ok(Hit(0, 7))"),
+    (Fail(0), "Err(Stale)"),
+    (Release(0), "Ok([])"),
     (Release(0), "Ok([])"),
     (Poll(0), "Err(Stale)"),
     (Prune, "[Gone { stamp: 0, key: 1, charge: 1, value: 7 }]"),
 ];
 
 #[test]
-fn refuses_to_poll_what_nobody_pins(rt: HostRuntime) -> Result<(), test::Fail> {
+fn hands_an_untaken_making_to_the_next(rt: HostRuntime) -> Result<(), test::Fail> {
     let alloc = rt.alloc();
-    answers_as_told(alloc, &mut State::new(alloc, 10), &UNPINNED)
+    answers_as_told(alloc, &mut State::new(alloc, 10), &UNTAKEN)
 }

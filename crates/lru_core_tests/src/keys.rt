@@ -27,7 +27,7 @@ fn keeps_keys_of_text(rt: HostRuntime) -> Result<(), Fail> {
 }
 
 // As many entries as a map whose keys all hash alike leaves time for.
-const MANY: u64 = 200;
+const MANY: u64 = 1_000;
 
 // A key whose hash feeds nothing, so that all keys hash alike.
 #[derive(Clone, Copy, PartialEq, Eq)]

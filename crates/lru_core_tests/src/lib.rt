@@ -3,7 +3,11 @@
 #![tactic(auto)]
 
 #[cfg(test)]
+mod both;
+#[cfg(test)]
 mod capacities;
+#[cfg(test)]
+mod corners;
 #[cfg(test)]
 mod drops;
 #[cfg(test)]

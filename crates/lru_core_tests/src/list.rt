@@ -68,22 +68,25 @@ fn make_all(rt: &impl Abort, state: &mut State<u64, u64>, keys: u64, value: &Arc
     }
 }
 
-// Makes the next ten keys, and keeps each pin.
-fn hold_ten(rt: &impl Abort, state: &mut State<u64, u64>, keys: u64, value: &Arc<u64>) {
-    for key in keys..keys.saturating_add(10) {
+// Makes as many keys more, and keeps each pin.
+fn hold_all(rt: &impl Abort, state: &mut State<u64, u64>, keys: u64, value: &Arc<u64>) {
+    for key in keys..keys.saturating_mul(2) {
         let value = value.clone().expect(rt, "room for an owner");
         assert!(rt; hold(state, &key, 1, value).is_ok());
     }
 }
 
+// More nodes of each kind than a drop that calls itself has stack for.
+const MANY: u64 = 100_000;
+
 #[test]
 fn frees_idle_and_held_nodes_at_its_end(rt: HostRuntime) -> Result<(), Fail> {
     let alloc = rt.alloc();
     let value = Arc::new(alloc, 7u64)?;
-    let mut state: State<u64, u64> = State::new(alloc, 1010);
-    make_all(&rt, &mut state, 1000, &value);
-    hold_ten(&rt, &mut state, 1000, &value);
-    assert_eq!(rt; Arc::strong_count(&value), 1011);
+    let mut state: State<u64, u64> = State::new(alloc, 2 * MANY);
+    make_all(&rt, &mut state, MANY, &value);
+    hold_all(&rt, &mut state, MANY, &value);
+    assert_eq!(rt; Arc::strong_count(&value), 200_001);
     drop(state);
     assert_eq!(rt; Arc::strong_count(&value), 1);
     Ok(())

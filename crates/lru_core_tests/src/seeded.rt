@@ -1,12 +1,11 @@
 //! Long runs of calls that seeds decide, each answered as a plain cache answers it.
 
-use crate::plain::{KEYS, Plain};
-use concurrent_lru::lru_core::State;
-use lru_fixtures::tables::{Answers, Call};
+use crate::both::Both;
+use crate::plain::KEYS;
+use lru_fixtures::tables::Call;
 use rand_core::{Rng, SeedableRng};
 use rand_xoshiro::Xoshiro256PlusPlus;
 use std::alloc::Global;
-use std::process::Abort;
 
 const KINDS: u64 = 11;
 
@@ -32,41 +31,20 @@ fn draw(generator: &mut Xoshiro256PlusPlus, next: u64) -> Call {
     }
 }
 
-// The cache and the one that it is compared with, both empty at first.
-#[derive(Drop)]
-struct Both {
-    alloc: Global,
-    state: State<u64, u64>,
-    plain: Plain,
-}
-
-impl Both {
-    // At capacity 10, and with three pins an entry at most.
-    fn new(alloc: Global) -> Both {
-        Both {
-            alloc,
-            state: State::with_limits(alloc, 10, 0, 3),
-            plain: Plain::with_limits(10, 0, 3),
-        }
-    }
-
-    // Makes the call of both, which are to answer alike.
-    fn take(&mut self, rt: &impl Abort, seed: u64, number: u32, call: Call) {
-        let answer = self.state.answer(self.alloc, call).expect(rt, "memory");
-        let wanted = self.plain.answer(self.alloc, call).expect(rt, "memory");
-        assert_eq!(rt; answer, wanted, "at call {number} of seed {seed}, {call:?}");
-    }
+// Two empty caches at capacity 10, which give an entry three pins at most.
+fn both_of_ten(alloc: Global) -> Both {
+    Both::with_limits(alloc, 10, 0, 3)
 }
 
 // Few pins are ever given back here, so entries are full of pins more often than they are idle.
 #[test]
 fn answers_as_a_plain_cache_does(rt: HostRuntime) {
     for seed in 1..=20u64 {
-        let mut both = Both::new(rt.alloc());
+        let mut both = both_of_ten(rt.alloc());
         let mut generator = Xoshiro256PlusPlus::seed_from_u64(seed);
         for number in 0..2_000u32 {
             let call = draw(&mut generator, both.plain.next);
-            both.take(&rt, seed, number, call);
+            both.take(&rt, &("seed", seed, "call", number), call);
         }
     }
 }
@@ -75,19 +53,23 @@ fn answers_as_a_plain_cache_does(rt: HostRuntime) {
 #[test]
 fn answers_alike_where_pins_are_given_back(rt: HostRuntime) {
     for seed in 1..=20u64 {
-        let mut both = Both::new(rt.alloc());
+        let mut both = both_of_ten(rt.alloc());
         let mut generator = Xoshiro256PlusPlus::seed_from_u64(seed);
         let mut held = [None, None];
         for number in 0..2_000u32 {
             let call = draw(&mut generator, both.plain.next);
-            both.take(&rt, seed, number, call);
+            both.take(&rt, &("seed", seed, "call", number), call);
             let Some(pinned) = both.plain.pinned else {
                 continue;
             };
             if let Some(oldest) = held[0] {
-                both.take(&rt, seed, number, Call::Poll(oldest));
-                both.take(&rt, seed, number, Call::Ready(oldest, oldest));
-                both.take(&rt, seed, number, Call::Release(oldest));
+                both.take(&rt, &("seed", seed, "call", number), Call::Poll(oldest));
+                both.take(
+                    &rt,
+                    &("seed", seed, "call", number),
+                    Call::Ready(oldest, oldest),
+                );
+                both.take(&rt, &("seed", seed, "call", number), Call::Release(oldest));
             }
             held = [held[1], Some(pinned)];
         }

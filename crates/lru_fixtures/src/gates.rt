@@ -114,14 +114,29 @@ pub fn evict<H: Drop, C: Cached<Slow, Handle = H>>(
     cause: Cause,
     handle: Option<H>,
 ) {
+    let value = match cause {
+        Cause::Begin => Slow::at(gate).ok(),
+        _ => None,
+    };
+    evict_with(cache, cause, handle, value);
+}
+
+/// Evicts by this cause, which may need a handle to be let go, or a value for which room is made:
+/// its key is 5.
+pub fn evict_with<V: Drop, H: Drop, C: Cached<V, Handle = H>>(
+    cache: C,
+    cause: Cause,
+    handle: Option<H>,
+    value: Option<V>,
+) {
     let mut ran = None;
     match cause {
         Cause::Begin => {
-            if let Ok(value) = Slow::at(gate) {
-                drop(cache.made(3, 1, value, &mut ran));
+            if let Some(value) = value {
+                drop(cache.made(5, 1, value, &mut ran));
             }
         }
-        Cause::Failure => drop(cache.tried(3, 1, None, &mut ran)),
+        Cause::Failure => drop(cache.tried(5, 1, None, &mut ran)),
         Cause::Release => drop(handle),
         Cause::Advice => cache.advise(1),
         Cause::Prune => cache.clear(),

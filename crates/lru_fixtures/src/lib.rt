@@ -1,8 +1,10 @@
-//! What tests and programs of the caches share: flags, values that note their drops, hashers with
-//! known numbers, marks, tables of calls, a writer that fails, and the worked rows.
+//! What tests and programs of the caches share: flags, values that note their drops or use the cache
+//! in them, hashers with known numbers, marks, tables of calls, a writer that fails, and the worked
+//! rows.
 #![tactic(auto)]
 
 pub mod drops;
+pub mod errands;
 pub mod flags;
 pub mod gates;
 pub mod hashers;

@@ -11,6 +11,8 @@ mod example;
 #[cfg(test)]
 mod lines;
 #[cfg(test)]
+mod long;
+#[cfg(test)]
 mod owner;
 #[cfg(test)]
 mod records;

@@ -3,7 +3,11 @@
 #![tactic(auto)]
 
 #[cfg(test)]
+mod careless;
+#[cfg(test)]
 mod crossings;
+#[cfg(test)]
+mod errands;
 #[cfg(test)]
 mod example;
 #[cfg(test)]
@@ -14,6 +18,8 @@ mod gates;
 mod keyed;
 #[cfg(test)]
 mod makings;
+#[cfg(test)]
+mod nested;
 #[cfg(test)]
 mod pure;
 #[cfg(test)]

@@ -9,6 +9,8 @@ mod changes;
 #[cfg(test)]
 mod crossings;
 #[cfg(test)]
+mod errands;
+#[cfg(test)]
 mod evictions;
 #[cfg(test)]
 mod gates;
@@ -18,6 +20,8 @@ mod handles;
 mod makings;
 #[cfg(test)]
 mod marks;
+#[cfg(test)]
+mod nested;
 #[cfg(test)]
 mod play;
 #[cfg(test)]

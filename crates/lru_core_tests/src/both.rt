@@ -1,0 +1,44 @@
+//! The cache beside the plain one: each call is made of both, which are to answer alike.
+ghost use Rattle.std.specs.Prelude.{◌<◌};
+
+use crate::plain::Plain;
+use concurrent_lru::lru_core::State;
+use lru_fixtures::tables::{Answers, Call};
+use std::alloc::Global;
+use std::fmt::Debug;
+use std::process::Abort;
+
+/// The cache and the one that it is compared with.
+#[derive(Drop)]
+pub(crate) struct Both {
+    alloc: Global,
+    state: State<u64, u64>,
+    /// The plain one, which tells its next stamp and its last pin.
+    pub(crate) plain: Plain,
+}
+
+impl Both {
+    /// Two empty caches, made with the same limits.
+    pub(crate) fn with_limits(
+        alloc: Global,
+        capacity: u64,
+        first_stamp: u64,
+        most_pins: u32,
+    ) -> Both
+        requires { 0 < most_pins }
+    {
+        Both {
+            alloc,
+            state: State::with_limits(alloc, capacity, first_stamp, most_pins),
+            plain: Plain::with_limits(capacity, first_stamp, most_pins),
+        }
+    }
+
+    /// Makes the call of both. Where they answer differently, the test ends with what they
+    /// answered, the call, and the place where it stands.
+    pub(crate) fn take(&mut self, rt: &impl Abort, place: &impl Debug, call: Call) {
+        let answer = self.state.answer(self.alloc, call).expect(rt, "memory");
+        let wanted = self.plain.answer(self.alloc, call).expect(rt, "memory");
+        assert_eq!(rt; answer, wanted, "at {place:?}, {call:?}");
+    }
+}

@@ -1,0 +1,209 @@
+//! Values that use the cache when they are dropped. A value can't name the cache that it is in, so
+//! it asks another thread, which does it while the drop waits: the drop has an errand.
+ghost use Rattle.std.specs.Prelude.{◌<◌};
+
+use crate::flags::{is_raised, meets, raise};
+use crate::gates::{Cause, evict_with};
+use crate::threaded::Cached;
+use std::alloc::AllocError;
+use std::fmt;
+use std::sync::Arc;
+use std::sync::atomic::{AtomicU64, Ordering};
+
+/// How many values have errands. Their numbers, which are their keys too, go from 1.
+pub const VALUES: usize = 5;
+
+// One value's errand.
+#[derive(Drop)]
+struct Errand {
+    asked: AtomicU64,
+    done: AtomicU64,
+    // The place of the value's drop among all, from 1; a sum where it was dropped more than once.
+    places: AtomicU64,
+}
+
+impl Errand {
+    fn new() -> Errand {
+        Errand {
+            asked: AtomicU64::new(0),
+            done: AtomicU64::new(0),
+            places: AtomicU64::new(0),
+        }
+    }
+}
+
+/// The errands of all values, and what came of them.
+#[derive(Drop)]
+pub struct Errands {
+    all: [Errand; VALUES],
+    drops: AtomicU64,
+    found: AtomicU64,
+    missed: AtomicU64,
+    closed: AtomicU64,
+}
+
+impl Errands {
+    /// None is asked yet.
+    pub fn new() -> Errands {
+        Errands {
+            all: [
+                Errand::new(),
+                Errand::new(),
+                Errand::new(),
+                Errand::new(),
+                Errand::new(),
+            ],
+            drops: AtomicU64::new(0),
+            found: AtomicU64::new(0),
+            missed: AtomicU64::new(0),
+            closed: AtomicU64::new(0),
+        }
+    }
+
+    fn of(&self, number: u64) -> &Errand {
+        &self.all[(number.saturating_sub(1) % VALUES as u64) as usize]
+    }
+
+    // A drop: waits until the errand is done. Once one was missed no drop waits any more, so that
+    // the test ends.
+    fn drop_value(&self, number: u64) {
+        let errand = self.of(number);
+        raise(&errand.asked);
+        if is_raised(&self.missed) || !meets(&errand.done) {
+            raise(&self.missed);
+        }
+        let before = self.drops.fetch_add(1, Ordering::SeqCst);
+        errand
+            .places
+            .fetch_add(before.wrapping_add(1), Ordering::SeqCst);
+    }
+
+    /// What came of a cause, with the totals that `evicts` answered; none where an errand was not
+    /// done, as where a value is dropped under the lock.
+    pub fn outcome(&self, totals: (u128, u128)) -> Option<Outcome> {
+        if is_raised(&self.missed) {
+            return None;
+        }
+        let mut places = [0; VALUES];
+        for (place, errand) in places.iter_mut().zip(&self.all) {
+            *place = errand.places.load(Ordering::SeqCst);
+        }
+        Some(Outcome {
+            totals,
+            places,
+            found: self.found.load(Ordering::SeqCst),
+        })
+    }
+
+    // Lets those go that wait for errands, of which there will be no more.
+    fn close(&self) {
+        raise(&self.closed);
+        for errand in &self.all {
+            raise(&errand.asked);
+        }
+    }
+}
+
+/// A value with an errand.
+pub struct Sent {
+    number: u64,
+    errands: Arc<Errands>,
+}
+
+impl Sent {
+    fn new(number: u64, errands: &Arc<Errands>) -> Result<Sent, AllocError> {
+        Ok(Sent {
+            number,
+            errands: Arc::try_clone(errands)?,
+        })
+    }
+}
+
+// As its number.
+impl fmt::Debug for Sent {
+    fn fmt<W: fmt::Write>(&self, f: &mut fmt::Formatter<W>) -> fmt::Result {
+        self.number.fmt(f)
+    }
+}
+
+impl Drop for Sent {
+    fn drop(self) {
+        let Self { number, errands } = self;
+        errands.drop_value(number);
+    }
+}
+
+/// Waits for the errand of a value, and does it: gets the next value, evicts it by advice, and
+/// prunes.
+pub fn serve<C: Cached<Sent>>(cache: C, errands: &Errands, number: u64) {
+    let errand = errands.of(number);
+    if !meets(&errand.asked) || is_raised(&errands.closed) {
+        return;
+    }
+    let next = number.saturating_add(1);
+    if let Ok(Some(handle)) = cache.found(next) {
+        errands.found.fetch_add(1, Ordering::SeqCst);
+        drop(handle);
+    }
+    cache.advise(next);
+    cache.clear();
+    raise(&errand.done);
+}
+
+// Makes a value, and answers its handle.
+fn makes<H: Drop, C: Cached<Sent, Handle = H>>(
+    cache: C,
+    errands: &Arc<Errands>,
+    number: u64,
+) -> Option<H> {
+    let value = Sent::new(number, errands).ok()?;
+    cache.made(number, 1, value, &mut None).ok()
+}
+
+// Makes the values 1 to 4, and keeps the first handle where its drop is to evict.
+fn makes_four<H: Drop, C: Cached<Sent, Handle = H>>(
+    cache: C,
+    errands: &Arc<Errands>,
+    cause: Cause,
+) -> Option<H> {
+    let mut kept = None;
+    for number in 1..VALUES as u64 {
+        let made = makes(cache, errands, number);
+        if number == 1 && matches!(cause, Cause::Release) {
+            kept = made;
+        }
+    }
+    kept
+}
+
+/// Makes the values 1 to 4 in an empty cache, evicts by this cause and then by a prune. Answers the
+/// totals after both. Each value needs a thread that serves its errand.
+pub fn evicts<H: Drop, C: Cached<Sent, Handle = H>>(
+    cache: C,
+    errands: &Arc<Errands>,
+    cause: Cause,
+) -> (u128, u128) {
+    let kept = makes_four(cache, errands, cause);
+    let last = match cause {
+        Cause::Begin => Sent::new(VALUES as u64, errands).ok(),
+        _ => None,
+    };
+    evict_with(cache, cause, kept, last);
+    let before = cache.total();
+    cache.clear();
+    let after = cache.total();
+    errands.close();
+    (before, after)
+}
+
+/// What came of a cause.
+#[derive(Clone, Copy, Debug, PartialEq, Eq)]
+pub struct Outcome {
+    /// The total after it, and once the cache is pruned.
+    pub totals: (u128, u128),
+    /// For each value the place of its drop among all, from 1; 0 where it was not dropped, and a
+    /// sum where it was dropped more than once.
+    pub places: [u64; VALUES],
+    /// How many errands found the next value in the cache.
+    pub found: u64,
+}

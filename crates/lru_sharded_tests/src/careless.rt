@@ -1,0 +1,56 @@
+//! A hasher that has one number for every key: all entries are in one shard, and the others stay
+//! empty. Handles that are forgotten keep their pins there.
+
+use concurrent_lru::sharded::LruCache;
+use lru_fixtures::drops::{DropLog, Logged};
+use lru_fixtures::hashers::ByThree;
+use lru_fixtures::tables::answers_as_told;
+use lru_fixtures::threaded::Call::{AdviceEvict, Get, Init, Prune, SetCapacity, Show, Total};
+use lru_fixtures::threaded::Then::{AtOnce, Forget};
+use lru_fixtures::threaded::{Call, Player};
+use std::alloc::Global;
+use std::sync::Wait;
+use std::test::Fail;
+
+// Makes the calls of a table of an empty cache of four shards, which share the capacity 8.
+fn plays<R: Wait + Clone + Drop>(
+    rt: &R,
+    alloc: Global,
+    table: &[(Call, &str)],
+) -> Result<(), Fail> {
+    let log = DropLog::new(alloc, rt)?;
+    let cache: LruCache<u64, Logged<R>, R, ByThree> = LruCache::with_shards_hasher(
+        alloc,
+        rt.clone()?,
+        8,
+        4,
+        ByThree,
+    )?;
+    let mut player = Player::new(alloc, &cache, &log)?;
+    answers_as_told(alloc, &mut player, table)
+}
+
+const ONE_SHARD: [(Call, &str); 17] = [
+    (Init(1, 1, 1, AtOnce), "Made(1, 1)"),
+    (Show, "[{}, {}, {}, {1: 1}]"),
+    (Init(2, 1, 2, AtOnce), "Made(2, 2)"),
+    (Init(3, 1, 3, AtOnce), "Made(3, 3), drops [1]"),
+    (Total, "Number(2)"),
+    (Get(1, AtOnce), "Absent"),
+    (Get(2, AtOnce), "Found(2)"),
+    (AdviceEvict(3), "Done, drops [3]"),
+    (Init(4, 1, 4, Forget), "Made(4, 4)"),
+    (Init(5, 1, 5, AtOnce), "Made(5, 5), drops [2]"),
+    (Prune, "Done, drops [5]"),
+    (Get(4, AtOnce), "Found(4)"),
+    (SetCapacity(0), "Done"),
+    (Init(6, 1, 6, AtOnce), "Made(6, 6), drops [6]"),
+    (Prune, "Done"),
+    (Show, "[{}, {}, {}, {4: 4}]"),
+    (Total, "Number(1)"),
+];
+
+#[test]
+fn one_shard_has_all_keys(rt: HostRuntime) -> Result<(), Fail> {
+    plays(&rt, rt.alloc(), &ONE_SHARD)
+}
