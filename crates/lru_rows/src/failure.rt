@@ -2,6 +2,7 @@
 //! Each failure has its line on standard error, if any, and its status.
 
 use concurrent_lru::lru_core::Refusal;
+use lru_stress::outcome::Trouble;
 use std::alloc::{AllocError, AllocFailed};
 use std::io;
 use std::io::{ErrorKind, Write};
@@ -13,6 +14,8 @@ pub enum Failure {
     Usage,
     /// A call was refused where no row asks for it; memory of the program's own counts too.
     Refused(Refusal),
+    /// A check of the stress workload failed.
+    Stress,
     /// A write failed.
     Write,
 }
@@ -33,6 +36,7 @@ impl Failure {
         let told = match self {
             Failure::Usage => writeln!(err, "usage: rows | stress SEED"),
             Failure::Refused(refusal) => writeln!(err, "refused {}", refusal.code()),
+            Failure::Stress => writeln!(err, "stress failed"),
             Failure::Write => Ok(()),
         };
         match (self, told) {
@@ -54,6 +58,15 @@ impl From<AllocError> for Failure {
     }
 }
 
+impl From<Trouble> for Failure {
+    fn from(trouble: Trouble) -> Failure {
+        match trouble {
+            Trouble::Refused => Failure::Refused(Refusal::Memory),
+            Trouble::Failed(_) => Failure::Stress,
+        }
+    }
+}
+
 impl From<io::Error> for Failure {
     fn from(_: io::Error) -> Failure {
         Failure::Write
@@ -63,6 +76,7 @@ impl From<io::Error> for Failure {
 #[cfg(test)]
 mod tests {
     use super::*;
+    use lru_stress::outcome::Check;
     use std::test::Fail;
 
     #[test]
@@ -78,6 +92,12 @@ mod tests {
             (Failure::from(Refusal::Memory), "refused 1\n", 1),
             (Failure::from(Refusal::Overflow), "refused 2\n", 1),
             (Failure::from(Refusal::Stale), "refused 3\n", 1),
+            (Failure::from(Trouble::Refused), "refused 1\n", 1),
+            (
+                Failure::from(Trouble::Failed(Check::Answers)),
+                "stress failed\n",
+                1,
+            ),
             (Failure::from(io::Error::from(ErrorKind::BrokenPipe)), "", 1),
         ];
         for (failure, line, status) in cases {

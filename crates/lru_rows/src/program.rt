@@ -3,6 +3,8 @@
 
 use crate::failure::Failure;
 use lru_fixtures::rows::{ROWS, Row};
+use lru_stress::plan::Plan;
+use lru_stress::{run as stress, seed};
 use std::alloc::Global;
 use std::io::Write;
 use std::sync::Wait;
@@ -10,10 +12,13 @@ use std::thread::Threads;
 
 /// Runs the program on the words after its name and answers the status to end with.
 ///
-/// `rows` writes the worked rows to `out`: status 0. Any other words write the usage line to
-/// `err`: status 2. Where a call is refused that no row asks to be, `refused` and the refusal's
+/// `rows` writes the worked rows to `out`: status 0. `stress SEED`, where SEED is digits from 0
+/// to 9 alone and no number past `u64::MAX`, runs the stress workload from this seed, and writes
+/// `stress ok` to `out`: status 0. Where a check of it fails, `stress failed` goes to `err`, and
+/// the status is 1. Any other words write the usage line to `err`: status 2. Where a call is
+/// refused that no row asks to be, or a thread can't be started, `refused` and the refusal's
 /// number go to `err`, and the status is 1. A failed write ends with status 1.
-pub fn program<R: Threads + Wait + Sync, O: Write, E: Write>(
+pub fn program<R: Threads + Wait + Clone + Drop + Send + Sync, O: Write, E: Write>(
     rt: &R,
     alloc: Global,
     words: &[String],
@@ -26,7 +31,7 @@ pub fn program<R: Threads + Wait + Sync, O: Write, E: Write>(
     }
 }
 
-fn run<R: Threads + Wait + Sync, O: Write>(
+fn run<R: Threads + Wait + Clone + Drop + Send + Sync, O: Write>(
     rt: &R,
     alloc: Global,
     words: &[String],
@@ -34,8 +39,24 @@ fn run<R: Threads + Wait + Sync, O: Write>(
 ) -> Result<(), Failure> {
     match words {
         [word] if word.as_str() == "rows" => write_rows(rt, alloc, out),
+        [word, seed] if word.as_str() == "stress" => write_stress(rt, alloc, seed.as_str(), out),
         _ => Err(Failure::Usage),
     }
+}
+
+// Runs the stress workload, and says that it was ok.
+fn write_stress<R: Threads + Wait + Clone + Drop + Send + Sync, O: Write>(
+    rt: &R,
+    alloc: Global,
+    word: &str,
+    out: &mut O,
+) -> Result<(), Failure> {
+    let Some(seed) = seed::number(word) else {
+        return Err(Failure::Usage);
+    };
+    stress::run(rt, alloc, &Plan::new(seed))?;
+    writeln!(out, "stress ok")?;
+    Ok(())
 }
 
 // Writes every row, with its number. What was written before a failure stays written.

@@ -19,6 +19,8 @@ mod keyed;
 #[cfg(test)]
 mod makings;
 #[cfg(test)]
+mod meetings;
+#[cfg(test)]
 mod nested;
 #[cfg(test)]
 mod pure;

@@ -70,7 +70,7 @@ impl<'a> Env for Arguments<'a> {
 
 // Runs the program with room for so many bytes on each of its writers. Each word stands after a
 // slash.
-fn run<R: Threads + Wait + Sync>(
+fn run<R: Threads + Wait + Clone + Drop + Send + Sync>(
     rt: &R,
     alloc: Global,
     asked: &str,
@@ -87,13 +87,23 @@ fn run<R: Threads + Wait + Sync>(
 }
 
 // The words, how many bytes the two writers take, the status, and what was written.
-const ENDS: [(&str, (usize, usize), u8, &str, &str); 8] = [
+const ENDS: [(&str, (usize, usize), u8, &str, &str); 18] = [
     ("/rows", (9_999, 9_999), 0, ROWS, ""),
     ("", (9_999, 9_999), 2, "", USAGE),
     ("/", (9_999, 9_999), 2, "", USAGE),
     ("/row", (9_999, 9_999), 2, "", USAGE),
     ("/Rows", (9_999, 9_999), 2, "", USAGE),
     ("/rows/rows", (9_999, 9_999), 2, "", USAGE),
+    ("/stress", (9_999, 9_999), 2, "", USAGE),
+    ("/stress/", (9_999, 9_999), 2, "", USAGE),
+    ("/stress/x", (9_999, 9_999), 2, "", USAGE),
+    ("/stress/+1", (9_999, 9_999), 2, "", USAGE),
+    ("/stress/-1", (9_999, 9_999), 2, "", USAGE),
+    ("/stress/ 1", (9_999, 9_999), 2, "", USAGE),
+    ("/stress/1_0", (9_999, 9_999), 2, "", USAGE),
+    ("/stress/18446744073709551616", (9_999, 9_999), 2, "", USAGE),
+    ("/stress/1/2", (9_999, 9_999), 2, "", USAGE),
+    ("/Stress/1", (9_999, 9_999), 2, "", USAGE),
     ("", (9_999, 0), 1, "", ""),
     ("/rows", (0, 9_999), 1, "", ""),
 ];
@@ -106,6 +116,35 @@ fn ends_with_a_status(rt: HostRuntime) -> Result<(), Fail> {
         assert_eq!(rt; str::from_utf8(out.bytes())?, told, "at {asked:?}");
         assert_eq!(rt; str::from_utf8(err.bytes())?, said, "at {asked:?}");
     }
+    Ok(())
+}
+
+// Whether the stress workload of a seed ends well, and says so. A seed has a test of its own, since
+// a test has a limit of time.
+fn is_ok_from<R: Threads + Wait + Clone + Drop + Send + Sync>(
+    rt: &R,
+    alloc: Global,
+    asked: &str,
+) -> Result<bool, Fail> {
+    let (status, out, err) = run(rt, alloc, asked, (9_999, 9_999))?;
+    Ok(status == 0 && out.bytes() == b"stress ok\n".as_slice() && err.bytes().is_empty())
+}
+
+#[test]
+fn the_stress_of_1_is_ok(rt: HostRuntime) -> Result<(), Fail> {
+    assert!(rt; is_ok_from(&rt, rt.alloc(), "/stress/1")?);
+    Ok(())
+}
+
+#[test]
+fn the_stress_of_2_is_ok(rt: HostRuntime) -> Result<(), Fail> {
+    assert!(rt; is_ok_from(&rt, rt.alloc(), "/stress/2")?);
+    Ok(())
+}
+
+#[test]
+fn the_stress_of_the_greatest_seed_is_ok(rt: HostRuntime) -> Result<(), Fail> {
+    assert!(rt; is_ok_from(&rt, rt.alloc(), "/stress/18446744073709551615")?);
     Ok(())
 }
 

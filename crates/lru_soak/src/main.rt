@@ -1,0 +1,20 @@
+//! A soak: the stress workload from one seed after another, until the time is over. All but the
+//! words and the two streams of the system stands in `program`.
+#![tactic(auto)]
+
+mod failure;
+mod program;
+mod soak;
+
+use failure::Failure;
+use lru_fixtures::words;
+use program::program;
+use std::process::ExitCode;
+
+fn main(rt: HostRuntime) -> ExitCode {
+    let status = match words::after_name(&rt) {
+        Ok(words) => program(&rt, rt.alloc(), &words, &mut rt.stdout(), &mut rt.stderr()),
+        Err(error) => Failure::of_words(&error).report(&mut rt.stderr()),
+    };
+    ExitCode::from(status)
+}

@@ -1,0 +1,64 @@
+//! Rounds of the stress workload, one seed after another.
+
+use crate::failure::Failure;
+use lru_stress::outcome::Counts;
+use lru_stress::plan::Plan;
+use lru_stress::run;
+use std::alloc::Global;
+use std::io::Write;
+use std::rt::Clock;
+use std::sync::Wait;
+use std::thread::Threads;
+use std::time::{Duration, Instant};
+
+// How often an `init` yields, so that others meet it.
+const YIELDS: u32 = 2;
+
+/// Runs rounds from this seed on until the time is over, and writes a line for each.
+pub fn soak<R: Threads + Wait + Clock + Clone + Drop + Send + Sync, O: Write>(
+    rt: &R,
+    alloc: Global,
+    first: u64,
+    time: Duration,
+    out: &mut O,
+) -> Result<(), Failure> {
+    let begin = Instant::now(rt)?;
+    let mut rounds: u64 = 0;
+    for seed in first..=u64::MAX {
+        if begin.elapsed(rt)? >= time {
+            break;
+        }
+        round(rt, alloc, seed, out)?;
+        rounds = rounds.saturating_add(1);
+    }
+    writeln!(out, "rounds {rounds}")?;
+    Ok(())
+}
+
+// The round of a seed: each `init` yields, and the total is read with each handle held.
+fn round<R: Threads + Wait + Clone + Drop + Send + Sync, O: Write>(
+    rt: &R,
+    alloc: Global,
+    seed: u64,
+    out: &mut O,
+) -> Result<(), Failure> {
+    let mut plan = Plan::new(seed);
+    plan.yields = YIELDS;
+    plan.looks = true;
+    match run::run(rt, alloc, &plan) {
+        Ok(counts) => tell(seed, &counts, out),
+        Err(trouble) => Err(Failure::of_round(seed, trouble)),
+    }
+}
+
+fn tell<O: Write>(seed: u64, counts: &Counts, out: &mut O) -> Result<(), Failure> {
+    writeln!(
+        out,
+        "seed {seed} makings {} hits {} evictions {} meetings {} greatest {}",
+        counts.makings, counts.hits, counts.evictions, counts.meetings, counts.greatest
+    )?;
+    Ok(())
+}
+
+#[cfg(test)]
+mod tests;

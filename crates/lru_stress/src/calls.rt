@@ -1,0 +1,53 @@
+//! The calls that a worker makes, drawn from a generator that no other worker's meets.
+ghost use Rattle.std.specs.Prelude.{◌<◌};
+
+use crate::plan::Plan;
+use rand_core::{Rng, SeedableRng};
+use rand_xoshiro::Xoshiro256PlusPlus;
+
+/// A call for a key's value.
+#[derive(Clone, Copy)]
+pub struct Call {
+    /// The key.
+    pub key: u64,
+    /// What a new entry is charged.
+    pub charge: u64,
+    /// Whether the making fails, where one is needed.
+    pub fails: bool,
+    ghost charged: { 0 < charge },
+}
+
+/// Draws calls.
+#[derive(Drop)]
+pub struct Calls {
+    generator: Xoshiro256PlusPlus,
+    keys: u64,
+    ghost some: { 0 < keys },
+}
+
+impl Calls {
+    /// The calls of the worker with this number.
+    pub fn of_worker(plan: &Plan, worker: usize) -> Calls {
+        let mut generator = Xoshiro256PlusPlus::seed_from_u64(plan.seed);
+        for _ in 0..worker {
+            generator.jump();
+        }
+        Calls {
+            generator,
+            keys: plan.keys,
+        }
+    }
+
+    /// The next call: a key below the plan's number of keys, a charge from 1 to 4, and two
+    /// makings in ten fail.
+    pub fn draw(&mut self) -> Call {
+        let a = self.generator.next_u64();
+        let b = self.generator.next_u64();
+        let c = self.generator.next_u64();
+        Call {
+            key: a % self.keys,
+            charge: 1 + b % 4,
+            fails: c % 10 >= 8,
+        }
+    }
+}

@@ -1,0 +1,108 @@
+//! Values that count themselves, and know when they were made.
+
+use crate::calls::Call;
+use concurrent_lru::lru_core::Refusal;
+use std::sync::Arc;
+use std::sync::atomic::{AtomicU64, Ordering};
+use std::thread;
+
+/// What the values of a cache and their makers count together.
+#[derive(Drop)]
+pub struct Book {
+    // One number after another, so that of two moments it is known which was first.
+    clock: AtomicU64,
+    inits: AtomicU64,
+    made: AtomicU64,
+    dropped: AtomicU64,
+}
+
+impl Book {
+    /// Nothing was counted yet.
+    pub fn new() -> Book {
+        Book {
+            clock: AtomicU64::new(0),
+            inits: AtomicU64::new(0),
+            made: AtomicU64::new(0),
+            dropped: AtomicU64::new(0),
+        }
+    }
+
+    /// A moment that is after all that were told before it.
+    pub fn now(&self) -> u64 {
+        self.clock.fetch_add(1, Ordering::SeqCst)
+    }
+
+    /// How often an `init` ran.
+    pub fn inits(&self) -> u64 {
+        self.inits.load(Ordering::SeqCst)
+    }
+
+    /// How many values were made.
+    pub fn made(&self) -> u64 {
+        self.made.load(Ordering::SeqCst)
+    }
+
+    /// How many values were dropped.
+    pub fn dropped(&self) -> u64 {
+        self.dropped.load(Ordering::SeqCst)
+    }
+}
+
+/// Why no value was made.
+#[derive(Clone, Copy)]
+pub enum Unmade {
+    /// The making was to fail.
+    Failed,
+    /// The cache refused the call, or memory for the value.
+    Refused(Refusal),
+}
+
+/// A value that counts itself as made and as dropped.
+pub struct Counted {
+    book: Arc<Book>,
+    key: u64,
+    moment: u64,
+}
+
+impl Counted {
+    /// What `init` does for a call: it yields so many times, and then fails or makes the value.
+    pub fn make(book: &Arc<Book>, call: &Call, yields: u32) -> Result<Counted, Unmade> {
+        book.inits.fetch_add(1, Ordering::SeqCst);
+        for _ in 0..yields {
+            thread::yield_now();
+        }
+        if call.fails {
+            return Err(Unmade::Failed);
+        }
+        let Ok(own) = Arc::try_clone(book) else {
+            return Err(Unmade::Refused(Refusal::Memory));
+        };
+        book.made.fetch_add(1, Ordering::SeqCst);
+        Ok(Counted {
+            book: own,
+            key: call.key,
+            moment: book.now(),
+        })
+    }
+
+    /// The key that it was made for.
+    pub fn key(&self) -> u64 {
+        self.key
+    }
+
+    /// Whether it was made after this moment.
+    pub fn is_made_after(&self, moment: u64) -> bool {
+        moment < self.moment
+    }
+}
+
+impl Drop for Counted {
+    fn drop(self) {
+        let Self {
+            book,
+            key: _,
+            moment: _,
+        } = self;
+        book.dropped.fetch_add(1, Ordering::SeqCst);
+    }
+}

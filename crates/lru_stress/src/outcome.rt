@@ -1,0 +1,120 @@
+//! What a stress run tells: what it counted, or why it is not ok.
+
+use concurrent_lru::lru_core::Refusal;
+use std::alloc::{AllocError, AllocFailed};
+use std::fmt;
+
+/// What the three parts of a run counted together.
+#[derive(Clone, Copy)]
+pub struct Counts {
+    /// How often a value was to be made: an `init` ran, or the twin told a caller to make one.
+    pub makings: u64,
+    /// How many calls were answered with a value that another call made.
+    pub hits: u64,
+    /// How many values were evicted before the end of their part. Those of the twin are not seen.
+    pub evictions: u64,
+    /// How many of the hits are of a value that was made while the call was under way. Such a
+    /// caller waits for it, unless it is kept from the lock until the making is over. The twin
+    /// has none.
+    pub meetings: u64,
+    /// The greatest total that was read with a handle held; 0 where none was read.
+    pub greatest: u128,
+}
+
+impl Counts {
+    /// Nothing was counted.
+    pub fn none() -> Counts {
+        Counts {
+            makings: 0,
+            hits: 0,
+            evictions: 0,
+            meetings: 0,
+            greatest: 0,
+        }
+    }
+
+    /// What both counted.
+    pub fn and(self, other: Counts) -> Counts {
+        Counts {
+            makings: self.makings.saturating_add(other.makings),
+            hits: self.hits.saturating_add(other.hits),
+            evictions: self.evictions.saturating_add(other.evictions),
+            meetings: self.meetings.saturating_add(other.meetings),
+            greatest: self.greatest.max(other.greatest),
+        }
+    }
+}
+
+/// What is checked. The first four are of a cache, on one lock and in shards.
+#[derive(Clone, Copy, Debug, PartialEq, Eq)]
+pub enum Check {
+    /// A call whose making would not fail is answered with a value of its key.
+    Answers,
+    /// After all workers have ended, the total is no greater than the capacity.
+    Total,
+    /// After a prune the total is 0.
+    Prune,
+    /// After that prune as many values were dropped as were made.
+    Drops,
+    /// No call of the twin is told to wait, and none is refused.
+    TwinAnswers,
+    /// The twin's journal has as many records as calls were accepted.
+    TwinRecords,
+    /// The journal's total is no greater than the capacity, and 0 after a prune.
+    TwinTotal,
+}
+
+impl fmt::Display for Check {
+    fn fmt<W: fmt::Write>(&self, f: &mut fmt::Formatter<W>) -> fmt::Result {
+        let name = match self {
+            Check::Answers => "answers",
+            Check::Total => "total",
+            Check::Prune => "prune",
+            Check::Drops => "drops",
+            Check::TwinAnswers => "answers of the twin",
+            Check::TwinRecords => "records of the twin",
+            Check::TwinTotal => "total of the twin",
+        };
+        f.write_str(name)
+    }
+}
+
+/// Why a run is not ok.
+#[derive(Clone, Copy, Debug, PartialEq, Eq)]
+pub enum Trouble {
+    /// Memory was refused, or a thread could not be started.
+    Refused,
+    /// This check failed.
+    Failed(Check),
+}
+
+impl Trouble {
+    /// The one to tell of two: a refusal before a failed check, and else the first.
+    pub fn worse(one: Option<Trouble>, other: Option<Trouble>) -> Option<Trouble> {
+        match (one, other) {
+            (Some(Trouble::Failed(_)), Some(Trouble::Refused)) | (None, _) => other,
+            _ => one,
+        }
+    }
+}
+
+impl From<Refusal> for Trouble {
+    fn from(refusal: Refusal) -> Trouble {
+        match refusal {
+            Refusal::Memory => Trouble::Refused,
+            Refusal::Overflow | Refusal::Stale => Trouble::Failed(Check::TwinAnswers),
+        }
+    }
+}
+
+impl From<AllocError> for Trouble {
+    fn from(_: AllocError) -> Trouble {
+        Trouble::Refused
+    }
+}
+
+impl<T: Drop> From<AllocFailed<T>> for Trouble {
+    fn from(_: AllocFailed<T>) -> Trouble {
+        Trouble::Refused
+    }
+}

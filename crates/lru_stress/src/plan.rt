@@ -1,0 +1,47 @@
+//! The numbers of a stress run.
+//! A run of these numbers has the same calls each time, in an order that the schedule chooses.
+ghost use Rattle.std.specs.Prelude.{◌<◌};
+
+/// How much a stress run does, and on which caches.
+#[derive(Clone, Copy)]
+pub struct Plan {
+    /// From which all calls are drawn.
+    pub seed: u64,
+    /// How many threads share a cache.
+    pub workers: u16,
+    /// How many calls a worker makes.
+    pub calls: u32,
+    /// How many keys the workers of a cache share, and how many each worker of the twin has of
+    /// its own.
+    pub keys: u64,
+    /// The capacity of the cache of one lock and of the twin, in the units of charges.
+    pub lock_capacity: u64,
+    /// The capacity of the sharded cache.
+    pub shards_capacity: u64,
+    /// The number of its shards.
+    pub shards: usize,
+    /// How often an `init` yields, so that others ask for what it makes.
+    pub yields: u32,
+    /// Whether the total is read with each handle held.
+    pub looks: bool,
+    ghost keyed: { 0 < keys },
+    ghost sharded: { 0 < shards },
+}
+
+impl Plan {
+    /// 8 workers with 10,000 calls each, for 100 keys, at the capacity 100 on one lock and 128 in
+    /// 16 shards. No `init` yields, and no total is read.
+    pub fn new(seed: u64) -> Plan {
+        Plan {
+            seed,
+            workers: 8,
+            calls: 10_000,
+            keys: 100,
+            lock_capacity: 100,
+            shards_capacity: 128,
+            shards: 16,
+            yields: 0,
+            looks: false,
+        }
+    }
+}

@@ -1,0 +1,111 @@
+//! The three parts of a stress run: a cache of one lock, a cache in shards, and a twin.
+
+use crate::counted::Book;
+use crate::outcome::{Counts, Trouble};
+use crate::plan::Plan;
+use crate::shared::{Cache, Shards};
+use crate::{twin, workers};
+use concurrent_lru::sharded::capacity_per_shard;
+use lru_journal::journal::Opening;
+use std::alloc::Global;
+use std::hash::BuildHasherDefault;
+use std::marker::Brand;
+use std::sync::{Arc, Wait};
+use std::thread::Threads;
+
+// A part of a run.
+#[derive(Clone, Copy)]
+enum Part {
+    OneLock,
+    Shards,
+    Twin,
+}
+
+impl Part {
+    fn run<R: Threads + Wait + Clone + Drop + Send + Sync>(
+        self,
+        rt: &R,
+        alloc: Global,
+        plan: &Plan,
+    ) -> Result<Counts, Trouble> {
+        match self {
+            Part::OneLock => on_one_lock(rt, alloc, plan),
+            Part::Shards => in_shards(rt, alloc, plan),
+            Part::Twin => on_a_twin(rt, alloc, plan),
+        }
+    }
+}
+
+/// Runs the three parts, each with fresh workers that share it, and answers what they counted
+/// together.
+///
+/// `Refused` where memory or a thread was refused in any part, whatever was checked; else the
+/// first check that failed.
+pub fn run<R: Threads + Wait + Clone + Drop + Send + Sync>(
+    rt: &R,
+    alloc: Global,
+    plan: &Plan,
+) -> Result<Counts, Trouble> {
+    let mut counts = Counts::none();
+    let mut trouble = None;
+    for part in [Part::OneLock, Part::Shards, Part::Twin] {
+        match part.run(rt, alloc, plan) {
+            Ok(counted) => counts = counts.and(counted),
+            Err(Trouble::Refused) => return Err(Trouble::Refused),
+            Err(failed) => trouble = Trouble::worse(trouble, Some(failed)),
+        }
+    }
+    match trouble {
+        Some(trouble) => Err(trouble),
+        None => Ok(counts),
+    }
+}
+
+fn on_one_lock<R: Threads + Wait + Clone + Drop + Send + Sync>(
+    rt: &R,
+    alloc: Global,
+    plan: &Plan,
+) -> Result<Counts, Trouble> {
+    let book = Arc::new(alloc, Book::new())?;
+    let cache: Cache<R> = Cache::new(alloc, rt.clone()?, plan.lock_capacity);
+    workers::share(
+        rt,
+        alloc,
+        plan,
+        &cache,
+        &book,
+        u128::from(plan.lock_capacity),
+    )
+}
+
+fn in_shards<R: Threads + Wait + Clone + Drop + Send + Sync>(
+    rt: &R,
+    alloc: Global,
+    plan: &Plan,
+) -> Result<Counts, Trouble> {
+    let book = Arc::new(alloc, Book::new())?;
+    let made: Result<Shards<R>, _> = Shards::with_shards_hasher(
+        alloc,
+        rt.clone()?,
+        plan.shards_capacity,
+        plan.shards,
+        BuildHasherDefault::new(),
+    );
+    let cache = made?;
+    workers::share(rt, alloc, plan, &cache, &book, allowed_in_shards(plan))
+}
+
+// The sum of what the shards settle to: each share is rounded up.
+fn allowed_in_shards(plan: &Plan) -> u128 {
+    let share = capacity_per_shard(plan.shards_capacity, plan.shards);
+    u128::from(share).saturating_mul(plan.shards as u128)
+}
+
+fn on_a_twin<R: Threads + Wait + Clone + Drop + Send + Sync>(
+    rt: &R,
+    alloc: Global,
+    plan: &Plan,
+) -> Result<Counts, Trouble> {
+    let opening = Opening::<u64>::new(alloc, plan.lock_capacity)?;
+    twin::share::<Brand, R>(rt, alloc, plan, opening)
+}

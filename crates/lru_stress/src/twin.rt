@@ -1,0 +1,227 @@
+//! Workers that share a twin, each with a part of the tally and keys of its own.
+ghost use Rattle.std.specs.Prelude.{◌≡◌, ◌<◌, ◌+◌, IfOk};
+ghost use denote.Param.Send.{IsSync, IsSend};
+
+use crate::calls::{Call, Calls};
+use crate::outcome::{Check, Counts, Trouble};
+use crate::plan::Plan;
+use crate::start::Start;
+use lru_journal::journal::{Identity, Journal, LruCache, Opening, Pin, Started, Tally};
+use std::alloc::Global;
+use std::sync::{Arc, Wait};
+use std::thread;
+use std::thread::Threads;
+
+// What every worker has: its memory, the numbers of the run, and where all begin together.
+#[derive(Drop)]
+struct Shift<'a> {
+    alloc: Global,
+    plan: &'a Plan,
+    start: &'a Start,
+}
+
+// What a worker counts of its own calls.
+#[derive(Clone, Copy)]
+struct Accepted {
+    calls: u64,
+    makings: u64,
+    hits: u64,
+}
+
+impl Accepted {
+    fn none() -> Accepted {
+        Accepted {
+            calls: 0,
+            makings: 0,
+            hits: 0,
+        }
+    }
+
+    fn and(self, other: Accepted) -> Accepted {
+        Accepted {
+            calls: self.calls.wrapping_add(other.calls),
+            makings: self.makings.wrapping_add(other.makings),
+            hits: self.hits.wrapping_add(other.hits),
+        }
+    }
+}
+
+/// All workers' calls of a new twin, and what was counted. Its journal is opened once all have
+/// ended.
+///
+/// `Refused` where memory was refused to a call, or a worker had no thread of its own; else the
+/// first check that failed.
+pub fn share<I: Identity + Send + Sync, R: Threads + Wait + Clone + Drop + Send + Sync>(
+    rt: &R,
+    alloc: Global,
+    plan: &Plan,
+    opening: Opening<u64>,
+) -> Result<Counts, Trouble>
+    requires { opening ≡ I.name }
+{
+    let start = Start::of(plan.workers);
+    let shift = Shift {
+        alloc,
+        plan,
+        start: &start,
+    };
+    let (cache, whole) = LruCache::<u64, u64, R, I>::new(alloc, rt.clone()?, opening);
+    let (whole, accepted) = work_from(rt, &cache, &shift, whole, 0, plan.workers)?;
+    let mut journal = cache.into_journal(whole);
+    check(&mut journal, plan, accepted.calls)?;
+    Ok(Counts {
+        makings: accepted.makings,
+        hits: accepted.hits,
+        ..Counts::none()
+    })
+}
+
+// The calls of so many workers from one on. All but the last have a thread more, and one part of
+// the tally.
+fn work_from<I: Identity + Send + Sync, R: Threads + Wait + Drop + Send + Sync>(
+    rt: &R,
+    cache: &LruCache<u64, u64, R, I>,
+    shift: &Shift<'_>,
+    mut tally: Tally<u64, I>,
+    worker: usize,
+    workers: u16,
+) -> Result<(Tally<u64, I>, Accepted), Trouble>
+    requires { workers < tally.parts }
+    ensures { IfOk result (λ done. done.0.parts ≡ tally.parts) }
+{
+    if workers <= 1 {
+        return work(cache, shift, tally, worker);
+    }
+    let one = tally.split(cache);
+    let (first, others) = thread::join(
+        rt,
+        move || -> Result<(Tally<u64, I>, Accepted), Trouble>
+            ensures { IfOk result (λ done. done.0.parts ≡ one.parts) }
+        { work(cache, shift, one, worker) },
+        move || -> Result<(Tally<u64, I>, Accepted), Trouble>
+            requires { IsSync R.row × IsSend R.row × IsSync I.row × IsSend I.row × (1 < workers) × (workers < tally.parts + 1) }
+            ensures { IfOk result (λ done. done.0.parts ≡ tally.parts) }
+        { work_from(rt, cache, shift, tally, worker.wrapping_add(1), workers - 1) },
+    );
+    let (mut all, accepted) = others?;
+    let (one, more) = first?;
+    all.join(cache, one);
+    Ok((all, accepted.and(more)))
+}
+
+// A worker's calls. After each 1,000 it yields.
+fn work<I: Identity, R: Wait + Drop>(
+    cache: &LruCache<u64, u64, R, I>,
+    shift: &Shift<'_>,
+    mut tally: Tally<u64, I>,
+    worker: usize,
+) -> Result<(Tally<u64, I>, Accepted), Trouble>
+    ensures { IfOk result (λ done. done.0.parts ≡ tally.parts) }
+{
+    if !shift.start.meets_all() {
+        return Err(Trouble::Refused);
+    }
+    let mut accepted = Accepted::none();
+    let mut calls = Calls::of_worker(shift.plan, worker);
+    let first = (worker as u64).wrapping_mul(shift.plan.keys);
+    for number in 0..shift.plan.calls {
+        let mut call = calls.draw();
+        call.key = first.wrapping_add(call.key);
+        accepted = accepted.and(use_key(cache, shift.alloc, &mut tally, &call)?);
+        if number % 1_000 == 999 {
+            thread::yield_now();
+        }
+    }
+    Ok((tally, accepted))
+}
+
+// Begins, and ends what that asks for.
+fn use_key<I: Identity, R: Wait + Drop>(
+    cache: &LruCache<u64, u64, R, I>,
+    alloc: Global,
+    tally: &mut Tally<u64, I>,
+    call: &Call,
+) -> Result<Accepted, Trouble>
+    ensures { tally.new.parts ≡ tally.old.parts }
+{
+    match cache.begin(tally, &call.key, call.charge)? {
+        Started::Make(stamp) if call.fails => fail(cache, tally, stamp),
+        Started::Make(stamp) => make(cache, alloc, tally, stamp, call.key),
+        Started::Hit(pin) => hit(cache, tally, pin),
+        Started::Wait(_) => Err(Trouble::Failed(Check::TwinAnswers)),
+    }
+}
+
+// Gives a making up.
+fn fail<I: Identity, R: Wait + Drop>(
+    cache: &LruCache<u64, u64, R, I>,
+    tally: &mut Tally<u64, I>,
+    stamp: u64,
+) -> Result<Accepted, Trouble>
+    ensures { tally.new.parts ≡ tally.old.parts }
+{
+    let _failed = cache.fail(tally, stamp)?;
+    Ok(Accepted {
+        calls: 2,
+        makings: 1,
+        hits: 0,
+    })
+}
+
+// Makes the value, which is the key, and gives its pin back.
+fn make<I: Identity, R: Wait + Drop>(
+    cache: &LruCache<u64, u64, R, I>,
+    alloc: Global,
+    tally: &mut Tally<u64, I>,
+    stamp: u64,
+    key: u64,
+) -> Result<Accepted, Trouble>
+    ensures { tally.new.parts ≡ tally.old.parts }
+{
+    let value = Arc::new(alloc, key)?;
+    let own = Arc::try_clone(&value)?;
+    if let Err((refusal, _)) = cache.ready(tally, stamp, value) {
+        return Err(Trouble::from(refusal));
+    }
+    if let Err((refusal, _)) = cache.release(tally, Pin::new(stamp, own)) {
+        return Err(Trouble::from(refusal));
+    }
+    Ok(Accepted {
+        calls: 3,
+        makings: 1,
+        hits: 0,
+    })
+}
+
+// Gives the pin of a value back that was there.
+fn hit<I: Identity, R: Wait + Drop>(
+    cache: &LruCache<u64, u64, R, I>,
+    tally: &mut Tally<u64, I>,
+    pin: Pin<u64>,
+) -> Result<Accepted, Trouble>
+    ensures { tally.new.parts ≡ tally.old.parts }
+{
+    if let Err((refusal, _)) = cache.release(tally, pin) {
+        return Err(Trouble::from(refusal));
+    }
+    Ok(Accepted {
+        calls: 2,
+        makings: 0,
+        hits: 1,
+    })
+}
+
+// What is checked of the journal of all, where so many calls were accepted.
+fn check(journal: &mut Journal<u64, u64>, plan: &Plan, calls: u64) -> Result<(), Trouble> {
+    if journal.records().len() as u64 != calls {
+        return Err(Trouble::Failed(Check::TwinRecords));
+    }
+    if journal.total()? > plan.lock_capacity {
+        return Err(Trouble::Failed(Check::TwinTotal));
+    }
+    drop(journal.prune()?);
+    if journal.total()? != 0 {
+        return Err(Trouble::Failed(Check::TwinTotal));
+    }
+    Ok(())
+}
