@@ -1,0 +1,89 @@
+//! Steps of a journal, whose keys are texts, and then its records.
+ghost use Rattle.std.specs.Prelude.{◌<◌};
+
+use crate::step::{Asked, Step};
+use crate::told::Told;
+use concurrent_lru::lru_core::Refusal;
+use lru_journal::journal::Journal;
+use std::alloc::Global;
+use std::io::Write;
+use std::sync::Arc;
+
+/// Takes steps of a journal that is empty at first, and tells its records.
+pub fn play<O: Write, E: Write>(
+    alloc: Global,
+    capacity: u64,
+    steps: &[Step<&'static str>],
+    told: &mut Told<'_, O, E>,
+) -> Result<(), Refusal> {
+    told.name("Journal");
+    let mut journal = Journal::new(alloc, capacity);
+    crate::step::play(alloc, &mut journal, steps, told)?;
+    for record in journal.records() {
+        told.record(record);
+    }
+    Ok(())
+}
+
+impl Asked<Step<&'static str>> for Journal<String, u64> {
+    fn ask<O: Write, E: Write>(
+        &mut self,
+        alloc: Global,
+        step: Step<&'static str>,
+        told: &mut Told<'_, O, E>,
+    ) -> Result<bool, Refusal> {
+        match step {
+            Step::Begin(key, charge) => {
+                let key = String::from_str(alloc, key)?;
+                Ok(told.answer(&step, &self.begin(&key, charge.max(1))))
+            }
+            Step::Get(key) => {
+                let key = String::from_str(alloc, key)?;
+                Ok(told.answer(&step, &self.get(&key)))
+            }
+            Step::AdviceEvict(key) => {
+                let key = String::from_str(alloc, key)?;
+                Ok(told.answer(&step, &self.advice_evict(&key)))
+            }
+            Step::Ready(stamp, value) => {
+                let value = Arc::new(alloc, value)?;
+                store(self, step, stamp, value, told);
+                Ok(false)
+            }
+            _ => Ok(ask_plainly(self, step, told)),
+        }
+    }
+}
+
+// Stores a value; one that comes back for want of memory is handed over again.
+fn store<O: Write, E: Write>(
+    journal: &mut Journal<String, u64>,
+    step: Step<&'static str>,
+    stamp: u64,
+    value: Arc<u64>,
+    told: &mut Told<'_, O, E>,
+) {
+    match journal.ready(stamp, value) {
+        Err((Refusal::Memory, value)) => {
+            told.memory(&step);
+            told.line(&step, &journal.ready(stamp, value));
+        }
+        answer => told.line(&step, &answer),
+    }
+}
+
+// Takes a step that hands over plain numbers.
+fn ask_plainly<O: Write, E: Write>(
+    journal: &mut Journal<String, u64>,
+    step: Step<&'static str>,
+    told: &mut Told<'_, O, E>,
+) -> bool {
+    match step {
+        Step::Poll(stamp) => told.answer(&step, &journal.poll(stamp)),
+        Step::Fail(stamp) => told.answer(&step, &journal.fail(stamp)),
+        Step::Release(stamp) => told.answer(&step, &journal.release(stamp)),
+        Step::Prune => told.answer(&step, &journal.prune()),
+        Step::SetCapacity(capacity) => told.answer(&step, &journal.set_capacity(capacity)),
+        _ => told.answer(&step, &journal.total()),
+    }
+}

@@ -1,0 +1,85 @@
+//! Steps of a cache without a lock as one list, which asks for the room of its answers first.
+
+use crate::told::Told;
+use concurrent_lru::lru_core::{Answer, Refusal, State, Step};
+use std::alloc::{AllocError, Global};
+use std::io::Write;
+use std::sync::Arc;
+
+type Answers = Result<Vec<Answer<u64, u64>>, Refusal>;
+
+/// Runs a list of steps, once more where it was refused for want of room: then nothing ran. Where
+/// its first begin was refused, the other answers are those of the list without that step, or a
+/// line tells what they are; and the list is run once more too.
+pub fn play<O: Write, E: Write>(alloc: Global, told: &mut Told<'_, O, E>) -> Result<(), Refusal> {
+    told.name("State");
+    let answers = run_all(alloc)?;
+    if !is_refused(alloc, &answers, told)? {
+        told.line(&"run", &answers);
+        return Ok(());
+    }
+    drop(answers);
+    let again = run_all(alloc)?;
+    told.line(&"run", &again);
+    Ok(())
+}
+
+// Whether the room or the first begin was refused.
+fn is_refused<O: Write, E: Write>(
+    alloc: Global,
+    answers: &Answers,
+    told: &mut Told<'_, O, E>,
+) -> Result<bool, Refusal> {
+    match answers {
+        Err(Refusal::Memory) => {
+            told.memory(&"run");
+            Ok(true)
+        }
+        Ok(answers) if matches!(answers.first(), Some(Answer::Refused(Refusal::Memory))) => {
+            told.memory(&"Begin in a run");
+            let others = run_others(alloc)?;
+            if !matches!(&others, Ok(others) if answers.get(1..) == Some(others.as_slice())) {
+                told.line(&"others", answers);
+            }
+            Ok(true)
+        }
+        _ => Ok(false),
+    }
+}
+
+// The answers of a cache that is empty at first.
+fn run_all(alloc: Global) -> Result<Answers, AllocError> {
+    let (first, second) = (Arc::new(alloc, 1)?, Arc::new(alloc, 2)?);
+    let steps = vec![in alloc;
+        Step::Begin(1, 3),
+        Step::Get(1),
+        Step::Begin(1, 7),
+        Step::Fail(0),
+        Step::Poll(0),
+        Step::Ready(0, first),
+        Step::Ready(0, second),
+        Step::Total,
+        Step::Release(0),
+        Step::Release(0),
+    ]?;
+    let mut state: State<u64, u64> = State::new(alloc, 10);
+    Ok(state.run(steps))
+}
+
+// The same without the first step.
+fn run_others(alloc: Global) -> Result<Answers, AllocError> {
+    let (first, second) = (Arc::new(alloc, 1)?, Arc::new(alloc, 2)?);
+    let steps = vec![in alloc;
+        Step::Get(1),
+        Step::Begin(1, 7),
+        Step::Fail(0),
+        Step::Poll(0),
+        Step::Ready(0, first),
+        Step::Ready(0, second),
+        Step::Total,
+        Step::Release(0),
+        Step::Release(0),
+    ]?;
+    let mut state: State<u64, u64> = State::new(alloc, 10);
+    Ok(state.run(steps))
+}

@@ -1,0 +1,31 @@
+//! Runs scripts of calls, each of which is made again where it is refused for want of memory, and
+//! prints every answer: so a run in which a request was refused prints what a run of ample memory
+//! does. All but the words and the two streams of the system stands in `program`.
+#![tactic(auto)]
+
+mod failure;
+mod journal;
+mod list;
+mod meeting;
+mod program;
+mod script;
+mod scripts;
+mod shards;
+mod state;
+mod step;
+mod threaded;
+mod told;
+mod twin;
+
+use failure::Failure;
+use lru_fixtures::words;
+use program::program;
+use std::process::ExitCode;
+
+fn main(rt: HostRuntime) -> ExitCode {
+    let status = match words::after_name(&rt) {
+        Ok(words) => program(&rt, rt.alloc(), &words, &mut rt.stdout(), &mut rt.stderr()),
+        Err(error) => Failure::of_words(&error).report(&mut rt.stderr()),
+    };
+    ExitCode::from(status)
+}

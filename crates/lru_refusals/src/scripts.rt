@@ -1,0 +1,370 @@
+//! The scripts, each with its name.
+
+use crate::script::Script;
+use crate::state::Opening;
+use crate::step::Step::{
+    AdviceEvict, Begin, Fail, Get, Poll, Prune, Ready, Release, SetCapacity, Total,
+};
+use crate::threaded::Call;
+use crate::{shards, step};
+
+type Step = step::Step<&'static str>;
+
+/// All scripts.
+pub const SCRIPTS: &[(&str, Script)] = &[
+    ("state-pinned", Script::State(2, PINNED)),
+    ("state-handed-over", Script::State(10, HANDED_OVER)),
+    (
+        "state-last-stamp",
+        Script::Limited(AT_LAST_STAMP, LAST_STAMP),
+    ),
+    ("state-one-pin", Script::Limited(OF_ONE_PIN, ONE_PIN)),
+    ("state-strays", Script::State(10, STRAYS)),
+    ("state-hits", Script::State(10, HITS)),
+    ("state-capacities", Script::State(9, CAPACITIES)),
+    ("state-growths", Script::State(9, GROWTHS)),
+    ("state-room", Script::Limited(WITH_ROOM, GROWTHS)),
+    ("state-list", Script::List),
+    ("shards-one-evicts", Script::Shards(2, 2, SHARDS)),
+    ("journal-evicts", Script::Journal(1, EVICTS)),
+    ("journal-polls", Script::Journal(10, POLLS)),
+    ("journal-stores", Script::Journal(10, STORES)),
+    ("journal-fails", Script::Journal(10, FAILS)),
+    ("journal-finds-nothing", Script::Journal(10, FINDS_NOTHING)),
+    ("twin-hits", Script::Twin(10, TWIN_HITS, &[])),
+    ("twin-evicts", Script::Twin(1, EVICTS, &[])),
+    ("twin-polls", Script::Twin(10, POLLS, &[])),
+    ("twin-stores", Script::Twin(10, STORES, &[])),
+    ("twin-fails", Script::Twin(10, FAILS, &[])),
+    ("twin-finds-nothing", Script::Twin(10, FINDS_NOTHING, &[])),
+    (
+        "twin-tallies",
+        Script::Twin(10, FIRST_CALLER, SECOND_CALLER),
+    ),
+    ("unsharded-values", Script::Unsharded(10, VALUES)),
+    ("unsharded-evicts", Script::Unsharded(5, LARGE_VALUES)),
+    ("unsharded-fails", Script::Unsharded(10, FAILED)),
+    ("unsharded-room", Script::Unsharded(10, ROOM)),
+    ("unsharded-over-two", Script::OverTwo),
+    ("unsharded-two-threads", Script::Meeting),
+    ("sharded-values", Script::Sharded(10, 1, VALUES)),
+    ("sharded-evicts", Script::Sharded(5, 1, LARGE_VALUES)),
+    ("sharded-fails", Script::Sharded(10, 1, FAILED)),
+    ("sharded-room", Script::Sharded(40, 4, ROOM)),
+    ("sharded-many", Script::Sharded(160, 16, VALUES)),
+];
+
+// A pinned entry stays, whatever comes, and leaves as the newest once it is released.
+const PINNED: &[Step] = &[
+    Begin("1", 1),
+    Ready(0, 1),
+    Release(0),
+    Begin("2", 1),
+    Ready(1, 2),
+    Release(1),
+    Begin("3", 1),
+    Ready(2, 3),
+    Release(2),
+    Begin("4", 1),
+    Ready(3, 4),
+    Begin("5", 1),
+    Ready(4, 5),
+    Release(4),
+    Begin("6", 1),
+    Ready(5, 6),
+    Release(5),
+    Release(3),
+    Begin("7", 1),
+    Ready(6, 7),
+    Release(6),
+    Begin("8", 1),
+    Ready(7, 8),
+    Release(7),
+];
+
+// A maker that fails leaves the making to the next that asks.
+const HANDED_OVER: &[Step] = &[
+    Begin("1", 3),
+    Get("1"),
+    Begin("1", 7),
+    Fail(0),
+    Poll(0),
+    Ready(0, 1),
+    Ready(0, 2),
+    Total,
+    Release(0),
+    Release(0),
+];
+
+const AT_LAST_STAMP: Opening = Opening {
+    capacity: 10,
+    first_stamp: u64::MAX - 1,
+    most_pins: 5,
+    room: 0,
+};
+
+// A begin that was refused for want of memory has not used up the last stamp but one.
+const LAST_STAMP: &[Step] = &[Begin("1", 1), Begin("2", 1), Total];
+
+const OF_ONE_PIN: Opening = Opening {
+    capacity: 10,
+    first_stamp: 0,
+    most_pins: 1,
+    room: 0,
+};
+
+const ONE_PIN: &[Step] = &[Begin("1", 1), Ready(0, 1), Get("1"), Release(0), Get("1")];
+
+// Stamps that no longer fit.
+const STRAYS: &[Step] = &[
+    Begin("1", 1),
+    Begin("1", 1),
+    Fail(0),
+    Fail(0),
+    Ready(0, 1),
+    Release(0),
+    Get("1"),
+    AdviceEvict("1"),
+    Prune,
+    Total,
+    Begin("1", 5),
+    Total,
+    Ready(0, 1),
+    Poll(0),
+    Fail(0),
+    Release(0),
+    Release(0),
+    Poll(0),
+    Prune,
+];
+
+// What is there is found without a request.
+const HITS: &[Step] = &[
+    Begin("1", 1),
+    Ready(0, 1),
+    Poll(0),
+    Get("1"),
+    Begin("1", 1),
+    Release(0),
+    Release(0),
+    Release(0),
+    AdviceEvict("1"),
+];
+
+const CAPACITIES: &[Step] = &[
+    Begin("1", 3),
+    Ready(0, 1),
+    Release(0),
+    Begin("2", 2),
+    Ready(1, 2),
+    Release(1),
+    Begin("3", 4),
+    Ready(2, 3),
+    Release(2),
+    SetCapacity(5),
+    SetCapacity(9),
+    Begin("2", 2),
+    Ready(3, 2),
+    Release(3),
+    Begin("1", 3),
+    Ready(4, 1),
+    Release(4),
+    SetCapacity(4),
+    Prune,
+];
+
+// Nine entries where there is no room, and nine where there is.
+const GROWTHS: &[Step] = &[
+    Begin("1", 1),
+    Begin("2", 1),
+    Begin("3", 1),
+    Begin("4", 1),
+    Begin("5", 1),
+    Begin("6", 1),
+    Begin("7", 1),
+    Begin("8", 1),
+    Begin("9", 1),
+    Fail(0),
+    Fail(1),
+    Fail(2),
+    Fail(3),
+    Fail(4),
+    Fail(5),
+    Fail(6),
+    Fail(7),
+    Fail(8),
+    Begin("1", 1),
+    Begin("2", 1),
+    Begin("3", 1),
+    Begin("4", 1),
+    Begin("5", 1),
+    Begin("6", 1),
+    Begin("7", 1),
+    Begin("8", 1),
+    Begin("9", 1),
+    Begin("9", 1),
+    Total,
+];
+
+const WITH_ROOM: Opening = Opening {
+    capacity: 9,
+    first_stamp: 0,
+    most_pins: 2,
+    room: 5,
+};
+
+// A new entry evicts from its own shard alone.
+const SHARDS: &[shards::ShardStep] = &[
+    (1, Begin(1, 1)),
+    (1, Ready(0, 1)),
+    (1, Release(0)),
+    (0, Begin(0, 1)),
+    (0, Ready(0, 0)),
+    (0, Release(0)),
+    (0, Begin(2, 1)),
+    (0, Ready(1, 2)),
+    (0, Release(1)),
+    (1, Get(1)),
+    (0, Get(2)),
+    (0, Get(0)),
+    (1, Poll(0)),
+    (1, Begin(3, 1)),
+    (1, Fail(1)),
+    (2, Release(0)),
+    (0, SetCapacity(0)),
+    (0, Release(1)),
+    (1, Prune),
+    (1, Total),
+];
+
+// The tables of a journal and of a twin have each step once where its record needs new room: there
+// is none at first, then it lasts for four records, and then for eight.
+const EVICTS: &[Step] = &[
+    Begin("1", 1),
+    Ready(0, 1),
+    Release(0),
+    Begin("2", 1),
+    Get("1"),
+    Release(0),
+];
+
+const POLLS: &[Step] = &[
+    Get("1"),
+    Begin("1", 1),
+    Begin("1", 1),
+    Total,
+    Poll(0),
+    Ready(0, 1),
+    Poll(0),
+    Get("1"),
+    Release(0),
+    Release(0),
+    Release(0),
+];
+
+const STORES: &[Step] = &[
+    SetCapacity(2),
+    Begin("1", 1),
+    Begin("1", 1),
+    Total,
+    Ready(0, 7),
+    Poll(0),
+    Release(0),
+    Release(0),
+    Prune,
+    Total,
+];
+
+const FAILS: &[Step] = &[
+    AdviceEvict("1"),
+    Begin("1", 1),
+    Begin("1", 1),
+    Total,
+    Fail(0),
+    Poll(0),
+    Fail(0),
+    Total,
+    Begin("1", 1),
+];
+
+const FINDS_NOTHING: &[Step] = &[
+    Total,
+    Poll(0),
+    Get("1"),
+    Release(0),
+    Fail(0),
+    Ready(0, 1),
+    Prune,
+];
+
+const TWIN_HITS: &[Step] = &[
+    Begin("1", 1),
+    Ready(0, 7),
+    Release(0),
+    Get("1"),
+    Begin("1", 1),
+    Release(0),
+    Release(0),
+    Total,
+];
+
+// What the second caller finds is what the first one made.
+const FIRST_CALLER: &[Step] = &[
+    Begin("1", 1),
+    Ready(0, 7),
+    Release(0),
+    Total,
+    Get("1"),
+    Release(0),
+];
+
+const SECOND_CALLER: &[Step] = &[
+    Begin("1", 1),
+    Begin("2", 1),
+    Ready(1, 2),
+    Release(1),
+    Release(0),
+    Total,
+    Prune,
+];
+
+// A present key keeps its value.
+const VALUES: &[Call] = &[
+    Call::Make(1, 1, 1),
+    Call::Make(2, 1, 2),
+    Call::Make(1, 1, 3),
+    Call::Total,
+];
+
+// After an eviction the value is made anew.
+const LARGE_VALUES: &[Call] = &[
+    Call::Make(1, 3, 1),
+    Call::Make(2, 3, 2),
+    Call::Make(1, 3, 3),
+    Call::Total,
+];
+
+// A making that fails leaves no entry, and the next one may succeed.
+const FAILED: &[Call] = &[
+    Call::Make(1, 1, 1),
+    Call::Get(1),
+    Call::Make(2, 1, 2),
+    Call::Get(2),
+    Call::Fail(3, 1),
+    Call::Get(3),
+    Call::Try(3, 1, 3),
+    Call::Get(3),
+    Call::Total,
+];
+
+const ROOM: &[Call] = &[
+    Call::Reserve(9),
+    Call::Make(1, 1, 1),
+    Call::Try(2, 1, 2),
+    Call::SetCapacity(4),
+    Call::Make(3, 1, 3),
+    Call::Total,
+    Call::Prune,
+    Call::Get(1),
+    Call::Total,
+];

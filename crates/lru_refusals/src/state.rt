@@ -1,0 +1,103 @@
+//! Steps of a cache without a lock, whose keys are texts: copies of them ask for memory.
+ghost use Rattle.std.specs.Prelude.{◌<◌};
+
+use crate::step::{Asked, Step};
+use crate::told::Told;
+use concurrent_lru::lru_core::{Refusal, State};
+use std::alloc::Global;
+use std::io::Write;
+use std::sync::Arc;
+
+/// A new cache: its capacity, its first stamp, the most pins of an entry (none count as 1), and for
+/// how many entries it makes room first.
+#[derive(Clone, Copy)]
+pub struct Opening {
+    pub capacity: u64,
+    pub first_stamp: u64,
+    pub most_pins: u32,
+    pub room: usize,
+}
+
+impl Opening {
+    /// A cache of this capacity, with no other limit and no room.
+    pub fn of(capacity: u64) -> Opening {
+        Opening {
+            capacity,
+            first_stamp: 0,
+            most_pins: u32::MAX,
+            room: 0,
+        }
+    }
+
+    fn new(self, alloc: Global) -> State<String, u64> {
+        State::with_limits(
+            alloc,
+            self.capacity,
+            self.first_stamp,
+            self.most_pins.max(1),
+        )
+    }
+}
+
+/// Makes room in a new cache, and takes steps of it.
+pub fn play<O: Write, E: Write>(
+    alloc: Global,
+    opening: Opening,
+    steps: &[Step<&'static str>],
+    told: &mut Told<'_, O, E>,
+) -> Result<(), Refusal> {
+    told.name("State");
+    let mut state = opening.new(alloc);
+    if told.answer(&"reserve", &state.reserve(opening.room)) {
+        told.answer(&"reserve", &state.reserve(opening.room));
+    }
+    crate::step::play(alloc, &mut state, steps, told)
+}
+
+impl Asked<Step<&'static str>> for State<String, u64> {
+    fn ask<O: Write, E: Write>(
+        &mut self,
+        alloc: Global,
+        step: Step<&'static str>,
+        told: &mut Told<'_, O, E>,
+    ) -> Result<bool, Refusal> {
+        match step {
+            Step::Begin(key, charge) => {
+                let key = String::from_str(alloc, key)?;
+                Ok(told.answer(&step, &self.begin(&key, charge.max(1))))
+            }
+            Step::Get(key) => {
+                let key = String::from_str(alloc, key)?;
+                Ok(told.answer(&step, &self.get(&key)))
+            }
+            Step::AdviceEvict(key) => {
+                let key = String::from_str(alloc, key)?;
+                told.line(&step, &self.advice_evict(&key));
+                Ok(false)
+            }
+            Step::Ready(stamp, value) => {
+                let value = Arc::new(alloc, value)?;
+                told.line(&step, &self.ready(stamp, value));
+                Ok(false)
+            }
+            _ => Ok(ask_plainly(self, step, told)),
+        }
+    }
+}
+
+// Takes a step that hands over plain numbers.
+fn ask_plainly<O: Write, E: Write>(
+    state: &mut State<String, u64>,
+    step: Step<&'static str>,
+    told: &mut Told<'_, O, E>,
+) -> bool {
+    match step {
+        Step::Poll(stamp) => return told.answer(&step, &state.poll(stamp)),
+        Step::Fail(stamp) => return told.answer(&step, &state.fail(stamp)),
+        Step::Release(stamp) => return told.answer(&step, &state.release(stamp)),
+        Step::Prune => told.line(&step, &state.prune()),
+        Step::SetCapacity(capacity) => told.line(&step, &state.set_capacity(capacity)),
+        _ => told.line(&step, &state.total()),
+    }
+    false
+}

@@ -1,0 +1,61 @@
+//! Steps of a cache for one owner as data, and the one function that takes a table of them.
+
+use crate::told::Told;
+use concurrent_lru::lru_core::Refusal;
+use std::alloc::Global;
+use std::io::Write;
+
+/// A step. A charge of 0 counts as 1.
+#[derive(Clone, Copy, Debug)]
+pub enum Step<K> {
+    /// `begin` with a key and a charge.
+    Begin(K, u64),
+    /// `poll` with a stamp.
+    Poll(u64),
+    /// `ready` with a stamp and a value.
+    Ready(u64, u64),
+    /// `fail` with a stamp.
+    Fail(u64),
+    /// `get` with a key.
+    Get(K),
+    /// `release` with a stamp.
+    Release(u64),
+    /// `advice_evict` with a key.
+    AdviceEvict(K),
+    /// `prune`.
+    Prune,
+    /// `set_capacity` with a capacity.
+    SetCapacity(u64),
+    /// `total`.
+    Total,
+}
+
+/// A cache that takes steps `S`.
+pub trait Asked<S> {
+    /// Takes a step and tells its answer. True where it was refused for want of memory, and is to
+    /// be taken again.
+    ///
+    /// `Memory` where the key or the value that the step hands over is refused.
+    fn ask<O: Write, E: Write>(
+        &mut self,
+        alloc: Global,
+        step: S,
+        told: &mut Told<'_, O, E>,
+    ) -> Result<bool, Refusal>;
+}
+
+/// Takes steps in order, and one that was refused for want of memory once more. What is refused
+/// twice is not told.
+pub fn play<S: Copy + Drop, A: Asked<S>, O: Write, E: Write>(
+    alloc: Global,
+    cache: &mut A,
+    steps: &[S],
+    told: &mut Told<'_, O, E>,
+) -> Result<(), Refusal> {
+    for step in steps {
+        if cache.ask(alloc, *step, told)? {
+            cache.ask(alloc, *step, told)?;
+        }
+    }
+    Ok(())
+}
