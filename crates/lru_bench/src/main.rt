@@ -14,7 +14,7 @@ mod stress;
 mod uses;
 
 use failure::Failure;
-use lru_fixtures::words;
+use lru_support::words;
 use program::program;
 use std::process::ExitCode;
 

@@ -2,9 +2,9 @@
 //! it asks another thread, which does it while the drop waits: the drop has an errand.
 ghost use Rattle.std.specs.Prelude.{◌<◌};
 
-use crate::flags::{is_raised, meets, raise};
 use crate::gates::{Cause, evict_with};
 use crate::threaded::Cached;
+use lru_support::flags::{is_raised, meets, raise};
 use std::alloc::AllocError;
 use std::fmt;
 use std::sync::Arc;

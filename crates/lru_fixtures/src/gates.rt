@@ -2,8 +2,8 @@
 //! thread, which gets the lock meanwhile, or gives up.
 ghost use Rattle.std.specs.Prelude.{◌<◌};
 
-use crate::flags::{is_raised, meets, raise};
 use crate::threaded::Cached;
+use lru_support::flags::{is_raised, meets, raise};
 use std::alloc::AllocError;
 use std::fmt;
 use std::sync::Arc;

@@ -3,15 +3,10 @@
 //! rows.
 #![tactic(auto)]
 
-pub mod drops;
 pub mod errands;
-pub mod flags;
 pub mod gates;
-pub mod hashers;
 pub mod makes;
 pub mod marks;
 pub mod rows;
 pub mod tables;
 pub mod threaded;
-pub mod words;
-pub mod writer;

@@ -18,7 +18,7 @@ mod told;
 mod twin;
 
 use failure::Failure;
-use lru_fixtures::words;
+use lru_support::words;
 use program::program;
 use std::process::ExitCode;
 

@@ -5,7 +5,7 @@ use crate::step::{Asked, Step};
 use crate::told::Told;
 use concurrent_lru::lru_core::Refusal;
 use concurrent_lru::sharded::Shards;
-use lru_fixtures::hashers::ByOwnNumber;
+use lru_support::hashers::ByOwnNumber;
 use std::alloc::Global;
 use std::io::Write;
 use std::sync::Arc;

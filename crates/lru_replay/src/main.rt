@@ -14,7 +14,7 @@ mod slots;
 mod step;
 
 use failure::Failure;
-use lru_fixtures::words;
+use lru_support::words;
 use program::program;
 use std::io::{self, BufReader, LineWriter};
 use std::process::ExitCode;

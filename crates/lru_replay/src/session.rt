@@ -5,7 +5,7 @@ use crate::slots::Slots;
 use crate::step::{Fate, Making, Outcome, Step};
 use concurrent_lru::lru_core::Refusal;
 use concurrent_lru::unsharded::{CacheHandle, GetError, LruCache};
-use lru_fixtures::drops::{DropLog, Logged};
+use lru_support::drops::{DropLog, Logged};
 use std::alloc::{AllocError, Global};
 use std::sync::Wait;
 

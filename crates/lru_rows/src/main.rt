@@ -6,7 +6,7 @@ mod failure;
 mod program;
 
 use failure::Failure;
-use lru_fixtures::words;
+use lru_support::words;
 use program::program;
 use std::process::ExitCode;
 

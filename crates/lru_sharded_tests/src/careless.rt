@@ -2,12 +2,12 @@
 //! empty. Handles that are forgotten keep their pins there.
 
 use concurrent_lru::sharded::LruCache;
-use lru_fixtures::drops::{DropLog, Logged};
-use lru_fixtures::hashers::ByThree;
 use lru_fixtures::tables::answers_as_told;
 use lru_fixtures::threaded::Call::{AdviceEvict, Get, Init, Prune, SetCapacity, Show, Total};
 use lru_fixtures::threaded::Then::{AtOnce, Forget};
 use lru_fixtures::threaded::{Call, Player};
+use lru_support::drops::{DropLog, Logged};
+use lru_support::hashers::ByThree;
 use std::alloc::Global;
 use std::sync::Wait;
 use std::test::Fail;

@@ -4,7 +4,7 @@
 use concurrent_lru::sharded::LruCache;
 use lru_fixtures::errands::{Errands, Outcome, Sent, VALUES, evicts, serve};
 use lru_fixtures::gates::Cause;
-use lru_fixtures::hashers::ByOwnNumber;
+use lru_support::hashers::ByOwnNumber;
 use std::alloc::Global;
 use std::sync::{Arc, Wait};
 use std::thread;

@@ -3,7 +3,7 @@
 
 use concurrent_lru::sharded::LruCache;
 use lru_fixtures::gates::{Cause, Gate, Slow, evict, made_for, total_meanwhile};
-use lru_fixtures::hashers::ByOwnNumber;
+use lru_support::hashers::ByOwnNumber;
 use std::alloc::Global;
 use std::sync::{Arc, Wait};
 use std::thread;

@@ -1,8 +1,8 @@
 //! Two callers of one value in a sharded cache: the second waits for what the first makes.
 
 use concurrent_lru::sharded::LruCache;
-use lru_fixtures::flags::{meets, pause, raise};
-use lru_fixtures::hashers::ByOwnNumber;
+use lru_support::flags::{meets, pause, raise};
+use lru_support::hashers::ByOwnNumber;
 use std::sync::Wait;
 use std::sync::atomic::AtomicU64;
 use std::thread;

@@ -2,8 +2,8 @@
 //! printed. In each gate two threads have to meet; a limit of looks ends it where they don't.
 
 use concurrent_lru::sharded::{CacheHandle, LruCache};
-use lru_fixtures::flags::{is_raised, meets, raise};
-use lru_fixtures::hashers::ByOwnNumber;
+use lru_support::flags::{is_raised, meets, raise};
+use lru_support::hashers::ByOwnNumber;
 use std::alloc::Global;
 use std::sync::atomic::AtomicU64;
 use std::sync::{Arc, Wait};

@@ -1,7 +1,7 @@
 //! Makers that use the cache for other keys, three deep, in the same shard and in another.
 
 use concurrent_lru::sharded::LruCache;
-use lru_fixtures::hashers::ByOwnNumber;
+use lru_support::hashers::ByOwnNumber;
 use std::sync::Wait;
 
 type Cache<R> = LruCache<u64, u64, R, ByOwnNumber>;

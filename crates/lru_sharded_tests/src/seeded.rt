@@ -1,9 +1,9 @@
 //! Long runs of calls that seeds decide, each answered as the shards of one owner answer it.
 
 use concurrent_lru::sharded::{LruCache, Shards};
-use lru_fixtures::drops::{DropLog, Logged};
-use lru_fixtures::hashers::ByOwnNumber;
 use lru_fixtures::threaded::{Model, Player, agree};
+use lru_support::drops::{DropLog, Logged};
+use lru_support::hashers::ByOwnNumber;
 use std::alloc::Global;
 use std::sync::Wait;
 use std::test::Fail;

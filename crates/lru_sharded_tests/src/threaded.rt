@@ -2,8 +2,6 @@
 ghost use Rattle.std.specs.Prelude.{◌<◌};
 
 use concurrent_lru::sharded::LruCache;
-use lru_fixtures::drops::{DropLog, Logged};
-use lru_fixtures::hashers::ByOwnNumber;
 use lru_fixtures::tables::answers_as_told;
 use lru_fixtures::threaded::Call::{
     AdviceEvict, Capacity, Fail, Get, Init, LetGo, Prune, Reserve, SetCapacity, Show, Total,
@@ -11,6 +9,8 @@ use lru_fixtures::threaded::Call::{
 };
 use lru_fixtures::threaded::Then::{AtOnce, Keep};
 use lru_fixtures::threaded::{Call, Player};
+use lru_support::drops::{DropLog, Logged};
+use lru_support::hashers::ByOwnNumber;
 use std::alloc::Global;
 use std::sync::Wait;
 use std::test;

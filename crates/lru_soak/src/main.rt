@@ -7,7 +7,7 @@ mod program;
 mod soak;
 
 use failure::Failure;
-use lru_fixtures::words;
+use lru_support::words;
 use program::program;
 use std::process::ExitCode;
 

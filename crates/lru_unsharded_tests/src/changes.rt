@@ -2,12 +2,12 @@
 
 use crate::makings::{Meeting, comes_second, found};
 use concurrent_lru::unsharded::LruCache;
-use lru_fixtures::drops::{DropLog, Logged};
-use lru_fixtures::flags::{meets, pause, raise};
 use lru_fixtures::tables::answers_as_told;
 use lru_fixtures::threaded::Call::{Init, LetGo, Total};
 use lru_fixtures::threaded::Then::{AtOnce, Keep};
 use lru_fixtures::threaded::{Call, Player};
+use lru_support::drops::{DropLog, Logged};
+use lru_support::flags::{meets, pause, raise};
 use std::alloc::Global;
 use std::process::Abort;
 use std::sync::Wait;

@@ -2,8 +2,8 @@
 //! In each gate two threads have to meet; where one held the lock, a limit of looks would end it.
 
 use concurrent_lru::unsharded::{CacheHandle, LruCache};
-use lru_fixtures::flags::{is_raised, meets, raise};
 use lru_fixtures::gates::{Cause, Gate, Slow, evict, made_for, total_meanwhile};
+use lru_support::flags::{is_raised, meets, raise};
 use std::alloc::Global;
 use std::sync::atomic::AtomicU64;
 use std::sync::{Arc, Wait};

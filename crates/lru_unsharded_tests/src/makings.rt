@@ -1,7 +1,7 @@
 //! Two callers of one value: the second waits, takes over, or finds what the first made.
 
 use concurrent_lru::unsharded::{GetError, LruCache};
-use lru_fixtures::flags::{meets, pause, raise};
+use lru_support::flags::{meets, pause, raise};
 use std::sync::Wait;
 use std::sync::atomic::AtomicU64;
 use std::thread;

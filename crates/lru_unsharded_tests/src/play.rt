@@ -1,9 +1,9 @@
 //! A table of calls, made of a new cache by one thread.
 
 use concurrent_lru::unsharded::LruCache;
-use lru_fixtures::drops::{DropLog, Logged};
 use lru_fixtures::tables::answers_as_told;
 use lru_fixtures::threaded::{Call, Player};
+use lru_support::drops::{DropLog, Logged};
 use std::alloc::Global;
 use std::sync::Wait;
 use std::test::Fail;

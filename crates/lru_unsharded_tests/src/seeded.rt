@@ -2,8 +2,8 @@
 
 use concurrent_lru::lru_core::State;
 use concurrent_lru::unsharded::LruCache;
-use lru_fixtures::drops::{DropLog, Logged};
 use lru_fixtures::threaded::{Model, Player, agree};
+use lru_support::drops::{DropLog, Logged};
 use std::alloc::Global;
 use std::sync::Wait;
 use std::test::Fail;

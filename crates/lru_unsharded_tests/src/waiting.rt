@@ -2,7 +2,7 @@
 //! Where a caller is never woken, the test ends by a limit.
 
 use concurrent_lru::unsharded::LruCache;
-use lru_fixtures::flags::{reaches, yield_times};
+use lru_support::flags::{reaches, yield_times};
 use std::alloc::Global;
 use std::process::Abort;
 use std::sync::Wait;

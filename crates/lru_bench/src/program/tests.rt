@@ -1,8 +1,8 @@
 //! The program over memory: what it writes where, and its status.
 
 use super::program;
-use lru_fixtures::words::words;
-use lru_fixtures::writer::Limited;
+use lru_support::words::words;
+use lru_support::writer::Limited;
 use std::test::Fail;
 
 // As a cache in Rust reads them on the same workloads.

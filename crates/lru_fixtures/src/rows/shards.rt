@@ -1,10 +1,10 @@
 //! Rows on caches side by side, each with its share of the capacity and its own keys.
 
-use crate::hashers::ByOwnNumber;
 use crate::rows::line::Line;
 use crate::rows::script::push_keys;
 use concurrent_lru::lru_core::{Begun, Refusal};
 use concurrent_lru::sharded::{LruCache, Shards, capacity_per_shard};
+use lru_support::hashers::ByOwnNumber;
 use std::alloc::Global;
 use std::hash::{BuildHasherDefault, FoldHasher};
 use std::sync::{Arc, Wait};

@@ -1,10 +1,10 @@
 //! One thread that makes calls of a cache, and holds handles in slots.
 ghost use Rattle.std.specs.Prelude.{◌<◌};
 
-use crate::drops::{DropLog, Logged};
 use crate::tables::{Answers, text_of};
 use crate::threaded::cached::{Cached, NoHandle};
 use crate::threaded::calls::{Call, Said, Then};
+use lru_support::drops::{DropLog, Logged};
 use std::alloc::{AllocError, Global};
 use std::mem;
 use std::sync::Wait;

@@ -1,8 +1,8 @@
 //! The program over memory: its status, and what it writes where.
 
 use super::program;
-use lru_fixtures::words::words;
-use lru_fixtures::writer::Limited;
+use lru_support::words::words;
+use lru_support::writer::Limited;
 use std::alloc::Global;
 use std::sync::Wait;
 use std::test::Fail;

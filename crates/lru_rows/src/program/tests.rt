@@ -2,8 +2,8 @@
 
 use super::program;
 use crate::failure::Failure;
-use lru_fixtures::words::after_name;
-use lru_fixtures::writer::Limited;
+use lru_support::words::after_name;
+use lru_support::writer::Limited;
 use std::alloc::Global;
 use std::env::FillError;
 use std::rt::Env;

@@ -2,8 +2,8 @@
 
 use super::program;
 use crate::failure::Failure;
-use lru_fixtures::words::words;
 use lru_stress::outcome::{Check, Trouble};
+use lru_support::words::words;
 use std::test::Fail;
 
 const USAGE: &str = "usage: SEED MINUTES\n";
