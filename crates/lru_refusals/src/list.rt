@@ -1,12 +1,17 @@
-//! Steps of a cache without a lock as one list, which asks for the room of its answers first.
+//! Steps of a cache without a lock, or of shards, as one list, which asks for the room of its answers
+//! first.
 
 use crate::told::Told;
 use concurrent_lru::lru_core::{Answer, Refusal, State, Step};
+use concurrent_lru::sharded::{ShardStep, Shards};
+use lru_support::hashers::ByOwnNumber;
 use std::alloc::{AllocError, Global};
 use std::io::Write;
 use std::sync::Arc;
 
 type Answers = Result<Vec<Answer<u64, u64>>, Refusal>;
+
+type ShardAnswers = Result<Vec<(usize, Answer<u64, u64>)>, Refusal>;
 
 /// Runs a list of steps, once more where it was refused for want of room: then nothing ran. Where
 /// its first begin was refused, the other answers are those of the list without that step, or a
@@ -21,6 +26,22 @@ pub fn play<O: Write, E: Write>(alloc: Global, told: &mut Told<'_, O, E>) -> Res
     drop(answers);
     let again = run_all(alloc)?;
     told.line(&"run", &again);
+    Ok(())
+}
+
+/// Runs a list of steps of shards, once more where it was refused for want of room. No step of it
+/// takes memory.
+pub fn play_shards<O: Write, E: Write>(
+    alloc: Global,
+    told: &mut Told<'_, O, E>,
+) -> Result<(), Refusal> {
+    told.name("Shards");
+    let mut answers = run_shards(alloc)?;
+    if let Err(Refusal::Memory) = &answers {
+        told.memory(&"run");
+        answers = run_shards(alloc)?;
+    }
+    told.line(&"run", &answers);
     Ok(())
 }
 
@@ -82,4 +103,16 @@ fn run_others(alloc: Global) -> Result<Answers, AllocError> {
     ]?;
     let mut state: State<u64, u64> = State::new(alloc, 10);
     Ok(state.run(steps))
+}
+
+// The answers of two shards that are empty.
+fn run_shards(alloc: Global) -> Result<ShardAnswers, Refusal> {
+    let steps = vec![in alloc;
+        ShardStep::Get(1),
+        ShardStep::Poll(1, 0),
+        ShardStep::Prune(2),
+        ShardStep::Total(0),
+    ]?;
+    let mut shards: Shards<u64, u64, ByOwnNumber> = Shards::new(alloc, 2, 2, ByOwnNumber)?;
+    Ok(shards.run(steps))
 }

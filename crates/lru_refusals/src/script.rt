@@ -21,6 +21,8 @@ pub enum Script {
     Limited(Opening, &'static [Step<&'static str>]),
     /// A list of steps of a cache without a lock.
     List,
+    /// A list of steps of shards.
+    ShardList,
     /// Steps of so many shards of a capacity.
     Shards(u64, usize, &'static [ShardStep]),
     /// Steps of a journal of a capacity.
@@ -53,6 +55,7 @@ impl Script {
             }
             Script::Limited(opening, steps) => state::play(alloc, opening, steps, told),
             Script::List => list::play(alloc, told),
+            Script::ShardList => list::play_shards(alloc, told),
             Script::Shards(capacity, number, steps) => {
                 shards::play(alloc, capacity, number, steps, told)
             }

@@ -26,6 +26,7 @@ pub const SCRIPTS: &[(&str, Script)] = &[
     ("state-room", Script::Limited(WITH_ROOM, GROWTHS)),
     ("state-list", Script::List),
     ("shards-one-evicts", Script::Shards(2, 2, SHARDS)),
+    ("shards-list", Script::ShardList),
     ("journal-evicts", Script::Journal(1, EVICTS)),
     ("journal-polls", Script::Journal(10, POLLS)),
     ("journal-stores", Script::Journal(10, STORES)),

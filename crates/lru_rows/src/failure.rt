@@ -92,12 +92,6 @@ mod tests {
             (Failure::from(Refusal::Memory), "refused 1\n", 1),
             (Failure::from(Refusal::Overflow), "refused 2\n", 1),
             (Failure::from(Refusal::Stale), "refused 3\n", 1),
-            (Failure::from(Trouble::Refused), "refused 1\n", 1),
-            (
-                Failure::from(Trouble::Failed(Check::Answers)),
-                "stress failed\n",
-                1,
-            ),
             (Failure::from(io::Error::from(ErrorKind::BrokenPipe)), "", 1),
         ];
         for (failure, line, status) in cases {
@@ -105,6 +99,24 @@ mod tests {
             assert_eq!(rt; failure.report(&mut err), status, "at {line}");
             assert_eq!(rt; str::from_utf8(&err)?, line, "at {line}");
         }
+        Ok(())
+    }
+
+    #[test]
+    fn tells_of_a_check_that_failed(rt: HostRuntime) -> Result<(), Fail> {
+        let failure = Failure::from(Trouble::Failed(Check::Answers));
+        let mut err = Vec::new(rt.alloc());
+        assert_eq!(rt; failure.report(&mut err), 1);
+        assert_eq!(rt; str::from_utf8(&err)?, "stress failed\n");
+        Ok(())
+    }
+
+    #[test]
+    fn tells_of_a_refused_stress(rt: HostRuntime) -> Result<(), Fail> {
+        let failure = Failure::from(Trouble::Refused);
+        let mut err = Vec::new(rt.alloc());
+        assert_eq!(rt; failure.report(&mut err), 1);
+        assert_eq!(rt; str::from_utf8(&err)?, "refused 1\n");
         Ok(())
     }
 }

@@ -10,10 +10,26 @@ use std::sync::atomic::{AtomicU64, Ordering};
 use std::thread;
 use std::thread::Threads;
 
-const ROUNDS: u64 = 200;
+const ROUNDS: u64 = 2_000;
 
-// How many callers ask for the value: one makes it, and three wait.
-const CALLERS: u64 = 4;
+// A round: so many callers ask for one value at once, one of whom makes it, and the first so many
+// makings fail. The number decides how often each yields.
+#[derive(Clone, Copy, Debug)]
+struct Round {
+    number: u64,
+    callers: u64,
+    failures: u64,
+}
+
+impl Round {
+    // How often a caller yields before it comes, and before the value that it makes is there.
+    fn yields_of(&self, caller: u64) -> u64 {
+        self.number
+            .wrapping_mul(37)
+            .wrapping_add(caller.wrapping_mul(11))
+            % 13
+    }
+}
 
 // How many callers have come, got the value and ended, and how often `init` ran.
 #[derive(Drop)]
@@ -36,18 +52,18 @@ impl Counts {
 }
 
 // Asks for the value once, and says whether it was given. The making goes on until all callers
-// have come and some yields are over; the first so many makings fail.
+// have come and some yields are over.
 fn gets<R: Wait>(
     cache: &LruCache<u64, u64, R>,
     counts: &Counts,
-    failures: u64,
+    round: Round,
     yields: u64,
 ) -> bool {
     let made = cache.get_or_try_init(1, 1, |_| -> Result<u64, u64> {
         let before = counts.ran.fetch_add(1, Ordering::SeqCst);
-        let all_came = reaches(&counts.came, CALLERS);
+        let all_came = reaches(&counts.came, round.callers);
         yield_times(yields);
-        if all_came && before >= failures {
+        if all_came && before >= round.failures {
             Ok(5)
         } else {
             Err(before)
@@ -57,11 +73,11 @@ fn gets<R: Wait>(
 }
 
 // Asks for the value until it is given.
-fn asks<R: Wait>(cache: &LruCache<u64, u64, R>, counts: &Counts, failures: u64, yields: u64) {
+fn asks<R: Wait>(cache: &LruCache<u64, u64, R>, counts: &Counts, round: Round, yields: u64) {
     yield_times(yields);
     counts.came.fetch_add(1, Ordering::SeqCst);
-    for _ in 0..CALLERS {
-        if gets(cache, counts, failures, yields) {
+    for _ in 0..round.callers {
+        if gets(cache, counts, round, yields) {
             counts.got.fetch_add(1, Ordering::SeqCst);
             break;
         }
@@ -69,39 +85,35 @@ fn asks<R: Wait>(cache: &LruCache<u64, u64, R>, counts: &Counts, failures: u64, 
     counts.ended.fetch_add(1, Ordering::SeqCst);
 }
 
-// How often a caller yields in a round.
-fn yields_of(round: u64, caller: u64) -> u64 {
-    round.wrapping_mul(37).wrapping_add(caller.wrapping_mul(11)) % 13
-}
-
 // Has all callers ask at once, each with yields of its own.
 fn asks_at_once<R: Wait + Threads + Abort + Sync, W: Wait + Send + Sync>(
     rt: &R,
     cache: &LruCache<u64, u64, W>,
     counts: &Counts,
-    number: u64,
-    failures: u64,
+    round: Round,
 ) {
     thread::scope(thread::scope_env(), rt, |scope| {
-        for caller in 0..CALLERS {
-            let yields = yields_of(number, caller);
-            let _started = scope.spawn(move || asks(cache, counts, failures, yields));
+        for caller in 0..round.callers {
+            let yields = round.yields_of(caller);
+            let _started = scope.spawn(move || asks(cache, counts, round, yields));
         }
-        assert!(rt; reaches(&counts.ended, CALLERS), "a caller is never woken");
+        assert!(rt;
+            reaches(&counts.ended, round.callers),
+            "a caller is never woken"
+        );
     });
 }
 
 // Asks for a value of a new cache. Answers how often `init` ran, how many got the value, and the
 // total once the cache is pruned; none where memory is refused.
-fn round<R: Wait + Threads + Abort + Clone + Drop + Send + Sync>(
+fn play<R: Wait + Threads + Abort + Clone + Drop + Send + Sync>(
     rt: &R,
     alloc: Global,
-    number: u64,
-    failures: u64,
+    round: Round,
 ) -> Option<(u64, u64, u64)> {
     let cache: LruCache<u64, u64, R> = LruCache::new(alloc, rt.clone().ok()?, 10);
     let counts = Counts::new();
-    asks_at_once(rt, &cache, &counts, number, failures);
+    asks_at_once(rt, &cache, &counts, round);
     cache.prune();
     Some((
         counts.ran.load(Ordering::SeqCst),
@@ -110,24 +122,43 @@ fn round<R: Wait + Threads + Abort + Clone + Drop + Send + Sync>(
     ))
 }
 
-#[test]
-fn every_caller_gets_the_value(rt: HostRuntime) {
+// Plays all rounds of so many callers and failures.
+fn all_get_the_value<R: Wait + Threads + Abort + Clone + Drop + Send + Sync>(
+    rt: &R,
+    alloc: Global,
+    callers: u64,
+    failures: u64,
+) {
     for number in 0..ROUNDS {
+        let round = Round {
+            number,
+            callers,
+            failures,
+        };
         assert_eq!(rt;
-            round(&rt, rt.alloc(), number, 0),
-            Some((1, 4, 0)),
-            "in round {number}"
+            play(rt, alloc, round),
+            Some((failures.wrapping_add(1), callers, 0)),
+            "in {round:?}"
         );
     }
 }
 
 #[test]
-fn every_caller_gets_a_value_that_two_gave_up(rt: HostRuntime) {
-    for number in 0..ROUNDS {
-        assert_eq!(rt;
-            round(&rt, rt.alloc(), number, 2),
-            Some((3, 4, 0)),
-            "in round {number}"
-        );
-    }
+fn three_wait_for_a_value(rt: HostRuntime) {
+    all_get_the_value(&rt, rt.alloc(), 4, 0);
+}
+
+#[test]
+fn seven_wait_for_a_value(rt: HostRuntime) {
+    all_get_the_value(&rt, rt.alloc(), 8, 0);
+}
+
+#[test]
+fn three_wait_for_a_value_that_two_gave_up(rt: HostRuntime) {
+    all_get_the_value(&rt, rt.alloc(), 4, 2);
+}
+
+#[test]
+fn seven_wait_for_a_value_that_two_gave_up(rt: HostRuntime) {
+    all_get_the_value(&rt, rt.alloc(), 8, 2);
 }
