@@ -1,5 +1,5 @@
 //! What the program does with its words.
-//! It writes to two writers that are handed in, so that tests run it over memory.
+//! It writes to two writers that are handed in.
 
 use crate::failure::Failure;
 use crate::scripts::SCRIPTS;
@@ -73,6 +73,3 @@ fn is_asked(wanted: Option<&str>, name: &str) -> bool {
         None => true,
     }
 }
-
-#[cfg(test)]
-mod tests;
