@@ -3,7 +3,6 @@
 #![tactic(auto)]
 
 mod bench;
-mod calls;
 mod failure;
 mod keys;
 mod plan;

@@ -1,8 +1,8 @@
 //! A cache as the workers of the stress workload see it: on one lock, or in shards.
 
-use crate::calls::Call;
 use concurrent_lru::lru_core::Refusal;
 use concurrent_lru::{sharded, unsharded};
+use lru_support::calls::Call;
 use std::hash::RandomState;
 use std::sync::Wait;
 

@@ -1,12 +1,17 @@
 //! The stress workload: workers that share a cache, each with calls of its own.
 
-use crate::calls::Calls;
 use crate::shared::Shared;
 use concurrent_lru::lru_core::Refusal;
+use lru_support::calls::Calls;
 use std::sync::Wait;
 use std::sync::atomic::{AtomicU64, Ordering};
 use std::thread;
 use std::thread::Threads;
+
+// From which all calls are drawn, and for how many keys.
+const SEED: u64 = 1;
+
+const KEYS: u64 = 100;
 
 /// Makes `calls` calls in each of some threads, and answers the sum of what was read by the calls
 /// whose making would not fail. It is the same on every schedule.
@@ -40,7 +45,7 @@ pub fn stress<R: Threads + Wait + Sync, C: Shared + Sync>(
 // One worker's calls, and the sum of what it read. Where a making would fail, whether a value is
 // read depends on the others, so it is not counted.
 fn work<C: Shared>(cache: &C, worker: u32, calls: u32) -> Result<u64, Refusal> {
-    let mut drawn = Calls::of_worker(worker);
+    let mut drawn = Calls::of_worker(SEED, KEYS, u64::from(worker));
     let mut sum: u64 = 0;
     for _ in 0..calls {
         let call = drawn.draw();
@@ -52,4 +57,46 @@ fn work<C: Shared>(cache: &C, worker: u32, calls: u32) -> Result<u64, Refusal> {
         }
     }
     Ok(sum)
+}
+
+#[cfg(test)]
+mod tests {
+    use super::*;
+
+    // The first calls of the workers 0 and 2, as Rust's generator draws them.
+    const DRAWN: [(u64, [(u64, u64, bool); 4]); 2] = [
+        (
+            0,
+            [
+                (87, 2, false),
+                (70, 1, false),
+                (23, 2, false),
+                (42, 2, false),
+            ],
+        ),
+        (
+            2,
+            [
+                (90, 2, false),
+                (80, 1, false),
+                (74, 2, false),
+                (18, 1, false),
+            ],
+        ),
+    ];
+
+    #[test]
+    fn draws_the_calls_of_a_worker(rt: HostRuntime) {
+        for (worker, drawn) in DRAWN {
+            let mut calls = Calls::of_worker(SEED, KEYS, worker);
+            for expected in drawn {
+                let call = calls.draw();
+                assert_eq!(rt;
+                    (call.key, call.charge, call.fails),
+                    expected,
+                    "of worker {worker}"
+                );
+            }
+        }
+    }
 }

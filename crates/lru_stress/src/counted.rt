@@ -1,7 +1,7 @@
 //! Values that count themselves, and know when they were made.
 
-use crate::calls::Call;
 use concurrent_lru::lru_core::Refusal;
+use lru_support::calls::Call;
 use std::sync::Arc;
 use std::sync::atomic::{AtomicU64, Ordering};
 use std::thread;

@@ -2,7 +2,6 @@
 //! of what they did. Programs and tests run it with numbers of their own.
 #![tactic(auto)]
 
-mod calls;
 mod counted;
 pub mod outcome;
 pub mod plan;

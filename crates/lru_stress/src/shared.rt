@@ -1,10 +1,10 @@
 //! A cache of one lock or in shards, as the workers of the stress run use it.
 
-use crate::calls::Call;
 use crate::counted::{Book, Counted, Unmade};
 use concurrent_lru::lru_core::Refusal;
 use concurrent_lru::unsharded::GetError;
 use concurrent_lru::{sharded, unsharded};
+use lru_support::calls::Call;
 use std::hash::{BuildHasherDefault, FoldHasher};
 use std::sync::{Arc, Wait};
 

@@ -2,11 +2,11 @@
 ghost use Rattle.std.specs.Prelude.{◌≡◌, ◌<◌, ◌+◌, IfOk};
 ghost use denote.Param.Send.{IsSync, IsSend};
 
-use crate::calls::{Call, Calls};
 use crate::outcome::{Check, Counts, Trouble};
 use crate::plan::Plan;
 use crate::start::Start;
 use lru_journal::journal::{Identity, Journal, LruCache, Opening, Pin, Started, Tally};
+use lru_support::calls::{Call, Calls};
 use std::alloc::Global;
 use std::sync::{Arc, Wait};
 use std::thread;
@@ -122,7 +122,7 @@ fn work<I: Identity, R: Wait + Drop>(
         return Err(Trouble::Refused);
     }
     let mut accepted = Accepted::none();
-    let mut calls = Calls::of_worker(shift.plan, worker);
+    let mut calls = Calls::of_worker(shift.plan.seed, shift.plan.keys, worker as u64);
     let first = (worker as u64).wrapping_mul(shift.plan.keys);
     for number in 0..shift.plan.calls {
         let mut call = calls.draw();

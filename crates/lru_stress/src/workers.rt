@@ -1,12 +1,12 @@
 //! Workers that share a cache, and what is checked once all have ended.
 
-use crate::calls::{Call, Calls};
 use crate::counted::{Book, Unmade};
 use crate::outcome::{Check, Counts, Trouble};
 use crate::plan::Plan;
 use crate::shared::{Answer, Manner, Shared};
 use crate::start::Start;
 use concurrent_lru::lru_core::Refusal;
+use lru_support::calls::{Call, Calls};
 use std::alloc::Global;
 use std::sync::Arc;
 use std::thread;
@@ -125,7 +125,7 @@ fn work<C: Shared>(cache: &C, plan: &Plan, worker: usize, manner: &Manner, start
         notes.trouble = Some(Trouble::Refused);
         return notes;
     }
-    let mut calls = Calls::of_worker(plan, worker);
+    let mut calls = Calls::of_worker(plan.seed, plan.keys, worker as u64);
     for number in 0..plan.calls {
         let call = calls.draw();
         notes.note(&call, cache.fetch(&call, manner));

@@ -1,7 +1,7 @@
-//! The calls that a worker makes, drawn from a generator that no other worker's meets.
+//! The calls that a worker of the stress workload makes.
+//! They are drawn from a generator of its own, which no other worker's meets.
 ghost use Rattle.std.specs.Prelude.{◌<◌};
 
-use crate::plan::Plan;
 use rand_core::{Rng, SeedableRng};
 use rand_xoshiro::Xoshiro256PlusPlus;
 
@@ -26,20 +26,19 @@ pub struct Calls {
 }
 
 impl Calls {
-    /// The calls of the worker with this number.
-    pub fn of_worker(plan: &Plan, worker: usize) -> Calls {
-        let mut generator = Xoshiro256PlusPlus::seed_from_u64(plan.seed);
+    /// The calls of the worker with this number, for so many keys.
+    pub fn of_worker(seed: u64, keys: u64, worker: u64) -> Calls
+        requires { 0 < keys }
+    {
+        let mut generator = Xoshiro256PlusPlus::seed_from_u64(seed);
         for _ in 0..worker {
             generator.jump();
         }
-        Calls {
-            generator,
-            keys: plan.keys,
-        }
+        Calls { generator, keys }
     }
 
-    /// The next call: a key below the plan's number of keys, a charge from 1 to 4, and two
-    /// makings in ten fail.
+    /// The next call: a key below the number of keys, a charge from 1 to 4, and two makings in
+    /// ten fail.
     pub fn draw(&mut self) -> Call {
         let a = self.generator.next_u64();
         let b = self.generator.next_u64();
