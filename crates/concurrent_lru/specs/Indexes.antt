@@ -1,5 +1,5 @@
--- How two hashed maps, from keys and from stamps to places, index the nodes, and what a `Table` keeps of both.
-use Rattle.std.specs.Prelude.{◌≡◌, ℕ, Bool, true, Option, Some, nat_eq, map}
+-- How a hashed map from keys to places, and one from stamps where it is kept, index the nodes, and what a `Table` keeps of both.
+use Rattle.std.specs.Prelude.{◌≡◌, ℕ, Bool, true, Option, Some, map}
 use Rattle.std.specs.Ordering.{nat_cmp}
 use Rattle.std.specs.FinMap as finmap
 use Rattle.std.specs.HashMap as hash
@@ -8,14 +8,16 @@ use Rattle.concurrent_lru.specs.Keys.{CopiesAreEqual}
 use Rattle.concurrent_lru.specs.NodeTable.{Entry, NodeTable}
 use Rattle.concurrent_lru.specs.Representation.{IsRepresentation, idle_in, held_in}
 use Rattle.concurrent_lru.specs.Entries.{Entries, charges_of}
+use Rattle.concurrent_lru.specs.Stamps.{keeps_map, mapped_place}
+use Rattle.concurrent_lru.specs.declared.table.stamps.Stamps.{Stamps}
 
 module _ {K V : Type 0} where
-  -- each node is found by its key and by its stamp, and what is found is a node with that key or stamp
-  pub record IsIndexed (E : K → K → Bool) (nodes : finmap.FinMap nat_cmp (Entry K V)) (by_key : K → Option ℕ) (by_stamp : ℕ → Option ℕ) : Type 0 where
+  -- each node is found by its key and, where a map of stamps is kept, by its stamp; what is found is a node with that key or stamp
+  pub record IsIndexed (E : K → K → Bool) (nodes : finmap.FinMap nat_cmp (Entry K V)) (by_key : K → Option ℕ) (by_stamp : Stamps) : Type 0 where
     pub key_found : (p : ℕ) (e : Entry K V) → finmap.get nodes p ≡ Some e → by_key e.key ≡ Some p
     pub key_kept : (k : K) (p : ℕ) → by_key k ≡ Some p → (e : Entry K V) × (finmap.get nodes p ≡ Some e) × (E e.key k ≡ true)
-    pub stamp_found : (p : ℕ) (e : Entry K V) → finmap.get nodes p ≡ Some e → by_stamp e.stamp ≡ Some p
-    pub stamp_kept : (s p : ℕ) → by_stamp s ≡ Some p → (e : Entry K V) × (finmap.get nodes p ≡ Some e) × (e.stamp ≡ s)
+    pub stamp_found : keeps_map by_stamp ≡ true → (p : ℕ) (e : Entry K V) → finmap.get nodes p ≡ Some e → mapped_place by_stamp e.stamp ≡ Some p
+    pub stamp_kept : keeps_map by_stamp ≡ true → (s p : ℕ) → mapped_place by_stamp s ≡ Some p → (e : Entry K V) × (finmap.get nodes p ≡ Some e) × (e.stamp ≡ s)
 
   -- the stamp of the node at each place
   abbrev pub stamps_of : finmap.FinMap nat_cmp (Entry K V) → finmap.FinMap nat_cmp ℕ
@@ -24,13 +26,13 @@ module _ {K V : Type 0} where
   abbrev pub entries_of : NodeTable K V → Entries K V
   entries_of nodes = record { idle = idle_in nodes; held = held_in nodes (finmap.keys nodes.nodes); stamps = stamps_of nodes.nodes; work = nodes.work }
 
-  -- the nodes stand for entries, the two maps index them, and copies of keys equal them
-  pub record IsStored {S T : Type 0} (is_clone : K → K → Type 0) (E : K → K → Bool) (nodes : NodeTable K V) (by_key : HashMap K ℕ S) (by_stamp : HashMap ℕ ℕ T) : Type 0 where
+  -- the nodes stand for entries, the maps index them, and copies of keys equal them
+  pub record IsStored {S : Type 0} (is_clone : K → K → Type 0) (E : K → K → Bool) (nodes : NodeTable K V) (by_key : HashMap K ℕ S) (by_stamp : Stamps) : Type 0 where
     pub represents : IsRepresentation nodes (finmap.keys nodes.nodes)
-    pub indexed : IsIndexed E nodes.nodes (hash.get E by_key) (hash.get nat_eq by_stamp)
+    pub indexed : IsIndexed E nodes.nodes (hash.get E by_key) by_stamp
     pub copies : CopiesAreEqual is_clone E
 
   -- and the total is the sum of the charges
-  pub record IsSoundTable {S T : Type 0} (is_clone : K → K → Type 0) (E : K → K → Bool) (nodes : NodeTable K V) (by_key : HashMap K ℕ S) (by_stamp : HashMap ℕ ℕ T) (total : ℕ) : Type 0 where
+  pub record IsSoundTable {S : Type 0} (is_clone : K → K → Type 0) (E : K → K → Bool) (nodes : NodeTable K V) (by_key : HashMap K ℕ S) (by_stamp : Stamps) (total : ℕ) : Type 0 where
     pub stored : IsStored is_clone E nodes by_key by_stamp
     pub sums : total ≡ charges_of (entries_of nodes)

@@ -18,6 +18,7 @@ pub mod SlotTable
 pub mod Representation
 pub mod Entries
 pub mod Counted
+pub mod Stamps
 pub mod Indexes
 pub mod Chain
 pub mod Results

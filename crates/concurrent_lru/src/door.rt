@@ -16,9 +16,13 @@ use crate::locked::{
 };
 use crate::lru_core::Refusal;
 use std::alloc::Global;
-use std::fmt;
 use std::hash::Hash;
 use std::sync::{Arc, Condvar, Mutex, MutexGuard, Wait};
+use std::{fmt, hint};
+
+// How often a call looks at a lock that another has before it sleeps: after 1, 2, 4 .. 4,096 pauses, some fifty microseconds
+// in all, which is what a sleep and its wake take.
+const LOOKS: u32 = 13;
 
 /// The lock, what wakes those that wait, and the right to wait.
 #[derive(Drop)]
@@ -76,14 +80,38 @@ impl<K: Hash + Eq + Clone + Drop, V: Drop, R: Wait, F: Fit<K, V>> Door<K, V, R, 
     }
 
     /// Gets the lock. All calls get it here, so the clauses hold of every state that they meet.
+    #[inline(always)]
     pub fn enter(&self) -> Inside<'_, K, V, R, F>
         ensures lawful { IsLawful K.eq (mutex_guard_value result.guard) }
         ensures settled { (mutex_guard_value result.guard).capacity < sum_of (mutex_guard_value result.guard) → (mutex_guard_value result.guard).idle ≡ [] }
         ensures kept { ValuesFit F.fits (mutex_guard_value result.guard) }
     {
-        let guard = self.locked.lock(&self.rt);
+        let guard = match self.locked.try_lock() {
+            Some(guard) => guard,
+            None => self.contend(),
+        };
         guard.show();
         Inside { door: self, guard }
+    }
+
+    // Gets the lock where another call has it. Calls are shorter than a sleep and its wake, so this looks for a while,
+    // less and less often, before it sleeps.
+    #[cold]
+    fn contend(&self) -> MutexGuard<'_, Locked<K, V, F>> {
+        for look in 0..LOOKS {
+            pause(1 << look);
+            if let Some(guard) = self.locked.try_lock() {
+                return guard;
+            }
+        }
+        self.locked.lock(&self.rt)
+    }
+}
+
+// Lets the processor rest for so many turns.
+fn pause(turns: u32) {
+    for _ in 0..turns {
+        hint::spin_loop();
     }
 }
 
@@ -98,6 +126,7 @@ impl<'a, K: Hash + Eq + Clone + Drop, V: Drop, R: Wait, F: Fit<K, V>> Inside<'a,
     }
 
     /// `Locked::get`.
+    #[inline(always)]
     pub fn get(self, key: &K) -> Result<Option<CacheHandle<'a, K, V, R, F>>, Refusal>
         ensures found { IfOk result (λ found. IfSome found (λ h. IsHandleFor F.fits h key.now None)) }
         ensures never_stale { IfErr result (λ e. e ≢ Refusal.Stale) }
@@ -110,6 +139,7 @@ impl<'a, K: Hash + Eq + Clone + Drop, V: Drop, R: Wait, F: Fit<K, V>> Inside<'a,
     }
 
     /// `Locked::begin`. What it evicted is dropped without the lock.
+    #[inline(always)]
     pub fn begin(self, key: &K, charge: u64) -> Result<Met<'a, K, V, R, F>, Refusal>
         requires charged { 0 < charge }
         ensures met { IfOk result (λ met. IsMetFor F.fits met key.now charge) }
@@ -130,6 +160,7 @@ impl<'a, K: Hash + Eq + Clone + Drop, V: Drop, R: Wait, F: Fit<K, V>> Inside<'a,
     }
 
     /// `Locked::release`. The pin's Arc, and then what was evicted, are dropped without the lock.
+    #[inline(always)]
     pub fn release(self, pin: Pin<K, V, F>) {
         let Self { door: _, mut guard } = self;
         let released = guard.release(pin);

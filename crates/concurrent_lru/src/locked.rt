@@ -34,6 +34,10 @@ use std::sync::Arc;
 /// Clauses see it as the abstract cache. Its type keeps, whenever the lock is got, that the cache
 /// is lawful (so its total is above the capacity only where nothing is idle), and that the value
 /// of every ready entry fits its key.
+///
+/// It keeps no map by stamp. A debt has the place of its entry beside the stamp, and a pinned
+/// entry stays at its place, so a call that pays a debt finds the entry there at once. Only a
+/// stamp from elsewhere, or one whose entry has left, costs a look at every entry.
 #[derive(Drop)]
 pub struct Locked<K: Hash + Eq + Clone, V, F: Fit<K, V>> {
     state: State<K, V>,
@@ -60,7 +64,7 @@ impl<K: Hash + Eq + Clone + Drop, V: Drop, F: Fit<K, V>> Locked<K, V, F> {
         ensures empty { result ≡ empty_cache capacity most_pins_by_default 0 }
     {
         Locked {
-            state: State::new(alloc, capacity),
+            state: State::without_map_of_stamps(alloc, capacity),
             mark: PhantomData,
         }
     }
@@ -87,6 +91,7 @@ impl<K: Hash + Eq + Clone + Drop, V: Drop, F: Fit<K, V>> Locked<K, V, F> {
     }
 
     /// The core's `begin`. The value of a hit fits the key.
+    #[inline(always)]
     pub fn begin(&mut self, key: &K, charge: u64) -> Result<Entered<K, V, F>, Refusal>
         requires charged { 0 < charge }
         ensures step { Stands K.eq self.old (ask.begin key.now charge) (outcome_of_locked_begin result) self.new }
@@ -114,6 +119,7 @@ impl<K: Hash + Eq + Clone + Drop, V: Drop, F: Fit<K, V>> Locked<K, V, F> {
     }
 
     // The core's `begin`, with its own answer.
+    #[inline(always)]
     fn begun(&mut self, key: &K, charge: u64) -> Result<(Begun<V>, Evicted<K, V>), Refusal>
         requires charged { 0 < charge }
         ensures step { Stands K.eq self.old (ask.begin key.now charge) (outcome_of_begin result) self.new }
@@ -124,6 +130,7 @@ impl<K: Hash + Eq + Clone + Drop, V: Drop, F: Fit<K, V>> Locked<K, V, F> {
     }
 
     /// The core's `get`. The value found fits the key.
+    #[inline(always)]
     pub fn get(&mut self, key: &K) -> Result<Option<Pin<K, V, F>>, Refusal>
         ensures step { Stands K.eq self.old (ask.get key.now) (outcome_of_locked_get result) self.new }
         ensures asked { IfOk result (λ found. IfSome found (λ p. (p.key ≡ key.now) × (p.charge ≡ None))) }
@@ -272,6 +279,7 @@ impl<K: Hash + Eq + Clone + Drop, V: Drop, F: Fit<K, V>> Locked<K, V, F> {
     /// release evicted.
     ///
     /// `Stale` where no held and ready entry has the stamp.
+    #[inline(always)]
     pub fn release(&mut self, pin: Pin<K, V, F>) -> Sealed<(Arc<V>, Result<Evicted<K, V>, Refusal>)>
         ensures step { Stands K.eq self.old (ask.release pin.stamp) (outcome_of_release result.1) self.new }
         ensures value { arc_value result.0 ≡ pin.value }

@@ -1,4 +1,4 @@
-//! The entries of a cache as one value: nodes, two hashed maps that find their places, and the total of the charges.
+//! The entries of a cache as one value: nodes, what finds their places by key and by stamp, and the total of the charges.
 //! No rule of the cache is decided here but the order of eviction: what happens when is the core's.
 ghost use Rattle.std.specs.Prelude.{◌≡◌, ◌≢◌, ℕ, ◌+◌, ◌<◌, ◌≤◌, ◌^◌, Some, None, [], IsSome, OnOk, OnErr, IfErr, IfSome, MatchOption, filter_map, length, ◌∷◌, ◌++◌, true, cond, nat_eq};
 ghost use Rattle.std.specs.HashMap as hash;
@@ -9,10 +9,14 @@ ghost use Rattle.concurrent_lru.specs.Keys.{CopiesAreEqual};
 ghost use Rattle.concurrent_lru.specs.NodeTable.{Entry, entry_of, chain_of, phase_of, ContainsNode, LacksIdle};
 ghost use Rattle.concurrent_lru.specs.Representation.{as_idle, held_entry, GetsEntry};
 ghost use Rattle.concurrent_lru.specs.Entries.{cache_of, charges_of, ContainsEntry, ContainsNoStamp, ContainsNoKey, IsPlaceOfKey, ContainsPlace, ContainsIdleAt, ContainsHeldAt, GetsAt, IsReadyAt, Rewrites, RevivesAt, RestsAt, pins_at, held_with_pins, new_held};
+ghost use Rattle.concurrent_lru.specs.Stamps.{keeps_map, mapped_place, HasRoomFor};
 ghost use Rattle.concurrent_lru.specs.Steps.{without, held_in_phase};
+
+mod stamps;
 
 use crate::eviction::{Evicted, reversed};
 use crate::list::{Node, Nodes, Phase, Place, Refusal};
+use crate::table::stamps::Stamps;
 use std::alloc::Global;
 use std::collections::HashMap;
 use std::fmt;
@@ -24,7 +28,7 @@ use std::marker::Model;
 pub struct Table<K: Hash + Eq + Clone, V> {
     nodes: Nodes<K, V>,
     by_key: HashMap<K, Place>,
-    by_stamp: HashMap<u64, Place>,
+    by_stamp: Stamps,
     total: u64,
     // Where a look by stamp begins: the place of the entry that was pinned last, or that a caller
     // tells. It is a hint alone: any place will do.
@@ -46,7 +50,8 @@ impl<K: Hash + Eq + Clone, V> Model for Table<K, V> {
 }
 
 impl<K: Hash + Eq + Clone, V: Drop> Table<K, V> {
-    /// No entries. Takes no memory.
+    /// No entries, and a map by stamp, so that each look by stamp takes the same time. Takes no
+    /// memory.
     pub fn new(alloc: Global) -> Table<K, V>
         requires { CopiesAreEqual K.is_clone K.eq }
         ensures idle { result.idle ≡ [] }
@@ -57,7 +62,26 @@ impl<K: Hash + Eq + Clone, V: Drop> Table<K, V> {
         Table {
             nodes: Nodes::new(alloc),
             by_key: HashMap::new(alloc),
-            by_stamp: HashMap::new(alloc),
+            by_stamp: Stamps::Mapped(HashMap::new(alloc)),
+            total: 0,
+            near: Place::first(),
+        }
+    }
+
+    // No entries, and no map by stamp: an entry comes and goes with one write less, and a look by
+    // stamp visits every node, but for one that begins at its entry's place. For callers that
+    // keep the places of what they pinned. Takes no memory.
+    pub(crate) fn without_map_of_stamps(alloc: Global) -> Table<K, V>
+        requires { CopiesAreEqual K.is_clone K.eq }
+        ensures idle { result.idle ≡ [] }
+        ensures held { result.held ≡ map.empty }
+        ensures stamps { result.stamps ≡ map.empty }
+        ensures work { result.work ≡ 0 }
+    {
+        Table {
+            nodes: Nodes::new(alloc),
+            by_key: HashMap::new(alloc),
+            by_stamp: Stamps::Unmapped,
             total: 0,
             near: Place::first(),
         }
@@ -70,7 +94,7 @@ impl<K: Hash + Eq + Clone, V: Drop> Table<K, V> {
         ensures err { IfErr result (λ e. e ≡ Refusal.Memory) }
         ensures same { self.new ≡ self.old }
     {
-        let more = entries.saturating_sub(self.by_stamp.len());
+        let more = entries.saturating_sub(self.by_key.len());
         make_room(&mut self.nodes, &mut self.by_key, &mut self.by_stamp, more)
     }
 
@@ -82,13 +106,14 @@ impl<K: Hash + Eq + Clone, V: Drop> Table<K, V> {
     }
 
     /// The place of the entry with this stamp.
+    #[inline(always)]
     pub fn find_stamp(&self, stamp: u64) -> Option<Place>
         ensures { MatchOption result (ContainsNoStamp self.now stamp) (λ p. map.get self.now.stamps p ≡ Some stamp) }
     {
         if self.nodes.has_stamp(self.near, stamp) {
             return Some(self.near);
         }
-        self.by_stamp.get(&stamp).copied()
+        self.by_stamp.find(&self.nodes, stamp)
     }
 
     /// The place of the entry that was pinned last, where no look was told to begin elsewhere.
@@ -123,6 +148,7 @@ impl<K: Hash + Eq + Clone, V: Drop> Table<K, V> {
     /// Keeps a new entry, held by one pin, whose value is being made.
     ///
     /// `Memory` where a copy of the key or a growth is refused; nothing changes then.
+    #[inline(never)]
     pub fn add(&mut self, alloc: Global, stamp: u64, key: &K, charge: u64) -> Result<(), Refusal>
         requires absent { ContainsNoKey K.eq self.old key.now }
         requires fresh { ContainsNoStamp self.old stamp }
@@ -138,9 +164,9 @@ impl<K: Hash + Eq + Clone, V: Drop> Table<K, V> {
         let node = Box::new(alloc, Node::new(stamp, own, charge))?;
         make_room(&mut self.nodes, &mut self.by_key, &mut self.by_stamp, 1)?;
         let place = self.nodes.insert_reserved(node);
-        // Neither is refused, since there is room, and neither had the key or the stamp before.
-        let _by_key = self.by_key.insert(kept, place);
-        let _by_stamp = self.by_stamp.insert(stamp, place);
+        // Not refused, since there is room; no entry had the key before.
+        let _before = self.by_key.insert(kept, place);
+        self.by_stamp.insert(stamp, place);
         self.total += charge;
         self.near = place;
         Ok(())
@@ -254,7 +280,21 @@ impl<K: Hash + Eq + Clone, V: Drop> Table<K, V> {
     }
 
     /// Evicts the oldest idle entries until the total is at most the capacity or none is left.
+    #[inline(always)]
     pub fn settle(&mut self, capacity: u64) -> Evicted<K, V>
+        ensures held { self.new.held ≡ self.old.held }
+        ensures front { IsFront (charges_of self.old) capacity self.old.idle result self.new.idle }
+        ensures work { self.new.work ≡ self.old.work + length result }
+    {
+        if self.total() <= capacity {
+            return Evicted::none();
+        }
+        self.evict_down_to(capacity)
+    }
+
+    // Settles a total that is above the capacity.
+    #[inline(never)]
+    fn evict_down_to(&mut self, capacity: u64) -> Evicted<K, V>
         ensures held { self.new.held ≡ self.old.held }
         ensures front { IsFront (charges_of self.old) capacity self.old.idle result self.new.idle }
         ensures work { self.new.work ≡ self.old.work + length result }
@@ -277,16 +317,17 @@ impl<K: Hash + Eq + Clone, V: Drop> Table<K, V> {
 fn make_room<K: Hash + Eq + Drop, V: Drop>(
     nodes: &mut Nodes<K, V>,
     by_key: &mut HashMap<K, Place>,
-    by_stamp: &mut HashMap<u64, Place>,
+    by_stamp: &mut Stamps,
     more: usize,
 ) -> Result<(), Refusal>
-    ensures ok { OnOk result ((more ≤ nodes.new.spare) × (more ≤ spare by_key.new) × (more ≤ spare by_stamp.new)) }
+    ensures ok { OnOk result ((more ≤ nodes.new.spare) × (more ≤ spare by_key.new) × HasRoomFor by_stamp.new more) }
     ensures refusal { IfErr result (λ e. e ≡ Refusal.Memory) }
     ensures nodes { nodes.new.nodes ≡ nodes.old.nodes }
     ensures idle { nodes.new.idle ≡ nodes.old.idle }
     ensures work { nodes.new.work ≡ nodes.old.work }
     ensures by_key { (k : K) → hash.get K.eq by_key.new k ≡ hash.get K.eq by_key.old k }
-    ensures by_stamp { (s : ℕ) → hash.get nat_eq by_stamp.new s ≡ hash.get nat_eq by_stamp.old s }
+    ensures keeps { keeps_map by_stamp.new ≡ keeps_map by_stamp.old }
+    ensures by_stamp { (s : ℕ) → mapped_place by_stamp.new s ≡ mapped_place by_stamp.old s }
 {
     nodes.reserve(more)?;
     by_key.reserve(more)?;
@@ -298,7 +339,7 @@ fn make_room<K: Hash + Eq + Drop, V: Drop>(
 fn take_away<K: Hash + Eq + Drop, V: Drop>(
     nodes: &mut Nodes<K, V>,
     by_key: &mut HashMap<K, Place>,
-    by_stamp: &mut HashMap<u64, Place>,
+    by_stamp: &mut Stamps,
     total: &mut u64,
     place: Place,
 ) -> Box<Node<K, V>>
@@ -311,13 +352,13 @@ fn take_away<K: Hash + Eq + Drop, V: Drop>(
     ensures idle { nodes.new.idle ≡ nodes.old.idle }
     ensures work { nodes.new.work ≡ nodes.old.work }
     ensures by_key { (k : K) → hash.get K.eq by_key.new k ≡ cond (K.eq (entry_of result.value).key k) None (hash.get K.eq by_key.old k) }
-    ensures by_stamp { (s : ℕ) → hash.get nat_eq by_stamp.new s ≡ cond (nat_eq (entry_of result.value).stamp s) None (hash.get nat_eq by_stamp.old s) }
+    ensures keeps { keeps_map by_stamp.new ≡ keeps_map by_stamp.old }
+    ensures by_stamp { keeps_map by_stamp.old ≡ true → (s : ℕ) → mapped_place by_stamp.new s ≡ cond (nat_eq (entry_of result.value).stamp s) None (mapped_place by_stamp.old s) }
     ensures total { total.new + (entry_of result.value).charge ≡ total.old }
 {
     let node = nodes.take(place);
-    // Both answer the place, which is no longer that of a node.
-    let _by_key = by_key.remove(&node.key);
-    let _by_stamp = by_stamp.remove(&node.stamp);
+    let _place = by_key.remove(&node.key);
+    by_stamp.remove(node.stamp);
     *total -= node.charge;
     node
 }
@@ -326,7 +367,7 @@ fn take_away<K: Hash + Eq + Drop, V: Drop>(
 impl<K: Hash + Eq + Clone + fmt::Debug, V: Drop + fmt::Debug> fmt::Debug for Table<K, V> {
     fn fmt<W: fmt::Write>(&self, f: &mut fmt::Formatter<W>) -> fmt::Result {
         let mut map = f.debug_map();
-        for place in self.by_stamp.values() {
+        for place in self.by_key.values() {
             let node = self.node(*place);
             if let Phase::Ready(value) = &node.phase {
                 map.entry(&node.key, &**value);

@@ -203,6 +203,7 @@ impl<K: Hash + Eq + Clone + Drop, V: Drop, R: Wait, F: Fit<K, V>> LruCache<K, V,
     }
 
     // Begins, and waits while another caller makes the value.
+    #[inline(always)]
     fn start(&self, key: &K, charge: u64) -> Result<Turn<'_, K, V, R, F>, Refusal>
         requires { 0 < charge }
         ensures turn { IfOk result (λ turn. IsTurnFor F.fits turn key.now charge) }
@@ -211,8 +212,27 @@ impl<K: Hash + Eq + Clone + Drop, V: Drop, R: Wait, F: Fit<K, V>> LruCache<K, V,
         match self.door.enter().begin(key, charge)? {
             Met::Make(maker) => Ok(Turn::Make(maker)),
             Met::Hit(handle) => Ok(Turn::Ready(handle)),
-            Met::Wait(asleep) => self.awaited(asleep, key, charge),
+            Met::Wait(asleep) => self.wait_for(asleep, key, charge),
         }
+    }
+
+    // `awaited`, apart from `start`, so that what a wait needs in memory is made where one waits: beside the call of a hit
+    // it would be made for each hit too.
+    #[inline(always)]
+    fn wait_for<'a>(
+        &'a self,
+        asleep: Asleep<'a, K, V, R, F>,
+        key: &K,
+        charge: u64,
+    ) -> Result<Turn<'a, K, V, R, F>, Refusal>
+        requires charged { 0 < charge }
+        requires asked { awaited_key asleep.waiting ≡ key.now }
+        requires charge { awaited_charge asleep.waiting ≡ charge }
+        requires awake { IsAwake asleep }
+        ensures turn { IfOk result (λ turn. IsTurnFor F.fits turn key.now charge) }
+        ensures never_stale { IfErr result (λ e. e ≢ Refusal.Stale) }
+    {
+        Ok(self.awaited(asleep, key, charge)?)
     }
 
     // Waits while another caller makes the value. A waiter whose pin turns out to be none begins
@@ -247,6 +267,7 @@ impl<K: Hash + Eq + Clone + Drop, V: Drop, R: Wait, F: Fit<K, V>> LruCache<K, V,
 
     // Stores what was made and wakes whoever waits for it. The making is given up where memory
     // is refused.
+    #[inline(always)]
     fn finish<'a>(
         &self,
         maker: Maker<'a, K, V, R, F>,

@@ -7,9 +7,10 @@ use Rattle.std.specs.FinMap.{get, insert, remove, keys, from_entries}
 use Rattle.std.specs.HashMap as hash
 use Rattle.std.specs.HashMap.{HashMap}
 use Rattle.std.proofs.lemmas.Bool.{true≢false}
-use Rattle.std.proofs.lemmas.Option.{none-some}
 use Rattle.concurrent_lru.specs.Steps.{without}
-use Rattle.concurrent_lru.specs.NodeTable.{Entry, NodeTable}
+use Rattle.concurrent_lru.specs.NodeTable.{Entry, NodeTable, IsNewStamp}
+use Rattle.concurrent_lru.specs.Stamps.{keeps_map, mapped_place}
+use Rattle.concurrent_lru.specs.declared.table.stamps.Stamps.{Stamps}
 use Rattle.concurrent_lru.specs.Representation.{IsRepresentation, CutsPlace, idle_in, held_in, idle_at_place, held_at_place, as_idle, held_entry}
 use Rattle.concurrent_lru.specs.Indexes.{IsStored, entries_of, stamps_of}
 use Rattle.concurrent_lru.proofs.Entries.NodeWrittenOrAdded.{around, represents_same, Adds, added_represents, added_idle, added_held}
@@ -28,12 +29,12 @@ pub on_err : {A B P : Type 0} (r : Result A B) → P → OnErr r P
 on_err (Ok x) p = tt
 on_err (Err e) p = p
 
-module _ {K V S T : Type 0} {C : K → K → Type 0} {E : K → K → Bool} {t t' : NodeTable K V} {by_key by_key' : HashMap K ℕ S} {by_stamp by_stamp' : HashMap ℕ ℕ T} (r : IsStored C E t by_key by_stamp) where
+module _ {K V S : Type 0} {C : K → K → Type 0} {E : K → K → Bool} {t t' : NodeTable K V} {by_key by_key' : HashMap K ℕ S} {by_stamp by_stamp' : Stamps} (r : IsStored C E t by_key by_stamp) where
   -- the same nodes and order, and maps that answer alike
-  pub stored_same : t'.nodes ≡ t.nodes → t'.idle ≡ t.idle → ((k : K) → hash.get E by_key' k ≡ hash.get E by_key k) → ((s : ℕ) → hash.get eqb by_stamp' s ≡ hash.get eqb by_stamp s) → IsStored C E t' by_key' by_stamp'
-  stored_same n i a b = record {
+  pub stored_same : t'.nodes ≡ t.nodes → t'.idle ≡ t.idle → ((k : K) → hash.get E by_key' k ≡ hash.get E by_key k) → keeps_map by_stamp' ≡ keeps_map by_stamp → ((s : ℕ) → mapped_place by_stamp' s ≡ mapped_place by_stamp s) → IsStored C E t' by_key' by_stamp'
+  stored_same n i a kept b = record {
     represents = represents_same t t' (keys t.nodes) (keys t'.nodes) n i (ap keys n) r.represents;
-    indexed = indexed_same n a b r.indexed;
+    indexed = indexed_same n a kept b r.indexed;
     copies = r.copies;
   }
 
@@ -41,29 +42,31 @@ module _ {K V : Type 0} where
   pub entries_same : (t t' : NodeTable K V) → t'.nodes ≡ t.nodes → t'.idle ≡ t.idle → t'.work ≡ t.work → entries_of t' ≡ entries_of t
   entries_same t t' n i w = λ j. record { idle = filter_map (idle_at_place (n j)) (i j); held = from_entries (filter_map (held_at_place (n j)) (keys (n j))); stamps = stamps_of (n j); work = w j }
 
-module _ {K V S T : Type 0} (E : K → K → Bool) where
+module _ {K V S : Type 0} (E : K → K → Bool) where
   -- an entry more, at a place that was free: the map's key is k
-  pub record IsAdded (t t' : NodeTable K V) (by_key by_key' : HashMap K ℕ S) (by_stamp by_stamp' : HashMap ℕ ℕ T) (p : ℕ) (e : Entry K V) (k : K) : Type 0 where
+  pub record IsAdded (t t' : NodeTable K V) (by_key by_key' : HashMap K ℕ S) (by_stamp by_stamp' : Stamps) (p : ℕ) (e : Entry K V) (k : K) : Type 0 where
     pub free : get t.nodes p ≡ None
     pub nodes : t'.nodes ≡ insert t.nodes p e
     pub idle : t'.idle ≡ t.idle
     pub pins : e.pins ≡ 1
     pub same_key : E k e.key ≡ true
     pub absent : hash.get E by_key k ≡ None
-    pub fresh : hash.get eqb by_stamp e.stamp ≡ None
+    pub fresh : IsNewStamp t e.stamp
     pub keys_now : (q : K) → hash.get E by_key' q ≡ cond (E k q) (Some p) (hash.get E by_key q)
-    pub stamps_now : (s : ℕ) → hash.get eqb by_stamp' s ≡ cond (eqb e.stamp s) (Some p) (hash.get eqb by_stamp s)
+    pub keeps : keeps_map by_stamp' ≡ keeps_map by_stamp
+    pub stamps_now : keeps_map by_stamp ≡ true → (s : ℕ) → mapped_place by_stamp' s ≡ cond (eqb e.stamp s) (Some p) (mapped_place by_stamp s)
 
   -- an entry less
-  pub record IsTaken (t t' : NodeTable K V) (by_key by_key' : HashMap K ℕ S) (by_stamp by_stamp' : HashMap ℕ ℕ T) (p : ℕ) (e : Entry K V) : Type 0 where
+  pub record IsTaken (t t' : NodeTable K V) (by_key by_key' : HashMap K ℕ S) (by_stamp by_stamp' : Stamps) (p : ℕ) (e : Entry K V) : Type 0 where
     pub at : get t.nodes p ≡ Some e
     pub nodes : t'.nodes ≡ remove t.nodes p
     pub idle : t'.idle ≡ filter (λ q. not (eqb q p)) t.idle
     pub keys_now : (q : K) → hash.get E by_key' q ≡ cond (E e.key q) None (hash.get E by_key q)
-    pub stamps_now : (s : ℕ) → hash.get eqb by_stamp' s ≡ cond (eqb e.stamp s) None (hash.get eqb by_stamp s)
+    pub keeps : keeps_map by_stamp' ≡ keeps_map by_stamp
+    pub stamps_now : keeps_map by_stamp ≡ true → (s : ℕ) → mapped_place by_stamp' s ≡ cond (eqb e.stamp s) None (mapped_place by_stamp s)
 
-module _ {K V S T : Type 0} {C : K → K → Type 0} {E : K → K → Bool} where
-  module _ (eq : IsEquivalence E) {t t' : NodeTable K V} {by_key by_key' : HashMap K ℕ S} {by_stamp by_stamp' : HashMap ℕ ℕ T} {p : ℕ} {e : Entry K V} {k : K} (r : IsStored C E t by_key by_stamp) (a : IsAdded E t t' by_key by_key' by_stamp by_stamp' p e k) where
+module _ {K V S : Type 0} {C : K → K → Type 0} {E : K → K → Bool} where
+  module _ (eq : IsEquivalence E) {t t' : NodeTable K V} {by_key by_key' : HashMap K ℕ S} {by_stamp by_stamp' : Stamps} {p : ℕ} {e : Entry K V} {k : K} (r : IsStored C E t by_key by_stamp) (a : IsAdded E t t' by_key by_key' by_stamp by_stamp' p e k) where
     adds : Adds t t' (keys t.nodes) (keys t.nodes ++ p ∷ []) p e
     adds = record {
       free = a.free;
@@ -71,13 +74,13 @@ module _ {K V S T : Type 0} {C : K → K → Type 0} {E : K → K → Bool} wher
       idle = a.idle;
       more = refl;
       pins = a.pins;
-      fresh = λ q x h s. none-some q (sym a.fresh ∙ ap (hash.get eqb by_stamp) (sym s) ∙ r.indexed.stamp_found q x h);
+      fresh = a.fresh;
     }
 
     pub stored_with : IsStored C E t' by_key' by_stamp'
     stored_with = record {
       represents = represents_keys t' (keys t.nodes ++ p ∷ []) (added_represents r.represents adds);
-      indexed = indexed_added eq (alike_get eq by_key) r.indexed p e k a.nodes a.free a.same_key a.absent a.fresh a.keys_now a.stamps_now;
+      indexed = indexed_added eq (alike_get eq by_key) r.indexed p e k a.nodes a.free a.same_key a.absent a.fresh a.keys_now a.keeps a.stamps_now;
       copies = r.copies;
     }
 
@@ -90,7 +93,7 @@ module _ {K V S T : Type 0} {C : K → K → Type 0} {E : K → K → Bool} wher
         held_alike t' (keys t'.nodes) (keys t.nodes ++ p ∷ []) (represents_keys t' (keys t.nodes ++ p ∷ []) there) there
         ∙ added_held r.represents adds
 
-  module _ (eq : IsEquivalence E) {t t' : NodeTable K V} {by_key by_key' : HashMap K ℕ S} {by_stamp by_stamp' : HashMap ℕ ℕ T} {p : ℕ} {e : Entry K V} (r : IsStored C E t by_key by_stamp) (a : IsTaken E t t' by_key by_key' by_stamp by_stamp' p e) where
+  module _ (eq : IsEquivalence E) {t t' : NodeTable K V} {by_key by_key' : HashMap K ℕ S} {by_stamp by_stamp' : Stamps} {p : ℕ} {e : Entry K V} (r : IsStored C E t by_key by_stamp) (a : IsTaken E t t' by_key by_key' by_stamp by_stamp' p e) where
     listed : IsIn p (keys t.nodes)
     listed = r.represents.all_places p e a.at
 
@@ -106,7 +109,7 @@ module _ {K V S T : Type 0} {C : K → K → Type 0} {E : K → K → Bool} wher
     pub stored_without : IsStored C E t' by_key' by_stamp'
     stored_without = record {
       represents = represents_keys t' _ there;
-      indexed = indexed_removed eq (alike_get eq by_key) r.indexed p e a.nodes a.at a.keys_now a.stamps_now;
+      indexed = indexed_removed eq (alike_get eq by_key) r.indexed r.represents.stamps p e a.nodes a.at a.keys_now a.keeps a.stamps_now;
       copies = r.copies;
     }
 

@@ -8,6 +8,7 @@ use Rattle.concurrent_lru.specs.Cache.{ready}
 use Rattle.concurrent_lru.specs.Steps.{without}
 use Rattle.concurrent_lru.specs.NodeTable.{Entry, NodeTable, update_at, entry_with_pins}
 use Rattle.concurrent_lru.specs.Representation.{IsRepresentation, idle_in, held_in, held_entry}
+use Rattle.concurrent_lru.specs.declared.table.stamps.Stamps.{Stamps}
 use Rattle.concurrent_lru.specs.Indexes.{IsStored, entries_of, stamps_of}
 use Rattle.concurrent_lru.proofs.Entries.NodeWrittenOrAdded.{WritesNode, written_represents, written_held, written_idle, revived_represents, revived_held, rested_represents, rested_held, rested_idle}
 use Rattle.concurrent_lru.proofs.Steps.BeginOfHeld.{revived_idle}
@@ -18,7 +19,7 @@ use Rattle.concurrent_lru.proofs.Entries.IndexedByMaps.{indexed_written}
 pub not_zero : (n : ℕ) → 0 < n → (n == 0) ≡ false
 not_zero n h = ne_eqb n 0 (λ z. absurd (omega arith))
 
-module _ {K V S T : Type 0} {C : K → K → Type 0} {E : K → K → Bool} {t t' : NodeTable K V} {by_key : HashMap K ℕ S} {by_stamp : HashMap ℕ ℕ T} {p : ℕ} {e f : Entry K V} (r : IsStored C E t by_key by_stamp) (w : WritesNode t t' p e f) (same_key : f.key ≡ e.key) where
+module _ {K V S : Type 0} {C : K → K → Type 0} {E : K → K → Bool} {t t' : NodeTable K V} {by_key : HashMap K ℕ S} {by_stamp : Stamps} {p : ℕ} {e f : Entry K V} (r : IsStored C E t by_key by_stamp) (w : WritesNode t t' p e f) (same_key : f.key ≡ e.key) where
   stored_over : IsRepresentation t' (keys t.nodes) → IsStored C E t' by_key by_stamp
   stored_over there = record {
     represents = represents_keys t' (keys t.nodes) there;
@@ -74,7 +75,7 @@ module _ {K V : Type 0} where
   pub rests_nodes : (old mid new : NodeTable K V) (p : ℕ) (e : Entry K V) → get old.nodes p ≡ Some e → mid.nodes ≡ update_at (entry_with_pins 0) old.nodes p → new.nodes ≡ mid.nodes → WritesNode old new p e (entry_with_pins 0 e)
   rests_nodes old mid new p e at changed same = pinned_writes old new p 0 e at (same ∙ changed)
 
-module _ {K V S T : Type 0} {C : K → K → Type 0} {E : K → K → Bool} {t t' : NodeTable K V} {by_key : HashMap K ℕ S} {by_stamp : HashMap ℕ ℕ T} {p : ℕ} {e : Entry K V} (r : IsStored C E t by_key by_stamp) (w : WritesNode t t' p e (entry_with_pins 1 e)) where
+module _ {K V S : Type 0} {C : K → K → Type 0} {E : K → K → Bool} {t t' : NodeTable K V} {by_key : HashMap K ℕ S} {by_stamp : Stamps} {p : ℕ} {e : Entry K V} (r : IsStored C E t by_key by_stamp) (w : WritesNode t t' p e (entry_with_pins 1 e)) where
   pub entries_revived_by_one : (v : V) → t'.idle ≡ filter (λ q. not (eqb q p)) t.idle → e.pins ≡ 0 → e.phase ≡ ready v → t'.work ≡ t.work + 1
       → entries_of t' ≡ record (entries_of t) { idle = without e.stamp (idle_in t); held = insert (held_in t (keys t.nodes)) e.stamp (record { key = e.key; charge = e.charge; pins = 1; phase = ready v }); work = t.work + 1 }
   entries_revived_by_one v i z ph work = entries_revived r w refl v i z ph refl work

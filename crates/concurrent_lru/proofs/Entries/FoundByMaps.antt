@@ -1,5 +1,5 @@
--- What the two maps find, in words of the entries.
-use Rattle.std.proofs.Common.{◌≡◌, ℕ, Bool, true, Option, Some, None, refl, sym, ap, ◌∙◌, subst, eqb}
+-- What the maps, or a look at every node, find, in words of the entries.
+use Rattle.std.proofs.Common.{◌≡◌, ℕ, Bool, true, false, Option, Some, None, refl, sym, ap, ◌∙◌, subst}
 use Rattle.std.specs.Prelude.{MatchOption}
 use Rattle.std.specs.Option.{option_map}
 use Rattle.std.specs.Cmp.{IsEquivalence}
@@ -9,8 +9,10 @@ use Rattle.std.specs.HashMap.{HashMap}
 use Rattle.std.specs.HashMap.Eq.{lookup_congr}
 use Rattle.std.proofs.lemmas.Bool.{true≢false, false_from_ne_true}
 use Rattle.std.proofs.lemmas.Option.{none-some}
-use Rattle.concurrent_lru.specs.NodeTable.{Entry, NodeTable}
+use Rattle.concurrent_lru.specs.NodeTable.{Entry, NodeTable, HasStampAt, IsNewStamp}
 use Rattle.concurrent_lru.specs.Entries.{ContainsEntry, ContainsNoStamp, ContainsNoKey, IsPlaceOfKey}
+use Rattle.concurrent_lru.specs.Stamps.{keeps_map, mapped_place}
+use Rattle.concurrent_lru.specs.declared.table.stamps.Stamps.{Stamps}
 use Rattle.concurrent_lru.specs.Indexes.{IsStored, entries_of}
 use Rattle.concurrent_lru.proofs.Steps.BeginOfAbsent.{entry_node, node_entry}
 use Rattle.concurrent_lru.proofs.Entries.PlacesOfNodes.{get_stamps}
@@ -19,18 +21,30 @@ use Rattle.concurrent_lru.proofs.Entries.PlacesOfNodes.{get_stamps}
 pub alike_get : {K X S : Type 0} {E : K → K → Bool} → IsEquivalence E → (m : HashMap K X S) (k l : K) → E k l ≡ true → hash.get E m k ≡ hash.get E m l
 alike_get {E = E} eq m k l h = lookup_congr E eq.congr m.entries k l h
 
-module _ {K V S T : Type 0} {C : K → K → Type 0} {E : K → K → Bool} {t : NodeTable K V} {by_key : HashMap K ℕ S} {by_stamp : HashMap ℕ ℕ T} (r : IsStored C E t by_key by_stamp) where
+module _ {K V S : Type 0} {C : K → K → Type 0} {E : K → K → Bool} {t : NodeTable K V} {by_key : HashMap K ℕ S} {by_stamp : Stamps} (r : IsStored C E t by_key by_stamp) where
   -- a node is an entry
   pub entry_at : (p : ℕ) (e : Entry K V) → get t.nodes p ≡ Some e → ContainsEntry (entries_of t) e.stamp e.key e.charge
   entry_at p e h = node_entry 0 0 0 t (keys t.nodes) p e r.represents h
 
-  pub found_stamp : (s : ℕ) (o : Option ℕ) → o ≡ hash.get eqb by_stamp s → MatchOption o (ContainsNoStamp (entries_of t) s) (λ p. get (entries_of t).stamps p ≡ Some s)
-  found_stamp s None h = λ k m e.
-      let n = entry_node 0 0 0 t (keys t.nodes) s k m r.represents e in
-      none-some n.place (h ∙ ap (hash.get eqb by_stamp) (sym n.stamp) ∙ r.indexed.stamp_found n.place n.entry n.at)
-  found_stamp s (Some p) h =
-      let n = r.indexed.stamp_kept s p (sym h) in
-      get_stamps t.nodes p ∙ ap (option_map (λ x. x.stamp)) n.1 ∙ ap Some n.2
+  pub stamp_at : (s p : ℕ) → HasStampAt t p s → get (entries_of t).stamps p ≡ Some s
+  stamp_at s p n = get_stamps t.nodes p ∙ ap (option_map (λ x. x.stamp)) n.1 ∙ ap Some n.2
+
+  -- by a look at every node
+  pub seen_stamp : (s : ℕ) (o : Option ℕ) → MatchOption o (IsNewStamp t s) (λ p. HasStampAt t p s) → MatchOption o (ContainsNoStamp (entries_of t) s) (λ p. get (entries_of t).stamps p ≡ Some s)
+  seen_stamp s None h = λ k m e. let n = entry_node 0 0 0 t (keys t.nodes) s k m r.represents e in h n.place n.entry n.at n.stamp
+  seen_stamp s (Some p) h = stamp_at s p h
+
+  -- by the map
+  mapped_stamp : keeps_map by_stamp ≡ true → (s : ℕ) (o : Option ℕ) → o ≡ mapped_place by_stamp s → MatchOption o (IsNewStamp t s) (λ p. HasStampAt t p s)
+  mapped_stamp kept s None h = λ p e at same. none-some p (h ∙ ap (mapped_place by_stamp) (sym same) ∙ r.indexed.stamp_found kept p e at)
+  mapped_stamp kept s (Some p) h = r.indexed.stamp_kept kept s p (sym h)
+
+  pub found_stamp : (s : ℕ) (o : Option ℕ) → (keeps_map by_stamp ≡ true → o ≡ mapped_place by_stamp s) → (keeps_map by_stamp ≡ false → MatchOption o (IsNewStamp t s) (λ p. HasStampAt t p s))
+      → MatchOption o (ContainsNoStamp (entries_of t) s) (λ p. get (entries_of t).stamps p ≡ Some s)
+  found_stamp s o mapped seen = elim (keeps_map by_stamp) as (λ b. keeps_map by_stamp ≡ b → MatchOption o (ContainsNoStamp (entries_of t) s) (λ p. get (entries_of t).stamps p ≡ Some s)) [
+    | true ↦ λ kept. seen_stamp s o (mapped_stamp kept s o (mapped kept))
+    | false ↦ λ none. seen_stamp s o (seen none)
+  ] refl
 
   pub found_key : IsEquivalence E → (k : K) (o : Option ℕ) → o ≡ hash.get E by_key k → MatchOption o (ContainsNoKey E (entries_of t) k) (λ p. IsPlaceOfKey E (entries_of t) p k)
   found_key eq k None h = λ s l m e.
@@ -41,12 +55,6 @@ module _ {K V S T : Type 0} {C : K → K → Type 0} {E : K → K → Bool} {t :
       record { stamp = n.0.stamp; key = n.0.key; charge = n.0.charge; at = get_stamps t.nodes p ∙ ap (option_map (λ x. x.stamp)) n.1; entry = entry_at p n.0 n.1; same_key = n.2 }
 
   -- what has no entry is not found
-  pub lacks_stamp : (s : ℕ) → ContainsNoStamp (entries_of t) s → hash.get eqb by_stamp s ≡ None
-  lacks_stamp s none = elim (hash.get eqb by_stamp s) as (λ o. hash.get eqb by_stamp s ≡ o → o ≡ None) [
-    | None ↦ λ h. refl
-    | Some p ↦ λ h. let n = r.indexed.stamp_kept s p h in absurd (none n.0.key n.0.charge (subst (λ u. ContainsEntry (entries_of t) u n.0.key n.0.charge) n.2 (entry_at p n.0 n.1)))
-  ] refl
-
   pub lacks_key : (k : K) → ContainsNoKey E (entries_of t) k → hash.get E by_key k ≡ None
   lacks_key k none = elim (hash.get E by_key k) as (λ o. hash.get E by_key k ≡ o → o ≡ None) [
     | None ↦ λ h. refl
@@ -54,5 +62,5 @@ module _ {K V S T : Type 0} {C : K → K → Type 0} {E : K → K → Bool} {t :
   ] refl
 
   -- no node has a stamp that no entry has
-  pub fresh_among : (s : ℕ) → ContainsNoStamp (entries_of t) s → (p : ℕ) (e : Entry K V) → get t.nodes p ≡ Some e → e.stamp ≡ s → ⊥
+  pub fresh_among : (s : ℕ) → ContainsNoStamp (entries_of t) s → IsNewStamp t s
   fresh_among s none p e h is = none e.key e.charge (subst (λ u. ContainsEntry (entries_of t) u e.key e.charge) is (entry_at p e h))

@@ -1,6 +1,7 @@
 -- The node at a place that an entry has.
 use Rattle.std.proofs.Common.{◌≡◌, ◌≢◌, ℕ, inr, List, [], ◌∷◌, ◌++◌, Option, Bool, true, false, Some, None, refl, sym, ap, ◌∙◌, subst, eqb, ◌==◌}
 use Rattle.std.specs.Prelude.{IsSome, is_some, slice_get}
+use Rattle.std.specs.Cmp.{IsEquivalence}
 use Rattle.std.specs.FinMap.{get, keys}
 use Rattle.std.specs.HashMap as hash
 use Rattle.std.specs.HashMap.{HashMap}
@@ -10,6 +11,7 @@ use Rattle.concurrent_lru.specs.Cache.{Idle, Held, ready, idle_at, held_at}
 use Rattle.concurrent_lru.specs.NodeTable.{Entry, NodeTable}
 use Rattle.concurrent_lru.specs.Representation.{as_idle, held_entry, held_in, idle_in, idle_at_place}
 use Rattle.concurrent_lru.specs.Entries.{ContainsPlace, ContainsIdleAt, ContainsHeldAt, GetsAt, IsReadyAt, ContainsNoStamp, cache_of, pins_at}
+use Rattle.concurrent_lru.specs.declared.table.stamps.Stamps.{Stamps}
 use Rattle.concurrent_lru.specs.Indexes.{IsStored, entries_of}
 use Rattle.concurrent_lru.proofs.Entries.NodeWrittenOrAdded.{held_in-get, held_in-found}
 use Rattle.concurrent_lru.proofs.Lists.Members.{IsIn, in_self}
@@ -19,7 +21,6 @@ use Rattle.std.specs.Option.{option_and_then, option_map, option_map_or}
 use Rattle.concurrent_lru.specs.Steps.{without}
 use Rattle.concurrent_lru.proofs.Entries.SumsOfCharges.{stamps_apart, first_out}
 use Rattle.concurrent_lru.proofs.Entries.PlacesOfNodes.{get_stamps, all_values}
-use Rattle.concurrent_lru.proofs.Entries.IndexedByMaps.{one_place}
 
 module _ {K V : Type 0} where
   pub record IsNodeAt (t : NodeTable K V) (p s : ℕ) : Type 0 where
@@ -43,7 +44,7 @@ some_of : {A : Type 0} (o : Rattle.std.proofs.Common.Option A) → IsSome o → 
 some_of None h = absurd (true≢false (sym h))
 some_of (Some x) h = (x, refl)
 
-module _ {K V S T : Type 0} {C : K → K → Type 0} {E : K → K → Bool} {t : NodeTable K V} {by_key : HashMap K ℕ S} {by_stamp : HashMap ℕ ℕ T} (r : IsStored C E t by_key by_stamp) where
+module _ {K V S : Type 0} {C : K → K → Type 0} {E : K → K → Bool} {t : NodeTable K V} {by_key : HashMap K ℕ S} {by_stamp : Stamps} (r : IsStored C E t by_key by_stamp) where
   node_of : (p s : ℕ) → get (entries_of t).stamps p ≡ Some s → IsNodeAt t p s
   node_of p s h = elim (get t.nodes p) as (λ o. get t.nodes p ≡ o → option_map (λ x. x.stamp) o ≡ Some s → IsNodeAt t p s) [
     | None ↦ λ at k. absurd (none-some s k)
@@ -66,7 +67,7 @@ module _ {K V S T : Type 0} {C : K → K → Type 0} {E : K → K → Bool} {t :
       let n = node_of p h.0 h.1 in
       let o = some_of (held_at (cache_of (entries_of t)) h.0) h.2 in
       let f = held_in-found t (keys t.nodes) h.0 o.0 o.1 in
-      let here : f.place ≡ p = one_place r.indexed f.place p f.entry n.entry f.at n.at (f.stamp ∙ sym n.stamp) in
+      let here : f.place ≡ p = r.represents.stamps f.place p f.entry n.entry f.at n.at (f.stamp ∙ sym n.stamp) in
       ap (λ y. y.pins == 0) (same_Some _ _ (sym at ∙ sym (ap (get t.nodes) here) ∙ f.at)) ∙ f.pinned
 
   pub held_found : (p : ℕ) (e : Entry K V) → get t.nodes p ≡ Some e → (e.pins == 0) ≡ false → held_at (cache_of (entries_of t)) e.stamp ≡ Some (held_entry e)
@@ -82,7 +83,7 @@ module _ {K V S T : Type 0} {C : K → K → Type 0} {E : K → K → Bool} {t :
       let x_is : Some (record { stamp = f.entry.stamp; key = f.entry.key; charge = f.entry.charge; value = w.1 }) ≡ Some o.0 =
       sym (as_idle-ready f.entry w.1 (ap (λ y. y.phase) (same_Some _ _ (sym f.at ∙ w.2)) ∙ w.4)) ∙ f.idle in
       let stamp : f.entry.stamp ≡ n.entry.stamp = ap (λ x. x.stamp) (same_Some _ _ x_is) ∙ eqb-true o.0.stamp h.0 f.stamp ∙ sym n.stamp in
-      subst (λ q. IsIn q t.idle) (one_place r.indexed f.place p f.entry n.entry f.at n.at stamp) f.«in»
+      subst (λ q. IsIn q t.idle) (r.represents.stamps f.place p f.entry n.entry f.at n.at stamp) f.«in»
 
   pub idle_found : (p : ℕ) (e : Entry K V) → get t.nodes p ≡ Some e → IsIn p t.idle → IsSome (as_idle e) × (idle_at (cache_of (entries_of t)) e.stamp ≡ as_idle e)
   idle_found p e at m =
@@ -113,9 +114,9 @@ module _ {K V S T : Type 0} {C : K → K → Type 0} {E : K → K → Bool} {t :
       let same : h.entry ≡ held_entry e = same_Some _ _ (sym h.held ∙ sym (ap (held_at (cache_of (entries_of t))) stamp) ∙ held_found p e at pinned) in
       (pinned, ap (λ y. y.phase) (sym same) ∙ h.phase)
 
-  -- each place in the map of stamps is shown
-  pub values_are_places : hash.IsUnique eqb by_stamp → AllByRecursion (λ p. ContainsPlace (entries_of t) p) (hash.values by_stamp)
-  values_are_places apart = all_values (λ p. ContainsPlace (entries_of t) p) by_stamp.entries apart (λ s p h. (let n = r.indexed.stamp_kept s p h in (n.0.stamp, place_at p n.0 n.1)))
+  -- each place in the map of keys is shown
+  pub values_are_places : IsEquivalence E → hash.IsUnique E by_key → AllByRecursion (λ p. ContainsPlace (entries_of t) p) (hash.values by_key)
+  values_are_places eq apart = all_values eq (λ p. ContainsPlace (entries_of t) p) by_key.entries apart (λ k p h. (let n = r.indexed.key_kept k p h in (n.0.stamp, place_at p n.0 n.1)))
 
   -- a stamp that no entry has is no held one's, nor is an idle one's
   pub unheld : (s : ℕ) → ContainsNoStamp (entries_of t) s → get (held_in t (keys t.nodes)) s ≡ None
@@ -129,7 +130,7 @@ module _ {K V S T : Type 0} {C : K → K → Type 0} {E : K → K → Bool} {t :
     | None ↦ λ h. refl
     | Some h ↦ λ found.
         let f = held_in-found t (keys t.nodes) e.stamp h found in
-        let here : f.place ≡ p = one_place r.indexed f.place p f.entry e f.at at f.stamp in
+        let here : f.place ≡ p = r.represents.stamps f.place p f.entry e f.at at f.stamp in
         let same : f.entry ≡ e = same_Some _ _ (sym f.at ∙ ap (get t.nodes) here ∙ at) in
         absurd (true≢false (sym (eq-eqb e.pins 0 (idle_like p e at m).1) ∙ ap (λ y. y.pins == 0) (sym same) ∙ f.pinned))
   ] refl

@@ -4,7 +4,7 @@ use Rattle.std.specs.Prelude.{T, is_some}
 use Rattle.std.specs.List.{list_any, IsDistinct, AllByRecursion, filter_map}
 use Rattle.std.proofs.Common.{Ordering, Less, Equal, Greater}
 use Rattle.std.specs.Ordering.{nat_cmp, is_lt, is_eq, eq_by_cmp}
-use Rattle.std.specs.Cmp.{nat_cmp_total, unsigned_tied, nat_eq_equiv}
+use Rattle.std.specs.Cmp.{IsEquivalence, nat_cmp_total, unsigned_tied}
 use Rattle.std.specs.FinMap.{FinMap, get, insert, remove, get-insert, get-remove, get-entries, get-empty, empty, keys, entries, entries_sorted, len-entries, len-empty, contains_key-keys, same_map, nat_cmp-IsAntisymmetric, from_entries, get-from_entries}
 use Rattle.std.specs.FinMap.Entries.{find, is_sorted, below_all}
 use Rattle.std.specs.Map.{lookup, keys_of, values_of}
@@ -142,15 +142,15 @@ module _ {K V : Type 0} where
   pub empty_held : (t : NodeTable K V) → t.nodes ≡ empty → held_in t (keys t.nodes) ≡ empty
   empty_held t n = ap (λ xs. from_entries (filter_map (held_at_place t.nodes) xs)) (no_keys t n)
 
-module _ {X : Type 0} where
+module _ {K X : Type 0} {E : K → K → Bool} (eq : IsEquivalence E) where
   -- what holds of each value that is found holds of all values
-  pub all_values : (P : X → Type 0) (es : List (ℕ × X)) → IsDistinct eqb (keys_of es) → ((s : ℕ) (x : X) → lookup (eqb s) es ≡ Some x → P x) → AllByRecursion P (values_of es)
+  pub all_values : (P : X → Type 0) (es : List (K × X)) → IsDistinct E (keys_of es) → ((k : K) (x : X) → lookup (E k) es ≡ Some x → P x) → AllByRecursion P (values_of es)
   unfolding IsDistinct
   all_values P [] d h = tt
   all_values P (e ∷ es) d h = (
-    h e.0 e.1 (lookup_head (eqb e.0) e es (nat_eq_equiv.refl e.0)),
-    all_values P es d.1 (λ s x found. elim (eqb s e.0) as (λ b. eqb s e.0 ≡ b → P x) [
-      | true ↦ λ b. absurd (none-some x (sym (lookup-none (eqb s) es (none_past_head nat_eq_equiv s e es d b)) ∙ found))
-      | false ↦ λ b. h s x (lookup_tail (eqb s) e es b ∙ found)
+    h e.0 e.1 (lookup_head (E e.0) e es (eq.refl e.0)),
+    all_values P es d.1 (λ k x found. elim (E k e.0) as (λ b. E k e.0 ≡ b → P x) [
+      | true ↦ λ b. absurd (none-some x (sym (lookup-none (E k) es (none_past_head eq k e es d b)) ∙ found))
+      | false ↦ λ b. h k x (lookup_tail (E k) e es b ∙ found)
     ] refl),
   )

@@ -1,6 +1,6 @@
 //! The nodes under their keys: a slab of pointers alone, and the memory that these reach.
 //! A node is had for writing by a look, which is counted, or by a link that a node carries.
-ghost use Rattle.std.specs.Prelude.{◌≡◌, ◌≢◌, ◌+◌, [], Some, None, IsSome, IsTrue, OnOk};
+ghost use Rattle.std.specs.Prelude.{◌≡◌, ◌≢◌, ℕ, ◌+◌, ◌≤◌, [], Some, None, IsSome, IsTrue, IsFalse, OnOk};
 ghost use Rattle.std.specs.Borrow.{sem};
 ghost use Rattle.slab.specs.Slab.{HasRoomFor, slab_len};
 ghost use Rattle.concurrent_lru.specs.Cells.{Cell, cell_at, key_at, AtFirst};
@@ -99,9 +99,18 @@ impl<K: Drop, V: Drop> Slots<K, V> {
     // Whether there is a node under a key, which may be any.
     pub(super) fn contains(&self, key: usize) -> bool
         requires { IsTied self.now }
-        ensures { IsTrue result → IsSome (cell_at self.now.memory.cells key) }
+        ensures yes { IsTrue result → IsSome (cell_at self.now.memory.cells key) }
+        ensures no { IsFalse result → cell_at self.now.memory.cells key ≡ None }
     {
         self.pointers.contains(key)
+    }
+
+    // All nodes are under keys below this one.
+    pub(super) fn end_of_keys(&self) -> usize
+        requires { IsTied self.now }
+        ensures { (key : ℕ) → result ≤ key → cell_at self.now.memory.cells key ≡ None }
+    {
+        self.pointers.capacity()
     }
 
     // The way to the node under a key, for writing.

@@ -39,6 +39,7 @@ taken g c = record {
   nodes = c.take_away.ensures.nodes ∙ ap (λ m. remove m c.args.place) c.remove.ensures.nodes;
   idle = c.take_away.ensures.idle ∙ c.remove.ensures.idle;
   keys_now = c.take_away.ensures.by_key;
+  keeps = c.take_away.ensures.keeps;
   stamps_now = c.take_away.ensures.by_stamp;
 }
 

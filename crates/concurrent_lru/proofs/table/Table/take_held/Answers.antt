@@ -32,6 +32,7 @@ taken g c = record {
   nodes = c.take_away.ensures.nodes;
   idle = c.take_away.ensures.idle ∙ sym (filter_absent c.args.place c.self.inside.nodes.idle (held_not_idle c.self.inside.nodes _ c.args.place (entry_of c.take_away.result.value) c.self.invariant.stored.represents c.take_away.ensures.entry (pinned g c)));
   keys_now = c.take_away.ensures.by_key;
+  keeps = c.take_away.ensures.keeps;
   stamps_now = c.take_away.ensures.by_stamp;
 }
 

@@ -6,8 +6,8 @@ use Rattle.concurrent_lru.proofs.table.TableDebug.fmt.Goals as goal
 
 pub loop-place-init : goal.loop-place-init
 loop-place-init g c =
-    let all = values_are_places c.self.invariant.stored c.values-place-items.ensures.unique in
-    let shown = subst (λ t. AllByRecursion (λ p. ContainsPlace t p) (Rattle.std.specs.HashMap.values c.self.inside.by_stamp)) c.self.view_is all in
+    let all = values_are_places c.self.invariant.stored g.met.K.Eq.laws c.values-place-items.ensures.unique in
+    let shown = subst (λ t. AllByRecursion (λ p. ContainsPlace t p) (Rattle.std.specs.HashMap.values c.self.inside.by_key)) c.self.view_is all in
     (tt, tt, subst (AllByRecursion (λ p. ContainsPlace c.args.self.now p)) (sym (c.into_iter-place-iterator.ensures.into_iter_gives ∙ c.values-place-items.ensures.rest)) shown)
 
 pub node-node-requires : goal.node-node-requires

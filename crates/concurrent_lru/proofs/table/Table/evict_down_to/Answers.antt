@@ -2,8 +2,8 @@ use Rattle.std.proofs.Common.{◌≡◌, ◌≤◌, ◌⊎◌, inl, inr, ◌++�
 use Rattle.concurrent_lru.specs.Chain.{idle_in_chain}
 use Rattle.concurrent_lru.specs.Entries.{charges_of}
 use Rattle.concurrent_lru.proofs.Entries.ChainsOfEvicted.{front_from_steps}
-use Rattle.concurrent_lru.proofs.table.Table.settle.Goals as goal
-use Rattle.concurrent_lru.proofs.table.Table.settle.Goals.{After-reversed, else-loop-self-test, then-loop-self-test+in-None}
+use Rattle.concurrent_lru.proofs.table.Table.evict_down_to.Goals as goal
+use Rattle.concurrent_lru.proofs.table.Table.evict_down_to.Goals.{After-reversed, else-loop-self-test, then-loop-self-test+in-None}
 
 -- at either end of the loop the idle entries are as they were in its last turn, and there is no more to do
 stopped : (g : _) (c : After-reversed g) → (c.loop-self.self.idle ≡ c.loop-self-test.self.idle) × ((charges_of c.loop-self.self ≤ c.args.capacity) ⊎ (c.loop-self-test.self.idle ≡ []))

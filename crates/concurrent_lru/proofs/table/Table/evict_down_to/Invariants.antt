@@ -2,7 +2,7 @@ use Rattle.std.proofs.Common.{◌≡◌, ℕ, ◌+◌, ◌<◌, ◌++◌, length
 use Rattle.concurrent_lru.specs.Cache.{charges}
 use Rattle.concurrent_lru.specs.Chain.{chain_from, idle_in_chain, AreReady}
 use Rattle.concurrent_lru.specs.Entries.{charges_of}
-use Rattle.concurrent_lru.proofs.table.Table.settle.Given as goal
+use Rattle.concurrent_lru.proofs.table.Table.evict_down_to.Given as goal
 
 abbrev pub invariant-loop-self : goal.invariant-loop-self
 invariant-loop-self g l = record {
