@@ -10,13 +10,14 @@ use Rattle.concurrent_lru.specs.Runs.{Outcome, accepted, refused, Refuses}
 use Rattle.concurrent_lru.specs.Steps.{Step}
 use Rattle.concurrent_lru.specs.declared.list.Refusal.{Refusal}
 use Rattle.concurrent_lru.specs.declared.list.Refusal.TheVariants.{Memory}
-use Rattle.lru_journal.specs.Replay.{without_values, recorded_step, told_of, record_of, start, Replays}
-use Rattle.lru_journal.specs.declared.record.Record.{Record}
+use Rattle.lru_journal.specs.Records.{Answered, record_of}
+use Rattle.lru_journal.specs.Replay.{no_value, without_values, told_of, start, Replays}
+use Rattle.lru_journal.specs.Values.{request_by}
 
 -- a cache, the records of its accepted steps, and the capacity that it began with
 pub record Journaled (K V : Type 0) : Type 0 where
   pub cache : Cache K V
-  pub records : List (Record K)
+  pub records : List (Answered K)
   pub began : ℕ
 
 module _ {K V : Type 0} where
@@ -42,17 +43,17 @@ module _ {K V : Type 0} where
   abbrev pub Journals : (K → K → Bool) → Journaled K V → Request K V → Outcome K V → Journaled K V → Type 0
   Journals E old r (accepted reply evicted) new =
       Step E old.cache r reply evicted new.cache
-      × (new ≡ record { cache = new.cache; records = old.records ++ record_of (recorded_step r) (told_of r reply) ∷ []; began = old.began })
+      × (new ≡ record { cache = new.cache; records = old.records ++ record_of (request_by no_value r) (told_of r reply) ∷ []; began = old.began })
   Journals E old r (refused e) new = ((e ≡ Memory) ⊎ Refuses E old.cache r e) × (new ≡ old)
 
 -- a step and its record, which is told of the answer: an accepted step adds it, a refused one changes nothing
-pub record IsRecorded {K V T E : Type 0} (old : Journaled K V) (is_record : T → Record K → Type 0) (result : Result T E) (new : Journaled K V) : Type 0 where
+pub record IsRecorded {K V T E : Type 0} (old : Journaled K V) (is_record : T → Answered K → Type 0) (result : Result T E) (new : Journaled K V) : Type 0 where
   pub began : new.began ≡ old.began
-  pub accepted : IfOk result (λ x. (r : Record K) × is_record x r × (new.records ≡ old.records ++ r ∷ []))
+  pub accepted : IfOk result (λ x. (r : Answered K) × is_record x r × (new.records ≡ old.records ++ r ∷ []))
   pub refused : OnErr result (new ≡ old)
 
 module _ {K V : Type 0} where
   -- what every journal keeps: its records are its history, and a copy of a key equals it
-  pub record IsSoundJournal (is_clone : K → K → Type 0) (E : K → K → Bool) (cache : Cache K V) (records : List (Record K)) (began : ℕ) : Type 0 where
+  pub record IsSoundJournal (is_clone : K → K → Type 0) (E : K → K → Bool) (cache : Cache K V) (records : List (Answered K)) (began : ℕ) : Type 0 where
     pub copies : CopiesAreEqual is_clone E
     pub history : IsHistory E (record { cache = cache; records = records; began = began })

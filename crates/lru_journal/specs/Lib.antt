@@ -1,8 +1,8 @@
 -- The definitions that the contracts of the journal and the twin cite.
 pub mod Values
+pub mod Records
 pub mod Replay
 pub mod Journals
-pub mod Codes
 pub mod Tallies
 pub mod Pins
 pub mod Calls

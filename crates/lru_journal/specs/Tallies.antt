@@ -3,9 +3,9 @@ use Rattle.std.specs.Prelude.{◌≡◌, ◌==◌, ◌<◌, ℕ, zero, suc, ◌+
 use mathlib.Core.Option.{some}
 use lib.ListN.{get_elem?}
 use Rattle.atomic_table.specs.Seated.{TableId}
-use Rattle.lru_journal.specs.declared.record.Recorded.TheVariants.{Prune}
+use Rattle.concurrent_lru.specs.Request.{prune}
+use Rattle.lru_journal.specs.Records.{Answered}
 use Rattle.lru_journal.specs.declared.record.Told.TheVariants.{Done}
-use Rattle.lru_journal.specs.declared.record.Record.{Record}
 use Rattle.lru_journal.specs.declared.tally.View.{View}
 
 -- what tells one twin from another: the table of its cell, and the capacity that it began with
@@ -21,8 +21,8 @@ abbrev pub no_name : Name
 no_name = record { table = record { words = 0; slots = 0; views_name = 0; atom = 0; block = 0; offset = 0; slot_names = [] }; capacity = 0 }
 
 -- a record that carries no key
-abbrev pub no_record : {K : Type 0} → Record K
-no_record = record { step = Prune; reply = Done }
+abbrev pub no_record : {K : Type 0} → Answered K
+no_record = record { request = prune; reply = Done }
 
 -- how many parts a twin has
 abbrev pub all_parts : ℕ
@@ -72,24 +72,24 @@ AreExactly records receipts = (n : ℕ) → receipts_at n receipts ≡ record_at
 -- a tally: its parts and its receipts
 pub record Hand (K : Type 0) : Type 0 where
   pub parts : ℕ
-  pub receipts : List (ℕ × Record K)
+  pub receipts : List (ℕ × Answered K)
 
-abbrev pub hand : {K : Type 0} → ℕ → List (ℕ × Record K) → Hand K
+abbrev pub hand : {K : Type 0} → ℕ → List (ℕ × Answered K) → Hand K
 hand parts receipts = record { parts = parts; receipts = receipts }
 
 -- a tally with one receipt more
-abbrev pub hand_with_receipt : {K : Type 0} → Hand K → ℕ → Record K → Hand K
+abbrev pub hand_with_receipt : {K : Type 0} → Hand K → ℕ → Answered K → Hand K
 hand_with_receipt h n r = hand h.parts (h.receipts ++ (n, r) ∷ [])
 
 -- an accepted call: the receipt of its record comes last, at a position past all that the tally had
-pub record Receives {K : Type 0} (old : Hand K) (r : Record K) (new : Hand K) : Type 0 where
+pub record Receives {K : Type 0} (old : Hand K) (r : Answered K) (new : Hand K) : Type 0 where
   pub position : ℕ
   pub past : AllBelow position old.receipts
   pub gains : new ≡ hand_with_receipt old position r
 
 -- a call and its tally: an accepted one adds the receipt of its record, which is told of the answer; a refused one leaves the tally
-pub record IsTallied {K T E : Type 0} (old : Hand K) (is_record : T → Record K → Type 0) (result : Result T E) (new : Hand K) : Type 0 where
-  pub accepted : IfOk result (λ x. (r : Record K) × is_record x r × Receives old r new)
+pub record IsTallied {K T E : Type 0} (old : Hand K) (is_record : T → Answered K → Type 0) (result : Result T E) (new : Hand K) : Type 0 where
+  pub accepted : IfOk result (λ x. (r : Answered K) × is_record x r × Receives old r new)
   pub refused : OnErr result (new ≡ old)
 
 -- a tally with another's parts and receipts
@@ -97,7 +97,7 @@ abbrev pub hand_with_hand : {K : Type 0} → Hand K → Hand K → Hand K
 hand_with_hand h k = hand (h.parts + k.parts) (h.receipts ++ k.receipts)
 
 -- what a pass knows
-abbrev pub view : {K : Type 0} → Bool → List (Record K) → ℕ → List (ℕ × Record K) → View K
+abbrev pub view : {K : Type 0} → Bool → List (Answered K) → ℕ → List (ℕ × Answered K) → View K
 view keeps all parts receipts = record { keeps = keeps; all = all; parts = parts; receipts = receipts }
 
 -- the first pass: it keeps the records, and has all parts
@@ -105,7 +105,7 @@ abbrev pub opening : {K : Type 0} → View K
 opening = view true [] all_parts []
 
 -- the keeper, with no tally
-abbrev pub knower : {K : Type 0} → List (Record K) → View K
+abbrev pub knower : {K : Type 0} → List (Answered K) → View K
 knower all = view true all 0 []
 
 -- a pass that is used up
@@ -131,20 +131,20 @@ abbrev pub view_with_view : {K : Type 0} → View K → View K → View K
 view_with_view v w = view v.keeps v.all (v.parts + w.parts) (v.receipts ++ w.receipts)
 
 -- one pass at most knows all records. The records of its receipts stand among them. Without parts it has no receipts
-abbrev pub Fits : {K : Type 0} → ℕ → List (Record K) → ℕ → View K → Type 0
+abbrev pub Fits : {K : Type 0} → ℕ → List (Answered K) → ℕ → View K → Type 0
 Fits seat log by v = (v.keeps ≡ true → (by ≡ seat) × (v.all ≡ log)) × Stand log v.receipts × (v.parts ≡ 0 → v.receipts ≡ [])
 
 -- The word is the count of records. The parts are fixed in number. The positions in all tallies are the numbers below the count, each once
 pub record IsCounted {K : Type 0} (words : List ℕ) (views : List (View K)) : Type 0 where
   pub seat : ℕ
-  pub log : List (Record K)
+  pub log : List (Answered K)
   pub count : slice_index words 0 ≡ length log
   pub parts : sum_over (λ v. v.parts) views ≡ all_parts
   pub positions : (n : ℕ) → sum_over (λ v. receipt_count_at n v.receipts) views ≡ once_below n (length log)
   pub fits : (by : ℕ) (v : View K) → get_elem? views by ≡ some v → Fits seat log by v
 
 -- the record is added to all records, and its receipt to the tally, past every position there
-abbrev pub Appended : {K : Type 0} → Record K → View K → List ℕ → List ℕ → View K → Type 0
+abbrev pub Appended : {K : Type 0} → Answered K → View K → List ℕ → List ℕ → View K → Type 0
 Appended r v before after w = (w ≡ view v.keeps (v.all ++ r ∷ []) v.parts (v.receipts ++ (length v.all, r) ∷ [])) × AllBelow (length v.all) v.receipts
 
 -- the whole tally has exactly the records

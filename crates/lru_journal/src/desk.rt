@@ -26,12 +26,13 @@ pub struct Desk<K: Hash + Eq + Clone, V, I: Identity> {
 }
 
 impl<K: Hash + Eq + Clone, V, I: Identity> Model for Desk<K, V, I> {
+    ghost use Rattle.std.specs.Coded.{codes};
+    ghost use Rattle.concurrent_lru.specs.Cache.{cache_code};
     ghost use Rattle.lru_journal.specs.Journals.{Journaled};
-    ghost use Rattle.lru_journal.specs.Codes.{journaled_code};
 
     ghost Value = { Journaled K V };
 
-    ghost coded = { journaled_code K.code V.code };
+    ghost coded = { Prim.hlevel (codes, cache_code) };
 
     ghost use Rattle.std.specs.Prelude.{◌≡◌};
     ghost use Rattle.crossbeam_utils.specs.Seq.{cell_view};

@@ -5,14 +5,16 @@ ghost use Rattle.std.specs.Arc.{arc_value};
 ghost use Rattle.concurrent_lru.specs.Keys.{CopiesAreEqual};
 ghost use Rattle.lru_journal.specs.Calls.{told_of_started, told_of_pin};
 ghost use Rattle.lru_journal.specs.Journals.{IsHistory};
-ghost use Rattle.lru_journal.specs.Replay.{record_of, told_of_failed, IsOfCopy};
+ghost use Rattle.lru_journal.specs.Records.{record_of};
+ghost use Rattle.lru_journal.specs.Replay.{told_of_failed, IsOfCopy};
+ghost use Rattle.concurrent_lru.specs.Request as ask;
 ghost use Rattle.lru_journal.specs.Tallies.{hand, hand_with_hand, all_parts, AreExactly, IsTallied};
 
 use crate::desk::{Desk, step};
 use crate::door::Door;
 use crate::journal::Journal;
 use crate::pin::{Pin, Started, pin_of};
-use crate::record::{Recorded, Told};
+use crate::record::Told;
 use crate::tally::{Gives, Identity, OnePart, Opening, Takes, Tally};
 use concurrent_lru::lru_core::{Failed, Refusal};
 use std::alloc::Global;
@@ -74,7 +76,7 @@ impl<
         charge: u64,
     ) -> Result<Started<V>, Refusal>
         requires { 0 < charge }
-        ensures tallied { IsTallied tally.old (λ started. IsOfCopy K.eq key.now (λ copy. record_of (Recorded.Begin copy charge) (told_of_started started))) result tally.new }
+        ensures tallied { IsTallied tally.old (λ started. IsOfCopy K.eq key.now (λ copy. record_of (ask.begin copy charge) (told_of_started started))) result tally.new }
         ensures parts { tally.new.parts ≡ tally.old.parts }
         ensures never_stale { IfErr result (λ e. e ≢ Refusal.Stale) }
     {
@@ -87,7 +89,7 @@ impl<
     ///
     /// `Stale` where no held entry has the stamp.
     pub fn poll(&self, tally: &mut Tally<K, I>, stamp: u64) -> Result<Started<V>, Refusal>
-        ensures tallied { IsTallied tally.old (λ started r. r ≡ record_of (Recorded.Poll stamp) (told_of_started started)) result tally.new }
+        ensures tallied { IsTallied tally.old (λ started r. r ≡ record_of (ask.poll stamp) (told_of_started started)) result tally.new }
         ensures parts { tally.new.parts ≡ tally.old.parts }
         ensures never_overflow { IfErr result (λ e. e ≢ Refusal.Overflow) }
     {
@@ -104,7 +106,7 @@ impl<
         stamp: u64,
         value: Arc<V>,
     ) -> Result<(), (Refusal, Arc<V>)>
-        ensures tallied { IsTallied tally.old (λ _ r. r ≡ record_of (Recorded.Ready stamp) Told.Done) result tally.new }
+        ensures tallied { IsTallied tally.old (λ _ r. r ≡ record_of (ask.ready stamp tt) Told.Done) result tally.new }
         ensures parts { tally.new.parts ≡ tally.old.parts }
         ensures never_overflow { IfErr result (λ e. e.0 ≢ Refusal.Overflow) }
         ensures back { IfErr result (λ e. arc_value e.1 ≡ arc_value value) }
@@ -116,7 +118,7 @@ impl<
     ///
     /// `Stale` where no entry is being made under that stamp.
     pub fn fail(&self, tally: &mut Tally<K, I>, stamp: u64) -> Result<Failed<K>, Refusal>
-        ensures tallied { IsTallied tally.old (λ failed r. r ≡ record_of (Recorded.Fail stamp) (told_of_failed failed)) result tally.new }
+        ensures tallied { IsTallied tally.old (λ failed r. r ≡ record_of (ask.fail stamp) (told_of_failed failed)) result tally.new }
         ensures parts { tally.new.parts ≡ tally.old.parts }
         ensures never_overflow { IfErr result (λ e. e ≢ Refusal.Overflow) }
     {
@@ -127,7 +129,7 @@ impl<
     ///
     /// `Overflow` where the entry has the greatest number of pins.
     pub fn get(&self, tally: &mut Tally<K, I>, key: &K) -> Result<Option<Pin<V>>, Refusal>
-        ensures tallied { IsTallied tally.old (λ found. IsOfCopy K.eq key.now (λ copy. record_of (Recorded.Get copy) (told_of_pin found))) result tally.new }
+        ensures tallied { IsTallied tally.old (λ found. IsOfCopy K.eq key.now (λ copy. record_of (ask.get copy) (told_of_pin found))) result tally.new }
         ensures parts { tally.new.parts ≡ tally.old.parts }
         ensures never_stale { IfErr result (λ e. e ≢ Refusal.Stale) }
     {
@@ -139,7 +141,7 @@ impl<
     ///
     /// `Stale` where no held and ready entry has its stamp.
     pub fn release(&self, tally: &mut Tally<K, I>, pin: Pin<V>) -> Result<(), (Refusal, Pin<V>)>
-        ensures tallied { IsTallied tally.old (λ _ r. r ≡ record_of (Recorded.Release pin.stamp) Told.Done) result tally.new }
+        ensures tallied { IsTallied tally.old (λ _ r. r ≡ record_of (ask.release pin.stamp) Told.Done) result tally.new }
         ensures parts { tally.new.parts ≡ tally.old.parts }
         ensures never_overflow { IfErr result (λ e. e.0 ≢ Refusal.Overflow) }
         ensures back { IfErr result (λ e. e.1 ≡ pin) }
@@ -156,7 +158,7 @@ impl<
 
     /// Evicts the entry of a key, where it is idle; else nothing happens.
     pub fn advice_evict(&self, tally: &mut Tally<K, I>, key: &K) -> Result<(), Refusal>
-        ensures tallied { IsTallied tally.old (λ _. IsOfCopy K.eq key.now (λ copy. record_of (Recorded.AdviceEvict copy) Told.Done)) result tally.new }
+        ensures tallied { IsTallied tally.old (λ _. IsOfCopy K.eq key.now (λ copy. record_of (ask.advice_evict copy) Told.Done)) result tally.new }
         ensures parts { tally.new.parts ≡ tally.old.parts }
         ensures memory { IfErr result (λ e. e ≡ Refusal.Memory) }
     {
@@ -167,7 +169,7 @@ impl<
 
     /// Evicts every idle entry.
     pub fn prune(&self, tally: &mut Tally<K, I>) -> Result<(), Refusal>
-        ensures tallied { IsTallied tally.old (λ _ r. r ≡ record_of Recorded.Prune Told.Done) result tally.new }
+        ensures tallied { IsTallied tally.old (λ _ r. r ≡ record_of ask.prune Told.Done) result tally.new }
         ensures parts { tally.new.parts ≡ tally.old.parts }
         ensures memory { IfErr result (λ e. e ≡ Refusal.Memory) }
     {
@@ -181,7 +183,7 @@ impl<
     ///
     /// A refusal leaves the capacity as it was.
     pub fn set_capacity(&self, tally: &mut Tally<K, I>, capacity: u64) -> Result<(), Refusal>
-        ensures tallied { IsTallied tally.old (λ _ r. r ≡ record_of (Recorded.SetCapacity capacity) Told.Done) result tally.new }
+        ensures tallied { IsTallied tally.old (λ _ r. r ≡ record_of (ask.set_capacity capacity) Told.Done) result tally.new }
         ensures parts { tally.new.parts ≡ tally.old.parts }
         ensures memory { IfErr result (λ e. e ≡ Refusal.Memory) }
     {
@@ -195,7 +197,7 @@ impl<
 
     /// The sum of the charges of all entries, those still being made included.
     pub fn total(&self, tally: &mut Tally<K, I>) -> Result<u64, Refusal>
-        ensures tallied { IsTallied tally.old (λ total r. r ≡ record_of Recorded.Total (Told.Total total)) result tally.new }
+        ensures tallied { IsTallied tally.old (λ total r. r ≡ record_of ask.total (Told.Total total)) result tally.new }
         ensures parts { tally.new.parts ≡ tally.old.parts }
         ensures memory { IfErr result (λ e. e ≡ Refusal.Memory) }
     {

@@ -1,46 +1,48 @@
-//! A twin, asked step by step by a caller with a tally.
+//! A twin, asked call by call by a caller with a tally.
 ghost use Rattle.std.specs.Prelude.{◌≡◌, ◌<◌};
 
-use crate::steps::{Answer, Step};
-use lru_journal::journal::{Identity, LruCache, Pin, Tally};
+use crate::answer::{Answer, PINNED};
+use lru_fixtures::tables::Call;
+use lru_journal::journal::{Identity, LruCache, Pin, Tally, Told};
 use std::alloc::{AllocError, Global};
 use std::sync::{Arc, Wait};
 
-/// What the twin answers to a step. `AllocError` where a value's memory is refused.
+/// What the twin answers to a call. `AllocError` where a value's memory is refused.
 pub(crate) fn ask<R: Wait + Drop, I: Identity>(
     alloc: Global,
     cache: &LruCache<u64, u64, R, I>,
     tally: &mut Tally<u64, I>,
-    step: Step,
+    call: Call,
 ) -> Result<Answer, AllocError>
     ensures { tally.new.parts ≡ tally.old.parts }
 {
-    match step {
-        Step::Begin(key, charge) => Ok(begin(cache, tally, key, charge)),
-        Step::Ready(stamp, value) => Ok(ready(cache, tally, stamp, Arc::new(alloc, value)?)),
-        Step::Release(stamp, value) => {
-            Ok(release(cache, tally, Pin::new(stamp, Arc::new(alloc, value)?)))
+    match call {
+        Call::Begin(key, charge) => Ok(begin(cache, tally, key, charge)),
+        Call::Ready(stamp, value) => Ok(ready(cache, tally, stamp, Arc::new(alloc, value)?)),
+        Call::Release(stamp) => {
+            Ok(release(cache, tally, Pin::new(stamp, Arc::new(alloc, PINNED)?)))
         }
-        _ => Ok(ask_plainly(cache, tally, step)),
+        _ => Ok(ask_plainly(cache, tally, call)),
     }
 }
 
-// What is answered to a step that hands over plain numbers.
+// What is answered to a call that hands over plain numbers.
 fn ask_plainly<R: Wait + Drop, I: Identity>(
     cache: &LruCache<u64, u64, R, I>,
     tally: &mut Tally<u64, I>,
-    step: Step,
+    call: Call,
 ) -> Answer
     ensures { tally.new.parts ≡ tally.old.parts }
 {
-    match step {
-        Step::Poll(stamp) => Answer::of(cache.poll(tally, stamp)),
-        Step::Fail(stamp) => Answer::of(cache.fail(tally, stamp)),
-        Step::Get(key) => Answer::of(cache.get(tally, &key)),
-        Step::AdviceEvict(key) => Answer::of(cache.advice_evict(tally, &key)),
-        Step::Prune => Answer::of(cache.prune(tally)),
-        Step::SetCapacity(capacity) => Answer::of(cache.set_capacity(tally, capacity)),
-        _ => Answer::of(cache.total(tally)),
+    match call {
+        Call::Poll(stamp) => Answer::of(cache.poll(tally, stamp)),
+        Call::Fail(stamp) => Answer::of(cache.fail(tally, stamp)),
+        Call::Get(key) => Answer::of(cache.get(tally, &key)),
+        Call::AdviceEvict(key) => Answer::of(cache.advice_evict(tally, &key)),
+        Call::Prune => Answer::of(cache.prune(tally)),
+        Call::SetCapacity(capacity) => Answer::of(cache.set_capacity(tally, capacity)),
+        Call::Total => Answer::of(cache.total(tally)),
+        _ => Answer::Unmade,
     }
 }
 
@@ -53,7 +55,7 @@ fn begin<R: Wait + Drop, I: Identity>(
     ensures { tally.new.parts ≡ tally.old.parts }
 {
     if charge == 0 {
-        return Answer::Uncharged;
+        return Answer::Unmade;
     }
     Answer::of(cache.begin(tally, &key, charge))
 }
@@ -67,7 +69,7 @@ fn ready<R: Wait + Drop, I: Identity>(
     ensures { tally.new.parts ≡ tally.old.parts }
 {
     match cache.ready(tally, stamp, value) {
-        Ok(()) => Answer::Done,
+        Ok(()) => Answer::Says(Told::Done),
         Err((refusal, value)) => Answer::Back(refusal, stamp, *value),
     }
 }
@@ -80,7 +82,7 @@ fn release<R: Wait + Drop, I: Identity>(
     ensures { tally.new.parts ≡ tally.old.parts }
 {
     match cache.release(tally, pin) {
-        Ok(()) => Answer::Done,
+        Ok(()) => Answer::Says(Told::Done),
         Err((refusal, pin)) => Answer::Back(refusal, pin.stamp(), *pin.value()),
     }
 }

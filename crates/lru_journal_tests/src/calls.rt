@@ -1,23 +1,25 @@
 //! What a journal and its twin answer, evict and record, as tables, each from the empty cache.
-//! A row has a step, its answer, the stamps and keys of what leaves, and the text of its record.
+//! A row has a call, its answer, the stamps and keys of what leaves, and the text of its record.
 
-use crate::steps::Answer::{
-    Back, Done, Found, Hit, Left, Make, Missed, Refused, Removed, Sum, Wait,
-};
-use crate::steps::Step::{
-    AdviceEvict, Begin, Fail, Get, Poll, Prune, Ready, Release, SetCapacity, Total,
-};
+use crate::answer::Answer::{Back, Gives, Refused, Says};
+use crate::answer::PINNED;
 use crate::table::{Row, ask_all};
 use concurrent_lru::lru_core::Refusal::{Overflow, Stale};
+use lru_fixtures::tables::Call::{
+    AdviceEvict, Begin, Fail, Get, Poll, Prune, Ready, Release, SetCapacity, Total,
+};
+use lru_journal::journal::Told::{
+    Done, Found, Hit, Left, Make, Missed, Removed, Total as Sum, Wait,
+};
 use std::test;
 
 static ACCEPTED_OR_REFUSED: [Row; 6] = [
-    (Begin(1, 1), Make(0), &[], "begin 1 1 -> make 0"),
-    (Ready(0, 1), Done, &[], "ready 0 -> done"),
-    (Release(0, 1), Done, &[], "release 0 -> done"),
-    (Begin(2, 1), Make(1), &[(0, 1)], "begin 2 1 -> make 1"),
-    (Get(1), Missed, &[], "get 1 -> none"),
-    (Release(0, 1), Back(Stale, 0, 1), &[], ""),
+    (Begin(1, 1), Says(Make(0)), &[], "begin 1 1 -> make 0"),
+    (Ready(0, 1), Says(Done), &[], "ready 0 -> done"),
+    (Release(0), Says(Done), &[], "release 0 -> done"),
+    (Begin(2, 1), Says(Make(1)), &[(0, 1)], "begin 2 1 -> make 1"),
+    (Get(1), Says(Missed), &[], "get 1 -> none"),
+    (Release(0), Back(Stale, 0, PINNED), &[], ""),
 ];
 
 #[test]
@@ -31,24 +33,24 @@ static REFUSED: [Row; 16] = [
     (Poll(0), Refused(Stale), &[], ""),
     (Ready(0, 7), Back(Stale, 0, 7), &[], ""),
     (Fail(0), Refused(Stale), &[], ""),
-    (Release(0, 7), Back(Stale, 0, 7), &[], ""),
+    (Release(0), Back(Stale, 0, PINNED), &[], ""),
     (
         Begin(1, u64::MAX),
-        Make(0),
+        Says(Make(0)),
         &[],
         "begin 1 18446744073709551615 -> make 0",
     ),
     (Begin(2, 1), Refused(Overflow), &[], ""),
     (Poll(1), Refused(Stale), &[], ""),
-    (Release(0, 5), Back(Stale, 0, 5), &[], ""),
-    (Ready(0, 5), Done, &[], "ready 0 -> done"),
+    (Release(0), Back(Stale, 0, PINNED), &[], ""),
+    (Ready(0, 5), Says(Done), &[], "ready 0 -> done"),
     (Ready(0, 6), Back(Stale, 0, 6), &[], ""),
     (Fail(0), Refused(Stale), &[], ""),
-    (Release(0, 5), Done, &[(0, 1)], "release 0 -> done"),
-    (Release(0, 5), Back(Stale, 0, 5), &[], ""),
+    (Release(0), Says(Done), &[(0, 1)], "release 0 -> done"),
+    (Release(0), Back(Stale, 0, PINNED), &[], ""),
     (Poll(0), Refused(Stale), &[], ""),
-    (Begin(2, 1), Make(1), &[], "begin 2 1 -> make 1"),
-    (Total, Sum(1), &[], "total -> total 1"),
+    (Begin(2, 1), Says(Make(1)), &[], "begin 2 1 -> make 1"),
+    (Total, Says(Sum(1)), &[], "total -> total 1"),
 ];
 
 #[test]
@@ -57,11 +59,11 @@ fn a_refused_step_hands_back_what_it_was_given(rt: HostRuntime) -> Result<(), te
 }
 
 static IN_VAIN: [Row; 5] = [
-    (Get(1), Missed, &[], "get 1 -> none"),
-    (AdviceEvict(1), Done, &[], "advice 1 -> done"),
-    (Prune, Done, &[], "prune -> done"),
-    (SetCapacity(7), Done, &[], "capacity 7 -> done"),
-    (Total, Sum(0), &[], "total -> total 0"),
+    (Get(1), Says(Missed), &[], "get 1 -> none"),
+    (AdviceEvict(1), Says(Done), &[], "advice 1 -> done"),
+    (Prune, Says(Done), &[], "prune -> done"),
+    (SetCapacity(7), Says(Done), &[], "capacity 7 -> done"),
+    (Total, Says(Sum(0)), &[], "total -> total 0"),
 ];
 
 #[test]
@@ -70,23 +72,23 @@ fn a_step_that_finds_nothing_is_recorded(rt: HostRuntime) -> Result<(), test::Fa
 }
 
 static EVERY_STEP: [Row; 17] = [
-    (Begin(1, 3), Make(0), &[], "begin 1 3 -> make 0"),
-    (Begin(1, 7), Wait(0), &[], "begin 1 7 -> wait 0"),
-    (Poll(0), Wait(0), &[], "poll 0 -> wait 0"),
-    (Fail(0), Left, &[], "fail 0 -> left"),
-    (Poll(0), Make(0), &[], "poll 0 -> make 0"),
-    (Ready(0, 5), Done, &[], "ready 0 -> done"),
-    (Poll(0), Hit(0, 5), &[], "poll 0 -> hit 0"),
-    (Release(0, 5), Done, &[], "release 0 -> done"),
-    (Total, Sum(3), &[], "total -> total 3"),
-    (Get(1), Found(0, 5), &[], "get 1 -> some 0"),
-    (AdviceEvict(1), Done, &[], "advice 1 -> done"),
-    (Release(0, 5), Done, &[], "release 0 -> done"),
-    (Prune, Done, &[(0, 1)], "prune -> done"),
-    (Begin(2, 1), Make(1), &[], "begin 2 1 -> make 1"),
-    (Fail(1), Removed(2), &[], "fail 1 -> removed"),
+    (Begin(1, 3), Says(Make(0)), &[], "begin 1 3 -> make 0"),
+    (Begin(1, 7), Says(Wait(0)), &[], "begin 1 7 -> wait 0"),
+    (Poll(0), Says(Wait(0)), &[], "poll 0 -> wait 0"),
+    (Fail(0), Says(Left), &[], "fail 0 -> left"),
+    (Poll(0), Says(Make(0)), &[], "poll 0 -> make 0"),
+    (Ready(0, 5), Says(Done), &[], "ready 0 -> done"),
+    (Poll(0), Gives(Hit(0), 5), &[], "poll 0 -> hit 0"),
+    (Release(0), Says(Done), &[], "release 0 -> done"),
+    (Total, Says(Sum(3)), &[], "total -> total 3"),
+    (Get(1), Gives(Found(0), 5), &[], "get 1 -> some 0"),
+    (AdviceEvict(1), Says(Done), &[], "advice 1 -> done"),
+    (Release(0), Says(Done), &[], "release 0 -> done"),
+    (Prune, Says(Done), &[(0, 1)], "prune -> done"),
+    (Begin(2, 1), Says(Make(1)), &[], "begin 2 1 -> make 1"),
+    (Fail(1), Gives(Removed, 2), &[], "fail 1 -> removed"),
     (Poll(1), Refused(Stale), &[], ""),
-    (Total, Sum(0), &[], "total -> total 0"),
+    (Total, Says(Sum(0)), &[], "total -> total 0"),
 ];
 
 #[test]
@@ -95,14 +97,14 @@ fn every_step_can_be_recorded(rt: HostRuntime) -> Result<(), test::Fail> {
 }
 
 static HITS: [Row; 8] = [
-    (Begin(1, 1), Make(0), &[], "begin 1 1 -> make 0"),
-    (Ready(0, 7), Done, &[], "ready 0 -> done"),
-    (Release(0, 7), Done, &[], "release 0 -> done"),
-    (Get(1), Found(0, 7), &[], "get 1 -> some 0"),
-    (Begin(1, 1), Hit(0, 7), &[], "begin 1 1 -> hit 0"),
-    (Release(0, 7), Done, &[], "release 0 -> done"),
-    (Release(0, 7), Done, &[], "release 0 -> done"),
-    (Total, Sum(1), &[], "total -> total 1"),
+    (Begin(1, 1), Says(Make(0)), &[], "begin 1 1 -> make 0"),
+    (Ready(0, 7), Says(Done), &[], "ready 0 -> done"),
+    (Release(0), Says(Done), &[], "release 0 -> done"),
+    (Get(1), Gives(Found(0), 7), &[], "get 1 -> some 0"),
+    (Begin(1, 1), Gives(Hit(0), 7), &[], "begin 1 1 -> hit 0"),
+    (Release(0), Says(Done), &[], "release 0 -> done"),
+    (Release(0), Says(Done), &[], "release 0 -> done"),
+    (Total, Says(Sum(1)), &[], "total -> total 1"),
 ];
 
 #[test]
@@ -112,25 +114,25 @@ fn a_hit_gives_the_value_that_was_given(rt: HostRuntime) -> Result<(), test::Fai
 
 // Advice evicts the idle entry of its own key, and no other.
 static ADVICE_AND_PRUNE: [Row; 19] = [
-    (Begin(1, 1), Make(0), &[], "begin 1 1 -> make 0"),
-    (Ready(0, 1), Done, &[], "ready 0 -> done"),
-    (Begin(2, 2), Make(1), &[], "begin 2 2 -> make 1"),
-    (Ready(1, 2), Done, &[], "ready 1 -> done"),
-    (Begin(3, 3), Make(2), &[], "begin 3 3 -> make 2"),
-    (Ready(2, 3), Done, &[], "ready 2 -> done"),
-    (AdviceEvict(2), Done, &[], "advice 2 -> done"),
-    (Release(2, 3), Done, &[], "release 2 -> done"),
-    (Release(1, 2), Done, &[], "release 1 -> done"),
-    (Release(0, 1), Done, &[], "release 0 -> done"),
-    (AdviceEvict(2), Done, &[(1, 2)], "advice 2 -> done"),
-    (Get(2), Missed, &[], "get 2 -> none"),
-    (Total, Sum(4), &[], "total -> total 4"),
-    (Begin(4, 1), Make(3), &[], "begin 4 1 -> make 3"),
-    (Prune, Done, &[(2, 3), (0, 1)], "prune -> done"),
-    (Get(1), Missed, &[], "get 1 -> none"),
-    (Total, Sum(1), &[], "total -> total 1"),
-    (Fail(3), Removed(4), &[], "fail 3 -> removed"),
-    (Prune, Done, &[], "prune -> done"),
+    (Begin(1, 1), Says(Make(0)), &[], "begin 1 1 -> make 0"),
+    (Ready(0, 1), Says(Done), &[], "ready 0 -> done"),
+    (Begin(2, 2), Says(Make(1)), &[], "begin 2 2 -> make 1"),
+    (Ready(1, 2), Says(Done), &[], "ready 1 -> done"),
+    (Begin(3, 3), Says(Make(2)), &[], "begin 3 3 -> make 2"),
+    (Ready(2, 3), Says(Done), &[], "ready 2 -> done"),
+    (AdviceEvict(2), Says(Done), &[], "advice 2 -> done"),
+    (Release(2), Says(Done), &[], "release 2 -> done"),
+    (Release(1), Says(Done), &[], "release 1 -> done"),
+    (Release(0), Says(Done), &[], "release 0 -> done"),
+    (AdviceEvict(2), Says(Done), &[(1, 2)], "advice 2 -> done"),
+    (Get(2), Says(Missed), &[], "get 2 -> none"),
+    (Total, Says(Sum(4)), &[], "total -> total 4"),
+    (Begin(4, 1), Says(Make(3)), &[], "begin 4 1 -> make 3"),
+    (Prune, Says(Done), &[(2, 3), (0, 1)], "prune -> done"),
+    (Get(1), Says(Missed), &[], "get 1 -> none"),
+    (Total, Says(Sum(1)), &[], "total -> total 1"),
+    (Fail(3), Gives(Removed, 4), &[], "fail 3 -> removed"),
+    (Prune, Says(Done), &[], "prune -> done"),
 ];
 
 #[test]
@@ -139,11 +141,11 @@ fn advice_evicts_one_key_and_a_prune_all_that_is_idle(rt: HostRuntime) -> Result
 }
 
 static SHRUNK_AT_ONCE: [Row; 5] = [
-    (Begin(1, 1), Make(0), &[], "begin 1 1 -> make 0"),
-    (Ready(0, 1), Done, &[], "ready 0 -> done"),
-    (Release(0, 1), Done, &[], "release 0 -> done"),
-    (SetCapacity(0), Done, &[(0, 1)], "capacity 0 -> done"),
-    (Total, Sum(0), &[], "total -> total 0"),
+    (Begin(1, 1), Says(Make(0)), &[], "begin 1 1 -> make 0"),
+    (Ready(0, 1), Says(Done), &[], "ready 0 -> done"),
+    (Release(0), Says(Done), &[], "release 0 -> done"),
+    (SetCapacity(0), Says(Done), &[(0, 1)], "capacity 0 -> done"),
+    (Total, Says(Sum(0)), &[], "total -> total 0"),
 ];
 
 #[test]
@@ -153,13 +155,13 @@ fn a_new_capacity_evicts_at_once_and_is_recorded(rt: HostRuntime) -> Result<(), 
 
 // At capacity 1 a second entry evicts the first.
 static SHRUNK_FIRST: [Row; 7] = [
-    (SetCapacity(1), Done, &[], "capacity 1 -> done"),
-    (Begin(1, 1), Make(0), &[], "begin 1 1 -> make 0"),
-    (Ready(0, 1), Done, &[], "ready 0 -> done"),
-    (Release(0, 1), Done, &[], "release 0 -> done"),
-    (Begin(2, 1), Make(1), &[(0, 1)], "begin 2 1 -> make 1"),
-    (Get(1), Missed, &[], "get 1 -> none"),
-    (Total, Sum(1), &[], "total -> total 1"),
+    (SetCapacity(1), Says(Done), &[], "capacity 1 -> done"),
+    (Begin(1, 1), Says(Make(0)), &[], "begin 1 1 -> make 0"),
+    (Ready(0, 1), Says(Done), &[], "ready 0 -> done"),
+    (Release(0), Says(Done), &[], "release 0 -> done"),
+    (Begin(2, 1), Says(Make(1)), &[(0, 1)], "begin 2 1 -> make 1"),
+    (Get(1), Says(Missed), &[], "get 1 -> none"),
+    (Total, Says(Sum(1)), &[], "total -> total 1"),
 ];
 
 #[test]
@@ -169,13 +171,13 @@ fn later_steps_settle_to_a_new_capacity(rt: HostRuntime) -> Result<(), test::Fai
 
 // The entry is pinned while it is made, and evicted by its release.
 static SHRUNK_UNDER_A_MAKING: [Row; 7] = [
-    (Begin(1, 1), Make(0), &[], "begin 1 1 -> make 0"),
-    (SetCapacity(0), Done, &[], "capacity 0 -> done"),
-    (Total, Sum(1), &[], "total -> total 1"),
-    (Ready(0, 1), Done, &[], "ready 0 -> done"),
-    (Release(0, 1), Done, &[(0, 1)], "release 0 -> done"),
-    (Total, Sum(0), &[], "total -> total 0"),
-    (Get(1), Missed, &[], "get 1 -> none"),
+    (Begin(1, 1), Says(Make(0)), &[], "begin 1 1 -> make 0"),
+    (SetCapacity(0), Says(Done), &[], "capacity 0 -> done"),
+    (Total, Says(Sum(1)), &[], "total -> total 1"),
+    (Ready(0, 1), Says(Done), &[], "ready 0 -> done"),
+    (Release(0), Says(Done), &[(0, 1)], "release 0 -> done"),
+    (Total, Says(Sum(0)), &[], "total -> total 0"),
+    (Get(1), Says(Missed), &[], "get 1 -> none"),
 ];
 
 #[test]

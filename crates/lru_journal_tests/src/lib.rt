@@ -3,6 +3,8 @@
 #![tactic(auto)]
 
 #[cfg(test)]
+mod answer;
+#[cfg(test)]
 mod caller;
 #[cfg(test)]
 mod calls;
@@ -18,8 +20,6 @@ mod owner;
 mod records;
 #[cfg(test)]
 mod seeded;
-#[cfg(test)]
-mod steps;
 #[cfg(test)]
 mod table;
 #[cfg(test)]

@@ -1,13 +1,14 @@
-//! A journal for one owner, asked step by step, and what each step evicts.
+//! A journal for one owner, asked call by call, and what each call evicts.
 ghost use Rattle.std.specs.Prelude.{◌<◌};
 
-use crate::steps::{Answer, Step};
+use crate::answer::{Answer, PINNED};
 use concurrent_lru::lru_core::{Begun, Evicted, Refusal};
-use lru_journal::journal::Journal;
+use lru_fixtures::tables::Call;
+use lru_journal::journal::{Journal, Told};
 use std::alloc::{AllocError, Global};
 use std::sync::Arc;
 
-/// What a journal answers to a step, and what left the cache.
+/// What a journal answers to a call, and what left the cache.
 #[derive(Drop)]
 pub(crate) struct Heard {
     pub(crate) answer: Answer,
@@ -18,7 +19,7 @@ impl Heard {
     fn evicts(told: Result<Evicted<u64, u64>, Refusal>) -> Heard {
         match told {
             Ok(evicted) => Heard {
-                answer: Answer::Done,
+                answer: Answer::Says(Told::Done),
                 evicted: Some(evicted),
             },
             Err(refusal) => Heard::from(Answer::Refused(refusal)),
@@ -34,9 +35,9 @@ impl Heard {
     }
 }
 
-fn all_of(alloc: Global, mut evicted: Evicted<u64, u64>) -> Result<Vec<(u64, u64)>, AllocError> {
+fn all_of(alloc: Global, evicted: Evicted<u64, u64>) -> Result<Vec<(u64, u64)>, AllocError> {
     let mut all = Vec::new(alloc);
-    while let Some(gone) = evicted.pop() {
+    for gone in evicted {
         all.push((gone.stamp, gone.key))?;
     }
     Ok(all)
@@ -51,40 +52,41 @@ impl From<Answer> for Heard {
     }
 }
 
-/// What the journal answers to a step. `AllocError` where a value's memory is refused.
+/// What the journal answers to a call. `AllocError` where a value's memory is refused.
 pub(crate) fn ask(
     alloc: Global,
     journal: &mut Journal<u64, u64>,
-    step: Step,
+    call: Call,
 ) -> Result<Heard, AllocError> {
-    match step {
-        Step::Ready(stamp, value) => Ok(Heard::from(ready(
+    match call {
+        Call::Ready(stamp, value) => Ok(Heard::from(ready(
             journal,
             stamp,
             Arc::new(alloc, value)?,
         ))),
-        Step::Begin(key, charge) => Ok(begin(journal, key, charge)),
-        Step::Release(stamp, value) => Ok(release(journal, stamp, value)),
-        Step::AdviceEvict(key) => Ok(Heard::evicts(journal.advice_evict(&key))),
-        Step::Prune => Ok(Heard::evicts(journal.prune())),
-        Step::SetCapacity(capacity) => Ok(Heard::evicts(journal.set_capacity(capacity))),
-        _ => Ok(Heard::from(ask_in_place(journal, step))),
+        Call::Begin(key, charge) => Ok(begin(journal, key, charge)),
+        Call::Release(stamp) => Ok(release(journal, stamp)),
+        Call::AdviceEvict(key) => Ok(Heard::evicts(journal.advice_evict(&key))),
+        Call::Prune => Ok(Heard::evicts(journal.prune())),
+        Call::SetCapacity(capacity) => Ok(Heard::evicts(journal.set_capacity(capacity))),
+        _ => Ok(Heard::from(ask_in_place(journal, call))),
     }
 }
 
-// What is answered to a step that evicts nothing.
-fn ask_in_place(journal: &mut Journal<u64, u64>, step: Step) -> Answer {
-    match step {
-        Step::Poll(stamp) => Answer::of(journal.poll(stamp)),
-        Step::Fail(stamp) => Answer::of(journal.fail(stamp)),
-        Step::Get(key) => Answer::of(journal.get(&key)),
-        _ => Answer::of(journal.total()),
+// What is answered to a call that evicts nothing.
+fn ask_in_place(journal: &mut Journal<u64, u64>, call: Call) -> Answer {
+    match call {
+        Call::Poll(stamp) => Answer::of(journal.poll(stamp)),
+        Call::Fail(stamp) => Answer::of(journal.fail(stamp)),
+        Call::Get(key) => Answer::of(journal.get(&key)),
+        Call::Total => Answer::of(journal.total()),
+        _ => Answer::Unmade,
     }
 }
 
 fn begin(journal: &mut Journal<u64, u64>, key: u64, charge: u64) -> Heard {
     if charge == 0 {
-        return Heard::from(Answer::Uncharged);
+        return Heard::from(Answer::Unmade);
     }
     match journal.begin(&key, charge) {
         Ok((begun, evicted)) => Heard {
@@ -97,18 +99,18 @@ fn begin(journal: &mut Journal<u64, u64>, key: u64, charge: u64) -> Heard {
 
 fn ready(journal: &mut Journal<u64, u64>, stamp: u64, value: Arc<u64>) -> Answer {
     match journal.ready(stamp, value) {
-        Ok(()) => Answer::Done,
+        Ok(()) => Answer::Says(Told::Done),
         Err((refusal, value)) => Answer::Back(refusal, stamp, *value),
     }
 }
 
 // A journal is handed the stamp alone: the value stays with whoever has the pin.
-fn release(journal: &mut Journal<u64, u64>, stamp: u64, value: u64) -> Heard {
+fn release(journal: &mut Journal<u64, u64>, stamp: u64) -> Heard {
     match journal.release(stamp) {
         Ok(evicted) => Heard {
-            answer: Answer::Done,
+            answer: Answer::Says(Told::Done),
             evicted: Some(evicted),
         },
-        Err(refusal) => Heard::from(Answer::Back(refusal, stamp, value)),
+        Err(refusal) => Heard::from(Answer::Back(refusal, stamp, PINNED)),
     }
 }

@@ -1,10 +1,11 @@
-//! Long runs of steps that seeds decide, asked of a twin and of a journal for one owner.
-//! The twin answers each step as the journal does, and its records are the journal's.
+//! Long runs of calls that seeds decide, asked of a twin and of a journal for one owner.
+//! The twin answers each call as the journal does, and its records are the journal's.
 ghost use Rattle.std.specs.Prelude.{◌≡◌};
 
-use crate::steps::{Answer, Step};
+use crate::answer::Answer;
 use crate::{caller, owner};
-use lru_journal::journal::{Identity, Journal, LruCache, Opening, Record};
+use lru_fixtures::tables::Call;
+use lru_journal::journal::{Identity, Journal, LruCache, Opening, Record, Told};
 use rand_core::{Rng, SeedableRng};
 use rand_xoshiro::Xoshiro256PlusPlus;
 use std::alloc::Global;
@@ -15,13 +16,13 @@ use std::test::Fail;
 
 const CAPACITY: u64 = 8;
 
-// What decides the next step: a generator, the stamps of the last pins that were got, and what is
-// due of the steps by which the pin before these is given back.
+// What decides the next call: a generator, the stamps of the last pins that were got, and what is
+// due of the calls by which the pin before these is given back.
 #[derive(Drop)]
 struct Draws {
     generator: Xoshiro256PlusPlus,
     pins: [u64; 4],
-    due: Option<Step>,
+    due: Option<Call>,
 }
 
 impl Draws {
@@ -34,64 +35,62 @@ impl Draws {
         }
     }
 
-    fn next(&mut self) -> Step {
+    fn next(&mut self) -> Call {
         match self.due {
-            Some(step) => {
-                self.due = next_due(step);
-                step
+            Some(call) => {
+                self.due = next_due(call);
+                call
             }
             None => self.draw(),
         }
     }
 
-    // A step at one of six keys or of the last pins.
-    fn draw(&mut self) -> Step {
+    // A call at one of six keys or of the last pins.
+    fn draw(&mut self) -> Call {
         let kind = self.generator.next_u64() % 16;
         let key = self.generator.next_u64() % 6;
         let number = self.generator.next_u64() % 8;
         let stamp = self.pins[(self.generator.next_u64() % 4) as usize];
-        let begin = Step::Begin(key, 1 + number % 3);
-        let steps = [
-            Step::Poll(stamp),
-            Step::Ready(stamp, number),
-            Step::Fail(stamp),
-            Step::Release(stamp, number),
-            Step::Get(key),
-            Step::Get(key),
-            Step::AdviceEvict(key),
-            Step::AdviceEvict(key),
-            Step::Prune,
-            Step::SetCapacity(4 + number),
-            Step::Total,
+        let begin = Call::Begin(key, 1 + number % 3);
+        let calls = [
+            Call::Poll(stamp),
+            Call::Ready(stamp, number),
+            Call::Fail(stamp),
+            Call::Release(stamp),
+            Call::Get(key),
+            Call::Get(key),
+            Call::AdviceEvict(key),
+            Call::AdviceEvict(key),
+            Call::Prune,
+            Call::SetCapacity(4 + number),
+            Call::Total,
             begin,
             begin,
             begin,
             begin,
             begin,
         ];
-        steps[kind as usize]
+        calls[kind as usize]
     }
 
-    // Keeps the stamp where the step got a pin, and lets the oldest pin be given back.
-    fn note(&mut self, step: Step, answer: Answer) {
-        if let Step::Begin(..) | Step::Get(_) = step
-            && let Answer::Make(stamp)
-            | Answer::Wait(stamp)
-            | Answer::Hit(stamp, _)
-            | Answer::Found(stamp, _) = answer
+    // Keeps the stamp where the call got a pin, and lets the oldest pin be given back.
+    fn note(&mut self, call: Call, answer: Answer) {
+        if let Call::Begin(..) | Call::Get(_) = call
+            && let Answer::Says(Told::Make(stamp) | Told::Wait(stamp))
+            | Answer::Gives(Told::Hit(stamp) | Told::Found(stamp), _) = answer
         {
             let [oldest, one, two, three] = self.pins;
             self.pins = [one, two, three, stamp];
-            self.due = Some(Step::Poll(oldest));
+            self.due = Some(Call::Poll(oldest));
         }
     }
 }
 
 // A pin is given back after a poll, which takes a failed making over, and a ready.
-fn next_due(step: Step) -> Option<Step> {
-    match step {
-        Step::Poll(stamp) => Some(Step::Ready(stamp, stamp)),
-        Step::Ready(stamp, value) => Some(Step::Release(stamp, value)),
+fn next_due(call: Call) -> Option<Call> {
+    match call {
+        Call::Poll(stamp) => Some(Call::Ready(stamp, stamp)),
+        Call::Ready(stamp, _) => Some(Call::Release(stamp)),
         _ => None,
     }
 }
@@ -117,11 +116,11 @@ fn compare<I: Identity, R: Wait + Abort>(
     let (cache, mut tally) = LruCache::<u64, u64, &R, I>::new(alloc, rt, opening);
     let mut draws = Draws::from_seed(seed);
     for number in 0..300u32 {
-        let step = draws.next();
-        let answer = caller::ask(alloc, &cache, &mut tally, step)?;
-        let wanted = owner::ask(alloc, &mut journal, step)?.answer;
-        assert_eq!(rt; answer, wanted, "at step {number} of seed {seed}, {step:?}");
-        draws.note(step, answer);
+        let call = draws.next();
+        let answer = caller::ask(alloc, &cache, &mut tally, call)?;
+        let wanted = owner::ask(alloc, &mut journal, call)?.answer;
+        assert_eq!(rt; answer, wanted, "at call {number} of seed {seed}, {call:?}");
+        draws.note(call, answer);
     }
     let recorded = cache.into_journal(tally);
     compare_records(rt, alloc, recorded.records(), journal.records(), seed)

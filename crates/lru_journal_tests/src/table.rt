@@ -1,8 +1,9 @@
-//! Tables of steps: each is asked of a journal and of its twin, and the records of both are read.
+//! Tables of calls: each is asked of a journal and of its twin, and the records of both are read.
 ghost use Rattle.std.specs.Prelude.{◌≡◌};
 
-use crate::steps::{Answer, Step};
+use crate::answer::Answer;
 use crate::{caller, owner};
+use lru_fixtures::tables::Call;
 use lru_journal::journal::{Identity, Journal, LruCache, Opening, Record};
 use std::alloc::Global;
 use std::marker::Brand;
@@ -10,11 +11,11 @@ use std::process::Abort;
 use std::sync::Wait;
 use std::test::Fail;
 
-/// A step, what both answer, the stamps and keys of what leaves the cache, oldest first, and the
-/// text of its record, which is empty where the step leaves none.
-pub(crate) type Row = (Step, Answer, &'static [(u64, u64)], &'static str);
+/// A call, what both answer, the stamps and keys of what leaves the cache, oldest first, and the
+/// text of its record, which is empty where the call leaves none.
+pub(crate) type Row = (Call, Answer, &'static [(u64, u64)], &'static str);
 
-/// Asks each step of a journal and of a twin, both empty and at this capacity at first, and
+/// Makes each call of a journal and of a twin, both empty and at this capacity at first, and
 /// compares what they answer and record. A row that differs ends the test with its number.
 pub(crate) fn ask_all<R: Wait + Abort>(
     rt: &R,
@@ -23,17 +24,17 @@ pub(crate) fn ask_all<R: Wait + Abort>(
     rows: &[Row],
 ) -> Result<(), Fail> {
     let mut journal = Journal::new(alloc, capacity);
-    for (number, (step, wanted, left, _)) in rows.iter().enumerate() {
-        let heard = owner::ask(alloc, &mut journal, *step)?;
+    for (number, (call, wanted, left, _)) in rows.iter().enumerate() {
+        let heard = owner::ask(alloc, &mut journal, *call)?;
         assert_eq!(rt;
             heard.answer,
             *wanted,
-            "at row {number} of the journal, {step:?}"
+            "at row {number} of the journal, {call:?}"
         );
         assert_eq!(rt;
             heard.gone(alloc)?.as_slice(),
             *left,
-            "what left at row {number}, {step:?}"
+            "what left at row {number}, {call:?}"
         );
     }
     read_records(rt, alloc, journal.records(), rows)?;
@@ -50,9 +51,9 @@ fn ask_twin<I: Identity, R: Wait + Abort>(
     requires { opening ≡ I.name }
 {
     let (cache, mut tally) = LruCache::<u64, u64, &R, I>::new(alloc, rt, opening);
-    for (number, (step, wanted, _, _)) in rows.iter().enumerate() {
-        let answer = caller::ask(alloc, &cache, &mut tally, *step)?;
-        assert_eq!(rt; answer, *wanted, "at row {number} of the twin, {step:?}");
+    for (number, (call, wanted, _, _)) in rows.iter().enumerate() {
+        let answer = caller::ask(alloc, &cache, &mut tally, *call)?;
+        assert_eq!(rt; answer, *wanted, "at row {number} of the twin, {call:?}");
     }
     let journal = cache.into_journal(tally);
     read_records(rt, alloc, journal.records(), rows)

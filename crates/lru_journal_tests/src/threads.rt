@@ -1,9 +1,10 @@
 //! The twin under two callers, each with a part of the tally.
 ghost use Rattle.std.specs.Prelude.{◌≡◌, ◌<◌, IfOk};
 
+use crate::answer::Answer;
 use crate::caller::ask;
-use crate::steps::{Answer, Step};
 use concurrent_lru::lru_core::Refusal;
+use lru_fixtures::tables::Call;
 use lru_journal::journal::{Identity, LruCache, Opening, Record, Recorded, Tally, Told};
 use std::alloc::Global;
 use std::marker::Brand;
@@ -21,7 +22,7 @@ fn two_callers_make_one_history(rt: HostRuntime) -> Result<(), Fail> {
 }
 
 // Makes the value of a key that no other caller asks for, asks for it twice more while it is
-// pinned, and gives the three pins back. The records tell what each step was answered.
+// pinned, and gives the three pins back. The records tell what each call was answered.
 fn use_key<I: Identity, R: Wait + Drop>(
     alloc: Global,
     cache: &LruCache<u64, u64, R, I>,
@@ -30,18 +31,18 @@ fn use_key<I: Identity, R: Wait + Drop>(
 ) -> Result<(), Refusal>
     ensures { tally.new.parts ≡ tally.old.parts }
 {
-    let Answer::Make(stamp) = ask(alloc, cache, tally, Step::Begin(key, 1))? else {
+    let Answer::Says(Told::Make(stamp)) = ask(alloc, cache, tally, Call::Begin(key, 1))? else {
         return Err(Refusal::Stale);
     };
-    for step in [
-        Step::Ready(stamp, key),
-        Step::Begin(key, 1),
-        Step::Get(key),
-        Step::Release(stamp, key),
-        Step::Release(stamp, key),
-        Step::Release(stamp, key),
+    for call in [
+        Call::Ready(stamp, key),
+        Call::Begin(key, 1),
+        Call::Get(key),
+        Call::Release(stamp),
+        Call::Release(stamp),
+        Call::Release(stamp),
     ] {
-        ask(alloc, cache, tally, step)?;
+        ask(alloc, cache, tally, call)?;
     }
     Ok(())
 }

@@ -20,9 +20,10 @@ use Rattle.concurrent_lru.specs.declared.step.Begun.{Begun}
 use Rattle.concurrent_lru.specs.declared.step.Begun.TheVariants as begun
 use Rattle.concurrent_lru.specs.declared.step.Failed.{Failed}
 use Rattle.concurrent_lru.specs.declared.step.Failed.TheVariants as fails
-use Rattle.lru_journal.specs.Replay.{no_value, without_values, recorded_step, told_of, told_of_begun, told_of_failed, told_of_found, record_of, start}
+use Rattle.lru_journal.specs.Records.{Answered, record_of}
+use Rattle.lru_journal.specs.Values.{request_by}
+use Rattle.lru_journal.specs.Replay.{no_value, without_values, told_of, told_of_begun, told_of_failed, told_of_found, start}
 use Rattle.lru_journal.specs.Journals.{Journaled, IsSoundJournal, Journals}
-use Rattle.lru_journal.specs.declared.record.Record.{Record}
 use Rattle.lru_journal.proofs.Replays.OneRecordMore.{goes_on}
 use Rattle.lru_journal.proofs.Replays.WithOtherValues.{empty_by}
 
@@ -53,29 +54,29 @@ module _ (K V : Type 0) where
 
 module _ {K V : Type 0} where
   -- an empty journal keeps it
-  pub opens : {is_clone : K → K → Type 0} {E : K → K → Bool} {cache : Cache K V} {records : List (Record K)} (capacity : ℕ) → CopiesAreEqual is_clone E → cache ≡ empty_cache capacity most_pins_by_default 0 → records ≡ [] → IsSoundJournal is_clone E cache records capacity
+  pub opens : {is_clone : K → K → Type 0} {E : K → K → Bool} {cache : Cache K V} {records : List (Answered K)} (capacity : ℕ) → CopiesAreEqual is_clone E → cache ≡ empty_cache capacity most_pins_by_default 0 → records ≡ [] → IsSoundJournal is_clone E cache records capacity
   opens {is_clone} {E} {cache} {records} capacity copies is none =
-      subst (λ (y : Cache K V × List (Record K)). IsSoundJournal is_clone E y.0 y.1 capacity) (λ i. (sym is i, sym none i))
+      subst (λ (y : Cache K V × List (Answered K)). IsSoundJournal is_clone E y.0 y.1 capacity) (λ i. (sym is i, sym none i))
       (record { copies = copies; history = record { lawful = empty_lawful E capacity most_pins_by_default 0; legal = empty_forgotten K V capacity most_pins_by_default 0 } })
 
   -- what the journal keeps is kept over a recorded step
-  pub keeps_on : {is_clone : K → K → Type 0} {E : K → K → Bool} {old new : Cache K V} {rs mid all : List (Record K)} {began : ℕ} {rec : Record K} (r : Request K V) (p : Reply K V) (out : List (Idle K V))
-      → IsSoundJournal is_clone E old rs began → IsLawful E new → Step E old r p out new → mid ≡ rs → all ≡ mid ++ rec ∷ [] → rec ≡ record_of (recorded_step r) (told_of r p) → IsSoundJournal is_clone E new all began
+  pub keeps_on : {is_clone : K → K → Type 0} {E : K → K → Bool} {old new : Cache K V} {rs mid all : List (Answered K)} {began : ℕ} {rec : Answered K} (r : Request K V) (p : Reply K V) (out : List (Idle K V))
+      → IsSoundJournal is_clone E old rs began → IsLawful E new → Step E old r p out new → mid ≡ rs → all ≡ mid ++ rec ∷ [] → rec ≡ record_of (request_by no_value r) (told_of r p) → IsSoundJournal is_clone E new all began
   keeps_on {is_clone} {E} {old} {new} {rs} {mid} {all} {began} {rec} r p out k lawful s same is told = record {
     copies = k.copies;
     history = record {
       lawful = lawful;
-      legal = goes_on E (start began) old new rs mid all r p out k.history.legal s same (is ∙ ap (λ (x : Record K). mid ++ x ∷ []) told);
+      legal = goes_on E (start began) old new rs mid all r p out k.history.legal s same (is ∙ ap (λ (x : Answered K). mid ++ x ∷ []) told);
     };
   }
 
   -- the recorded step, as the journal is seen
-  pub accepts : (E : K → K → Bool) {j : Journaled K V} {old new : Cache K V} {rs mid all : List (Record K)} {began : ℕ} {rec : Record K} (r : Request K V) (p : Reply K V) (out : List (Idle K V))
-      → record { cache = old; records = rs; began = began } ≡ j → Step E old r p out new → mid ≡ rs → all ≡ mid ++ rec ∷ [] → rec ≡ record_of (recorded_step r) (told_of r p)
+  pub accepts : (E : K → K → Bool) {j : Journaled K V} {old new : Cache K V} {rs mid all : List (Answered K)} {began : ℕ} {rec : Answered K} (r : Request K V) (p : Reply K V) (out : List (Idle K V))
+      → record { cache = old; records = rs; began = began } ≡ j → Step E old r p out new → mid ≡ rs → all ≡ mid ++ rec ∷ [] → rec ≡ record_of (request_by no_value r) (told_of r p)
       → Journals E j r (accepted p out) (record { cache = new; records = all; began = began })
   accepts E {j} {old} {new} {rs} {mid} {all} {began} {rec} r p out is_j s same is told =
       subst (λ (x : Journaled K V). Journals E x r (accepted p out) (record { cache = new; records = all; began = began })) is_j
-      (s, ap (λ (l : List (Record K)). record { cache = new; records = l; began = began }) (is ∙ ap (λ (l : List (Record K)). l ++ rec ∷ []) same ∙ ap (λ (x : Record K). rs ++ x ∷ []) told))
+      (s, ap (λ (l : List (Answered K)). record { cache = new; records = l; began = began }) (is ∙ ap (λ (l : List (Answered K)). l ++ rec ∷ []) same ∙ ap (λ (x : Answered K). rs ++ x ∷ []) told))
 
   -- a call that found no room
   pub no_room : (E : K → K → Bool) {j now : Journaled K V} {R : Type 0} (r : Request K V) (outcome : Result R Refusal → Outcome K V) (result : Result R Refusal) (e : Refusal)
@@ -84,7 +85,7 @@ module _ {K V : Type 0} where
   no_room E {j} {now} {R} r outcome (Err x) e says h is same = subst (λ (o : Outcome K V). Journals E j r o now) (sym (says x)) (inl (h ∙ is), same)
 
   -- a call that the cache refused
-  pub refuses : (E : K → K → Bool) {j : Journaled K V} {old new : Cache K V} {rs mid : List (Record K)} {began : ℕ} {R : Type 0} (r : Request K V) (outcome : Result R Refusal → Outcome K V) (result : Result R Refusal) (e : Refusal)
+  pub refuses : (E : K → K → Bool) {j : Journaled K V} {old new : Cache K V} {rs mid : List (Answered K)} {began : ℕ} {R : Type 0} (r : Request K V) (outcome : Result R Refusal → Outcome K V) (result : Result R Refusal) (e : Refusal)
       → ((x : Refusal) → outcome (Err x) ≡ refused x) → IsErrAnd result (λ x. x ≡ e) → record { cache = old; records = rs; began = began } ≡ j → Refuses E old r e × (new ≡ old) → mid ≡ rs
       → Journals E j r (outcome result) (record { cache = new; records = mid; began = began })
   refuses E r outcome (Ok v) e says h is_j s same = absurd h

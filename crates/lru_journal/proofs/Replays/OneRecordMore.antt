@@ -7,29 +7,17 @@ use Rattle.concurrent_lru.specs.Request.{Request}
 use Rattle.concurrent_lru.specs.Reply as say
 use Rattle.concurrent_lru.specs.Reply.{Reply}
 use Rattle.lru_journal.specs.Values.{request_by, reply_by, idle_by}
-use Rattle.lru_journal.specs.Replay.{no_value, without_values, recorded_step, told_of, request_of_recorded, record_of, Follows, Replays}
-use Rattle.lru_journal.specs.declared.record.Record.{Record}
+use Rattle.lru_journal.specs.Records.{Answered, record_of}
+use Rattle.lru_journal.specs.Replay.{no_value, without_values, told_of, Follows, Replays}
 use Rattle.lru_journal.proofs.Replays.WithOtherValues.{step_by}
 
 module _ {K : Type 0} (E : K → K → Bool) where
-  pub replays_more : (old mid new : Cache K (Unit {0})) (rs : List (Record K)) (r : Record K) → Replays E old rs mid → Follows E mid r new → Replays E old (rs ++ r ∷ []) new
+  pub replays_more : (old mid new : Cache K (Unit {0})) (rs : List (Answered K)) (r : Answered K) → Replays E old rs mid → Follows E mid r new → Replays E old (rs ++ r ∷ []) new
   replays_more old mid new [] r h s = (new, subst (λ (c : Cache K (Unit {0})). Follows E c r new) h s, refl)
   replays_more old mid new (q ∷ qs) r h s = (h.0, h.1, replays_more h.0 mid new qs r h.2 s)
 
 module _ {K V : Type 0} where
   -- what is asked and told does not look at values
-  asked_by : (r : Request K V) → request_of_recorded (recorded_step r) ≡ request_by no_value r
-  asked_by (ask.begin k c) = refl
-  asked_by (ask.poll s) = refl
-  asked_by (ask.ready s v) = refl
-  asked_by (ask.fail s) = refl
-  asked_by (ask.get k) = refl
-  asked_by (ask.release s) = refl
-  asked_by (ask.advice_evict k) = refl
-  asked_by ask.prune = refl
-  asked_by (ask.set_capacity c) = refl
-  asked_by ask.total = refl
-
   told_by : (r : Request K V) (p : Reply K V) → told_of (request_by (no_value {V = V}) r) (reply_by no_value p) ≡ told_of r p
   told_by (ask.begin k c) (say.make t) = refl
   told_by (ask.begin k c) (say.wait t) = refl
@@ -113,17 +101,17 @@ module _ {K V : Type 0} where
   told_by ask.total (say.sum n) = refl
 
   follows : (E : K → K → Bool) (old : Cache K V) (r : Request K V) (p : Reply K V) (out : List (Idle K V)) (new : Cache K V)
-      → Step E old r p out new → Follows E (without_values old) (record_of (recorded_step r) (told_of r p)) (without_values new)
+      → Step E old r p out new → Follows E (without_values old) (record_of (request_by no_value r) (told_of r p)) (without_values new)
   follows E old r p out new h = record {
     reply = reply_by no_value p;
     evicted = map (idle_by no_value) out;
-    stands = subst (λ (q : Request K (Unit {0})). Step E (without_values old) q (reply_by no_value p) (map (idle_by no_value) out) (without_values new)) (sym (asked_by r)) (step_by no_value E old r p out new h);
-    told = ap (λ (q : Request K (Unit {0})). told_of q (reply_by no_value p)) (asked_by r) ∙ told_by r p;
+    stands = step_by no_value E old r p out new h;
+    told = told_by r p;
   }
 
   -- the records of a legal history and one more, that of the cache's next step
-  pub goes_on : (E : K → K → Bool) (from : Cache K (Unit {0})) (old new : Cache K V) (rs mid all : List (Record K)) (r : Request K V) (p : Reply K V) (out : List (Idle K V))
-      → Replays E from rs (without_values old) → Step E old r p out new → mid ≡ rs → all ≡ mid ++ record_of (recorded_step r) (told_of r p) ∷ [] → Replays E from all (without_values new)
+  pub goes_on : (E : K → K → Bool) (from : Cache K (Unit {0})) (old new : Cache K V) (rs mid all : List (Answered K)) (r : Request K V) (p : Reply K V) (out : List (Idle K V))
+      → Replays E from rs (without_values old) → Step E old r p out new → mid ≡ rs → all ≡ mid ++ record_of (request_by no_value r) (told_of r p) ∷ [] → Replays E from all (without_values new)
   goes_on E from old new rs mid all r p out h s same is =
-      subst (λ (l : List (Record K)). Replays E from l (without_values new)) (sym (is ∙ ap (λ (l : List (Record K)). l ++ record_of (recorded_step r) (told_of r p) ∷ []) same))
-      (replays_more E from (without_values old) (without_values new) rs (record_of (recorded_step r) (told_of r p)) h (follows E old r p out new s))
+      subst (λ (l : List (Answered K)). Replays E from l (without_values new)) (sym (is ∙ ap (λ (l : List (Answered K)). l ++ record_of (request_by no_value r) (told_of r p) ∷ []) same))
+      (replays_more E from (without_values old) (without_values new) rs (record_of (request_by no_value r) (told_of r p)) h (follows E old r p out new s))

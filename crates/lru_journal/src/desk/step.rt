@@ -43,10 +43,11 @@ impl<'a, K: Hash + Eq + Clone, V: Drop> Call<K, V> for Begin<'a, K> {
 
     ghost use Rattle.std.specs.Prelude.{◌≢◌};
     ghost use Rattle.concurrent_lru.specs.declared.list.Refusal.TheVariants.{Stale};
-    ghost use Rattle.lru_journal.specs.Replay.{record_of, told_of_begun, IsOfCopy};
-    ghost use Rattle.lru_journal.specs.declared.record.Recorded.TheVariants as step;
+    ghost use Rattle.lru_journal.specs.Records.{record_of};
+    ghost use Rattle.lru_journal.specs.Replay.{told_of_begun, IsOfCopy};
+    ghost use Rattle.concurrent_lru.specs.Request as ask;
 
-    ghost is_record = { λ s begun. IsOfCopy K.eq s.key.now (λ copy. record_of (step.Begin copy s.charge) (told_of_begun begun.0)) };
+    ghost is_record = { λ s begun. IsOfCopy K.eq s.key.now (λ copy. record_of (ask.begin copy s.charge) (told_of_begun begun.0)) };
 
     ghost may_refuse = { λ s e. e ≢ Stale };
 
@@ -68,10 +69,11 @@ impl<K: Hash + Eq + Clone, V: Drop> Call<K, V> for Poll {
 
     ghost use Rattle.std.specs.Prelude.{◌≡◌, ◌≢◌};
     ghost use Rattle.concurrent_lru.specs.declared.list.Refusal.TheVariants.{Overflow};
-    ghost use Rattle.lru_journal.specs.Replay.{record_of, told_of_begun};
-    ghost use Rattle.lru_journal.specs.declared.record.Recorded.TheVariants as step;
+    ghost use Rattle.lru_journal.specs.Records.{record_of};
+    ghost use Rattle.lru_journal.specs.Replay.{told_of_begun};
+    ghost use Rattle.concurrent_lru.specs.Request as ask;
 
-    ghost is_record = { λ s begun r. r ≡ record_of (step.Poll s.stamp) (told_of_begun begun) };
+    ghost is_record = { λ s begun r. r ≡ record_of (ask.poll s.stamp) (told_of_begun begun) };
 
     ghost may_refuse = { λ s e. e ≢ Overflow };
 
@@ -95,11 +97,11 @@ impl<K: Hash + Eq + Clone, V: Drop> Call<K, V> for Ready<V> {
     ghost use Rattle.std.specs.Prelude.{◌≡◌, ◌≢◌};
     ghost use Rattle.std.specs.Arc.{arc_value};
     ghost use Rattle.concurrent_lru.specs.declared.list.Refusal.TheVariants.{Overflow};
-    ghost use Rattle.lru_journal.specs.Replay.{record_of};
-    ghost use Rattle.lru_journal.specs.declared.record.Recorded.TheVariants as step;
+    ghost use Rattle.lru_journal.specs.Records.{record_of};
+    ghost use Rattle.concurrent_lru.specs.Request as ask;
     ghost use Rattle.lru_journal.specs.declared.record.Told.TheVariants.{Done};
 
-    ghost is_record = { λ s _ r. r ≡ record_of (step.Ready s.stamp) Done };
+    ghost is_record = { λ s _ r. r ≡ record_of (ask.ready s.stamp tt) Done };
 
     ghost may_refuse = { λ s e. (e.0 ≢ Overflow) × (arc_value e.1 ≡ arc_value s.value) };
 
@@ -121,10 +123,11 @@ impl<K: Hash + Eq + Clone, V: Drop> Call<K, V> for Fail {
 
     ghost use Rattle.std.specs.Prelude.{◌≡◌, ◌≢◌};
     ghost use Rattle.concurrent_lru.specs.declared.list.Refusal.TheVariants.{Overflow};
-    ghost use Rattle.lru_journal.specs.Replay.{record_of, told_of_failed};
-    ghost use Rattle.lru_journal.specs.declared.record.Recorded.TheVariants as step;
+    ghost use Rattle.lru_journal.specs.Records.{record_of};
+    ghost use Rattle.lru_journal.specs.Replay.{told_of_failed};
+    ghost use Rattle.concurrent_lru.specs.Request as ask;
 
-    ghost is_record = { λ s failed r. r ≡ record_of (step.Fail s.stamp) (told_of_failed failed) };
+    ghost is_record = { λ s failed r. r ≡ record_of (ask.fail s.stamp) (told_of_failed failed) };
 
     ghost may_refuse = { λ s e. e ≢ Overflow };
 
@@ -146,10 +149,11 @@ impl<'a, K: Hash + Eq + Clone, V: Drop> Call<K, V> for Get<'a, K> {
 
     ghost use Rattle.std.specs.Prelude.{◌≢◌};
     ghost use Rattle.concurrent_lru.specs.declared.list.Refusal.TheVariants.{Stale};
-    ghost use Rattle.lru_journal.specs.Replay.{record_of, told_of_found, IsOfCopy};
-    ghost use Rattle.lru_journal.specs.declared.record.Recorded.TheVariants as step;
+    ghost use Rattle.lru_journal.specs.Records.{record_of};
+    ghost use Rattle.lru_journal.specs.Replay.{told_of_found, IsOfCopy};
+    ghost use Rattle.concurrent_lru.specs.Request as ask;
 
-    ghost is_record = { λ s found. IsOfCopy K.eq s.key.now (λ copy. record_of (step.Get copy) (told_of_found found)) };
+    ghost is_record = { λ s found. IsOfCopy K.eq s.key.now (λ copy. record_of (ask.get copy) (told_of_found found)) };
 
     ghost may_refuse = { λ s e. e ≢ Stale };
 
@@ -171,11 +175,11 @@ impl<K: Hash + Eq + Clone, V: Drop> Call<K, V> for Release {
 
     ghost use Rattle.std.specs.Prelude.{◌≡◌, ◌≢◌};
     ghost use Rattle.concurrent_lru.specs.declared.list.Refusal.TheVariants.{Overflow};
-    ghost use Rattle.lru_journal.specs.Replay.{record_of};
-    ghost use Rattle.lru_journal.specs.declared.record.Recorded.TheVariants as step;
+    ghost use Rattle.lru_journal.specs.Records.{record_of};
+    ghost use Rattle.concurrent_lru.specs.Request as ask;
     ghost use Rattle.lru_journal.specs.declared.record.Told.TheVariants.{Done};
 
-    ghost is_record = { λ s _ r. r ≡ record_of (step.Release s.stamp) Done };
+    ghost is_record = { λ s _ r. r ≡ record_of (ask.release s.stamp) Done };
 
     ghost may_refuse = { λ s e. e ≢ Overflow };
 
@@ -197,11 +201,12 @@ impl<'a, K: Hash + Eq + Clone, V: Drop> Call<K, V> for AdviceEvict<'a, K> {
 
     ghost use Rattle.std.specs.Prelude.{◌≡◌};
     ghost use Rattle.concurrent_lru.specs.declared.list.Refusal.TheVariants.{Memory};
-    ghost use Rattle.lru_journal.specs.Replay.{record_of, IsOfCopy};
-    ghost use Rattle.lru_journal.specs.declared.record.Recorded.TheVariants as step;
+    ghost use Rattle.lru_journal.specs.Records.{record_of};
+    ghost use Rattle.lru_journal.specs.Replay.{IsOfCopy};
+    ghost use Rattle.concurrent_lru.specs.Request as ask;
     ghost use Rattle.lru_journal.specs.declared.record.Told.TheVariants.{Done};
 
-    ghost is_record = { λ s _. IsOfCopy K.eq s.key.now (λ copy. record_of (step.AdviceEvict copy) Done) };
+    ghost is_record = { λ s _. IsOfCopy K.eq s.key.now (λ copy. record_of (ask.advice_evict copy) Done) };
 
     ghost may_refuse = { λ s e. e ≡ Memory };
 
@@ -221,11 +226,11 @@ impl<K: Hash + Eq + Clone, V: Drop> Call<K, V> for Prune {
 
     ghost use Rattle.std.specs.Prelude.{◌≡◌};
     ghost use Rattle.concurrent_lru.specs.declared.list.Refusal.TheVariants.{Memory};
-    ghost use Rattle.lru_journal.specs.Replay.{record_of};
-    ghost use Rattle.lru_journal.specs.declared.record.Recorded.TheVariants as step;
+    ghost use Rattle.lru_journal.specs.Records.{record_of};
+    ghost use Rattle.concurrent_lru.specs.Request as ask;
     ghost use Rattle.lru_journal.specs.declared.record.Told.TheVariants.{Done};
 
-    ghost is_record = { λ s _ r. r ≡ record_of step.Prune Done };
+    ghost is_record = { λ s _ r. r ≡ record_of ask.prune Done };
 
     ghost may_refuse = { λ s e. e ≡ Memory };
 
@@ -247,11 +252,11 @@ impl<K: Hash + Eq + Clone, V: Drop> Call<K, V> for SetCapacity {
 
     ghost use Rattle.std.specs.Prelude.{◌≡◌};
     ghost use Rattle.concurrent_lru.specs.declared.list.Refusal.TheVariants.{Memory};
-    ghost use Rattle.lru_journal.specs.Replay.{record_of};
-    ghost use Rattle.lru_journal.specs.declared.record.Recorded.TheVariants as step;
+    ghost use Rattle.lru_journal.specs.Records.{record_of};
+    ghost use Rattle.concurrent_lru.specs.Request as ask;
     ghost use Rattle.lru_journal.specs.declared.record.Told.TheVariants.{Done};
 
-    ghost is_record = { λ s _ r. r ≡ record_of (step.SetCapacity s.capacity) Done };
+    ghost is_record = { λ s _ r. r ≡ record_of (ask.set_capacity s.capacity) Done };
 
     ghost may_refuse = { λ s e. e ≡ Memory };
 
@@ -271,11 +276,11 @@ impl<K: Hash + Eq + Clone, V: Drop> Call<K, V> for Total {
 
     ghost use Rattle.std.specs.Prelude.{◌≡◌};
     ghost use Rattle.concurrent_lru.specs.declared.list.Refusal.TheVariants.{Memory};
-    ghost use Rattle.lru_journal.specs.Replay.{record_of};
-    ghost use Rattle.lru_journal.specs.declared.record.Recorded.TheVariants as step;
+    ghost use Rattle.lru_journal.specs.Records.{record_of};
+    ghost use Rattle.concurrent_lru.specs.Request as ask;
     ghost use Rattle.lru_journal.specs.declared.record.Told.TheVariants.{Total};
 
-    ghost is_record = { λ s total r. r ≡ record_of step.Total (Total total) };
+    ghost is_record = { λ s total r. r ≡ record_of ask.total (Total total) };
 
     ghost may_refuse = { λ s e. e ≡ Memory };
 

@@ -2,5 +2,5 @@ use Rattle.std.proofs.Common.{◌≡◌}
 use Rattle.lru_journal_tests.proofs.threads.use_key.Given as goal
 
 -- the parts of the tally stay
-abbrev pub invariant-loop-step : goal.invariant-loop-step
-invariant-loop-step g l = l.tally.parts ≡ l.initial.tally.parts
+abbrev pub invariant-loop-call : goal.invariant-loop-call
+invariant-loop-call g l = l.tally.parts ≡ l.initial.tally.parts

@@ -1,8 +1,7 @@
 use Rattle.std.proofs.Common.{[], refl, ap, ◌∙◌}
 use Rattle.concurrent_lru.specs.Request as ask
 use Rattle.concurrent_lru.specs.Results.{outcome_of_fail, reply_of_failed}
-use Rattle.lru_journal.specs.Replay.{record_of}
-use Rattle.lru_journal.specs.declared.record.Recorded.TheVariants as step
+use Rattle.lru_journal.specs.Records.{record_of}
 use Rattle.lru_journal.proofs.Replays.JournalAfterStep.{keeps_on, accepts, no_room, failed_told}
 use Rattle.lru_journal.proofs.journal.Journal.fail.Goals as goal
 
@@ -11,11 +10,11 @@ returns-in_err-reserve-clause-step g c = no_room g.K.PartialEq.eq (ask.fail c.ar
 
 pub invariant_of-self-2 : goal.invariant_of-self-2
 invariant_of-self-2 g c = keeps_on (ask.fail c.args.stamp) (reply_of_failed c.in_ok-failed.failed) [] c.self.invariant c.in_ok-failed.ensures.lawful c.in_ok-failed.ensures.step c.reserve.ensures.items c.add_record.ensures
-    (ap (λ t. record_of (step.Fail c.args.stamp) t) (c.reply_failed-reply.ensures ∙ failed_told g.row.V.Denot c.args.stamp c.in_ok-failed.failed))
+    (ap (λ t. record_of (ask.fail c.args.stamp) t) (c.reply_failed-reply.ensures ∙ failed_told g.row.V.Denot c.args.stamp c.in_ok-failed.failed))
 
 pub returns-clause-step : goal.returns-clause-step
 returns-clause-step g c = accepts g.K.PartialEq.eq (ask.fail c.args.stamp) (reply_of_failed c.in_ok-failed.failed) [] c.self.view_is c.in_ok-failed.ensures.step c.reserve.ensures.items c.add_record.ensures
-    (ap (λ t. record_of (step.Fail c.args.stamp) t) (c.reply_failed-reply.ensures ∙ failed_told g.row.V.Denot c.args.stamp c.in_ok-failed.failed))
+    (ap (λ t. record_of (ask.fail c.args.stamp) t) (c.reply_failed-reply.ensures ∙ failed_told g.row.V.Denot c.args.stamp c.in_ok-failed.failed))
 
 pub returns-clause-history : goal.returns-clause-history
-returns-clause-history g c = (keeps_on (ask.fail c.args.stamp) (reply_of_failed c.in_ok-failed.failed) [] c.self.invariant c.in_ok-failed.ensures.lawful c.in_ok-failed.ensures.step c.reserve.ensures.items c.add_record.ensures (ap (λ t. record_of (step.Fail c.args.stamp) t) (c.reply_failed-reply.ensures ∙ failed_told g.row.V.Denot c.args.stamp c.in_ok-failed.failed))).history
+returns-clause-history g c = (keeps_on (ask.fail c.args.stamp) (reply_of_failed c.in_ok-failed.failed) [] c.self.invariant c.in_ok-failed.ensures.lawful c.in_ok-failed.ensures.step c.reserve.ensures.items c.add_record.ensures (ap (λ t. record_of (ask.fail c.args.stamp) t) (c.reply_failed-reply.ensures ∙ failed_told g.row.V.Denot c.args.stamp c.in_ok-failed.failed))).history

@@ -1,0 +1,28 @@
+-- What contracts see of a record: the request without its value, and what was told.
+use Rattle.concurrent_lru.specs.Request as ask
+use Rattle.concurrent_lru.specs.Request.{Request}
+use Rattle.lru_journal.specs.declared.record.Recorded.{Recorded}
+use Rattle.lru_journal.specs.declared.record.Recorded.TheVariants as step
+use Rattle.lru_journal.specs.declared.record.Told.{Told}
+
+-- an accepted request without its value, and what was told
+pub record Answered (K : Type 0) : Type 0 where
+  pub request : Request K (Unit {0})
+  pub reply : Told
+
+module _ {K : Type 0} where
+  -- a recorded step as a request
+  abbrev pub request_of_recorded : Recorded K → Request K (Unit {0})
+  request_of_recorded (step.Begin k c) = ask.begin k c
+  request_of_recorded (step.Poll s) = ask.poll s
+  request_of_recorded (step.Ready s) = ask.ready s tt
+  request_of_recorded (step.Fail s) = ask.fail s
+  request_of_recorded (step.Get k) = ask.get k
+  request_of_recorded (step.Release s) = ask.release s
+  request_of_recorded (step.AdviceEvict k) = ask.advice_evict k
+  request_of_recorded step.Prune = ask.prune
+  request_of_recorded (step.SetCapacity c) = ask.set_capacity c
+  request_of_recorded step.Total = ask.total
+
+  abbrev pub record_of : Request K (Unit {0}) → Told → Answered K
+  record_of request reply = record { request = request; reply = reply }

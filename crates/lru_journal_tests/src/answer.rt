@@ -1,0 +1,96 @@
+//! What a journal and its twin answer to a call, as plain data, so that answers stand in tables.
+//! The calls are those of `lru_fixtures`; what is told is in the words of the records.
+
+use concurrent_lru::lru_core::{Begun, Failed, Refusal};
+use lru_journal::journal::{Pin, Started, Told};
+use std::sync::Arc;
+
+/// The value of the pin that a release is handed. A release goes by the pin's stamp alone.
+pub(crate) const PINNED: u64 = 77;
+
+/// What a call is answered.
+#[derive(Clone, Copy, Debug, PartialEq, Eq)]
+pub(crate) enum Answer {
+    /// What was told.
+    Says(Told),
+    /// What was told, and what came with it: the value of the entry, or the key of a removed one.
+    Gives(Told, u64),
+    /// A refusal.
+    Refused(Refusal),
+    /// To `Ready` and `Release`: a refusal, and the stamp and the value that came back with it.
+    Back(Refusal, u64, u64),
+    /// The call was not made: a `Begin` at charge 0, or one that journals do not have.
+    Unmade,
+}
+
+impl Answer {
+    /// The answer to a call that may be refused.
+    pub(crate) fn of<T>(told: Result<T, Refusal>) -> Answer
+    where
+        Answer: From<T>,
+    {
+        match told {
+            Ok(told) => Answer::from(told),
+            Err(refusal) => Answer::Refused(refusal),
+        }
+    }
+}
+
+impl From<Begun<u64>> for Answer {
+    fn from(begun: Begun<u64>) -> Answer {
+        match begun {
+            Begun::Make(stamp) => Answer::Says(Told::Make(stamp)),
+            Begun::Wait(stamp) => Answer::Says(Told::Wait(stamp)),
+            Begun::Hit(stamp, value) => Answer::Gives(Told::Hit(stamp), *value),
+        }
+    }
+}
+
+impl From<Started<u64>> for Answer {
+    fn from(started: Started<u64>) -> Answer {
+        match started {
+            Started::Make(stamp) => Answer::Says(Told::Make(stamp)),
+            Started::Wait(stamp) => Answer::Says(Told::Wait(stamp)),
+            Started::Hit(pin) => Answer::Gives(Told::Hit(pin.stamp()), *pin.value()),
+        }
+    }
+}
+
+impl From<Failed<u64>> for Answer {
+    fn from(failed: Failed<u64>) -> Answer {
+        match failed {
+            Failed::Left => Answer::Says(Told::Left),
+            Failed::Removed(key) => Answer::Gives(Told::Removed, key),
+        }
+    }
+}
+
+impl From<Option<(u64, Arc<u64>)>> for Answer {
+    fn from(found: Option<(u64, Arc<u64>)>) -> Answer {
+        match found {
+            Some((stamp, value)) => Answer::Gives(Told::Found(stamp), *value),
+            None => Answer::Says(Told::Missed),
+        }
+    }
+}
+
+impl From<Option<Pin<u64>>> for Answer {
+    fn from(found: Option<Pin<u64>>) -> Answer {
+        match found {
+            Some(pin) => Answer::Gives(Told::Found(pin.stamp()), *pin.value()),
+            None => Answer::Says(Told::Missed),
+        }
+    }
+}
+
+impl From<u64> for Answer {
+    fn from(total: u64) -> Answer {
+        Answer::Says(Told::Total(total))
+    }
+}
+
+impl From<()> for Answer {
+    fn from(_: ()) -> Answer {
+        Answer::Says(Told::Done)
+    }
+}
