@@ -41,8 +41,8 @@ pub fn run<R: Threads + Wait + Clock + RandomSource + Sync, O: Write>(
         use_alone(rt, alloc, *entries, plan.operations, &mut report)?;
     }
     for threads in [1, 2, 4, 8] {
-        stress_lock(rt, alloc, threads, plan.calls, &mut report)?;
-        stress_shards(rt, alloc, threads, plan.calls, &mut report)?;
+        stress_lock(rt, rt, alloc, threads, plan.calls, &mut report)?;
+        stress_shards(rt, rt, alloc, threads, plan.calls, &mut report)?;
     }
     Ok(())
 }
@@ -89,39 +89,45 @@ fn use_alone<R: Wait + Clock, O: Write>(
     report.end(&work("miss_evict"), begin, sum)
 }
 
-fn stress_lock<R: Threads + Wait + Clock + Sync, O: Write>(
+fn stress_lock<R: Threads + Wait + Clock + Sync, W: Wait + Drop + Sync, O: Write>(
     rt: &R,
+    wait: W,
     alloc: Global,
     threads: u32,
     calls: u32,
     report: &mut Report<'_, R, O>,
 ) -> Result<(), Failure> {
-    let cache: unsharded::LruCache<u64, u64, &R> = unsharded::LruCache::new(
+    let cache: unsharded::LruCache<u64, u64, W> = unsharded::LruCache::new(
         alloc,
-        rt,
+        wait,
         LOCK_CAPACITY,
     );
     let begin = report.start()?;
-    let sum = stress(rt, &cache, threads, calls)?;
+    let sum = stress(rt, &&cache, threads, calls)?;
     let work = Work::new(ON_ONE_LOCK, "stress", LOCK_CAPACITY, threads, calls);
     report.end(&work, begin, sum)
 }
 
-fn stress_shards<R: Threads + Wait + Clock + RandomSource + Sync, O: Write>(
+fn stress_shards<
+    R: Threads + Wait + Clock + RandomSource + Sync,
+    W: Wait + Clone + Drop + Sync,
+    O: Write,
+>(
     rt: &R,
+    wait: W,
     alloc: Global,
     threads: u32,
     calls: u32,
     report: &mut Report<'_, R, O>,
 ) -> Result<(), Failure> {
-    let cache: sharded::LruCache<u64, u64, &R> = sharded::LruCache::new(
+    let cache: sharded::LruCache<u64, u64, W> = sharded::LruCache::new(
         alloc,
-        rt,
+        wait,
         SHARDS_CAPACITY,
         RandomState::new(rt)?,
     )?;
     let begin = report.start()?;
-    let sum = stress(rt, &cache, threads, calls)?;
+    let sum = stress(rt, &&cache, threads, calls)?;
     let work = Work::new(IN_SHARDS, "stress", SHARDS_CAPACITY, threads, calls);
     report.end(&work, begin, sum)
 }

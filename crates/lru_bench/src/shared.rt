@@ -1,45 +1,30 @@
 //! A cache as the workers of the stress workload see it: on one lock, or in shards.
+ghost use Rattle.std.specs.Prelude.{◌<◌};
 
 use concurrent_lru::lru_core::Refusal;
-use concurrent_lru::{sharded, unsharded};
+use concurrent_lru::unsharded::GetError;
+use lru_support::cached::Cached;
 use lru_support::calls::Call;
-use std::hash::RandomState;
-use std::sync::Wait;
 
-/// A cache that workers share. The value of a key is the key.
+/// A cache that workers share. The value of a key is the key. It has no associated type, since the
+/// checker covers no closure of a thread over one that has.
 pub trait Shared {
     /// The value of a call, whose handle is dropped at once; none where its making failed.
     fn fetch(&self, call: &Call) -> Result<Option<u64>, Refusal>;
 }
 
+impl<C: Cached<u64>> Shared for C {
+    fn fetch(&self, call: &Call) -> Result<Option<u64>, Refusal> {
+        match self.tried(call.key, call.charge, |_| make(call)) {
+            Ok(handle) => Ok(Some(*C::value_of(&handle))),
+            Err(GetError::Init(())) => Ok(None),
+            Err(GetError::Memory) => Err(Refusal::Memory),
+            Err(GetError::Overflow) => Err(Refusal::Overflow),
+        }
+    }
+}
+
 // What `init` answers: the key, or that it fails.
 fn make(call: &Call) -> Result<u64, ()> {
     if call.fails { Err(()) } else { Ok(call.key) }
-}
-
-// A failed making is an answer, and what the cache refused is an error.
-fn refused(error: unsharded::GetError<()>) -> Result<Option<u64>, Refusal> {
-    match error {
-        unsharded::GetError::Init(()) => Ok(None),
-        unsharded::GetError::Memory => Err(Refusal::Memory),
-        unsharded::GetError::Overflow => Err(Refusal::Overflow),
-    }
-}
-
-impl<R: Wait> Shared for unsharded::LruCache<u64, u64, R> {
-    fn fetch(&self, call: &Call) -> Result<Option<u64>, Refusal> {
-        match self.get_or_try_init(call.key, call.charge, |_| make(call)) {
-            Ok(handle) => Ok(Some(*handle.value())),
-            Err(error) => refused(error),
-        }
-    }
-}
-
-impl<R: Wait + Clone> Shared for sharded::LruCache<u64, u64, R, RandomState> {
-    fn fetch(&self, call: &Call) -> Result<Option<u64>, Refusal> {
-        match self.get_or_try_init(call.key, call.charge, |_| make(call)) {
-            Ok(handle) => Ok(Some(*handle.value())),
-            Err(error) => refused(error),
-        }
-    }
 }

@@ -3,10 +3,10 @@
 ghost use Rattle.std.specs.Prelude.{◌<◌};
 
 use crate::gates::{Cause, evict_with};
-use crate::threaded::Cached;
+use crate::threaded::make_value;
+use lru_support::cached::Cached;
 use lru_support::flags::{is_raised, meets, raise};
 use std::alloc::AllocError;
-use std::fmt;
 use std::sync::Arc;
 use std::sync::atomic::{AtomicU64, Ordering};
 
@@ -119,13 +119,6 @@ impl Sent {
     }
 }
 
-// As its number.
-impl fmt::Debug for Sent {
-    fn fmt<W: fmt::Write>(&self, f: &mut fmt::Formatter<W>) -> fmt::Result {
-        self.number.fmt(f)
-    }
-}
-
 impl Drop for Sent {
     fn drop(self) {
         let Self { number, errands } = self;
@@ -157,7 +150,7 @@ fn makes<H: Drop, C: Cached<Sent, Handle = H>>(
     number: u64,
 ) -> Option<H> {
     let value = Sent::new(number, errands).ok()?;
-    cache.made(number, 1, value, &mut None).ok()
+    make_value(cache, number, 1, value, &mut None).ok()
 }
 
 // Makes the values 1 to 4, and keeps the first handle where its drop is to evict.

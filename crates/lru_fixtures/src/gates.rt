@@ -2,10 +2,10 @@
 //! thread, which gets the lock meanwhile, or gives up.
 ghost use Rattle.std.specs.Prelude.{◌<◌};
 
-use crate::threaded::Cached;
+use crate::threaded::{make_value, try_make_value};
+use lru_support::cached::Cached;
 use lru_support::flags::{is_raised, meets, raise};
 use std::alloc::AllocError;
-use std::fmt;
 use std::sync::Arc;
 use std::sync::atomic::AtomicU64;
 
@@ -59,13 +59,6 @@ impl Slow {
     }
 }
 
-// Nothing of a gate is worth to be shown.
-impl fmt::Debug for Slow {
-    fn fmt<W: fmt::Write>(&self, f: &mut fmt::Formatter<W>) -> fmt::Result {
-        f.write_str("slow")
-    }
-}
-
 impl Drop for Slow {
     fn drop(self) {
         let Self { gate } = self;
@@ -100,7 +93,7 @@ pub fn made_for<H: Drop, C: Cached<Slow, Handle = H>>(
 ) -> Option<Option<H>> {
     let value = Slow::at(gate).ok()?;
     let mut ran = None;
-    let handle = cache.made(1, 1, value, &mut ran).ok()?;
+    let handle = make_value(cache, 1, 1, value, &mut ran).ok()?;
     match cause {
         Cause::Release => Some(Some(handle)),
         _ => Some(None),
@@ -133,10 +126,10 @@ pub fn evict_with<V: Drop, H: Drop, C: Cached<V, Handle = H>>(
     match cause {
         Cause::Begin => {
             if let Some(value) = value {
-                drop(cache.made(5, 1, value, &mut ran));
+                drop(make_value(cache, 5, 1, value, &mut ran));
             }
         }
-        Cause::Failure => drop(cache.tried(5, 1, None, &mut ran)),
+        Cause::Failure => drop(try_make_value(cache, 5, 1, None, &mut ran)),
         Cause::Release => drop(handle),
         Cause::Advice => cache.advise(1),
         Cause::Prune => cache.clear(),

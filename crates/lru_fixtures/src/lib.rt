@@ -1,12 +1,12 @@
-//! What tests and programs of the caches share: flags, values that note their drops or use the cache
-//! in them, hashers with known numbers, marks, tables of calls, a writer that fails, and the worked
-//! rows.
+//! What tests and programs of the caches share: values that use the cache in their drops, meetings
+//! of threads, marks, tables of calls, the seeded runs, and the worked rows.
 #![tactic(auto)]
 
 pub mod errands;
 pub mod gates;
 pub mod makes;
 pub mod marks;
+pub mod meetings;
 pub mod rows;
 pub mod tables;
 pub mod threaded;

@@ -47,28 +47,13 @@ impl Asked<Step<&'static str>> for Journal<String, u64> {
             }
             Step::Ready(stamp, value) => {
                 let value = Arc::new(alloc, value)?;
-                store(self, step, stamp, value, told);
+                if let Some(value) = told.handed_over(&step, self.ready(stamp, value)) {
+                    told.line(&step, &self.ready(stamp, value));
+                }
                 Ok(false)
             }
             _ => Ok(ask_plainly(self, step, told)),
         }
-    }
-}
-
-// Stores a value; one that comes back for want of memory is handed over again.
-fn store<O: Write, E: Write>(
-    journal: &mut Journal<String, u64>,
-    step: Step<&'static str>,
-    stamp: u64,
-    value: Arc<u64>,
-    told: &mut Told<'_, O, E>,
-) {
-    match journal.ready(stamp, value) {
-        Err((Refusal::Memory, value)) => {
-            told.memory(&step);
-            told.line(&step, &journal.ready(stamp, value));
-        }
-        answer => told.line(&step, &answer),
     }
 }
 

@@ -5,7 +5,8 @@ use crate::step::{Asked, play};
 use crate::told::Told;
 use concurrent_lru::lru_core::Refusal;
 use concurrent_lru::{sharded, unsharded};
-use lru_fixtures::threaded::{Cached, NoHandle};
+use lru_fixtures::threaded::{NoHandle, make_value, try_make_value};
+use lru_support::cached::Cached;
 use std::alloc::Global;
 use std::hash::{BuildHasherDefault, FoldHasher};
 use std::io::Write;
@@ -106,7 +107,7 @@ pub fn play_over_two<R: Wait + Drop, O: Write, E: Write>(
 
 fn make_over_two<C: Cached<u64>, O: Write, E: Write>(cache: C, told: &mut Told<'_, O, E>) {
     let mut ran = None;
-    let Err(NoHandle::Refused(Refusal::Memory)) = cache.made(3, 2, 3, &mut ran) else {
+    let Err(NoHandle::Refused(Refusal::Memory)) = make_value(cache, 3, 2, 3, &mut ran) else {
         return;
     };
     let left = (value_found(cache, 1), value_found(cache, 2), cache.total());
@@ -123,7 +124,7 @@ fn make_over_two<C: Cached<u64>, O: Write, E: Write>(cache: C, told: &mut Told<'
     if left != wanted {
         told.line(&"left", &left);
     }
-    drop(cache.made(3, 2, 3, &mut ran));
+    drop(make_value(cache, 3, 2, 3, &mut ran));
 }
 
 /// The value that a `get` finds.
@@ -161,9 +162,15 @@ fn ask<C: Cached<u64>, O: Write, E: Write>(
 ) -> bool {
     let mut ran = None;
     let made = match call {
-        Call::Make(key, charge, value) => cache.made(key, charge.max(1), value, &mut ran),
-        Call::Try(key, charge, value) => cache.tried(key, charge.max(1), Some(value), &mut ran),
-        Call::Fail(key, charge) => cache.tried(key, charge.max(1), None, &mut ran),
+        Call::Make(key, charge, value) => make_value(cache, key, charge.max(1), value, &mut ran),
+        Call::Try(key, charge, value) => try_make_value(
+            cache,
+            key,
+            charge.max(1),
+            Some(value),
+            &mut ran,
+        ),
+        Call::Fail(key, charge) => try_make_value(cache, key, charge.max(1), None, &mut ran),
         _ => return ask_for_none(cache, call, told),
     };
     told.answer(&call, &value_made::<C>(made))

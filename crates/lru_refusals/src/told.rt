@@ -52,6 +52,25 @@ impl<'a, O: Write, E: Write> Told<'a, O, E> {
         false
     }
 
+    /// As `answer`, of a call that hands a value over. It answers the value that came back for want
+    /// of memory, with which the call is to be made again.
+    pub fn handed_over<C: Debug, V: Debug + Drop>(
+        &mut self,
+        call: &C,
+        answer: Result<(), (Refusal, V)>,
+    ) -> Option<V> {
+        match answer {
+            Err((Refusal::Memory, value)) => {
+                self.memory(call);
+                Some(value)
+            }
+            answer => {
+                self.line(call, &answer);
+                None
+            }
+        }
+    }
+
     /// Tells a call and what it returned.
     pub fn line<C: Debug, T: Debug>(&mut self, call: &C, returned: &T) {
         let written = writeln!(self.out, "{call:?}: {returned:?}");

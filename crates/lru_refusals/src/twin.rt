@@ -114,7 +114,9 @@ fn ask<R: Wait + Drop, I: Identity, O: Write, E: Write>(
         }
         Step::Ready(stamp, value) => {
             let value = Arc::new(alloc, value)?;
-            store(cache, tally, step, stamp, value, told);
+            if let Some(value) = told.handed_over(&step, cache.ready(tally, stamp, value)) {
+                told.line(&step, &cache.ready(tally, stamp, value));
+            }
             Ok(false)
         }
         Step::Release(stamp) => {
@@ -123,26 +125,6 @@ fn ask<R: Wait + Drop, I: Identity, O: Write, E: Write>(
             Ok(false)
         }
         _ => Ok(ask_plainly(cache, tally, step, told)),
-    }
-}
-
-// Stores a value; one that comes back for want of memory is handed over again.
-fn store<R: Wait + Drop, I: Identity, O: Write, E: Write>(
-    cache: &LruCache<String, u64, R, I>,
-    tally: &mut Tally<String, I>,
-    step: Step<&'static str>,
-    stamp: u64,
-    value: Arc<u64>,
-    told: &mut Told<'_, O, E>,
-)
-    ensures { tally.new.parts ≡ tally.old.parts }
-{
-    match cache.ready(tally, stamp, value) {
-        Err((Refusal::Memory, value)) => {
-            told.memory(&step);
-            told.line(&step, &cache.ready(tally, stamp, value));
-        }
-        answer => told.line(&step, &answer),
     }
 }
 

@@ -72,7 +72,7 @@ fn on_one_lock<R: Threads + Wait + Clone + Drop + Send + Sync>(
         rt,
         alloc,
         plan,
-        &cache,
+        &&cache,
         &book,
         u128::from(plan.lock_capacity),
     )
@@ -92,7 +92,7 @@ fn in_shards<R: Threads + Wait + Clone + Drop + Send + Sync>(
         BuildHasherDefault::new(),
     );
     let cache = made?;
-    workers::share(rt, alloc, plan, &cache, &book, allowed_in_shards(plan))
+    workers::share(rt, alloc, plan, &&cache, &book, allowed_in_shards(plan))
 }
 
 // The sum of what the shards settle to: each share is rounded up.

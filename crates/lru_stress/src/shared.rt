@@ -1,12 +1,14 @@
 //! A cache of one lock or in shards, as the workers of the stress run use it.
+ghost use Rattle.std.specs.Prelude.{◌<◌};
 
 use crate::counted::{Book, Counted, Unmade};
 use concurrent_lru::lru_core::Refusal;
 use concurrent_lru::unsharded::GetError;
 use concurrent_lru::{sharded, unsharded};
+use lru_support::cached::Cached;
 use lru_support::calls::Call;
 use std::hash::{BuildHasherDefault, FoldHasher};
-use std::sync::{Arc, Wait};
+use std::sync::Arc;
 
 /// What the cache in shards numbers its keys by.
 pub type KeyHasher = BuildHasherDefault<FoldHasher>;
@@ -53,16 +55,42 @@ impl Answer {
     }
 }
 
-/// A cache that workers share.
+/// A cache that workers share. It has no associated type, since the checker covers no closure of
+/// a thread over one that has.
 pub trait Shared {
     /// Asks for a value, and drops its handle at once.
     fn fetch(&self, call: &Call, manner: &Manner) -> Result<Answer, Unmade>;
 
     /// `prune`.
-    fn clear(&self);
+    fn prune_all(&self);
 
     /// `total_charge`.
-    fn total(&self) -> u128;
+    fn charged(&self) -> u128;
+}
+
+impl<C: Cached<Counted>> Shared for C {
+    fn fetch(&self, call: &Call, manner: &Manner) -> Result<Answer, Unmade> {
+        let began = manner.book.now();
+        let mut ran = false;
+        match self.tried(call.key, call.charge, |_| {
+            ran = true;
+            Counted::make(&manner.book, call, manner.yields)
+        }) {
+            Ok(handle) => {
+                let total = if manner.looks { self.total() } else { 0 };
+                Ok(Answer::of(C::value_of(&handle), call, began, ran, total))
+            }
+            Err(error) => Err(unmade(error)),
+        }
+    }
+
+    fn prune_all(&self) {
+        self.clear();
+    }
+
+    fn charged(&self) -> u128 {
+        self.total()
+    }
 }
 
 fn unmade(error: GetError<Unmade>) -> Unmade {
@@ -70,55 +98,5 @@ fn unmade(error: GetError<Unmade>) -> Unmade {
         GetError::Init(unmade) => unmade,
         GetError::Memory => Unmade::Refused(Refusal::Memory),
         GetError::Overflow => Unmade::Refused(Refusal::Overflow),
-    }
-}
-
-impl<R: Wait> Shared for Cache<R> {
-    fn fetch(&self, call: &Call, manner: &Manner) -> Result<Answer, Unmade> {
-        let began = manner.book.now();
-        let mut ran = false;
-        match self.get_or_try_init(call.key, call.charge, |_| {
-            ran = true;
-            Counted::make(&manner.book, call, manner.yields)
-        }) {
-            Ok(handle) => {
-                let total = if manner.looks { self.total() } else { 0 };
-                Ok(Answer::of(handle.value(), call, began, ran, total))
-            }
-            Err(error) => Err(unmade(error)),
-        }
-    }
-
-    fn clear(&self) {
-        self.prune();
-    }
-
-    fn total(&self) -> u128 {
-        u128::from(self.total_charge())
-    }
-}
-
-impl<R: Wait + Clone> Shared for Shards<R> {
-    fn fetch(&self, call: &Call, manner: &Manner) -> Result<Answer, Unmade> {
-        let began = manner.book.now();
-        let mut ran = false;
-        match self.get_or_try_init(call.key, call.charge, |_| {
-            ran = true;
-            Counted::make(&manner.book, call, manner.yields)
-        }) {
-            Ok(handle) => {
-                let total = if manner.looks { self.total() } else { 0 };
-                Ok(Answer::of(handle.value(), call, began, ran, total))
-            }
-            Err(error) => Err(unmade(error)),
-        }
-    }
-
-    fn clear(&self) {
-        self.prune();
-    }
-
-    fn total(&self) -> u128 {
-        self.total_charge()
     }
 }

@@ -1,7 +1,9 @@
-//! What tests and programs share that knows no cache: flags, values that note their drops, hashers
-//! with known numbers, the calls of workers, the words of a command line, and a writer that fails.
+//! What tests and programs share: one trait for the caches that threads share, flags, values that
+//! note their drops, hashers with known numbers, the calls of workers, the words of a command line,
+//! and a writer that fails.
 #![tactic(auto)]
 
+pub mod cached;
 pub mod calls;
 pub mod drops;
 pub mod flags;

@@ -54,13 +54,9 @@ fn ready(alloc: Global, journal: &mut Journal<u64, u64>) -> Result<(), Refusal> 
     }
 }
 
-fn show_stamps(
-    alloc: Global,
-    mut evicted: Evicted<u64, u64>,
-    line: &mut Line,
-) -> Result<(), Refusal> {
+fn show_stamps(alloc: Global, evicted: Evicted<u64, u64>, line: &mut Line) -> Result<(), Refusal> {
     let mut stamps = Vec::new(alloc);
-    while let Some(gone) = evicted.pop() {
+    for gone in evicted {
         stamps.push(gone.stamp)?;
     }
     line.show_numbers(&stamps)

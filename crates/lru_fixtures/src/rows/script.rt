@@ -236,8 +236,8 @@ impl Stage {
 /// Adds the keys of evicted entries to a list, oldest first.
 ///
 /// `Memory` where there is no room for one; the list may then have those before it.
-pub fn push_keys(keys: &mut Vec<u64>, mut evicted: Evicted<u64, u64>) -> Result<(), Refusal> {
-    while let Some(gone) = evicted.pop() {
+pub fn push_keys(keys: &mut Vec<u64>, evicted: Evicted<u64, u64>) -> Result<(), Refusal> {
+    for gone in evicted {
         keys.push(gone.key)?;
     }
     Ok(())

@@ -189,8 +189,8 @@ impl<P: Owned> Model<P> {
     }
 
     // What was evicted is dropped, oldest first.
-    fn note(&mut self, mut evicted: Evicted<u64, u64>) -> Result<Said, AllocError> {
-        while let Some(gone) = evicted.pop() {
+    fn note(&mut self, evicted: Evicted<u64, u64>) -> Result<Said, AllocError> {
+        for gone in evicted {
             self.dropped.push(*gone.value)?;
             self.remove(gone.key);
         }

@@ -2,12 +2,13 @@
 ghost use Rattle.std.specs.Prelude.{◌<◌};
 
 use crate::tables::{Answers, text_of};
-use crate::threaded::cached::{Cached, NoHandle};
 use crate::threaded::calls::{Call, Said, Then};
+use crate::threaded::making::{NoHandle, make_value, try_make_value};
+use lru_support::cached::Cached;
 use lru_support::drops::{DropLog, Logged};
 use std::alloc::{AllocError, Global};
-use std::mem;
 use std::sync::Wait;
+use std::{fmt, mem};
 
 // How many handles a player can hold.
 const SLOTS: usize = 4;
@@ -86,7 +87,7 @@ impl<'l, R: Wait + Clone + Drop, C: Cached<Logged<R>>> Player<'l, R, C> {
             return Said::Uncharged;
         }
         let mut ran = None;
-        let made = self.cache.made(key, charge, value, &mut ran);
+        let made = make_value(self.cache, key, charge, value, &mut ran);
         self.told(made, ran, then)
     }
 
@@ -95,7 +96,7 @@ impl<'l, R: Wait + Clone + Drop, C: Cached<Logged<R>>> Player<'l, R, C> {
             return Said::Uncharged;
         }
         let mut ran = None;
-        let made = self.cache.tried(key, charge, value, &mut ran);
+        let made = try_make_value(self.cache, key, charge, value, &mut ran);
         self.told(made, ran, then)
     }
 
@@ -134,7 +135,8 @@ fn asked<V, C: Cached<V>>(cache: C, call: Call) -> Said {
 }
 
 // The text of what was said, and then of the values that were dropped, if any were.
-impl<'l, R: Wait + Clone + Drop, C: Cached<Logged<R>>> Answers<Call> for Player<'l, R, C> {
+impl<'l, R: Wait + Clone + Drop, C: Cached<Logged<R>> + fmt::Debug> Answers<Call>
+    for Player<'l, R, C> {
     fn answer(&mut self, alloc: Global, call: Call) -> Result<String, AllocError> {
         if let Call::Show = call {
             return text_of(alloc, &self.cache);

@@ -119,35 +119,6 @@ fn ends_with_a_status(rt: HostRuntime) -> Result<(), Fail> {
     Ok(())
 }
 
-// Whether the stress workload of a seed ends well, and says so. A seed has a test of its own, since
-// a test has a limit of time.
-fn is_ok_from<R: Threads + Wait + Clone + Drop + Send + Sync>(
-    rt: &R,
-    alloc: Global,
-    asked: &str,
-) -> Result<bool, Fail> {
-    let (status, out, err) = run(rt, alloc, asked, (9_999, 9_999))?;
-    Ok(status == 0 && out.bytes() == b"stress ok\n".as_slice() && err.bytes().is_empty())
-}
-
-#[test]
-fn the_stress_of_1_is_ok(rt: HostRuntime) -> Result<(), Fail> {
-    assert!(rt; is_ok_from(&rt, rt.alloc(), "/stress/1")?);
-    Ok(())
-}
-
-#[test]
-fn the_stress_of_2_is_ok(rt: HostRuntime) -> Result<(), Fail> {
-    assert!(rt; is_ok_from(&rt, rt.alloc(), "/stress/2")?);
-    Ok(())
-}
-
-#[test]
-fn the_stress_of_the_greatest_seed_is_ok(rt: HostRuntime) -> Result<(), Fail> {
-    assert!(rt; is_ok_from(&rt, rt.alloc(), "/stress/18446744073709551615")?);
-    Ok(())
-}
-
 #[test]
 fn ends_at_a_failed_write(rt: HostRuntime) -> Result<(), Fail> {
     for room in 0..=ROWS.len() {

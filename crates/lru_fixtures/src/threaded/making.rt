@@ -1,0 +1,67 @@
+//! The makings of a cache that threads share, as one thread asks for them.
+//! An `init` notes the key that it ran with.
+ghost use Rattle.std.specs.Prelude.{◌<◌};
+
+use concurrent_lru::lru_core::Refusal;
+use concurrent_lru::unsharded::GetError;
+use lru_support::cached::Cached;
+
+/// Why a call gave no handle.
+#[derive(Drop)]
+pub enum NoHandle {
+    /// The cache refused it.
+    Refused(Refusal),
+    /// `init` failed with this key.
+    Failed(u64),
+}
+
+impl From<Refusal> for NoHandle {
+    fn from(refusal: Refusal) -> NoHandle {
+        NoHandle::Refused(refusal)
+    }
+}
+
+impl From<GetError<u64>> for NoHandle {
+    fn from(error: GetError<u64>) -> NoHandle {
+        match error {
+            GetError::Memory => NoHandle::Refused(Refusal::Memory),
+            GetError::Overflow => NoHandle::Refused(Refusal::Overflow),
+            GetError::Init(key) => NoHandle::Failed(key),
+        }
+    }
+}
+
+/// `get_or_init`, whose `init` notes its key in `ran` and gives the value.
+pub fn make_value<V: Drop, C: Cached<V>>(
+    cache: C,
+    key: u64,
+    charge: u64,
+    value: V,
+    ran: &mut Option<u64>,
+) -> Result<C::Handle, NoHandle>
+    requires { 0 < charge }
+{
+    let handle = cache.made(key, charge, |key| {
+        *ran = Some(*key);
+        value
+    })?;
+    Ok(handle)
+}
+
+/// `get_or_try_init`, whose `init` notes its key in `ran`, and gives the value or, where there is
+/// none, its key as the error.
+pub fn try_make_value<V: Drop, C: Cached<V>>(
+    cache: C,
+    key: u64,
+    charge: u64,
+    value: Option<V>,
+    ran: &mut Option<u64>,
+) -> Result<C::Handle, NoHandle>
+    requires { 0 < charge }
+{
+    let handle = cache.tried(key, charge, |key| {
+        *ran = Some(*key);
+        value.ok_or(*key)
+    })?;
+    Ok(handle)
+}

@@ -1,0 +1,162 @@
+//! The two caches that threads share, asked alike: one trait for references to either.
+//! Keys are of `u64`.
+ghost use Rattle.std.specs.Prelude.{◌<◌};
+ghost use Rattle.std.specs.Fn.{FnOnceTakesAt};
+
+use concurrent_lru::lru_core::Refusal;
+use concurrent_lru::unsharded::GetError;
+use concurrent_lru::{sharded, unsharded};
+use std::hash::BuildHasher;
+use std::sync::Wait;
+
+/// A reference to a cache of values V.
+pub trait Cached<V>: Copy {
+    /// What pins a value.
+    type Handle: Drop;
+
+    /// A handle's value.
+    fn value_of(handle: &Self::Handle) -> &V;
+
+    /// `get`.
+    fn found(self, key: u64) -> Result<Option<Self::Handle>, Refusal>;
+
+    /// `get_or_init`.
+    fn made<I>(self, key: u64, charge: u64, init: I) -> Result<Self::Handle, Refusal>
+    where
+        I: FnOnce(&u64) -> V + Drop,
+        requires charged { 0 < charge }
+        requires callable { FnOnceTakesAt I.FnOnce init key };
+
+    /// `get_or_try_init`.
+    fn tried<E, I>(self, key: u64, charge: u64, init: I) -> Result<Self::Handle, GetError<E>>
+    where
+        I: FnOnce(&u64) -> Result<V, E> + Drop,
+        requires charged { 0 < charge }
+        requires callable { FnOnceTakesAt I.FnOnce init key };
+
+    /// `advice_evict`.
+    fn advise(self, key: u64);
+
+    /// `prune`.
+    fn clear(self);
+
+    /// `set_capacity`.
+    fn resize(self, capacity: u64);
+
+    /// `reserve`.
+    fn make_room(self, entries: usize) -> Result<(), Refusal>;
+
+    /// `capacity`.
+    fn limit(self) -> u128;
+
+    /// `total_charge`.
+    fn total(self) -> u128;
+}
+
+impl<'a, V: Drop, R: Wait> Cached<V> for &'a unsharded::LruCache<u64, V, R> {
+    type Handle = unsharded::CacheHandle<'a, u64, V, R>;
+
+    fn value_of(handle: &Self::Handle) -> &V {
+        handle.value()
+    }
+
+    fn found(self, key: u64) -> Result<Option<Self::Handle>, Refusal> {
+        self.get(key)
+    }
+
+    fn made<I>(self, key: u64, charge: u64, init: I) -> Result<Self::Handle, Refusal>
+    where
+        I: FnOnce(&u64) -> V + Drop,
+        requires charged { 0 < charge }
+        requires callable { FnOnceTakesAt I.FnOnce init key }
+    {
+        self.get_or_init(key, charge, init)
+    }
+
+    fn tried<E, I>(self, key: u64, charge: u64, init: I) -> Result<Self::Handle, GetError<E>>
+    where
+        I: FnOnce(&u64) -> Result<V, E> + Drop,
+        requires charged { 0 < charge }
+        requires callable { FnOnceTakesAt I.FnOnce init key }
+    {
+        self.get_or_try_init(key, charge, init)
+    }
+
+    fn advise(self, key: u64) {
+        self.advice_evict(key);
+    }
+
+    fn clear(self) {
+        self.prune();
+    }
+
+    fn resize(self, capacity: u64) {
+        self.set_capacity(capacity);
+    }
+
+    fn make_room(self, entries: usize) -> Result<(), Refusal> {
+        self.reserve(entries)
+    }
+
+    fn limit(self) -> u128 {
+        u128::from(self.capacity())
+    }
+
+    fn total(self) -> u128 {
+        u128::from(self.total_charge())
+    }
+}
+
+impl<'a, V: Drop, R: Wait, S: BuildHasher> Cached<V> for &'a sharded::LruCache<u64, V, R, S> {
+    type Handle = sharded::CacheHandle<'a, u64, V, R>;
+
+    fn value_of(handle: &Self::Handle) -> &V {
+        handle.value()
+    }
+
+    fn found(self, key: u64) -> Result<Option<Self::Handle>, Refusal> {
+        self.get(key)
+    }
+
+    fn made<I>(self, key: u64, charge: u64, init: I) -> Result<Self::Handle, Refusal>
+    where
+        I: FnOnce(&u64) -> V + Drop,
+        requires charged { 0 < charge }
+        requires callable { FnOnceTakesAt I.FnOnce init key }
+    {
+        self.get_or_init(key, charge, init)
+    }
+
+    fn tried<E, I>(self, key: u64, charge: u64, init: I) -> Result<Self::Handle, GetError<E>>
+    where
+        I: FnOnce(&u64) -> Result<V, E> + Drop,
+        requires charged { 0 < charge }
+        requires callable { FnOnceTakesAt I.FnOnce init key }
+    {
+        self.get_or_try_init(key, charge, init)
+    }
+
+    fn advise(self, key: u64) {
+        self.advice_evict(key);
+    }
+
+    fn clear(self) {
+        self.prune();
+    }
+
+    fn resize(self, capacity: u64) {
+        self.set_capacity(capacity);
+    }
+
+    fn make_room(self, entries: usize) -> Result<(), Refusal> {
+        self.reserve(entries)
+    }
+
+    fn limit(self) -> u128 {
+        self.capacity()
+    }
+
+    fn total(self) -> u128 {
+        self.total_charge()
+    }
+}
