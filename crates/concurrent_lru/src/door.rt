@@ -20,9 +20,12 @@ use std::hash::Hash;
 use std::sync::{Arc, Condvar, Mutex, MutexGuard, Wait};
 use std::{fmt, hint};
 
-// How often a call looks at a lock that another has before it sleeps: after 1, 2, 4 .. 4,096 pauses, some fifty microseconds
-// in all, which is what a sleep and its wake take.
-const LOOKS: u32 = 13;
+// How often a call looks at a lock that another has before it sleeps: after 16, 32 .. 4,096 pauses, some fifty microseconds
+// in all, which is what a sleep and its wake take. A look takes the lock's line of memory from the call that has it, so
+// the first pause is about as long as a call.
+const LOOKS: u32 = 9;
+
+const FIRST_PAUSES: u32 = 16;
 
 /// The lock, what wakes those that wait, and the right to wait.
 #[derive(Drop)]
@@ -99,7 +102,7 @@ impl<K: Hash + Eq + Clone + Drop, V: Drop, R: Wait, F: Fit<K, V>> Door<K, V, R, 
     #[cold]
     fn contend(&self) -> MutexGuard<'_, Locked<K, V, F>> {
         for look in 0..LOOKS {
-            pause(1 << look);
+            pause(FIRST_PAUSES << look);
             if let Some(guard) = self.locked.try_lock() {
                 return guard;
             }

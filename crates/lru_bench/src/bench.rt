@@ -2,10 +2,11 @@
 
 use crate::failure::Failure;
 use crate::keys::Keys;
+use crate::parts::{Parts, PartsInShards};
 use crate::plan::Plan;
 use crate::report::{Report, Work};
-use crate::stress::stress;
-use crate::uses::{fill, hit_get, hit_init, look_up, map_of, miss_evict};
+use crate::stress::{KEYS, stress};
+use crate::uses::{fill, hit_get, hit_init, hit_parts, look_up, map_of, miss_evict, miss_parts};
 use concurrent_lru::{sharded, unsharded};
 use std::alloc::Global;
 use std::hash::RandomState;
@@ -21,6 +22,10 @@ const ON_ONE_LOCK: &str = "port-unsharded";
 const IN_SHARDS: &str = "port-sharded";
 
 const IN_A_MAP: &str = "std-map";
+
+const PARTS_ON_ONE_LOCK: &str = "parts-unsharded";
+
+const PARTS_IN_SHARDS: &str = "parts-sharded";
 
 // The capacity of the stress workload on one lock, and in shards.
 const LOCK_CAPACITY: u64 = 100;
@@ -38,9 +43,11 @@ pub fn run<R: Threads + Wait + Clock + RandomSource + Sync, O: Write>(
     let mut report = Report::new(rt, out, plan.shown);
     for entries in &plan.entries {
         use_map(alloc, *entries, plan.operations, &mut report)?;
+        use_parts(rt, alloc, *entries, plan.operations, &mut report)?;
         use_alone(rt, alloc, *entries, plan.operations, &mut report)?;
     }
     for threads in [1, 2, 4, 8] {
+        stress_parts(rt, rt, alloc, threads, plan.calls, &mut report)?;
         stress_lock(rt, rt, alloc, threads, plan.calls, &mut report)?;
         stress_shards(rt, rt, alloc, threads, plan.calls, &mut report)?;
     }
@@ -60,6 +67,25 @@ fn use_map<R: Clock, O: Write>(
     let sum = look_up(&map, &mut keys, operations);
     let work = Work::new(IN_A_MAP, "hit_get", entries.get(), 1, operations);
     report.end(&work, begin, sum)
+}
+
+// The parts of the cache, as a `get` of a present key and a `get_or_init` of an absent one need them.
+fn use_parts<R: Wait + Clock, O: Write>(
+    rt: &R,
+    alloc: Global,
+    entries: NonZeroU64,
+    operations: u32,
+    report: &mut Report<'_, R, O>,
+) -> Result<(), Failure> {
+    let parts = Parts::filled(alloc, rt, entries.get())?;
+    let mut keys = Keys::of(entries);
+    let work = |name| Work::new(PARTS_ON_ONE_LOCK, name, entries.get(), 1, operations);
+    let begin = report.start()?;
+    let sum = hit_parts(&parts, &mut keys, operations)?;
+    report.end(&work("hit_get"), begin, sum)?;
+    let begin = report.start()?;
+    let sum = miss_parts(&parts, entries, operations)?;
+    report.end(&work("miss_evict"), begin, sum)
 }
 
 // The three workloads of one thread, on one cache that is full from the start.
@@ -87,6 +113,27 @@ fn use_alone<R: Wait + Clock, O: Write>(
     let begin = report.start()?;
     let sum = miss_evict(&cache, operations)?;
     report.end(&work("miss_evict"), begin, sum)
+}
+
+// The parts of the cache under the calls of the stress workload, each of a present key.
+fn stress_parts<R: Threads + Wait + Clock + Sync, W: Wait + Clone + Drop + Sync, O: Write>(
+    rt: &R,
+    wait: W,
+    alloc: Global,
+    threads: u32,
+    calls: u32,
+    report: &mut Report<'_, R, O>,
+) -> Result<(), Failure> {
+    let shards = PartsInShards::filled(alloc, &wait, KEYS)?;
+    let parts = Parts::filled(alloc, wait, KEYS)?;
+    let begin = report.start()?;
+    let sum = stress(rt, &parts, threads, calls)?;
+    let work = Work::new(PARTS_ON_ONE_LOCK, "stress", LOCK_CAPACITY, threads, calls);
+    report.end(&work, begin, sum)?;
+    let begin = report.start()?;
+    let sum = stress(rt, &shards, threads, calls)?;
+    let work = Work::new(PARTS_IN_SHARDS, "stress", SHARDS_CAPACITY, threads, calls);
+    report.end(&work, begin, sum)
 }
 
 fn stress_lock<R: Threads + Wait + Clock + Sync, W: Wait + Drop + Sync, O: Write>(

@@ -5,6 +5,7 @@
 mod bench;
 mod failure;
 mod keys;
+mod parts;
 mod plan;
 mod program;
 mod report;

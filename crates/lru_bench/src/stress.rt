@@ -8,10 +8,11 @@ use std::sync::atomic::{AtomicU64, Ordering};
 use std::thread;
 use std::thread::Threads;
 
-// From which all calls are drawn, and for how many keys.
+// From which all calls are drawn.
 const SEED: u64 = 1;
 
-const KEYS: u64 = 100;
+/// How many keys there are.
+pub const KEYS: u64 = 100;
 
 /// Makes `calls` calls in each of some threads, and answers the sum of what was read by the calls
 /// whose making would not fail. It is the same on every schedule.

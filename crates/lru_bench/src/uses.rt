@@ -2,14 +2,19 @@
 //! the look-ups of the first on a map alone, which say what the cache adds to its map.
 
 use crate::keys::Keys;
+use crate::parts::Parts;
 use concurrent_lru::lru_core::Refusal;
 use concurrent_lru::unsharded::LruCache;
 use std::alloc::{AllocError, Global};
 use std::collections::HashMap;
+use std::num::NonZeroU64;
 use std::sync::Wait;
 
 // The first key that `fill` never makes.
 const FIRST_ABSENT: u64 = 10_000_000;
+
+// A prime, so that its multiples meet each place once in a round.
+const STRIDE: u64 = 618_970_019;
 
 /// Makes the keys from 0 up to `entries`, at charge 1, each with itself as its value.
 pub fn fill<R: Wait>(cache: &LruCache<u64, u64, R>, entries: u64) -> Result<(), Refusal> {
@@ -78,4 +83,44 @@ pub fn miss_evict<R: Wait>(cache: &LruCache<u64, u64, R>, operations: u32) -> Re
         sum = sum.wrapping_add(*handle.value());
     }
     Ok(sum)
+}
+
+/// `hit_get` by the parts alone.
+pub fn hit_parts<R: Wait + Drop>(
+    parts: &Parts<R>,
+    keys: &mut Keys,
+    operations: u32,
+) -> Result<u64, Refusal> {
+    let mut sum: u64 = 0;
+    for _ in 0..operations {
+        if let Some(value) = parts.hit(keys.draw())? {
+            sum = sum.wrapping_add(value);
+        }
+    }
+    Ok(sum)
+}
+
+/// `miss_evict` by the parts alone. The keys go in an order that looks random, as that of the last uses does.
+pub fn miss_parts<R: Wait + Drop>(
+    parts: &Parts<R>,
+    entries: NonZeroU64,
+    operations: u32,
+) -> Result<u64, Refusal> {
+    let mut sum: u64 = 0;
+    for number in 0..u64::from(operations) {
+        let key = FIRST_ABSENT + number;
+        sum = sum.wrapping_add(parts.miss(old_key(entries, number), key)?);
+    }
+    Ok(sum)
+}
+
+// The key that goes for the absent one with a number: of the last `entries` that were made before this round of as many.
+fn old_key(entries: NonZeroU64, number: u64) -> u64 {
+    let place = number.wrapping_mul(STRIDE) % entries;
+    match (number / entries).checked_sub(1) {
+        Some(round) => FIRST_ABSENT.wrapping_add(
+            round.wrapping_mul(entries.get()).wrapping_add(place),
+        ),
+        None => place,
+    }
 }

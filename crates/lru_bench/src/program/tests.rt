@@ -8,19 +8,31 @@ use std::test::Fail;
 // As a cache in Rust reads them on the same workloads.
 const SUMS: &str = "\
 std-map hit_get 8 1 3506
+parts-unsharded hit_get 8 1 3506
+parts-unsharded miss_evict 8 1 10000499500
 port-unsharded hit_get 8 1 3506
 port-unsharded hit_init 8 1 3342
 port-unsharded miss_evict 8 1 10000499500
 std-map hit_get 100 1 50962
+parts-unsharded hit_get 100 1 50962
+parts-unsharded miss_evict 100 1 10000499500
 port-unsharded hit_get 100 1 50962
 port-unsharded hit_init 100 1 50006
 port-unsharded miss_evict 100 1 10000499500
+parts-unsharded stress 100 1 18600
+parts-sharded stress 128 1 18600
 port-unsharded stress 100 1 18600
 port-sharded stress 128 1 18600
+parts-unsharded stress 100 2 38918
+parts-sharded stress 128 2 38918
 port-unsharded stress 100 2 38918
 port-sharded stress 128 2 38918
+parts-unsharded stress 100 4 75808
+parts-sharded stress 128 4 75808
 port-unsharded stress 100 4 75808
 port-sharded stress 128 4 75808
+parts-unsharded stress 100 8 157468
+parts-sharded stress 128 8 157468
 port-unsharded stress 100 8 157468
 port-sharded stress 128 8 157468
 ";

@@ -1,0 +1,188 @@
+//! The parts that the cache is made of, with no rule of a cache: a lock, a map from keys to places, a slab of boxed values.
+//! What these take alone is what no body of the cache does without.
+
+use crate::shared::Shared;
+use concurrent_lru::lru_core::Refusal;
+use lru_support::calls::Call;
+use slab::Slab;
+use std::alloc::Global;
+use std::collections::HashMap;
+use std::sync::{Arc, Mutex, MutexGuard, Wait};
+
+// How many shards the cache has where nothing else is said.
+const SHARDS: u64 = 16;
+
+// No workload has this key.
+const NO_KEY: u64 = u64::MAX;
+
+// A key, and its value once that is there.
+#[derive(Drop)]
+struct Slot {
+    key: u64,
+    value: Option<Arc<u64>>,
+}
+
+// What is under the lock.
+#[derive(Drop)]
+struct Stored {
+    places: HashMap<u64, usize>,
+    slots: Slab<Box<Slot>>,
+}
+
+impl Stored {
+    // The place of a key, and a copy of its value.
+    #[inline(always)]
+    fn copy(&self, key: u64) -> Result<Option<(usize, Arc<u64>)>, Refusal> {
+        let Some(place) = self.places.get(&key) else {
+            return Ok(None);
+        };
+        match self.slots.get(*place) {
+            Some(slot) => match &slot.value {
+                Some(value) => Ok(Some((*place, value.clone()?))),
+                None => Ok(None),
+            },
+            None => Ok(None),
+        }
+    }
+
+    // Whether the place has the key.
+    #[inline(always)]
+    fn has(&self, place: usize, key: u64) -> bool {
+        match self.slots.get(place) {
+            Some(slot) => slot.key == key,
+            None => false,
+        }
+    }
+
+    // Takes a key away, and what was under it.
+    fn take(&mut self, key: u64) -> Option<Box<Slot>> {
+        let place = self.places.remove(&key)?;
+        self.slots.try_remove(place)
+    }
+
+    // Keeps a key that has no value yet, and tells its place.
+    fn keep(&mut self, alloc: Global, key: u64) -> Result<usize, Refusal> {
+        let slot = Box::new(alloc, Slot { key, value: None })?;
+        let place = self.slots.insert(slot)?;
+        self.places.insert(key, place)?;
+        Ok(place)
+    }
+
+    // Stores the value of the key at a place.
+    fn store(&mut self, place: usize, value: Arc<u64>) {
+        if let Some(slot) = self.slots.get_mut(place) {
+            slot.value = Some(value);
+        }
+    }
+}
+
+/// Values under one lock. Each call gets it as often as the cache's call does.
+#[derive(Drop)]
+pub struct Parts<R: Wait> {
+    alloc: Global,
+    rt: R,
+    stored: Mutex<Stored>,
+}
+
+impl<R: Wait + Drop> Parts<R> {
+    // No values.
+    fn new(alloc: Global, rt: R) -> Parts<R> {
+        let stored = Stored {
+            places: HashMap::new(alloc),
+            slots: Slab::new(alloc),
+        };
+        Parts {
+            alloc,
+            rt,
+            stored: Mutex::new(stored),
+        }
+    }
+
+    /// The keys from 0 up to `keys`, each with itself as its value.
+    pub fn filled(alloc: Global, rt: R, keys: u64) -> Result<Parts<R>, Refusal> {
+        let filled = Parts::new(alloc, rt);
+        for key in 0..keys {
+            filled.miss(NO_KEY, key)?;
+        }
+        Ok(filled)
+    }
+
+    #[inline(always)]
+    fn enter(&self) -> MutexGuard<'_, Stored> {
+        match self.stored.try_lock() {
+            Some(stored) => stored,
+            None => self.stored.lock(&self.rt),
+        }
+    }
+
+    /// The value of a key: the lock for a look and a copy of the value's Arc, and the lock again, as the
+    /// drop of a handle gets it.
+    #[inline(always)]
+    pub fn hit(&self, key: u64) -> Result<Option<u64>, Refusal> {
+        let Some((place, value)) = self.enter().copy(key)? else {
+            return Ok(None);
+        };
+        let read = *value;
+        Ok(self.enter().has(place, key).then_some(read))
+    }
+
+    /// Makes a value for a key, for which another key goes: the lock for that, for the value, and as the drop of a handle gets it.
+    pub fn miss(&self, old: u64, key: u64) -> Result<u64, Refusal> {
+        let (place, _gone) = self.change(old, key)?;
+        let value = Arc::new(self.alloc, key)?;
+        self.enter().store(place, value.clone()?);
+        let read = *value;
+        let _kept = self.enter().has(place, key);
+        Ok(read)
+    }
+
+    // Keeps a key, for which another goes.
+    fn change(&self, old: u64, key: u64) -> Result<(usize, Option<Box<Slot>>), Refusal> {
+        let mut stored = self.enter();
+        let place = stored.keep(self.alloc, key)?;
+        Ok((place, stored.take(old)))
+    }
+}
+
+impl<R: Wait + Drop> Shared for Parts<R> {
+    fn fetch(&self, call: &Call) -> Result<Option<u64>, Refusal> {
+        self.hit(call.key)
+    }
+}
+
+/// Such values under as many locks as the cache in shards has.
+#[derive(Drop)]
+pub struct PartsInShards<R: Wait> {
+    shards: Vec<Parts<R>>,
+}
+
+impl<R: Wait + Clone + Drop> PartsInShards<R> {
+    /// The keys from 0 up to `keys`, each with itself as its value.
+    pub fn filled(alloc: Global, rt: &R, keys: u64) -> Result<PartsInShards<R>, Refusal> {
+        let mut shards = Vec::new(alloc);
+        for _ in 0..SHARDS {
+            shards.push(Parts::new(alloc, rt.clone()?))?;
+        }
+        let filled = PartsInShards { shards };
+        for key in 0..keys {
+            if let Some(shard) = filled.shard(key) {
+                shard.miss(NO_KEY, key)?;
+            }
+        }
+        Ok(filled)
+    }
+
+    #[inline(always)]
+    fn shard(&self, key: u64) -> Option<&Parts<R>> {
+        self.shards.get((key % SHARDS) as usize)
+    }
+}
+
+impl<R: Wait + Clone + Drop> Shared for PartsInShards<R> {
+    fn fetch(&self, call: &Call) -> Result<Option<u64>, Refusal> {
+        match self.shard(call.key) {
+            Some(shard) => shard.hit(call.key),
+            None => Ok(None),
+        }
+    }
+}
