@@ -171,14 +171,16 @@ impl<R: Wait + Clone + Drop> PartsInShards<R> {
         }
         Ok(filled)
     }
+}
 
+impl<R: Wait + Drop> PartsInShards<R> {
     #[inline(always)]
     fn shard(&self, key: u64) -> Option<&Parts<R>> {
         self.shards.get((key % SHARDS) as usize)
     }
 }
 
-impl<R: Wait + Clone + Drop> Shared for PartsInShards<R> {
+impl<R: Wait + Drop> Shared for PartsInShards<R> {
     fn fetch(&self, call: &Call) -> Result<Option<u64>, Refusal> {
         match self.shard(call.key) {
             Some(shard) => shard.hit(call.key),

@@ -1,5 +1,5 @@
 //! The workloads of one thread, on a full cache on one lock. Each handle is dropped at once. And
-//! the look-ups of the first on a map alone, which say what the cache adds to its map.
+//! the look-ups of the first on a map alone, and hits and misses on the parts of the cache, which say what it adds to these.
 
 use crate::keys::Keys;
 use crate::parts::Parts;
