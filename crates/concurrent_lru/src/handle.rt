@@ -53,6 +53,7 @@ impl<'a, K: Hash + Eq + Clone, V, R: Wait, F: Fit<K, V>> CacheHandle<'a, K, V, R
 // dropped after the lock is let go.
 impl<K: Hash + Eq + Clone + Drop, V: Drop, R: Wait, F: Fit<K, V>> Drop
     for CacheHandle<'_, K, V, R, F> {
+    #[inline(always)]
     fn drop(self) {
         let Self { door, pin } = self;
         door.enter().release(pin);

@@ -10,6 +10,7 @@ pub use crate::get_error::GetError;
 use crate::locked::Advised;
 pub use crate::lru_core::Refusal;
 use crate::route::Routes;
+use crate::shards::DEFAULT_SHARDS;
 pub use crate::shards::{ShardStep, Shards, capacity_per_shard};
 use crate::unsharded;
 use std::alloc::Global;
@@ -17,8 +18,6 @@ use std::fmt;
 use std::hash::{BuildHasher, Hash, RandomState};
 use std::marker::Model;
 use std::sync::Wait;
-
-const DEFAULT_SHARDS: usize = 16;
 
 /// A cache that threads share, in shards that each have a lock and a share of the capacity. S
 /// numbers the keys; R and F are as in the cache of one lock.
@@ -65,6 +64,7 @@ impl<'a, K: Hash + Eq + Clone, V, R: Wait, F: Fit<K, V>> CacheHandle<'a, K, V, R
 
 impl<K: Hash + Eq + Clone + Drop, V: Drop, R: Wait, F: Fit<K, V>> Drop
     for CacheHandle<'_, K, V, R, F> {
+    #[inline(always)]
     fn drop(self) {
         let Self { held } = self;
         drop(held);

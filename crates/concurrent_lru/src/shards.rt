@@ -27,13 +27,23 @@ pub fn capacity_per_shard(capacity: u64, shards: usize) -> u64
     capacity.div_ceil(shards as u64)
 }
 
-// The shard, of so many, that serves a key: the hasher's number of it modulo their number.
+// How many shards a cache has where nothing else is said.
+pub(crate) const DEFAULT_SHARDS: usize = 16;
+
+// The shard, of so many, that serves a key: the hasher's number of it modulo their number. By the number of shards that
+// most caches have it is cut out, since a division of 64 bits takes as long as the lock is got.
+#[inline(always)]
 pub(crate) fn choose_shard<K: Hash, S: BuildHasher>(hasher: &S, key: &K, shards: usize) -> usize
     requires { 0 < shards }
     ensures chosen { result ≡ key_number S.BuildHasher S.Hasher.Hasher K.hash_input hasher.now key.now % shards }
     ensures within { result < shards }
 {
-    (hasher.hash_one(key) % shards as u64) as usize
+    let number = hasher.hash_one(key);
+    if shards == DEFAULT_SHARDS {
+        (number % DEFAULT_SHARDS as u64) as usize
+    } else {
+        (number % shards as u64) as usize
+    }
 }
 
 /// A step of a run over shards. Charges are above 0. A step with a key goes to the key's shard;

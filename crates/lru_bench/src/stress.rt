@@ -46,10 +46,10 @@ pub fn stress<R: Threads + Wait + Sync, C: Shared + Sync>(
 // One worker's calls, and the sum of what it read. Where a making would fail, whether a value is
 // read depends on the others, so it is not counted.
 fn work<C: Shared>(cache: &C, worker: u32, calls: u32) -> Result<u64, Refusal> {
-    let mut drawn = Calls::of_worker(SEED, KEYS, u64::from(worker));
+    let mut drawn = Calls::of_worker(SEED, u64::from(worker));
     let mut sum: u64 = 0;
     for _ in 0..calls {
-        let call = drawn.draw();
+        let call = drawn.draw(KEYS);
         let read = cache.fetch(&call)?;
         if let Some(value) = read
             && !call.fails
@@ -89,9 +89,9 @@ mod tests {
     #[test]
     fn draws_the_calls_of_a_worker(rt: HostRuntime) {
         for (worker, drawn) in DRAWN {
-            let mut calls = Calls::of_worker(SEED, KEYS, worker);
+            let mut calls = Calls::of_worker(SEED, worker);
             for expected in drawn {
-                let call = calls.draw();
+                let call = calls.draw(KEYS);
                 assert_eq!(rt;
                     (call.key, call.charge, call.fails),
                     expected,

@@ -122,10 +122,10 @@ fn work<I: Identity, R: Wait + Drop>(
         return Err(Trouble::Refused);
     }
     let mut accepted = Accepted::none();
-    let mut calls = Calls::of_worker(shift.plan.seed, shift.plan.keys, worker as u64);
+    let mut calls = Calls::of_worker(shift.plan.seed, worker as u64);
     let first = (worker as u64).wrapping_mul(shift.plan.keys);
     for number in 0..shift.plan.calls {
-        let mut call = calls.draw();
+        let mut call = calls.draw(shift.plan.keys);
         call.key = first.wrapping_add(call.key);
         accepted = accepted.and(use_key(cache, shift.alloc, &mut tally, &call)?);
         if number % 1_000 == 999 {

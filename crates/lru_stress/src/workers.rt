@@ -125,9 +125,9 @@ fn work<C: Shared>(cache: &C, plan: &Plan, worker: usize, manner: &Manner, start
         notes.trouble = Some(Trouble::Refused);
         return notes;
     }
-    let mut calls = Calls::of_worker(plan.seed, plan.keys, worker as u64);
+    let mut calls = Calls::of_worker(plan.seed, worker as u64);
     for number in 0..plan.calls {
-        let call = calls.draw();
+        let call = calls.draw(plan.keys);
         notes.note(&call, cache.fetch(&call, manner));
         if number % 1_000 == 999 {
             thread::yield_now();

@@ -21,30 +21,30 @@ pub struct Call {
 #[derive(Drop)]
 pub struct Calls {
     generator: Xoshiro256PlusPlus,
-    keys: u64,
-    ghost some: { 0 < keys },
 }
 
 impl Calls {
-    /// The calls of the worker with this number, for so many keys.
-    pub fn of_worker(seed: u64, keys: u64, worker: u64) -> Calls
-        requires { 0 < keys }
-    {
+    /// The calls of the worker with this number.
+    pub fn of_worker(seed: u64, worker: u64) -> Calls {
         let mut generator = Xoshiro256PlusPlus::seed_from_u64(seed);
         for _ in 0..worker {
             generator.jump();
         }
-        Calls { generator, keys }
+        Calls { generator }
     }
 
-    /// The next call: a key below the number of keys, a charge from 1 to 4, and two makings in
-    /// ten fail.
-    pub fn draw(&mut self) -> Call {
+    /// The next call: a key below `keys`, a charge from 1 to 4, and two makings in ten fail.
+    ///
+    /// Where the caller's number of keys is a constant, so is the divisor, and no division is made.
+    #[inline(always)]
+    pub fn draw(&mut self, keys: u64) -> Call
+        requires { 0 < keys }
+    {
         let a = self.generator.next_u64();
         let b = self.generator.next_u64();
         let c = self.generator.next_u64();
         Call {
-            key: a % self.keys,
+            key: a % keys,
             charge: 1 + b % 4,
             fails: c % 10 >= 8,
         }

@@ -7,7 +7,7 @@ ghost use Rattle.concurrent_lru.specs.SlotTable.{IsNodeTable, IsGood, idle_place
 ghost use Rattle.concurrent_lru.specs.SlotPointers.{IsTied};
 ghost use Rattle.concurrent_lru.specs.Slots.{map_of_slots};
 ghost use Rattle.concurrent_lru.specs.NodeTable.{phase_of, entry_with_pins, entry_in_phase};
-ghost use Rattle.concurrent_lru.specs.Relinks.{IsRelinked, Relinks, Revalues, LeftJoined, RightJoined, key_in, before_at, after_at};
+ghost use Rattle.concurrent_lru.specs.Relinks.{IsRelinked, Relinks, Revalues, LeftJoined, RightJoined, key_in, before_link, after_link, before_at, after_at};
 
 use crate::list::slots::Slots;
 use crate::list::{Node, Phase};
@@ -21,6 +21,20 @@ fn set_links<K, V>(
     ensures { IsRelinked node.old node.new before after }
 {
     node.before = before;
+    node.after = after;
+}
+
+// One link of a node. The other is not read: a neighbour was often written last by another processor, and then a
+// read before the write moves it twice.
+fn link_before<K, V>(node: &mut Node<K, V>, before: Option<*mut Node<K, V>>)
+    ensures { IsRelinked node.old node.new before (after_link node.old) }
+{
+    node.before = before;
+}
+
+fn link_after<K, V>(node: &mut Node<K, V>, after: Option<*mut Node<K, V>>)
+    ensures { IsRelinked node.old node.new (before_link node.old) after }
+{
     node.after = after;
 }
 
@@ -46,9 +60,7 @@ fn set_after<K: Drop, V: Drop>(
     ensures slots { slots.new ≡ record slots.old { memory = slots.new.memory } }
     ensures cells { AtKey slots.old.memory.cells link (λ k. Relinks slots.old.memory.cells slots.new.memory.cells k (before_at slots.old.memory.cells k) after) }
 {
-    let node = slots.follow_mut(link);
-    let before = node.before;
-    set_links(node, before, after);
+    link_after(slots.follow_mut(link), after);
 }
 
 fn set_before<K: Drop, V: Drop>(
@@ -60,9 +72,7 @@ fn set_before<K: Drop, V: Drop>(
     ensures slots { slots.new ≡ record slots.old { memory = slots.new.memory } }
     ensures cells { AtKey slots.old.memory.cells link (λ k. Relinks slots.old.memory.cells slots.new.memory.cells k before (after_at slots.old.memory.cells k)) }
 {
-    let node = slots.follow_mut(link);
-    let after = node.after;
-    set_links(node, before, after);
+    link_before(slots.follow_mut(link), before);
 }
 
 // Makes the node under a key the newest idle one.

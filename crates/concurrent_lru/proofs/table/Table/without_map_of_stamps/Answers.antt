@@ -1,4 +1,4 @@
-use Rattle.std.proofs.Common.{◌≡◌, refl, sym, ap}
+use Rattle.std.proofs.Common.{refl, sym, ap}
 use Rattle.std.specs.Map.{lookup}
 use Rattle.concurrent_lru.proofs.Entries.PlacesOfNodes.{empty_represents, empty_held, no_stamps}
 use Rattle.concurrent_lru.proofs.Entries.IndexedByMaps.{indexed_empty}
