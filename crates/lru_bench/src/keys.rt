@@ -1,4 +1,4 @@
-//! Keys drawn evenly, by a generator that costs next to nothing.
+//! Keys drawn evenly, and keys that leave, each by a rule that costs next to nothing: no division is made but of what is small.
 ghost use Rattle.std.specs.Prelude.{◌<◌};
 
 use std::num::NonZeroU64;
@@ -33,10 +33,85 @@ impl Keys {
     }
 }
 
+/// The first key that no cache is filled with.
+pub const FIRST_ABSENT: u64 = 10_000_000;
+
+// A prime, so that its multiples meet each place once in a round.
+const STRIDE: u64 = 618_970_019;
+
+/// The keys that leave for absent ones, which come in their order: first those from 0 up to the number of entries, and
+/// then, round after round, those that came in the round before. In a round each leaves once, in an order that looks
+/// random.
+#[derive(Drop)]
+pub struct Leaving {
+    entries: u64,
+    stride: u64,
+    // The least key of the round, and how many of the round have left.
+    first: u64,
+    left: u64,
+    // How far the next one is from the least.
+    place: u64,
+}
+
+impl Leaving {
+    /// Those of so many entries.
+    pub fn of(entries: NonZeroU64) -> Leaving {
+        Leaving {
+            entries: entries.get(),
+            stride: STRIDE % entries,
+            first: 0,
+            left: 0,
+            place: 0,
+        }
+    }
+
+    /// The next one.
+    pub fn draw(&mut self) -> u64 {
+        let key = self.first.wrapping_add(self.place);
+        self.place = self.next_place();
+        self.left = self.left.wrapping_add(1);
+        if self.left == self.entries {
+            self.left = 0;
+            self.first = self.next_first();
+        }
+        key
+    }
+
+    // A stride on, and round the end.
+    fn next_place(&self) -> u64 {
+        let room = self.entries.wrapping_sub(self.place);
+        if self.stride < room {
+            self.place.wrapping_add(self.stride)
+        } else {
+            self.stride.wrapping_sub(room)
+        }
+    }
+
+    // The least key of the next round.
+    fn next_first(&self) -> u64 {
+        if self.first < FIRST_ABSENT {
+            FIRST_ABSENT
+        } else {
+            self.first.wrapping_add(self.entries)
+        }
+    }
+}
+
 #[cfg(test)]
 mod tests {
     use super::*;
     use std::test::Fail;
+
+    #[test]
+    fn each_leaves_once_in_a_round(rt: HostRuntime) -> Result<(), Fail> {
+        let mut leaving = Leaving::of(NonZeroU64::new(5).ok_or("5 is not 0")?);
+        for key in [
+            0, 4, 3, 2, 1, 10_000_000, 10_000_004, 10_000_003, 10_000_002, 10_000_001, 10_000_005,
+        ] {
+            assert_eq!(rt; leaving.draw(), key);
+        }
+        Ok(())
+    }
 
     #[test]
     fn draws_the_same_keys_each_time(rt: HostRuntime) -> Result<(), Fail> {

@@ -1,7 +1,7 @@
 //! The workloads of one thread, on a full cache on one lock. Each handle is dropped at once. And
 //! the look-ups of the first on a map alone, and hits and misses on the parts of the cache, which say what it adds to these.
 
-use crate::keys::Keys;
+use crate::keys::{FIRST_ABSENT, Keys, Leaving};
 use crate::parts::Parts;
 use concurrent_lru::lru_core::Refusal;
 use concurrent_lru::unsharded::LruCache;
@@ -9,12 +9,6 @@ use std::alloc::{AllocError, Global};
 use std::collections::HashMap;
 use std::num::NonZeroU64;
 use std::sync::Wait;
-
-// The first key that `fill` never makes.
-const FIRST_ABSENT: u64 = 10_000_000;
-
-// A prime, so that its multiples meet each place once in a round.
-const STRIDE: u64 = 618_970_019;
 
 /// Makes the keys from 0 up to `entries`, at charge 1, each with itself as its value.
 pub fn fill<R: Wait>(cache: &LruCache<u64, u64, R>, entries: u64) -> Result<(), Refusal> {
@@ -106,21 +100,10 @@ pub fn miss_parts<R: Wait + Drop>(
     entries: NonZeroU64,
     operations: u32,
 ) -> Result<u64, Refusal> {
+    let mut leaving = Leaving::of(entries);
     let mut sum: u64 = 0;
     for number in 0..u64::from(operations) {
-        let key = FIRST_ABSENT + number;
-        sum = sum.wrapping_add(parts.miss(old_key(entries, number), key)?);
+        sum = sum.wrapping_add(parts.miss(leaving.draw(), FIRST_ABSENT + number)?);
     }
     Ok(sum)
-}
-
-// The key that goes for the absent one with a number: of the last `entries` that were made before this round of as many.
-fn old_key(entries: NonZeroU64, number: u64) -> u64 {
-    let place = number.wrapping_mul(STRIDE) % entries;
-    match (number / entries).checked_sub(1) {
-        Some(round) => FIRST_ABSENT.wrapping_add(
-            round.wrapping_mul(entries.get()).wrapping_add(place),
-        ),
-        None => place,
-    }
 }
