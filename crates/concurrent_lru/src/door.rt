@@ -20,9 +20,9 @@ use std::hash::Hash;
 use std::sync::{Arc, Condvar, Mutex, MutexGuard, Wait};
 use std::{fmt, hint};
 
-// How often a call looks at a lock that another has before it sleeps: after 64, 128 .. 4,096 pauses. A pause takes 15 to 85
-// nanoseconds, by the processor. A look takes the lock's line of memory from the call that has it, so the first
-// pause is as long as several calls, and those that wait leave the lock to one that makes many calls in a row.
+// How often a call looks at a lock that another has before it sleeps: after 64, 128 .. 4,096 pauses, each of some tens of
+// nanoseconds. A look takes the lock's line of memory from the call that has it, so the first pause is as long as several
+// calls, and those that wait leave the lock to one that makes many in a row.
 const LOOKS: u32 = 7;
 
 const FIRST_PAUSES: u32 = 64;
