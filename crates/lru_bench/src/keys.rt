@@ -1,4 +1,5 @@
-//! Keys drawn evenly, and keys that leave, each by a rule that costs next to nothing: no division is made but of what is small.
+//! The keys that a workload asks for, drawn evenly, and those that leave the parts for absent ones.
+//! Both come by rules that cost next to nothing beside what is timed.
 ghost use Rattle.std.specs.Prelude.{◌<◌};
 
 use std::num::NonZeroU64;
@@ -36,7 +37,7 @@ impl Keys {
 /// The first key that no cache is filled with.
 pub const FIRST_ABSENT: u64 = 10_000_000;
 
-// A prime, so that its multiples meet each place once in a round.
+// A prime, so that its multiples meet each place once before they come back to 0.
 const STRIDE: u64 = 618_970_019;
 
 /// The keys that leave for absent ones, which come in their order: first those from 0 up to the number of entries, and
@@ -46,10 +47,8 @@ const STRIDE: u64 = 618_970_019;
 pub struct Leaving {
     entries: u64,
     stride: u64,
-    // The least key of the round, and how many of the round have left.
+    // The least key of the round, and how far the next one is from it.
     first: u64,
-    left: u64,
-    // How far the next one is from the least.
     place: u64,
 }
 
@@ -60,7 +59,6 @@ impl Leaving {
             entries: entries.get(),
             stride: STRIDE % entries,
             first: 0,
-            left: 0,
             place: 0,
         }
     }
@@ -69,9 +67,7 @@ impl Leaving {
     pub fn draw(&mut self) -> u64 {
         let key = self.first.wrapping_add(self.place);
         self.place = self.next_place();
-        self.left = self.left.wrapping_add(1);
-        if self.left == self.entries {
-            self.left = 0;
+        if self.place == 0 {
             self.first = self.next_first();
         }
         key
