@@ -1,12 +1,12 @@
 -- What a `Table` is seen as: its entries, idle and held, and the stamp of the entry at each place. What each of its calls does to them.
-use Rattle.std.specs.Prelude.{◌≡◌, ◌≢◌, ℕ, ◌<◌, ◌+◌, ◌++◌, ◌∷◌, [], Bool, true, false, List, IsSome, Some, refl}
-use Rattle.std.specs.Option.{option_map_or}
+use Rattle.std.specs.Prelude.{◌≡◌, ◌≢◌, ℕ, ◌<◌, ◌+◌, ◌++◌, ◌∷◌, [], Bool, true, false, List, Option, IsSome, Some, None, refl}
+use Rattle.std.specs.Option.{option_map, option_map_or}
 use Rattle.std.specs.Ordering.{nat_cmp}
 use Rattle.std.specs.Coded.{Coded, code_by, coded×, coded_ℕ, coded_list}
 use Rattle.std.specs.FinMap as finmap
 use Rattle.concurrent_lru.specs.Cache.{Cache, Idle, Held, IsEntry, IsLawful, idle_at, held_at, idle_code, held_code, charges, making, ready}
 use Rattle.concurrent_lru.specs.Steps.{without, held_by_one, idle_again}
-use Rattle.concurrent_lru.specs.NodeTable.{Entry}
+use Rattle.concurrent_lru.specs.NodeTable.{Entry, value_in}
 use Rattle.concurrent_lru.specs.Representation.{as_idle, held_entry, held_charges}
 
 -- the idle entries stand oldest first; a place is where an entry lies until it is taken away; work is how often the idle order was written
@@ -72,6 +72,10 @@ module _ {K V : Type 0} where
   -- the pins of the entry at the place: none where it is not held
   abbrev pub pins_at : Entries K V → ℕ → ℕ
   pins_at t p = option_map_or (λ s. option_map_or (λ e. e.pins) (finmap.get t.held s) 0) (finmap.get t.stamps p) 0
+
+  -- the value of the entry at the place, where it is there
+  abbrev pub value_at : Entries K V → ℕ → Option V
+  value_at t p = option_map_or (λ s. option_map_or (λ e. value_in e.phase) (finmap.get t.held s) (option_map (λ x. x.value) (idle_at (cache_of t) s))) (finmap.get t.stamps p) None
 
   -- a held entry as a new one is
   abbrev pub new_held : K → ℕ → Held K V

@@ -1,14 +1,15 @@
 //! The entries of a cache as one value: nodes, what finds their places by key and by stamp, and the total of the charges.
 //! No rule of the cache is decided here but the order of eviction: what happens when is the core's.
-ghost use Rattle.std.specs.Prelude.{◌≡◌, ◌≢◌, ℕ, ◌+◌, ◌<◌, ◌≤◌, ◌^◌, Some, None, [], IsSome, OnOk, OnErr, IfErr, IfSome, MatchOption, filter_map, length, ◌∷◌, ◌++◌, true, cond, nat_eq};
+ghost use Rattle.std.specs.Prelude.{◌≡◌, ◌≢◌, ℕ, ◌+◌, ◌<◌, ◌≤◌, ◌^◌, Some, None, [], IsSome, OnOk, OnErr, IfOk, IfErr, IfSome, MatchOption, filter_map, length, ◌∷◌, ◌++◌, true, cond, nat_eq};
+ghost use Rattle.std.specs.Arc.{arc_value};
 ghost use Rattle.std.specs.HashMap as hash;
 ghost use Rattle.std.specs.HashMap.{spare};
 ghost use Rattle.concurrent_lru.specs.Cache.{idle_at, IsFront};
 ghost use Rattle.std.specs.FinMap as map;
 ghost use Rattle.concurrent_lru.specs.Keys.{CopiesAreEqual};
-ghost use Rattle.concurrent_lru.specs.NodeTable.{Entry, entry_of, chain_of, phase_of, ContainsNode, LacksIdle};
+ghost use Rattle.concurrent_lru.specs.NodeTable.{Entry, entry_of, chain_of, phase_of, value_of, ContainsNode, LacksIdle};
 ghost use Rattle.concurrent_lru.specs.Representation.{as_idle, held_entry, GetsEntry};
-ghost use Rattle.concurrent_lru.specs.Entries.{cache_of, charges_of, ContainsEntry, ContainsNoStamp, ContainsNoKey, IsPlaceOfKey, ContainsPlace, ContainsIdleAt, ContainsHeldAt, GetsAt, IsReadyAt, Rewrites, RevivesAt, RestsAt, pins_at, held_with_pins, new_held};
+ghost use Rattle.concurrent_lru.specs.Entries.{cache_of, charges_of, ContainsEntry, ContainsNoStamp, ContainsNoKey, IsPlaceOfKey, ContainsPlace, ContainsIdleAt, ContainsHeldAt, GetsAt, IsReadyAt, Rewrites, RevivesAt, RestsAt, pins_at, value_at, held_with_pins, new_held};
 ghost use Rattle.concurrent_lru.specs.Stamps.{keeps_map, mapped_place, HasRoomFor};
 ghost use Rattle.concurrent_lru.specs.Steps.{without, held_in_phase};
 
@@ -22,6 +23,7 @@ use std::collections::HashMap;
 use std::fmt;
 use std::hash::Hash;
 use std::marker::Model;
+use std::sync::Arc;
 
 /// The entries of a cache: idle ones, oldest first, and held ones.
 #[derive(Drop)]
@@ -140,6 +142,7 @@ impl<K: Hash + Eq + Clone, V: Drop> Table<K, V> {
         requires { ContainsPlace self.now place }
         ensures entry { GetsAt self.now place (entry_of result.now) }
         ensures pins { pins_at self.now place ≡ (entry_of result.now).pins }
+        ensures value { value_at self.now place ≡ value_of (entry_of result.now) }
         ensures alone { chain_of result.now ≡ [] }
     {
         self.nodes.node(place)
@@ -172,19 +175,28 @@ impl<K: Hash + Eq + Clone, V: Drop> Table<K, V> {
         Ok(())
     }
 
-    /// Pins an entry once more: an idle one leaves the idle order. Takes no memory.
-    pub fn pin(&mut self, place: Place)
+    /// Pins a ready entry once more, and tells its value: an idle one leaves the idle order.
+    ///
+    /// `Memory` where the copy of the value is refused; nothing changes then.
+    #[inline(always)]
+    pub fn pin(&mut self, place: Place) -> Result<Arc<V>, Refusal>
         requires place { ContainsPlace self.old place }
+        requires ready { IsSome (value_at self.old place) }
         requires room { pins_at self.old place + 1 < 2 ^ 32 }
-        ensures revived { pins_at self.old place ≡ 0 → RevivesAt self.old place self.new }
-        ensures held { pins_at self.old place ≢ 0 → Rewrites (held_with_pins (pins_at self.old place + 1)) self.old place self.new }
+        ensures value { IfOk result (λ a. value_at self.old place ≡ Some (arc_value a)) }
+        ensures revived { OnOk result (pins_at self.old place ≡ 0 → RevivesAt self.old place self.new) }
+        ensures held { OnOk result (pins_at self.old place ≢ 0 → Rewrites (held_with_pins (pins_at self.old place + 1)) self.old place self.new) }
+        ensures err { OnErr result (self.new ≡ self.old) }
+        ensures refusal { IfErr result (λ e. e ≡ Refusal.Memory) }
     {
-        let pins = self.node(place).pins;
+        let node = self.node(place);
+        let pins = node.pins;
         if pins == 0 {
-            self.revive(place);
-        } else {
-            self.hold(place, pins + 1);
+            return self.revive(place);
         }
+        let value = node.share_value()?;
+        self.hold(place, pins + 1);
+        Ok(value)
     }
 
     /// Writes the number of pins of a held entry, which stays held. Takes no memory.
@@ -206,14 +218,17 @@ impl<K: Hash + Eq + Clone, V: Drop> Table<K, V> {
         self.nodes.set_phase(place, phase);
     }
 
-    // Pins an idle entry, which is held from then on.
-    fn revive(&mut self, place: Place)
+    // Pins an idle entry, which is held from then on, and tells its value.
+    fn revive(&mut self, place: Place) -> Result<Arc<V>, Refusal>
         requires { ContainsIdleAt self.old place }
-        ensures { RevivesAt self.old place self.new }
+        ensures value { IfOk result (λ a. value_at self.old place ≡ Some (arc_value a)) }
+        ensures ok { OnOk result (RevivesAt self.old place self.new) }
+        ensures err { OnErr result (self.new ≡ self.old) }
+        ensures refusal { IfErr result (λ e. e ≡ Refusal.Memory) }
     {
-        self.nodes.remove(place);
-        self.nodes.set_pins(place, 1);
+        let value = self.nodes.revive(place)?;
         self.near = place;
+        Ok(value)
     }
 
     /// Takes the pins of a ready entry, which becomes the newest idle one. Takes no memory.

@@ -9,10 +9,16 @@ use Rattle.concurrent_lru.specs.Cache.{Idle, Held, Phase, making, untaken, ready
 use Rattle.concurrent_lru.specs.Steps.{Holds, IsNotIdle, IsUnready}
 use Rattle.concurrent_lru.specs.Request as ask
 use Rattle.concurrent_lru.specs.Runs.{IsFull, Overflows, WouldHit}
-use Rattle.concurrent_lru.specs.NodeTable.{Entry}
+use Rattle.concurrent_lru.specs.NodeTable.{Entry, value_in, value_of}
 use Rattle.concurrent_lru.specs.Representation.{as_idle, held_entry}
-use Rattle.concurrent_lru.specs.Entries.{Entries, cache_of, cache_with, ContainsEntry, IsPlaceOfKey, GetsAt, ContainsIdleAt, ContainsHeldAt, IsReadyAt}
+use Rattle.concurrent_lru.specs.Entries.{Entries, cache_of, cache_with, ContainsEntry, IsPlaceOfKey, GetsAt, ContainsIdleAt, ContainsHeldAt, IsReadyAt, value_at}
 use Rattle.concurrent_lru.proofs.Steps.BeginOfAbsent.{as_idle-ready}
+
+-- the phase that has a value
+ready_with : {V : Type 0} (q : Phase V) (v : V) → value_in q ≡ Some v → q ≡ ready v
+ready_with making v h = absurd (none-some v h)
+ready_with untaken v h = absurd (none-some v h)
+ready_with (ready w) v h = ap ready (same_Some w v h)
 
 module _ {K V : Type 0} where
   -- an entry that is seen as an idle one is ready
@@ -41,6 +47,10 @@ module _ {K V : Type 0} {t : Entries K V} {p : ℕ} {e : Entry K V} (here : Gets
 
   pub ready_place : (v : V) → e.phase ≡ ready v → e.pins ≢ 0 → IsReadyAt t p
   ready_place v phase some = record { stamp = e.stamp; entry = held_entry e; value = v; at = here.at; held = here.held some; phase = phase }
+
+  -- an entry whose value is at the place is ready with it
+  pub value_here : (v : V) → value_at t p ≡ value_of e → value_at t p ≡ Some v → e.phase ≡ ready v
+  value_here v here at = ready_with e.phase v (sym here ∙ at)
 
   -- an entry that is not ready has a pin
   pub unready_pinned : ((v : V) → e.phase ≡ ready v → ⊥) → e.pins ≢ 0

@@ -68,10 +68,7 @@ module _ {K V S : Type 0} {C : K → K → Type 0} {E : K → K → Bool} {t t' 
       λ j. record { idle = idle j; held = held j; stamps = same j; work = work j }
 
 module _ {K V : Type 0} where
-  -- out of the order and then pinned once; no pin and then at the end of the order
-  pub revives_nodes : (old mid new : NodeTable K V) (p : ℕ) (e : Entry K V) → get old.nodes p ≡ Some e → mid.nodes ≡ old.nodes → new.nodes ≡ update_at (entry_with_pins 1) mid.nodes p → WritesNode old new p e (entry_with_pins 1 e)
-  revives_nodes old mid new p e at same changed = pinned_writes old new p 1 e at (changed ∙ ap (λ m. update_at (entry_with_pins 1) m p) same)
-
+  -- no pin, and then at the end of the order
   pub rests_nodes : (old mid new : NodeTable K V) (p : ℕ) (e : Entry K V) → get old.nodes p ≡ Some e → mid.nodes ≡ update_at (entry_with_pins 0) old.nodes p → new.nodes ≡ mid.nodes → WritesNode old new p e (entry_with_pins 0 e)
   rests_nodes old mid new p e at changed same = pinned_writes old new p 0 e at (same ∙ changed)
 

@@ -150,7 +150,7 @@ module _ {K V : Type 0} where
     pointers_all : (q : ℕ) → ptr_in (cell_at ds q) ≡ ptr_in (cell_at cs q)
     pointers_all = alike ptr_in (ap Some r.at)
 
-    keys_all : (w : Option Ptr) → key_in ds w ≡ key_in cs w
+    pub keys_all : (w : Option Ptr) → key_in ds w ≡ key_in cs w
     keys_all None = refl
     keys_all (Some p) = keys_kept cs ds pointers_all p
 

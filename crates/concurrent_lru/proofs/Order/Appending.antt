@@ -259,6 +259,10 @@ module _ {K V : Type 0} where
   appended : (s t : Slots K V) (o q : Option ℕ) (n : Option Ptr) (k : ℕ) (p : Ptr) → IsNodeTable s o n → t.pointers ≡ s.pointers → key_at s.memory.cells p ≡ Some k → Pushed s.memory.cells t.memory.cells q (idle_places s.memory.cells o) k → IsAppended s t o q k p
   appended s t o q n k p kept same at u = record { table = table_pushed s t o q n k p kept same at u; nodes = entries_kept s.memory.cells t.memory.cells u.quiet; idle = read t.memory.cells q (Some k) (idle_places s.memory.cells o ++ k ∷ []) u.ordered }
 
+  -- a look changes no node
+  pub table_looked : (s t : Slots K V) (o : Option ℕ) (n : Option Ptr) → t ≡ record s { looks = t.looks } → IsTied t → IsNodeTable s o n → IsNodeTable t o n
+  table_looked s t o n rest tied kept = subst (λ u. IsTied u → IsNodeTable u o n) (sym rest) (λ u. record { tied = u; ordered = kept.ordered; good = kept.good; last_good = kept.last_good; ends = kept.ends }) tied
+
   -- what holds of the cells before a look, by the key of the pointer
   pub told_at : (F : NodeCells K V → ℕ → Type 0) (looked cs : NodeCells K V) (p : Ptr) (k : ℕ) → looked ≡ cs → key_at cs p ≡ Some k → AtKey looked p (F looked) → F cs k
   told_at F looked cs p k e at x =

@@ -1,16 +1,18 @@
 //! The idle order as links among nodes: each idle one has the pointers of its neighbours.
 //! Free functions over the slots and the two ends, which may break the order for a moment.
-ghost use Rattle.std.specs.Prelude.{◌≡◌, ◌+◌, ◌∷◌, [], ◌++◌, ◌==◌, map, filter, not, nat_eq, true, false, None, Some, IsSome};
+ghost use Rattle.std.specs.Prelude.{◌≡◌, ◌+◌, ◌∷◌, [], ◌++◌, ◌==◌, map, filter, not, nat_eq, true, false, None, Some, IsSome, OnOk, OnErr, IfOk, IfErr};
+ghost use Rattle.std.specs.Arc.{arc_value};
 ghost use Rattle.std.specs.List.{list_any};
 ghost use Rattle.concurrent_lru.specs.Cells.{cell_at, key_at, AtKey};
 ghost use Rattle.concurrent_lru.specs.SlotTable.{IsNodeTable, IsGood, idle_places, entry_in};
 ghost use Rattle.concurrent_lru.specs.SlotPointers.{IsTied};
 ghost use Rattle.concurrent_lru.specs.Slots.{map_of_slots};
-ghost use Rattle.concurrent_lru.specs.NodeTable.{phase_of, entry_with_pins, entry_in_phase};
+ghost use Rattle.concurrent_lru.specs.NodeTable.{Entry, phase_of, value_of, update_at, entry_with_pins, entry_in_phase};
 ghost use Rattle.concurrent_lru.specs.Relinks.{IsRelinked, Relinks, Revalues, LeftJoined, RightJoined, key_in, before_link, after_link, before_at, after_at};
 
 use crate::list::slots::Slots;
-use crate::list::{Node, Phase};
+use crate::list::{Node, Phase, Refusal};
+use std::sync::Arc;
 
 // The neighbours of one node.
 fn set_links<K, V>(
@@ -166,6 +168,26 @@ fn join_right<K: Drop, V: Drop>(
     }
 }
 
+// Takes the node that a link leads to out of the idle order.
+fn cut<K: Drop, V: Drop>(
+    slots: &mut Slots<K, V>,
+    oldest: &mut Option<usize>,
+    newest: &mut Option<*mut Node<K, V>>,
+    own: *mut Node<K, V>,
+)
+    requires table { IsNodeTable slots.old oldest.old newest.old }
+    requires idle { AtKey slots.old.memory.cells own (λ k. list_any (nat_eq k) (idle_places slots.old.memory.cells oldest.old) ≡ true) }
+    ensures table { IsNodeTable slots.new oldest.new newest.new }
+    ensures nodes { map_of_slots (map entry_in slots.new.memory.cells) ≡ map_of_slots (map entry_in slots.old.memory.cells) }
+    ensures idle { AtKey slots.old.memory.cells own (λ k. idle_places slots.new.memory.cells oldest.new ≡ filter (λ q. not (q == k)) (idle_places slots.old.memory.cells oldest.old)) }
+    ensures pointers { slots.new.pointers ≡ slots.old.pointers }
+    ensures looks { slots.new.looks ≡ slots.old.looks }
+{
+    let (before, after) = unlink(slots, own);
+    join_left(slots, oldest, before, after);
+    join_right(slots, newest, before, after);
+}
+
 // Takes the node under a key out of the idle order.
 pub(super) fn remove_at<K: Drop, V: Drop>(
     slots: &mut Slots<K, V>,
@@ -182,9 +204,34 @@ pub(super) fn remove_at<K: Drop, V: Drop>(
     ensures looks { slots.new.looks.count ≡ slots.old.looks.count + 1 }
 {
     let own = slots.look(key);
-    let (before, after) = unlink(slots, own);
-    join_left(slots, oldest, before, after);
-    join_right(slots, newest, before, after);
+    cut(slots, oldest, newest, own);
+}
+
+// Takes the node under a key out of the idle order with one pin, and copies its value. The node is looked up once, before the
+// copy: a processor reads nothing behind an atomic instruction before that has ended.
+pub(super) fn revive_at<K: Drop, V: Drop>(
+    slots: &mut Slots<K, V>,
+    oldest: &mut Option<usize>,
+    newest: &mut Option<*mut Node<K, V>>,
+    key: usize,
+) -> Result<Arc<V>, Refusal>
+    requires table { IsNodeTable slots.old oldest.old newest.old }
+    requires idle { list_any (nat_eq key) (idle_places slots.old.memory.cells oldest.old) ≡ true }
+    requires ready { (e : Entry K V) → entry_in (cell_at slots.old.memory.cells key) ≡ Some e → IsSome (value_of e) }
+    ensures table { IsNodeTable slots.new oldest.new newest.new }
+    ensures value { (e : Entry K V) → entry_in (cell_at slots.old.memory.cells key) ≡ Some e → IfOk result (λ a. value_of e ≡ Some (arc_value a)) }
+    ensures nodes { OnOk result (map_of_slots (map entry_in slots.new.memory.cells) ≡ update_at (entry_with_pins 1) (map_of_slots (map entry_in slots.old.memory.cells)) key) }
+    ensures idle { OnOk result (idle_places slots.new.memory.cells oldest.new ≡ filter (λ q. not (q == key)) (idle_places slots.old.memory.cells oldest.old)) }
+    ensures same { OnErr result ((slots.new.memory ≡ slots.old.memory) × (oldest.new ≡ oldest.old)) }
+    ensures refusal { IfErr result (λ e. e ≡ Refusal.Memory) }
+    ensures pointers { slots.new.pointers ≡ slots.old.pointers }
+    ensures looks { slots.new.looks.count ≡ slots.old.looks.count + 1 }
+{
+    let own = slots.look(key);
+    let value = slots.follow(own).share_value()?;
+    slots.follow_mut(own).hold(1);
+    cut(slots, oldest, newest, own);
+    Ok(value)
 }
 
 // Writes the pins of the node under a key.

@@ -1,11 +1,14 @@
 use Rattle.std.proofs.Common.{[], refl, sym, ap, ◌∙◌, subst, arith, inl, inr}
-use Rattle.concurrent_lru.specs.Cache.{making, untaken, ready}
+use Rattle.std.specs.Prelude.{is_some}
+use Rattle.std.specs.Arc.{arc_value}
+use Rattle.concurrent_lru.specs.Cache.{making, untaken}
 use Rattle.concurrent_lru.specs.Steps.{IsAbsent, Joins, Hits}
-use Rattle.concurrent_lru.specs.NodeTable.{entry_of, phase_of}
-use Rattle.concurrent_lru.specs.Entries.{cache_with}
+use Rattle.concurrent_lru.specs.NodeTable.{entry_of, phase_of, value_in}
+use Rattle.concurrent_lru.specs.Entries.{cache_with, IsSound}
 use Rattle.concurrent_lru.specs.Request as ask
-use Rattle.concurrent_lru.specs.Runs.{Overflows, TakesMemory}
-use Rattle.concurrent_lru.proofs.Entries.EntryAtPlace.{key_is, has_room, held_place, unready_pinned, would_hit, is_full}
+use Rattle.concurrent_lru.specs.Runs.{Stands, Overflows, TakesMemory}
+use Rattle.concurrent_lru.specs.Results.{outcome_of_begin}
+use Rattle.concurrent_lru.proofs.Entries.EntryAtPlace.{key_is, has_room, held_place, unready_pinned, would_hit, is_full, value_here}
 use Rattle.concurrent_lru.proofs.Steps.NotReady.{unready_not_ready}
 use Rattle.concurrent_lru.proofs.Steps.BeginOfHeld.{joins_lawful}
 use Rattle.concurrent_lru.proofs.Steps.StaysLawful.{hits_lawful}
@@ -84,14 +87,22 @@ returns-in-Untaken-clause-step g c =
 pub returns-in-Untaken-clause-lawful : goal.returns-in-Untaken-clause-lawful
 returns-in-Untaken-clause-lawful g c = joins_lawful _ _ _ _ _ _ _ _ c.self.invariant.lawful (takes g c)
 
+pub pin-requires-clause-ready : goal.pin-requires-clause-ready
+pin-requires-clause-ready g c = ap is_some c.node-node.ensures.value ∙ ap (λ q. is_some (value_in (phase_of q))) c.in-Ready.is
+
+pub invariant_of-self-in_err-value-in-Ready : goal.invariant_of-self-in_err-value-in-Ready
+invariant_of-self-in_err-value-in-Ready g c = subst (λ t. IsSound g.K.PartialEq.eq (cache_with c.self.inside.capacity c.self.inside.most_pins c.self.inside.next t)) (sym c.in_err-value-in-Ready.ensures.err) c.self.invariant
+
 pub returns-in_err-value-in-Ready-clause-step : goal.returns-in_err-value-in-Ready-clause-step
 returns-in_err-value-in-Ready-clause-step g c =
     let here = c.node-node.ensures.entry in
-    begun_memory g.K.PartialEq.eq c.args.self.now.cache (ask.begin c.args.key.now c.args.charge) c.from_residual.result _ c.from_residual.ensures.1 refl
+    subst (λ t. Stands g.K.PartialEq.eq c.args.self.now.cache (ask.begin c.args.key.now c.args.charge) (outcome_of_begin c.from_residual.result) (cache_with c.self.inside.capacity c.self.inside.most_pins c.self.inside.next t)) (sym c.in_err-value-in-Ready.ensures.err)
+    (subst (λ old. Stands g.K.PartialEq.eq c.args.self.now.cache (ask.begin c.args.key.now c.args.charge) (outcome_of_begin c.from_residual.result) old) (sym (ap (λ x. x.cache) c.self.view_is))
+    (begun_memory g.K.PartialEq.eq c.args.self.now.cache (ask.begin c.args.key.now c.args.charge) c.from_residual.result _ c.from_residual.ensures.1 c.in_err-value-in-Ready.ensures.refusal
     (subst (λ old. TakesMemory g.K.PartialEq.eq old (ask.begin c.args.key.now c.args.charge)) (ap (λ x. x.cache) c.self.view_is)
-    (inr (would_hit here g.K.PartialEq.eq c.self.inside.capacity c.self.inside.most_pins c.self.inside.next c.args.key.now c.in-Ready.value.value
+    (inr (would_hit here g.K.PartialEq.eq c.self.inside.capacity c.self.inside.most_pins c.self.inside.next c.args.key.now c.in-Ready.field-0.value
     (has_room here c.self.invariant.lawful c.self.invariant.pins_above c.if-pins-self.false)
-    (key_is here c.self.invariant.lawful c.args.key.now c.in-Some.ensures) (ap phase_of c.in-Ready.is))))
+    (key_is here c.self.invariant.lawful c.args.key.now c.in-Some.ensures) (ap phase_of c.in-Ready.is))))))
 
 pub pin-requires-clause-place : goal.pin-requires-clause-place
 pin-requires-clause-place g c = ((entry_of c.node-node.result.now).stamp, c.node-node.ensures.entry.at)
@@ -102,12 +113,12 @@ pin-requires-clause-room g c =
     let same = c.node-node.ensures.pins in
     omega (arith, room, same)
 
-found : (g : _) (c : After-none-in-Ready g) → Hits g.K.PartialEq.eq (cache_with c.self.inside.capacity c.self.inside.most_pins c.self.inside.next c.self.inside.table) c.args.key.now (entry_of c.node-node.result.now).stamp c.in_ok-value-in-Ready.value.value [] (cache_with c.self.inside.capacity c.self.inside.most_pins c.self.inside.next c.pin.new.self)
+found : (g : _) (c : After-none-in-Ready g) → Hits g.K.PartialEq.eq (cache_with c.self.inside.capacity c.self.inside.most_pins c.self.inside.next c.self.inside.table) c.args.key.now (entry_of c.node-node.result.now).stamp (arc_value c.in_ok-value-in-Ready.value) [] (cache_with c.self.inside.capacity c.self.inside.most_pins c.self.inside.next c.pin.new.self)
 found g c =
     let here = c.node-node.ensures.entry in
-    hits g.K.PartialEq.eq c.self.inside.capacity c.self.inside.most_pins c.self.inside.next here c.pin.new.self c.args.key.now c.in_ok-value-in-Ready.value.value
+    hits g.K.PartialEq.eq c.self.inside.capacity c.self.inside.most_pins c.self.inside.next here c.pin.new.self c.args.key.now (arc_value c.in_ok-value-in-Ready.value)
     (key_is here c.self.invariant.lawful c.args.key.now c.in-Some.ensures) (has_room here c.self.invariant.lawful c.self.invariant.pins_above c.if-pins-self.false)
-    (ap phase_of c.in-Ready.is ∙ ap ready (sym c.in_ok-value-in-Ready.ensures.cases)) c.node-node.ensures.pins c.pin.ensures.revived c.pin.ensures.held
+    (value_here here (arc_value c.in_ok-value-in-Ready.value) c.node-node.ensures.value c.in_ok-value-in-Ready.ensures.value) c.node-node.ensures.pins c.in_ok-value-in-Ready.ensures.revived c.in_ok-value-in-Ready.ensures.held
 
 pub invariant_of-self-in-Ready : goal.invariant_of-self-in-Ready
 invariant_of-self-in-Ready g c = record { lawful = hits_lawful _ g.met.K.Eq.laws _ c.self.invariant.lawful c.self.invariant.pins_above _ _ _ _ _ (found g c); pins_above = c.self.invariant.pins_above }
@@ -118,7 +129,7 @@ returns-in_ok-value-in-Ready-clause-lawful g c = hits_lawful _ g.met.K.Eq.laws _
 pub returns-in_ok-value-in-Ready-clause-step : goal.returns-in_ok-value-in-Ready-clause-step
 returns-in_ok-value-in-Ready-clause-step g c =
     let s = (entry_of c.node-node.result.now).stamp in
-    let v = c.in_ok-value-in-Ready.value.value in
+    let v = (arc_value c.in_ok-value-in-Ready.value) in
     let new = cache_with c.self.inside.capacity c.self.inside.most_pins c.self.inside.next c.pin.new.self in
     let step : Hits g.K.PartialEq.eq c.args.self.now.cache c.args.key.now s v [] new = subst (λ old. Hits g.K.PartialEq.eq old c.args.key.now s v [] new) (ap (λ x. x.cache) c.self.view_is) (found g c) in
     subst (λ out. Hits g.K.PartialEq.eq c.args.self.now.cache c.args.key.now s v out new) (sym c.none-in-Ready.ensures) step

@@ -1,47 +1,65 @@
-use Rattle.std.proofs.Common.{refl, sym, ap, ◌∙◌, subst}
+use Rattle.std.proofs.Common.{◌≡◌, Some, refl, sym, ap, ◌∙◌, subst}
 use Rattle.std.specs.Prelude.{is_some}
-use Rattle.std.specs.FinMap.{get}
-use Rattle.concurrent_lru.specs.Entries.{ContainsIdleAt, RevivesAt}
+use Rattle.std.specs.Arc.{arc_value}
+use Rattle.concurrent_lru.specs.NodeTable.{value_in}
+use Rattle.concurrent_lru.specs.Entries.{ContainsIdleAt, RevivesAt, charges_of, value_at}
 use Rattle.concurrent_lru.specs.Indexes.{entries_of}
 use Rattle.concurrent_lru.proofs.Steps.BeginOfAbsent.{as_idle-ready}
-use Rattle.concurrent_lru.proofs.Entries.NodeAtPlace.{has_node, some_node, idle_node, idle_found, idle_like, place_at}
-use Rattle.concurrent_lru.proofs.Entries.EntryWritten.{revives_nodes, stored_revived, entries_revived_by_one}
-use Rattle.concurrent_lru.proofs.Entries.NodeAtPlace.{idle_unheld}
+use Rattle.concurrent_lru.proofs.Steps.Release.{pinned_writes}
+use Rattle.concurrent_lru.proofs.Entries.NodeAtPlace.{some_node, idle_node, idle_found, idle_like, place_at, node_value, idle_unheld}
+use Rattle.concurrent_lru.proofs.Entries.EntryAddedOrTaken.{stored_same, entries_same, on_err}
+use Rattle.concurrent_lru.proofs.Entries.EntryWritten.{stored_revived, entries_revived_by_one}
 use Rattle.concurrent_lru.proofs.Entries.SumsOfCharges.{sum_revived, stamps_apart}
 use Rattle.concurrent_lru.proofs.table.Table.revive.Goals as goal
 
-pub remove-requires : goal.remove-requires
-remove-requires g c = idle_node c.self.invariant.stored c.args.place (subst (λ t. ContainsIdleAt t c.args.place) (sym c.self.view_is) c.requires)
+pub revive-requires-clause-idle : goal.revive-requires-clause-idle
+revive-requires-clause-idle g c = idle_node c.self.invariant.stored c.args.place (subst (λ t. ContainsIdleAt t c.args.place) (sym c.self.view_is) c.requires)
 
-pub set_pins-requires : goal.set_pins-requires
-set_pins-requires g c =
-    let h = subst (λ t. ContainsIdleAt t c.args.place) (sym c.self.view_is) c.requires in
-    ap (λ m. is_some (get m c.args.place)) c.remove.ensures.nodes ∙ has_node c.self.invariant.stored c.args.place (h.0, h.1)
+pub revive-requires-clause-ready : goal.revive-requires-clause-ready
+revive-requires-clause-ready g c e at =
+    let m = idle_node c.self.invariant.stored c.args.place (subst (λ t. ContainsIdleAt t c.args.place) (sym c.self.view_is) c.requires) in
+    ap (λ q. is_some (value_in q)) (idle_like c.self.invariant.stored c.args.place e at m).2
 
 pub invariant_of-self : goal.invariant_of-self
-invariant_of-self g c =
+invariant_of-self g c = let same = c.in_err-value.ensures.same in record {
+  stored = stored_same c.self.invariant.stored same.0 same.1 (λ k. refl) refl (λ s. refl);
+  sums = c.self.invariant.sums ∙ ap charges_of (sym (entries_same c.self.inside.nodes c.revive.new.self same.0 same.1 same.2));
+}
+
+pub returns-in_err-value-clause-err : goal.returns-in_err-value-clause-err
+returns-in_err-value-clause-err g c = let same = c.in_err-value.ensures.same in on_err _ (entries_same c.self.inside.nodes c.revive.new.self same.0 same.1 same.2 ∙ c.self.view_is)
+
+pub invariant_of-self-2 : goal.invariant_of-self-2
+invariant_of-self-2 g c =
     let h = subst (λ t. ContainsIdleAt t c.args.place) (sym c.self.view_is) c.requires in
     let n = some_node c.self.invariant.stored c.args.place (h.0, h.1) in
     let m = idle_node c.self.invariant.stored c.args.place h in
     let l = idle_like c.self.invariant.stored c.args.place n.0 n.1 m in
-    let changed = entries_revived_by_one c.self.invariant.stored (revives_nodes c.self.inside.nodes c.remove.new.self c.set_pins.new.self c.args.place n.0 n.1 c.remove.ensures.nodes c.set_pins.ensures.nodes) l.0 (c.set_pins.ensures.idle ∙ c.remove.ensures.idle) l.1 l.2 (c.set_pins.ensures.work ∙ c.remove.ensures.work) in
+    let writes = pinned_writes c.self.inside.nodes c.revive.new.self c.args.place 1 n.0 n.1 c.in_ok-value.ensures.nodes in
+    let changed = entries_revived_by_one c.self.invariant.stored writes l.0 c.in_ok-value.ensures.idle l.1 l.2 c.in_ok-value.ensures.work in
     record {
-      stored = stored_revived c.self.invariant.stored (revives_nodes c.self.inside.nodes c.remove.new.self c.set_pins.new.self c.args.place n.0 n.1 c.remove.ensures.nodes c.set_pins.ensures.nodes) refl (c.set_pins.ensures.idle ∙ c.remove.ensures.idle) refl;
-      sums = c.self.invariant.sums ∙ sym (sum_revived (entries_of c.self.inside.nodes) (entries_of c.set_pins.new.self) n.0.stamp (record { stamp = n.0.stamp; key = n.0.key; charge = n.0.charge; value = l.0 }) _
+      stored = stored_revived c.self.invariant.stored writes refl c.in_ok-value.ensures.idle refl;
+      sums = c.self.invariant.sums ∙ sym (sum_revived (entries_of c.self.inside.nodes) (entries_of c.revive.new.self) n.0.stamp (record { stamp = n.0.stamp; key = n.0.key; charge = n.0.charge; value = l.0 }) _
           (stamps_apart c.self.inside.nodes _ c.self.invariant.stored.represents) (ap (λ t. t.idle) changed) (ap (λ t. t.held) changed)
           ((idle_found c.self.invariant.stored c.args.place n.0 n.1 m).1 ∙ as_idle-ready n.0 l.0 l.2) (idle_unheld c.self.invariant.stored c.args.place n.0 n.1 m) refl);
     }
 
-pub returns : goal.returns
-returns g c =
+pub returns-clause-value : goal.returns-clause-value
+returns-clause-value g c =
+    let h = subst (λ t. ContainsIdleAt t c.args.place) (sym c.self.view_is) c.requires in
+    let n = some_node c.self.invariant.stored c.args.place (h.0, h.1) in
+    subst (λ t. value_at t c.args.place ≡ Some (arc_value c.in_ok-value.value)) c.self.view_is (node_value c.self.invariant.stored c.args.place n.0 n.1 ∙ c.in_ok-value.ensures.value n.0 n.1)
+
+pub returns-clause-ok : goal.returns-clause-ok
+returns-clause-ok g c =
     let h = subst (λ t. ContainsIdleAt t c.args.place) (sym c.self.view_is) c.requires in
     let n = some_node c.self.invariant.stored c.args.place (h.0, h.1) in
     let m = idle_node c.self.invariant.stored c.args.place h in
     let l = idle_like c.self.invariant.stored c.args.place n.0 n.1 m in
-    subst (λ t. RevivesAt t c.args.place (entries_of c.set_pins.new.self)) c.self.view_is (record {
+    subst (λ t. RevivesAt t c.args.place (entries_of c.revive.new.self)) c.self.view_is (record {
       stamp = n.0.stamp;
       entry = record { stamp = n.0.stamp; key = n.0.key; charge = n.0.charge; value = l.0 };
       at = place_at c.self.invariant.stored c.args.place n.0 n.1;
       idle = (idle_found c.self.invariant.stored c.args.place n.0 n.1 m).1 ∙ as_idle-ready n.0 l.0 l.2;
-      changed = entries_revived_by_one c.self.invariant.stored (revives_nodes c.self.inside.nodes c.remove.new.self c.set_pins.new.self c.args.place n.0 n.1 c.remove.ensures.nodes c.set_pins.ensures.nodes) l.0 (c.set_pins.ensures.idle ∙ c.remove.ensures.idle) l.1 l.2 (c.set_pins.ensures.work ∙ c.remove.ensures.work);
+      changed = entries_revived_by_one c.self.invariant.stored (pinned_writes c.self.inside.nodes c.revive.new.self c.args.place 1 n.0 n.1 c.in_ok-value.ensures.nodes) l.0 c.in_ok-value.ensures.idle l.1 l.2 c.in_ok-value.ensures.work;
     })
