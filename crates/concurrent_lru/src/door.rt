@@ -214,6 +214,7 @@ impl<'a, K: Hash + Eq + Clone + Drop, V: Drop, R: Wait, F: Fit<K, V>> Inside<'a,
 
 impl<'a, K: Hash + Eq + Clone + Drop, V: Drop, R: Wait, F: Fit<K, V>> Maker<'a, K, V, R, F> {
     /// `Locked::ready`. Whoever waits to read is woken.
+    #[inline(always)]
     pub fn ready(self, key: &K, stored: Arc<V>, read: Arc<V>) -> CacheHandle<'a, K, V, R, F>
         requires asked { made_key self.making ≡ key.now }
         requires fits { F.fits key.now (arc_value stored) }

@@ -240,11 +240,8 @@ impl<K: Hash + Eq + Clone + Drop, V: Drop, F: Fit<K, V>> Locked<K, V, F> {
         } = making;
         let pin = Pin::of(stamp, place, key, Some(charge), read);
         self.look_near(place);
-        let readers = self.waiters(stamp);
-        if !self.has_key(stamp, key) {
-            return (pin, Sealed::of(Err(stored)), readers);
-        }
-        (pin, Sealed::of(self.state.ready(stamp, stored)), readers)
+        let (back, shared) = self.state.ready_keyed(stamp, key, stored);
+        (pin, Sealed::of(back), Waiters::of(shared))
     }
 
     /// The core's `fail`, where the making's entry has the key. Takes no memory.

@@ -3,7 +3,7 @@ use Rattle.std.proofs.Common.{◌≡◌, ◌≢◌, ℕ, ◌⊎◌, inl, inr, Bo
 use Rattle.std.specs.List.{Contains, find, filter}
 use Rattle.std.specs.FinMap as finmap
 use Rattle.std.specs.Ordering.{nat_cmp}
-use Rattle.std.specs.Prelude.{IfOk, IfErr, IfSome}
+use Rattle.std.specs.Prelude.{IfOk, IfErr, IfSome, OnOk, OnErr}
 use Rattle.std.specs.declared.sync.Arc.{Arc}
 use Rattle.std.specs.declared.alloc.Global.{Global}
 use Rattle.std.specs.Cmp.{IsEquivalence}
@@ -15,7 +15,7 @@ use Rattle.concurrent_lru.specs.Ready.{IsSoundUnderLock, EqualKeysFit, HasReady,
 use Rattle.concurrent_lru.specs.Reply as say
 use Rattle.concurrent_lru.specs.Request as ask
 use Rattle.concurrent_lru.specs.Request.{Request}
-use Rattle.concurrent_lru.specs.Results.{outcome_of_begin, outcome_of_poll, outcome_of_get}
+use Rattle.concurrent_lru.specs.Results.{outcome_of_begin, outcome_of_poll, outcome_of_ready, outcome_of_get}
 use Rattle.concurrent_lru.specs.Runs.{Outcome, accepted, refused, Refuses, Stands}
 use Rattle.concurrent_lru.specs.Steps.{with_capacity, with_held, without_held, without, one_more_pin, one_pin_less, held_in_phase, held_by_one, idle_again, Makes, Joins, Revives, Hits, ChangesPhase, Leaves, Removes, Rests, Drops}
 use Rattle.concurrent_lru.specs.ThreadedCalls.{IfHit}
@@ -265,6 +265,11 @@ module _ {K V : Type 0} (E : K → K → Bool) where
       let found = subst (λ x. HasEqualKeyAt E x s k) (sym is) h in
       lacks found.0 found.1.0 found.1.1
 
+  -- where it is not done, the value came back
+  pub keyed_stray : (old new : Cache K V) (s : ℕ) (k : K) (a : Arc V Global) (r : Result (Unit {0}) (Arc V Global)) → OnOk r (HasEqualKeyAt E old s k) → OnErr r (new ≡ old) → IfErr r (λ b. b ≡ a) → (HasEqualKeyAt E old s k → ⊥) → (r ≡ Err a) × (new ≡ old)
+  keyed_stray old new s k a (Ok x) keyed same back none = absurd (none keyed)
+  keyed_stray old new s k a (Err b) keyed same back none = (ap Err back, same)
+
   polled_ready : (old new : Cache K V) (s : ℕ) (k : K) (v : V) (out : List (Idle K V)) → IsLawful E old → HasEqualKeyAt E old s k → ChangesPhase E old s (ready v) (ready v) out new → ReadyFor E old k v
   polled_ready old new s k v out lawful at t =
       let same : at.0 ≡ t.entry.key = one_key old s at.0 t.entry.key lawful at.1 (t.entry.charge, inr (t.entry, t.holds.at, refl, refl)) in
@@ -307,7 +312,7 @@ module _ {K V : Type 0} (E : K → K → Bool) where
     pub set_capacity_kept : (old new : Cache K V) (capacity : ℕ) (out : List (Idle K V)) → Stands E old (ask.set_capacity capacity) (accepted say.done out) new → ValuesFit fits old → ValuesFit fits new
     set_capacity_kept old new capacity out h = kept_fewer old new (set_capacity_fewer old new capacity out h)
 
-    pub ready_kept : (old new : Cache K V) (s : ℕ) (k : K) (v : V) (o : Outcome K V) → IsEquivalence E → EqualKeysFit E fits → IsLawful E old → HasEqualKeyAt E old s k → fits k v → Stands E old (ask.ready s v) o new → ValuesFit fits old → ValuesFit fits new
+    ready_kept : (old new : Cache K V) (s : ℕ) (k : K) (v : V) (o : Outcome K V) → IsEquivalence E → EqualKeysFit E fits → IsLawful E old → HasEqualKeyAt E old s k → fits k v → Stands E old (ask.ready s v) o new → ValuesFit fits old → ValuesFit fits new
     ready_kept old new s k v (accepted say.done out) eq law lawful at fit h kept = λ key w r. elim (changes_phase_one_more old new s v out h key w r) [
       | inl was ↦ kept key w was
       | inr is ↦
@@ -322,6 +327,12 @@ module _ {K V : Type 0} (E : K → K → Bool) where
     ready_kept old new s k v (accepted say.missed out) eq law lawful at fit h kept = absurd h
     ready_kept old new s k v (accepted (say.sum n) out) eq law lawful at fit h kept = absurd h
     ready_kept old new s k v (refused e) eq law lawful at fit h kept = kept_fewer old new (fewer_same old new h.1) kept
+
+    -- where it is done only under a stamp whose entry has the key, the values fit whether it is done or not
+    pub keyed_kept : (old new : Cache K V) (s : ℕ) (k : K) (v : V) (r : Result (Unit {0}) (Arc V Global)) → IsEquivalence E → EqualKeysFit E fits → IsLawful E old → fits k v → OnOk r (HasEqualKeyAt E old s k) → OnErr r (new ≡ old)
+        → (HasEqualKeyAt E old s k → Stands E old (ask.ready s v) (outcome_of_ready r) new) → ValuesFit fits old → ValuesFit fits new
+    keyed_kept old new s k v (Ok x) eq law lawful fit keyed same stands kept = ready_kept old new s k v (accepted say.done []) eq law lawful keyed fit (stands keyed) kept
+    keyed_kept old new s k v (Err a) eq law lawful fit keyed same stands kept = subst (ValuesFit fits) (sym same) kept
 
     -- and a value that a request answers fits the key asked
     pub begin_hit : (old new : Cache K V) (k : K) (charge : ℕ) (r : Result (Begun V × List (Idle K V)) Refusal) → EqualKeysFit E fits → ValuesFit fits old → Stands E old (ask.begin k charge) (outcome_of_begin r) new → IfOk r (λ x. IfHit x.0 (fits k))

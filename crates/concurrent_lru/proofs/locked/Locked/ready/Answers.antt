@@ -1,18 +1,28 @@
-use Rattle.std.proofs.Common.{sym, subst}
+use Rattle.std.proofs.Common.{◌∙◌, subst}
 use Rattle.concurrent_lru.specs.Ready.{HasEqualKeyAt}
-use Rattle.concurrent_lru.proofs.Steps.ReadyValues.{ready_kept}
+use Rattle.concurrent_lru.specs.Request as ask
+use Rattle.concurrent_lru.specs.Results.{outcome_of_ready}
+use Rattle.concurrent_lru.specs.Runs.{Stands}
+use Rattle.concurrent_lru.proofs.Steps.ReadyValues.{keyed_kept, keyed_stray}
 use Rattle.concurrent_lru.proofs.locked.Locked.ready.Goals as goal
 
 pub invariant_of-self : goal.invariant_of-self
 invariant_of-self g c =
-    let at = subst (λ s. HasEqualKeyAt g.K.PartialEq.eq s c.args.making.stamp c.args.key.now) (sym c.self.view_is) (c.has_key.ensures.yes c.if-not-has_key.false) in
+    let ready = c.ready_keyed-back.ensures in
     record {
-      lawful = c.ready.ensures.lawful;
-      kept = ready_kept _ _ _ _ _ _ _ _ g.met.K.Eq.laws g.met.F.Fit.equal_keys c.self.invariant.lawful at c.requires.fits c.ready.ensures.step c.self.invariant.kept;
+      lawful = ready.lawful;
+      kept = keyed_kept _ _ _ _ _ _ _ _ g.met.K.Eq.laws g.met.F.Fit.equal_keys c.self.invariant.lawful c.requires.fits ready.keyed ready.same ready.step c.self.invariant.kept;
     }
 
-pub returns-then-not-has_key-clause-step : goal.returns-then-not-has_key-clause-step
-returns-then-not-has_key-clause-step g c = λ at. absurd (c.has_key.ensures.no c.if-not-has_key.true (subst (λ s. HasEqualKeyAt g.K.PartialEq.eq s c.args.making.stamp c.args.key.now) (sym c.look_near.ensures) at))
+pub returns-clause-step : goal.returns-clause-step
+returns-clause-step g c =
+    let new = c.ready_keyed-back.new.self.cache in
+    rw c.of.ensures (subst (λ old. HasEqualKeyAt g.K.PartialEq.eq old c.args.making.stamp c.args.key.now → Stands g.K.PartialEq.eq old (ask.ready c.args.making.stamp c.args.stored.value) (outcome_of_ready c.ready_keyed-back.result.0) new) (c.self.view_is ∙ c.look_near.ensures) c.ready_keyed-back.ensures.step)
 
 pub returns-clause-stray : goal.returns-clause-stray
-returns-clause-stray g c = λ none. absurd (none (subst (λ s. HasEqualKeyAt g.K.PartialEq.eq s c.args.making.stamp c.args.key.now) c.look_near.ensures (c.has_key.ensures.yes c.if-not-has_key.false)))
+returns-clause-stray g c =
+    let ready = c.ready_keyed-back.ensures in
+    let is = c.self.view_is ∙ c.look_near.ensures in
+    λ none.
+    let back = keyed_stray g.K.PartialEq.eq _ c.ready_keyed-back.new.self.cache c.args.making.stamp c.args.key.now c.args.stored _ ready.keyed ready.same ready.back (λ at. none (subst (λ old. HasEqualKeyAt g.K.PartialEq.eq old c.args.making.stamp c.args.key.now) is at)) in
+    (c.of.ensures ∙ back.0, back.1 ∙ is)
