@@ -216,6 +216,7 @@ impl<K: Hash + Eq + Clone + Drop, V: Drop, F: Fit<K, V>> Locked<K, V, F> {
     ///
     /// There is nobody to wake only where no other pin is in the entry.
     /// Where no entry with this stamp and key is being made, `stored` comes back.
+    #[inline(always)]
     pub fn ready(
         &mut self,
         making: Making<K>,

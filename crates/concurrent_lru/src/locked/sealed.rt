@@ -28,6 +28,7 @@ impl<T> Sealed<T> {
     }
 
     /// Lets the lock go, and then answers what was sealed under it.
+    #[inline(always)]
     pub fn open<L: Drop>(self, guard: MutexGuard<'_, L>) -> T
         ensures { result ≡ self }
     {
@@ -61,6 +62,7 @@ impl Waiters {
     }
 
     /// Wakes all that wait, if there may be any.
+    #[inline(always)]
     pub fn wake(self, woken: &Condvar) {
         let Self { some } = self;
         if some {
