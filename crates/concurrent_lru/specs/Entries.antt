@@ -100,7 +100,7 @@ module _ {K V : Type 0} where
     pub changed : Rewrites (held_in_phase (ready v)) old p new
 
   -- the entry at the place is not being made
-  pub record IsMadeAt (t : Entries K V) (p : ℕ) : Type 0 where
+  pub record LacksMakingAt (t : Entries K V) (p : ℕ) : Type 0 where
     pub entry : Entry K V
     pub here : GetsAt t p entry
     pub phase : entry.phase ≢ making

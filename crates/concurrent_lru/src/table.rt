@@ -9,7 +9,7 @@ ghost use Rattle.std.specs.FinMap as map;
 ghost use Rattle.concurrent_lru.specs.Keys.{CopiesAreEqual};
 ghost use Rattle.concurrent_lru.specs.NodeTable.{Entry, entry_of, chain_of, phase_of, value_of, ContainsNode, LacksIdle};
 ghost use Rattle.concurrent_lru.specs.Representation.{as_idle, held_entry, GetsEntry};
-ghost use Rattle.concurrent_lru.specs.Entries.{cache_of, charges_of, ContainsEntry, ContainsNoStamp, ContainsNoKey, IsPlaceOfKey, ContainsPlace, ContainsIdleAt, ContainsHeldAt, GetsAt, IsMadeAt, IsReadyAt, ReadiesAt, Rewrites, RevivesAt, RestsAt, pins_at, value_at, held_with_pins, new_held};
+ghost use Rattle.concurrent_lru.specs.Entries.{cache_of, charges_of, ContainsEntry, ContainsNoStamp, ContainsNoKey, IsPlaceOfKey, ContainsPlace, ContainsIdleAt, ContainsHeldAt, GetsAt, LacksMakingAt, IsReadyAt, ReadiesAt, Rewrites, RevivesAt, RestsAt, pins_at, value_at, held_with_pins, new_held};
 ghost use Rattle.concurrent_lru.specs.Stamps.{keeps_map, mapped_place, HasRoomFor};
 ghost use Rattle.concurrent_lru.specs.Steps.{without, held_in_phase};
 
@@ -223,7 +223,7 @@ impl<K: Hash + Eq + Clone, V: Drop> Table<K, V> {
     pub fn store(&mut self, place: Place, value: Arc<V>) -> Result<(), Arc<V>>
         requires { ContainsPlace self.old place }
         ensures ok { OnOk result (ReadiesAt (arc_value value) self.old place self.new) }
-        ensures err { OnErr result (IsMadeAt self.old place × (self.new ≡ self.old)) }
+        ensures err { OnErr result (LacksMakingAt self.old place × (self.new ≡ self.old)) }
         ensures back { IfErr result (λ a. a ≡ value) }
     {
         let Phase::Making = &self.node(place).phase else {
