@@ -55,6 +55,10 @@ module _ {T A : Type 0} where
   abbrev pub AtKey : List (Option (Cell T A)) → Ptr → (ℕ → Type 0) → Type 0
   AtKey cells p P = (key : ℕ) × (key_at cells p ≡ Some key) × P key
 
+  -- P holds of the key of the value that lies at p
+  abbrev pub OfKey : List (Option (Cell T A)) → Ptr → (ℕ → Type 0) → Type 0
+  OfKey cells p P = (key : ℕ) → key_at cells p ≡ Some key → P key
+
   -- P holds of the first value that lies at p, with its key
   abbrev pub AtFirst : List (Option (Cell T A)) → Ptr → (ℕ → Cell T A → Type 0) → Type 0
   AtFirst cells p P = (key : ℕ) (c : Cell T A) → key_at cells p ≡ Some key → cell_at cells key ≡ Some c → P key c

@@ -86,6 +86,12 @@ module _ {K V : Type 0} where
   abbrev pub after_at : NodeCells K V → ℕ → Option Ptr
   after_at cs k = after_in (cell_at cs k)
 
+  -- the links of the node under the key were cut, and led to b and a
+  pub record Unlinks (cs ds : NodeCells K V) (k : ℕ) (b a : Option Ptr) : Type 0 where
+    pub cut : Relinks cs ds k None None
+    pub was_before : b ≡ before_at cs k
+    pub was_after : a ≡ after_at cs k
+
   -- the places before and after were joined, seen from the one before, where there is one
   abbrev pub LeftJoined : NodeCells K V → NodeCells K V → Option ℕ → Option ℕ → Option Ptr → Option Ptr → Type 0
   LeftJoined cs ds o p None a = (ds ≡ cs) × (p ≡ key_in cs a)

@@ -1,5 +1,5 @@
 -- Cells by key and by pointer: one put, one written, and the key at which a value lies.
-use Rattle.std.proofs.Common.{◌≡◌, ◌≢◌, ℕ, zero, suc, List, [], ◌∷◌, Bool, true, false, cond, ◌&&◌, ◌==◌, Option, Some, None, IsSome, refl, sym, ap, ◌∙◌, T, eqb→eq}
+use Rattle.std.proofs.Common.{◌≡◌, ◌≢◌, ℕ, zero, suc, List, [], ◌∷◌, Bool, true, false, cond, ◌&&◌, ◌==◌, Option, Some, None, IsSome, refl, sym, ap, ◌∙◌, subst, T, eqb→eq}
 use lib.Dec.{eqb_refl}
 use denote.RawPtr.{Ptr, block_ptr, null_ptr}
 use Rattle.concurrent_lru.specs.Cells.{Cell, cell, cell_at, put_at, same_ptr, next_key, ptr_in, key_at, write_to, IsApartFrom, AreApart}
@@ -52,6 +52,10 @@ module _ {X : Type 0} where
   put_other (suc key) (suc other) x (c ∷ cells) ne = put_other key other x cells (λ e. ne (ap suc e))
 
 -- ---- cells by pointer
+-- what holds of one key that is found holds of each
+pub of_found : {found : Option ℕ} {key : ℕ} (P : ℕ → Type 0) → found ≡ Some key → P key → (other : ℕ) → found ≡ Some other → P other
+of_found P at holds other is = let both : Some _ ≡ Some other = sym at ∙ is in let same : _ ≡ other = cc in subst P same holds
+
 next_is : (x : Option ℕ) (key : ℕ) → next_key x ≡ Some key → (before : ℕ) × (x ≡ Some before) × (key ≡ suc before)
 next_is None key e = cc
 next_is (Some before) key e = let same : suc before ≡ key = cc in (before, refl, sym same)

@@ -1,9 +1,9 @@
 -- A node written through its pointer, as the cells that it leaves.
-use Rattle.std.proofs.Common.{◌≡◌, ℕ, Option, Some, IsSome, refl, sym, ap, ◌∙◌, subst}
+use Rattle.std.proofs.Common.{◌≡◌, ℕ, Option, Some, None, IsSome, refl, sym, ap, ◌∙◌, subst}
 use denote.RawPtr.{Ptr}
-use Rattle.concurrent_lru.specs.Cells.{cell, cell_at, put_at, key_at, write_to, AtFirst, AtKey}
+use Rattle.concurrent_lru.specs.Cells.{cell, cell_at, put_at, key_at, write_to, AtFirst, AtKey, OfKey}
 use Rattle.concurrent_lru.specs.NodeTable.{Entry, entry_of}
-use Rattle.concurrent_lru.specs.Relinks.{NodeCell, NodeCells, before_link, after_link, before_in, after_in, before_at, after_at, IsRelinked, Relinks, IsRevalued, Revalues}
+use Rattle.concurrent_lru.specs.Relinks.{NodeCell, NodeCells, before_link, after_link, before_in, after_in, before_at, after_at, IsRelinked, Relinks, Unlinks, IsRevalued, Revalues}
 use Rattle.concurrent_lru.specs.declared.list.Node.{Node}
 use Rattle.concurrent_lru.proofs.Memory.CellKeys.{key_of_held, value_at_key, put_same, put_other, write_is_put}
 
@@ -30,7 +30,7 @@ module _ {K V : Type 0} (cs : NodeCells K V) (p : Ptr) (now new : Node K V) (val
       node = subst (λ n. IsRelinked n new b a) same r;
     }
 
-    pub revalued_at : (f : Entry K V → Entry K V) → IsRevalued now new (f (entry_of now)) → Revalues cs (write_to p new cs) k f
+    revalued_at : (f : Entry K V → Entry K V) → IsRevalued now new (f (entry_of now)) → Revalues cs (write_to p new cs) k f
     revalued_at f r = record {
       others = λ j ne. ap (λ l. cell_at l j) put ∙ put_other k j (Some (cell there.0.at there.0.alloc new)) cs ne;
       old = there.0;
@@ -48,6 +48,13 @@ module _ {K V : Type 0} (cs : NodeCells K V) (p : Ptr) (now new : Node K V) (val
     was_after : after_link now ≡ after_at cs k
     was_after = ap after_link same ∙ sym (ap after_in there.1)
 
+  -- both links cut, and where they led
+  pub unlinked : IsRelinked now new None None → OfKey cs p (λ k. Unlinks cs (write_to p new cs) k (before_link now) (after_link now))
+  unlinked r k at = record { cut = relinked_at k at None None r; was_before = was_before k at; was_after = was_after k at }
+
+  pub revalued : (f : Entry K V → Entry K V) → IsRevalued now new (f (entry_of now)) → OfKey cs p (λ k. Revalues cs (write_to p new cs) k f)
+  revalued f r k at = revalued_at k at f r
+
   module _ (held : IsSome (key_at cs p)) where
     at : (k : ℕ) × (key_at cs p ≡ Some k)
     at = key_of_held cs p held
@@ -60,9 +67,3 @@ module _ {K V : Type 0} (cs : NodeCells K V) (p : Ptr) (now new : Node K V) (val
 
     pub relinked_before : (b : Option Ptr) → IsRelinked now new b (after_link now) → AtKey cs p (λ k. Relinks cs (write_to p new cs) k b (after_at cs k))
     relinked_before b r = (at.0, at.1, subst (λ a. Relinks cs (write_to p new cs) at.0 b a) (was_after at.0 at.1) (relinked_at at.0 at.1 b (after_link now) r))
-
-    pub told_before : AtKey cs p (λ k. before_link now ≡ before_at cs k)
-    told_before = (at.0, at.1, was_before at.0 at.1)
-
-    pub told_after : AtKey cs p (λ k. after_link now ≡ after_at cs k)
-    told_after = (at.0, at.1, was_after at.0 at.1)

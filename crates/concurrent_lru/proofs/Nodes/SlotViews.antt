@@ -6,7 +6,7 @@ use Rattle.std.proofs.lemmas.Bool.{cases_eq}
 use Rattle.std.specs.FinMap as fin
 use denote.RawPtr.{Ptr}
 use Rattle.concurrent_lru.specs.declared.list.slots.Slots.{Slots}
-use Rattle.concurrent_lru.specs.Cells.{cell_at, ptr_in, key_at}
+use Rattle.concurrent_lru.specs.Cells.{cell_at, ptr_in, key_at, OfKey}
 use Rattle.concurrent_lru.specs.SlotPointers.{IsTied, ptr_of, place_in}
 use Rattle.concurrent_lru.specs.Order.{Link, link, first_or, last_or, Absent, Linked, IsOrder}
 use Rattle.concurrent_lru.specs.Slots.{map_of_slots}
@@ -22,7 +22,7 @@ use Rattle.std.specs.Option.{option_map_or}
 use Rattle.slab.specs.Slab.{get, slab_len}
 use Rattle.concurrent_lru.proofs.Lists.Members.{IsIn}
 use Rattle.concurrent_lru.proofs.Memory.CellKeys.{key_of_held, value_at_key, keys_kept}
-use Rattle.concurrent_lru.proofs.Order.Appending.{some_cell, distinct, read, link_told_at, links_same, get_or-map_option}
+use Rattle.concurrent_lru.proofs.Order.Appending.{some_cell, distinct, read, link_told_at, links_same, get_or-map_option, table_looked}
 use Rattle.concurrent_lru.proofs.Order.TakingOut.{present_in}
 
 -- the place is not the key
@@ -203,6 +203,27 @@ module _ {K V : Type 0} where
     nodes_written v o w p e is =
         let at : fin.get v.nodes p ≡ Some (entry_of r.old.value) = node_had s o w v e key p is ∙ ap entry_in r.was in
         entries_inserted cs ds key (f (entry_of r.old.value)) r.others (ap entry_in r.now ∙ ap Some r.node.entry) ∙ (λ n. fin.insert (e n).nodes (is n) (f (entry_of r.old.value))) ∙ ap (λ x. option_map_or (λ d. fin.insert v.nodes p (f d)) x v.nodes) (sym at)
+
+  -- a node was looked at, at p, and its entry written
+  pub record IsWritten (s t : Slots K V) (o : Option ℕ) (n : Option Ptr) (k : ℕ) (p : Ptr) (f : Entry K V → Entry K V) : Type 0 where
+    pub table : IsNodeTable t o n
+    pub at : key_at t.memory.cells p ≡ Some k
+    pub idle : idle_places t.memory.cells o ≡ idle_places s.memory.cells o
+    pub nodes : map_of_slots (map entry_in t.memory.cells) ≡ update_at f (map_of_slots (map entry_in s.memory.cells)) k
+
+  pub written : (s u t : Slots K V) {o : Option ℕ} {n : Option Ptr} {k : ℕ} {p : Ptr} (f : Entry K V → Entry K V) → IsNodeTable s o n → u ≡ record s { looks = u.looks } → IsTied u → key_at s.memory.cells p ≡ Some k → t ≡ record u { memory = t.memory }
+      → OfKey u.memory.cells p (λ j. Revalues u.memory.cells t.memory.cells j f) → IsWritten s t o n k p f
+  written s u t {o} {n} {k} {p} f kept rest tied link slots cells =
+      let same : u.memory.cells ≡ s.memory.cells = ap (λ x. x.memory.cells) rest in
+      let at : key_at u.memory.cells p ≡ Some k = ap (λ l. key_at l p) same ∙ link in
+      let r = cells k at in let pointers : t.pointers ≡ u.pointers = ap (λ x. x.pointers) slots in
+      let looked = table_looked s u o n rest tied kept in
+      record {
+        table = table_written u t k f pointers r o n looked;
+        at = keys_all u t k f pointers r (Some p) ∙ at;
+        idle = idle_written u t k f pointers r o n looked ∙ ap (λ l. idle_places l o) same;
+        nodes = nodes_written u t k f pointers r (node_table_of u o 0) o 0 k refl refl ∙ ap (λ l. update_at f (map_of_slots (map entry_in l)) k) same;
+      }
 
   -- what is in the order has a node, and stands there once
   pub idle_within : (s : Slots K V) (o : Option ℕ) (n : Option Ptr) (w p : ℕ) → IsNodeTable s o n → IsIn p (idle_places s.memory.cells o) → IsSome (fin.get (node_table_of s o w).nodes p)

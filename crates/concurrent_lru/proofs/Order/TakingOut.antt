@@ -4,14 +4,14 @@ use Rattle.std.proofs.Common.{map, ◌≡◌, ◌≢◌, ◌⊎◌, ℕ, List, [
 use Rattle.std.proofs.lemmas.Bool.{cases_eq, eq-eqb, ne_eqb}
 use denote.RawPtr.{Ptr}
 use Rattle.concurrent_lru.specs.declared.list.slots.Slots.{Slots}
-use Rattle.concurrent_lru.specs.Cells.{cell_at, key_at, AtKey}
+use Rattle.concurrent_lru.specs.Cells.{cell_at}
 use Rattle.concurrent_lru.specs.Order.{Link, link, first_or, last_or, Absent, Distinct, IsOrder}
-use Rattle.concurrent_lru.specs.Relinks.{NodeCell, NodeCells, Relinks, LeftJoined, RightJoined, key_in, before_at, after_at}
+use Rattle.concurrent_lru.specs.Relinks.{NodeCell, NodeCells, Relinks, Unlinks, LeftJoined, RightJoined, key_in, before_at, after_at}
 use Rattle.concurrent_lru.specs.SlotTable.{link_of, link_at, entry_in, idle_places, IsGood, IsGoodAt, AreGood, IsNodeTable}
 use Rattle.concurrent_lru.proofs.Entries.NodeWrittenOrAdded.{around}
 use Rattle.concurrent_lru.proofs.Lists.Members.{IsIn}
 use Rattle.concurrent_lru.proofs.Order.Links.{absent_both, order_cut, oldest_without, newest_without, linked_at, apart_middle}
-use Rattle.concurrent_lru.proofs.Order.Appending.{Quiet, quiet, quiet_trans, link_there, link_else, before_there, before_else, after_there, after_else, good_kept, are_good, read, told_at, link_told_at, link_kept, quiet_same, tied_kept, entries_kept}
+use Rattle.concurrent_lru.proofs.Order.Appending.{Quiet, quiet, quiet_trans, link_there, link_else, before_there, before_else, after_there, after_else, good_kept, are_good, read, link_told_at, link_kept, quiet_same, tied_kept, entries_kept}
 
 cut_at : (ks : List ℕ) (k : ℕ) → IsIn k ks → (xs : List ℕ) × (ys : List ℕ) × (ks ≡ xs ++ k ∷ ys)
 cut_at ks k m = let w = around ks k m in (w.front, w.back, w.whole)
@@ -205,19 +205,6 @@ module _ {K V : Type 0} where
         ends = λ q. u.ends q (kept.ends q);
       }
 
-  -- the first step of taking a key out: its links cut, and what they were
-  pub record Unlinks (cs ds : NodeCells K V) (k : ℕ) (b a : Option Ptr) : Type 0 where
-    pub cut : Relinks cs ds k None None
-    pub was_before : b ≡ before_at cs k
-    pub was_after : a ≡ after_at cs k
-
-  pub unlinks : (cs ds : NodeCells K V) (p : Ptr) (k : ℕ) (b a : Option Ptr) → key_at cs p ≡ Some k → AtKey cs p (λ j. Relinks cs ds j None None) → AtKey cs p (λ j. b ≡ before_at cs j) → AtKey cs p (λ j. a ≡ after_at cs j) → Unlinks cs ds k b a
-  unlinks cs ds p k b a at cut before after = record {
-    cut = told_at (λ l j. Relinks l ds j None None) cs cs p k refl at cut;
-    was_before = told_at (λ l j. b ≡ before_at l j) cs cs p k refl at before;
-    was_after = told_at (λ l j. a ≡ after_at l j) cs cs p k refl at after;
-  }
-
   -- the steps of taking a key out: its links cut, and its neighbours before and after joined
   pub record Cuts (s t : Slots K V) (o p : Option ℕ) (n m : Option Ptr) (k : ℕ) : Type 0 where
     pub unlinked : NodeCells K V
@@ -225,9 +212,7 @@ module _ {K V : Type 0} where
     pub before : Option Ptr
     pub after : Option Ptr
     pub pointers : t.pointers ≡ s.pointers
-    pub cut : Relinks s.memory.cells unlinked k None None
-    pub was_before : before ≡ before_at s.memory.cells k
-    pub was_after : after ≡ after_at s.memory.cells k
+    pub apart : Unlinks s.memory.cells unlinked k before after
     pub left : LeftJoined unlinked joined o p before after
     pub right : RightJoined joined t.memory.cells n m before after
 
@@ -236,15 +221,15 @@ module _ {K V : Type 0} where
     parts_at = cut_at (idle_places s.memory.cells o) k there
 
     quiet_out : Quiet s.memory.cells t.memory.cells
-    quiet_out = quiet3 s.memory.cells c.unlinked c.joined t.memory.cells o p n m c.before c.after k (idle_places s.memory.cells o) parts_at.0 parts_at.1 parts_at.2 kept.ordered kept.good kept.last_good c.cut c.was_before c.was_after c.left c.right
+    quiet_out = quiet3 s.memory.cells c.unlinked c.joined t.memory.cells o p n m c.before c.after k (idle_places s.memory.cells o) parts_at.0 parts_at.1 parts_at.2 kept.ordered kept.good kept.last_good c.apart.cut c.apart.was_before c.apart.was_after c.left c.right
 
     order_out : IsOrder (link_at t.memory.cells) p (key_in t.memory.cells m) (parts_at.0 ++ parts_at.1)
-    order_out = ordered3 s.memory.cells c.unlinked c.joined t.memory.cells o p n m c.before c.after k (idle_places s.memory.cells o) parts_at.0 parts_at.1 parts_at.2 kept.ordered kept.good kept.last_good c.cut c.was_before c.was_after c.left c.right
+    order_out = ordered3 s.memory.cells c.unlinked c.joined t.memory.cells o p n m c.before c.after k (idle_places s.memory.cells o) parts_at.0 parts_at.1 parts_at.2 kept.ordered kept.good kept.last_good c.apart.cut c.apart.was_before c.apart.was_after c.left c.right
 
     pub table_out : IsNodeTable t p m
     table_out = table_removed s t o p n m (parts_at.0 ++ parts_at.1) kept c.pointers quiet_out order_out
-        (good3 s.memory.cells c.unlinked c.joined t.memory.cells o p n m c.before c.after k (idle_places s.memory.cells o) parts_at.0 parts_at.1 parts_at.2 kept.ordered kept.good kept.last_good c.cut c.was_before c.was_after c.left c.right)
-        (last_good3 s.memory.cells c.unlinked c.joined t.memory.cells o p n m c.before c.after k (idle_places s.memory.cells o) parts_at.0 parts_at.1 parts_at.2 kept.ordered kept.good kept.last_good c.cut c.was_before c.was_after c.left c.right)
+        (good3 s.memory.cells c.unlinked c.joined t.memory.cells o p n m c.before c.after k (idle_places s.memory.cells o) parts_at.0 parts_at.1 parts_at.2 kept.ordered kept.good kept.last_good c.apart.cut c.apart.was_before c.apart.was_after c.left c.right)
+        (last_good3 s.memory.cells c.unlinked c.joined t.memory.cells o p n m c.before c.after k (idle_places s.memory.cells o) parts_at.0 parts_at.1 parts_at.2 kept.ordered kept.good kept.last_good c.apart.cut c.apart.was_before c.apart.was_after c.left c.right)
 
     pub nodes_out : map_of_slots (map entry_in t.memory.cells) ≡ map_of_slots (map entry_in s.memory.cells)
     nodes_out = entries_kept s.memory.cells t.memory.cells quiet_out

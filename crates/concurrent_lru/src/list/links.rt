@@ -3,12 +3,12 @@
 ghost use Rattle.std.specs.Prelude.{◌≡◌, ◌+◌, ◌∷◌, [], ◌++◌, ◌==◌, map, filter, not, nat_eq, true, false, None, Some, IsSome, OnOk, OnErr, IfOk, IfErr};
 ghost use Rattle.std.specs.Arc.{arc_value};
 ghost use Rattle.std.specs.List.{list_any};
-ghost use Rattle.concurrent_lru.specs.Cells.{cell_at, key_at, AtKey};
+ghost use Rattle.concurrent_lru.specs.Cells.{cell_at, key_at, AtKey, OfKey};
 ghost use Rattle.concurrent_lru.specs.SlotTable.{IsNodeTable, IsGood, idle_places, entry_in};
 ghost use Rattle.concurrent_lru.specs.SlotPointers.{IsTied};
 ghost use Rattle.concurrent_lru.specs.Slots.{map_of_slots};
 ghost use Rattle.concurrent_lru.specs.NodeTable.{Entry, phase_of, value_of, update_at, entry_with_pins, entry_in_phase};
-ghost use Rattle.concurrent_lru.specs.Relinks.{IsRelinked, Relinks, Revalues, LeftJoined, RightJoined, key_in, before_link, after_link, before_at, after_at};
+ghost use Rattle.concurrent_lru.specs.Relinks.{IsRelinked, Relinks, Unlinks, Revalues, LeftJoined, RightJoined, key_in, before_link, after_link, before_at, after_at};
 
 use crate::list::slots::Slots;
 use crate::list::{Node, Phase, Refusal};
@@ -109,9 +109,7 @@ fn unlink<K: Drop, V: Drop>(
 ) -> (Option<*mut Node<K, V>>, Option<*mut Node<K, V>>)
     requires { IsSome (key_at slots.old.memory.cells link) }
     ensures slots { slots.new ≡ record slots.old { memory = slots.new.memory } }
-    ensures cells { AtKey slots.old.memory.cells link (λ k. Relinks slots.old.memory.cells slots.new.memory.cells k None None) }
-    ensures before { AtKey slots.old.memory.cells link (λ k. result.0 ≡ before_at slots.old.memory.cells k) }
-    ensures after { AtKey slots.old.memory.cells link (λ k. result.1 ≡ after_at slots.old.memory.cells k) }
+    ensures cells { OfKey slots.old.memory.cells link (λ k. Unlinks slots.old.memory.cells slots.new.memory.cells k result.0 result.1) }
 {
     let node = slots.follow_mut(link);
     let before = node.before;
@@ -179,7 +177,7 @@ fn cut<K: Drop, V: Drop>(
     requires idle { AtKey slots.old.memory.cells own (λ k. list_any (nat_eq k) (idle_places slots.old.memory.cells oldest.old) ≡ true) }
     ensures table { IsNodeTable slots.new oldest.new newest.new }
     ensures nodes { map_of_slots (map entry_in slots.new.memory.cells) ≡ map_of_slots (map entry_in slots.old.memory.cells) }
-    ensures idle { AtKey slots.old.memory.cells own (λ k. idle_places slots.new.memory.cells oldest.new ≡ filter (λ q. not (q == k)) (idle_places slots.old.memory.cells oldest.old)) }
+    ensures idle { OfKey slots.old.memory.cells own (λ k. idle_places slots.new.memory.cells oldest.new ≡ filter (λ q. not (q == k)) (idle_places slots.old.memory.cells oldest.old)) }
     ensures pointers { slots.new.pointers ≡ slots.old.pointers }
     ensures looks { slots.new.looks ≡ slots.old.looks }
 {
@@ -207,6 +205,15 @@ pub(super) fn remove_at<K: Drop, V: Drop>(
     cut(slots, oldest, newest, own);
 }
 
+// Writes the pins of the node that a link leads to.
+fn hold<K: Drop, V: Drop>(slots: &mut Slots<K, V>, link: *mut Node<K, V>, pins: u32)
+    requires { IsSome (key_at slots.old.memory.cells link) }
+    ensures slots { slots.new ≡ record slots.old { memory = slots.new.memory } }
+    ensures cells { OfKey slots.old.memory.cells link (λ k. Revalues slots.old.memory.cells slots.new.memory.cells k (entry_with_pins pins)) }
+{
+    slots.follow_mut(link).hold(pins);
+}
+
 // Takes the node under a key out of the idle order with one pin, and copies its value. The node is looked up once, before the
 // copy: a processor reads nothing behind an atomic instruction before that has ended.
 pub(super) fn revive_at<K: Drop, V: Drop>(
@@ -229,7 +236,7 @@ pub(super) fn revive_at<K: Drop, V: Drop>(
 {
     let own = slots.look(key);
     let value = slots.follow(own).share_value()?;
-    slots.follow_mut(own).hold(1);
+    hold(slots, own, 1);
     cut(slots, oldest, newest, own);
     Ok(value)
 }
@@ -242,7 +249,7 @@ pub(super) fn write_pins<K: Drop, V: Drop>(slots: &mut Slots<K, V>, key: usize, 
     ensures cells { Revalues slots.old.memory.cells slots.new.memory.cells key (entry_with_pins pins) }
 {
     let link = slots.look(key);
-    slots.follow_mut(link).hold(pins);
+    hold(slots, link, pins);
 }
 
 // Writes the phase of the node under a key.

@@ -3,7 +3,7 @@ use Rattle.std.specs.List.{list_any}
 use Rattle.concurrent_lru.specs.Cells.{key_at}
 use Rattle.concurrent_lru.specs.Slots.{map_of_slots}
 use Rattle.concurrent_lru.specs.SlotTable.{entry_in, idle_places}
-use Rattle.concurrent_lru.proofs.Order.Appending.{told_at, table_looked}
+use Rattle.concurrent_lru.proofs.Order.Appending.{table_looked}
 use Rattle.concurrent_lru.proofs.Order.TakingOut.{present_in}
 use Rattle.concurrent_lru.proofs.list.links.remove_at.Goals as goal
 
@@ -23,7 +23,8 @@ returns-clause-nodes g c = c.cut.ensures.nodes ∙ ap (λ t. map_of_slots (map e
 
 pub returns-clause-idle : goal.returns-clause-idle
 returns-clause-idle g c =
-    told_at (λ l j. idle_places c.cut.new.slots.memory.cells c.cut.new.oldest ≡ filter (λ q. not (eqb q j)) (idle_places l c.args.oldest.now)) c.look-own.new.self.memory.cells c.args.slots.now.memory.cells c.look-own.result c.args.key (ap (λ t. t.memory.cells) c.look-own.ensures.rest) c.look-own.ensures.link c.cut.ensures.idle
+    let same = ap (λ t. t.memory.cells) c.look-own.ensures.rest in
+    c.cut.ensures.idle c.args.key (ap (λ l. key_at l c.look-own.result) same ∙ c.look-own.ensures.link) ∙ ap (λ l. filter (λ q. not (eqb q c.args.key)) (idle_places l c.args.oldest.now)) same
 
 pub returns-clause-pointers : goal.returns-clause-pointers
 returns-clause-pointers g c = c.cut.ensures.pointers ∙ ap (λ t. t.pointers) c.look-own.ensures.rest

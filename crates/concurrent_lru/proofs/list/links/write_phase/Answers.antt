@@ -2,7 +2,7 @@ use Rattle.std.proofs.Common.{ap, ◌∙◌, subst}
 use Rattle.concurrent_lru.specs.Cells.{key_at, write_to}
 use Rattle.concurrent_lru.specs.NodeTable.{entry_in_phase, phase_of}
 use Rattle.concurrent_lru.specs.Relinks.{Revalues}
-use Rattle.concurrent_lru.proofs.Nodes.NodeWrites.{revalued_at}
+use Rattle.concurrent_lru.proofs.Nodes.NodeWrites.{revalued}
 use Rattle.concurrent_lru.proofs.list.links.write_phase.Goals as goal
 
 pub returns-clause-cells : goal.returns-clause-cells
@@ -10,4 +10,4 @@ returns-clause-cells g c =
     let looked = c.look-link.new.self.memory.cells in let p = c.look-link.result in let new = c.set_phase.new.self in
     let same = ap (λ t. t.memory.cells) c.look-link.ensures.rest in
     subst (λ l. Revalues l (write_to p new looked) c.args.key (entry_in_phase (phase_of c.args.phase))) same
-    (revalued_at looked p c.follow_mut.result.now new c.follow_mut.ensures.value c.args.key (ap (λ l. key_at l p) same ∙ c.look-link.ensures.link) (entry_in_phase (phase_of c.args.phase)) c.set_phase.ensures)
+    (revalued looked p c.follow_mut.result.now new c.follow_mut.ensures.value (entry_in_phase (phase_of c.args.phase)) c.set_phase.ensures c.args.key (ap (λ l. key_at l p) same ∙ c.look-link.ensures.link))

@@ -1,13 +1,11 @@
 use Rattle.std.proofs.Common.{ap, ◌∙◌, subst}
-use Rattle.concurrent_lru.specs.Cells.{key_at, write_to}
+use Rattle.concurrent_lru.specs.Cells.{key_at}
 use Rattle.concurrent_lru.specs.NodeTable.{entry_with_pins}
 use Rattle.concurrent_lru.specs.Relinks.{Revalues}
-use Rattle.concurrent_lru.proofs.Nodes.NodeWrites.{revalued_at}
 use Rattle.concurrent_lru.proofs.list.links.write_pins.Goals as goal
 
 pub returns-clause-cells : goal.returns-clause-cells
 returns-clause-cells g c =
-    let looked = c.look-link.new.self.memory.cells in let p = c.look-link.result in let new = c.hold.new.self in
     let same = ap (λ t. t.memory.cells) c.look-link.ensures.rest in
-    subst (λ l. Revalues l (write_to p new looked) c.args.key (entry_with_pins c.args.pins)) same
-    (revalued_at looked p c.follow_mut.result.now new c.follow_mut.ensures.value c.args.key (ap (λ l. key_at l p) same ∙ c.look-link.ensures.link) (entry_with_pins c.args.pins) c.hold.ensures)
+    subst (λ l. Revalues l c.hold.new.slots.memory.cells c.args.key (entry_with_pins c.args.pins)) same
+    (c.hold.ensures.cells c.args.key (ap (λ l. key_at l c.look-link.result) same ∙ c.look-link.ensures.link))
