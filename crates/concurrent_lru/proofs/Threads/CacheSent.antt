@@ -84,12 +84,12 @@ module _ (K V : RattleType) (key : IsSync K) (value : IsSend V) (shared : IsSync
   -- What stands for a node where its type names itself is Sync, as its layer is over any such.
   hole_sync : IsSync (node.the_hole K V)
   hole_sync = fix_sync (node.the_ring K V)
-      (node.by_members K V (Syncs (node.the_ring K V)) record { sync = λ h all. declared_sync (node.the_layer K V h) (search (sendable, crosses, all) depth 12, (search (sendable, crosses) depth 12, (search (sendable, crosses) depth 12, (search (sendable, crosses) depth 12, (search (sendable, crosses) depth 12, (search (sendable, crosses, phase_sent.the_sync) depth 12, (search (sendable, crosses) depth 12, (search (sendable, crosses) depth 12, (search (sendable, crosses) depth 12, tt))))))))) })
+      (node.by_members K V (Syncs (node.the_ring K V)) record { sync = λ h all. declared_sync (node.the_layer K V h) (search (sendable, crosses, phase_sent.the_sync, all) depth 24) })
       (node.the_member K V)
 
   -- A node is Sync.
   node_sync : IsSync (node.the_row K V)
-  node_sync = declared_sync (node.the_type K V) (search (sendable, crosses, hole_sync) depth 12, (search (sendable, crosses) depth 12, (search (sendable, crosses) depth 12, (search (sendable, crosses) depth 12, (search (sendable, crosses) depth 12, (search (sendable, crosses, phase_sent.the_sync) depth 12, (search (sendable, crosses) depth 12, (search (sendable, crosses) depth 12, (search (sendable, crosses) depth 12, tt)))))))))
+  node_sync = declared_sync (node.the_type K V) (search (sendable, crosses, phase_sent.the_sync, hole_sync) depth 24)
 
   -- The pointers in a slab are Sync.
   pointers_sync : IsSync (slab.the_row (at.the_row (node.the_row K V)) global.the_row allocator.ghosts)
