@@ -61,13 +61,7 @@ impl<K: Hash + Eq + Clone, V: Drop> Table<K, V> {
         ensures stamps { result.stamps ≡ map.empty }
         ensures work { result.work ≡ 0 }
     {
-        Table {
-            nodes: Nodes::new(alloc),
-            by_key: HashMap::new(alloc),
-            by_stamp: Stamps::Mapped(HashMap::new(alloc)),
-            total: 0,
-            near: Place::first(),
-        }
+        Table::found_by(alloc, Stamps::Mapped(HashMap::new(alloc)))
     }
 
     // No entries, and no map by stamp: an entry comes and goes with one write less, and a look by
@@ -80,10 +74,22 @@ impl<K: Hash + Eq + Clone, V: Drop> Table<K, V> {
         ensures stamps { result.stamps ≡ map.empty }
         ensures work { result.work ≡ 0 }
     {
+        Table::found_by(alloc, Stamps::Unmapped)
+    }
+
+    // No entries, whose stamps are to be found by this.
+    fn found_by(alloc: Global, by_stamp: Stamps) -> Table<K, V>
+        requires copies { CopiesAreEqual K.is_clone K.eq }
+        requires unmapped { (s : ℕ) → mapped_place by_stamp s ≡ None }
+        ensures idle { result.idle ≡ [] }
+        ensures held { result.held ≡ map.empty }
+        ensures stamps { result.stamps ≡ map.empty }
+        ensures work { result.work ≡ 0 }
+    {
         Table {
             nodes: Nodes::new(alloc),
             by_key: HashMap::new(alloc),
-            by_stamp: Stamps::Unmapped,
+            by_stamp,
             total: 0,
             near: Place::first(),
         }

@@ -1,25 +1,6 @@
-use Rattle.std.proofs.Common.{◌≡◌, Some, None, refl, sym, ap, ◌∙◌}
+use Rattle.std.proofs.Common.{eqb, ap}
 use Rattle.std.specs.Map.{lookup}
-use Rattle.concurrent_lru.proofs.Entries.PlacesOfNodes.{empty_represents, empty_held, no_stamps}
-use Rattle.concurrent_lru.proofs.Entries.IndexedByMaps.{indexed_empty}
-use Rattle.std.specs.List.{filter_map}
-use Rattle.concurrent_lru.specs.Indexes.{entries_of}
-use Rattle.concurrent_lru.specs.Representation.{idle_at_place}
-use Rattle.concurrent_lru.proofs.Entries.SumsOfCharges.{sum_none}
 use Rattle.concurrent_lru.proofs.table.Table.new.Goals as goal
 
-pub invariant_of-result : goal.invariant_of-result
-invariant_of-result g c = record {
-  sums = sym (sum_none (entries_of c.new.result) (ap (filter_map (idle_at_place c.new.result.nodes)) c.new.ensures.idle) (empty_held c.new.result c.new.ensures.nodes));
-  stored = record {
-    represents = empty_represents c.new.result c.new.ensures.nodes c.new.ensures.idle;
-    indexed = indexed_empty _ _ _ c.new.ensures.nodes (λ k. ap (lookup (g.K.PartialEq.eq k)) c.new-2.ensures.empty) (λ s. ap (lookup (Rattle.std.proofs.Common.eqb s)) c.new-3.ensures.empty);
-    copies = c.requires;
-  };
-}
-
-pub returns-clause-held : goal.returns-clause-held
-returns-clause-held g c = empty_held c.new.result c.new.ensures.nodes
-
-pub returns-clause-stamps : goal.returns-clause-stamps
-returns-clause-stamps g c = no_stamps c.new.result.nodes c.new.ensures.nodes
+pub found_by-requires-clause-unmapped : goal.found_by-requires-clause-unmapped
+found_by-requires-clause-unmapped g c s = ap (lookup (eqb s)) c.new.ensures.empty
