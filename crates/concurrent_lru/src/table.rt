@@ -77,7 +77,7 @@ impl<K: Hash + Eq + Clone, V: Drop> Table<K, V> {
         Table::found_by(alloc, Stamps::Unmapped)
     }
 
-    // No entries, whose stamps are to be found by this.
+    // No entries; where some come, their stamps are found by this.
     fn found_by(alloc: Global, by_stamp: Stamps) -> Table<K, V>
         requires copies { CopiesAreEqual K.is_clone K.eq }
         requires unmapped { (s : ℕ) → mapped_place by_stamp s ≡ None }
