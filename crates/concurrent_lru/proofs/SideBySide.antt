@@ -1,3 +1,4 @@
 -- Caches side by side.
 pub mod OneOfMany
+pub mod ReadOfOne
 pub mod FirstOfMany

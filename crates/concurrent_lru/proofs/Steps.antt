@@ -19,3 +19,4 @@ pub mod OneFront
 pub mod EmptyCache
 pub mod StaysLawful
 pub mod ReadyValues
+pub mod ValuesRead

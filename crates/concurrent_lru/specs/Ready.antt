@@ -18,6 +18,10 @@ module _ {K V : Type 0} where
   abbrev pub ReadyFor : (K → K → Bool) → Cache K V → K → V → Type 0
   ReadyFor E c k v = (own : K) × (E own k ≡ true) × HasReady c own v
 
+  -- a ready entry has a key that equals k by E
+  abbrev pub HasReadyKey : (K → K → Bool) → Cache K V → K → Type 0
+  HasReadyKey E c k = (v : V) × ReadyFor E c k v
+
   -- what is ready in the new cache was ready in the old one
   abbrev pub FewerReady : Cache K V → Cache K V → Type 0
   FewerReady old new = (k : K) (v : V) → HasReady new k v → HasReady old k v

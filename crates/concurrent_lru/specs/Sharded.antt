@@ -1,10 +1,12 @@
 -- Caches side by side, and which of them serves a key.
-use Rattle.std.specs.Prelude.{ℕ, ◌%◌, Bool, List, length, refl}
+use Rattle.std.specs.Prelude.{ℕ, ◌%◌, Bool, List, length, slice_index_or, refl}
 use Rattle.std.specs.List.{All, fold}
 use Rattle.std.specs.Coded.{Coded, code_by, coded×, coded_list}
 use Rattle.std.specs.declared.hash.Hasher as hasher
 use Rattle.std.specs.declared.hash.BuildHasher as builder
 use Rattle.concurrent_lru.specs.Cache.{Cache, cache_code, IsLawful}
+use Rattle.concurrent_lru.specs.Ready.{HasReadyKey}
+use Rattle.concurrent_lru.specs.Steps.{IsUnready}
 
 -- caches side by side, and the hasher that numbers their keys
 pub record Sharded (K V S : Type 0) : Type 0 where
@@ -31,3 +33,10 @@ key_shard build run bytes c k = shard_of (key_number build run bytes) c k
 -- every shard is lawful
 abbrev pub AreLawful : {K V S : Type 0} → (K → K → Bool) → Sharded K V S → Type 0
 AreLawful E c = All (IsLawful E) c.caches
+
+-- at the shard i a ready entry has a key that equals k by E; a get of k would find none there
+abbrev pub HasReadyKeyAt : {K V S : Type 0} → (K → K → Bool) → Sharded K V S → ℕ → K → Type 0
+HasReadyKeyAt {K} {V} E c i k = (d : Cache K V) → HasReadyKey E (slice_index_or c.caches i d) k
+
+abbrev pub IsUnreadyAt : {K V S : Type 0} → (K → K → Bool) → Sharded K V S → ℕ → K → Type 0
+IsUnreadyAt {K} {V} E c i k = (d : Cache K V) → IsUnready E (slice_index_or c.caches i d) k

@@ -2,6 +2,7 @@
 //! what it took out is dropped after that, and whoever waits for what it did is woken.
 ghost use Rattle.std.specs.Prelude.{◌≡◌, ◌≢◌, ◌<◌, [], Some, None, IfOk, IfErr, IfSome};
 ghost use Rattle.std.specs.Arc.{arc_value};
+ghost use Rattle.std.specs.Fn.{FnOnceReturnsAt, FnOnceTakesAt};
 ghost use Rattle.std.specs.Sync.Mutex.{mutex_guard_value};
 ghost use Rattle.concurrent_lru.specs.Cache.{sum_of, IsLawful};
 ghost use Rattle.concurrent_lru.specs.Doors.{IsAwake, IsMetFor};
@@ -141,6 +142,22 @@ impl<'a, K: Hash + Eq + Clone + Drop, V: Drop, R: Wait, F: Fit<K, V>> Inside<'a,
         }
     }
 
+    /// `Locked::read`. The reader runs under the lock.
+    #[inline(always)]
+    pub fn read<T, G>(self, key: &K, reader: G) -> Result<Option<T>, Refusal>
+    where
+        G: FnOnce(&V) -> T + Drop,
+        requires callable { (v : V) → F.fits key.now v → FnOnceTakesAt G.FnOnce reader v }
+        ensures fits { IfOk result (λ found. IfSome found (λ t. (v : V) × F.fits key.now v × FnOnceReturnsAt G.FnOnce reader v t)) }
+        ensures refused { IfErr result (λ e. e ≡ Refusal.Overflow) }
+    {
+        let Self { door: _, mut guard } = self;
+        match guard.read(key, reader)? {
+            None => Ok(None),
+            Some((_, answer)) => Ok(Some(answer)),
+        }
+    }
+
     /// `Locked::begin`. What it evicted is dropped without the lock.
     #[inline(always)]
     pub fn begin(self, key: &K, charge: u64) -> Result<Met<'a, K, V, R, F>, Refusal>
@@ -203,6 +220,18 @@ impl<'a, K: Hash + Eq + Clone + Drop, V: Drop, R: Wait, F: Fit<K, V>> Inside<'a,
     pub fn total(self) -> u64 {
         let Self { door: _, guard } = self;
         guard.total()
+    }
+
+    /// `Locked::len`.
+    pub fn len(self) -> usize {
+        let Self { door: _, guard } = self;
+        guard.len()
+    }
+
+    /// `Locked::contains`.
+    pub fn contains(self, key: &K) -> bool {
+        let Self { door: _, guard } = self;
+        guard.contains(key)
     }
 
     /// `Locked::capacity`.

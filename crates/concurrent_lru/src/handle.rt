@@ -5,8 +5,10 @@ ghost use Rattle.std.specs.Prelude.{◌≡◌};
 use crate::door::Door;
 use crate::fit::{Anything, Fit};
 use crate::locked::Pin;
+use std::fmt;
 use std::hash::Hash;
 use std::marker::Model;
+use std::ops::Deref;
 use std::sync::Wait;
 
 /// A pinned value: its entry is not evicted while the handle is there. A handle that is
@@ -46,6 +48,41 @@ impl<'a, K: Hash + Eq + Clone, V, R: Wait, F: Fit<K, V>> CacheHandle<'a, K, V, R
         ensures fits { F.fits self.now.key result.now }
     {
         self.pin.value()
+    }
+}
+
+impl<'a, K: Hash + Eq + Clone + Drop, V: Drop, R: Wait, F: Fit<K, V>> CacheHandle<'a, K, V, R, F> {
+    // The pin alone, for a handle that keeps the cache there by other means.
+    pub(crate) fn into_pin(self) -> Pin<K, V, F>
+        ensures key { result.key ≡ self.entry.key }
+        ensures charge { result.charge ≡ self.entry.charge }
+        ensures value { result.value ≡ self.entry.value }
+    {
+        let Self { door: _, pin } = self;
+        pin
+    }
+}
+
+impl<'a, K: Hash + Eq + Clone, V, R: Wait, F: Fit<K, V>> Deref for CacheHandle<'a, K, V, R, F> {
+    type Target = V;
+
+    ghost deref_gives = { λ h v. v ≡ h.value };
+
+    fn deref(&self) -> &V
+        ensures value { result.now ≡ self.now.value }
+        ensures fits { F.fits self.now.key result.now }
+    {
+        self.value()
+    }
+}
+
+// As the value.
+impl<'a, K: Hash + Eq + Clone, V: fmt::Debug, R: Wait, F: Fit<K, V>> fmt::Debug
+    for CacheHandle<'a, K, V, R, F> {
+    ghost debug_output = { λ h. V.debug_output h.value };
+
+    fn fmt<W: fmt::Write>(&self, f: &mut fmt::Formatter<W>) -> fmt::Result {
+        fmt::Debug::fmt(self.value(), f)
     }
 }
 

@@ -10,6 +10,7 @@ mod handle;
 pub mod list;
 pub mod locked;
 pub mod lru_core;
+mod owned;
 mod route;
 pub mod shard_laws;
 pub mod sharded;

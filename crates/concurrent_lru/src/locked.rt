@@ -2,15 +2,18 @@
 //! Each call is one step of the core, and what it leaves to be done is a debt, which is not `Drop`.
 ghost use Rattle.std.specs.Prelude.{◌≡◌, ◌≢◌, ◌<◌, true, [], Err, Some, None, IsTrue, IsFalse, IfOk, IfErr, IfSome};
 ghost use Rattle.std.specs.Arc.{arc_value};
-ghost use Rattle.concurrent_lru.specs.Cache.{empty_cache, most_pins_by_default, sum_of, IsLawful};
+ghost use Rattle.std.specs.Fn.{FnOnceReturnsAt, FnOnceTakesAt};
+ghost use Rattle.concurrent_lru.specs.Cache.{count_of, empty_cache, most_pins_by_default, sum_of, IsLawful};
 ghost use Rattle.concurrent_lru.specs.Debts.{outcome_of_locked_begin, outcome_of_locked_poll, outcome_of_locked_get, AsksOnEntry, AsksOnPoll, IfEntered, IfPolled};
 ghost use Rattle.concurrent_lru.specs.Keys.{CopiesAreEqual};
 ghost use Rattle.concurrent_lru.specs.OtherPins.{HasNoOtherPin};
 ghost use Rattle.concurrent_lru.specs.Pins.{made_stamp, made_key, made_charge, woken_stamp, woken_key, woken_charge, unread_stamp};
-ghost use Rattle.concurrent_lru.specs.Ready.{ValuesFit, HasEqualKeyAt};
+ghost use Rattle.concurrent_lru.specs.Reads.{Reads};
+ghost use Rattle.concurrent_lru.specs.Ready.{ValuesFit, HasEqualKeyAt, HasReadyKey};
 ghost use Rattle.concurrent_lru.specs.Request as ask;
 ghost use Rattle.concurrent_lru.specs.Results.{outcome_of_begin, outcome_of_poll, outcome_of_ready, outcome_of_fail, outcome_of_release, outcome_of_evictions};
 ghost use Rattle.concurrent_lru.specs.Runs.{Stands};
+ghost use Rattle.concurrent_lru.specs.Steps.{IsUnready};
 ghost use Rattle.concurrent_lru.specs.ThreadedCalls.{IfHit};
 
 mod done;
@@ -144,6 +147,19 @@ impl<K: Hash + Eq + Clone + Drop, V: Drop, F: Fit<K, V>> Locked<K, V, F> {
                 Ok(Some(Pin::of(stamp, place, key, None, value)))
             }
         }
+    }
+
+    /// The core's `read`. The value that the reader is given fits the key.
+    #[inline(always)]
+    pub fn read<T, G>(&mut self, key: &K, reader: G) -> Result<Option<(u64, T)>, Refusal>
+    where
+        G: FnOnce(&V) -> T + Drop,
+        requires callable { (v : V) → F.fits key.now v → FnOnceTakesAt G.FnOnce reader v }
+        ensures step { Reads K.eq self.old key.now (FnOnceReturnsAt G.FnOnce reader) result self.new }
+        ensures fits { IfOk result (λ found. IfSome found (λ r. (v : V) × F.fits key.now v × FnOnceReturnsAt G.FnOnce reader v r.1)) }
+        ensures refused { IfErr result (λ e. e ≡ Refusal.Overflow) }
+    {
+        self.state.read(key, reader)
     }
 
     // Tells the next look by stamp to begin at a pin's place. The entry may have left it.
@@ -336,6 +352,21 @@ impl<K: Hash + Eq + Clone + Drop, V: Drop, F: Fit<K, V>> Locked<K, V, F> {
         ensures total { result ≡ sum_of self.now }
     {
         self.state.total()
+    }
+
+    /// The number of entries, those still being made included.
+    pub fn len(&self) -> usize
+        ensures { result ≡ count_of self.now }
+    {
+        self.state.len()
+    }
+
+    /// Whether the key has a value: the core's `contains`.
+    pub fn contains(&self, key: &K) -> bool
+        ensures yes { IsTrue result → HasReadyKey K.eq self.now key.now }
+        ensures no { IsFalse result → IsUnready K.eq self.now key.now }
+    {
+        self.state.contains(key)
     }
 
     /// The total that the cache settles to.

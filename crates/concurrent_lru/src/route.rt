@@ -132,6 +132,15 @@ impl<K: Hash + Eq + Clone + Drop, V: Drop, R: Wait, S: BuildHasher, F: Fit<K, V>
         }
         total
     }
+
+    /// The sum of the shards' numbers of entries, read one after another, up to `usize::MAX`.
+    pub fn len(&self) -> usize {
+        let mut len: usize = 0;
+        for shard in &self.shards {
+            len = len.saturating_add(shard.len());
+        }
+        len
+    }
 }
 
 // The shards as a list, each under its lock.

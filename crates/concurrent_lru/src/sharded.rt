@@ -17,6 +17,7 @@ use std::alloc::Global;
 use std::fmt;
 use std::hash::{BuildHasher, Hash, RandomState};
 use std::marker::Model;
+use std::ops::Deref;
 use std::sync::Wait;
 
 /// A cache that threads share, in shards that each have a lock and a share of the capacity. S
@@ -59,6 +60,29 @@ impl<'a, K: Hash + Eq + Clone, V, R: Wait, F: Fit<K, V>> CacheHandle<'a, K, V, R
         ensures fits { F.fits self.now.key result.now }
     {
         self.held.value()
+    }
+}
+
+impl<'a, K: Hash + Eq + Clone, V, R: Wait, F: Fit<K, V>> Deref for CacheHandle<'a, K, V, R, F> {
+    type Target = V;
+
+    ghost deref_gives = { λ h v. v ≡ h.value };
+
+    fn deref(&self) -> &V
+        ensures value { result.now ≡ self.now.value }
+        ensures fits { F.fits self.now.key result.now }
+    {
+        self.value()
+    }
+}
+
+// As the value.
+impl<'a, K: Hash + Eq + Clone, V: fmt::Debug, R: Wait, F: Fit<K, V>> fmt::Debug
+    for CacheHandle<'a, K, V, R, F> {
+    ghost debug_output = { λ h. V.debug_output h.value };
+
+    fn fmt<W: fmt::Write>(&self, f: &mut fmt::Formatter<W>) -> fmt::Result {
+        fmt::Debug::fmt(self.value(), f)
     }
 }
 
@@ -162,27 +186,65 @@ impl<K: Hash + Eq + Clone + Drop, V: Drop, R: Wait, S: BuildHasher, F: Fit<K, V>
     }
 
     /// A handle of the key's value, where it is ready; none where the key has no entry or its
-    /// value is still being made. Waits for no maker.
+    /// value is still being made. Waits for no maker. `find` asks by a reference to the key.
     ///
     /// `Overflow` where the entry has the greatest number of pins; `Memory` where the copy of
     /// the value is refused.
+    #[inline(always)]
     pub fn get(&self, key: K) -> Result<Option<CacheHandle<'_, K, V, R, F>>, Refusal>
         ensures key { IfOk result (λ found. IfSome found (λ h. h.key ≡ key)) }
         ensures charge { IfOk result (λ found. IfSome found (λ h. h.charge ≡ None)) }
         ensures fits { IfOk result (λ found. IfSome found (λ h. F.fits key h.value)) }
         ensures never_stale { IfErr result (λ e. e ≢ Refusal.Stale) }
     {
-        match self.routes.of(&key).get(key)? {
+        self.find(&key)
+    }
+
+    /// `get` by a reference to the key, which is not copied.
+    ///
+    /// `Overflow` and `Memory` as there.
+    #[inline(always)]
+    pub fn find(&self, key: &K) -> Result<Option<CacheHandle<'_, K, V, R, F>>, Refusal>
+        ensures key { IfOk result (λ found. IfSome found (λ h. h.key ≡ key.now)) }
+        ensures charge { IfOk result (λ found. IfSome found (λ h. h.charge ≡ None)) }
+        ensures fits { IfOk result (λ found. IfSome found (λ h. F.fits key.now h.value)) }
+        ensures never_stale { IfErr result (λ e. e ≢ Refusal.Stale) }
+    {
+        match self.routes.of(key).find(key)? {
             Some(held) => Ok(Some(CacheHandle { held })),
             None => Ok(None),
         }
     }
 
+    /// Reads the key's value, where it is ready, and answers what `reader` answers of it. None
+    /// where the key has no entry or its value is still being made; `reader` is then dropped
+    /// uncalled. Waits for no maker. It makes no handle, copies nothing and takes no memory.
+    ///
+    /// It counts as a `get` whose handle is dropped at once: an idle entry becomes the newest idle
+    /// one, and a held one stays as it is. `reader` runs, or is dropped, under the lock, so it
+    /// should be short, and it must not use this cache: such a call would wait for itself.
+    ///
+    /// `Overflow` where the entry has the greatest number of pins, as for `get`.
+    ///
+    /// The original crate has no such call; this one is this project's own.
+    #[inline(always)]
+    pub fn read<T, G>(&self, key: &K, reader: G) -> Result<Option<T>, Refusal>
+    where
+        G: FnOnce(&V) -> T + Drop,
+        requires callable { (v : V) → F.fits key.now v → FnOnceTakesAt G.FnOnce reader v }
+        ensures fits { IfOk result (λ found. IfSome found (λ t. (v : V) × F.fits key.now v × FnOnceReturnsAt G.FnOnce reader v t)) }
+        ensures refused { IfErr result (λ e. e ≡ Refusal.Overflow) }
+    {
+        self.routes.of(key).read(key, reader)
+    }
+
     /// A handle of the key's value, which `init` makes where the key has no entry, or where the
-    /// maker before failed. Waits while another caller makes it.
+    /// maker before failed. Waits while another caller makes it. `get_or_try_init_by` asks by a
+    /// reference to the key.
     ///
     /// All is as in the cache of one lock, within the key's shard: charge, eviction, `init`, and
     /// the errors `Init`, `Overflow` and `Memory`.
+    #[inline(always)]
     pub fn get_or_try_init<E, I>(
         &self,
         key: K,
@@ -199,13 +261,38 @@ impl<K: Hash + Eq + Clone + Drop, V: Drop, R: Wait, S: BuildHasher, F: Fit<K, V>
         ensures fits { IfOk result (λ h. F.fits key h.value) }
         ensures error { IfErr result (λ e. IfInit e (λ x. FnOnceReturnsAt I.FnOnce init key (Err x))) }
     {
-        let held = self.routes.of(&key).get_or_try_init(key, charge, init)?;
+        self.get_or_try_init_by(&key, charge, init)
+    }
+
+    /// `get_or_try_init` by a reference to the key, which is copied only where there is no entry
+    /// and one is made.
+    ///
+    /// `Init`, `Memory` and `Overflow` as there.
+    pub fn get_or_try_init_by<E, I>(
+        &self,
+        key: &K,
+        charge: u64,
+        init: I,
+    ) -> Result<CacheHandle<'_, K, V, R, F>, GetError<E>>
+    where
+        I: FnOnce(&K) -> Result<V, E> + Drop,
+        requires charged { 0 < charge }
+        requires callable { FnOnceTakesAt I.FnOnce init key.now }
+        requires fits { (v : V) → FnOnceReturnsAt I.FnOnce init key.now (Ok v) → F.fits key.now v }
+        ensures key { IfOk result (λ h. h.key ≡ key.now) }
+        ensures charge { IfOk result (λ h. h.charge ≡ Some charge) }
+        ensures fits { IfOk result (λ h. F.fits key.now h.value) }
+        ensures error { IfErr result (λ e. IfInit e (λ x. FnOnceReturnsAt I.FnOnce init key.now (Err x))) }
+    {
+        let held = self.routes.of(key).get_or_try_init_by(key, charge, init)?;
         Ok(CacheHandle { held })
     }
 
-    /// `get_or_try_init` with an `init` that always gives a value.
+    /// `get_or_try_init` with an `init` that always gives a value. `get_or_init_by` asks by a
+    /// reference to the key.
     ///
     /// `Memory` and `Overflow` as there.
+    #[inline(always)]
     pub fn get_or_init<I>(
         &self,
         key: K,
@@ -222,14 +309,41 @@ impl<K: Hash + Eq + Clone + Drop, V: Drop, R: Wait, S: BuildHasher, F: Fit<K, V>
         ensures fits { IfOk result (λ h. F.fits key h.value) }
         ensures never_stale { IfErr result (λ e. e ≢ Refusal.Stale) }
     {
-        let held = self.routes.of(&key).get_or_init(key, charge, init)?;
+        self.get_or_init_by(&key, charge, init)
+    }
+
+    /// `get_or_try_init_by` with an `init` that always gives a value.
+    ///
+    /// `Memory` and `Overflow` as there.
+    pub fn get_or_init_by<I>(
+        &self,
+        key: &K,
+        charge: u64,
+        init: I,
+    ) -> Result<CacheHandle<'_, K, V, R, F>, Refusal>
+    where
+        I: FnOnce(&K) -> V + Drop,
+        requires charged { 0 < charge }
+        requires callable { FnOnceTakesAt I.FnOnce init key.now }
+        requires fits { (v : V) → FnOnceReturnsAt I.FnOnce init key.now v → F.fits key.now v }
+        ensures key { IfOk result (λ h. h.key ≡ key.now) }
+        ensures charge { IfOk result (λ h. h.charge ≡ Some charge) }
+        ensures fits { IfOk result (λ h. F.fits key.now h.value) }
+        ensures never_stale { IfErr result (λ e. e ≢ Refusal.Stale) }
+    {
+        let held = self.routes.of(key).get_or_init_by(key, charge, init)?;
         Ok(CacheHandle { held })
     }
 
     /// Evicts the entry of a key, where it is idle; else nothing happens, now or later. Takes no
-    /// memory.
+    /// memory. `advise` asks by a reference to the key.
     pub fn advice_evict(&self, key: K) {
-        let _: Advised<K> = self.routes.of(&key).advised(&key);
+        self.advise(&key);
+    }
+
+    /// `advice_evict` by a reference to the key.
+    pub fn advise(&self, key: &K) {
+        let _: Advised<K> = self.routes.of(key).advised(key);
     }
 
     /// Evicts every idle entry of each shard, one shard after another, and is no snapshot. Takes
@@ -256,6 +370,23 @@ impl<K: Hash + Eq + Clone + Drop, V: Drop, R: Wait, S: BuildHasher, F: Fit<K, V>
     /// no memory.
     pub fn total_charge(&self) -> u128 {
         self.routes.total_charge()
+    }
+
+    /// The sum of the shards' numbers of entries, which are read one after another and are no
+    /// snapshot: what the cache holds at no one moment need be that many. Takes no memory.
+    pub fn len(&self) -> usize {
+        self.routes.len()
+    }
+
+    /// Whether `len` is 0: no shard had an entry as its lock was got. Takes no memory.
+    pub fn is_empty(&self) -> bool {
+        self.len() == 0
+    }
+
+    /// Whether the key has a value, as in the cache of one lock, within the key's shard. Takes no
+    /// memory.
+    pub fn contains(&self, key: &K) -> bool {
+        self.routes.of(key).contains(key)
     }
 }
 

@@ -1,20 +1,23 @@
 //! Caches side by side for one owner, each for the keys that are routed to it.
 //! A step changes the one shard that its key has, or that it names, and no other.
-ghost use Rattle.std.specs.Prelude.{◌≡◌, ◌+◌, ◌-◌, ◌/◌, ◌%◌, ◌<◌, length, replicate, map, IfOk, IfErr, IfSome, OnErr};
+ghost use Rattle.std.specs.Prelude.{◌≡◌, ◌+◌, ◌-◌, ◌/◌, ◌%◌, ◌<◌, ◌^◌, ◌↔◌, length, replicate, map, sum_by, IfOk, IfErr, IfSome, IsTrue, IsFalse, OnErr};
 ghost use Rattle.std.specs.Arc.{arc_value};
+ghost use Rattle.std.specs.Fn.{FnOnceReturnsAt, FnOnceTakesAt};
 ghost use Rattle.std.specs.List.{AllByRecursion, AllZip};
-ghost use Rattle.concurrent_lru.specs.Cache.{empty_cache, most_pins_by_default};
+ghost use Rattle.concurrent_lru.specs.Cache.{count_of, empty_cache, most_pins_by_default};
 ghost use Rattle.concurrent_lru.specs.Keys.{CopiesAreEqual};
 ghost use Rattle.concurrent_lru.specs.Parts.{EachTakes, StandsAt, RunsApart};
+ghost use Rattle.concurrent_lru.specs.Reads.{FindsAt, ReadsAt};
 ghost use Rattle.concurrent_lru.specs.Request as ask;
 ghost use Rattle.concurrent_lru.specs.Results.{IsCharged, outcome_of_evictions, outcome_of_fail, outcome_of, outcome_of_poll, outcome_of_ready, outcome_of_release, request_of};
 ghost use Rattle.concurrent_lru.specs.Runs.{refused};
 ghost use Rattle.concurrent_lru.specs.declared.list.Refusal.TheVariants.{Stale};
-ghost use Rattle.concurrent_lru.specs.Sharded.{AreLawful, key_number, key_shard};
+ghost use Rattle.concurrent_lru.specs.Sharded.{AreLawful, HasReadyKeyAt, IsUnreadyAt, key_number, key_shard};
 ghost use Rattle.concurrent_lru.specs.ShardSteps.{request_at_shard, outcome_of_shard_begin, outcome_of_shard_get, outcome_of_shard_evictions, shard_of_step, step_at_shard, outcome_at_shard, outcome_of_shard_total, IsShardAnswerTo, TellsNoShard};
 
 use crate::lru_core::{Answer, Begun, Evicted, Failed, Refusal, State, Step};
 use std::alloc::Global;
+use std::fmt;
 use std::hash::{BuildHasher, Hash};
 use std::marker::Model;
 use std::sync::Arc;
@@ -171,6 +174,21 @@ impl<K: Hash + Eq + Clone, V: Drop, S: BuildHasher + Drop> Shards<K, V, S> {
         Ok(found.map(|(stamp, value)| (shard, stamp, value)))
     }
 
+    /// `read` at the key's shard: the stamp that the entry has there, and what the reader answers
+    /// of the value. Takes no memory.
+    ///
+    /// `Overflow` as in one cache.
+    pub fn read<T, G>(&mut self, key: &K, reader: G) -> Result<Option<(u64, T)>, Refusal>
+    where
+        G: FnOnce(&V) -> T + Drop,
+        requires callable { (v : V) → FindsAt K.eq self.old (key_shard S.BuildHasher S.Hasher.Hasher K.hash_input self.old key.now) key.now v → FnOnceTakesAt G.FnOnce reader v }
+        ensures step { ReadsAt K.eq self.old (key_shard S.BuildHasher S.Hasher.Hasher K.hash_input self.old key.now) key.now (FnOnceReturnsAt G.FnOnce reader) result self.new }
+        ensures lawful { AreLawful K.eq self.new }
+    {
+        let shard = self.route(key);
+        self.shards[shard].read(key, reader)
+    }
+
     /// `advice_evict` at the key's shard. Takes no memory.
     pub fn advice_evict(&mut self, key: &K) -> Evicted<K, V>
         ensures step { StandsAt K.eq self.old (key_shard S.BuildHasher S.Hasher.Hasher K.hash_input self.old key.now) (ask.advice_evict key.now) (outcome_of_evictions result) self.new }
@@ -288,6 +306,34 @@ impl<K: Hash + Eq + Clone, V: Drop, S: BuildHasher + Drop> Shards<K, V, S> {
         Ok(cache.total())
     }
 
+    /// The number of entries of all shards, those still being made included. Exact, but for a sum
+    /// above `usize::MAX`, which is answered as that. Takes no memory.
+    pub fn len(&self) -> usize
+        ensures { sum_by count_of self.now.caches < 2 ^ 64 → result ≡ sum_by count_of self.now.caches }
+    {
+        let mut len: usize = 0;
+        for shard in &self.shards {
+            len = len.saturating_add(shard.len());
+        }
+        len
+    }
+
+    /// Whether no shard has an entry. Takes no memory.
+    pub fn is_empty(&self) -> bool
+        ensures { sum_by count_of self.now.caches < 2 ^ 64 → (IsTrue result ↔ (sum_by count_of self.now.caches ≡ 0)) }
+    {
+        self.len() == 0
+    }
+
+    /// Whether the key has a value, at the key's shard: `contains` of one cache.
+    pub fn contains(&self, key: &K) -> bool
+        ensures yes { IsTrue result → HasReadyKeyAt K.eq self.now (key_shard S.BuildHasher S.Hasher.Hasher K.hash_input self.now key.now) key.now }
+        ensures no { IsFalse result → IsUnreadyAt K.eq self.now (key_shard S.BuildHasher S.Hasher.Hasher K.hash_input self.now key.now) key.now }
+    {
+        let shard = self.route(key);
+        self.shards[shard].contains(key)
+    }
+
     // The shard of a step, and the step that it takes.
     fn address(&self, step: ShardStep<K, V>) -> (usize, Step<K, V>)
         ensures shard { result.0 ≡ shard_of_step (key_shard S.BuildHasher S.Hasher.Hasher K.hash_input self.now) step }
@@ -346,6 +392,13 @@ impl<K: Hash + Eq + Clone, V: Drop, S: BuildHasher + Drop> Shards<K, V, S> {
             let _kept = answers.push(answer);
         }
         Ok(answers)
+    }
+}
+
+// The shards as a list.
+impl<K: Hash + Eq + Clone + fmt::Debug, V: Drop + fmt::Debug, S> fmt::Debug for Shards<K, V, S> {
+    fn fmt<W: fmt::Write>(&self, f: &mut fmt::Formatter<W>) -> fmt::Result {
+        f.debug_list().entries(self.shards.iter()).finish()
     }
 }
 

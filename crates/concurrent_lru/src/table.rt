@@ -4,12 +4,13 @@ ghost use Rattle.std.specs.Prelude.{◌≡◌, ◌≢◌, ℕ, ◌+◌, ◌<◌,
 ghost use Rattle.std.specs.Arc.{arc_value};
 ghost use Rattle.std.specs.HashMap as hash;
 ghost use Rattle.std.specs.HashMap.{spare};
-ghost use Rattle.concurrent_lru.specs.Cache.{idle_at, IsFront};
+ghost use Rattle.concurrent_lru.specs.Cache.{count_of, idle_at, IsFront};
 ghost use Rattle.std.specs.FinMap as map;
 ghost use Rattle.concurrent_lru.specs.Keys.{CopiesAreEqual};
 ghost use Rattle.concurrent_lru.specs.NodeTable.{Entry, entry_of, chain_of, phase_of, value_of, ContainsNode, LacksIdle};
 ghost use Rattle.concurrent_lru.specs.Representation.{as_idle, held_entry, GetsEntry};
 ghost use Rattle.concurrent_lru.specs.Entries.{cache_of, charges_of, ContainsEntry, ContainsNoStamp, ContainsNoKey, IsPlaceOfKey, ContainsPlace, ContainsIdleAt, ContainsHeldAt, GetsAt, LacksMakingAt, IsReadyAt, ReadiesAt, Rewrites, RevivesAt, RestsAt, pins_at, value_at, held_with_pins, new_held};
+ghost use Rattle.concurrent_lru.specs.Reads.{RenewsAt};
 ghost use Rattle.concurrent_lru.specs.Stamps.{keeps_map, mapped_place, HasRoomFor};
 ghost use Rattle.concurrent_lru.specs.Steps.{without, held_in_phase};
 
@@ -104,6 +105,13 @@ impl<K: Hash + Eq + Clone, V: Drop> Table<K, V> {
     {
         let more = entries.saturating_sub(self.by_key.len());
         make_room(&mut self.nodes, &mut self.by_key, &mut self.by_stamp, more)
+    }
+
+    /// The number of entries.
+    pub fn len(&self) -> usize
+        ensures { result ≡ count_of (cache_of self.now) }
+    {
+        self.nodes.len()
     }
 
     /// The sum of the charges of all entries.
@@ -259,6 +267,15 @@ impl<K: Hash + Eq + Clone, V: Drop> Table<K, V> {
     {
         self.nodes.set_pins(place, 0);
         self.nodes.append(place);
+    }
+
+    /// Makes an idle entry the newest idle one, as a pin and the release of it do. Takes no memory.
+    pub fn renew(&mut self, place: Place)
+        requires { ContainsIdleAt self.old place }
+        ensures entry { RenewsAt self.old place self.new }
+        ensures value { value_at self.new place ≡ value_at self.old place }
+    {
+        self.nodes.renew(place);
     }
 
     /// Takes a held entry away. Takes no memory.

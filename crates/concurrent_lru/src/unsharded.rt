@@ -1,5 +1,6 @@
 //! One cache behind one lock, for any number of threads.
-//! Makers and the drops of values run without the lock; callers of a value in the making wait.
+//! Makers and the drops of values run without the lock, readers under it; callers of a value in the
+//! making wait.
 ghost use Rattle.std.specs.Prelude.{◌≡◌, ◌≢◌, ◌<◌, Some, None, Ok, Err, IfOk, IfErr, IfSome};
 ghost use Rattle.std.specs.Fn.{FnOnceReturnsAt, FnOnceTakesAt};
 ghost use Rattle.concurrent_lru.specs.Doors.{IsAwake};
@@ -11,8 +12,9 @@ use crate::door::{Asleep, Door, Maker, Met};
 pub use crate::fit::{Anything, Fit};
 pub use crate::get_error::GetError;
 pub use crate::handle::CacheHandle;
-use crate::locked::{Advised, Pruned, Reserved, Resized};
+use crate::locked::{Advised, Pin, Pruned, Reserved, Resized};
 pub use crate::lru_core::Refusal;
+pub use crate::owned::OwnedHandle;
 use std::alloc::Global;
 use std::fmt;
 use std::hash::Hash;
@@ -65,25 +67,63 @@ impl<K: Hash + Eq + Clone + Drop, V: Drop, R: Wait, F: Fit<K, V>> LruCache<K, V,
     }
 
     /// A handle of the key's value, where it is ready; none where the key has no entry or its
-    /// value is still being made. Waits for no maker.
+    /// value is still being made. Waits for no maker. `find` asks by a reference to the key.
     ///
     /// `Overflow` where the entry has the greatest number of pins; `Memory` where the copy of
     /// the value is refused.
+    #[inline(always)]
     pub fn get(&self, key: K) -> Result<Option<CacheHandle<'_, K, V, R, F>>, Refusal>
         ensures key { IfOk result (λ found. IfSome found (λ h. h.key ≡ key)) }
         ensures charge { IfOk result (λ found. IfSome found (λ h. h.charge ≡ None)) }
         ensures fits { IfOk result (λ found. IfSome found (λ h. F.fits key h.value)) }
         ensures never_stale { IfErr result (λ e. e ≢ Refusal.Stale) }
     {
-        self.door.enter().get(&key)
+        self.find(&key)
+    }
+
+    /// `get` by a reference to the key, which is not copied.
+    ///
+    /// `Overflow` and `Memory` as there.
+    #[inline(always)]
+    pub fn find(&self, key: &K) -> Result<Option<CacheHandle<'_, K, V, R, F>>, Refusal>
+        ensures key { IfOk result (λ found. IfSome found (λ h. h.key ≡ key.now)) }
+        ensures charge { IfOk result (λ found. IfSome found (λ h. h.charge ≡ None)) }
+        ensures fits { IfOk result (λ found. IfSome found (λ h. F.fits key.now h.value)) }
+        ensures never_stale { IfErr result (λ e. e ≢ Refusal.Stale) }
+    {
+        self.door.enter().get(key)
+    }
+
+    /// Reads the key's value, where it is ready, and answers what `reader` answers of it. None
+    /// where the key has no entry or its value is still being made; `reader` is then dropped
+    /// uncalled. Waits for no maker. It makes no handle, copies nothing and takes no memory.
+    ///
+    /// It counts as a `get` whose handle is dropped at once: an idle entry becomes the newest idle
+    /// one, and a held one stays as it is. `reader` runs, or is dropped, under the lock, so it
+    /// should be short, and it must not use this cache: such a call would wait for itself.
+    ///
+    /// `Overflow` where the entry has the greatest number of pins, as for `get`.
+    ///
+    /// The original crate has no such call; this one is this project's own.
+    #[inline(always)]
+    pub fn read<T, G>(&self, key: &K, reader: G) -> Result<Option<T>, Refusal>
+    where
+        G: FnOnce(&V) -> T + Drop,
+        requires callable { (v : V) → F.fits key.now v → FnOnceTakesAt G.FnOnce reader v }
+        ensures fits { IfOk result (λ found. IfSome found (λ t. (v : V) × F.fits key.now v × FnOnceReturnsAt G.FnOnce reader v t)) }
+        ensures refused { IfErr result (λ e. e ≡ Refusal.Overflow) }
+    {
+        self.door.enter().read(key, reader)
     }
 
     /// A handle of the key's value, which `init` makes where the key has no entry, or where the
-    /// maker before failed. Waits while another caller makes it.
+    /// maker before failed. Waits while another caller makes it. `get_or_try_init_by` asks by a
+    /// reference to the key.
     ///
     /// The charge is counted, and others are evicted for it, before `init` runs. A present entry
     /// keeps its own charge and its value, and `init` is then dropped uncalled. `init` runs
-    /// without the lock; it may use this cache, but for the key that it makes.
+    /// without the lock, and it may use this cache, except for the key that it makes: such a call
+    /// would wait for itself.
     ///
     /// `Init` where `init` answered that error, and `Memory` where the value's shared copies are
     /// refused after it: then the entry is gone, or left to a caller that waits for it, and what
@@ -91,6 +131,7 @@ impl<K: Hash + Eq + Clone + Drop, V: Drop, R: Wait, F: Fit<K, V>> LruCache<K, V,
     /// `u64::MAX`, where the stamps are at their end, or where the entry has the greatest number
     /// of pins; `Memory` where a new entry or the copy of the value is refused: then nothing
     /// changed.
+    #[inline(always)]
     pub fn get_or_try_init<E, I>(
         &self,
         key: K,
@@ -107,15 +148,38 @@ impl<K: Hash + Eq + Clone + Drop, V: Drop, R: Wait, F: Fit<K, V>> LruCache<K, V,
         ensures fits { IfOk result (λ h. F.fits key h.value) }
         ensures error { IfErr result (λ e. IfInit e (λ x. FnOnceReturnsAt I.FnOnce init key (Err x))) }
     {
-        match self.start(&key, charge) {
+        self.get_or_try_init_by(&key, charge, init)
+    }
+
+    /// `get_or_try_init` by a reference to the key, which is copied only where there is no entry
+    /// and one is made.
+    ///
+    /// `Init`, `Memory` and `Overflow` as there.
+    pub fn get_or_try_init_by<E, I>(
+        &self,
+        key: &K,
+        charge: u64,
+        init: I,
+    ) -> Result<CacheHandle<'_, K, V, R, F>, GetError<E>>
+    where
+        I: FnOnce(&K) -> Result<V, E> + Drop,
+        requires charged { 0 < charge }
+        requires callable { FnOnceTakesAt I.FnOnce init key.now }
+        requires fits { (v : V) → FnOnceReturnsAt I.FnOnce init key.now (Ok v) → F.fits key.now v }
+        ensures key { IfOk result (λ h. h.key ≡ key.now) }
+        ensures charge { IfOk result (λ h. h.charge ≡ Some charge) }
+        ensures fits { IfOk result (λ h. F.fits key.now h.value) }
+        ensures error { IfErr result (λ e. IfInit e (λ x. FnOnceReturnsAt I.FnOnce init key.now (Err x))) }
+    {
+        match self.start(key, charge) {
             Err(refusal) => Err(GetError::of_refusal(refusal)),
             Ok(Turn::Ready(handle)) => Ok(handle),
-            Ok(Turn::Make(maker)) => match init(&key) {
+            Ok(Turn::Make(maker)) => match init(key) {
                 Err(error) => {
-                    maker.fail(&key);
+                    maker.fail(key);
                     Err(GetError::Init(error))
                 }
-                Ok(value) => match self.finish(maker, &key, value) {
+                Ok(value) => match self.finish(maker, key, value) {
                     Ok(handle) => Ok(handle),
                     Err(refusal) => Err(GetError::of_refusal(refusal)),
                 },
@@ -123,9 +187,11 @@ impl<K: Hash + Eq + Clone + Drop, V: Drop, R: Wait, F: Fit<K, V>> LruCache<K, V,
         }
     }
 
-    /// `get_or_try_init` with an `init` that always gives a value.
+    /// `get_or_try_init` with an `init` that always gives a value. `get_or_init_by` asks by a
+    /// reference to the key.
     ///
     /// `Memory` and `Overflow` as there.
+    #[inline(always)]
     pub fn get_or_init<I>(
         &self,
         key: K,
@@ -142,19 +208,46 @@ impl<K: Hash + Eq + Clone + Drop, V: Drop, R: Wait, F: Fit<K, V>> LruCache<K, V,
         ensures fits { IfOk result (λ h. F.fits key h.value) }
         ensures never_stale { IfErr result (λ e. e ≢ Refusal.Stale) }
     {
-        match self.start(&key, charge)? {
+        self.get_or_init_by(&key, charge, init)
+    }
+
+    /// `get_or_try_init_by` with an `init` that always gives a value.
+    ///
+    /// `Memory` and `Overflow` as there.
+    pub fn get_or_init_by<I>(
+        &self,
+        key: &K,
+        charge: u64,
+        init: I,
+    ) -> Result<CacheHandle<'_, K, V, R, F>, Refusal>
+    where
+        I: FnOnce(&K) -> V + Drop,
+        requires charged { 0 < charge }
+        requires callable { FnOnceTakesAt I.FnOnce init key.now }
+        requires fits { (v : V) → FnOnceReturnsAt I.FnOnce init key.now v → F.fits key.now v }
+        ensures key { IfOk result (λ h. h.key ≡ key.now) }
+        ensures charge { IfOk result (λ h. h.charge ≡ Some charge) }
+        ensures fits { IfOk result (λ h. F.fits key.now h.value) }
+        ensures never_stale { IfErr result (λ e. e ≢ Refusal.Stale) }
+    {
+        match self.start(key, charge)? {
             Turn::Ready(handle) => Ok(handle),
             Turn::Make(maker) => {
-                let value = init(&key);
-                self.finish(maker, &key, value)
+                let value = init(key);
+                self.finish(maker, key, value)
             }
         }
     }
 
     /// Evicts the entry of a key, where it is idle; else nothing happens, now or later. Takes no
-    /// memory.
+    /// memory. `advise` asks by a reference to the key.
     pub fn advice_evict(&self, key: K) {
-        let _: Advised<K> = self.advised(&key);
+        self.advise(&key);
+    }
+
+    /// `advice_evict` by a reference to the key.
+    pub fn advise(&self, key: &K) {
+        let _: Advised<K> = self.advised(key);
     }
 
     /// Evicts every idle entry, oldest first. Takes no memory.
@@ -176,6 +269,24 @@ impl<K: Hash + Eq + Clone + Drop, V: Drop, R: Wait, F: Fit<K, V>> LruCache<K, V,
     /// The sum of the charges of all entries, those still being made included. Takes no memory.
     pub fn total_charge(&self) -> u64 {
         self.door.enter().total()
+    }
+
+    /// The number of entries, idle or held, those still being made included. No entry is visited.
+    /// Takes no memory.
+    pub fn len(&self) -> usize {
+        self.door.enter().len()
+    }
+
+    /// Whether there is no entry. Takes no memory.
+    pub fn is_empty(&self) -> bool {
+        self.len() == 0
+    }
+
+    /// Whether the key has a value, as `get` asks for it: an entry that is still being made does
+    /// not count. Pins nothing, so the value may be evicted before the next call. Is no use of the
+    /// entry, which keeps its place in the order of eviction. Takes no memory.
+    pub fn contains(&self, key: &K) -> bool {
+        self.door.enter().contains(key)
     }
 
     // The calls above, each with what was asked under the lock.
@@ -200,6 +311,11 @@ impl<K: Hash + Eq + Clone + Drop, V: Drop, R: Wait, F: Fit<K, V>> LruCache<K, V,
         ensures { result ≡ capacity }
     {
         self.door.enter().set_capacity(capacity)
+    }
+
+    // How a handle that keeps the cache alive gives its pin back.
+    pub(crate) fn release(&self, pin: Pin<K, V, F>) {
+        self.door.enter().release(pin);
     }
 
     // Begins, and waits while another caller makes the value.

@@ -2,11 +2,14 @@
 
 use crate::failure::Failure;
 use crate::keys::Keys;
+use crate::mostly::{Asked, ByInit, ByRead, HitRatio, ask_all, read_mostly};
 use crate::parts::{Parts, PartsInShards};
-use crate::plan::Plan;
+use crate::plan::{Mostly, Plan, Shown};
 use crate::report::{Report, Work};
 use crate::stress::{KEYS, stress};
-use crate::uses::{fill, hit_get, hit_init, hit_parts, look_up, map_of, miss_evict, miss_parts};
+use crate::uses::{
+    fill, hit_get, hit_init, hit_parts, hit_read, look_up, map_of, miss_evict, miss_parts,
+};
 use concurrent_lru::{sharded, unsharded};
 use std::alloc::Global;
 use std::hash::RandomState;
@@ -20,6 +23,10 @@ use std::thread::Threads;
 const ON_ONE_LOCK: &str = "port-unsharded";
 
 const IN_SHARDS: &str = "port-sharded";
+
+const READ_ON_ONE_LOCK: &str = "port-unsharded-read";
+
+const READ_IN_SHARDS: &str = "port-sharded-read";
 
 const IN_A_MAP: &str = "std-map";
 
@@ -69,7 +76,8 @@ fn use_map<R: Clock, O: Write>(
     report.end(&work, begin, sum)
 }
 
-// The parts of the cache, as a `get` of a present key and a `get_or_init` of an absent one need them.
+// The parts of the cache, as a `get` of a present key and a `get_or_init` of an absent one need
+// them.
 fn use_parts<R: Wait + Clock, O: Write>(
     rt: &R,
     alloc: Global,
@@ -107,6 +115,9 @@ fn use_alone<R: Wait + Clock, O: Write>(
     let begin = report.start()?;
     let sum = hit_get(&cache, &mut keys, operations)?;
     report.end(&work("hit_get"), begin, sum)?;
+    let begin = report.start()?;
+    let sum = hit_read(&cache, &mut keys, operations)?;
+    report.end(&work("hit_read"), begin, sum)?;
     let begin = report.start()?;
     let sum = hit_init(&cache, &mut keys, operations)?;
     report.end(&work("hit_init"), begin, sum)?;
@@ -177,4 +188,112 @@ fn stress_shards<
     let sum = stress(rt, &&cache, threads, calls)?;
     let work = Work::new(IN_SHARDS, "stress", SHARDS_CAPACITY, threads, calls);
     report.end(&work, begin, sum)
+}
+
+/// Runs the workload of reads that mostly hit, and writes a line for each cache, each way to ask it
+/// and each number of threads. What was written before a failure stays written. Where the times are
+/// shown, each hit ratio goes to `err`.
+pub fn run_mostly<R: Threads + Wait + Clock + RandomSource + Sync, O: Write, E: Write>(
+    rt: &R,
+    alloc: Global,
+    mostly: &Mostly,
+    out: &mut O,
+    err: &mut E,
+) -> Result<(), Failure> {
+    let mut report = Report::new(rt, out, mostly.shown);
+    for threads in [1, 2, 4, 8] {
+        mostly_on_one_lock(rt, rt, alloc, mostly, threads, &mut report, err)?;
+        mostly_in_shards(rt, rt, alloc, mostly, threads, &mut report, err)?;
+    }
+    Ok(())
+}
+
+fn mostly_on_one_lock<
+    R: Threads + Wait + Clock + Sync,
+    W: Wait + Clone + Drop + Sync,
+    O: Write,
+    E: Write,
+>(
+    rt: &R,
+    wait: W,
+    alloc: Global,
+    mostly: &Mostly,
+    threads: u32,
+    report: &mut Report<'_, R, O>,
+    err: &mut E,
+) -> Result<(), Failure> {
+    let cache: unsharded::LruCache<u64, u64, W> = unsharded::LruCache::new(
+        alloc,
+        wait.clone()?,
+        mostly.capacity,
+    );
+    let asked = ByInit { cache: &cache };
+    ask_mostly(rt, &asked, ON_ONE_LOCK, mostly, threads, report, err)?;
+    let cache: unsharded::LruCache<u64, u64, W> = unsharded::LruCache::new(
+        alloc,
+        wait,
+        mostly.capacity,
+    );
+    let asked = ByRead { cache: &cache };
+    ask_mostly(rt, &asked, READ_ON_ONE_LOCK, mostly, threads, report, err)
+}
+
+fn mostly_in_shards<
+    R: Threads + Wait + Clock + RandomSource + Sync,
+    W: Wait + Clone + Drop + Sync,
+    O: Write,
+    E: Write,
+>(
+    rt: &R,
+    wait: W,
+    alloc: Global,
+    mostly: &Mostly,
+    threads: u32,
+    report: &mut Report<'_, R, O>,
+    err: &mut E,
+) -> Result<(), Failure> {
+    let cache: sharded::LruCache<u64, u64, W> = sharded::LruCache::new(
+        alloc,
+        wait.clone()?,
+        mostly.capacity,
+        RandomState::new(rt)?,
+    )?;
+    let asked = ByInit { cache: &cache };
+    ask_mostly(rt, &asked, IN_SHARDS, mostly, threads, report, err)?;
+    let cache: sharded::LruCache<u64, u64, W> = sharded::LruCache::new(
+        alloc,
+        wait,
+        mostly.capacity,
+        RandomState::new(rt)?,
+    )?;
+    let asked = ByRead { cache: &cache };
+    ask_mostly(rt, &asked, READ_IN_SHARDS, mostly, threads, report, err)
+}
+
+// The workload on an empty cache, which is filled before the time begins.
+fn ask_mostly<R: Threads + Wait + Clock + Sync, A: Asked + Sync, O: Write, E: Write>(
+    rt: &R,
+    asked: &A,
+    system: &'static str,
+    mostly: &Mostly,
+    threads: u32,
+    report: &mut Report<'_, R, O>,
+    err: &mut E,
+) -> Result<(), Failure> {
+    let work = Work::new(
+        system,
+        "read_mostly",
+        mostly.capacity,
+        threads,
+        mostly.operations,
+    );
+    ask_all(asked, &mostly.draws)?;
+    let begin = report.start()?;
+    let told = read_mostly(rt, asked, &mostly.draws, threads, mostly.operations)?;
+    report.end(&work, begin, told.sum)?;
+    if mostly.shown == Shown::Time {
+        let operations = u64::from(threads).saturating_mul(u64::from(mostly.operations));
+        writeln!(err, "# hits {work} {}", HitRatio::of(told.hits, operations))?;
+    }
+    Ok(())
 }

@@ -1,6 +1,7 @@
 //! Why the program ends early.
 //! Each failure has its line on standard error, and its status.
 
+use crate::plan::MOST_ENTRIES;
 use concurrent_lru::lru_core::Refusal;
 use std::alloc::{AllocError, AllocFailed};
 use std::io;
@@ -11,9 +12,13 @@ use std::io::{ErrorKind, Write};
 pub enum Failure {
     /// The words are none that the program knows.
     Usage,
+    /// A word that should be a number of entries is none, or one that is out of bounds.
+    Entries,
     /// A call of the cache was refused; a growth of the program's own counts as one too.
     Refused(Refusal),
-    /// A write failed, or the clock or the system's random numbers did.
+    /// The file of keys has none, or its last is cut off.
+    Keys,
+    /// A file could not be read, a write failed, or the clock or the system's random numbers did.
     System,
 }
 
@@ -27,16 +32,26 @@ impl Failure {
         }
     }
 
-    /// Tells the failure on `err`, in one line, and answers the status to end with: 2 for the
+    /// Writes the failure to `err`, in one line, and answers the status to end with: 2 for the
     /// wrong words, else 1.
     pub fn report<E: Write>(self, err: &mut E) -> u8 {
         let told = match self {
-            Failure::Usage => writeln!(err, "usage: check | time [ENTRIES ..]"),
+            Failure::Usage => writeln!(
+                err,
+                "usage: lru_bench check | time [ENTRIES ..] | mostly FILE, ENTRIES from 1 to {MOST_ENTRIES}"
+            ),
+            Failure::Entries => writeln!(
+                err,
+                "lru_bench: ENTRIES is a number from 1 to {MOST_ENTRIES}"
+            ),
             Failure::Refused(refusal) => writeln!(err, "refused {}", refusal.code()),
-            Failure::System => writeln!(err, "a write, the clock or random numbers failed"),
+            Failure::Keys => writeln!(err, "the file has no keys of four bytes"),
+            Failure::System => {
+                writeln!(err, "a file, a write, the clock or random numbers failed")
+            }
         };
         match (self, told) {
-            (Failure::Usage, Ok(())) => 2,
+            (Failure::Usage | Failure::Entries, Ok(())) => 2,
             _ => 1,
         }
     }

@@ -40,9 +40,9 @@ pub const FIRST_ABSENT: u64 = 10_000_000;
 // A prime, so that its multiples meet each place once before they come back to 0.
 const STRIDE: u64 = 618_970_019;
 
-/// The keys that leave for absent ones, which come in their order: first those from 0 up to the number of entries, and
-/// then, round after round, those that came in the round before. In a round each leaves once, in an order that looks
-/// random.
+/// The keys that leave for absent ones, which come in their order: first those from 0 up to the
+/// number of entries, and then, round after round, those that came in the round before. In a round
+/// each leaves once, in an order that looks random.
 #[derive(Drop)]
 pub struct Leaving {
     entries: u64,

@@ -1,10 +1,12 @@
-//! A benchmark of the cache: it times four workloads on one lock and on shards, or prints what
+//! A benchmark of the cache: it times its workloads on one lock and on shards, or prints what
 //! they read. All but the words and the two streams of the system stands in `program`.
 #![tactic(auto)]
 
 mod bench;
+mod draws;
 mod failure;
 mod keys;
+mod mostly;
 mod parts;
 mod plan;
 mod program;

@@ -1,5 +1,5 @@
-//! The parts that the cache is made of, with no rule of a cache: a lock, a map from keys to places, a slab of boxed values.
-//! What these take alone is what no body of the cache does without.
+//! The parts that the cache is made of, with no rule of a cache: a lock, a map from keys to places,
+//! a slab of boxed values. What these take alone is what no body of the cache does without.
 
 use crate::shared::Shared;
 use concurrent_lru::lru_core::Refusal;
@@ -115,8 +115,8 @@ impl<R: Wait + Drop> Parts<R> {
         }
     }
 
-    /// The value of a key: the lock for a look and a copy of the value's Arc, and the lock again, as the
-    /// drop of a handle gets it.
+    /// The value of a key: takes the lock to look it up and to copy its Arc, and again, as the drop
+    /// of a handle does.
     #[inline(always)]
     pub fn hit(&self, key: u64) -> Result<Option<u64>, Refusal> {
         let Some((place, value)) = self.enter().copy(key)? else {
@@ -126,7 +126,8 @@ impl<R: Wait + Drop> Parts<R> {
         Ok(self.enter().has(place, key).then_some(read))
     }
 
-    /// Makes a value for a key, for which another key goes: the lock for that, for the value, and as the drop of a handle gets it.
+    /// Makes a value for a key, and removes another key for it: takes the lock for that, to store
+    /// the value, and again, as the drop of a handle does.
     pub fn miss(&self, old: u64, key: u64) -> Result<u64, Refusal> {
         let (place, _gone) = self.change(old, key)?;
         let value = Arc::new(self.alloc, key)?;

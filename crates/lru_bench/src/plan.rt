@@ -1,8 +1,14 @@
 //! How much of each workload is run, and what is shown of it.
 
+use crate::draws::Draws;
 use crate::failure::Failure;
+use crate::keys::FIRST_ABSENT;
 use std::alloc::{AllocError, Global};
 use std::num::NonZeroU64;
+
+/// The most entries that `time` fills a cache with: with more, keys that should be absent would be
+/// there.
+pub const MOST_ENTRIES: u64 = FIRST_ABSENT;
 
 /// What a line ends with.
 #[derive(Clone, Copy, Debug, PartialEq, Eq)]
@@ -40,7 +46,7 @@ impl Plan {
     /// Workloads that are long enough to be timed, on caches of so many entries, or of 1,000 and
     /// of 1,000,000 where no word says how many.
     ///
-    /// `Usage` at a word that is no number above 0.
+    /// `Entries` at a word that is not the digits of a number from 1 to `MOST_ENTRIES`.
     pub fn time(alloc: Global, words: &[String]) -> Result<Plan, Failure> {
         let mut entries = parsed(alloc, words)?;
         if words.is_empty() {
@@ -52,6 +58,42 @@ impl Plan {
             calls: 500_000,
             shown: Shown::Time,
         })
+    }
+}
+
+/// The sizes of the workload of reads that mostly hit.
+#[derive(Drop)]
+pub struct Mostly {
+    /// The keys that are asked for.
+    pub draws: Draws,
+    /// The capacity of each cache.
+    pub capacity: u64,
+    /// How many operations a worker makes.
+    pub operations: u32,
+    /// What is shown.
+    pub shown: Shown,
+}
+
+impl Mostly {
+    /// A small workload, whose sums are shown.
+    pub fn check(alloc: Global) -> Result<Mostly, Failure> {
+        let entries = NonZeroU64::new(200).ok_or(Failure::Usage)?;
+        Ok(Mostly {
+            draws: Draws::even(alloc, entries, 2_000)?,
+            capacity: 100,
+            operations: 500,
+            shown: Shown::Sum,
+        })
+    }
+
+    /// A workload on these keys that is long enough to be timed.
+    pub fn time(draws: Draws) -> Mostly {
+        Mostly {
+            draws,
+            capacity: 100_000,
+            operations: 300_000,
+            shown: Shown::Time,
+        }
     }
 }
 
@@ -67,15 +109,24 @@ fn sizes(alloc: Global, numbers: &[u64]) -> Result<Vec<NonZeroU64>, AllocError> 
 fn parsed(alloc: Global, words: &[String]) -> Result<Vec<NonZeroU64>, Failure> {
     let mut entries = Vec::new(alloc);
     for word in words {
-        let Ok(number) = word.as_str().parse::<u64>() else {
-            return Err(Failure::Usage);
-        };
-        let Some(number) = NonZeroU64::new(number) else {
-            return Err(Failure::Usage);
+        let Some(number) = number(word.as_str()) else {
+            return Err(Failure::Entries);
         };
         entries.push(number)?;
     }
     Ok(entries)
+}
+
+// The number of entries that a word is, where it is within bounds. A sign is no digit, though
+// `parse` takes one.
+fn number(word: &str) -> Option<NonZeroU64> {
+    if word.starts_with('+') {
+        return None;
+    }
+    match word.parse::<u64>() {
+        Ok(number) if number <= MOST_ENTRIES => NonZeroU64::new(number),
+        _ => None,
+    }
 }
 
 #[cfg(test)]
@@ -100,8 +151,30 @@ mod tests {
             [1_000, 1_000_000].as_slice()
         );
         assert_eq!(rt; entries(alloc, &["8", "3"])?.as_slice(), [8, 3].as_slice());
-        assert_eq!(rt; entries(alloc, &["8", "0"]).err(), Some(Failure::Usage));
-        assert_eq!(rt; entries(alloc, &["-1"]).err(), Some(Failure::Usage));
+        assert_eq!(rt;
+            entries(alloc, &["10000000", "1"])?.as_slice(),
+            [MOST_ENTRIES, 1].as_slice()
+        );
         Ok(())
+    }
+
+    #[test]
+    fn times_no_other_sizes(rt: HostRuntime) {
+        for word in [
+            "0",
+            "-1",
+            "+1",
+            " 1",
+            "",
+            "few",
+            "10000001",
+            "18446744073709551615",
+        ] {
+            assert_eq!(rt;
+                entries(rt.alloc(), &["8", word]).err(),
+                Some(Failure::Entries),
+                "at {word}"
+            );
+        }
     }
 }

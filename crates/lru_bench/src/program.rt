@@ -2,9 +2,11 @@
 //! It writes to two writers that are handed in, so that tests run it over memory.
 
 use crate::bench;
+use crate::draws::Draws;
 use crate::failure::Failure;
-use crate::plan::{Plan, Shown};
+use crate::plan::{Mostly, Plan, Shown};
 use std::alloc::Global;
+use std::fs::Files;
 use std::io::Write;
 use std::random::RandomSource;
 use std::rt::Clock;
@@ -17,10 +19,13 @@ use std::thread::Threads;
 /// `check` runs each workload small and writes the sums of the values that it read to `out`, a
 /// line each, which never change: status 0. `time`, with the numbers of entries after it or with
 /// none, runs them long and writes how many nanoseconds an operation took, and to `err` how many
-/// processors there are: status 0. Any other words write the usage line to `err`: status 2. Where
-/// a call is refused, `refused` and the refusal's number go to `err`, and the status is 1. Where
-/// the system fails, as at a write, a line says so on `err`, and the status is 1.
-pub fn program<R: Threads + Wait + Clock + RandomSource + Sync, O: Write, E: Write>(
+/// processors there are: status 0. A word after it that is not a number from 1 to 10,000,000 is
+/// refused by a line on `err`, before anything is run: status 2. `mostly`, with the path of a file
+/// of keys, does so for the workload of reads that mostly hit, on that file's keys, and writes each
+/// hit ratio to `err`. Any other words write the usage line to `err`: status 2. Where a call is
+/// refused, `refused` and the refusal's number go to `err`, and the status is 1. Where the system
+/// fails, as at a write, a line says so on `err`, and the status is 1.
+pub fn program<R: Threads + Wait + Clock + RandomSource + Files + Sync, O: Write, E: Write>(
     rt: &R,
     alloc: Global,
     words: &[String],
@@ -33,18 +38,27 @@ pub fn program<R: Threads + Wait + Clock + RandomSource + Sync, O: Write, E: Wri
     }
 }
 
-fn run<R: Threads + Wait + Clock + RandomSource + Sync, O: Write, E: Write>(
+fn run<R: Threads + Wait + Clock + RandomSource + Files + Sync, O: Write, E: Write>(
     rt: &R,
     alloc: Global,
     words: &[String],
     out: &mut O,
     err: &mut E,
 ) -> Result<(), Failure> {
+    if let [word, path] = words
+        && word.as_str() == "mostly"
+    {
+        let mostly = Mostly::time(Draws::of_file(rt, alloc, path.as_str())?);
+        tell_machine(rt, err)?;
+        return bench::run_mostly(rt, alloc, &mostly, out, err);
+    }
     let plan = plan(alloc, words)?;
     if plan.shown == Shown::Time {
         tell_machine(rt, err)?;
+        return bench::run(rt, alloc, &plan, out);
     }
-    bench::run(rt, alloc, &plan, out)
+    bench::run(rt, alloc, &plan, out)?;
+    bench::run_mostly(rt, alloc, &Mostly::check(alloc)?, out, err)
 }
 
 // What the words ask for.

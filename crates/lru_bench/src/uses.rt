@@ -1,5 +1,6 @@
 //! The workloads of one thread, on a full cache on one lock. Each handle is dropped at once. And
-//! the look-ups of the first on a map alone, and hits and misses on the parts of the cache, which say what it adds to these.
+//! the look-ups of the first on a map alone, and hits and misses on the parts of the cache, which
+//! show what the cache adds to them.
 
 use crate::keys::{FIRST_ABSENT, Keys, Leaving};
 use crate::parts::Parts;
@@ -53,6 +54,21 @@ pub fn hit_get<R: Wait>(
     Ok(sum)
 }
 
+/// Reads present keys by `read`, and answers the sum of their values.
+pub fn hit_read<R: Wait>(
+    cache: &LruCache<u64, u64, R>,
+    keys: &mut Keys,
+    operations: u32,
+) -> Result<u64, Refusal> {
+    let mut sum: u64 = 0;
+    for _ in 0..operations {
+        if let Some(value) = cache.read(&keys.draw(), |value| *value)? {
+            sum = sum.wrapping_add(value);
+        }
+    }
+    Ok(sum)
+}
+
 /// Asks for present keys by `get_or_init`, and answers the sum of their values. One that had to
 /// be made would count as 0.
 pub fn hit_init<R: Wait>(
@@ -94,7 +110,8 @@ pub fn hit_parts<R: Wait + Drop>(
     Ok(sum)
 }
 
-/// `miss_evict` by the parts alone. The keys go in an order that looks random, as that of the last uses does.
+/// `miss_evict` by the parts alone. The keys leave in an order that looks random, as the order of
+/// the last uses does.
 pub fn miss_parts<R: Wait + Drop>(
     parts: &Parts<R>,
     entries: NonZeroU64,

@@ -1,13 +1,14 @@
-//! Prints a file piece by piece: a page is asked for each piece, so a page that was kept serves
-//! more than one.
+//! Prints a file piece by piece: each piece asks for its page, so a page that was kept serves more
+//! than one.
 
 use crate::counted::Counted;
 use crate::failure::Failure;
-use lru_files::FileBlocks;
+use lru_files::{Fault, FileBlocks};
 use lru_pages::PageCache;
 use std::alloc::Global;
 use std::fs::{File, Files};
 use std::io::Write;
+use std::os::unix::fs::FileExt;
 use std::sync::Wait;
 
 /// How many bytes a block has, but for the last.
@@ -28,21 +29,40 @@ pub struct Counts {
     pub found: u64,
 }
 
-/// Prints the file of a path to `out`, through a cache of `pages` pages.
-pub fn cat<R: Wait, F: Files<File = File>, O: Write>(
+/// Prints the file of a path to `out`, through a cache of `pages` pages; one that has no length is
+/// printed past the cache, to its end.
+pub fn cat<'a, R: Wait, F: Files<File = File>, O: Write>(
     rt: &R,
     files: &F,
     alloc: Global,
-    path: &str,
+    path: &'a str,
     pages: u64,
     out: &mut O,
-) -> Result<Counts, Failure> {
-    let blocks = FileBlocks::open(alloc, files, path, BLOCK)?;
+) -> Result<Counts, Failure<'a>> {
+    let blocks = match FileBlocks::open(alloc, files, path, BLOCK) {
+        Ok(blocks) => blocks,
+        Err(error) => return Err(Failure::Open(path, error)),
+    };
+    if blocks.is_empty() {
+        return print_to_the_end(path, blocks.source(), out);
+    }
+    print_pages(rt, alloc, path, blocks, pages, out)
+}
+
+// Prints a file that has blocks, through a cache of `pages` pages.
+fn print_pages<'a, R: Wait, O: Write>(
+    rt: &R,
+    alloc: Global,
+    path: &'a str,
+    blocks: FileBlocks,
+    pages: u64,
+    out: &mut O,
+) -> Result<Counts, Failure<'a>> {
     let count = blocks.len().div_ceil(PIECE as u64);
     let reader = Counted::new(blocks);
     let pages = PageCache::new(alloc, rt, &reader, pages);
     for piece in 0..count {
-        print(&pages, piece, out)?;
+        print(path, &pages, piece, out)?;
     }
     let read = reader.asked();
     Ok(Counts {
@@ -51,13 +71,38 @@ pub fn cat<R: Wait, F: Files<File = File>, O: Write>(
     })
 }
 
+// Prints a file whose length is 0: one that is empty, or one of the system's own, as those of
+// /proc, which have bytes all the same. Each read counts as a block.
+fn print_to_the_end<'a, O: Write>(
+    path: &'a str,
+    file: &File,
+    out: &mut O,
+) -> Result<Counts, Failure<'a>> {
+    let mut bytes = [0u8; BLOCK as usize];
+    let mut offset = 0u64;
+    for read in 0..u64::MAX {
+        let count = match file.read_at(&mut bytes, offset) {
+            Ok(0) => return Ok(Counts { read, found: 0 }),
+            Ok(count) => count,
+            Err(error) => return Err(Failure::Read(path, Fault::Read(error))),
+        };
+        out.write_all(&bytes[..count])?;
+        offset = offset.saturating_add(count as u64);
+    }
+    Err(Failure::Overflow)
+}
+
 // Prints a piece of the file.
-fn print<R: Wait, O: Write>(
+fn print<'a, R: Wait, O: Write>(
+    path: &'a str,
     pages: &PageCache<'_, Counted<FileBlocks>, R>,
     piece: u64,
     out: &mut O,
-) -> Result<(), Failure> {
-    let page = pages.page(piece / PIECES)?;
+) -> Result<(), Failure<'a>> {
+    let page = match pages.page(piece / PIECES) {
+        Ok(page) => page,
+        Err(error) => return Err(Failure::of_page(path, error)),
+    };
     let place = (piece % PIECES) as usize;
     if let Some(bytes) = page.value().bytes().chunks(PIECE).nth(place) {
         out.write_all(bytes)?;

@@ -4,76 +4,80 @@
 use concurrent_lru::unsharded::GetError;
 use lru_files::{Fault, OpenError};
 use std::alloc::AllocError;
-use std::io::Write;
+use std::io::{ErrorKind, Write};
 use std::{fmt, io};
 
-/// Why the program does not end with status 0.
+/// Why the program does not end with status 0. Where it is about the file, it has the path.
 #[derive(Debug, Drop)]
-pub enum Failure {
+pub enum Failure<'a> {
     /// The words are none that the program knows.
     Usage,
+    /// A word is not UTF-8, as every word and path of this program is.
+    NotText,
     /// There is no memory, for the program's own or for a page.
     Memory,
     /// A number of the cache is at its end.
     Overflow,
     /// The file was not opened.
-    Open(OpenError),
+    Open(&'a str, OpenError),
     /// A block of it was not read.
-    Read(Fault),
+    Read(&'a str, Fault),
     /// A write failed.
     Write(io::Error),
 }
 
-impl Failure {
-    /// Tells the failure on `err`, in one line, and answers the status to end with: 2 for the
+impl<'a> Failure<'a> {
+    /// The failure of reading the words with this error.
+    pub fn of_words(error: &io::Error) -> Failure<'a> {
+        match error.kind() {
+            ErrorKind::OutOfMemory => Failure::Memory,
+            _ => Failure::NotText,
+        }
+    }
+
+    /// The failure of a page of the file of this path.
+    pub fn of_page(path: &'a str, error: GetError<Fault>) -> Failure<'a> {
+        match error {
+            GetError::Memory => Failure::Memory,
+            GetError::Overflow => Failure::Overflow,
+            GetError::Init(Fault::Memory) => Failure::Memory,
+            GetError::Init(fault) => Failure::Read(path, fault),
+        }
+    }
+
+    /// Writes the failure to `err`, in one line, and answers the status to end with: 2 for the
     /// wrong words, else 1.
     pub fn report<E: Write>(self, err: &mut E) -> u8 {
         let told = writeln!(err, "{self}");
         match (self, told) {
-            (Failure::Usage, Ok(())) => 2,
+            (Failure::Usage | Failure::NotText, Ok(())) => 2,
             _ => 1,
         }
     }
 }
 
-impl fmt::Display for Failure {
+impl<'a> fmt::Display for Failure<'a> {
     fn fmt<W: fmt::Write>(&self, f: &mut fmt::Formatter<W>) -> fmt::Result {
         match self {
             Failure::Usage => write!(f, "usage: lru_cat FILE [PAGES]"),
+            Failure::NotText => write!(f, "lru_cat: an argument is not valid UTF-8"),
             Failure::Memory => write!(f, "lru_cat: there is no memory"),
             Failure::Overflow => write!(f, "lru_cat: a number of the cache is at its end"),
-            Failure::Open(error) => write!(f, "lru_cat: not opened: {error}"),
-            Failure::Read(fault) => write!(f, "lru_cat: not read: {fault}"),
-            Failure::Write(error) => write!(f, "lru_cat: not written: {error}"),
+            Failure::Open(path, error) => write!(f, "lru_cat: cannot open {path:?}: {error}"),
+            Failure::Read(path, fault) => write!(f, "lru_cat: cannot read {path:?}: {fault}"),
+            Failure::Write(error) => write!(f, "lru_cat: cannot write standard output: {error}"),
         }
     }
 }
 
-impl From<AllocError> for Failure {
-    fn from(_: AllocError) -> Failure {
+impl<'a> From<AllocError> for Failure<'a> {
+    fn from(_: AllocError) -> Failure<'a> {
         Failure::Memory
     }
 }
 
-impl From<OpenError> for Failure {
-    fn from(error: OpenError) -> Failure {
-        Failure::Open(error)
-    }
-}
-
-impl From<GetError<Fault>> for Failure {
-    fn from(error: GetError<Fault>) -> Failure {
-        match error {
-            GetError::Memory => Failure::Memory,
-            GetError::Overflow => Failure::Overflow,
-            GetError::Init(Fault::Memory) => Failure::Memory,
-            GetError::Init(fault) => Failure::Read(fault),
-        }
-    }
-}
-
-impl From<io::Error> for Failure {
-    fn from(error: io::Error) -> Failure {
+impl<'a> From<io::Error> for Failure<'a> {
+    fn from(error: io::Error) -> Failure<'a> {
         Failure::Write(error)
     }
 }
@@ -81,42 +85,58 @@ impl From<io::Error> for Failure {
 #[cfg(test)]
 mod tests {
     use super::*;
-    use std::io::ErrorKind;
     use std::test::Fail;
 
     #[test]
     fn has_a_line_and_a_status(rt: HostRuntime) -> Result<(), Fail> {
+        let timed_out = io::Error::from(ErrorKind::TimedOut);
         let cases = [
-            (Failure::from(AllocError), "lru_cat: there is no memory\n"),
+            (Failure::from(AllocError), 1, "there is no memory\n"),
             (
-                Failure::from(GetError::Memory),
-                "lru_cat: there is no memory\n",
+                Failure::of_words(&io::Error::from(AllocError)),
+                1,
+                "there is no memory\n",
             ),
             (
-                Failure::from(GetError::Init(Fault::Memory)),
-                "lru_cat: there is no memory\n",
+                Failure::of_words(&io::Error::from(ErrorKind::InvalidData)),
+                2,
+                "an argument is not valid UTF-8\n",
             ),
             (
-                Failure::from(GetError::Overflow),
-                "lru_cat: a number of the cache is at its end\n",
+                Failure::of_page("f", GetError::Memory),
+                1,
+                "there is no memory\n",
             ),
             (
-                Failure::from(GetError::Init(Fault::Short)),
-                "lru_cat: not read: the file has become shorter\n",
+                Failure::of_page("f", GetError::Init(Fault::Memory)),
+                1,
+                "there is no memory\n",
             ),
             (
-                Failure::from(GetError::Init(Fault::PastEnd)),
-                "lru_cat: not read: the block is past the end\n",
+                Failure::of_page("f", GetError::Overflow),
+                1,
+                "a number of the cache is at its end\n",
             ),
             (
-                Failure::Read(Fault::Read(io::Error::from(ErrorKind::TimedOut))),
-                "lru_cat: not read: timed out\n",
+                Failure::of_page("f", GetError::Init(Fault::Short)),
+                1,
+                "cannot read \"f\": the file ends before its length\n",
+            ),
+            (
+                Failure::of_page("f", GetError::Init(Fault::PastEnd)),
+                1,
+                "cannot read \"f\": the block is past the end\n",
+            ),
+            (
+                Failure::of_page("two\nlines", GetError::Init(Fault::Read(timed_out))),
+                1,
+                "cannot read \"two\\nlines\": timed out\n",
             ),
         ];
-        for (failure, line) in cases {
+        for (failure, status, line) in cases {
             let mut err = Vec::new(rt.alloc());
-            assert_eq!(rt; failure.report(&mut err), 1, "at {line}");
-            assert_eq!(rt; str::from_utf8(&err)?, line);
+            assert_eq!(rt; failure.report(&mut err), status, "at {line}");
+            assert_eq!(rt; str::from_utf8(&err)?.strip_prefix("lru_cat: "), Some(line));
         }
         Ok(())
     }

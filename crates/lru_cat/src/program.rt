@@ -14,10 +14,10 @@ const PAGES: u64 = 16;
 /// Runs the program on the words after its name and answers the status to end with.
 ///
 /// A path writes the file to `out`, through a cache of 16 pages, or of as many as the number after
-/// it says, and then to `err` how many blocks were read and how many answers came from memory:
-/// status 0. Any other words write the usage line to `err`: status 2. A file that is not opened or
-/// not read, a write that fails and want of memory have a line on `err`, and status 1; what was
-/// read before is written then.
+/// it says, which is digits from 0 to 9 alone. How many blocks were read and how many answers came
+/// from memory goes to `err` then: status 0. Any other words write the usage line to `err`: status
+/// 2. A file that cannot be opened or read, whose path the line on `err` names, a write that fails
+/// and want of memory end with status 1; what was read before is written then.
 pub fn program<R: Wait, F: Files<File = File>, O: Write, E: Write>(
     rt: &R,
     files: &F,
@@ -32,14 +32,14 @@ pub fn program<R: Wait, F: Files<File = File>, O: Write, E: Write>(
     }
 }
 
-fn run<R: Wait, F: Files<File = File>, O: Write, E: Write>(
+fn run<'a, R: Wait, F: Files<File = File>, O: Write, E: Write>(
     rt: &R,
     files: &F,
     alloc: Global,
-    words: &[String],
+    words: &'a [String],
     out: &mut O,
     err: &mut E,
-) -> Result<(), Failure> {
+) -> Result<(), Failure<'a>> {
     let (path, pages) = match words {
         [path] => (path, PAGES),
         [path, pages] => (path, number(pages.as_str())?),
@@ -54,8 +54,11 @@ fn run<R: Wait, F: Files<File = File>, O: Write, E: Write>(
     Ok(())
 }
 
-// A number of pages.
-fn number(text: &str) -> Result<u64, Failure> {
+// A number of pages. A sign is no digit, though `parse` takes one.
+fn number<'a>(text: &str) -> Result<u64, Failure<'a>> {
+    if text.starts_with('+') {
+        return Err(Failure::Usage);
+    }
     text.parse().map_err(|_| Failure::Usage)
 }
 

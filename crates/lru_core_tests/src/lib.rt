@@ -7,6 +7,8 @@ mod both;
 #[cfg(test)]
 mod capacities;
 #[cfg(test)]
+mod contents;
+#[cfg(test)]
 mod corners;
 #[cfg(test)]
 mod drops;
@@ -20,6 +22,8 @@ mod keys;
 mod list;
 #[cfg(test)]
 mod plain;
+#[cfg(test)]
+mod reads;
 #[cfg(test)]
 mod rows;
 #[cfg(test)]

@@ -4,7 +4,8 @@ use Rattle.lru_files.specs.Cuts.{Cut, start_of}
 use Rattle.lru_files.specs.declared.fault.Fault.{Fault}
 use Rattle.lru_files.specs.declared.fault.Fault.TheVariants as fault
 
--- the fault of a block that begins here, of so many bytes: past the end exactly where it begins past the end
+-- the fault of a block that begins at start, where len bytes are cut: past the end exactly where it
+-- begins past the end
 abbrev pub IsFaultAt : ℕ → ℕ → Fault → Type 0
 IsFaultAt start len fault.PastEnd = len ≤ start
 IsFaultAt start len fault.Memory = start < len

@@ -12,7 +12,8 @@ pub enum Fault {
     PastEnd,
     /// There is no memory for its bytes.
     Memory,
-    /// The file ended before it: it is shorter now than when it was opened.
+    /// The file ended before the block did: it is shorter now than when it was opened, or it never
+    /// had the length that the system told, as some of the system's own files do not.
     Short,
     /// The read failed, with the system's error.
     Read(io::Error),
@@ -35,7 +36,7 @@ impl fmt::Display for Fault {
         match self {
             Fault::PastEnd => write!(f, "the block is past the end"),
             Fault::Memory => write!(f, "there is no memory for the block"),
-            Fault::Short => write!(f, "the file has become shorter"),
+            Fault::Short => write!(f, "the file ends before its length"),
             Fault::Read(error) => write!(f, "{error}"),
         }
     }

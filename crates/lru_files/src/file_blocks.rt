@@ -1,7 +1,7 @@
 //! A file as blocks of a size: the reader of a page cache over a file.
 //! Its contract says which offset and how many bytes are read for a number.
-ghost use Rattle.std.specs.Prelude.{◌≡◌, ◌<◌, ◌≤◌, ◌↔◌, IfOk, IfSome, IfNone, IsTrue};
-ghost use Rattle.lru_files.specs.Cuts.{start_of};
+ghost use Rattle.std.specs.Prelude.{◌≡◌, ℕ, ◌<◌, ◌≤◌, ◌↔◌, IfOk, IfSome, IfNone, IsTrue};
+ghost use Rattle.lru_files.specs.Cuts.{start_of, count_of};
 
 use crate::fault::Fault;
 use crate::open_error::OpenError;
@@ -77,7 +77,15 @@ impl<S: ReadAt> FileBlocks<S> {
         }
     }
 
-    /// How many bytes all blocks have.
+    /// The source that the blocks are read from.
+    pub fn source(&self) -> &S
+        ensures { result.now ≡ self.now.source }
+    {
+        &self.source
+    }
+
+    /// How many bytes all blocks have together: the length given to `new`, or that of the file when
+    /// it was opened.
     pub fn len(&self) -> u64
         ensures { result ≡ self.now.len }
     {
@@ -91,7 +99,17 @@ impl<S: ReadAt> FileBlocks<S> {
         self.len == 0
     }
 
-    /// How many bytes a block has, but for the last.
+    /// The number of blocks: the length divided by the size of a block, rounded up. Blocks are
+    /// numbered from 0, so block n exists exactly where n is below the count; from there on each
+    /// is `PastEnd`.
+    pub fn count(&self) -> u64
+        ensures count { result ≡ count_of self.now }
+        ensures past { (n : ℕ) → (result ≤ n) ↔ (self.now.len ≤ start_of self.now n) }
+    {
+        self.len.div_ceil(self.size)
+    }
+
+    /// The number of bytes of each block but the last, which may be shorter.
     pub fn size(&self) -> u64
         ensures size { result ≡ self.now.size }
         ensures above { 0 < result }
@@ -101,8 +119,9 @@ impl<S: ReadAt> FileBlocks<S> {
 
     // Where a block begins; none where that is past the end.
     fn start(&self, number: u64) -> Option<u64>
-        ensures some { IfSome result (λ start. (start ≡ start_of self.now number) × (start < self.now.len)) }
-        ensures none { IfNone result (self.now.len ≤ start_of self.now number) }
+        ensures start { IfSome result (λ start. start ≡ start_of self.now number) }
+        ensures inside { IfSome result (λ start. start < self.now.len) }
+        ensures past { IfNone result (self.now.len ≤ start_of self.now number) }
     {
         prove!(self.len <= u64::MAX);
         let Some(start) = number.checked_mul(self.size) else {

@@ -5,9 +5,10 @@ use std::{fmt, io};
 /// Why a file was not opened.
 #[derive(Clone, Copy, Debug)]
 pub enum OpenError {
-    /// The path is that of a folder.
+    /// The path is that of a directory.
     Folder,
-    /// It is neither a file nor a folder: a device, a pipe or a socket, which has no length.
+    /// It is neither a regular file nor a directory but a device, a pipe or a socket, which has no
+    /// length.
     Special,
     /// The system's error: `NotFound` where nothing is there, `PermissionDenied` where it may not
     /// be read.
@@ -23,8 +24,8 @@ impl From<io::Error> for OpenError {
 impl fmt::Display for OpenError {
     fn fmt<W: fmt::Write>(&self, f: &mut fmt::Formatter<W>) -> fmt::Result {
         match self {
-            OpenError::Folder => write!(f, "it is a folder"),
-            OpenError::Special => write!(f, "it is no file of bytes"),
+            OpenError::Folder => write!(f, "it is a directory"),
+            OpenError::Special => write!(f, "it is not a regular file"),
             OpenError::System(error) => write!(f, "{error}"),
         }
     }

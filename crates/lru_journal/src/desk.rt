@@ -1,9 +1,12 @@
 //! What lies under the twin's lock: the journal, and the pass that knows all its records.
 //! Each call is one step, whose receipt goes to the caller's tally; what it took out is sealed.
-ghost use Rattle.std.specs.Prelude.{◌≡◌, ◌++◌, ◌∷◌, [], IfErr};
+ghost use Rattle.std.specs.Prelude.{◌≡◌, ◌≢◌, ◌++◌, ◌∷◌, [], IfErr, IfOk, IfSome};
+ghost use Rattle.std.specs.Fn.{FnOnceReturnsAt, FnOnceTakesAt};
 ghost use Rattle.crossbeam_utils.specs.Seq.{cell_view};
-ghost use Rattle.lru_journal.specs.Journals.{IsRecorded};
-ghost use Rattle.lru_journal.specs.Tallies.{knower, all_parts, AreExactly, Receives, IsTallied};
+ghost use Rattle.lru_journal.specs.Journals.{AreRecorded, IsRecorded};
+ghost use Rattle.lru_journal.specs.Records.{records_of_read};
+ghost use Rattle.lru_journal.specs.Replay.{AreOfCopy};
+ghost use Rattle.lru_journal.specs.Tallies.{knower, all_parts, AreExactly, AreTallied, Receives, ReceivesAll, IsTallied};
 
 mod sealed;
 pub mod step;
@@ -13,6 +16,7 @@ use self::step::Call;
 use crate::journal::Journal;
 use crate::record::Record;
 use crate::tally::{Cell, Checks, Gives, Identity, Knows, Takes, Tally, append};
+use concurrent_lru::lru_core::Refusal;
 use std::hash::Hash;
 use std::marker::{Brand, Model, PhantomData};
 use std::sync::Wait;
@@ -63,6 +67,50 @@ fn note<K: Hash + Eq + Clone, V: Drop, I: Identity, R: Wait>(
     append::<K, Brand, I, R>(rt, cell, keeper, tally, number, &records[number]);
 }
 
+// Tells the cell of the journal's last two records, and gives the tally their receipts.
+fn note_two<K: Hash + Eq + Clone, V: Drop, I: Identity, R: Wait>(
+    rt: &R,
+    cell: &Cell<K>,
+    keeper: &mut Knows<K>,
+    tally: &mut Tally<K, I>,
+    journal: &Journal<K, V>,
+)
+    requires cell { (cell.now.table.shared.table_id ≡ I.name.table) × (keeper.old.table_id ≡ I.name.table) }
+    requires keeper { cell_view keeper.old ≡ knower (cell_view keeper.old).all }
+    requires last { (r : Record K) × (s : Record K) × (journal.now.records ≡ (cell_view keeper.old).all ++ r ∷ s ∷ []) }
+    ensures keeper { (keeper.new.table_id ≡ I.name.table) × (cell_view keeper.new ≡ knower journal.now.records) }
+    ensures parts { tally.new.parts ≡ tally.old.parts }
+    ensures tally { (r : Record K) (s : Record K) → journal.now.records ≡ (cell_view keeper.old).all ++ r ∷ s ∷ [] → ReceivesAll tally.old (r ∷ s ∷ []) tally.new }
+{
+    let records = journal.records();
+    let first = records.len() - 2;
+    let second = first + 1;
+    append::<K, Brand, I, R>(rt, cell, keeper, tally, first, &records[first]);
+    append::<K, Brand, I, R>(rt, cell, keeper, tally, second, &records[second]);
+}
+
+// Tells the cell of a read's records, and gives the tally their receipts.
+fn note_read<K: Hash + Eq + Clone, V: Drop, T, I: Identity, R: Wait>(
+    rt: &R,
+    cell: &Cell<K>,
+    keeper: &mut Knows<K>,
+    tally: &mut Tally<K, I>,
+    journal: &Journal<K, V>,
+    found: &Option<(u64, T)>,
+)
+    requires cell { (cell.now.table.shared.table_id ≡ I.name.table) × (keeper.old.table_id ≡ I.name.table) }
+    requires keeper { cell_view keeper.old ≡ knower (cell_view keeper.old).all }
+    requires last { (copy : K) × (journal.now.records ≡ (cell_view keeper.old).all ++ records_of_read copy found.now) }
+    ensures keeper { (keeper.new.table_id ≡ I.name.table) × (cell_view keeper.new ≡ knower journal.now.records) }
+    ensures parts { tally.new.parts ≡ tally.old.parts }
+    ensures tally { (copy : K) → journal.now.records ≡ (cell_view keeper.old).all ++ records_of_read copy found.now → ReceivesAll tally.old (records_of_read copy found.now) tally.new }
+{
+    match found {
+        None => note(rt, cell, keeper, tally, journal),
+        Some(_) => note_two(rt, cell, keeper, tally, journal),
+    }
+}
+
 impl<K: Hash + Eq + Clone, V: Drop, I: Identity> Desk<K, V, I> {
     /// One step of the journal, and its receipt: an accepted step adds its record, whose receipt
     /// goes to the tally; a refused one leaves journal and tally as they were.
@@ -85,6 +133,35 @@ impl<K: Hash + Eq + Clone, V: Drop, I: Identity> Desk<K, V, I> {
                 Sealed::of(Ok(answer))
             }
             Err(refused) => Sealed::of(Err(refused)),
+        }
+    }
+
+    /// A read of the journal, and the receipts of its records, which go to the tally; a refused
+    /// read leaves journal and tally as they were.
+    pub(crate) fn read<T, G, R: Wait>(
+        &mut self,
+        rt: &R,
+        cell: &Cell<K>,
+        tally: &mut Tally<K, I>,
+        key: &K,
+        reader: G,
+    ) -> Sealed<Result<Option<(u64, T)>, Refusal>>
+    where
+        G: FnOnce(&V) -> T + Drop,
+        requires cell { cell.now.table.shared.table_id ≡ I.name.table }
+        requires callable { (v : V) → FnOnceTakesAt G.FnOnce reader v }
+        ensures recorded { AreRecorded self.old (λ found. AreOfCopy K.eq key.now (λ copy. records_of_read copy found)) result self.new }
+        ensures tallied { AreTallied tally.old (λ found. AreOfCopy K.eq key.now (λ copy. records_of_read copy found)) result tally.new }
+        ensures parts { tally.new.parts ≡ tally.old.parts }
+        ensures answered { IfOk result (λ found. IfSome found (λ r. (v : V) × FnOnceReturnsAt G.FnOnce reader v r.1)) }
+        ensures never_stale { IfErr result (λ e. e ≢ Refusal.Stale) }
+    {
+        match self.journal.read(key, reader) {
+            Ok(found) => {
+                note_read(rt, cell, &mut self.keeper, tally, &self.journal, &found);
+                Sealed::of(Ok(found))
+            }
+            Err(refusal) => Sealed::of(Err(refusal)),
         }
     }
 

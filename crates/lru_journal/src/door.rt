@@ -1,12 +1,16 @@
 //! The lock of a twin. Each call gets it once, for one step of the journal, and lets it go: what the
 //! step took out of the cache is dropped after that.
-ghost use Rattle.std.specs.Prelude.{◌≡◌, IfErr};
-ghost use Rattle.lru_journal.specs.Tallies.{all_parts, AreExactly, IsTallied};
+ghost use Rattle.std.specs.Prelude.{◌≡◌, ◌≢◌, IfErr, IfOk, IfSome};
+ghost use Rattle.std.specs.Fn.{FnOnceReturnsAt, FnOnceTakesAt};
+ghost use Rattle.lru_journal.specs.Records.{records_of_read};
+ghost use Rattle.lru_journal.specs.Replay.{AreOfCopy};
+ghost use Rattle.lru_journal.specs.Tallies.{all_parts, AreExactly, AreTallied, IsTallied};
 
 use crate::desk::Desk;
 use crate::desk::step::Call;
 use crate::journal::Journal;
 use crate::tally::{Cell, Identity, Tally};
+use concurrent_lru::lru_core::Refusal;
 use std::hash::Hash;
 use std::sync::{Mutex, MutexGuard, Wait};
 
@@ -80,5 +84,26 @@ impl<'a, K: Hash + Eq + Clone, V: Drop, R: Wait + Drop, I: Identity> Inside<'a, 
         let Self { door, mut guard } = self;
         let answer = guard.call(&door.rt, &door.cell, tally, step);
         answer.open(guard)
+    }
+
+    /// A read of the journal, and the receipts of its records, as `Desk::read`. The reader runs
+    /// under the lock.
+    pub(crate) fn read<T, G>(
+        self,
+        tally: &mut Tally<K, I>,
+        key: &K,
+        reader: G,
+    ) -> Result<Option<(u64, T)>, Refusal>
+    where
+        G: FnOnce(&V) -> T + Drop,
+        requires callable { (v : V) → FnOnceTakesAt G.FnOnce reader v }
+        ensures tallied { AreTallied tally.old (λ found. AreOfCopy K.eq key.now (λ copy. records_of_read copy found)) result tally.new }
+        ensures parts { tally.new.parts ≡ tally.old.parts }
+        ensures answered { IfOk result (λ found. IfSome found (λ r. (v : V) × FnOnceReturnsAt G.FnOnce reader v r.1)) }
+        ensures never_stale { IfErr result (λ e. e ≢ Refusal.Stale) }
+    {
+        let Self { door, mut guard } = self;
+        let found = guard.read(&door.rt, &door.cell, tally, key, reader);
+        found.open(guard)
     }
 }

@@ -1,14 +1,15 @@
 //! The twin: a journal that threads share, each with a tally of its own calls.
 //! A call takes the lock once, for one step of the journal, by a door that drops what it evicted.
-ghost use Rattle.std.specs.Prelude.{◌≡◌, ◌≢◌, ◌-◌, ◌<◌, [], true, IfErr};
+ghost use Rattle.std.specs.Prelude.{◌≡◌, ◌≢◌, ◌-◌, ◌<◌, [], true, IfErr, IfOk, IfSome};
 ghost use Rattle.std.specs.Arc.{arc_value};
+ghost use Rattle.std.specs.Fn.{FnOnceReturnsAt, FnOnceTakesAt};
 ghost use Rattle.concurrent_lru.specs.Keys.{CopiesAreEqual};
 ghost use Rattle.lru_journal.specs.Calls.{told_of_started, told_of_pin};
 ghost use Rattle.lru_journal.specs.Journals.{IsHistory};
-ghost use Rattle.lru_journal.specs.Records.{record_of};
-ghost use Rattle.lru_journal.specs.Replay.{told_of_failed, IsOfCopy};
+ghost use Rattle.lru_journal.specs.Records.{record_of, records_of_read};
+ghost use Rattle.lru_journal.specs.Replay.{told_of_failed, AreOfCopy, IsOfCopy};
 ghost use Rattle.concurrent_lru.specs.Request as ask;
-ghost use Rattle.lru_journal.specs.Tallies.{hand, hand_with_hand, all_parts, AreExactly, IsTallied};
+ghost use Rattle.lru_journal.specs.Tallies.{hand, hand_with_hand, all_parts, AreExactly, AreTallied, IsTallied};
 
 use crate::desk::{Desk, step};
 use crate::door::Door;
@@ -25,8 +26,9 @@ use std::sync::{Arc, Wait};
 /// A journaled cache that threads share.
 ///
 /// Each call is handed the caller's tally. An accepted call adds one receipt to it, the record of
-/// its own step and reply, at a position past all that the tally had; a refused one leaves the
-/// tally. Any call may be refused with `Memory`, where there is no room for its record.
+/// its own step and reply, at a position past all that the tally had (a `read` that finds its
+/// value adds two); a refused one leaves the tally. Any call may be refused with `Memory`, where
+/// there is no room for its record.
 #[derive(Drop)]
 pub struct LruCache<K: Hash + Eq + Clone, V, R, I: Identity> {
     door: Door<K, V, R, I>,
@@ -135,6 +137,35 @@ impl<
     {
         let found = self.door.enter().call(tally, step::Get { key })?;
         Ok(pin_of(found))
+    }
+
+    /// Reads the value of a key that is ready, without a pin: the stamp of its entry, and what
+    /// `reader` answers of the value. None where the key has no entry or its value is still being
+    /// made; `reader` is then dropped uncalled. It copies no value.
+    ///
+    /// It adds two receipts, one after the other: those of a `get` and of the release of its
+    /// stamp. Where nothing is found, it adds that of the `get` alone.
+    ///
+    /// `reader` runs, or is dropped, under the lock, so it should be short, and it must not use
+    /// this cache: such a call would wait for itself.
+    ///
+    /// `Overflow` where the entry has the greatest number of pins; `Memory` where there is no room
+    /// for two records, whether or not the value is there.
+    pub fn read<T, G>(
+        &self,
+        tally: &mut Tally<K, I>,
+        key: &K,
+        reader: G,
+    ) -> Result<Option<(u64, T)>, Refusal>
+    where
+        G: FnOnce(&V) -> T + Drop,
+        requires callable { (v : V) → FnOnceTakesAt G.FnOnce reader v }
+        ensures tallied { AreTallied tally.old (λ found. AreOfCopy K.eq key.now (λ copy. records_of_read copy found)) result tally.new }
+        ensures parts { tally.new.parts ≡ tally.old.parts }
+        ensures answered { IfOk result (λ found. IfSome found (λ r. (v : V) × FnOnceReturnsAt G.FnOnce reader v r.1)) }
+        ensures never_stale { IfErr result (λ e. e ≢ Refusal.Stale) }
+    {
+        self.door.enter().read(tally, key, reader)
     }
 
     /// Gives a pin back. A refusal hands it back to the caller.

@@ -17,6 +17,8 @@ mod long;
 #[cfg(test)]
 mod owner;
 #[cfg(test)]
+mod reads;
+#[cfg(test)]
 mod records;
 #[cfg(test)]
 mod seeded;

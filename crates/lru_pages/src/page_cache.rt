@@ -1,11 +1,13 @@
 //! A cache of pages that threads share: each block is read once, while its page is there.
 //! It is an unsharded cache with the mark `Numbered`, in which every page has the charge 1.
-ghost use Rattle.std.specs.Prelude.{◌≡◌, Some, IfOk, IfErr};
+ghost use Rattle.std.specs.Prelude.{◌≡◌, Some, IfOk, IfErr, IfSome};
+ghost use Rattle.std.specs.Fn.{FnOnceReturnsAt, FnOnceTakesAt};
 ghost use Rattle.concurrent_lru.specs.ThreadedCalls.{IfInit};
+ghost use Rattle.lru_pages.specs.Pages.{PageOf};
 
 use crate::blocks::Blocks;
 use crate::page::{Numbered, Page};
-use concurrent_lru::unsharded::{CacheHandle, GetError, LruCache};
+use concurrent_lru::unsharded::{CacheHandle, GetError, LruCache, Refusal};
 use std::alloc::Global;
 use std::fmt;
 use std::sync::Wait;
@@ -48,6 +50,31 @@ impl<'a, B: Blocks, R: Wait> PageCache<'a, B, R> {
         let reader = self.reader;
         self.pages
             .get_or_try_init(number, 1, |number| Page::read(reader, *number))
+    }
+
+    /// Shows the bytes of the page of a number to `visit`, where it is there, and answers what
+    /// `visit` answers. None where the page is not there or is still being read; `visit` is then
+    /// dropped uncalled. It reads no block, makes no handle and takes no memory.
+    ///
+    /// It counts as a `page` whose handle is dropped at once: a page that nobody holds becomes the
+    /// last to be evicted. `visit` runs, or is dropped, under the lock, so it should be short, and
+    /// it must not use this cache: such a call would wait for itself.
+    ///
+    /// `Overflow` where the page has the greatest number of handles.
+    pub fn read<T, G>(&self, number: u64, visit: G) -> Result<Option<T>, Refusal>
+    where
+        G: FnOnce(&[u8]) -> T + Drop,
+        requires callable { (p : PageOf B) → p.number ≡ number → FnOnceTakesAt G.FnOnce visit p.bytes }
+        ensures page { IfOk result (λ found. IfSome found (λ t. (p : PageOf B) × (p.number ≡ number) × FnOnceReturnsAt G.FnOnce visit p.bytes t)) }
+        ensures refused { IfErr result (λ e. e ≡ Refusal.Overflow) }
+    {
+        self.pages.read(
+            &number,
+            move |page| -> T
+                requires { FnOnceTakesAt G.FnOnce visit page.now.bytes }
+                ensures { FnOnceReturnsAt G.FnOnce visit page.now.bytes result }
+            { visit(page.bytes()) },
+        )
     }
 
     /// Evicts every page that nobody holds. Takes no memory.

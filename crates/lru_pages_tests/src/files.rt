@@ -194,7 +194,7 @@ fn a_file_that_was_cut_short_gives_no_page(rt: HostRuntime) {
     let _removed = fs::remove_file(&rt, path.as_path());
 }
 
-// What the first read of it fails, and the second finds to be short.
+// A source whose first read fails, and whose second finds it to be short.
 #[derive(Drop)]
 struct Worn {
     reads: AtomicU64,
@@ -229,6 +229,7 @@ fn a_read_that_fails_leaves_nothing(rt: HostRuntime) {
         assert_eq!(rt; Told::of(&pages, 0), told);
         assert_eq!(rt; pages.total_charge(), total);
     }
+    assert_eq!(rt; reader.source().reads.load(Ordering::SeqCst), 3);
 }
 
 #[test]

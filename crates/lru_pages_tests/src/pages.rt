@@ -11,6 +11,10 @@ use std::test::Fail;
 enum Step {
     // The page of the number has four bytes that are this one.
     Gives(u64, u8),
+    // The page of the number is there, and has four bytes that are this one.
+    Shows(u64, u8),
+    // The page of the number is not there.
+    Hides(u64),
     // There is no such block.
     Lacks(u64),
     // There are so many pages.
@@ -18,23 +22,28 @@ enum Step {
     // All pages leave.
     Prune,
     // No more than so many stay.
-    Shrink(u64),
+    SetCapacity(u64),
+    // So many may stay.
+    Capacity(u64),
 }
 
 // Whether a step goes as it says.
 fn goes<R: Wait>(pages: &PageCache<'_, Fours<R>, R>, step: Step) -> bool {
     match step {
         Step::Gives(number, byte) => gives(pages, number, byte),
+        Step::Shows(number, byte) => shown(pages, number, byte) == Some(true),
+        Step::Hides(number) => shown(pages, number, 0).is_none(),
         Step::Lacks(number) => lacks(pages, number),
         Step::Holds(count) => pages.total_charge() == count,
         Step::Prune => {
             pages.prune();
             true
         }
-        Step::Shrink(capacity) => {
+        Step::SetCapacity(capacity) => {
             pages.set_capacity(capacity);
             pages.capacity() == capacity
         }
+        Step::Capacity(capacity) => pages.capacity() == capacity,
     }
 }
 
@@ -44,6 +53,13 @@ pub(crate) fn gives<R: Wait>(pages: &PageCache<'_, Fours<R>, R>, number: u64, by
         Ok(page) => page.value().number() == number && page.value().bytes() == [byte; 4].as_slice(),
         Err(_) => false,
     }
+}
+
+// Whether the page of a number has four bytes that are this one, where it is there.
+fn shown<R: Wait>(pages: &PageCache<'_, Fours<R>, R>, number: u64, byte: u8) -> Option<bool> {
+    pages
+        .read(number, |bytes| bytes == [byte; 4].as_slice())
+        .unwrap_or(None)
 }
 
 fn lacks<R: Wait>(pages: &PageCache<'_, Fours<R>, R>, number: u64) -> bool {
@@ -76,6 +92,33 @@ fn a_block_is_read_once_while_its_page_is_there(rt: HostRuntime) -> Result<(), F
 }
 
 #[test]
+fn a_page_that_is_there_is_shown_without_a_handle(rt: HostRuntime) -> Result<(), Fail> {
+    let reader = Fours::new(rt.alloc(), &rt, 0);
+    let pages = PageCache::new(rt.alloc(), &rt, &reader, 2);
+    let steps = [
+        Step::Hides(1),
+        Step::Gives(1, 1),
+        Step::Gives(2, 2),
+        // It counts as a use, so that the other page leaves.
+        Step::Shows(1, 1),
+        Step::Gives(3, 3),
+        Step::Hides(2),
+        Step::Shows(1, 1),
+        Step::Shows(3, 3),
+        Step::Holds(2),
+        // It leaves no handle.
+        Step::Prune,
+        Step::Holds(0),
+        Step::Hides(1),
+    ];
+    for step in steps {
+        assert!(rt; goes(&pages, step), "at {step:?}");
+    }
+    assert!(rt; reader.was_asked([1, 2, 3].as_slice()));
+    Ok(())
+}
+
+#[test]
 fn a_capacity_of_pages_is_set(rt: HostRuntime) -> Result<(), Fail> {
     let reader = Fours::new(rt.alloc(), &rt, 0);
     let pages = PageCache::new(rt.alloc(), &rt, &reader, 3);
@@ -83,11 +126,11 @@ fn a_capacity_of_pages_is_set(rt: HostRuntime) -> Result<(), Fail> {
         Step::Gives(1, 1),
         Step::Gives(2, 2),
         Step::Gives(3, 3),
-        Step::Shrink(1),
+        Step::SetCapacity(1),
         Step::Holds(1),
         Step::Gives(3, 3),
         Step::Gives(2, 2),
-        Step::Shrink(0),
+        Step::SetCapacity(0),
         Step::Holds(0),
     ];
     assert_eq!(rt; pages.capacity(), 3);
@@ -95,6 +138,70 @@ fn a_capacity_of_pages_is_set(rt: HostRuntime) -> Result<(), Fail> {
         assert!(rt; goes(&pages, step), "at {step:?}");
     }
     assert!(rt; reader.was_asked([1, 2, 3, 2].as_slice()));
+    Ok(())
+}
+
+#[test]
+fn a_capacity_of_pages_grows(rt: HostRuntime) -> Result<(), Fail> {
+    let reader = Fours::new(rt.alloc(), &rt, 0);
+    let pages = PageCache::new(rt.alloc(), &rt, &reader, 1);
+    let steps = [
+        Step::Gives(1, 1),
+        Step::SetCapacity(3),
+        Step::Gives(2, 2),
+        Step::Gives(3, 3),
+        Step::Holds(3),
+        Step::Gives(1, 1),
+        Step::Gives(4, 4),
+        Step::Holds(3),
+        Step::Gives(2, 2),
+    ];
+    for step in steps {
+        assert!(rt; goes(&pages, step), "at {step:?}");
+    }
+    // At the fourth page the second left, which was let go the longest ago.
+    assert!(rt; reader.was_asked([1, 2, 3, 4, 2].as_slice()));
+    Ok(())
+}
+
+#[test]
+fn a_prune_leaves_the_capacity(rt: HostRuntime) -> Result<(), Fail> {
+    let reader = Fours::new(rt.alloc(), &rt, 0);
+    let pages = PageCache::new(rt.alloc(), &rt, &reader, 2);
+    let steps = [
+        Step::Gives(1, 1),
+        Step::Prune,
+        Step::Holds(0),
+        Step::Capacity(2),
+        Step::Gives(1, 1),
+        Step::Gives(2, 2),
+        Step::Gives(1, 1),
+        Step::Holds(2),
+    ];
+    for step in steps {
+        assert!(rt; goes(&pages, step), "at {step:?}");
+    }
+    assert!(rt; reader.was_asked([1, 1, 2].as_slice()));
+    Ok(())
+}
+
+#[test]
+fn pages_that_are_held_pass_the_capacity(rt: HostRuntime) -> Result<(), Fail> {
+    let reader = Fours::new(rt.alloc(), &rt, 0);
+    let pages = PageCache::new(rt.alloc(), &rt, &reader, 1);
+    let (one, two, three) = (pages.page(1)?, pages.page(2)?, pages.page(3)?);
+    assert_eq!(rt; (pages.total_charge(), pages.capacity()), (3, 1));
+    pages.prune();
+    assert_eq!(rt; pages.total_charge(), 3);
+    // Each leaves as it is let go, until no more are there than the capacity says.
+    drop(one);
+    assert_eq!(rt; pages.total_charge(), 2);
+    drop(two);
+    assert_eq!(rt; pages.total_charge(), 1);
+    drop(three);
+    assert_eq!(rt; pages.total_charge(), 1);
+    assert!(rt; gives(&pages, 3, 3));
+    assert!(rt; reader.was_asked([1, 2, 3].as_slice()));
     Ok(())
 }
 

@@ -24,6 +24,7 @@ pub const SCRIPTS: &[(&str, Script)] = &[
     ("state-capacities", Script::State(9, CAPACITIES)),
     ("state-growths", Script::State(9, GROWTHS)),
     ("state-room", Script::Limited(WITH_ROOM, GROWTHS)),
+    ("state-much-room", Script::Limited(WITH_MUCH_ROOM, FILLED)),
     ("state-list", Script::List),
     ("shards-one-evicts", Script::Shards(2, 2, SHARDS)),
     ("shards-list", Script::ShardList),
@@ -32,12 +33,14 @@ pub const SCRIPTS: &[(&str, Script)] = &[
     ("journal-stores", Script::Journal(10, STORES)),
     ("journal-fails", Script::Journal(10, FAILS)),
     ("journal-finds-nothing", Script::Journal(10, FINDS_NOTHING)),
+    ("journal-refuses", Script::Journal(10, REFUSES)),
     ("twin-hits", Script::Twin(10, TWIN_HITS, &[])),
     ("twin-evicts", Script::Twin(1, EVICTS, &[])),
     ("twin-polls", Script::Twin(10, POLLS, &[])),
     ("twin-stores", Script::Twin(10, STORES, &[])),
     ("twin-fails", Script::Twin(10, FAILS, &[])),
     ("twin-finds-nothing", Script::Twin(10, FINDS_NOTHING, &[])),
+    ("twin-refuses", Script::Twin(10, REFUSES, &[])),
     (
         "twin-tallies",
         Script::Twin(10, FIRST_CALLER, SECOND_CALLER),
@@ -46,12 +49,14 @@ pub const SCRIPTS: &[(&str, Script)] = &[
     ("unsharded-evicts", Script::Unsharded(5, LARGE_VALUES)),
     ("unsharded-fails", Script::Unsharded(10, FAILED)),
     ("unsharded-room", Script::Unsharded(10, ROOM)),
+    ("unsharded-much-room", Script::Unsharded(40, MUCH_ROOM)),
     ("unsharded-over-two", Script::OverTwo),
     ("unsharded-two-threads", Script::Meeting),
     ("sharded-values", Script::Sharded(10, 1, VALUES)),
     ("sharded-evicts", Script::Sharded(5, 1, LARGE_VALUES)),
     ("sharded-fails", Script::Sharded(10, 1, FAILED)),
     ("sharded-room", Script::Sharded(40, 4, ROOM)),
+    ("sharded-much-room", Script::Sharded(80, 2, MUCH_ROOM)),
     ("sharded-many", Script::Sharded(160, 16, VALUES)),
 ];
 
@@ -214,6 +219,33 @@ const WITH_ROOM: Opening = Opening {
     room: 5,
 };
 
+// Room for as many entries as a map of 16 places takes: for one more, it grows.
+const WITH_MUCH_ROOM: Opening = Opening {
+    capacity: 40,
+    first_stamp: 0,
+    most_pins: 2,
+    room: 14,
+};
+
+const FILLED: &[Step] = &[
+    Begin("1", 1),
+    Begin("2", 1),
+    Begin("3", 1),
+    Begin("4", 1),
+    Begin("5", 1),
+    Begin("6", 1),
+    Begin("7", 1),
+    Begin("8", 1),
+    Begin("9", 1),
+    Begin("10", 1),
+    Begin("11", 1),
+    Begin("12", 1),
+    Begin("13", 1),
+    Begin("14", 1),
+    Begin("15", 1),
+    Total,
+];
+
 // A new entry evicts from its own shard alone.
 const SHARDS: &[shards::ShardStep] = &[
     (1, Begin(1, 1)),
@@ -298,6 +330,50 @@ const FINDS_NOTHING: &[Step] = &[
     Prune,
 ];
 
+// What is refused for another cause than memory asks for the room of its record first, and is
+// refused for that where there is none: each such step comes where the records before it fill
+// their room, of 4, 8, 16 and 32.
+const REFUSES: &[Step] = &[
+    Poll(0),
+    Begin("1", u64::MAX),
+    Total,
+    Total,
+    Total,
+    Begin("2", 1),
+    Total,
+    Total,
+    Total,
+    Total,
+    Release(0),
+    Total,
+    Total,
+    Total,
+    Total,
+    Total,
+    Total,
+    Total,
+    Total,
+    Fail(1),
+    Total,
+    Total,
+    Total,
+    Total,
+    Total,
+    Total,
+    Total,
+    Total,
+    Total,
+    Total,
+    Total,
+    Total,
+    Total,
+    Total,
+    Total,
+    Total,
+    Ready(1, 1),
+    Total,
+];
+
 const TWIN_HITS: &[Step] = &[
     Begin("1", 1),
     Ready(0, 7),
@@ -367,5 +443,41 @@ const ROOM: &[Call] = &[
     Call::Total,
     Call::Prune,
     Call::Get(1),
+    Call::Total,
+];
+
+// Room for as many entries as a map of 32 places takes, or two of 16: for one more, it grows.
+const MUCH_ROOM: &[Call] = &[
+    Call::Reserve(28),
+    Call::Make(1, 1, 1),
+    Call::Make(2, 1, 2),
+    Call::Make(3, 1, 3),
+    Call::Make(4, 1, 4),
+    Call::Make(5, 1, 5),
+    Call::Make(6, 1, 6),
+    Call::Make(7, 1, 7),
+    Call::Make(8, 1, 8),
+    Call::Make(9, 1, 9),
+    Call::Make(10, 1, 10),
+    Call::Make(11, 1, 11),
+    Call::Make(12, 1, 12),
+    Call::Make(13, 1, 13),
+    Call::Make(14, 1, 14),
+    Call::Make(15, 1, 15),
+    Call::Make(16, 1, 16),
+    Call::Make(17, 1, 17),
+    Call::Make(18, 1, 18),
+    Call::Make(19, 1, 19),
+    Call::Make(20, 1, 20),
+    Call::Make(21, 1, 21),
+    Call::Make(22, 1, 22),
+    Call::Make(23, 1, 23),
+    Call::Make(24, 1, 24),
+    Call::Make(25, 1, 25),
+    Call::Make(26, 1, 26),
+    Call::Make(27, 1, 27),
+    Call::Make(28, 1, 28),
+    Call::Make(29, 1, 29),
+    Call::Make(30, 1, 30),
     Call::Total,
 ];

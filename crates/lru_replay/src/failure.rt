@@ -1,5 +1,5 @@
 //! Why the program ends early.
-//! Each failure has its line on standard error, if any, and its status.
+//! Each failure has its line on standard error, and its status.
 
 use crate::expected::Expected;
 use concurrent_lru::lru_core::Refusal;
@@ -20,10 +20,10 @@ pub enum Failure {
     Step(u64, Refusal),
     /// Memory was refused before any line was read.
     Refused(Refusal),
-    /// A read failed.
-    Read(ErrorKind),
-    /// A write failed.
-    Write,
+    /// A read failed, with the system's error.
+    Read(io::Error),
+    /// A write failed, with the system's error.
+    Write(io::Error),
 }
 
 impl Failure {
@@ -31,7 +31,7 @@ impl Failure {
     pub fn of_reading(error: &io::Error) -> Failure {
         match error.kind() {
             ErrorKind::OutOfMemory => Failure::Refused(Refusal::Memory),
-            kind => Failure::Read(kind),
+            _ => Failure::Read(*error),
         }
     }
 
@@ -51,8 +51,8 @@ impl Failure {
         }
     }
 
-    /// Tells the failure on `err`, in one line, and answers the status to end with: 2 for words,
-    /// else 1. A failed write is not told.
+    /// Writes the failure to `err`, in one line, and answers the status to end with: 2 for words,
+    /// else 1.
     pub fn report<E: Write>(self, err: &mut E) -> u8 {
         let is_usage = matches!(self, Failure::Usage);
         let told = match self {
@@ -67,8 +67,12 @@ impl Failure {
                 writeln!(err, "line {number}: refused {}", refusal.code())
             }
             Failure::Refused(refusal) => writeln!(err, "refused {}", refusal.code()),
-            Failure::Read(kind) => writeln!(err, "the input cannot be read: {kind}"),
-            Failure::Write => Ok(()),
+            Failure::Read(error) => {
+                writeln!(err, "lru_replay: cannot read standard input: {error}")
+            }
+            Failure::Write(error) => {
+                writeln!(err, "lru_replay: cannot write standard output: {error}")
+            }
         };
         if is_usage && told.is_ok() { 2 } else { 1 }
     }
@@ -93,7 +97,7 @@ impl<T: Drop> From<AllocFailed<T>> for Failure {
 }
 
 impl From<io::Error> for Failure {
-    fn from(_: io::Error) -> Failure {
-        Failure::Write
+    fn from(error: io::Error) -> Failure {
+        Failure::Write(error)
     }
 }

@@ -13,9 +13,9 @@ use std::sync::Wait;
 /// Each step goes to `out` with its answer and its drops, a line each, before the next line is
 /// read: status 0 at the end of the input. A line that is no step ends the run: its number, what
 /// was expected and what stands there go to `err`, and the status is 1. So do the line's number,
-/// `refused` and the refusal's number where a step is refused. A failed read or write ends with
-/// status 1 too. There are no words after the program's name: any write the usage line to `err`,
-/// and the status is 2.
+/// `refused` and the refusal's number where a step is refused. Where a read of `input` or a write
+/// to `out` fails, a line with the system's error goes to `err`, and the status is 1. There are no
+/// words after the program's name: any write the usage line to `err`, and the status is 2.
 pub fn program<R: Wait + Clone + Drop, I: BufRead + Drop, O: Write, E: Write>(
     alloc: Global,
     rt: &R,

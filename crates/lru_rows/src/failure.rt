@@ -1,5 +1,5 @@
 //! Why the program ends early.
-//! Each failure has its line on standard error, if any, and its status.
+//! Each failure has its line on standard error, and its status.
 
 use concurrent_lru::lru_core::Refusal;
 use lru_stress::outcome::Trouble;
@@ -16,8 +16,8 @@ pub enum Failure {
     Refused(Refusal),
     /// A check of the stress workload failed.
     Stress,
-    /// A write failed.
-    Write,
+    /// A write failed, with the system's error.
+    Write(io::Error),
 }
 
 impl Failure {
@@ -30,14 +30,16 @@ impl Failure {
         }
     }
 
-    /// Tells the failure on `err`, in one line, and answers the status to end with: 2 for the
-    /// wrong words, else 1. A failed write is not told.
+    /// Writes the failure to `err`, in one line, and answers the status to end with: 2 for the
+    /// wrong words, else 1.
     pub fn report<E: Write>(self, err: &mut E) -> u8 {
         let told = match self {
             Failure::Usage => writeln!(err, "usage: rows | stress SEED"),
             Failure::Refused(refusal) => writeln!(err, "refused {}", refusal.code()),
             Failure::Stress => writeln!(err, "stress failed"),
-            Failure::Write => Ok(()),
+            Failure::Write(error) => {
+                writeln!(err, "lru_rows: cannot write standard output: {error}")
+            }
         };
         match (self, told) {
             (Failure::Usage, Ok(())) => 2,
@@ -68,8 +70,8 @@ impl From<Trouble> for Failure {
 }
 
 impl From<io::Error> for Failure {
-    fn from(_: io::Error) -> Failure {
-        Failure::Write
+    fn from(error: io::Error) -> Failure {
+        Failure::Write(error)
     }
 }
 
@@ -92,7 +94,11 @@ mod tests {
             (Failure::from(Refusal::Memory), "refused 1\n", 1),
             (Failure::from(Refusal::Overflow), "refused 2\n", 1),
             (Failure::from(Refusal::Stale), "refused 3\n", 1),
-            (Failure::from(io::Error::from(ErrorKind::BrokenPipe)), "", 1),
+            (
+                Failure::from(io::Error::from(ErrorKind::BrokenPipe)),
+                "lru_rows: cannot write standard output: broken pipe\n",
+                1,
+            ),
         ];
         for (failure, line, status) in cases {
             let mut err = Vec::new(rt.alloc());

@@ -17,7 +17,8 @@ use std::thread::Threads;
 /// `stress ok` to `out`: status 0. Where a check of it fails, `stress failed` goes to `err`, and
 /// the status is 1. Any other words write the usage line to `err`: status 2. Where a call is
 /// refused that no row asks to be, or a thread can't be started, `refused` and the refusal's
-/// number go to `err`, and the status is 1. A failed write ends with status 1.
+/// number go to `err`, and the status is 1. Where a write to `out` fails, a line with the system's
+/// error goes to `err`, and the status is 1.
 pub fn program<R: Threads + Wait + Clone + Drop + Send + Sync, O: Write, E: Write>(
     rt: &R,
     alloc: Global,

@@ -5,6 +5,8 @@
 #[cfg(test)]
 mod careless;
 #[cfg(test)]
+mod contents;
+#[cfg(test)]
 mod crossings;
 #[cfg(test)]
 mod errands;
@@ -17,6 +19,8 @@ mod gates;
 #[cfg(test)]
 mod keyed;
 #[cfg(test)]
+mod keys;
+#[cfg(test)]
 mod makings;
 #[cfg(test)]
 mod meetings;
@@ -24,6 +28,8 @@ mod meetings;
 mod nested;
 #[cfg(test)]
 mod pure;
+#[cfg(test)]
+mod reads;
 #[cfg(test)]
 mod runs;
 #[cfg(test)]

@@ -92,6 +92,22 @@ fn the_total_passes_the_end_of_one_shard(rt: HostRuntime) -> Result<(), test::Fa
     plays(&rt, rt.alloc(), u64::MAX, 2, &BEYOND)
 }
 
+// Two shares of half of 2^64, and the sum of sixteen is 2^64 too.
+const WIDE: [(Call, &str); 6] = [
+    (Capacity, "Number(18446744073709551616)"),
+    (SetCapacity(u64::MAX - 1), "Done"),
+    (Capacity, "Number(18446744073709551614)"),
+    (SetCapacity(u64::MAX), "Done"),
+    (Capacity, "Number(18446744073709551616)"),
+    (Total, "Number(0)"),
+];
+
+#[test]
+fn the_capacity_passes_the_end_of_one_shard(rt: HostRuntime) -> Result<(), test::Fail> {
+    plays(&rt, rt.alloc(), u64::MAX, 2, &WIDE)?;
+    plays(&rt, rt.alloc(), u64::MAX, 16, &WIDE[..1])
+}
+
 const CHANGES: [(Call, &str); 14] = [
     (Init(1, 1, 1, AtOnce), "Made(1, 1)"),
     (Init(0, 1, 0, AtOnce), "Made(0, 0)"),

@@ -40,7 +40,7 @@ impl Failure {
     /// wrong words, else 1.
     pub fn report<E: Write>(self, err: &mut E) -> u8 {
         let told = match self {
-            Failure::Usage => writeln!(err, "usage: SEED MINUTES"),
+            Failure::Usage => writeln!(err, "usage: lru_soak SEED MINUTES"),
             Failure::Refused => writeln!(err, "refused 1"),
             Failure::Failed(seed, check) => writeln!(err, "seed {seed} failed: {check}"),
             Failure::System => writeln!(err, "a write or the clock failed"),

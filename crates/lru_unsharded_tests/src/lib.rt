@@ -7,6 +7,8 @@ mod capacities;
 #[cfg(test)]
 mod changes;
 #[cfg(test)]
+mod contents;
+#[cfg(test)]
 mod crossings;
 #[cfg(test)]
 mod errands;
@@ -17,15 +19,21 @@ mod gates;
 #[cfg(test)]
 mod handles;
 #[cfg(test)]
+mod keys;
+#[cfg(test)]
 mod makings;
 #[cfg(test)]
 mod marks;
 #[cfg(test)]
 mod nested;
 #[cfg(test)]
+mod owned;
+#[cfg(test)]
 mod play;
 #[cfg(test)]
 mod pool;
+#[cfg(test)]
+mod reads;
 #[cfg(test)]
 mod rows;
 #[cfg(test)]

@@ -22,7 +22,7 @@ use Rattle.concurrent_lru.proofs.Entries.SumsOfHeld.{sum_by-cons, sum-insert, su
 pub less_alike : (left total sum all n : ℕ) → left + n ≡ total → sum + n ≡ all → total ≡ all → left ≡ sum
 less_alike left total sum all n a b c = omega (arith, a, b, c)
 
-absent_in : (q : ℕ) (xs : List ℕ) → AllByRecursion (λ y. eqb q y ≡ false) xs → IsIn q xs → ⊥
+pub absent_in : (q : ℕ) (xs : List ℕ) → AllByRecursion (λ y. eqb q y ≡ false) xs → IsIn q xs → ⊥
 absent_in q [] h m = true≢false (sym m)
 absent_in q (x ∷ xs) h m = absent_in q xs h.1 (sym (ap (λ b. b || list_any (eqb q) xs) h.0) ∙ m)
 

@@ -56,3 +56,9 @@ module _ {K V : Type 0} where
   own_key s p n tied h value =
       let held = key_of_held s.memory.cells p h in let there = value_at_key s.memory.cells p held.0 held.1 in
       ap Some (tied.placed held.0 (place_of n) (ap place_in there.1 ∙ ap (λ x. Some (place_of x)) (sym (value held.0 there.0 held.1 there.1)))) ∙ sym held.1
+
+  -- a pointer is of the key that it was, where the slab stays the same
+  pub key_stays : (s t : Slots K V) (k : ℕ) (p : Ptr) → IsTied s → IsTied t → t.pointers ≡ s.pointers → key_at s.memory.cells p ≡ Some k → key_at t.memory.cells p ≡ Some k
+  key_stays s t k p was is same at =
+      let there = value_at_key s.memory.cells p k at in
+      is.apart k p (is.pointers k ∙ ap (λ l. ptr_of (get l k)) same ∙ sym (was.pointers k) ∙ ap ptr_in there.1 ∙ ap Some there.2)

@@ -108,3 +108,10 @@ module _ {K V S : Type 0} (E : K → K → Bool) where
       cache-same : (k : ℕ) (d : Cache K V) → k < length old.caches → (b : Bool) → (k == i) ≡ b → slice_index_or new.caches k d ≡ slice_index_or old.caches k d
       cache-same k d lt true is = subst (λ j. j < length old.caches → slice_index_or new.caches j d ≡ slice_index_or old.caches j d) (sym (eqb-true k i is)) (λ within. (s.own d within).1) lt
       cache-same k d lt false is = s.others k d (λ same. true≢false (sym (eq-eqb k i same) ∙ is))
+
+module _ {K V S : Type 0} where
+  -- the cache at a shard, as it is seen among all of them
+  pub cache-at : (old : Sharded K V S) (hasher : S) (cs : List (Counted K V)) (i j : ℕ) (was : Counted K V) → record { hasher = hasher; caches = caches_in cs } ≡ old → i ≡ j → i < length old.caches → was ≡ slice_index_or cs i was → (d : Cache K V) → slice_index_or old.caches j d ≡ was.cache
+  cache-at old hasher cs i j was is same within at d =
+      let inside : i < length cs = subst (λ n. i < n) (sym (sym (length-map cs (λ c. c.cache)) ∙ ap (λ s. length s.caches) is)) within in
+      sym (ap (λ s. slice_index_or s.caches j d) is) ∙ ap (λ k. slice_index_or (caches_in cs) k d) (sym same) ∙ get_or-map (λ c. c.cache) cs i was d inside ∙ ap (λ c. c.cache) (sym at)

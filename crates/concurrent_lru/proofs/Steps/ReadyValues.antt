@@ -34,7 +34,7 @@ module _ {X : Type 0} where
   contains_first : (x : X) (xs : List X) → Contains (x ∷ xs) x
   contains_first x xs = (0, omega arith, refl)
 
-  contains_found : (p : X → Bool) (xs : List X) (x : X) → find p xs ≡ Some x → Contains xs x
+  pub contains_found : (p : X → Bool) (xs : List X) (x : X) → find p xs ≡ Some x → Contains xs x
   contains_found p [] x h = absurd (none-some x h)
   contains_found p (y ∷ xs) x h =
       elim (p y) as (λ t. cond t (Some y) (find p xs) ≡ Some x → Contains (y ∷ xs) x) [
@@ -232,7 +232,7 @@ module _ {K V : Type 0} (E : K → K → Bool) where
   set_capacity_fewer old new capacity out h = fewer_settled (with_capacity old capacity) new out h
 
   -- a hit's value is ready under a key equal to the one asked
-  hits_ready : (old new : Cache K V) (k : K) (s : ℕ) (v : V) (out : List (Idle K V)) → Hits E old k s v out new → ReadyFor E old k v
+  pub hits_ready : (old new : Cache K V) (k : K) (s : ℕ) (v : V) (out : List (Idle K V)) → Hits E old k s v out new → ReadyFor E old k v
   hits_ready old new k s v out h = elim h [
     | inl j ↦ (j.entry.key, j.same_key, inr (s, j.entry, j.holds.at, refl, j.holds.phase))
     | inr r ↦ (r.entry.key, r.same_key, inl (r.entry, contains_found _ old.idle r.entry r.at, refl, r.value))
@@ -284,7 +284,7 @@ module _ {K V : Type 0} (E : K → K → Bool) where
     kept_fewer : (old new : Cache K V) → FewerReady old new → ValuesFit fits old → ValuesFit fits new
     kept_fewer old new fewer kept k v h = kept k v (fewer k v h)
 
-    kept_for : (c : Cache K V) (k : K) (v : V) → EqualKeysFit E fits → ValuesFit fits c → ReadyFor E c k v → fits k v
+    pub kept_for : (c : Cache K V) (k : K) (v : V) → EqualKeysFit E fits → ValuesFit fits c → ReadyFor E c k v → fits k v
     kept_for c k v law kept r = law r.0 k v r.1 (kept r.0 v r.2)
 
     -- so the values stay fit

@@ -94,6 +94,26 @@ pub(super) fn append_at<K: Drop, V: Drop>(
     ensures looks { slots.new.looks.count ≡ slots.old.looks.count + 1 }
 {
     let own = slots.look(key);
+    push(slots, oldest, newest, own, key);
+}
+
+// Makes the node that a link leads to the newest idle one. The key is the node's own.
+fn push<K: Drop, V: Drop>(
+    slots: &mut Slots<K, V>,
+    oldest: &mut Option<usize>,
+    newest: &mut Option<*mut Node<K, V>>,
+    own: *mut Node<K, V>,
+    key: usize,
+)
+    requires table { IsNodeTable slots.old oldest.old newest.old }
+    requires own { key_at slots.old.memory.cells own ≡ Some key }
+    requires held { list_any (nat_eq key) (idle_places slots.old.memory.cells oldest.old) ≡ false }
+    ensures table { IsNodeTable slots.new oldest.new newest.new }
+    ensures nodes { map_of_slots (map entry_in slots.new.memory.cells) ≡ map_of_slots (map entry_in slots.old.memory.cells) }
+    ensures idle { idle_places slots.new.memory.cells oldest.new ≡ idle_places slots.old.memory.cells oldest.old ++ key ∷ [] }
+    ensures pointers { slots.new.pointers ≡ slots.old.pointers }
+    ensures looks { slots.new.looks ≡ slots.old.looks }
+{
     relink(slots, own, *newest, None);
     match *newest {
         Some(last) => set_after(slots, last, Some(own)),
@@ -203,6 +223,26 @@ pub(super) fn remove_at<K: Drop, V: Drop>(
 {
     let own = slots.look(key);
     cut(slots, oldest, newest, own);
+}
+
+// Takes the node under a key out of the idle order and makes it the newest idle one, with one look.
+pub(super) fn renew_at<K: Drop, V: Drop>(
+    slots: &mut Slots<K, V>,
+    oldest: &mut Option<usize>,
+    newest: &mut Option<*mut Node<K, V>>,
+    key: usize,
+)
+    requires table { IsNodeTable slots.old oldest.old newest.old }
+    requires idle { list_any (nat_eq key) (idle_places slots.old.memory.cells oldest.old) ≡ true }
+    ensures table { IsNodeTable slots.new oldest.new newest.new }
+    ensures nodes { map_of_slots (map entry_in slots.new.memory.cells) ≡ map_of_slots (map entry_in slots.old.memory.cells) }
+    ensures idle { idle_places slots.new.memory.cells oldest.new ≡ filter (λ q. not (q == key)) (idle_places slots.old.memory.cells oldest.old) ++ key ∷ [] }
+    ensures pointers { slots.new.pointers ≡ slots.old.pointers }
+    ensures looks { slots.new.looks.count ≡ slots.old.looks.count + 1 }
+{
+    let node = slots.look(key);
+    cut(slots, oldest, newest, node);
+    push(slots, oldest, newest, node, key);
 }
 
 // Writes the pins of the node that a link leads to.

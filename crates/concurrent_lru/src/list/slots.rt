@@ -96,6 +96,13 @@ impl<K: Drop, V: Drop> Slots<K, V> {
         self.memory.get(self.pointers[key])
     }
 
+    // How many nodes there are.
+    pub(super) fn len(&self) -> usize
+        ensures { result ≡ slab_len self.now.pointers }
+    {
+        self.pointers.len()
+    }
+
     // Whether there is a node under a key, which may be any.
     pub(super) fn contains(&self, key: usize) -> bool
         requires { IsTied self.now }

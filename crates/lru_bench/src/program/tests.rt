@@ -5,28 +5,47 @@ use lru_support::words::words;
 use lru_support::writer::Limited;
 use std::test::Fail;
 
-const USAGE: &str = "usage: check | time [ENTRIES ..]\n";
+const USAGE: &str =
+    "usage: lru_bench check | time [ENTRIES ..] | mostly FILE, ENTRIES from 1 to 10000000\n";
 
-const SYSTEM: &str = "a write, the clock or random numbers failed\n";
+const ENTRIES: &str = "lru_bench: ENTRIES is a number from 1 to 10000000\n";
+
+const SYSTEM: &str = "a file, a write, the clock or random numbers failed\n";
 
 #[test]
 fn tells_its_usage(rt: HostRuntime) -> Result<(), Fail> {
     let alloc = rt.alloc();
-    let wrong: [&[&str]; 6] = [
-        &[],
-        &["times"],
-        &["check", "8"],
-        &["time", "0"],
-        &["time", "8", "few"],
-        &["time", ""],
+    let wrong: [(&[&str], &str); 10] = [
+        (&[], USAGE),
+        (&["mostly"], USAGE),
+        (&["mostly", "a", "b"], USAGE),
+        (&["times"], USAGE),
+        (&["check", "8"], USAGE),
+        (&["time", "0"], ENTRIES),
+        (&["time", "8", "few"], ENTRIES),
+        (&["time", ""], ENTRIES),
+        (&["time", "10000001"], ENTRIES),
+        (&["time", "18446744073709551615"], ENTRIES),
     ];
-    for wrong in wrong {
+    for (wrong, said) in wrong {
         let (mut out, mut err) = (Vec::new(alloc), Vec::new(alloc));
         let status = program(&rt, alloc, &words(alloc, wrong)?, &mut out, &mut err);
         assert_eq!(rt; status, 2, "at {wrong:?}");
         assert_eq!(rt; str::from_utf8(&out)?, "", "at {wrong:?}");
-        assert_eq!(rt; str::from_utf8(&err)?, USAGE, "at {wrong:?}");
+        assert_eq!(rt; str::from_utf8(&err)?, said, "at {wrong:?}");
     }
+    Ok(())
+}
+
+#[test]
+fn tells_that_a_file_is_not_there(rt: HostRuntime) -> Result<(), Fail> {
+    let alloc = rt.alloc();
+    let words = words(alloc, &["mostly", "no such folder/zipf.bin"])?;
+    let (mut out, mut err) = (Vec::new(alloc), Vec::new(alloc));
+    let status = program(&rt, alloc, &words, &mut out, &mut err);
+    assert_eq!(rt; status, 1);
+    assert_eq!(rt; str::from_utf8(&out)?, "");
+    assert_eq!(rt; str::from_utf8(&err)?, SYSTEM);
     Ok(())
 }
 

@@ -35,10 +35,13 @@ fn run<R: Wait, F: Files<File = File>>(
 
 #[test]
 fn tells_its_usage(rt: HostRuntime) -> Result<(), Fail> {
-    let wrong: [&[&str]; 5] = [
+    let wrong: [&[&str]; 8] = [
         &[],
         &["file", "many"],
         &["file", "-1"],
+        &["file", "+3"],
+        &["file", " 3"],
+        &["file", "18446744073709551616"],
         &["file", ""],
         &["file", "2", "3"],
     ];
@@ -53,20 +56,22 @@ fn tells_its_usage(rt: HostRuntime) -> Result<(), Fail> {
 #[test]
 fn opens_nothing_but_files(rt: HostRuntime) -> Result<(), Fail> {
     let cases = [
-        ("/no/such/file", "No such file or directory (os error 2)\n"),
-        ("/", "it is a folder\n"),
-        ("/dev/null", "it is no file of bytes\n"),
+        (
+            "/no/such/file",
+            "cannot open \"/no/such/file\": No such file or directory (os error 2)\n",
+        ),
+        ("/", "cannot open \"/\": it is a directory\n"),
+        (
+            "/dev/null",
+            "cannot open \"/dev/null\": it is not a regular file\n",
+        ),
     ];
     for (path, why) in cases {
         let ended = run(&rt, &rt, rt.alloc(), &[path])?;
         assert_eq!(rt; ended.status, 1, "at {path}");
         assert!(rt; ended.out.is_empty(), "at {path}");
         let told = str::from_utf8(&ended.err)?;
-        assert_eq!(rt;
-            told.strip_prefix("lru_cat: not opened: "),
-            Some(why),
-            "at {path}"
-        );
+        assert_eq!(rt; told.strip_prefix("lru_cat: "), Some(why), "at {path}");
     }
     Ok(())
 }
@@ -114,9 +119,26 @@ fn prints_a_file_and_counts(rt: HostRuntime) -> Result<(), Fail> {
     Ok(())
 }
 
-// A system in which no file may be read.
+// A file of the system's own has no length, and bytes all the same. This one has those of more
+// than one block.
+#[test]
+fn prints_a_file_that_has_no_length(rt: HostRuntime) -> Result<(), Fail> {
+    let (alloc, path) = (rt.alloc(), "/proc/self/limits");
+    assert_eq!(rt; fs::metadata(&rt, path)?.len(), 0);
+    let whole = fs::read(&rt, path)?;
+    let blocks = whole.len().div_ceil(512);
+    assert!(rt; blocks > 1);
+    let ended = run(&rt, &rt, alloc, &[path])?;
+    assert!(rt; ended.out == whole);
+    let counts = format!(in alloc; "{blocks} blocks read, 0 answers from memory\n")?;
+    assert_eq!(rt; str::from_utf8(&ended.err)?, counts.as_str());
+    assert_eq!(rt; ended.status, 0);
+    Ok(())
+}
+
+// A system in which every path is of this kind, and no file may be opened.
 #[derive(Drop)]
-struct Forbidden;
+struct Forbidden(Metadata);
 
 fn denied<T>() -> io::Result<T> {
     Err(io::Error::from(ErrorKind::PermissionDenied))
@@ -136,11 +158,11 @@ impl Files for Forbidden {
     }
 
     fn metadata(&self, _path: &str) -> io::Result<Metadata> {
-        Ok(Metadata::of_file(5))
+        Ok(self.0.clone()?)
     }
 
     fn symlink_metadata(&self, _path: &str) -> io::Result<Metadata> {
-        Ok(Metadata::of_file(5))
+        Ok(self.0.clone()?)
     }
 
     fn copy(&self, _from: &str, _to: &str) -> io::Result<u64> {
@@ -168,14 +190,24 @@ impl Files for Forbidden {
     }
 }
 
+// What is not a regular file is told before it is opened, since a pipe, for which a link stands
+// here, would wait for a writer then.
 #[test]
-fn tells_that_a_file_may_not_be_read(rt: HostRuntime) -> Result<(), Fail> {
-    let ended = run(&rt, &Forbidden, rt.alloc(), &["file"])?;
-    assert_eq!(rt; ended.status, 1);
-    assert_eq!(rt;
-        str::from_utf8(&ended.err)?,
-        "lru_cat: not opened: permission denied\n"
-    );
+fn tells_why_a_path_is_not_opened(rt: HostRuntime) -> Result<(), Fail> {
+    let cases = [
+        (Metadata::of_file(5), "permission denied\n"),
+        (Metadata::of_dir(), "it is a directory\n"),
+        (Metadata::of_symlink(5), "it is not a regular file\n"),
+    ];
+    for (metadata, why) in cases {
+        let ended = run(&rt, &Forbidden(metadata), rt.alloc(), &["file"])?;
+        assert_eq!(rt; ended.status, 1, "at {why}");
+        let told = str::from_utf8(&ended.err)?;
+        assert_eq!(rt;
+            told.strip_prefix("lru_cat: cannot open \"file\": "),
+            Some(why)
+        );
+    }
     Ok(())
 }
 
@@ -204,7 +236,7 @@ fn ends_at_a_failed_write(rt: HostRuntime) -> Result<(), Fail> {
     assert_eq!(rt; program(&rt, &rt, alloc, &words, &mut Full, &mut err), 1);
     assert_eq!(rt;
         str::from_utf8(&err)?,
-        "lru_cat: not written: no storage space\n"
+        "lru_cat: cannot write standard output: no storage space\n"
     );
     fs::remove_file(&rt, path.as_path())?;
     Ok(())

@@ -49,6 +49,12 @@ impl<P: Owned> Model<P> {
                 self.note(evicted)
             }
             Call::Prune => self.prune(),
+            Call::SetCapacity(capacity) => {
+                let evicted = self.owned.resized(capacity);
+                self.note(evicted)
+            }
+            // There is memory for the little that is asked for, and room changes no answer.
+            Call::Reserve(_) => Ok(Said::Done),
             _ => Ok(Said::Number(self.total())),
         }
     }

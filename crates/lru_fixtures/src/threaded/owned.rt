@@ -32,6 +32,9 @@ pub trait Owned {
     /// `advice_evict`.
     fn advised(&mut self, key: u64) -> Evicted<u64, u64>;
 
+    /// `set_capacity`, of all shards.
+    fn resized(&mut self, capacity: u64) -> Evicted<u64, u64>;
+
     /// `prune` of a shard; `Stale` where there is no such shard.
     fn pruned(&mut self, shard: usize) -> Result<Evicted<u64, u64>, Refusal>;
 
@@ -72,6 +75,10 @@ impl Owned for State<u64, u64> {
 
     fn advised(&mut self, key: u64) -> Evicted<u64, u64> {
         self.advice_evict(&key)
+    }
+
+    fn resized(&mut self, capacity: u64) -> Evicted<u64, u64> {
+        self.set_capacity(capacity)
     }
 
     fn pruned(&mut self, shard: usize) -> Result<Evicted<u64, u64>, Refusal> {
@@ -118,6 +125,10 @@ impl<S: BuildHasher + Drop> Owned for Shards<u64, u64, S> {
 
     fn advised(&mut self, key: u64) -> Evicted<u64, u64> {
         self.advice_evict(&key)
+    }
+
+    fn resized(&mut self, capacity: u64) -> Evicted<u64, u64> {
+        self.set_capacity(capacity)
     }
 
     fn pruned(&mut self, shard: usize) -> Result<Evicted<u64, u64>, Refusal> {

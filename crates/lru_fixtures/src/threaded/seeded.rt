@@ -13,9 +13,10 @@ const CALLS: u64 = 2_000;
 // The next call, whose value would be its number. The numbers of 16 keys differ in their high
 // half alone, in their low half alone, or in both.
 fn draw(generator: &mut Xoshiro256PlusPlus, number: u64) -> Call {
-    let kind = generator.next_u64() % 24;
+    let kind = generator.next_u64() % 26;
     let key = generator.next_u64() % 4 * 4_294_967_296 + generator.next_u64() % 4;
     let charge = 1 + generator.next_u64() % 9;
+    let limit = generator.next_u64() % 48;
     let slot = (generator.next_u64() % 8) as usize;
     let then = if slot < 4 {
         Then::Keep(slot)
@@ -30,6 +31,8 @@ fn draw(generator: &mut Xoshiro256PlusPlus, number: u64) -> Call {
         17..20 => Call::LetGo(slot % 4),
         20..22 => Call::AdviceEvict(key),
         22 => Call::Prune,
+        23 => Call::SetCapacity(limit),
+        24 => Call::Reserve(limit as usize),
         _ => Call::Total,
     }
 }

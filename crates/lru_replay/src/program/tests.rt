@@ -44,6 +44,10 @@ init 1 1 fail keep 3 => err []
 
 const USAGE: &str = "usage: lru_replay < STEPS\n";
 
+const UNREAD: &str = "lru_replay: cannot read standard input: broken pipe\n";
+
+const UNWRITTEN: &str = "lru_replay: cannot write standard output: broken pipe\n";
+
 // Lines that are no steps, and what is said of each.
 const WRONG: [(&str, &str); 20] = [
     (
@@ -200,8 +204,13 @@ fn reads_lines_up_to_their_limit(rt: HostRuntime) -> Result<(), Fail> {
 fn ends_at_a_failed_write(rt: HostRuntime) -> Result<(), Fail> {
     for room in 0..=ANSWERS.len() {
         let (status, out, err) = ends(&rt, rt.alloc(), &[], STEPS.as_bytes(), room)?;
-        assert!(rt; err.bytes().is_empty(), "at {room} bytes");
-        assert_eq!(rt; status == 0, room == ANSWERS.len(), "at {room} bytes");
+        let (wanted, said) = if room < ANSWERS.len() {
+            (1, UNWRITTEN)
+        } else {
+            (0, "")
+        };
+        assert_eq!(rt; status, wanted, "at {room} bytes");
+        assert_eq!(rt; str::from_utf8(err.bytes())?, said, "at {room} bytes");
         assert_eq!(rt;
             Some(out.bytes()),
             ANSWERS.as_bytes().get(..room),
@@ -217,7 +226,7 @@ fn ends_at_a_failed_read(rt: HostRuntime) -> Result<(), Fail> {
     let input = BufReader::new(alloc, Broken("new 1\nprune".as_bytes()))?;
     let (status, out, err) = ends(&rt, alloc, &[], input, ROOM)?;
     assert_eq!(rt; str::from_utf8(out.bytes())?, "new 1 => done []\n");
-    assert!(rt; str::from_utf8(err.bytes())?.starts_with("the input cannot be read: "));
+    assert_eq!(rt; str::from_utf8(err.bytes())?, UNREAD);
     assert_eq!(rt; status, 1);
     Ok(())
 }

@@ -43,6 +43,8 @@ row 22: [0]; some; some; none
 
 const USAGE: &str = "usage: rows | stress SEED\n";
 
+const UNWRITTEN: &str = "lru_rows: cannot write standard output: broken pipe\n";
+
 // The arguments of a system that has nothing else.
 #[derive(Drop)]
 struct Arguments<'a>(&'a [&'a [u8]]);
@@ -105,7 +107,7 @@ const ENDS: [(&str, (usize, usize), u8, &str, &str); 18] = [
     ("/stress/1/2", (9_999, 9_999), 2, "", USAGE),
     ("/Stress/1", (9_999, 9_999), 2, "", USAGE),
     ("", (9_999, 0), 1, "", ""),
-    ("/rows", (0, 9_999), 1, "", ""),
+    ("/rows", (0, 9_999), 1, "", UNWRITTEN),
 ];
 
 #[test]
@@ -123,8 +125,13 @@ fn ends_with_a_status(rt: HostRuntime) -> Result<(), Fail> {
 fn ends_at_a_failed_write(rt: HostRuntime) -> Result<(), Fail> {
     for room in 0..=ROWS.len() {
         let (status, out, err) = run(&rt, rt.alloc(), "/rows", (room, 9_999))?;
-        assert_eq!(rt; status == 0, room == ROWS.len(), "at {room} bytes");
-        assert!(rt; err.bytes().is_empty(), "at {room} bytes");
+        let (wanted, said) = if room < ROWS.len() {
+            (1, UNWRITTEN)
+        } else {
+            (0, "")
+        };
+        assert_eq!(rt; status, wanted, "at {room} bytes");
+        assert_eq!(rt; str::from_utf8(err.bytes())?, said, "at {room} bytes");
         assert_eq!(rt;
             Some(out.bytes()),
             ROWS.as_bytes().get(..room),

@@ -6,7 +6,7 @@ use lru_stress::outcome::{Check, Trouble};
 use lru_support::words::words;
 use std::test::Fail;
 
-const USAGE: &str = "usage: SEED MINUTES\n";
+const USAGE: &str = "usage: lru_soak SEED MINUTES\n";
 
 // The words, the status, and what was written to the two streams.
 const ENDS: [(&[&str], u8, &str, &str); 7] = [

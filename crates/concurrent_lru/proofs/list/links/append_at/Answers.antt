@@ -1,24 +1,27 @@
-use Rattle.std.proofs.Common.{ap, ◌∙◌}
-use Rattle.concurrent_lru.proofs.Order.Appending.{last_held, appended_first, appended_after}
+use Rattle.std.proofs.Common.{◌≡◌, ◌++◌, ◌∷◌, [], false, map, eqb, sym, ap, ◌∙◌, subst}
+use Rattle.std.specs.List.{list_any}
+use Rattle.concurrent_lru.specs.Cells.{key_at}
+use Rattle.concurrent_lru.specs.Slots.{map_of_slots}
+use Rattle.concurrent_lru.specs.SlotTable.{entry_in, idle_places}
+use Rattle.concurrent_lru.proofs.Order.Appending.{table_looked}
 use Rattle.concurrent_lru.proofs.list.links.append_at.Goals as goal
 
-pub set_after-requires : goal.set_after-requires
-set_after-requires g c = last_held c.args.slots.now c.args.oldest.now c.args.newest.now c.args.key c.look-own.result c.look-own.new.self.memory.cells c.requires.table c.look-own.ensures.link (ap (λ t. t.memory.cells) c.look-own.ensures.rest) c.relink.new.slots.memory.cells c.in-Some.last c.relink.ensures.cells c.in-Some.is
+pub push-requires-clause-table : goal.push-requires-clause-table
+push-requires-clause-table g c = table_looked c.args.slots.now c.look-own.new.self c.args.oldest.now c.args.newest.now c.look-own.ensures.rest c.look-own.ensures.tied c.requires.table
 
-pub returns-in-Some-clause-table : goal.returns-in-Some-clause-table
-returns-in-Some-clause-table g c = (appended_after c.args.slots.now c.args.oldest.now c.args.newest.now c.args.key c.look-own.result c.look-own.new.self.memory.cells c.requires.table c.look-own.ensures.link (ap (λ t. t.memory.cells) c.look-own.ensures.rest) c.set_after.new.slots c.relink.new.slots.memory.cells c.in-Some.last (ap (λ w. w.pointers) c.set_after.ensures.slots ∙ ap (λ w. w.pointers) c.relink.ensures.slots ∙ ap (λ w. w.pointers) c.look-own.ensures.rest) c.requires.held c.relink.ensures.cells c.in-Some.is c.set_after.ensures.cells).table
+pub push-requires-clause-own : goal.push-requires-clause-own
+push-requires-clause-own g c = ap (λ t. key_at t.memory.cells c.look-own.result) c.look-own.ensures.rest ∙ c.look-own.ensures.link
 
-pub returns-in-Some-clause-nodes : goal.returns-in-Some-clause-nodes
-returns-in-Some-clause-nodes g c = (appended_after c.args.slots.now c.args.oldest.now c.args.newest.now c.args.key c.look-own.result c.look-own.new.self.memory.cells c.requires.table c.look-own.ensures.link (ap (λ t. t.memory.cells) c.look-own.ensures.rest) c.set_after.new.slots c.relink.new.slots.memory.cells c.in-Some.last (ap (λ w. w.pointers) c.set_after.ensures.slots ∙ ap (λ w. w.pointers) c.relink.ensures.slots ∙ ap (λ w. w.pointers) c.look-own.ensures.rest) c.requires.held c.relink.ensures.cells c.in-Some.is c.set_after.ensures.cells).nodes
+pub push-requires-clause-held : goal.push-requires-clause-held
+push-requires-clause-held g c =
+    let same = ap (λ t. t.memory.cells) c.look-own.ensures.rest in
+    subst (λ l. list_any (eqb c.args.key) (idle_places l c.args.oldest.now) ≡ false) (sym same) c.requires.held
 
-pub returns-in-Some-clause-idle : goal.returns-in-Some-clause-idle
-returns-in-Some-clause-idle g c = (appended_after c.args.slots.now c.args.oldest.now c.args.newest.now c.args.key c.look-own.result c.look-own.new.self.memory.cells c.requires.table c.look-own.ensures.link (ap (λ t. t.memory.cells) c.look-own.ensures.rest) c.set_after.new.slots c.relink.new.slots.memory.cells c.in-Some.last (ap (λ w. w.pointers) c.set_after.ensures.slots ∙ ap (λ w. w.pointers) c.relink.ensures.slots ∙ ap (λ w. w.pointers) c.look-own.ensures.rest) c.requires.held c.relink.ensures.cells c.in-Some.is c.set_after.ensures.cells).idle
+pub returns-clause-nodes : goal.returns-clause-nodes
+returns-clause-nodes g c = c.push.ensures.nodes ∙ ap (λ t. map_of_slots (map entry_in t.memory.cells)) c.look-own.ensures.rest
 
-pub returns-in-None-clause-table : goal.returns-in-None-clause-table
-returns-in-None-clause-table g c = (appended_first c.args.slots.now c.args.oldest.now c.args.newest.now c.args.key c.look-own.result c.look-own.new.self.memory.cells c.requires.table c.look-own.ensures.link (ap (λ t. t.memory.cells) c.look-own.ensures.rest) c.relink.new.slots (ap (λ w. w.pointers) c.relink.ensures.slots ∙ ap (λ w. w.pointers) c.look-own.ensures.rest) c.requires.held c.relink.ensures.cells c.in-None.is).table
+pub returns-clause-idle : goal.returns-clause-idle
+returns-clause-idle g c = c.push.ensures.idle ∙ ap (λ t. idle_places t.memory.cells c.args.oldest.now ++ c.args.key ∷ []) c.look-own.ensures.rest
 
-pub returns-in-None-clause-nodes : goal.returns-in-None-clause-nodes
-returns-in-None-clause-nodes g c = (appended_first c.args.slots.now c.args.oldest.now c.args.newest.now c.args.key c.look-own.result c.look-own.new.self.memory.cells c.requires.table c.look-own.ensures.link (ap (λ t. t.memory.cells) c.look-own.ensures.rest) c.relink.new.slots (ap (λ w. w.pointers) c.relink.ensures.slots ∙ ap (λ w. w.pointers) c.look-own.ensures.rest) c.requires.held c.relink.ensures.cells c.in-None.is).nodes
-
-pub returns-in-None-clause-idle : goal.returns-in-None-clause-idle
-returns-in-None-clause-idle g c = (appended_first c.args.slots.now c.args.oldest.now c.args.newest.now c.args.key c.look-own.result c.look-own.new.self.memory.cells c.requires.table c.look-own.ensures.link (ap (λ t. t.memory.cells) c.look-own.ensures.rest) c.relink.new.slots (ap (λ w. w.pointers) c.relink.ensures.slots ∙ ap (λ w. w.pointers) c.look-own.ensures.rest) c.requires.held c.relink.ensures.cells c.in-None.is).idle
+pub returns-clause-pointers : goal.returns-clause-pointers
+returns-clause-pointers g c = c.push.ensures.pointers ∙ ap (λ t. t.pointers) c.look-own.ensures.rest

@@ -1,0 +1,29 @@
+use Rattle.std.proofs.Common.{arith, ◌++◌, ◌∷◌, [], true, filter, not, eqb, ap, ◌∙◌}
+use Rattle.concurrent_lru.specs.NodeTable.{NodeTable}
+use Rattle.concurrent_lru.proofs.Nodes.SlotViews.{idle_there, spare_same}
+use Rattle.concurrent_lru.proofs.list.Nodes.renew.Goals as goal
+
+pub renew_at-requires-clause-idle : goal.renew_at-requires-clause-idle
+renew_at-requires-clause-idle g c = let i = c.self.inside in idle_there i.slots i.oldest i.work.count c.args.self.now c.self.view_is true c.place.inside.key c.args.place c.place.view_is c.requires
+
+pub returns-clause-nodes : goal.returns-clause-nodes
+returns-clause-nodes g c = c.renew_at.ensures.nodes ∙ ap (λ (v : NodeTable g.row.K.Denot g.row.V.Denot). v.nodes) c.self.view_is
+
+pub returns-clause-idle : goal.returns-clause-idle
+returns-clause-idle g c = c.renew_at.ensures.idle ∙ (λ j. filter (λ q. not (eqb q (c.place.view_is j))) (c.self.view_is j).idle ++ c.place.view_is j ∷ [])
+
+pub returns-clause-spare : goal.returns-clause-spare
+returns-clause-spare g c = let i = c.self.inside in spare_same i.slots c.renew_at.new.slots c.args.self.now i.oldest i.work.count c.self.view_is c.renew_at.ensures.pointers
+
+pub returns-clause-looks : goal.returns-clause-looks
+returns-clause-looks g c =
+    let looks = ap (λ (v : NodeTable g.row.K.Denot g.row.V.Denot). v.looks) c.self.view_is in
+    let more = c.renew_at.ensures.looks in
+    omega (arith, looks, more)
+
+pub returns-clause-work : goal.returns-clause-work
+returns-clause-work g c =
+    let work = ap (λ (v : NodeTable g.row.K.Denot g.row.V.Denot). v.work) c.self.view_is in
+    let first = c.tick.ensures in
+    let second = c.tick-2.ensures in
+    omega (arith, work, first, second)

@@ -1,0 +1,32 @@
+use Rattle.std.specs.FinMap.{get}
+use Rattle.std.proofs.Common.{sym, ap, ◌∙◌, subst}
+use Rattle.concurrent_lru.specs.Entries.{ContainsIdleAt, value_at}
+use Rattle.concurrent_lru.specs.Indexes.{entries_of}
+use Rattle.concurrent_lru.specs.Reads.{RenewsAt}
+use Rattle.concurrent_lru.proofs.Entries.NodeAtPlace.{some_node, idle_node, node_value}
+use Rattle.concurrent_lru.proofs.Entries.EntryRenewed.{Renews, stored_renewed, entries_renewed, sum_renewed}
+use Rattle.concurrent_lru.proofs.table.Table.renew.Goals as goal
+use Rattle.concurrent_lru.proofs.table.Table.renew.Goals.{After-renew}
+
+pub renew-requires : goal.renew-requires
+renew-requires g c = idle_node c.self.invariant.stored c.args.place (subst (λ t. ContainsIdleAt t c.args.place) (sym c.self.view_is) c.requires)
+
+moved : (g : _) (c : After-renew g) → (e : _) × Renews c.self.inside.nodes c.renew.new.self c.args.place e
+moved g c =
+    let h = subst (λ t. ContainsIdleAt t c.args.place) (sym c.self.view_is) c.requires in
+    let n = some_node c.self.invariant.stored c.args.place (h.0, h.1) in
+    (n.0, record { at = n.1; there = idle_node c.self.invariant.stored c.args.place h; nodes = c.renew.ensures.nodes; idle = c.renew.ensures.idle; work = c.renew.ensures.work })
+
+pub invariant_of-self : goal.invariant_of-self
+invariant_of-self g c = record {
+  stored = stored_renewed c.self.invariant.stored (moved g c).1;
+  sums = c.self.invariant.sums ∙ sym (sum_renewed c.self.invariant.stored (moved g c).1);
+}
+
+pub returns-clause-entry : goal.returns-clause-entry
+returns-clause-entry g c = subst (λ t. RenewsAt t c.args.place (entries_of c.renew.new.self)) c.self.view_is (entries_renewed c.self.invariant.stored (moved g c).1)
+
+pub returns-clause-value : goal.returns-clause-value
+returns-clause-value g c =
+    let m = moved g c in
+    node_value (stored_renewed c.self.invariant.stored m.1) c.args.place m.0 (ap (λ n. get n c.args.place) m.1.nodes ∙ m.1.at) ∙ sym (node_value c.self.invariant.stored c.args.place m.0 m.1.at) ∙ ap (λ t. value_at t c.args.place) c.self.view_is

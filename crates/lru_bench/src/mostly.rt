@@ -1,0 +1,193 @@
+//! The workload of reads that mostly hit: workers that share a cache ask it for drawn keys, by
+//! `get_or_init` alone, or by `read` and by `get_or_init` only where nothing is found.
+
+use crate::draws::Draws;
+use concurrent_lru::lru_core::Refusal;
+use concurrent_lru::{sharded, unsharded};
+use lru_support::cached::Cached;
+use std::hash::BuildHasher;
+use std::sync::Wait;
+use std::sync::atomic::{AtomicU64, Ordering};
+use std::thread::Threads;
+use std::{fmt, thread};
+
+/// What an operation read, and whether the value was there.
+#[derive(Clone, Copy)]
+pub struct Found {
+    value: u64,
+    hit: bool,
+}
+
+/// A cache and how it is asked. The value of a key is the key. It has no associated type, since the
+/// checker covers no closure of a thread over one that has.
+pub trait Asked {
+    /// Reads the value of a key, which is made where it is not there.
+    fn ask(&self, key: u64) -> Result<Found, Refusal>;
+}
+
+/// A cache that is asked by `get_or_init`.
+#[derive(Drop)]
+pub struct ByInit<C> {
+    /// A reference to the cache.
+    pub cache: C,
+}
+
+impl<C: Cached<u64>> Asked for ByInit<C> {
+    fn ask(&self, key: u64) -> Result<Found, Refusal> {
+        make(self.cache, key)
+    }
+}
+
+/// A cache that is asked by `read`, and by `get_or_init` where nothing is found.
+#[derive(Drop)]
+pub struct ByRead<C> {
+    /// A reference to the cache.
+    pub cache: C,
+}
+
+impl<C: Cached<u64> + Reads> Asked for ByRead<C> {
+    fn ask(&self, key: u64) -> Result<Found, Refusal> {
+        match self.cache.read_value(key)? {
+            Some(value) => Ok(Found { value, hit: true }),
+            None => make(self.cache, key),
+        }
+    }
+}
+
+fn make<C: Cached<u64>>(cache: C, key: u64) -> Result<Found, Refusal> {
+    let mut made = false;
+    let handle = cache.made(key, 1, |key| {
+        made = true;
+        *key
+    })?;
+    let value = *C::value_of(&handle);
+    Ok(Found { value, hit: !made })
+}
+
+/// `read` of values that are numbers.
+pub trait Reads {
+    /// The value of a key, where it is ready.
+    fn read_value(&self, key: u64) -> Result<Option<u64>, Refusal>;
+}
+
+impl<R: Wait> Reads for &unsharded::LruCache<u64, u64, R> {
+    fn read_value(&self, key: u64) -> Result<Option<u64>, Refusal> {
+        self.read(&key, |value| *value)
+    }
+}
+
+impl<R: Wait, S: BuildHasher> Reads for &sharded::LruCache<u64, u64, R, S> {
+    fn read_value(&self, key: u64) -> Result<Option<u64>, Refusal> {
+        self.read(&key, |value| *value)
+    }
+}
+
+/// What came of a run: the sum of the values, which no schedule changes, and how many were there.
+#[derive(Clone, Copy)]
+pub struct Told {
+    /// The sum of the values that were read.
+    pub sum: u64,
+    /// How many operations found their value.
+    pub hits: u64,
+}
+
+/// Asks for all keys once, in their order.
+pub fn ask_all<A: Asked>(asked: &A, draws: &Draws) -> Result<(), Refusal> {
+    for key in draws.keys() {
+        let _found = asked.ask(*key)?;
+    }
+    Ok(())
+}
+
+/// Asks for `operations` keys in each of some threads.
+///
+/// `Memory` where a thread could not be started, or a call was refused.
+pub fn read_mostly<R: Threads + Wait + Sync, A: Asked + Sync>(
+    rt: &R,
+    asked: &A,
+    draws: &Draws,
+    threads: u32,
+    operations: u32,
+) -> Result<Told, Refusal> {
+    let (sum, hits, ended) = (AtomicU64::new(0), AtomicU64::new(0), AtomicU64::new(0));
+    let (all, there, done) = (&sum, &hits, &ended);
+    thread::scope(thread::scope_env(), rt, |scope| {
+        for worker in 0..threads {
+            let _started = scope.spawn(move || {
+                if let Ok(told) = work(asked, draws, worker, operations) {
+                    all.fetch_add(told.sum, Ordering::SeqCst);
+                    there.fetch_add(told.hits, Ordering::SeqCst);
+                    done.fetch_add(1, Ordering::SeqCst);
+                }
+            });
+        }
+    });
+    if ended.load(Ordering::SeqCst) == u64::from(threads) {
+        Ok(Told {
+            sum: sum.load(Ordering::SeqCst),
+            hits: hits.load(Ordering::SeqCst),
+        })
+    } else {
+        Err(Refusal::Memory)
+    }
+}
+
+// One worker's operations.
+fn work<A: Asked>(asked: &A, draws: &Draws, worker: u32, operations: u32) -> Result<Told, Refusal> {
+    let mut drawing = draws.of_worker(worker);
+    let mut told = Told { sum: 0, hits: 0 };
+    for _ in 0..operations {
+        let Some(key) = drawing.draw() else {
+            return Ok(told);
+        };
+        let found = asked.ask(key)?;
+        told.sum = told.sum.wrapping_add(found.value);
+        told.hits = told.hits.wrapping_add(u64::from(found.hit));
+    }
+    Ok(told)
+}
+
+/// The part of operations that found their value, in ten-thousandths.
+#[derive(Clone, Copy)]
+pub struct HitRatio {
+    parts: u64,
+}
+
+impl HitRatio {
+    /// So many of so many, rounded down; 0 of none.
+    pub fn of(hits: u64, operations: u64) -> HitRatio {
+        let parts = hits
+            .saturating_mul(10_000)
+            .checked_div(operations)
+            .unwrap_or(0);
+        HitRatio { parts }
+    }
+}
+
+impl fmt::Display for HitRatio {
+    fn fmt<W: fmt::Write>(&self, f: &mut fmt::Formatter<W>) -> fmt::Result {
+        write!(f, "{}.{:04}", self.parts / 10_000, self.parts % 10_000)
+    }
+}
+
+#[cfg(test)]
+mod tests {
+    use super::*;
+    use std::test::Fail;
+
+    #[test]
+    fn tells_ten_thousandths(rt: HostRuntime) -> Result<(), Fail> {
+        let alloc = rt.alloc();
+        let cases = [
+            (918, 1000, "0.9180"),
+            (1, 3, "0.3333"),
+            (7, 7, "1.0000"),
+            (0, 0, "0.0000"),
+        ];
+        for (hits, operations, text) in cases {
+            let ratio = HitRatio::of(hits, operations);
+            assert_eq!(rt; format!(in alloc; "{ratio}")?.as_str(), text);
+        }
+        Ok(())
+    }
+}

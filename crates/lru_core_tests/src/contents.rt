@@ -1,0 +1,88 @@
+//! How many entries there are, and which keys have a value, in each state that an entry can be in.
+
+use concurrent_lru::lru_core::{Refusal, State};
+use lru_fixtures::makes::make;
+use lru_fixtures::tables::Call::{
+    AdviceEvict, Begin, Fail, Get, Poll, Prune, Ready, Release, Total,
+};
+use lru_fixtures::tables::{Answers, Call};
+use std::alloc::Global;
+use std::sync::Arc;
+use std::test;
+
+// Calls of a cache of the capacity 3, in order: after each, how many entries there are, and
+// whether the keys 1 and 2 have a value.
+const STATES: [(Call, usize, [bool; 2]); 20] = [
+    (Total, 0, [false, false]),
+    // Being made, by one caller and then with another that waits.
+    (Begin(1, 1), 1, [false, false]),
+    (Begin(1, 1), 1, [false, false]),
+    // Given up, and left to the one that waits, who takes it over.
+    (Fail(0), 1, [false, false]),
+    (Poll(0), 1, [false, false]),
+    // Held, idle, and held again.
+    (Ready(0, 10), 1, [true, false]),
+    (Release(0), 1, [true, false]),
+    (Get(1), 1, [true, false]),
+    (Release(0), 1, [true, false]),
+    // Evicted for another.
+    (Begin(2, 3), 1, [false, false]),
+    (Ready(1, 20), 1, [false, true]),
+    // A making beside it, until it is given up with no one else waiting.
+    (Begin(1, 1), 2, [false, true]),
+    (Fail(2), 1, [false, true]),
+    // What is held is neither pruned nor evicted by advice; what is idle is.
+    (Prune, 1, [false, true]),
+    (AdviceEvict(2), 1, [false, true]),
+    (Release(1), 1, [false, true]),
+    (Prune, 0, [false, false]),
+    (Begin(1, 9), 1, [false, false]),
+    (Ready(3, 11), 1, [true, false]),
+    // Above the capacity, it leaves with its last pin.
+    (Release(3), 0, [false, false]),
+];
+
+#[test]
+fn entries_are_counted_and_values_found(rt: HostRuntime) -> Result<(), test::Fail> {
+    let alloc = rt.alloc();
+    let mut state: State<u64, u64> = State::new(alloc, 3);
+    for (call, len, values) in STATES {
+        let _answer = state.answer(alloc, call)?;
+        assert_eq!(rt; state.len(), len, "after {call:?}");
+        assert_eq!(rt; state.is_empty(), len == 0, "after {call:?}");
+        let found = [state.contains(&1), state.contains(&2)];
+        assert_eq!(rt; found, values, "after {call:?}");
+    }
+    Ok(())
+}
+
+// A cache that keeps three idle entries, of the keys 7, 8 and 9.
+fn with_three(alloc: Global) -> Result<State<u64, u64>, Refusal> {
+    let mut state = State::new(alloc, 3);
+    for key in [7, 8, 9] {
+        make(&mut state, &key, 1, Arc::new(alloc, key)?)?;
+    }
+    Ok(state)
+}
+
+#[test]
+fn a_look_for_a_value_is_no_use_of_it(rt: HostRuntime) -> Result<(), test::Fail> {
+    let mut state = with_three(rt.alloc())?;
+    assert!(rt; state.contains(&7));
+    let mut evicted = state.set_capacity(2);
+    assert_eq!(rt; evicted.pop().map(|gone| gone.key), Some(7));
+    assert_eq!(rt; state.len(), 2);
+    Ok(())
+}
+
+#[test]
+fn evicted_entries_are_counted(rt: HostRuntime) -> Result<(), test::Fail> {
+    let mut state = with_three(rt.alloc())?;
+    let mut evicted = state.prune();
+    for left in [3, 2, 1, 0] {
+        assert_eq!(rt; evicted.len(), left);
+        let _gone = evicted.pop();
+    }
+    assert_eq!(rt; state.len(), 0);
+    Ok(())
+}

@@ -1,0 +1,58 @@
+//! Handles are read as their values, and owned ones keep their cache alive.
+
+use concurrent_lru::unsharded::{LruCache, OwnedHandle};
+use std::alloc::Global;
+use std::sync::{Arc, Wait};
+
+#[test]
+fn a_handle_is_read_as_its_value(rt: HostRuntime) {
+    let cache: LruCache<u64, u64, &HostRuntime> = LruCache::new(rt.alloc(), &rt, 0);
+    let handle = cache.get_or_init(1, 3, |_| 5).expect(&rt, "memory");
+    assert_eq!(rt; *handle, 5);
+}
+
+#[test]
+fn an_entry_stays_until_its_owned_handles_are_dropped(rt: HostRuntime) {
+    let alloc = rt.alloc();
+    let cache: LruCache<u64, u64, &HostRuntime> = LruCache::new(alloc, &rt, 0);
+    let shared = Arc::new(alloc, cache).expect(&rt, "memory");
+    assert!(rt; matches!(LruCache::get_owned(&shared, &1), Ok(None)));
+    let first = LruCache::get_or_init_owned(&shared, &1, 3, |_| 5).expect(&rt, "memory");
+    let second = LruCache::get_owned(&shared, &1)
+        .expect(&rt, "memory")
+        .expect(&rt, "an entry");
+    assert_eq!(rt; (*first, *second), (5, 5));
+    drop(first);
+    assert_eq!(rt; shared.total_charge(), 3);
+    drop(second);
+    assert_eq!(rt; shared.total_charge(), 0);
+    assert_eq!(rt; Arc::strong_count(&shared), 1);
+}
+
+#[test]
+fn an_owned_init_may_fail(rt: HostRuntime) {
+    let alloc = rt.alloc();
+    let cache: LruCache<u64, u64, &HostRuntime> = LruCache::new(alloc, &rt, 10);
+    let shared = Arc::new(alloc, cache).expect(&rt, "memory");
+    let failed = LruCache::get_or_try_init_owned(&shared, &1, 3, |_| Err::<u64, u64>(9));
+    assert!(rt; failed.is_err());
+    assert_eq!(rt; shared.total_charge(), 0);
+    let made = LruCache::get_or_try_init_owned(&shared, &1, 3, |_| Ok::<u64, u64>(4)).ok();
+    assert_eq!(rt; made.map(|handle| *handle), Some(4));
+    assert_eq!(rt; Arc::strong_count(&shared), 1);
+}
+
+// A handle whose cache has no other owner.
+fn alone<R: Wait + Drop>(alloc: Global, rt: R) -> Option<OwnedHandle<u64, u64, R>> {
+    let cache = Arc::new(alloc, LruCache::new(alloc, rt, 0)).ok()?;
+    LruCache::get_or_init_owned(&cache, &1, 3, |_| 5).ok()
+}
+
+#[test]
+fn an_owned_handle_keeps_its_cache_alive(rt: HostRuntime) {
+    let alloc = rt.alloc();
+    let handle = alone(alloc, &rt).expect(&rt, "memory");
+    assert_eq!(rt; *handle, 5);
+    let text = format!(in alloc; "{handle:?}").expect(&rt, "memory");
+    assert_eq!(rt; text.as_str(), "5");
+}
