@@ -1,6 +1,6 @@
 //! How many entries there are, and which keys have a value, in each state that an entry can be in.
 
-use concurrent_lru::lru_core::{Refusal, State};
+use concurrent_lru::lru_core::{Evicted, Refusal, State};
 use lru_fixtures::makes::make;
 use lru_fixtures::tables::Call::{
     AdviceEvict, Begin, Fail, Get, Poll, Prune, Ready, Release, Total,
@@ -85,4 +85,16 @@ fn evicted_entries_are_counted(rt: HostRuntime) -> Result<(), test::Fail> {
     }
     assert_eq!(rt; state.len(), 0);
     Ok(())
+}
+
+// A chain may go to another thread, as a caller sends it that drops it elsewhere.
+fn crosses<T: Send>(value: T) -> T {
+    value
+}
+
+#[test]
+fn a_chain_without_entries_crosses_threads(rt: HostRuntime) {
+    let chain: Evicted<u64, u64> = crosses(Evicted::none());
+    assert!(rt; chain.is_empty());
+    assert_eq!(rt; chain.len(), 0);
 }

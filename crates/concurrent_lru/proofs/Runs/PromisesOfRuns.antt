@@ -26,7 +26,7 @@ use Rattle.concurrent_lru.proofs.Runs.StampsOnce.{lawful_stamps, run_given}
 
 module _ {K V : Type 0} where
   -- a run has one outcome a request, so the pairs give both lists back
-  run_length : (E : K → K → Bool) (old new : Cache K V) (rs : List (Request K V)) (os : List (Outcome K V)) → Run E old rs os new → length os ≡ length rs
+  pub run_length : (E : K → K → Bool) (old new : Cache K V) (rs : List (Request K V)) (os : List (Outcome K V)) → Run E old rs os new → length os ≡ length rs
   run_length E old new [] [] h = refl
   run_length E old new (r ∷ rs) (o ∷ os) h = let n : length os ≡ length rs = run_length E h.0 new rs os h.2 in omega (arith, n)
   run_length E old new [] (o ∷ os) h = absurd h
@@ -35,12 +35,12 @@ module _ {K V : Type 0} where
   abbrev RunOf : (K → K → Bool) → Cache K V → List (Request K V × Outcome K V) → Cache K V → Type 0
   RunOf E old es new = Run E old (map (λ e. e.0) es) (map (λ e. e.1) es) new
 
-  zipped_run : (E : K → K → Bool) (old new : Cache K V) (rs : List (Request K V)) (os : List (Outcome K V)) → Run E old rs os new → RunOf E old (zip rs os) new
+  pub zipped_run : (E : K → K → Bool) (old new : Cache K V) (rs : List (Request K V)) (os : List (Outcome K V)) → Run E old rs os new → RunOf E old (zip rs os) new
   zipped_run E old new rs os h =
       let n = run_length E old new rs os h in
       subst (λ qs. Run E old qs (map (λ e. e.1) (zip rs os)) new) (sym (firsts-zip rs os n)) (subst (λ ps. Run E old rs ps new) (sym (seconds-zip rs os n)) h)
 
-  uses_begun : (rs : List (Request K V)) (os : List (Outcome K V)) → length os ≡ length rs → HaveNoGet rs → uses (zip rs os) ≡ begun_keys rs
+  pub uses_begun : (rs : List (Request K V)) (os : List (Outcome K V)) → length os ≡ length rs → HaveNoGet rs → uses (zip rs os) ≡ begun_keys rs
   uses_begun [] os n h = refl
   uses_begun (r ∷ rs) [] n h = absurd (omega (arith, n))
   uses_begun (ask.begin k c ∷ rs) (o ∷ os) n h = ap (λ ks. k ∷ ks) (uses_begun rs os (omega (arith, n)) h)
