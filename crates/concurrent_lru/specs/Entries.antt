@@ -5,7 +5,7 @@ use Rattle.std.specs.Ordering.{nat_cmp}
 use Rattle.std.specs.Coded.{Coded, code_by, coded×, coded_ℕ, coded_list}
 use Rattle.std.specs.FinMap as finmap
 use Rattle.concurrent_lru.specs.Cache.{Cache, Idle, Held, IsEntry, IsLawful, IsFound, idle_at, held_at, idle_code, held_code, charges, making, ready}
-use Rattle.concurrent_lru.specs.Steps.{without, held_by_one, held_in_phase, idle_again}
+use Rattle.concurrent_lru.specs.Steps.{without, held_by_one, held_in_phase, held_detached, idle_again}
 use Rattle.concurrent_lru.specs.NodeTable.{Entry, value_in}
 use Rattle.concurrent_lru.specs.Representation.{as_idle, held_entry, held_charges}
 
@@ -135,6 +135,30 @@ module _ {K V : Type 0} where
   pub record RestsAt (old : Entries K V) (p : ℕ) (new : Entries K V) : Type 0 where
     pub was : IsReadyAt old p
     pub changed : new ≡ record old { idle = old.idle ++ idle_again was.stamp was.entry was.value ∷ []; held = finmap.remove old.held was.stamp; work = old.work + 1 }
+
+  -- an entry more, which is new: its key is a copy of k
+  pub record AddsNew (E : K → K → Bool) (old : Entries K V) (s : ℕ) (k : K) (m : ℕ) (new : Entries K V) : Type 0 where
+    pub copy : K
+    pub same_key : E copy k ≡ true
+    pub idle : new.idle ≡ old.idle
+    pub held : new.held ≡ finmap.insert old.held s (new_held copy m)
+    pub work : new.work ≡ old.work
+
+  -- the held entry of the place is detached, and a new one is added
+  pub record AddsOverHeld (E : K → K → Bool) (old : Entries K V) (p s : ℕ) (k : K) (m : ℕ) (new : Entries K V) : Type 0 where
+    pub mid : Entries K V
+    pub detached : Rewrites held_detached old p mid
+    pub added : AddsNew E mid s k m new
+
+  -- the idle entry of the place leaves, as the entry e, and a new one is added
+  pub record AddsOverIdle (E : K → K → Bool) (old : Entries K V) (p : ℕ) (e : Entry K V) (s : ℕ) (k : K) (m : ℕ) (new : Entries K V) : Type 0 where
+    pub mid : Entries K V
+    pub at : finmap.get old.stamps p ≡ Some e.stamp
+    pub entry : idle_at (cache_of old) e.stamp ≡ as_idle e
+    pub idle : mid.idle ≡ without e.stamp old.idle
+    pub held : mid.held ≡ old.held
+    pub work : mid.work ≡ old.work + 1
+    pub added : AddsNew E mid s k m new
 
   -- the cache is lawful, and an entry may have a pin
   pub record IsSound (E : K → K → Bool) (cache : Cache K V) : Type 0 where

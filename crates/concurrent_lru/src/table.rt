@@ -7,9 +7,9 @@ ghost use Rattle.std.specs.HashMap.{spare};
 ghost use Rattle.concurrent_lru.specs.Cache.{count_of, idle_at, IsFront};
 ghost use Rattle.std.specs.FinMap as map;
 ghost use Rattle.concurrent_lru.specs.Keys.{CopiesAreEqual};
-ghost use Rattle.concurrent_lru.specs.NodeTable.{Entry, entry_of, chain_of, phase_of, value_of, ContainsNode, LacksIdle};
+ghost use Rattle.concurrent_lru.specs.NodeTable.{Entry, entry_of, chain_of, phase_of, value_of, ContainsNode, LacksIdle, IsNewStamp};
 ghost use Rattle.concurrent_lru.specs.Representation.{as_idle, held_entry, GetsEntry};
-ghost use Rattle.concurrent_lru.specs.Entries.{cache_of, charges_of, ContainsEntry, ContainsNoStamp, ContainsNoKey, IsPlaceOfKey, ContainsPlace, ContainsIdleAt, ContainsHeldAt, ContainsFoundAt, GetsAt, LacksMakingAt, IsReadyAt, ReadiesAt, Rewrites, RevivesAt, RestsAt, pins_at, value_at, held_with_pins, new_held};
+ghost use Rattle.concurrent_lru.specs.Entries.{cache_of, charges_of, ContainsEntry, ContainsNoStamp, ContainsNoKey, IsPlaceOfKey, ContainsPlace, ContainsIdleAt, ContainsHeldAt, ContainsFoundAt, GetsAt, LacksMakingAt, IsReadyAt, ReadiesAt, Rewrites, RevivesAt, RestsAt, AddsOverHeld, AddsOverIdle, pins_at, value_at, held_with_pins, new_held};
 ghost use Rattle.concurrent_lru.specs.Reads.{RenewsAt};
 ghost use Rattle.concurrent_lru.specs.Stamps.{keeps_map, mapped_place, HasRoomFor};
 ghost use Rattle.concurrent_lru.specs.Steps.{without, held_in_phase, held_detached};
@@ -180,13 +180,97 @@ impl<K: Hash + Eq + Clone, V: Drop> Table<K, V> {
         let kept = key.clone()?;
         let node = Box::new(alloc, Node::new(stamp, own, charge))?;
         make_room(&mut self.nodes, &mut self.by_key, &mut self.by_stamp, 1)?;
-        let place = self.nodes.insert_reserved(node);
-        // Not refused, since there is room; no entry had the key before.
-        let _before = self.by_key.insert(kept, place);
-        self.by_stamp.insert(stamp, place);
-        self.total += charge;
-        self.near = place;
+        self.near = put(
+            &mut self.nodes,
+            &mut self.by_key,
+            &mut self.by_stamp,
+            &mut self.total,
+            node,
+            kept,
+        );
         Ok(())
+    }
+
+    /// Keeps a new entry, as `add`, and detaches the held one that the key found before. All that
+    /// can be refused comes first.
+    ///
+    /// `Memory` as there; nothing changes then.
+    pub fn add_over_held(
+        &mut self,
+        alloc: Global,
+        place: Place,
+        stamp: u64,
+        key: &K,
+        charge: u64,
+    ) -> Result<(), Refusal>
+        requires held { ContainsFoundAt self.old place }
+        requires keyed { (e : Entry K V) → GetsAt self.old place e → K.eq e.key key.now ≡ true }
+        requires fresh { ContainsNoStamp self.old stamp }
+        requires fits { charges_of self.old + charge < 2 ^ 64 }
+        ensures ok { OnOk result (AddsOverHeld K.eq self.old place stamp key.now charge self.new) }
+        ensures err { OnErr result (self.new ≡ self.old) }
+        ensures refusal { IfErr result (λ e. e ≡ Refusal.Memory) }
+    {
+        let own = key.clone()?;
+        let kept = key.clone()?;
+        let node = Box::new(alloc, Node::new(stamp, own, charge))?;
+        make_room(&mut self.nodes, &mut self.by_key, &mut self.by_stamp, 1)?;
+        forget_key(&self.nodes, &mut self.by_key, place);
+        self.nodes.set_detached(place);
+        self.near = put(
+            &mut self.nodes,
+            &mut self.by_key,
+            &mut self.by_stamp,
+            &mut self.total,
+            node,
+            kept,
+        );
+        Ok(())
+    }
+
+    /// Keeps a new entry, as `add`, and takes away the idle one that the key found before. All that
+    /// can be refused comes first.
+    ///
+    /// `Memory` as there; nothing changes then.
+    pub fn add_over_idle(
+        &mut self,
+        alloc: Global,
+        place: Place,
+        stamp: u64,
+        key: &K,
+        charge: u64,
+    ) -> Result<Box<Node<K, V>>, Refusal>
+        requires idle { ContainsIdleAt self.old place }
+        requires keyed { (e : Entry K V) → GetsAt self.old place e → K.eq e.key key.now ≡ true }
+        requires fresh { ContainsNoStamp self.old stamp }
+        requires fits { (e : Entry K V) → GetsAt self.old place e → charges_of self.old + charge < 2 ^ 64 + e.charge }
+        ensures ready { IfOk result (λ node. IsSome (as_idle (entry_of node.value))) }
+        ensures alone { IfOk result (λ node. chain_of node.value ≡ []) }
+        ensures ok { IfOk result (λ node. AddsOverIdle K.eq self.old place (entry_of node.value) stamp key.now charge self.new) }
+        ensures err { OnErr result (self.new ≡ self.old) }
+        ensures refusal { IfErr result (λ e. e ≡ Refusal.Memory) }
+    {
+        let own = key.clone()?;
+        let kept = key.clone()?;
+        let node = Box::new(alloc, Node::new(stamp, own, charge))?;
+        make_room(&mut self.nodes, &mut self.by_key, &mut self.by_stamp, 1)?;
+        self.nodes.remove(place);
+        let old = take_away(
+            &mut self.nodes,
+            &mut self.by_key,
+            &mut self.by_stamp,
+            &mut self.total,
+            place,
+        );
+        self.near = put(
+            &mut self.nodes,
+            &mut self.by_key,
+            &mut self.by_stamp,
+            &mut self.total,
+            node,
+            kept,
+        );
+        Ok(old)
     }
 
     /// Pins a ready entry once more, and tells its value: an idle one leaves the idle order.
@@ -397,6 +481,41 @@ fn make_room<K: Hash + Eq + Drop, V: Drop>(
     Ok(())
 }
 
+// Keeps a new node, for which there is room, and whose key finds none. Answers its place.
+#[inline(always)]
+fn put<K: Hash + Eq + Drop, V: Drop>(
+    nodes: &mut Nodes<K, V>,
+    by_key: &mut HashMap<K, Place>,
+    by_stamp: &mut Stamps,
+    total: &mut u64,
+    node: Box<Node<K, V>>,
+    kept: K,
+) -> Place
+    requires room { 0 < nodes.old.spare }
+    requires key_room { 0 < spare by_key.old }
+    requires stamp_room { HasRoomFor by_stamp.old 1 }
+    requires alone { chain_of node.value ≡ [] }
+    requires fresh { IsNewStamp nodes.old (entry_of node.value).stamp }
+    requires fits { total.old + (entry_of node.value).charge < 2 ^ 64 }
+    ensures free { map.get nodes.old.nodes result ≡ None }
+    ensures nodes { nodes.new.nodes ≡ map.insert nodes.old.nodes result (entry_of node.value) }
+    ensures idle { nodes.new.idle ≡ nodes.old.idle }
+    ensures work { nodes.new.work ≡ nodes.old.work }
+    ensures by_key { (k : K) → hash.get K.eq by_key.new k ≡ cond (K.eq kept k) (Some result) (hash.get K.eq by_key.old k) }
+    ensures keeps { keeps_map by_stamp.new ≡ keeps_map by_stamp.old }
+    ensures by_stamp { keeps_map by_stamp.old ≡ true → (s : ℕ) → mapped_place by_stamp.new s ≡ cond (nat_eq (entry_of node.value).stamp s) (Some result) (mapped_place by_stamp.old s) }
+    ensures total { total.new ≡ total.old + (entry_of node.value).charge }
+{
+    let stamp = node.stamp;
+    let charge = node.charge;
+    let place = nodes.insert_reserved(node);
+    // Not refused, since there is room.
+    let _before = by_key.insert(kept, place);
+    by_stamp.insert(stamp, place);
+    *total += charge;
+    place
+}
+
 // Takes the key of a node out of what finds places by key.
 fn forget_key<K: Hash + Eq + Drop, V: Drop>(
     nodes: &Nodes<K, V>,
@@ -404,7 +523,8 @@ fn forget_key<K: Hash + Eq + Drop, V: Drop>(
     place: Place,
 )
     requires { ContainsNode nodes.now place }
-    ensures { (e : Entry K V) → GetsEntry nodes.now place e → (k : K) → hash.get K.eq by_key.new k ≡ cond (K.eq e.key k) None (hash.get K.eq by_key.old k) }
+    ensures forgotten { (e : Entry K V) → GetsEntry nodes.now place e → (k : K) → hash.get K.eq by_key.new k ≡ cond (K.eq e.key k) None (hash.get K.eq by_key.old k) }
+    ensures room { spare by_key.old ≤ spare by_key.new }
 {
     let _place = by_key.remove(&nodes.node(place).key);
 }
@@ -428,6 +548,9 @@ fn take_away<K: Hash + Eq + Drop, V: Drop>(
     ensures by_key { (k : K) → hash.get K.eq by_key.new k ≡ cond (entry_of result.value).detached (hash.get K.eq by_key.old k) (cond (K.eq (entry_of result.value).key k) None (hash.get K.eq by_key.old k)) }
     ensures keeps { keeps_map by_stamp.new ≡ keeps_map by_stamp.old }
     ensures by_stamp { keeps_map by_stamp.old ≡ true → (s : ℕ) → mapped_place by_stamp.new s ≡ cond (nat_eq (entry_of result.value).stamp s) None (mapped_place by_stamp.old s) }
+    ensures room { nodes.old.spare ≤ nodes.new.spare }
+    ensures key_room { spare by_key.old ≤ spare by_key.new }
+    ensures stamp_room { HasRoomFor by_stamp.old 1 → HasRoomFor by_stamp.new 1 }
     ensures total { total.new + (entry_of result.value).charge ≡ total.old }
 {
     let node = nodes.take(place);

@@ -8,7 +8,7 @@ use Rattle.std.specs.HashMap as hash
 use Rattle.std.specs.HashMap.{HashMap}
 use Rattle.std.proofs.lemmas.Bool.{true≢false}
 use Rattle.concurrent_lru.specs.Steps.{without}
-use Rattle.concurrent_lru.specs.NodeTable.{Entry, NodeTable, IsNewStamp}
+use Rattle.concurrent_lru.specs.NodeTable.{Entry, NodeTable, IsNewStamp, new_entry}
 use Rattle.concurrent_lru.specs.Stamps.{keeps_map, mapped_place}
 use Rattle.concurrent_lru.specs.declared.table.stamps.Stamps.{Stamps}
 use Rattle.concurrent_lru.specs.Representation.{IsRepresentation, CutsPlace, idle_in, held_in, idle_at_place, held_at_place, as_idle, held_entry}
@@ -65,6 +65,28 @@ module _ {K V S : Type 0} (E : K → K → Bool) where
     pub keys_now : (q : K) → hash.get E by_key' q ≡ cond e.detached (hash.get E by_key q) (cond (E e.key q) None (hash.get E by_key q))
     pub keeps : keeps_map by_stamp' ≡ keeps_map by_stamp
     pub stamps_now : keeps_map by_stamp ≡ true → (s : ℕ) → mapped_place by_stamp' s ≡ cond (eqb e.stamp s) None (mapped_place by_stamp s)
+
+module _ {K V S : Type 0} {C : K → K → Type 0} {E : K → K → Bool} (eq : IsEquivalence E) {t t' : NodeTable K V} {by_key by_key' : HashMap K ℕ S} {by_stamp by_stamp' : Stamps} {p s m : ℕ} {own kept k : K} (r : IsStored C E t by_key by_stamp) (is_own : C k own) (is_kept : C k kept) where
+  pub kept_is : E kept k ≡ true
+  kept_is = r.copies k kept is_kept
+
+  -- the node of a new entry, whose key and the map's are copies of k
+  pub put_added : get t.nodes p ≡ None → t'.nodes ≡ insert t.nodes p (new_entry s own m) → t'.idle ≡ t.idle → hash.get E by_key kept ≡ None → IsNewStamp t s
+      → ((q : K) → hash.get E by_key' q ≡ cond (E kept q) (Some p) (hash.get E by_key q)) → keeps_map by_stamp' ≡ keeps_map by_stamp
+      → (keeps_map by_stamp ≡ true → (q : ℕ) → mapped_place by_stamp' q ≡ cond (eqb s q) (Some p) (mapped_place by_stamp q)) → IsAdded E t t' by_key by_key' by_stamp by_stamp' p (new_entry s own m) kept
+  put_added free nodes idle absent fresh keys keeps stamps = record {
+    free = free;
+    nodes = nodes;
+    idle = idle;
+    pins = refl;
+    found = refl;
+    same_key = eq.congr kept k own kept_is ∙ eq.symm k own ∙ r.copies k own is_own;
+    absent = absent;
+    fresh = fresh;
+    keys_now = keys;
+    keeps = keeps;
+    stamps_now = stamps;
+  }
 
 module _ {K V S : Type 0} {C : K → K → Type 0} {E : K → K → Bool} where
   module _ (eq : IsEquivalence E) {t t' : NodeTable K V} {by_key by_key' : HashMap K ℕ S} {by_stamp by_stamp' : Stamps} {p : ℕ} {e : Entry K V} {k : K} (r : IsStored C E t by_key by_stamp) (a : IsAdded E t t' by_key by_key' by_stamp by_stamp' p e k) where

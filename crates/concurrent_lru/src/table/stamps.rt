@@ -46,6 +46,7 @@ impl Stamps {
     pub(super) fn remove(&mut self, stamp: u64)
         ensures keeps { keeps_map self.new ≡ keeps_map self.old }
         ensures places { keeps_map self.old ≡ true → (s : ℕ) → mapped_place self.new s ≡ cond (nat_eq stamp s) None (mapped_place self.old s) }
+        ensures room { HasRoomFor self.old 1 → HasRoomFor self.new 1 }
     {
         if let Stamps::Mapped(places) = self {
             let _place = places.remove(&stamp);

@@ -22,7 +22,7 @@ invariant_of-self g c =
     let writes = detached_writes c.self.inside.nodes c.set_detached.new.self c.args.place n.0 n.1 c.set_detached.ensures.nodes in
     let changed = entries_detached c.self.invariant.stored writes c.set_detached.ensures.idle pinned c.set_detached.ensures.work in
     record {
-      stored = stored_detached g.met.K.Eq.laws c.self.invariant.stored writes c.set_detached.ensures.idle pinned (found_node c.self.invariant.stored c.args.place n.0 h n.1) (c.forget_key.ensures n.0 n.1);
+      stored = stored_detached g.met.K.Eq.laws c.self.invariant.stored writes c.set_detached.ensures.idle pinned (found_node c.self.invariant.stored c.args.place n.0 h n.1) (c.forget_key.ensures.forgotten n.0 n.1);
       sums = c.self.invariant.sums ∙ sym (sum_written (entries_of c.self.inside.nodes) (entries_of c.set_detached.new.self) n.0.stamp _ _ (ap (λ t. t.idle) changed) (ap (λ t. t.held) changed) (held_found c.self.invariant.stored c.args.place n.0 n.1 pinned) refl);
     }
 
