@@ -85,7 +85,7 @@ module _ {K V : Type 0} (E : K → K → Bool) (capacity most next : ℕ) {t : E
         rests E capacity most next there u u e.stamp [] at refl b refl front
 
     pub read_idle : (u : Entries K V) → pins_at t p ≡ e.pins → e.pins ≡ 0 → RenewsAt t p u → GetsAndReleases E (cache_with capacity most next t) k e.stamp v (cache_with capacity most next u)
-    read_idle u same none w = (cache_with capacity most next w.mid, found_idle w.mid same none w.revived, (cache_with capacity most next u, inr (rested u none w), refl))
+    read_idle u same none w = (cache_with capacity most next w.mid, found_idle w.mid same none w.revived, (cache_with capacity most next u, inr (inl (rested u none w)), refl))
 
     pub read_lawful : (u : Entries K V) → IsEquivalence E → pins_at t p ≡ e.pins → e.pins ≡ 0 → RenewsAt t p u → IsLawful E (cache_with capacity most next u)
     read_lawful u laws same none w =

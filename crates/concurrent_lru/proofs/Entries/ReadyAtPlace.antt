@@ -13,18 +13,14 @@ module _ {K V : Type 0} (E : K → K → Bool) (capacity most next : ℕ) {t : E
   pub has_ready_key : (k : K) (v : V) → (e.pins ≢ 0 → e.detached ≡ false) → E e.key k ≡ true → e.phase ≡ ready v → HasReadyKey E (cache_with capacity most next t) k
   has_ready_key k v found same phase = (
     e.key,
-    (
-      v,
-      (
-        same,
-        elim (e.pins == 0) as (λ b. (e.pins == 0) ≡ b → FindsReady (cache_with capacity most next t) e.key v) [
-          | true ↦ λ b.
-              let x : Idle K V = record { stamp = e.stamp; key = e.key; charge = e.charge; value = v } in
-              inl (x, contains_found _ t.idle x (idle_here here v phase (eqb-true e.pins 0 b)), refl, refl)
-          | false ↦ λ b.
-              let some : e.pins ≢ 0 = λ none. true≢false (sym (eq-eqb e.pins 0 none) ∙ b) in
-              inr (e.stamp, held_entry e, here.held some, refl, phase, found some)
-        ] refl,
-      ),
-    ),
+    v,
+    same,
+    elim (e.pins == 0) as (λ b. (e.pins == 0) ≡ b → FindsReady (cache_with capacity most next t) e.key v) [
+      | true ↦ λ b.
+          let x : Idle K V = record { stamp = e.stamp; key = e.key; charge = e.charge; value = v } in
+          inl (x, contains_found _ t.idle x (idle_here here v phase (eqb-true e.pins 0 b)), refl, refl)
+      | false ↦ λ b.
+          let some : e.pins ≢ 0 = λ none. true≢false (sym (eq-eqb e.pins 0 none) ∙ b) in
+          inr (e.stamp, held_entry e, here.held some, refl, phase, found some)
+    ] refl,
   )
