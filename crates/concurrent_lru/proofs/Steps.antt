@@ -11,6 +11,7 @@ pub mod ReadyAndPoll
 pub mod PollWithoutChange
 pub mod Release
 pub mod AdviceOfAbsent
+pub mod InsertOfKey
 pub mod Prune
 pub mod NotReady
 pub mod MemoryRefused

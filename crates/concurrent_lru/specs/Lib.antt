@@ -22,6 +22,7 @@ pub mod Stamps
 pub mod Indexes
 pub mod Chain
 pub mod Results
+pub mod Inserts
 pub mod Reads
 pub mod Ready
 pub mod OtherPins

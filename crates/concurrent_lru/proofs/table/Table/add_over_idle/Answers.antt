@@ -12,7 +12,7 @@ use Rattle.concurrent_lru.proofs.Lists.Members.{IsIn}
 use Rattle.concurrent_lru.proofs.Lists.DistinctNumbers.{list_any-filter_self}
 use Rattle.concurrent_lru.proofs.Entries.FoundByMaps.{fresh_among}
 use Rattle.concurrent_lru.proofs.Entries.EntryAddedOrTaken.{IsAdded, IsTaken, put_added, stored_same, entries_same, stored_with, idle_with, held_with, stored_without, ready_without, held_same, idle_without, on_err}
-use Rattle.concurrent_lru.proofs.Entries.EntryReplaced.{fresh_taken, forgotten, no_stamp}
+use Rattle.concurrent_lru.proofs.Entries.EntryReplaced.{fresh_taken, forgotten}
 use Rattle.concurrent_lru.proofs.Entries.NodeAtPlace.{has_node, idle_node, idle_found, idle_like, node_is_at, place_at, unheld}
 use Rattle.concurrent_lru.proofs.Steps.BeginOfAbsent.{as_idle-ready}
 use Rattle.concurrent_lru.proofs.Entries.SumsOfCharges.{sum_with, sum_evicted, idle_bound, stamps_apart, less_alike}
@@ -117,7 +117,7 @@ added g c =
 pub invariant_of-self-2 : goal.invariant_of-self-2
 invariant_of-self-2 g c =
     let r = between g c.before in
-    let lacks = no_stamp r c.args.stamp (fresh g c.before) in
+    let lacks = ap (λ h. get h c.args.stamp) (held_same g.met.K.Eq.laws (stored_same c.self.invariant.stored c.make_room.ensures.nodes c.make_room.ensures.idle c.make_room.ensures.by_key c.make_room.ensures.keeps c.make_room.ensures.by_stamp) (taken g c.before) (rests g c.before)) ∙ unheld (stored_same c.self.invariant.stored c.make_room.ensures.nodes c.make_room.ensures.idle c.make_room.ensures.by_key c.make_room.ensures.keeps c.make_room.ensures.by_stamp) c.args.stamp (subst (λ t. ContainsNoStamp t c.args.stamp) (sym (entries_same c.self.inside.nodes c.make_room.new.nodes c.make_room.ensures.nodes c.make_room.ensures.idle c.make_room.ensures.work ∙ c.self.view_is)) c.requires.fresh) in
     let sum = sum_with (entries_of c.take_away-old.new.nodes) (entries_of c.put.new.nodes) c.args.stamp (new_held c.in_ok-own.own c.args.charge) (idle_with g.met.K.Eq.laws r (added g c)) (held_with g.met.K.Eq.laws r (added g c)) lacks in
     record {
       stored = stored_with g.met.K.Eq.laws r (added g c);

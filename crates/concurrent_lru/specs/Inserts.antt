@@ -1,0 +1,36 @@
+-- An insert is an invalidate, a begin and its ready in one go, or a refusal that changes nothing.
+use Rattle.std.specs.Prelude.{◌≡◌, ℕ, Bool, List, [], ◌∷◌, Result, Ok, Err}
+use Rattle.std.specs.declared.sync.Arc.{Arc}
+use Rattle.std.specs.declared.alloc.Global.{Global}
+use Rattle.concurrent_lru.specs.Cache.{Cache, Idle}
+use Rattle.concurrent_lru.specs.Request as ask
+use Rattle.concurrent_lru.specs.Reply as say
+use Rattle.concurrent_lru.specs.Runs.{accepted, refused, Stands, Run}
+use Rattle.concurrent_lru.specs.declared.list.Refusal.{Refusal}
+use Rattle.concurrent_lru.specs.declared.step.Inserted.{Inserted}
+
+module _ {K V : Type 0} (E : K → K → Bool) where
+  -- From old, the key is invalidated, begun at this charge under the stamp s, and has the value v.
+  abbrev pub Replaces : Cache K V → K → ℕ → V → ℕ → List (Idle K V) → List (Idle K V) → Cache K V → Type 0
+  Replaces old k charge v s replaced evicted new =
+      Run E old (ask.invalidate k ∷ ask.begin k charge ∷ ask.ready s v ∷ [])
+      (accepted say.done replaced ∷ accepted (say.make s) evicted ∷ accepted say.done [] ∷ []) new
+
+  -- After an invalidate the begin would be refused so. Nothing changes.
+  pub record RefusesToReplace (old : Cache K V) (k : K) (charge : ℕ) (e : Refusal) (new : Cache K V) : Type 0 where
+    pub mid : Cache K V
+    pub replaced : List (Idle K V)
+    pub invalidated : Stands E old (ask.invalidate k) (accepted say.done replaced) mid
+    pub refuses : Stands E mid (ask.begin k charge) (refused e) mid
+    pub same : new ≡ old
+
+  -- what an insert does
+  abbrev pub Inserts : Cache K V → K → ℕ → V → Result (Inserted K V) (Refusal × Arc V Global) → Cache K V → Type 0
+  Inserts old k charge v (Ok i) new = Replaces old k charge v i.stamp i.replaced i.evicted new
+  Inserts old k charge v (Err e) new = RefusesToReplace old k charge e.0 new
+
+  -- the same without the value: what was replaced, and the begin with its stamp and what it evicted
+  abbrev pub Remakes : Cache K V → K → ℕ → Result (ℕ × List (Idle K V) × List (Idle K V)) Refusal → Cache K V → Type 0
+  Remakes old k charge (Ok r) new =
+      (mid : Cache K V) × Stands E old (ask.invalidate k) (accepted say.done r.1) mid × Stands E mid (ask.begin k charge) (accepted (say.make r.0) r.2) new
+  Remakes old k charge (Err e) new = RefusesToReplace old k charge e new
