@@ -22,3 +22,4 @@ pub mod EmptyCache
 pub mod StaysLawful
 pub mod ReadyValues
 pub mod ValuesRead
+pub mod ValuesInserted

@@ -208,6 +208,35 @@ impl<'a, K: Hash + Eq + Clone + Drop, V: Drop, R: Wait, F: Fit<K, V>> Inside<'a,
         invalidated
     }
 
+    /// `Locked::insert`. What it replaced and evicted, or both Arcs where it is refused, are
+    /// dropped without the lock.
+    pub fn insert(
+        self,
+        key: &K,
+        charge: u64,
+        stored: Arc<V>,
+        read: Arc<V>,
+    ) -> Result<CacheHandle<'a, K, V, R, F>, Refusal>
+        requires charged { 0 < charge }
+        requires fits { F.fits key.now (arc_value stored) }
+        requires same { arc_value read ≡ arc_value stored }
+        ensures handle { IfOk result (λ h. IsHandleFor F.fits h key.now (Some charge)) }
+        ensures value { IfOk result (λ h. h.value ≡ arc_value stored) }
+        ensures never_stale { IfErr result (λ e. e ≢ Refusal.Stale) }
+    {
+        let Self { door, mut guard } = self;
+        match guard.insert(key, charge, stored, read) {
+            Ok((pin, gone)) => {
+                drop(gone.open(guard));
+                Ok(CacheHandle::new(door, pin))
+            }
+            Err((refusal, values)) => {
+                drop(values.open(guard));
+                Err(refusal)
+            }
+        }
+    }
+
     /// `Locked::prune`. What it evicted is dropped without the lock.
     pub fn prune(self) -> Pruned {
         let Self { door: _, mut guard } = self;

@@ -5,6 +5,7 @@ ghost use Rattle.std.specs.Arc.{arc_value};
 ghost use Rattle.std.specs.Fn.{FnOnceReturnsAt, FnOnceTakesAt};
 ghost use Rattle.concurrent_lru.specs.Cache.{count_of, empty_cache, most_pins_by_default, sum_of, IsLawful};
 ghost use Rattle.concurrent_lru.specs.Debts.{outcome_of_locked_begin, outcome_of_locked_poll, outcome_of_locked_get, AsksOnEntry, AsksOnPoll, IfEntered, IfPolled};
+ghost use Rattle.concurrent_lru.specs.Inserts.{Replaces, RefusesToReplace};
 ghost use Rattle.concurrent_lru.specs.Keys.{CopiesAreEqual};
 ghost use Rattle.concurrent_lru.specs.OtherPins.{HasNoOtherPin};
 ghost use Rattle.concurrent_lru.specs.Pins.{made_stamp, made_key, made_charge, woken_stamp, woken_key, woken_charge, unread_stamp};
@@ -25,7 +26,7 @@ pub use self::pins::{Entered, Making, Pin, Polled, Unread, Waiting, Woken};
 pub use self::sealed::{Sealed, Waiters};
 use crate::fit::Fit;
 use crate::list::Place;
-use crate::lru_core::{Begun, Evicted, Failed, Refusal, State};
+use crate::lru_core::{Begun, Evicted, Failed, Inserted, Refusal, State};
 use std::alloc::Global;
 use std::fmt;
 use std::hash::Hash;
@@ -338,6 +339,42 @@ impl<K: Hash + Eq + Clone + Drop, V: Drop, F: Fit<K, V>> Locked<K, V, F> {
             Sealed::of(self.state.invalidate(key)),
             Invalidated::of(key),
         )
+    }
+
+    /// The core's `insert`: the new entry of the key gets `stored`, and the pin has `read`, another
+    /// Arc of the same value. What it replaced, and what its charge evicted, are sealed.
+    ///
+    /// `Overflow` and `Memory` as there: nothing changes then, and both Arcs are sealed.
+    pub fn insert(
+        &mut self,
+        key: &K,
+        charge: u64,
+        stored: Arc<V>,
+        read: Arc<V>,
+    ) -> Result<
+        (Pin<K, V, F>, Sealed<(Evicted<K, V>, Evicted<K, V>)>),
+        (Refusal, Sealed<(Arc<V>, Arc<V>)>),
+    >
+        requires charged { 0 < charge }
+        requires fits { F.fits key.now (arc_value stored) }
+        requires same { arc_value read ≡ arc_value stored }
+        ensures step { IfOk result (λ r. Replaces K.eq self.old key.now charge (arc_value stored) r.0.stamp r.1.0 r.1.1 self.new) }
+        ensures refused { IfErr result (λ e. RefusesToReplace K.eq self.old key.now charge e.0 self.new) }
+        ensures pin { IfOk result (λ r. (r.0.key ≡ key.now) × (r.0.charge ≡ Some charge) × (r.0.value ≡ arc_value stored)) }
+        ensures never_stale { IfErr result (λ e. e.0 ≢ Refusal.Stale) }
+    {
+        match self.state.insert(key, charge, stored) {
+            Err((refusal, stored)) => Err((refusal, Sealed::of((stored, read)))),
+            Ok(inserted) => {
+                let Inserted {
+                    stamp,
+                    replaced,
+                    evicted,
+                } = inserted;
+                let pin = Pin::of(stamp, self.state.near(), key, Some(charge), read);
+                Ok((pin, Sealed::of((replaced, evicted))))
+            }
+        }
     }
 
     /// The core's `prune`. Takes no memory.

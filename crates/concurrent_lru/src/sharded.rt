@@ -354,6 +354,28 @@ impl<K: Hash + Eq + Clone + Drop, V: Drop, R: Wait, S: BuildHasher, F: Fit<K, V>
         let _: Invalidated<K> = self.routes.of(key).invalidated(key);
     }
 
+    /// Puts a value in and answers its handle, whatever the key has, at the key's shard, as in the
+    /// cache of one lock: an `invalidate`, and a making of the key that is done at once.
+    ///
+    /// `Overflow` and `Memory` as there: nothing changed then, and the value is dropped.
+    pub fn insert(
+        &self,
+        key: &K,
+        charge: u64,
+        value: V,
+    ) -> Result<CacheHandle<'_, K, V, R, F>, Refusal>
+        requires charged { 0 < charge }
+        requires fits { F.fits key.now value }
+        ensures key { IfOk result (λ h. h.key ≡ key.now) }
+        ensures charge { IfOk result (λ h. h.charge ≡ Some charge) }
+        ensures value { IfOk result (λ h. h.value ≡ value) }
+        ensures fits { IfOk result (λ h. F.fits key.now h.value) }
+        ensures never_stale { IfErr result (λ e. e ≢ Refusal.Stale) }
+    {
+        let held = self.routes.of(key).insert(key, charge, value)?;
+        Ok(CacheHandle { held })
+    }
+
     /// Evicts every idle entry of each shard, one shard after another, and is no snapshot. Takes
     /// no memory.
     pub fn prune(&self) {

@@ -265,6 +265,38 @@ impl<K: Hash + Eq + Clone + Drop, V: Drop, R: Wait, F: Fit<K, V>> LruCache<K, V,
         let _: Invalidated<K> = self.invalidated(key);
     }
 
+    /// Puts a value in and answers its handle, whatever the key has: an `invalidate`, and a making of
+    /// the key that is done at once, with nothing in between. It is for a value that is there before
+    /// its charge is known, and for one that is to replace another.
+    ///
+    /// What the key had is taken back as by `invalidate`: handles read the value that they had, and
+    /// callers that wait for a making get what that making gives. Waits for no maker.
+    ///
+    /// `Overflow` where the charge would take the total past `u64::MAX`, that of an idle entry of
+    /// the key not counted, or where the stamps are at their end; `Memory` where a new entry or the
+    /// value's shared copies are refused. Then nothing changed, the key keeps what it had, and the
+    /// value is dropped without the lock.
+    ///
+    /// The original crate has no such call; this one is this project's own.
+    pub fn insert(
+        &self,
+        key: &K,
+        charge: u64,
+        value: V,
+    ) -> Result<CacheHandle<'_, K, V, R, F>, Refusal>
+        requires charged { 0 < charge }
+        requires fits { F.fits key.now value }
+        ensures key { IfOk result (λ h. h.key ≡ key.now) }
+        ensures charge { IfOk result (λ h. h.charge ≡ Some charge) }
+        ensures value { IfOk result (λ h. h.value ≡ value) }
+        ensures fits { IfOk result (λ h. F.fits key.now h.value) }
+        ensures never_stale { IfErr result (λ e. e ≢ Refusal.Stale) }
+    {
+        let stored = Arc::new(self.alloc, value)?;
+        let read = Arc::try_clone(&stored)?;
+        self.door.enter().insert(key, charge, stored, read)
+    }
+
     /// Evicts every idle entry, oldest first. Takes no memory.
     pub fn prune(&self) {
         let _: Pruned = self.pruned();

@@ -3,8 +3,8 @@
 use concurrent_lru::list::Node;
 use concurrent_lru::lru_core::State;
 use lru_fixtures::tables::Call::{
-    AdviceEvict, Begin, Fail, Get, Invalidate, KeyOf, Poll, Prune, Ready, Release, SetCapacity,
-    Show, Total,
+    AdviceEvict, Begin, Fail, Get, Insert, Invalidate, KeyOf, Poll, Prune, Ready, Release,
+    SetCapacity, Show, Total,
 };
 use lru_fixtures::tables::{Call, answers_as_told};
 use std::test;
@@ -212,6 +212,71 @@ const PINS: [(Call, &str); 7] = [
 fn a_new_entry_has_pins_of_its_own(rt: HostRuntime) -> Result<(), test::Fail> {
     let alloc = rt.alloc();
     answers_as_told(alloc, &mut State::with_limits(alloc, 10, 0, 1), &PINS)
+}
+
+// A value is put in where there is none, over an idle one, over a held one, and over a making.
+const INSERTS: [(Call, &str); 14] = [
+    (
+        Insert(1, 3, 20),
+        "Ok(Inserted { stamp: 0, replaced: [], evicted: [] })",
+    ),
+    (Release(0), "Ok([])"),
+    (
+        Insert(1, 4, 21),
+        "Ok(Inserted { stamp: 1, replaced: [Gone { stamp: 0, key: 1, charge: 3, value: 20 }], evicted: [] })",
+    ),
+    (Total, "4"),
+    (
+        Insert(1, 5, 22),
+        "Ok(Inserted { stamp: 2, replaced: [], evicted: [] })",
+    ),
+    (Get(1), "Ok(Some((2, 22)))"),
+    (
+        Release(1),
+        "Ok([Gone { stamp: 1, key: 1, charge: 4, value: 21 }])",
+    ),
+    (Begin(2, 1), "Ok((Make(3), []))"),
+    (Begin(2, 1), "Ok((Wait(3), []))"),
+    (
+        Insert(2, 1, 23),
+        "Ok(Inserted { stamp: 4, replaced: [], evicted: [] })",
+    ),
+    (Ready(3, 24), "Ok(())"),
+    (Poll(3), "Ok(Hit(3, 24))"),
+    (Get(2), "Ok(Some((4, 23)))"),
+    (Total, "7"),
+];
+
+#[test]
+fn a_value_is_put_in_over_another(rt: HostRuntime) -> Result<(), test::Fail> {
+    let alloc = rt.alloc();
+    answers_as_told(alloc, &mut State::new(alloc, 10), &INSERTS)
+}
+
+// The charge of an idle entry makes room for the new one, and that of a held one does not. What is
+// refused leaves the key its value.
+const OVERFLOWS: [(Call, &str); 9] = [
+    (
+        Insert(1, u64::MAX, 20),
+        "Ok(Inserted { stamp: 0, replaced: [], evicted: [] })",
+    ),
+    (Insert(1, 1, 21), "Err((Overflow, 21))"),
+    (Insert(2, 1, 22), "Err((Overflow, 22))"),
+    (Get(1), "Ok(Some((0, 20)))"),
+    (Release(0), "Ok([])"),
+    (Release(0), "Ok([])"),
+    (Insert(2, 1, 22), "Err((Overflow, 22))"),
+    (
+        Insert(1, u64::MAX, 21),
+        "Ok(Inserted { stamp: 1, replaced: [Gone { stamp: 0, key: 1, charge: 18446744073709551615, value: 20 }], evicted: [] })",
+    ),
+    (Total, "18446744073709551615"),
+];
+
+#[test]
+fn an_insert_is_judged_after_what_it_replaces(rt: HostRuntime) -> Result<(), test::Fail> {
+    let alloc = rt.alloc();
+    answers_as_told(alloc, &mut State::new(alloc, u64::MAX), &OVERFLOWS)
 }
 
 #[test]

@@ -54,6 +54,14 @@ struct Gone {
     value: u64,
 }
 
+// What `insert` says.
+#[derive(Clone, Copy, Debug)]
+struct Inserted {
+    stamp: u64,
+    replaced: Evicted,
+    evicted: Evicted,
+}
+
 // What left the cache, oldest first.
 #[derive(Clone, Copy)]
 struct Evicted([Option<Gone>; KEYS]);
@@ -343,6 +351,31 @@ impl Plain {
         Evicted([None; KEYS])
     }
 
+    fn insert(&mut self, key: u64, charge: u64, value: u64) -> Result<Inserted, (Refusal, u64)> {
+        let leaves = match self.of_key(key) {
+            Some(entry) if entry.pins == 0 => entry.charge,
+            _ => 0,
+        };
+        let rest = self.total().saturating_sub(leaves);
+        let (Some(_), Some(_)) = (self.next.checked_add(1), rest.checked_add(charge)) else {
+            return Err((Refusal::Overflow, value));
+        };
+        let stamp = self.next;
+        let replaced = self.invalidate(key);
+        let (_, evicted) = match self.make(key, charge) {
+            Ok(made) => made,
+            Err(refusal) => return Err((refusal, value)),
+        };
+        if let Err(value) = self.ready(stamp, value) {
+            return Err((Refusal::Stale, value));
+        }
+        Ok(Inserted {
+            stamp,
+            replaced,
+            evicted,
+        })
+    }
+
     fn key_of(&self, stamp: u64) -> Option<u64> {
         Some(self.of_stamp(stamp)?.key)
     }
@@ -365,6 +398,7 @@ impl Answers<Call> for Plain {
             Call::Release(stamp) => text_of(alloc, &self.release(stamp)),
             Call::AdviceEvict(key) => text_of(alloc, &self.advice_evict(key)),
             Call::Invalidate(key) => text_of(alloc, &self.invalidate(key)),
+            Call::Insert(key, charge, value) => text_of(alloc, &self.insert(key, charge, value)),
             Call::Prune => text_of(alloc, &self.settle(0)),
             Call::SetCapacity(capacity) => text_of(alloc, &self.set_capacity(capacity)),
             Call::Total => text_of(alloc, &self.total()),

@@ -29,6 +29,8 @@ pub enum Call {
     AdviceEvict(u64),
     /// `invalidate` with a key.
     Invalidate(u64),
+    /// `insert` with a key, a charge, which is above 0, and a value.
+    Insert(u64, u64, u64),
     /// `prune`.
     Prune,
     /// `set_capacity` with a capacity.
@@ -90,7 +92,11 @@ impl Answers<Call> for State<u64, u64> {
     fn answer(&mut self, alloc: Global, call: Call) -> Result<String, AllocError> {
         match call {
             Call::Begin(key, charge) if charge > 0 => text_of(alloc, &self.begin(&key, charge)),
-            Call::Begin(..) => String::from_str(alloc, "a charge is above 0"),
+            Call::Insert(key, charge, value) if charge > 0 => {
+                let value = Arc::new(alloc, value)?;
+                text_of(alloc, &self.insert(&key, charge, value))
+            }
+            Call::Begin(..) | Call::Insert(..) => String::from_str(alloc, "a charge is above 0"),
             Call::Poll(stamp) => text_of(alloc, &self.poll(stamp)),
             Call::Ready(stamp, value) => {
                 let value = Arc::new(alloc, value)?;

@@ -40,6 +40,10 @@ pub trait Cached<V>: Copy {
     /// `invalidate`.
     fn take_back(self, key: u64);
 
+    /// `insert`.
+    fn put(self, key: u64, charge: u64, value: V) -> Result<Self::Handle, Refusal>
+        requires { 0 < charge };
+
     /// `prune`.
     fn clear(self);
 
@@ -91,6 +95,12 @@ impl<'a, V: Drop, R: Wait> Cached<V> for &'a unsharded::LruCache<u64, V, R> {
 
     fn take_back(self, key: u64) {
         self.invalidate(&key);
+    }
+
+    fn put(self, key: u64, charge: u64, value: V) -> Result<Self::Handle, Refusal>
+        requires { 0 < charge }
+    {
+        self.insert(&key, charge, value)
     }
 
     fn clear(self) {
@@ -149,6 +159,12 @@ impl<'a, V: Drop, R: Wait, S: BuildHasher> Cached<V> for &'a sharded::LruCache<u
 
     fn take_back(self, key: u64) {
         self.invalidate(&key);
+    }
+
+    fn put(self, key: u64, charge: u64, value: V) -> Result<Self::Handle, Refusal>
+        requires { 0 < charge }
+    {
+        self.insert(&key, charge, value)
     }
 
     fn clear(self) {

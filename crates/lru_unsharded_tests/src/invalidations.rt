@@ -4,7 +4,7 @@ use crate::makings::{Meeting, found};
 use crate::play::plays;
 use concurrent_lru::unsharded::LruCache;
 use lru_fixtures::threaded::Call;
-use lru_fixtures::threaded::Call::{Get, Init, Invalidate, LetGo, Show, Total};
+use lru_fixtures::threaded::Call::{Get, Init, Insert, Invalidate, LetGo, Prune, Show, Total};
 use lru_fixtures::threaded::Then::{AtOnce, Keep};
 use lru_support::flags::{meets, pause, raise};
 use std::sync::Wait;
@@ -47,6 +47,110 @@ const NEW_FIRST: [(Call, &str); 7] = [
 #[test]
 fn a_new_value_outlives_the_old_one(rt: HostRuntime) -> Result<(), test::Fail> {
     plays(&rt, rt.alloc(), 10, &NEW_FIRST)
+}
+
+// The cases of a storage engine's own cache test, with a charge beside each value: a present key is
+// replaced, what is held is read still, and what nobody holds leaves in the order of its releases.
+const HIT_AND_MISS: [(Call, &str); 8] = [
+    (Get(100, AtOnce), "Absent"),
+    (Insert(100, 1, 101, AtOnce), "Put(101)"),
+    (Get(100, AtOnce), "Found(101)"),
+    (Get(200, AtOnce), "Absent"),
+    (Insert(200, 1, 201, AtOnce), "Put(201)"),
+    (Insert(100, 1, 102, AtOnce), "Put(102), drops [101]"),
+    (Get(100, AtOnce), "Found(102)"),
+    (Get(200, AtOnce), "Found(201)"),
+];
+
+#[test]
+fn a_present_key_is_replaced(rt: HostRuntime) -> Result<(), test::Fail> {
+    plays(&rt, rt.alloc(), 1_000, &HIT_AND_MISS)
+}
+
+const ERASED: [(Call, &str); 7] = [
+    (Invalidate(200), "Done"),
+    (Insert(100, 1, 101, AtOnce), "Put(101)"),
+    (Insert(200, 1, 201, AtOnce), "Put(201)"),
+    (Invalidate(100), "Done, drops [101]"),
+    (Get(100, AtOnce), "Absent"),
+    (Get(200, AtOnce), "Found(201)"),
+    (Invalidate(100), "Done"),
+];
+
+#[test]
+fn an_erased_key_is_gone_once(rt: HostRuntime) -> Result<(), test::Fail> {
+    plays(&rt, rt.alloc(), 1_000, &ERASED)
+}
+
+const PINNED: [(Call, &str); 9] = [
+    (Insert(100, 1, 101, AtOnce), "Put(101)"),
+    (Get(100, Keep(0)), "Found(101)"),
+    (Insert(100, 1, 102, AtOnce), "Put(102)"),
+    (Get(100, Keep(1)), "Found(102)"),
+    (LetGo(0), "Done, drops [101]"),
+    (Invalidate(100), "Done"),
+    (Get(100, AtOnce), "Absent"),
+    (LetGo(1), "Done, drops [102]"),
+    (Total, "Number(0)"),
+];
+
+#[test]
+fn entries_are_pinned(rt: HostRuntime) -> Result<(), test::Fail> {
+    plays(&rt, rt.alloc(), 1_000, &PINNED)
+}
+
+// The used key and the held one outlive the others; a cache of three in all.
+const EVICTED: [(Call, &str); 11] = [
+    (Insert(100, 1, 101, AtOnce), "Put(101)"),
+    (Insert(200, 1, 201, AtOnce), "Put(201)"),
+    (Insert(300, 1, 301, Keep(0)), "Put(301)"),
+    (Get(100, AtOnce), "Found(101)"),
+    (Insert(1, 1, 1, AtOnce), "Put(1), drops [201]"),
+    (Get(100, AtOnce), "Found(101)"),
+    (Insert(2, 1, 2, AtOnce), "Put(2), drops [1]"),
+    (Get(100, AtOnce), "Found(101)"),
+    (Get(200, AtOnce), "Absent"),
+    (Get(300, AtOnce), "Found(301)"),
+    (LetGo(0), "Done"),
+];
+
+#[test]
+fn what_is_used_or_held_outlives_the_rest(rt: HostRuntime) -> Result<(), test::Fail> {
+    plays(&rt, rt.alloc(), 3, &EVICTED)
+}
+
+// Held values may pass the capacity; heavy ones push light ones out; a prune leaves what is held.
+const CROWDED: [(Call, &str); 12] = [
+    (Insert(1, 2, 1, Keep(0)), "Put(1)"),
+    (Insert(2, 2, 2, Keep(1)), "Put(2)"),
+    (Insert(3, 2, 3, Keep(2)), "Put(3)"),
+    (Total, "Number(6)"),
+    (Get(1, AtOnce), "Found(1)"),
+    (LetGo(0), "Done, drops [1]"),
+    (LetGo(1), "Done"),
+    (Insert(4, 1, 4, AtOnce), "Put(4), drops [2]"),
+    (Prune, "Done, drops [4]"),
+    (Get(3, AtOnce), "Found(3)"),
+    (LetGo(2), "Done"),
+    (Prune, "Done, drops [3]"),
+];
+
+#[test]
+fn the_use_may_pass_the_capacity(rt: HostRuntime) -> Result<(), test::Fail> {
+    plays(&rt, rt.alloc(), 4, &CROWDED)
+}
+
+// A cache of no capacity keeps nothing that nobody holds.
+const NO_CAPACITY: [(Call, &str); 4] = [
+    (Insert(1, 1, 100, AtOnce), "Put(100), drops [100]"),
+    (Get(1, AtOnce), "Absent"),
+    (Insert(1, 1, 101, Keep(0)), "Put(101)"),
+    (Get(1, AtOnce), "Found(101)"),
+];
+
+#[test]
+fn a_cache_of_no_capacity_keeps_nothing(rt: HostRuntime) -> Result<(), test::Fail> {
+    plays(&rt, rt.alloc(), 0, &NO_CAPACITY)
 }
 
 // What a handle reads after its value was taken back, what is found then, and what is made anew.

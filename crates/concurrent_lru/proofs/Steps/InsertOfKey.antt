@@ -72,17 +72,14 @@ module _ {K V : Type 0} (E : K → K → Bool) {c : Cache K V} {k : K} (charge :
   begun_new (rust.Hit s a) out new (inr r) = absurd (true≢false (sym r.same_key ∙ absent s r.entry.key r.entry.charge (inl (r.entry, r.at, refl, refl))))
 
 module _ {K V : Type 0} (E : K → K → Bool) {old c : Cache K V} {k : K} {charge s : ℕ} {out : List (Idle K V)} (m : Makes E old k charge s out c) where
+  abbrev pub made : Held K V
+  made = record { key = m.copy; charge = charge; pins = 1; detached = false; phase = making }
+
   -- the new entry is being made
-  pub made_holds : (e : Held K V) × Holds c s e making
-  made_holds = (
-    record { key = m.copy; charge = charge; pins = 1; detached = false; phase = making },
-    record {
-      at = ap (λ x. finmap.get x.held s) m.settles.others ∙ inserted_at old.held s (record { key = m.copy; charge = charge; pins = 1; detached = false; phase = making });
-      phase = refl;
-    },
-  )
+  pub made_holds : Holds c s made making
+  made_holds = record { at = ap (λ x. finmap.get x.held s) m.settles.others ∙ inserted_at old.held s made; phase = refl }
 
   -- so its value is stored
   pub stored_at_once : (v : V) (r : Result (Unit {0}) (Arc V Global)) (new : Cache K V) → Stands E c (ask.ready s v) (outcome_of_ready r) new → Stands E c (ask.ready s v) (accepted say.done []) new
   stored_at_once v (Ok x) new h = h
-  stored_at_once v (Err a) new h = absurd (h.0 made_holds.0 made_holds.1)
+  stored_at_once v (Err a) new h = absurd (h.0 made made_holds)

@@ -31,6 +31,8 @@ pub enum Call {
     AdviceEvict(u64),
     /// `invalidate` with a key.
     Invalidate(u64),
+    /// `insert` with a key, a charge and a value.
+    Insert(u64, u64, u64, Then),
     /// `prune`.
     Prune,
     /// `set_capacity` with a capacity.
@@ -52,6 +54,8 @@ pub enum Said {
     Made(u64, u64),
     /// A handle of this value, and no `init` ran.
     Found(u64),
+    /// A handle of this value, which was put in.
+    Put(u64),
     /// No handle.
     Absent,
     /// `init` failed: its key.

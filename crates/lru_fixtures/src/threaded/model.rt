@@ -43,6 +43,7 @@ impl<P: Owned> Model<P> {
                 self.init(alloc, key, charge, Some(value), then)
             }
             Call::Fail(key, charge, then) => self.init(alloc, key, charge, None, then),
+            Call::Insert(key, charge, value, then) => self.put_in(alloc, key, charge, value, then),
             Call::LetGo(slot) => self.let_go(slot),
             Call::AdviceEvict(key) => {
                 let evicted = self.owned.advised(key);
@@ -137,6 +138,33 @@ impl<P: Owned> Model<P> {
         self.entries.push((shard, key, value))?;
         self.keep(shard, stamp, then)?;
         Ok(Said::Made(key, value))
+    }
+
+    // The steps of an insert, one after another. No model comes to the end of its numbers, so none
+    // of them is refused.
+    fn put_in(
+        &mut self,
+        alloc: Global,
+        key: u64,
+        charge: u64,
+        value: u64,
+        then: Then,
+    ) -> Result<Said, AllocError> {
+        if charge == 0 {
+            return Ok(Said::Uncharged);
+        }
+        let replaced = self.owned.taken_back(key);
+        self.hide(key);
+        let _: Said = self.note(replaced)?;
+        match self.owned.started(key, charge) {
+            Ok((shard, Begun::Make(stamp), evicted)) => {
+                let _: Said = self.note(evicted)?;
+                let _: Said = self.make(alloc, key, shard, stamp, Some(value), then)?;
+                Ok(Said::Put(value))
+            }
+            Ok(_) => Ok(Said::Absent),
+            Err(refusal) => Ok(Said::Refused(refusal)),
+        }
     }
 
     fn drop_unused(&mut self, value: Option<u64>) -> Result<(), AllocError> {

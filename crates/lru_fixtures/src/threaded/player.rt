@@ -47,6 +47,10 @@ impl<'l, R: Wait + Clone + Drop, C: Cached<Logged<R>>> Player<'l, R, C> {
                 Ok(self.try_init(key, charge, Some(value), then))
             }
             Call::Fail(key, charge, then) => Ok(self.try_init(key, charge, None, then)),
+            Call::Insert(key, charge, number, then) => {
+                let value = self.log.value(number)?;
+                Ok(self.put_in(key, charge, value, then))
+            }
             Call::Get(key, then) => Ok(self.get(key, then)),
             Call::LetGo(slot) => {
                 self.put(slot, None);
@@ -78,6 +82,16 @@ impl<'l, R: Wait + Clone + Drop, C: Cached<Logged<R>>> Player<'l, R, C> {
         match self.cache.found(key) {
             Ok(Some(handle)) => Said::Found(self.keep(handle, then)),
             Ok(None) => Said::Absent,
+            Err(refusal) => Said::Refused(refusal),
+        }
+    }
+
+    fn put_in(&mut self, key: u64, charge: u64, value: Logged<R>, then: Then) -> Said {
+        if charge == 0 {
+            return Said::Uncharged;
+        }
+        match self.cache.put(key, charge, value) {
+            Ok(handle) => Said::Put(self.keep(handle, then)),
             Err(refusal) => Said::Refused(refusal),
         }
     }
