@@ -26,7 +26,8 @@ use std::hash::Hash;
 use std::marker::Model;
 use std::sync::Arc;
 
-/// The entries of a cache: idle ones, oldest first, and held ones.
+/// The entries of a cache: idle ones, oldest first, and held ones, which may be detached from their
+/// keys.
 #[derive(Drop)]
 pub struct Table<K: Hash + Eq + Clone, V> {
     nodes: Nodes<K, V>,
@@ -103,6 +104,7 @@ impl<K: Hash + Eq + Clone, V: Drop> Table<K, V> {
         ensures err { IfErr result (λ e. e ≡ Refusal.Memory) }
         ensures same { self.new ≡ self.old }
     {
+        // Detached entries have no key here, so beside them this makes more room, and never less.
         let more = entries.saturating_sub(self.by_key.len());
         make_room(&mut self.nodes, &mut self.by_key, &mut self.by_stamp, more)
     }
@@ -180,7 +182,7 @@ impl<K: Hash + Eq + Clone, V: Drop> Table<K, V> {
         let kept = key.clone()?;
         let node = Box::new(alloc, Node::new(stamp, own, charge))?;
         make_room(&mut self.nodes, &mut self.by_key, &mut self.by_stamp, 1)?;
-        self.near = put(
+        let place = put(
             &mut self.nodes,
             &mut self.by_key,
             &mut self.by_stamp,
@@ -188,6 +190,7 @@ impl<K: Hash + Eq + Clone, V: Drop> Table<K, V> {
             node,
             kept,
         );
+        self.near = place;
         Ok(())
     }
 
@@ -217,7 +220,7 @@ impl<K: Hash + Eq + Clone, V: Drop> Table<K, V> {
         make_room(&mut self.nodes, &mut self.by_key, &mut self.by_stamp, 1)?;
         forget_key(&self.nodes, &mut self.by_key, place);
         self.nodes.set_detached(place);
-        self.near = put(
+        let new = put(
             &mut self.nodes,
             &mut self.by_key,
             &mut self.by_stamp,
@@ -225,6 +228,7 @@ impl<K: Hash + Eq + Clone, V: Drop> Table<K, V> {
             node,
             kept,
         );
+        self.near = new;
         Ok(())
     }
 
@@ -262,7 +266,7 @@ impl<K: Hash + Eq + Clone, V: Drop> Table<K, V> {
             &mut self.total,
             place,
         );
-        self.near = put(
+        let new = put(
             &mut self.nodes,
             &mut self.by_key,
             &mut self.by_stamp,
@@ -270,6 +274,7 @@ impl<K: Hash + Eq + Clone, V: Drop> Table<K, V> {
             node,
             kept,
         );
+        self.near = new;
         Ok(old)
     }
 
@@ -563,7 +568,7 @@ fn take_away<K: Hash + Eq + Drop, V: Drop>(
     node
 }
 
-// Ready entries as a map; an entry that is being made is not shown.
+// Ready entries as a map; an entry that is being made, or that is detached, is not shown.
 impl<K: Hash + Eq + Clone + fmt::Debug, V: Drop + fmt::Debug> fmt::Debug for Table<K, V> {
     fn fmt<W: fmt::Write>(&self, f: &mut fmt::Formatter<W>) -> fmt::Result {
         let mut map = f.debug_map();

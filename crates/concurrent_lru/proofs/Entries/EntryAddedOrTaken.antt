@@ -67,9 +67,6 @@ module _ {K V S : Type 0} (E : K → K → Bool) where
     pub stamps_now : keeps_map by_stamp ≡ true → (s : ℕ) → mapped_place by_stamp' s ≡ cond (eqb e.stamp s) None (mapped_place by_stamp s)
 
 module _ {K V S : Type 0} {C : K → K → Type 0} {E : K → K → Bool} (eq : IsEquivalence E) {t t' : NodeTable K V} {by_key by_key' : HashMap K ℕ S} {by_stamp by_stamp' : Stamps} {p s m : ℕ} {own kept k : K} (r : IsStored C E t by_key by_stamp) (is_own : C k own) (is_kept : C k kept) where
-  pub kept_is : E kept k ≡ true
-  kept_is = r.copies k kept is_kept
-
   -- the node of a new entry, whose key and the map's are copies of k
   pub put_added : get t.nodes p ≡ None → t'.nodes ≡ insert t.nodes p (new_entry s own m) → t'.idle ≡ t.idle → hash.get E by_key kept ≡ None → IsNewStamp t s
       → ((q : K) → hash.get E by_key' q ≡ cond (E kept q) (Some p) (hash.get E by_key q)) → keeps_map by_stamp' ≡ keeps_map by_stamp
@@ -80,7 +77,7 @@ module _ {K V S : Type 0} {C : K → K → Type 0} {E : K → K → Bool} (eq : 
     idle = idle;
     pins = refl;
     found = refl;
-    same_key = eq.congr kept k own kept_is ∙ eq.symm k own ∙ r.copies k own is_own;
+    same_key = eq.congr kept k own (r.copies k kept is_kept) ∙ eq.symm k own ∙ r.copies k own is_own;
     absent = absent;
     fresh = fresh;
     keys_now = keys;
