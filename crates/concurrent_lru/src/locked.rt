@@ -335,10 +335,7 @@ impl<K: Hash + Eq + Clone + Drop, V: Drop, F: Fit<K, V>> Locked<K, V, F> {
         ensures step { Stands K.eq self.old (ask.invalidate key.now) (outcome_of_evictions result.0) self.new }
         ensures done { result.1 ≡ key.now }
     {
-        (
-            Sealed::of(self.state.invalidate(key)),
-            Invalidated::of(key),
-        )
+        (Sealed::of(self.state.invalidate(key)), Invalidated::of(key))
     }
 
     /// The core's `insert`: the new entry of the key gets `stored`, and the pin has `read`, another

@@ -1,8 +1,7 @@
 //! Values of shards that are taken back while they are held.
 ghost use Rattle.std.specs.Prelude.{◌<◌};
 
-use crate::pure;
-use crate::threaded;
+use crate::{pure, threaded};
 use concurrent_lru::sharded::LruCache;
 use lru_fixtures::tables::shards::ShardCall;
 use lru_fixtures::threaded::Call;
@@ -61,9 +60,7 @@ fn a_held_value_is_replaced(rt: HostRuntime) -> Result<(), test::Fail> {
 }
 
 // What a handle reads after its value was taken back, what is found then, and what is made anew.
-fn reads_around<R: Wait>(
-    cache: &LruCache<u64, u64, R, ByOwnNumber>,
-) -> Option<(u64, bool, u64)> {
+fn reads_around<R: Wait>(cache: &LruCache<u64, u64, R, ByOwnNumber>) -> Option<(u64, bool, u64)> {
     let old = cache.get_or_init(1, 1, |_| 5).ok()?;
     cache.invalidate(&1);
     let found = cache.contains(&1);

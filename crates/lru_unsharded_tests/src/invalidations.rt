@@ -8,8 +8,7 @@ use lru_fixtures::threaded::Call::{Get, Init, Insert, Invalidate, LetGo, Prune, 
 use lru_fixtures::threaded::Then::{AtOnce, Keep};
 use lru_support::flags::{meets, pause, raise};
 use std::sync::Wait;
-use std::test;
-use std::thread;
+use std::{test, thread};
 
 // Two values of one key are held at once, and the old one is let go first.
 const OLD_FIRST: [(Call, &str); 13] = [
@@ -171,10 +170,7 @@ fn a_handle_reads_its_own_value(rt: HostRuntime) {
 }
 
 // The value of key 1, made as 5 and taken back before it is there.
-fn makes_and_takes_back<R: Wait>(
-    cache: &LruCache<u64, u64, R>,
-    meeting: &Meeting,
-) -> Option<u64> {
+fn makes_and_takes_back<R: Wait>(cache: &LruCache<u64, u64, R>, meeting: &Meeting) -> Option<u64> {
     let mut met = false;
     let made = cache.get_or_init(1, 3, |_| {
         raise(&meeting.started);

@@ -76,15 +76,15 @@ module _ {K V : Type 0} (E : K → K → Bool) where
           | inl m ↦ elim l [
             | inl w ↦ absurd (no_other two new s (record { key = m.copy; charge = c; pins = 1; detached = false; phase = ready v }) (ready w.0) (ready w.0) out3 (made_at old one two k c s v out1 out2 m turns) refl (subst (λ n. Leaves E two n (ready w.0) (ready w.0) out3 new) us' w.1))
             | inr o ↦ elim o [
-            | inr gone ↦ absurd (no_end two new u (record { key = m.copy; charge = c; pins = 1; detached = false; phase = ready v }) out3 (ap (held_at two) us' ∙ made_at old one two k c s v out1 out2 m turns) refl gone)
-            | inl rest ↦
-                let rests : Rests E two s out3 new = subst (λ n. Rests E two n out3 new) us' rest in
-                let l1 = makes_lawful E old one k c s out1 eq i.lawful above i.pins m in
-                record {
-                  used = made_used E price eq p old one two new k c s v out1 out2 out3 ks i.lawful i.held i.paired charged m turns rests;
-                  above = subst (λ n. 0 < n) charged above;
-                  lawful = rests_lawful E two new s out3 (changes_phase_lawful E one two s making (ready v) out2 l1 turns) rests;
-                }
+              | inr gone ↦ absurd (no_end two new u (record { key = m.copy; charge = c; pins = 1; detached = false; phase = ready v }) out3 (ap (held_at two) us' ∙ made_at old one two k c s v out1 out2 m turns) refl gone)
+              | inl rest ↦
+                  let rests : Rests E two s out3 new = subst (λ n. Rests E two n out3 new) us' rest in
+                  let l1 = makes_lawful E old one k c s out1 eq i.lawful above i.pins m in
+                  record {
+                    used = made_used E price eq p old one two new k c s v out1 out2 out3 ks i.lawful i.held i.paired charged m turns rests;
+                    above = subst (λ n. 0 < n) charged above;
+                    lawful = rests_lawful E two new s out3 (changes_phase_lawful E one two s making (ready v) out2 l1 turns) rests;
+                  }
             ]
           ]
           | inr j ↦ absurd (no_join old one k s untaken making out1 i.held j)
@@ -97,14 +97,14 @@ module _ {K V : Type 0} (E : K → K → Bool) where
       | inr h ↦ elim l [
         | inl w ↦ absurd (no_other one new s (held_by_one h.entry) (ready w.0) (ready w.0) out2 (hit_at old one k s v out1 h) refl (subst (λ n. Leaves E one n (ready w.0) (ready w.0) out2 new) us' w.1))
         | inr o ↦ elim o [
-        | inr gone ↦ absurd (no_end one new u (held_by_one h.entry) out2 (ap (held_at one) us' ∙ hit_at old one k s v out1 h) refl gone)
-        | inl rest ↦
-            let rests : Rests E one s out2 new = subst (λ n. Rests E one n out2 new) us' rest in
-            record {
-              used = hit_used E price eq p old one new k s v out1 out2 ks i.lawful i.held i.paired h rests;
-              above = subst (λ n. 0 < n) (paired_charge E price eq p s h.entry old.idle ks h.at i.paired ∙ p h.entry.key k h.same_key) (i.lawful.charged s h.entry.key h.entry.charge (inl (h.entry, h.at, refl, refl)));
-              lawful = rests_lawful E one new s out2 (revives_lawful E old one k s v out1 i.lawful i.pins h) rests;
-            }
+          | inr gone ↦ absurd (no_end one new u (held_by_one h.entry) out2 (ap (held_at one) us' ∙ hit_at old one k s v out1 h) refl gone)
+          | inl rest ↦
+              let rests : Rests E one s out2 new = subst (λ n. Rests E one n out2 new) us' rest in
+              record {
+                used = hit_used E price eq p old one new k s v out1 out2 ks i.lawful i.held i.paired h rests;
+                above = subst (λ n. 0 < n) (paired_charge E price eq p s h.entry old.idle ks h.at i.paired ∙ p h.entry.key k h.same_key) (i.lawful.charged s h.entry.key h.entry.charge (inl (h.entry, h.at, refl, refl)));
+                lawful = rests_lawful E one new s out2 (revives_lawful E old one k s v out1 i.lawful i.pins h) rests;
+              }
         ]
       ]
     ]
