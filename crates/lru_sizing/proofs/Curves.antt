@@ -1,0 +1,202 @@
+-- Counts of weights in order of size, and sums of the charges that go with them.
+use Rattle.std.proofs.Common.{◌≡◌, ℕ, zero, suc, ◌+◌, ◌-◌, ◌<◌, ◌≤◌, inl, inr, Bool, true, false, cond, List, [], ◌∷◌, ◌++◌, length, map, get_or, take, leb, Option, Some, None, refl, sym, ap, ◌∙◌, subst, arith}
+use Rattle.std.specs.Borrow.{Bor}
+use Rattle.std.specs.List.{count_by, sum, sum_by, zip}
+use Rattle.std.specs.List.Sorted.{IsPartitionedBy, IsPartitionPoint, IsNonDecreasingBy}
+use Rattle.std.specs.Option.{MatchOption, IfSome, option_copied}
+use Rattle.std.proofs.lemmas.Bool.{cases_lt, le-leb, lt-leb, leb-true}
+use Rattle.std.proofs.lemmas.List.Sums.{sum_by-cons}
+use Rattle.lru_sizing.specs.HitsByWeight.{fits, hits_at}
+use Rattle.lru_sizing.specs.Curves.{StepCurve, weights_within, hits_in, charge_made_at, reused, IsRising, IsLeastFor}
+
+-- one number more
+count_one : (p : ℕ → Bool) (x : ℕ) (xs : List ℕ) → count_by p (x ∷ xs) ≡ cond (p x) 1 0 + count_by p xs
+count_one p x xs = sum_by-cons (λ y. cond (p y) 1 0) x xs
+
+-- where the first r pass, at least so many do
+pub count_first : (p : ℕ → Bool) (xs : List ℕ) (r : ℕ) → r ≤ length xs → ((k : ℕ) → k < r → p (get_or xs k 0) ≡ true) → r ≤ count_by p xs
+count_first p xs zero l h = omega arith
+count_first p [] (suc r) l h = absurd (omega (arith, l))
+count_first p (x ∷ xs) (suc r) l h =
+    let i : r ≤ count_by p xs = count_first p xs r (omega (arith, l)) (λ k m. h (suc k) (omega (arith, m))) in
+    let a : count_by p (x ∷ xs) ≡ cond (p x) 1 0 + count_by p xs = count_one p x xs in
+    let b : cond {A = ℕ} (p x) 1 0 ≡ 1 = ap (λ t. cond {A = ℕ} t 1 0) (h 0 (omega arith)) in
+    omega (arith, i, a, b)
+
+-- and where those from r on fail, at most so many
+pub count_last : (p : ℕ → Bool) (xs : List ℕ) (r : ℕ) → ((k : ℕ) → r ≤ k → k < length xs → p (get_or xs k 0) ≡ false) → count_by p xs ≤ r
+count_last p [] r h = omega arith
+count_last p (x ∷ xs) zero h =
+    let i : count_by p xs ≤ 0 = count_last p xs zero (λ k low high. h (suc k) (omega arith) (omega (arith, high))) in
+    let a : count_by p (x ∷ xs) ≡ cond (p x) 1 0 + count_by p xs = count_one p x xs in
+    let b : cond {A = ℕ} (p x) 1 0 ≡ 0 = ap (λ t. cond {A = ℕ} t 1 0) (h 0 (omega arith) (omega arith)) in
+    omega (arith, i, a, b)
+count_last p (x ∷ xs) (suc r) h =
+    let i : count_by p xs ≤ r = count_last p xs r (λ k low high. h (suc k) (omega (arith, low)) (omega (arith, high))) in
+    let a : count_by p (x ∷ xs) ≡ cond (p x) 1 0 + count_by p xs = count_one p x xs in
+    let b : cond {A = ℕ} (p x) 1 0 ≤ 1 = elim (p x) as (λ t. cond {A = ℕ} t 1 0 ≤ 1) [ true ↦ omega arith | false ↦ omega arith ] in
+    omega (arith, i, a, b)
+
+-- so many hit first at the weight of the last of them
+pub least_at : (curve : StepCurve) (r : ℕ) → IsRising curve.weights → r < length curve.weights → IsLeastFor (r + 1) curve (get_or curve.weights r 0)
+least_at curve r up l =
+    let xs = curve.weights in
+    record {
+      enough = count_first (λ w. leb w (get_or curve.weights r 0)) curve.weights (r + 1) (omega (arith, l)) (λ k m. le-leb (get_or curve.weights k 0) (get_or curve.weights r 0) (up k r (omega (arith, m)) l));
+      least = λ less m.
+          let most : weights_within less curve.weights ≤ r = count_last (λ w. leb w less) curve.weights r (λ k low high.
+              let u : get_or curve.weights r 0 ≤ get_or curve.weights k 0 = up r k low high in
+              lt-leb (get_or curve.weights k 0) less (omega (arith, u, m))) in
+          omega (arith, most);
+    }
+
+same_default : (xs : List ℕ) (i d e : ℕ) → i < length xs → get_or xs i d ≡ get_or xs i e
+same_default [] i d e l = absurd (omega (arith, l))
+same_default (x ∷ xs) zero d e l = refl
+same_default (x ∷ xs) (suc i) d e l = same_default xs i d e (omega (arith, l))
+
+-- the weights of at most a capacity come first
+pub rising_parts : (xs : List ℕ) (capacity : ℕ) → IsRising xs → IsPartitionedBy (λ w. leb w capacity) xs
+rising_parts xs capacity up i j d le l t =
+    let a : get_or xs j d ≤ capacity = leb-true (get_or xs j d) capacity t in
+    let b : get_or xs i 0 ≤ get_or xs j 0 = up i j le l in
+    let e : get_or xs j d ≡ get_or xs j 0 = same_default xs j d 0 l in
+    let f : get_or xs i d ≡ get_or xs i 0 = same_default xs i d 0 (omega (arith, le, l)) in
+    le-leb (get_or xs i d) capacity (omega (arith, a, b, e, f))
+
+-- and there are as many as come before the others
+pub point_counts : (xs : List ℕ) (capacity r : ℕ) → r ≤ length xs → IsPartitionPoint (λ y. leb y capacity ≡ true) (λ y. leb y capacity ≡ false) xs r → r ≡ weights_within capacity xs
+point_counts xs capacity r l point =
+    let low : r ≤ weights_within capacity xs = count_first (λ w. leb w capacity) xs r l (λ k m. point.0 k 0 (omega arith) m) in
+    let high : weights_within capacity xs ≤ r = count_last (λ w. leb w capacity) xs r (λ k m n. point.1 k 0 m n) in
+    omega (arith, low, high)
+
+-- no more weights than there are fit
+pub within_all : (xs : List ℕ) (capacity : ℕ) → weights_within capacity xs ≤ length xs
+within_all xs capacity = count_last (λ w. leb w capacity) xs (length xs) (λ k low high. absurd (omega (arith, low, high)))
+
+-- what a look-up of the last of so many tells
+pub least_found : (curve : StepCurve) (hits : ℕ) (o : Option (Bor ℕ)) (Z : Bor ℕ → Type 0) → 0 < hits → IsRising curve.weights → MatchOption o (length curve.weights ≤ hits - 1) (λ x. (hits - 1 < length curve.weights) × Z x) → IfSome o (λ x. x.now ≡ get_or curve.weights (hits - 1) x.now)
+    → MatchOption (option_copied o) (length curve.weights < hits) (IsLeastFor hits curve)
+least_found curve hits None Z pos up m f = omega (arith, pos, m)
+least_found curve hits (Some x) Z pos up m f =
+    let all : hits - 1 + 1 ≡ hits = omega (arith, pos) in
+    subst (IsLeastFor hits curve) (sym (f ∙ same_default curve.weights (hits - 1) x.now 0 m.0)) (subst (λ n. IsLeastFor n curve (get_or curve.weights (hits - 1) 0)) all (least_at curve (hits - 1) up m.0))
+
+-- the weights of pairs of a weight and a charge, and their charges
+abbrev pub pair_weights : List (ℕ × ℕ) → List ℕ
+pair_weights ps = map (λ p. p.0) ps
+
+abbrev pub pair_charges : List (ℕ × ℕ) → List ℕ
+pair_charges ps = map (λ p. p.1) ps
+
+-- how many of these pairs have a weight that fits, and the sum of their charges
+abbrev pub pairs_within : ℕ → List (ℕ × ℕ) → ℕ
+pairs_within capacity ps = count_by (λ p. leb p.0 capacity) ps
+
+abbrev pub charge_within : ℕ → List (ℕ × ℕ) → ℕ
+charge_within capacity ps = sum_by (λ p. cond (leb p.0 capacity) p.1 0) ps
+
+pub within_firsts : (ps : List (ℕ × ℕ)) (capacity : ℕ) → weights_within capacity (pair_weights ps) ≡ pairs_within capacity ps
+within_firsts [] capacity = refl
+within_firsts (p ∷ ps) capacity =
+    let i : weights_within capacity (pair_weights ps) ≡ pairs_within capacity ps = within_firsts ps capacity in
+    let a : weights_within capacity (pair_weights (p ∷ ps)) ≡ cond (leb p.0 capacity) 1 0 + weights_within capacity (pair_weights ps) = sum_by-cons (λ (w : ℕ). cond (leb w capacity) 1 0) p.0 (pair_weights ps) in
+    let b : pairs_within capacity (p ∷ ps) ≡ cond (leb p.0 capacity) 1 0 + pairs_within capacity ps = sum_by-cons (λ (q : ℕ × ℕ). cond (leb q.0 capacity) 1 0) p ps in
+    a ∙ ap (λ n. cond (leb p.0 capacity) 1 0 + n) i ∙ sym b
+
+-- where all weights are above a capacity, none fits
+none_within : (ps : List (ℕ × ℕ)) (capacity : ℕ) → ((k : ℕ) (d : ℕ × ℕ) → k < length ps → capacity < (get_or ps k d).0) → (pairs_within capacity ps ≡ 0) × (charge_within capacity ps ≡ 0)
+none_within [] capacity h = (refl, refl)
+none_within (p ∷ ps) capacity h =
+    let i = none_within ps capacity (λ k d l. h (suc k) d (omega (arith, l))) in
+    let none : leb p.0 capacity ≡ false = lt-leb p.0 capacity (h 0 p (omega arith)) in
+    (
+      sum_by-cons (λ (q : ℕ × ℕ). cond (leb q.0 capacity) 1 0) p ps ∙ ap (λ t. cond t 1 0 + pairs_within capacity ps) none ∙ i.0,
+      sum_by-cons (λ (q : ℕ × ℕ). cond (leb q.0 capacity) q.1 0) p ps ∙ ap (λ t. cond t p.1 0 + charge_within capacity ps) none ∙ i.1,
+    )
+
+-- in order of weight, the charges of those that fit are the first ones
+pub first_charges : (ps : List (ℕ × ℕ)) (capacity : ℕ) → IsNonDecreasingBy (λ (p : ℕ × ℕ). p.0) ps → sum (take (pairs_within capacity ps) (pair_charges ps)) ≡ charge_within capacity ps
+first_charges [] capacity up = refl
+first_charges (p ∷ ps) capacity up =
+    let i : sum (take (pairs_within capacity ps) (pair_charges ps)) ≡ charge_within capacity ps = first_charges ps capacity (λ j k d le l. up (suc j) (suc k) d (omega (arith, le)) (omega (arith, l))) in
+    let a : pairs_within capacity (p ∷ ps) ≡ cond (leb p.0 capacity) 1 0 + pairs_within capacity ps = sum_by-cons (λ (q : ℕ × ℕ). cond (leb q.0 capacity) 1 0) p ps in
+    let b : charge_within capacity (p ∷ ps) ≡ cond (leb p.0 capacity) p.1 0 + charge_within capacity ps = sum_by-cons (λ (q : ℕ × ℕ). cond (leb q.0 capacity) q.1 0) p ps in
+    elim (cases_lt capacity p.0) [
+      | inl l ↦
+          let none = none_within (p ∷ ps) capacity (λ k d m. let least : p.0 ≤ (get_or (p ∷ ps) k d).0 = up 0 k d (omega arith) m in omega (arith, l, least)) in
+          ap (λ n. sum (take n (pair_charges (p ∷ ps)))) none.0 ∙ sym none.1
+      | inr l ↦
+          let fit : leb p.0 capacity ≡ true = le-leb p.0 capacity l in
+          let count : pairs_within capacity (p ∷ ps) ≡ suc (pairs_within capacity ps) = a ∙ ap (λ t. cond t 1 0 + pairs_within capacity ps) fit ∙ omega arith in
+          let charge : charge_within capacity (p ∷ ps) ≡ p.1 + charge_within capacity ps = b ∙ ap (λ t. cond t p.1 0 + charge_within capacity ps) fit in
+          let cut : sum (p.1 ∷ take (pairs_within capacity ps) (pair_charges ps)) ≡ p.1 + sum (take (pairs_within capacity ps) (pair_charges ps)) = sum_by-cons (λ (x : ℕ). x) p.1 (take (pairs_within capacity ps) (pair_charges ps)) in
+          ap (λ n. sum (take n (pair_charges (p ∷ ps)))) count ∙ omega (arith, cut, i, charge)
+    ]
+
+-- of the pairs that a trace has as many fit as it has hits
+pub reused_hits : (charges : List ℕ) (weights : List (Option ℕ)) (capacity : ℕ) → length charges ≡ length weights → pairs_within capacity (reused charges weights) ≡ hits_at capacity weights
+reused_hits [] [] capacity n = refl
+reused_hits [] (w ∷ weights) capacity n = absurd (omega (arith, n))
+reused_hits (c ∷ charges) [] capacity n = absurd (omega (arith, n))
+reused_hits (c ∷ charges) (None ∷ weights) capacity n =
+    let i : pairs_within capacity (reused charges weights) ≡ hits_at capacity weights = reused_hits charges weights capacity (omega (arith, n)) in
+    i ∙ sym (sum_by-cons (λ (o : Option ℕ). cond (fits capacity o) 1 0) None weights)
+reused_hits (c ∷ charges) (Some w ∷ weights) capacity n =
+    let i : pairs_within capacity (reused charges weights) ≡ hits_at capacity weights = reused_hits charges weights capacity (omega (arith, n)) in
+    sum_by-cons (λ (q : ℕ × ℕ). cond (leb q.0 capacity) 1 0) (w, c) (reused charges weights) ∙ ap (λ m. cond (leb w capacity) 1 0 + m) i
+    ∙ sym (sum_by-cons (λ (o : Option ℕ). cond (fits capacity o) 1 0) (Some w) weights)
+
+-- what is made, and the charges of those that fit, are all charges
+pub reused_made : (charges : List ℕ) (weights : List (Option ℕ)) (capacity : ℕ) → length charges ≡ length weights → charge_made_at capacity charges weights + charge_within capacity (reused charges weights) ≡ sum charges
+reused_made [] [] capacity n = refl
+reused_made [] (w ∷ weights) capacity n = absurd (omega (arith, n))
+reused_made (c ∷ charges) [] capacity n = absurd (omega (arith, n))
+reused_made (c ∷ charges) (None ∷ weights) capacity n =
+    let i : charge_made_at capacity charges weights + charge_within capacity (reused charges weights) ≡ sum charges = reused_made charges weights capacity (omega (arith, n)) in
+    let a : charge_made_at capacity (c ∷ charges) (None ∷ weights) ≡ c + charge_made_at capacity charges weights = sum_by-cons (λ (u : ℕ × Option ℕ). cond (fits capacity u.1) 0 u.0) (c, None) (zip charges weights) in
+    let b : sum (c ∷ charges) ≡ c + sum charges = sum_by-cons (λ (x : ℕ). x) c charges in
+    omega (arith, i, a, b)
+reused_made (c ∷ charges) (Some w ∷ weights) capacity n =
+    let i : charge_made_at capacity charges weights + charge_within capacity (reused charges weights) ≡ sum charges = reused_made charges weights capacity (omega (arith, n)) in
+    let a : charge_made_at capacity (c ∷ charges) (Some w ∷ weights) ≡ cond (leb w capacity) 0 c + charge_made_at capacity charges weights = sum_by-cons (λ (u : ℕ × Option ℕ). cond (fits capacity u.1) 0 u.0) (c, Some w) (zip charges weights) in
+    let b : sum (c ∷ charges) ≡ c + sum charges = sum_by-cons (λ (x : ℕ). x) c charges in
+    let d : charge_within capacity ((w, c) ∷ reused charges weights) ≡ cond (leb w capacity) c 0 + charge_within capacity (reused charges weights) = sum_by-cons (λ (q : ℕ × ℕ). cond (leb q.0 capacity) q.1 0) (w, c) (reused charges weights) in
+    let both : cond (leb w capacity) 0 c + cond (leb w capacity) c 0 ≡ c = elim (leb w capacity) as (λ t. cond t 0 c + cond t c 0 ≡ c) [ true ↦ refl | false ↦ omega arith ] in
+    omega (arith, i, a, b, d, both)
+
+-- no more uses have a reuse weight than there are, and no more charge
+pub reused_length : (charges : List ℕ) (weights : List (Option ℕ)) → length (reused charges weights) ≤ length charges
+reused_length [] weights = omega arith
+reused_length (c ∷ charges) [] = omega arith
+reused_length (c ∷ charges) (None ∷ weights) = let i : length (reused charges weights) ≤ length charges = reused_length charges weights in omega (arith, i)
+reused_length (c ∷ charges) (Some w ∷ weights) = let i : length (reused charges weights) ≤ length charges = reused_length charges weights in omega (arith, i)
+
+pub reused_charge : (charges : List ℕ) (weights : List (Option ℕ)) → sum (pair_charges (reused charges weights)) ≤ sum charges
+reused_charge [] weights = omega arith
+reused_charge (c ∷ charges) [] = omega arith
+reused_charge (c ∷ charges) (None ∷ weights) =
+    let i : sum (pair_charges (reused charges weights)) ≤ sum charges = reused_charge charges weights in
+    let b : sum (c ∷ charges) ≡ c + sum charges = sum_by-cons (λ (x : ℕ). x) c charges in
+    omega (arith, i, b)
+reused_charge (c ∷ charges) (Some w ∷ weights) =
+    let i : sum (pair_charges (reused charges weights)) ≤ sum charges = reused_charge charges weights in
+    let a : sum (c ∷ pair_charges (reused charges weights)) ≡ c + sum (pair_charges (reused charges weights)) = sum_by-cons (λ (x : ℕ). x) c (pair_charges (reused charges weights)) in
+    let b : sum (c ∷ charges) ≡ c + sum charges = sum_by-cons (λ (x : ℕ). x) c charges in
+    omega (arith, i, a, b)
+
+-- one use more
+pub reused-push_none : (charges : List ℕ) (weights : List (Option ℕ)) (c : ℕ) → length charges ≡ length weights → reused (charges ++ c ∷ []) (weights ++ None ∷ []) ≡ reused charges weights
+reused-push_none [] [] c n = refl
+reused-push_none [] (w ∷ weights) c n = absurd (omega (arith, n))
+reused-push_none (d ∷ charges) [] c n = absurd (omega (arith, n))
+reused-push_none (d ∷ charges) (None ∷ weights) c n = reused-push_none charges weights c (omega (arith, n))
+reused-push_none (d ∷ charges) (Some w ∷ weights) c n = ap (λ ps. (w, d) ∷ ps) (reused-push_none charges weights c (omega (arith, n)))
+
+pub reused-push_some : (charges : List ℕ) (weights : List (Option ℕ)) (c v : ℕ) → length charges ≡ length weights → reused (charges ++ c ∷ []) (weights ++ Some v ∷ []) ≡ reused charges weights ++ (v, c) ∷ []
+reused-push_some [] [] c v n = refl
+reused-push_some [] (w ∷ weights) c v n = absurd (omega (arith, n))
+reused-push_some (d ∷ charges) [] c v n = absurd (omega (arith, n))
+reused-push_some (d ∷ charges) (None ∷ weights) c v n = reused-push_some charges weights c v (omega (arith, n))
+reused-push_some (d ∷ charges) (Some w ∷ weights) c v n = ap (λ ps. (w, d) ∷ ps) (reused-push_some charges weights c v (omega (arith, n)))

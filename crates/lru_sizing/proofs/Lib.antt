@@ -1,0 +1,8 @@
+-- The lemmas of sizing.
+pub mod UsesSince
+pub mod HitsByWeight
+pub mod SumTrees
+pub mod Marks
+pub mod Passes
+pub mod Curves
+pub mod Replays

@@ -1,0 +1,116 @@
+//! Estimates of the hits at every capacity, from a sample of the keys: for traces that outgrow
+//! memory. No clause says how near an estimate is.
+//!
+//! Keys are sampled at a fixed rate by a hash of the key, so that a sampled key keeps all its uses
+//! (SHARDS, Waldspurger, Park, Garthwaite and Ahmad, 2015). A reuse weight within the sample
+//! stands for one that is as many times larger as keys are left out, and so does a count of misses
+//! for one in the whole trace. Misses are scaled and hits are what is left of all uses: hits of a
+//! few hot keys, which the sample may catch or not, would sway a scaled count of hits far more.
+
+use crate::curve::Curve;
+use crate::refusal::Refusal;
+use crate::reuse_weights::reuse_weights;
+use std::alloc::{AllocError, Global};
+use std::hash::{DefaultHasher, Hash, Hasher};
+
+/// Which keys are sampled: about one in so many.
+#[derive(Clone, Copy, Debug, PartialEq, Eq)]
+pub struct Sample {
+    one_in: u64,
+}
+
+impl Sample {
+    /// About one key in `one_in`; all of them where that is 1 or 0.
+    pub fn one_in(one_in: u64) -> Sample {
+        Sample { one_in: one_in.max(1) }
+    }
+
+    /// Whether a key is sampled. The same for equal keys, in any run.
+    pub fn takes<K: Hash>(&self, key: &K) -> bool {
+        let mut hasher = DefaultHasher::new();
+        key.hash(&mut hasher);
+        hasher.finish() % self.one_in == 0
+    }
+}
+
+/// An estimate of the hits of a trace at every capacity, from the uses of the sampled keys.
+#[derive(Drop)]
+pub struct Estimate {
+    sample: Sample,
+    uses: u64,
+    sampled: Curve,
+}
+
+impl Estimate {
+    /// From the uses whose keys the sample takes, in their order, and the number of uses of the
+    /// whole trace.
+    ///
+    /// Refused as `reuse_weights` refuses the sampled uses: places are places among these.
+    pub fn new<K: Hash + Eq>(
+        alloc: Global,
+        sample: Sample,
+        sampled: &[(K, u64)],
+        uses: u64,
+    ) -> Result<Estimate, Refusal> {
+        let weights = reuse_weights(alloc, sampled)?;
+        let scaled = scaled(alloc, sample, sampled, &weights)?;
+        let sampled = Curve::new(alloc, sampled, &scaled)?;
+        Ok(Estimate {
+            sample,
+            uses,
+            sampled,
+        })
+    }
+
+    /// How many uses the whole trace has.
+    pub fn uses(&self) -> u64 {
+        self.uses
+    }
+
+    /// About how many uses miss at this capacity.
+    pub fn misses(&self, capacity: u64) -> u64 {
+        let misses = self.sampled.misses(capacity) as u64;
+        misses.saturating_mul(self.sample.one_in).min(self.uses)
+    }
+
+    /// About how many uses hit at this capacity.
+    pub fn hits(&self, capacity: u64) -> u64 {
+        self.uses.saturating_sub(self.misses(capacity))
+    }
+
+    /// About how many uses hit where the capacity is large enough for all keys.
+    pub fn most_hits(&self) -> u64 {
+        self.hits(u64::MAX)
+    }
+
+    /// About the sum of the charges of the uses that miss at this capacity.
+    pub fn charge_made(&self, capacity: u64) -> u128 {
+        let made = self.sampled.charge_made(capacity);
+        made.saturating_mul(u128::from(self.sample.one_in))
+    }
+
+    /// The least capacity at which `hits` answers so many or more; none where no capacity does.
+    pub fn least_capacity(&self, hits: u64) -> Option<u64> {
+        let misses = self.uses.checked_sub(hits)? / self.sample.one_in;
+        let uses = self.sampled.uses() as u64;
+        self.sampled
+            .least_capacity(uses.saturating_sub(misses) as usize)
+    }
+}
+
+// What these reuse weights within the sample stand for: the charges of the other keys are scaled,
+// and the use's own is not, since its key is sampled.
+fn scaled<K>(
+    alloc: Global,
+    sample: Sample,
+    sampled: &[(K, u64)],
+    weights: &[Option<u64>],
+) -> Result<Vec<Option<u64>>, AllocError> {
+    let scale = |(weight, (_, own)): (&Option<u64>, &(K, u64))| {
+        weight.map(|weight| {
+            let others = weight.saturating_sub(*own).saturating_mul(sample.one_in);
+            others.saturating_add(*own)
+        })
+    };
+    weights.iter().zip(sampled).map(scale).collect(alloc)
+}
