@@ -49,6 +49,8 @@ pub enum Failure {
     TwoCharges(String, u64, u64),
     /// With this line the charges of the keys sum to more than `u64::MAX`.
     Overflow(u64),
+    /// The charges of the sampled keys sum to more than `u64::MAX`.
+    SampleOverflow,
     /// At this line, the replay and the reuse weight differ.
     Differs(u64),
     /// A read of standard input failed, with the system's error.
@@ -133,6 +135,9 @@ impl fmt::Display for Failure {
             }
             Failure::Overflow(line) => {
                 writeln!(f, "line {line}: the charges of the keys pass 18446744073709551615")
+            }
+            Failure::SampleOverflow => {
+                writeln!(f, "the charges of the sampled keys pass 18446744073709551615")
             }
             Failure::Differs(line) => {
                 writeln!(f, "line {line}: the replay and the reuse weight differ")

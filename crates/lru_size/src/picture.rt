@@ -9,17 +9,18 @@ use std::io::Write;
 
 // Where the axes are: the curve lies between these.
 const LEFT: u64 = 800;
-const RIGHT: u64 = 5_800;
+const RIGHT: u64 = 6_300;
 const TOP: u64 = 700;
 const BOTTOM: u64 = 3_700;
 
 // One look at the curve for each pixel of its width.
-const LOOKS: u64 = 500;
+const LOOKS: u64 = 550;
 
-const HEAD: &str = r#"<svg xmlns="http://www.w3.org/2000/svg" viewBox="0 0 7600 4400" width="760" height="440" font-family="sans-serif" font-size="130">
+const HEAD: &str = r#"<svg xmlns="http://www.w3.org/2000/svg" viewBox="0 0 8000 4400" width="800" height="440" font-family="sans-serif" font-size="130">
 <style>
 .page { fill: #ffffff }
 .text { fill: #1f2328 }
+.label { fill: #1f2328; stroke: #ffffff; stroke-width: 40; paint-order: stroke }
 .axis { stroke: #59636e; stroke-width: 12; fill: none }
 .grid { stroke: #d1d9e0; stroke-width: 8 }
 .curve { stroke: #0969da; stroke-width: 24; fill: none; stroke-linejoin: round }
@@ -27,13 +28,14 @@ const HEAD: &str = r#"<svg xmlns="http://www.w3.org/2000/svg" viewBox="0 0 7600 
 @media (prefers-color-scheme: dark) {
 .page { fill: #0d1117 }
 .text { fill: #e6edf3 }
+.label { fill: #e6edf3; stroke: #0d1117 }
 .axis { stroke: #9198a1 }
 .grid { stroke: #30363d }
 .curve { stroke: #4493f8 }
 .mark { fill: #ff7b72 }
 }
 </style>
-<rect class="page" width="7600" height="4400"/>
+<rect class="page" width="8000" height="4400"/>
 "#;
 
 /// The picture of a curve.
@@ -42,8 +44,8 @@ pub struct Picture<'a> {
     sizes: &'a Sizes,
     // The capacity at the right end, at least 1.
     most: u64,
-    // The number of uses, at least 1.
-    uses: u64,
+    // How many of 100 uses the top end stands for.
+    top: u64,
 }
 
 impl<'a> Picture<'a> {
@@ -52,7 +54,7 @@ impl<'a> Picture<'a> {
         Picture {
             sizes,
             most: sizes.whole_capacity().max(1),
-            uses: sizes.uses().max(1),
+            top: top_of(sizes.most_hits(), sizes.uses()),
         }
     }
 
@@ -74,10 +76,11 @@ impl<'a> Picture<'a> {
         LEFT.saturating_add(part as u64)
     }
 
-    // Where a number of hits is, from top to bottom.
-    fn down(&self, hits: u64) -> u64 {
+    // Where a number of hits is, from bottom to top.
+    fn up(&self, hits: u64) -> u64 {
         let height = u128::from(BOTTOM - TOP);
-        let part = u128::from(hits.min(self.uses)) * height / u128::from(self.uses.max(1));
+        let whole = u128::from(self.sizes.uses().max(1)).saturating_mul(u128::from(self.top.max(1)));
+        let part = u128::from(hits).saturating_mul(height * 100) / whole.max(1);
         BOTTOM.saturating_sub(part as u64)
     }
 
@@ -93,10 +96,11 @@ impl<'a> Picture<'a> {
         )
     }
 
-    // The axis of hit ratios, with a line for each 20 of 100.
+    // The axis of hit ratios, with a line at each fifth.
     fn write_ratios<O: Write>(&self, out: &mut O) -> io::Result<()> {
-        for percent in [0, 20, 40, 60, 80, 100u64] {
-            let y = BOTTOM - (BOTTOM - TOP) / 100 * percent.min(100);
+        for fifth in 0..=5u64 {
+            let y = BOTTOM - (BOTTOM - TOP) / 5 * fifth.min(5);
+            let percent = self.top / 5 * fifth.min(5);
             writeln!(
                 out,
                 r#"<path class="grid" d="M{LEFT} {y}H{RIGHT}"/><text class="text" x="720" y="{}" text-anchor="end">{percent}%</text>"#,
@@ -105,7 +109,7 @@ impl<'a> Picture<'a> {
         }
         writeln!(
             out,
-            r#"<text class="text" x="{LEFT}" y="600">hits of 100 uses</text>"#
+            r#"<text class="text" x="{LEFT}" y="600">hits of 100 uses; marked are 50, 80, 90 and 95 of 100 of the most</text>"#
         )
     }
 
@@ -134,11 +138,11 @@ impl<'a> Picture<'a> {
 
     // The curve, by one look for each pixel: a step where more uses hit.
     fn write_curve<O: Write>(&self, out: &mut O) -> io::Result<()> {
-        let mut before = self.down(self.sizes.hits(0));
+        let mut before = self.up(self.sizes.hits(0));
         write!(out, r#"<path class="curve" d="M{LEFT} {before}"#)?;
         for look in 1..=LOOKS {
             let capacity = (u128::from(self.most) * u128::from(look) / u128::from(LOOKS)) as u64;
-            let y = self.down(self.sizes.hits(capacity));
+            let y = self.up(self.sizes.hits(capacity));
             if y != before {
                 write!(out, "H{}V{y}", self.across(capacity))?;
                 before = y;
@@ -147,30 +151,62 @@ impl<'a> Picture<'a> {
         writeln!(out, r#"H{RIGHT}"/>"#)
     }
 
-    // The least capacities for parts of the greatest hit ratio, each with its label.
+    // The least capacities for parts of the greatest hit ratio, each with its label. Labels go
+    // below the curve and above it by turns, so that near ones don't cover each other.
     fn write_knees<O: Write>(&self, out: &mut O) -> io::Result<()> {
         if self.sizes.most_hits() == 0 {
             return Ok(());
         }
+        let mut side = Side::Below;
         for percent in KNEES {
-            self.write_knee(percent, out)?;
+            self.write_knee(self.sizes.knee(percent), side, out)?;
+            side = side.other();
         }
         Ok(())
     }
 
-    fn write_knee<O: Write>(&self, percent: u64, out: &mut O) -> io::Result<()> {
-        let capacity = self.sizes.knee(percent);
+    fn write_knee<O: Write>(&self, capacity: u64, side: Side, out: &mut O) -> io::Result<()> {
         let hits = self.sizes.hits(capacity);
-        let (x, y) = (self.across(capacity), self.down(hits));
+        let (x, y) = (self.across(capacity), self.up(hits));
+        writeln!(out, r#"<circle class="mark" cx="{x}" cy="{y}" r="45"/>"#)?;
         let ratio = Percent {
             part: hits,
-            whole: self.uses,
+            whole: self.sizes.uses(),
+        };
+        let (x, y, anchor) = match side {
+            Side::Below => (x.saturating_add(80), y.saturating_add(150), "start"),
+            Side::Above => (x.saturating_sub(60), y.saturating_sub(70), "end"),
         };
         writeln!(
             out,
-            r#"<circle class="mark" cx="{x}" cy="{y}" r="45"/><text class="text" x="{}" y="{}">{capacity}: {ratio} ({percent} of 100 of the most)</text>"#,
-            x.saturating_add(80),
-            y.saturating_add(150)
+            r#"<text class="label" x="{x}" y="{y}" text-anchor="{anchor}">{capacity}: {ratio}</text>"#
         )
     }
+}
+
+// Where a label is: below the curve and to the right of its point, or above and to the left.
+#[derive(Clone, Copy)]
+enum Side {
+    Below,
+    Above,
+}
+
+impl Side {
+    fn other(self) -> Side {
+        match self {
+            Side::Below => Side::Above,
+            Side::Above => Side::Below,
+        }
+    }
+}
+
+// How many of 100 uses the top of a picture stands for: no fewer than hit.
+fn top_of(hits: u64, uses: u64) -> u64 {
+    let percent = u128::from(hits) * 100;
+    for top in [5u64, 10, 20, 50] {
+        if percent <= u128::from(uses) * u128::from(top) {
+            return top;
+        }
+    }
+    100
 }

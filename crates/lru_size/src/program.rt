@@ -1,8 +1,5 @@
 //! What the program does with its words and its input.
 //! It reads and writes what is handed in, so that tests run it over memory.
-ghost use Rattle.std.specs.Prelude.{◌<◌};
-ghost use Rattle.std.specs.List.{AllByRecursion};
-
 use crate::curve_file::write_curve;
 use crate::failure::Failure;
 use crate::lines::Lines;
@@ -13,6 +10,7 @@ use crate::table;
 use crate::trace::Trace;
 use lru_sizing::curve::Curve;
 use lru_sizing::estimate::{Estimate, Sample};
+use lru_sizing::refusal::Refusal;
 use lru_sizing::replay::replay;
 use lru_sizing::reuse_weights::reuse_weights;
 use std::alloc::Global;
@@ -81,13 +79,17 @@ fn run<F: Files<File = File>, I: BufRead + Drop, O: Write, E: Write>(
     let rows = table::rows(alloc, &sizes, &options.capacities)?;
     table::print(&sizes, &rows, out)?;
     out.flush()?;
-    write_files(alloc, files, &options, &sizes)
+    write_files(alloc, files, &options, &sizes, out)
 }
 
 // The curve that a sample of the keys tells.
 fn estimated(alloc: Global, sample: Sample, trace: &Trace) -> Result<Sizes, Failure> {
-    let estimate = Estimate::new(alloc, sample, &trace.uses, trace.lines)?;
-    Ok(Sizes::Estimated(estimate))
+    match Estimate::new(alloc, sample, &trace.uses, trace.lines) {
+        Ok(estimate) => Ok(Sizes::Estimated(estimate)),
+        // Its place is one among the sampled uses, and tells no line.
+        Err(Refusal::Overflow(_)) => Err(Failure::SampleOverflow),
+        Err(refusal) => Err(Failure::from(refusal)),
+    }
 }
 
 // The curve of all keys. Where a capacity is to be checked, the trace is replayed at it, and how
@@ -130,31 +132,39 @@ fn compare<O: Write>(
 }
 
 // Writes the files that the words name.
-fn write_files<F: Files<File = File>>(
+fn write_files<F: Files<File = File>, O: Write>(
     alloc: Global,
     files: &F,
     options: &Options<'_>,
     sizes: &Sizes,
+    out: &mut O,
 ) -> Result<(), Failure> {
     if let Some(path) = options.svg {
         let mut picture = Vec::new(alloc);
         Picture::new(sizes).write(&mut picture)?;
-        write_file(alloc, files, path, &picture)?;
+        write_file(alloc, files, path, &picture, out)?;
     }
     if let Some(path) = options.csv {
         let mut numbers = Vec::new(alloc);
         write_curve(alloc, sizes, &mut numbers)?;
-        write_file(alloc, files, path, &numbers)?;
+        write_file(alloc, files, path, &numbers, out)?;
     }
     Ok(())
 }
 
-fn write_file<F: Files<File = File>>(
+// Writes a file; `out` in its place where its path is `-`.
+fn write_file<F: Files<File = File>, O: Write>(
     alloc: Global,
     files: &F,
     path: &str,
     bytes: &[u8],
+    out: &mut O,
 ) -> Result<(), Failure> {
+    if path == "-" {
+        out.write_all(bytes)?;
+        out.flush()?;
+        return Ok(());
+    }
     match fs::write(files, path, bytes) {
         Ok(()) => Ok(()),
         Err(error) => Err(Failure::of_file(alloc, path, error)),

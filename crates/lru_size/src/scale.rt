@@ -11,10 +11,16 @@ pub struct Percent {
     pub whole: u64,
 }
 
+impl Percent {
+    /// How many of 10,000 parts of the whole the part is, rounded down.
+    pub fn of_ten_thousand(self) -> u128 {
+        u128::from(self.part) * 10_000 / u128::from(self.whole.max(1))
+    }
+}
+
 impl fmt::Display for Percent {
     fn fmt<W: fmt::Write>(&self, f: &mut fmt::Formatter<W>) -> fmt::Result {
-        let whole = u128::from(self.whole.max(1));
-        let parts = u128::from(self.part) * 10_000 / whole;
+        let parts = self.of_ten_thousand();
         write!(f, "{}.{:02}%", parts / 100, parts % 100)
     }
 }

@@ -71,10 +71,15 @@ pub fn print<O: Write>(sizes: &Sizes, rows: &[Row], out: &mut O) -> io::Result<(
 }
 
 fn print_row<O: Write>(row: &Row, ratio: Percent, out: &mut O) -> io::Result<()> {
+    let parts = ratio.of_ten_thousand();
     writeln!(
         out,
-        "{:>20} {:>20} {:>9} {:>20}",
-        row.capacity, row.hits, ratio, row.charge_made
+        "{:>20} {:>20} {:>5}.{:02}% {:>20}",
+        row.capacity,
+        row.hits,
+        parts / 100,
+        parts % 100,
+        row.charge_made
     )
 }
 

@@ -2,12 +2,14 @@
 use Rattle.std.proofs.Common.{◌≡◌, ℕ, zero, suc, ◌+◌, ◌-◌, ◌<◌, ◌≤◌, inl, inr, Bool, true, false, cond, List, [], ◌∷◌, ◌++◌, length, map, get_or, take, leb, Option, Some, None, refl, sym, ap, ◌∙◌, subst, arith}
 use Rattle.std.specs.Borrow.{Bor}
 use Rattle.std.specs.List.{count_by, sum, sum_by, zip}
-use Rattle.std.specs.List.Sorted.{IsPartitionedBy, IsPartitionPoint, IsNonDecreasingBy}
+use Rattle.std.specs.List.Sorted.{IsPartitionedBy, IsPartitionPoint, IsNonDecreasingBy, IsPermutation}
 use Rattle.std.specs.Option.{MatchOption, IfSome, option_copied}
 use Rattle.std.proofs.lemmas.Bool.{cases_lt, le-leb, lt-leb, leb-true}
-use Rattle.std.proofs.lemmas.List.Sums.{sum_by-cons}
+use Rattle.std.proofs.lemmas.List.{get_or-map, get_or_append_left, get_or_push, length-map, length_push, map_push, take_all, take_more}
+use Rattle.std.proofs.lemmas.List.Sorted.{IsPermutation-map, length_permutation, sum_by-IsPermutation}
+use Rattle.std.proofs.lemmas.List.Sums.{sum_by-cons, sum_by_more, sum_by-take-le}
 use Rattle.lru_sizing.specs.HitsByWeight.{fits, hits_at}
-use Rattle.lru_sizing.specs.Curves.{StepCurve, weights_within, hits_in, charge_made_at, reused, IsRising, IsLeastFor}
+use Rattle.lru_sizing.specs.Curves.{StepCurve, weights_within, hits_in, charge_made_at, reused, IsCurveOf, IsRising, IsLeastFor}
 
 -- one number more
 count_one : (p : ℕ → Bool) (x : ℕ) (xs : List ℕ) → count_by p (x ∷ xs) ≡ cond (p x) 1 0 + count_by p xs
@@ -200,3 +202,120 @@ reused-push_some [] (w ∷ weights) c v n = absurd (omega (arith, n))
 reused-push_some (d ∷ charges) [] c v n = absurd (omega (arith, n))
 reused-push_some (d ∷ charges) (None ∷ weights) c v n = reused-push_some charges weights c v (omega (arith, n))
 reused-push_some (d ∷ charges) (Some w ∷ weights) c v n = ap (λ ps. (w, d) ∷ ps) (reused-push_some charges weights c v (omega (arith, n)))
+
+-- What a curve is built of: the pairs before i are taken, and left is the charge of all uses but those.
+pub record IsBuilt (total : ℕ) (ps : List (ℕ × ℕ)) (i left : ℕ) (weights made : List ℕ) : Type 0 where
+  pub weights_are : weights ≡ pair_weights (take i ps)
+  pub made_long : length made ≡ i + 1
+  pub left_is : left + sum (take i (pair_charges ps)) ≡ total
+  pub each : (h : ℕ) → h ≤ i → get_or made h 0 + sum (take h (pair_charges ps)) ≡ total
+
+module _ (total : ℕ) (ps : List (ℕ × ℕ)) where
+  pub built_first : IsBuilt total ps 0 total [] (total ∷ [])
+  built_first = record { weights_are = refl; made_long = refl; left_is = omega arith; each = each }
+    where
+      each : (h : ℕ) → h ≤ 0 → get_or (total ∷ []) h 0 + sum (take h (pair_charges ps)) ≡ total
+      each zero l = omega arith
+      each (suc h) l = absurd (omega (arith, l))
+
+  module _ (i left : ℕ) (weights made : List ℕ) (b : IsBuilt total ps i left weights made) (p : ℕ × ℕ) (more : i < length ps) (at : get_or ps i p ≡ p) where
+    charge_at : get_or (pair_charges ps) i 0 ≡ p.1
+    charge_at = get_or-map (λ (q : ℕ × ℕ). q.1) ps i p 0 more ∙ ap (λ q. q.1) at
+
+    long_charges : i < length (pair_charges ps)
+    long_charges = let n : length (pair_charges ps) ≡ length ps = length-map ps (λ (q : ℕ × ℕ). q.1) in omega (arith, n, more)
+
+    more_charge : sum (take (i + 1) (pair_charges ps)) ≡ sum (take i (pair_charges ps)) + p.1
+    more_charge = sum_by_more (λ (x : ℕ). x) (pair_charges ps) i 0 long_charges ∙ ap (λ c. sum (take i (pair_charges ps)) + c) charge_at
+
+    -- what is left holds the next charge
+    pub built_left : sum (pair_charges ps) ≤ total → p.1 ≤ left
+    built_left whole =
+        let part : sum (take (i + 1) (pair_charges ps)) ≤ sum (pair_charges ps) = sum_by-take-le (λ (x : ℕ). x) (pair_charges ps) (i + 1) in
+        let l : left + sum (take i (pair_charges ps)) ≡ total = b.left_is in
+        omega (arith, part, l, more_charge, whole)
+
+    pub built_on : p.1 ≤ left → IsBuilt total ps (i + 1) (left - p.1) (weights ++ p.0 ∷ []) (made ++ left - p.1 ∷ [])
+    built_on enough =
+        let l : left + sum (take i (pair_charges ps)) ≡ total = b.left_is in
+        let next : left - p.1 + sum (take (i + 1) (pair_charges ps)) ≡ total = omega (arith, l, more_charge, enough) in
+        let n : length made ≡ i + 1 = b.made_long in
+        record {
+          weights_are = ap (λ ws. ws ++ p.0 ∷ []) b.weights_are ∙ sym (map_push (λ (q : ℕ × ℕ). q.0) (take i ps) p) ∙ ap pair_weights (sym (take_more ps i p more ∙ ap (λ q. take i ps ++ q ∷ []) at));
+          made_long = length_push made (left - p.1) ∙ ap (λ m. m + 1) b.made_long;
+          left_is = next;
+          each = λ h low. elim (cases_lt i h) [
+            | inl late ↦
+                let last : h ≡ i + 1 = omega (arith, late, low) in
+                subst (λ k. get_or (made ++ left - p.1 ∷ []) k 0 + sum (take k (pair_charges ps)) ≡ total) (sym last)
+                (ap (λ x. x + sum (take (i + 1) (pair_charges ps))) (get_or_push made (left - p.1) 0 (i + 1) n) ∙ next)
+            | inr early ↦
+                ap (λ x. x + sum (take h (pair_charges ps))) (get_or_append_left made (left - p.1 ∷ []) 0 h (omega (arith, n, early))) ∙ b.each h early
+          ];
+        }
+
+-- what was built of all pairs is the curve
+module _ (charges : List ℕ) (weights : List (Option ℕ)) (ps : List (ℕ × ℕ)) (same : length charges ≡ length weights) (moved : IsPermutation (reused charges weights) ps) (up : IsNonDecreasingBy (λ (p : ℕ × ℕ). p.0) ps) where
+  pub pairs_charge : sum (pair_charges ps) ≤ sum charges
+  pairs_charge =
+      let m : sum (pair_charges ps) ≡ sum (pair_charges (reused charges weights)) = sum_by-IsPermutation (λ (x : ℕ). x) (pair_charges (reused charges weights)) (pair_charges ps) (IsPermutation-map (λ (q : ℕ × ℕ). q.1) (reused charges weights) ps moved) in
+      let b : sum (pair_charges (reused charges weights)) ≤ sum charges = reused_charge charges weights in
+      omega (arith, m, b)
+
+  pub pairs_long : length ps ≤ length charges
+  pairs_long =
+      let m : length ps ≡ length (reused charges weights) = length_permutation (reused charges weights) ps moved in
+      let b : length (reused charges weights) ≤ length charges = reused_length charges weights in
+      omega (arith, m, b)
+
+  module _ (i left : ℕ) (ws made : List ℕ) (b : IsBuilt (sum charges) ps i left ws made) (all : length ps ≤ i) where
+    whole : ws ≡ pair_weights ps
+    whole = b.weights_are ∙ ap pair_weights (take_all i ps all)
+
+    pub built_rising : IsRising ws
+    built_rising = subst IsRising (sym whole) (λ j k le l.
+        let n : length (pair_weights ps) ≡ length ps = length-map ps (λ (q : ℕ × ℕ). q.0) in
+        let low : k < length ps = omega (arith, l, n) in
+        let a : get_or (pair_weights ps) j 0 ≡ (get_or ps j (0, 0)).0 = get_or-map (λ (q : ℕ × ℕ). q.0) ps j (0, 0) 0 (omega (arith, le, low)) in
+        let d : get_or (pair_weights ps) k 0 ≡ (get_or ps k (0, 0)).0 = get_or-map (λ (q : ℕ × ℕ). q.0) ps k (0, 0) 0 low in
+        let r : (get_or ps j (0, 0)).0 ≤ (get_or ps k (0, 0)).0 = up j k (0, 0) le low in
+        omega (arith, a, d, r))
+
+    pub built_long : i ≤ length ps → length made ≡ length ws + 1
+    built_long within =
+        let n : length (pair_weights ps) ≡ length ps = length-map ps (λ (q : ℕ × ℕ). q.0) in
+        let w : length ws ≡ length (pair_weights ps) = ap length whole in
+        let m : length made ≡ i + 1 = b.made_long in
+        omega (arith, n, w, m, all, within)
+
+    pub built_short : length ws ≤ length charges
+    built_short =
+        let n : length (pair_weights ps) ≡ length ps = length-map ps (λ (q : ℕ × ℕ). q.0) in
+        let w : length ws ≡ length (pair_weights ps) = ap length whole in
+        omega (arith, n, w, pairs_long)
+
+    built_hits : (capacity : ℕ) → weights_within capacity ws ≡ pairs_within capacity ps
+    built_hits capacity = ap (weights_within capacity) whole ∙ within_firsts ps capacity
+
+    pairs_hits : (capacity : ℕ) → pairs_within capacity ps ≡ hits_at capacity weights
+    pairs_hits capacity = sum_by-IsPermutation (λ (q : ℕ × ℕ). cond (leb q.0 capacity) 1 0) (reused charges weights) ps moved ∙ reused_hits charges weights capacity same
+
+    built_made : (capacity : ℕ) → get_or made (pairs_within capacity ps) 0 ≡ charge_made_at capacity charges weights
+    built_made capacity =
+        let few : pairs_within capacity ps ≤ length ps =
+            let w : weights_within capacity (pair_weights ps) ≤ length (pair_weights ps) = within_all (pair_weights ps) capacity in
+            let n : length (pair_weights ps) ≡ length ps = length-map ps (λ (q : ℕ × ℕ). q.0) in
+            let f : weights_within capacity (pair_weights ps) ≡ pairs_within capacity ps = within_firsts ps capacity in
+            omega (arith, w, n, f) in
+        let at : get_or made (pairs_within capacity ps) 0 + sum (take (pairs_within capacity ps) (pair_charges ps)) ≡ sum charges = b.each (pairs_within capacity ps) (omega (arith, few, all)) in
+        let firsts : sum (take (pairs_within capacity ps) (pair_charges ps)) ≡ charge_within capacity ps = first_charges ps capacity up in
+        let m : charge_within capacity ps ≡ charge_within capacity (reused charges weights) = sum_by-IsPermutation (λ (q : ℕ × ℕ). cond (leb q.0 capacity) q.1 0) (reused charges weights) ps moved in
+        let parts : charge_made_at capacity charges weights + charge_within capacity (reused charges weights) ≡ sum charges = reused_made charges weights capacity same in
+        omega (arith, at, firsts, m, parts)
+
+    pub built_curve : (uses : ℕ) → uses ≡ length charges → IsCurveOf charges weights (record { uses = uses; weights = ws; made = made })
+    built_curve uses n = record {
+      uses = n;
+      hits = λ capacity. built_hits capacity ∙ pairs_hits capacity;
+      made = λ capacity. ap (λ h. get_or made h 0) (built_hits capacity) ∙ built_made capacity;
+    }

@@ -5,8 +5,9 @@ use lru_support::words::words;
 use lru_support::writer::Limited;
 use std::alloc::Global;
 use std::fs::{self, File, Files};
+use std::env;
+use std::rt::Env;
 use std::test::Fail;
-use std::{env, io};
 
 // The trace of docs/PROMISES.md.
 const TRACE: &str = "a 2\nb 3\na 2\nc 2\nb 3\nd 7\nc 2\n";
@@ -163,7 +164,7 @@ fn tells_when_nothing_can_be_written(rt: HostRuntime) -> Result<(), Fail> {
 }
 
 // The text of a file that a run writes.
-fn written<F: Files<File = File> + env::Env + AllocGlobal>(
+fn written<F: Files<File = File> + Env + AllocGlobal>(
     rt: &F,
     word: &str,
     name: &str,
@@ -183,9 +184,11 @@ fn writes_a_picture_and_numbers(rt: HostRuntime) -> Result<(), Fail> {
     let picture = written(&rt, "--svg", "lru_size_tests_picture")?;
     assert!(rt; picture.as_str().starts_with("<svg "));
     assert!(rt; picture.as_str().ends_with("</svg>\n"));
-    assert!(rt; picture.as_str().contains(">7: 28.57% (50 of 100 of the most)</text>"));
+    assert!(rt; picture.as_str().contains(">7: 28.57%</text>"));
     let numbers = written(&rt, "--csv", "lru_size_tests_numbers")?;
     assert!(rt; numbers.as_str().starts_with("capacity,uses,hits,charge_made\n1,7,0,21\n"));
     assert!(rt; numbers.as_str().ends_with("\n12,7,3,14\n"));
+    let both = run(rt.alloc(), &rt, &["--csv", "-"], TRACE, false)?;
+    assert!(rt; both.out.as_str().ends_with(numbers.as_str()));
     Ok(())
 }
