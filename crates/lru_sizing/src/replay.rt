@@ -1,5 +1,5 @@
 //! A trace, run through the cache of one owner.
-ghost use Rattle.std.specs.Prelude.{◌≡◌, ◌<◌, ◌≤◌, ◌+◌, ℕ, IfOk, IfErr, OnOk, IsTrue, map};
+ghost use Rattle.std.specs.Prelude.{◌≡◌, ◌<◌, ◌≤◌, ◌+◌, [], IfOk, IfErr, OnOk, IsTrue, map};
 ghost use Rattle.std.specs.List.{AllByRecursion};
 ghost use Rattle.std.specs.FinMap as finmap;
 ghost use Rattle.std.specs.Arc.{arc_value};
@@ -116,7 +116,7 @@ fn use_once<K: Hash + Eq + Clone + Drop>(
 
 // Gives the value of an entry that is being made.
 fn give<K: Hash + Eq + Clone + Drop>(cache: &mut State<K, ()>, stamp: u64, value: Arc<()>)
-    requires { (e : Held K Unit) × Holds cache.old.cache stamp e making }
+    requires { (e : Held K (Unit {0})) × Holds cache.old.cache stamp e making }
     ensures { Step K.eq cache.old.cache (ask.ready stamp (arc_value value)) say.done [] cache.new.cache }
 {
     if cache.ready(stamp, value).is_err() {
@@ -126,7 +126,7 @@ fn give<K: Hash + Eq + Clone + Drop>(cache: &mut State<K, ()>, stamp: u64, value
 
 // Gives a pin of a ready entry back.
 fn release<K: Hash + Eq + Clone + Drop>(cache: &mut State<K, ()>, stamp: u64) -> Evicted<K, ()>
-    requires { (e : Held K Unit) × (v : Unit) × Holds cache.old.cache stamp e (ready v) }
+    requires { (e : Held K (Unit {0})) × (v : Unit {0}) × Holds cache.old.cache stamp e (ready v) }
     ensures { Step K.eq cache.old.cache (ask.release stamp) say.done result cache.new.cache }
 {
     match cache.release(stamp) {
