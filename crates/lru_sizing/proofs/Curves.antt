@@ -113,10 +113,11 @@ none_within [] capacity h = (refl, refl)
 none_within (p ∷ ps) capacity h =
     let i = none_within ps capacity (λ k d l. h (suc k) d (omega (arith, l))) in
     let none : leb p.0 capacity ≡ false = lt-leb p.0 capacity (h 0 p (omega arith)) in
-    (
-      sum_by-cons (λ (q : ℕ × ℕ). cond (leb q.0 capacity) 1 0) p ps ∙ ap (λ t. cond t 1 0 + pairs_within capacity ps) none ∙ i.0,
-      sum_by-cons (λ (q : ℕ × ℕ). cond (leb q.0 capacity) q.1 0) p ps ∙ ap (λ t. cond t p.1 0 + charge_within capacity ps) none ∙ i.1,
-    )
+    let a : pairs_within capacity (p ∷ ps) ≡ cond (leb p.0 capacity) 1 0 + pairs_within capacity ps = sum_by-cons (λ (q : ℕ × ℕ). cond (leb q.0 capacity) 1 0) p ps in
+    let b : charge_within capacity (p ∷ ps) ≡ cond (leb p.0 capacity) p.1 0 + charge_within capacity ps = sum_by-cons (λ (q : ℕ × ℕ). cond (leb q.0 capacity) q.1 0) p ps in
+    let d : cond {A = ℕ} (leb p.0 capacity) 1 0 ≡ 0 = ap (λ t. cond {A = ℕ} t 1 0) none in
+    let e : cond {A = ℕ} (leb p.0 capacity) p.1 0 ≡ 0 = ap (λ t. cond {A = ℕ} t p.1 0) none in
+    (omega (arith, i.0, a, d), omega (arith, i.1, b, e))
 
 -- in order of weight, the charges of those that fit are the first ones
 pub first_charges : (ps : List (ℕ × ℕ)) (capacity : ℕ) → IsNonDecreasingBy (λ (p : ℕ × ℕ). p.0) ps → sum (take (pairs_within capacity ps) (pair_charges ps)) ≡ charge_within capacity ps
@@ -144,7 +145,8 @@ reused_hits [] (w ∷ weights) capacity n = absurd (omega (arith, n))
 reused_hits (c ∷ charges) [] capacity n = absurd (omega (arith, n))
 reused_hits (c ∷ charges) (None ∷ weights) capacity n =
     let i : pairs_within capacity (reused charges weights) ≡ hits_at capacity weights = reused_hits charges weights capacity (omega (arith, n)) in
-    i ∙ sym (sum_by-cons (λ (o : Option ℕ). cond (fits capacity o) 1 0) None weights)
+    let a : hits_at capacity (None ∷ weights) ≡ 0 + hits_at capacity weights = sum_by-cons (λ (o : Option ℕ). cond (fits capacity o) 1 0) None weights in
+    omega (arith, i, a)
 reused_hits (c ∷ charges) (Some w ∷ weights) capacity n =
     let i : pairs_within capacity (reused charges weights) ≡ hits_at capacity weights = reused_hits charges weights capacity (omega (arith, n)) in
     sum_by-cons (λ (q : ℕ × ℕ). cond (leb q.0 capacity) 1 0) (w, c) (reused charges weights) ∙ ap (λ m. cond (leb w capacity) 1 0 + m) i
@@ -165,7 +167,7 @@ reused_made (c ∷ charges) (Some w ∷ weights) capacity n =
     let a : charge_made_at capacity (c ∷ charges) (Some w ∷ weights) ≡ cond (leb w capacity) 0 c + charge_made_at capacity charges weights = sum_by-cons (λ (u : ℕ × Option ℕ). cond (fits capacity u.1) 0 u.0) (c, Some w) (zip charges weights) in
     let b : sum (c ∷ charges) ≡ c + sum charges = sum_by-cons (λ (x : ℕ). x) c charges in
     let d : charge_within capacity ((w, c) ∷ reused charges weights) ≡ cond (leb w capacity) c 0 + charge_within capacity (reused charges weights) = sum_by-cons (λ (q : ℕ × ℕ). cond (leb q.0 capacity) q.1 0) (w, c) (reused charges weights) in
-    let both : cond (leb w capacity) 0 c + cond (leb w capacity) c 0 ≡ c = elim (leb w capacity) as (λ t. cond t 0 c + cond t c 0 ≡ c) [ true ↦ refl | false ↦ omega arith ] in
+    let both : cond (leb w capacity) 0 c + cond (leb w capacity) c 0 ≡ c = elim (leb w capacity) as (λ t. cond t 0 c + cond t c 0 ≡ c) [ true ↦ omega arith | false ↦ omega arith ] in
     omega (arith, i, a, b, d, both)
 
 -- no more uses have a reuse weight than there are, and no more charge
@@ -235,7 +237,7 @@ module _ (total : ℕ) (ps : List (ℕ × ℕ)) where
         let l : left + sum (take i (pair_charges ps)) ≡ total = b.left_is in
         omega (arith, part, l, more_charge, whole)
 
-    pub built_on : p.1 ≤ left → IsBuilt total ps (i + 1) (left - p.1) (weights ++ p.0 ∷ []) (made ++ left - p.1 ∷ [])
+    pub built_on : p.1 ≤ left → IsBuilt total ps (i + 1) (left - p.1) (weights ++ p.0 ∷ []) (made ++ (left - p.1) ∷ [])
     built_on enough =
         let l : left + sum (take i (pair_charges ps)) ≡ total = b.left_is in
         let next : left - p.1 + sum (take (i + 1) (pair_charges ps)) ≡ total = omega (arith, l, more_charge, enough) in
@@ -247,10 +249,10 @@ module _ (total : ℕ) (ps : List (ℕ × ℕ)) where
           each = λ h low. elim (cases_lt i h) [
             | inl late ↦
                 let last : h ≡ i + 1 = omega (arith, late, low) in
-                subst (λ k. get_or (made ++ left - p.1 ∷ []) k 0 + sum (take k (pair_charges ps)) ≡ total) (sym last)
+                subst (λ k. get_or (made ++ (left - p.1) ∷ []) k 0 + sum (take k (pair_charges ps)) ≡ total) (sym last)
                 (ap (λ x. x + sum (take (i + 1) (pair_charges ps))) (get_or_push made (left - p.1) 0 (i + 1) n) ∙ next)
             | inr early ↦
-                ap (λ x. x + sum (take h (pair_charges ps))) (get_or_append_left made (left - p.1 ∷ []) 0 h (omega (arith, n, early))) ∙ b.each h early
+                ap (λ x. x + sum (take h (pair_charges ps))) (get_or_append_left made ((left - p.1) ∷ []) 0 h (omega (arith, n, early))) ∙ b.each h early
           ];
         }
 

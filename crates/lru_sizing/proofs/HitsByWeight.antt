@@ -88,7 +88,7 @@ module _ {K V : Type 0} (E : K → K → Bool) (eq : IsEquivalence E) where
         let group : List (Request K V × Outcome K V) = (ask.begin k c, accepted (say.make s) out1) ∷ (ask.ready t v, accepted say.done out2) ∷ (ask.release u, accepted say.done out3) ∷ [] in
         let absent : list_any (E k) (idle_keys old) ≡ false = elim r.1 [
           | inl m ↦ absent_idle old k i.lawful m.absent
-          | inr j ↦ absurd (none_joins old r.0 k s _ _ out1 i.held j)
+          | inr j ↦ absurd (none_joins E old r.0 k s _ _ out1 i.held j)
         ] in
         let then = changing_run E (charge_in E begun) eq (charge_agrees E eq begun) first done group old r.2.2.0 i (q.0, (q.1.0, (q.1.1.0, tt))) (h.0, h.1, tt) (r.0, r.1, (r.2.0, r.2.1, (r.2.2.0, r.2.2.1, refl))) in
         let rest = answered all (done ++ group) es r.2.2.0 new plain (parts ∙ sym (append_assoc done group es)) then q.1.1.1 g h.2 r.2.2.2 in
@@ -97,7 +97,7 @@ module _ {K V : Type 0} (E : K → K → Bool) (eq : IsEquivalence E) where
     answered all done ((ask.begin k c, accepted (say.hit s v) out1) ∷ (ask.release u, accepted say.done out2) ∷ es) old new plain parts i q g h r =
         let group : List (Request K V × Outcome K V) = (ask.begin k c, accepted (say.hit s v) out1) ∷ (ask.release u, accepted say.done out2) ∷ [] in
         let there : list_any (E k) (idle_keys old) ≡ true = elim r.1 [
-          | inl j ↦ absurd (none_joins old r.0 k s _ _ out1 i.held j)
+          | inl j ↦ absurd (none_joins E old r.0 k s _ _ out1 i.held j)
           | inr w ↦ found_idle s k w.entry old.idle w.at w.same_key
         ] in
         let then = changing_run E (charge_in E begun) eq (charge_agrees E eq begun) first done group old r.2.0 i (q.0, (q.1.0, tt)) (h.0, tt) (r.0, r.1, (r.2.0, r.2.1, refl)) in

@@ -69,7 +69,7 @@ module _ {K V : Type 0} where
 
   plain-append : (es fs : List (Request K V × Outcome K V)) → IsPlain es → IsPlain fs → IsPlain (es ++ fs)
   plain-append [] fs p q = q
-  plain-append ((ask.begin k c, accepted (say.make s) out1) ∷ (ask.ready t v, accepted say.done out2) ∷ (ask.release u, accepted say.done out3) ∷ es) fs p q = (p.0, p.1.0, plain-append es fs p.1.1 q)
+  plain-append ((ask.begin k c, accepted (say.make s) out1) ∷ (ask.ready t v, accepted say.done out2) ∷ (ask.release u, accepted say.done out3) ∷ es) fs p q = (p.0, p.1, plain-append es fs p.2 q)
   plain-append ((ask.begin k c, accepted (say.hit s v) out1) ∷ (ask.release u, accepted say.done out2) ∷ es) fs p q = (p.0, plain-append es fs p.1 q)
   plain-append ((ask.get k, accepted (say.hit s v) out1) ∷ (ask.release u, accepted say.done out2) ∷ es) fs p q = (p.0, plain-append es fs p.1 q)
   plain-append ((ask.get k, accepted say.missed out) ∷ es) fs p q = plain-append es fs p q

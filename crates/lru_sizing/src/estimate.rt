@@ -7,6 +7,8 @@
 //! for one in the whole trace. Misses are scaled and hits are what is left of all uses: hits of a
 //! few hot keys, which the sample may catch or not, would sway a scaled count of hits far more.
 
+ghost use Rattle.std.specs.Prelude.{◌≡◌, ◌<◌, IfOk, length, vec_len};
+
 use crate::curve::Curve;
 use crate::refusal::Refusal;
 use crate::reuse_weights::reuse_weights;
@@ -17,6 +19,7 @@ use std::hash::{DefaultHasher, Hash, Hasher};
 #[derive(Clone, Copy, Debug, PartialEq, Eq)]
 pub struct Sample {
     one_in: u64,
+    ghost some: { 0 < one_in },
 }
 
 impl Sample {
@@ -98,19 +101,27 @@ impl Estimate {
     }
 }
 
-// What these reuse weights within the sample stand for: the charges of the other keys are scaled,
-// and the use's own is not, since its key is sampled.
+// What these reuse weights within the sample stand for, one for each.
 fn scaled<K>(
     alloc: Global,
     sample: Sample,
     sampled: &[(K, u64)],
     weights: &[Option<u64>],
-) -> Result<Vec<Option<u64>>, AllocError> {
-    let scale = |(weight, (_, own)): (&Option<u64>, &(K, u64))| {
-        weight.map(|weight| {
-            let others = weight.saturating_sub(*own).saturating_mul(sample.one_in);
-            others.saturating_add(*own)
-        })
-    };
-    weights.iter().zip(sampled).map(scale).collect(alloc)
+) -> Result<Vec<Option<u64>>, AllocError>
+    requires { length sampled.now ≡ length weights.now }
+    ensures { IfOk result (λ scaled. vec_len scaled ≡ length weights.now) }
+{
+    let mut scaled = Vec::new(alloc);
+    for (place, weight) in weights.iter().enumerate() {
+        let own = sampled[place].1;
+        scaled.push(weight.map(|weight| scaled_weight(sample, weight, own)))?;
+    }
+    Ok(scaled)
+}
+
+// What a reuse weight within the sample stands for: the charges of the other keys are scaled, and
+// the use's own is not, since its key is sampled. One past the greatest number is that number.
+fn scaled_weight(sample: Sample, weight: u64, own: u64) -> u64 {
+    let others = weight.saturating_sub(own);
+    others.saturating_mul(sample.one_in).saturating_add(own)
 }

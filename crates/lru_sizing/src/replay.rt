@@ -119,8 +119,9 @@ fn give<K: Hash + Eq + Clone + Drop>(cache: &mut State<K, ()>, stamp: u64, value
     requires { (e : Held K (Unit {0})) × Holds cache.old.cache stamp e making }
     ensures { Step K.eq cache.old.cache (ask.ready stamp (arc_value value)) say.done [] cache.new.cache }
 {
-    if cache.ready(stamp, value).is_err() {
-        unreachable!()
+    match cache.ready(stamp, value) {
+        Ok(()) => {}
+        Err(_) => unreachable!(),
     }
 }
 

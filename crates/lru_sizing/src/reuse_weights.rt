@@ -1,5 +1,5 @@
 //! The reuse weights of a trace, from one pass over it.
-ghost use Rattle.std.specs.Prelude.{◌≡◌, IfOk, IfErr, OnOk};
+ghost use Rattle.std.specs.Prelude.{◌≡◌, IfOk, IfErr, OnOk, length, vec_len};
 ghost use Rattle.concurrent_lru.specs.Uses.{HaveOneCharge};
 ghost use Rattle.lru_sizing.specs.ReuseWeights.{reuse_weights};
 ghost use Rattle.lru_sizing.specs.RefusedTraces.{IsRefusedFor};
@@ -21,6 +21,7 @@ pub fn reuse_weights<K: Hash + Eq>(
     trace: &[(K, u64)],
 ) -> Result<Vec<Option<u64>>, Refusal>
     ensures weights { IfOk result (λ weights. weights.items ≡ reuse_weights K.eq trace.now) }
+    ensures len { IfOk result (λ weights. vec_len weights ≡ length trace.now) }
     ensures charged { OnOk result (HaveOneCharge K.eq trace.now) }
     ensures err { IfErr result (λ e. IsRefusedFor K.eq trace.now e) }
 {
