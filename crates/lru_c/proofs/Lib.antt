@@ -1,0 +1,2 @@
+pub mod WordsCacheAsBox
+pub mod WordsChainAsBox

@@ -1,0 +1,9 @@
+-- The definitions that the contracts of the calls from C cite.
+pub mod Codes
+pub mod Told
+pub mod Handles
+pub mod Chains
+pub mod Opened
+pub mod WordsCacheOwned
+pub mod WordsChainOwned
+pub mod WordsCalls

@@ -1,0 +1,13 @@
+//! What the handle of a chain leads to.
+
+use crate::words::key::Words;
+use concurrent_lru::lru_core::Evicted;
+
+/// What a call took out of a cache, oldest first: these, and then those.
+#[derive(Drop)]
+pub struct WordsChain {
+    /// What is popped first.
+    pub first: Evicted<Words, u64>,
+    /// What is popped after it.
+    pub then: Evicted<Words, u64>,
+}
