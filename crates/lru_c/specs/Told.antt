@@ -1,5 +1,5 @@
 -- What a call tells C, as an outcome of the abstract cache. E is the equality of keys.
-use Rattle.std.specs.Prelude.{◌≡◌, ℕ, Bool, cond, ◌==◌, List, [], MatchBool}
+use Rattle.std.specs.Prelude.{◌≡◌, ℕ, Bool, cond, ◌==◌, List, [], MatchBool, ⊤}
 use Rattle.concurrent_lru.specs.Cache.{Cache, Idle, IsLawful}
 use Rattle.concurrent_lru.specs.Request.{Request}
 use Rattle.concurrent_lru.specs.Reply as say
@@ -25,6 +25,11 @@ module _ {K : Type 0} where
       cond (t.code == code.overflow) (refused Overflow) (cond (t.code == code.stale) (refused Stale) (
       cond (t.code == code.memory) (refused Memory) (accepted (say.sum t.value) gone)))))))))
 
+  -- a refusal puts nothing into a chain
+  abbrev pub IsQuiet : Outcome K ℕ → List (Idle K ℕ) → Type 0
+  IsQuiet (accepted reply out) gone = ⊤
+  IsQuiet (refused e) gone = gone ≡ []
+
   -- nothing changed, and nothing was put into a chain
   abbrev pub IsSame : Cache K ℕ → List (Idle K ℕ) → Cache K ℕ → Type 0
   IsSame old gone new = (new ≡ old) × (gone ≡ [])
@@ -35,14 +40,14 @@ module _ {K : Type 0} where
     Tells old r t gone new =
         MatchBool (t.code == code.removed) ((k : K) × Stands E old r (accepted (say.removed k) gone) new) (Stands E old r (outcome_told t gone) new)
 
-    -- The same, and the cache that it left is lawful.
+    -- The same; a refusal put nothing into a chain, and the cache that is left is lawful.
     abbrev pub Asks : Cache K ℕ → Request K ℕ → LruTold → List (Idle K ℕ) → Cache K ℕ → Type 0
-    Asks old r t gone new = Tells old r t gone new × IsLawful E new
+    Asks old r t gone new = Tells old r t gone new × IsQuiet (outcome_told t gone) gone × IsLawful E new
 
     -- The same of a call that first asks for memory of its own: where that is refused nothing changed.
     abbrev pub AsksWithMemory : Cache K ℕ → Request K ℕ → LruTold → List (Idle K ℕ) → Cache K ℕ → Type 0
     AsksWithMemory old r t gone new = MatchBool (t.code == code.memory) (IsSame old gone new) (Asks old r t gone new)
 
-    -- The same of a begin: a charge of 0 is refused.
-    abbrev pub Begins : (LruTold → List (Idle K ℕ) → Type 0) → Cache K ℕ → ℕ → LruTold → List (Idle K ℕ) → Cache K ℕ → Type 0
-    Begins Step old charge t gone new = MatchBool (charge == 0) ((t ≡ bare code.no_charge) × IsSame old gone new) (Step t gone)
+    -- The same of a call that first makes a key of these bytes, or the like: it is of a key for which this holds.
+    abbrev pub AsksOf : (K → Type 0) → Cache K ℕ → (K → Request K ℕ) → LruTold → List (Idle K ℕ) → Cache K ℕ → Type 0
+    AsksOf IsKey old r t gone new = MatchBool (t.code == code.memory) (IsSame old gone new) ((key : K) × IsKey key × Asks old (r key) t gone new)

@@ -3,9 +3,10 @@
 //! each call.
 #![tactic(auto)]
 
+pub mod bytes;
+mod chains;
 pub mod code;
 pub mod parts;
-mod chains;
 mod steps;
 mod take_all;
 pub mod told;

@@ -1,5 +1,5 @@
 //! The steps of a cache of words, for keys of any type: each as the core takes it, told as C is told.
-ghost use Rattle.std.specs.Prelude.{◌≡◌, ◌==◌, ◌⊎◌, [], MatchBool};
+ghost use Rattle.std.specs.Prelude.{◌≡◌, ◌<◌, ◌==◌, ◌⊎◌, [], MatchBool};
 ghost use Rattle.std.specs.Arc.{arc_value};
 ghost use Rattle.concurrent_lru.specs.Cache.{count_of};
 ghost use Rattle.concurrent_lru.specs.Request as ask;
@@ -24,6 +24,17 @@ pub(crate) fn begin<K: Hash + Eq + Clone>(
     if charge == 0 {
         return (LruTold::bare(code::NO_CHARGE), Evicted::none());
     }
+    begin_charged(state, key, charge)
+}
+
+pub(crate) fn begin_charged<K: Hash + Eq + Clone>(
+    state: &mut State<K, u64>,
+    key: &K,
+    charge: u64,
+) -> (LruTold, Evicted<K, u64>)
+    requires { 0 < charge }
+    ensures { Asks K.eq state.old.cache (ask.begin key.now charge) result.0 result.1 state.new.cache }
+{
     match state.begin(key, charge) {
         Ok((begun, gone)) => match begun {
             Begun::Make(stamp) => (LruTold::of(code::MAKE, stamp, 0), gone),
