@@ -19,5 +19,5 @@ module _ {K : Type 0} (E : K → K → Bool) where
   either IsKey old new r key t gone is asked true e = same_without_memory old new (r key) t gone e asked
   either IsKey old new r key t gone is asked false e = (key, is, asked)
 
-  pub by_key : (IsKey : K → Type 0) (old new : Cache K ℕ) (r : K → Request K ℕ) (key : K) (t : LruTold) (gone : List (Idle K ℕ)) → IsKey key → Asks E old (r key) t gone new → AsksOf E IsKey old r t gone new
-  by_key IsKey old new r key t gone is asked = either IsKey old new r key t gone is asked (t.code == code.memory) refl
+  pub by_key : (IsKey : K → Type 0) (old mid new : Cache K ℕ) (r : K → Request K ℕ) (key : K) (t : LruTold) (gone : List (Idle K ℕ)) → mid ≡ old → IsKey key → Asks E mid (r key) t gone new → AsksOf E IsKey old r t gone new
+  by_key IsKey old mid new r key t gone same is asked = either IsKey old new r key t gone is (subst (λ c. Asks E c (r key) t gone new) same asked) (t.code == code.memory) refl

@@ -7,6 +7,7 @@ use concurrent_lru::lru_core::{Evicted, State};
 use std::hash::Hash;
 
 /// What was taken out of a cache: what was idle, and then what was held.
+#[derive(Drop)]
 pub(crate) struct Taken<K> {
     pub(crate) idle: Evicted<K, u64>,
     pub(crate) held: Evicted<K, u64>,

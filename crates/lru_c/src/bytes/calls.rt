@@ -223,7 +223,7 @@ pub(crate) fn contains(handle: LruBytes, key: &[u8]) -> (LruBytes, u32)
 }
 
 pub(crate) fn key_of(handle: LruBytes, asked: (u64, &mut [u8])) -> (LruBytes, LruTold)
-    ensures { KeyOf handle.cache.held asked.entry.0 result.1 asked.entry.1.old asked.entry.1.new result.0.cache.held }
+    ensures { KeyOf handle.cache.held asked.entry.0 result.1 asked.entry.1.now asked.exit.1.now result.0.cache.held }
 {
     match handle.opened() {
         Ok(cache) => {
