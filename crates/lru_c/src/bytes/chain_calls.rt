@@ -64,7 +64,7 @@ pub(crate) fn pop(handle: LruBytesEvicted, _nothing: ()) -> (LruBytesEvicted, Op
 {
     match handle.opened() {
         Ok(mut chain) => {
-            let gone = chains::pop(&mut chain.first, &mut chain.then);
+            let gone = take_first(&mut chain);
             (LruBytesEvicted::of(chain), gone)
         }
         Err(handle) => (handle, None),
@@ -83,4 +83,10 @@ pub(crate) fn free(handle: LruBytesEvicted, _nothing: ()) -> (LruBytesEvicted, (
         }
         Err(handle) => (handle, ()),
     }
+}
+
+fn take_first(chain: &mut BytesChain) -> Option<LruGone>
+    ensures { MatchOption result ((chain.old.first ++ chain.old.then ≡ []) × (chain.new.first ++ chain.new.then ≡ [])) (λ gone. TellsFirst (chain.old.first ++ chain.old.then) gone (chain.new.first ++ chain.new.then)) }
+{
+    chains::pop(&mut chain.first, &mut chain.then)
 }

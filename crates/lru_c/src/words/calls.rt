@@ -90,7 +90,8 @@ pub(crate) fn ready(handle: LruWords, asked: (u64, u64)) -> (LruWords, u32)
 {
     match handle.opened() {
         Ok(mut cache) => {
-            let answer = steps::ready(&mut cache.state, cache.alloc, asked.0, asked.1);
+            let alloc = cache.alloc;
+            let answer = steps::ready(&mut cache.state, alloc, asked.0, asked.1);
             (LruWords::of(cache), answer)
         }
         Err(handle) => (handle, code::CLOSED),

@@ -65,7 +65,7 @@ pub(crate) fn pop(handle: LruWordsEvicted, _nothing: ()) -> (LruWordsEvicted, Op
 {
     match handle.opened() {
         Ok(mut chain) => {
-            let gone = chains::pop(&mut chain.first, &mut chain.then);
+            let gone = take_first(&mut chain);
             (LruWordsEvicted::of(chain), gone)
         }
         Err(handle) => (handle, None),
@@ -84,4 +84,10 @@ pub(crate) fn free(handle: LruWordsEvicted, _nothing: ()) -> (LruWordsEvicted, (
         }
         Err(handle) => (handle, ()),
     }
+}
+
+fn take_first(chain: &mut WordsChain) -> Option<LruGone>
+    ensures { MatchOption result ((chain.old.first ++ chain.old.then ≡ []) × (chain.new.first ++ chain.new.then ≡ [])) (λ gone. TellsFirst (chain.old.first ++ chain.old.then) gone (chain.new.first ++ chain.new.then)) }
+{
+    chains::pop(&mut chain.first, &mut chain.then)
 }
