@@ -1,5 +1,5 @@
 //! Caches whose keys are bytes, for C.
-ghost use Rattle.std.specs.Prelude.{◌≡◌, ◌==◌, [], is_some, MatchBool, MatchOption};
+ghost use Rattle.std.specs.Prelude.{◌≡◌, ◌==◌, [], false, is_some, true, None, Some, MatchBool, MatchOption};
 ghost use Rattle.concurrent_lru.specs.Cache.{count_of, empty_cache, most_pins_by_default};
 ghost use Rattle.concurrent_lru.specs.Request as ask;
 ghost use Rattle.lru_c.specs.Chains.{chain_code, entries_in, TellsFirst};

@@ -2,6 +2,7 @@
 
 use crate::words::key::Words;
 use concurrent_lru::lru_core::Evicted;
+use std::marker::Send;
 
 /// What a call took out of a cache, oldest first: these, and then those.
 #[derive(Drop)]
@@ -11,3 +12,6 @@ pub struct WordsChain {
     /// What is popped after it.
     pub then: Evicted<Words, u64>,
 }
+
+// The entries may go to another thread, and so may the chain.
+unsafe impl Send for WordsChain {}
