@@ -1,0 +1,78 @@
+//! A pool of open files that threads share: a file is opened once, stays open while somebody reads
+//! it, and the ones that nobody reads are closed, the one read longest ago first, once more than
+//! `OPEN` are open.
+//!
+//! ```text
+//! cargo run --example open_files -- FILE ..
+//! ```
+
+use std::error::Error;
+use std::fs::File;
+use std::io;
+use std::os::unix::fs::FileExt;
+use std::process::ExitCode;
+use std::thread;
+
+use concurrent_lru_proved::GetError;
+use concurrent_lru_proved::sharded::LruCache;
+
+/// How many idle files stay open in all.
+const OPEN: u64 = 32;
+
+/// Open files by their paths.
+struct Pool {
+    files: LruCache<String, File>,
+}
+
+impl Pool {
+    fn new() -> Result<Self, Box<dyn Error>> {
+        let files = LruCache::new(OPEN)?;
+        Ok(Pool { files })
+    }
+
+    /// Reads the first bytes of a file, which is opened where it is not open.
+    fn head(&self, path: &str) -> Result<Vec<u8>, GetError<io::Error>> {
+        let file = self.files.get_or_try_init(path, 1, |path| File::open(path))?;
+        let mut head = [0; 16];
+        // The handle keeps the file open, whatever other threads do.
+        let length = file.read_at(&mut head, 0).map_err(GetError::Init)?;
+        Ok(head[..length].to_vec())
+    }
+
+    /// Closes a file whose path another one has now, unless it is being read.
+    fn forget(&self, path: &str) {
+        self.files.advice_evict(path);
+    }
+}
+
+fn run(paths: &[String]) -> Result<(), Box<dyn Error>> {
+    let pool = Pool::new()?;
+    thread::scope(|scope| {
+        for _ in 0..4 {
+            scope.spawn(|| {
+                for path in paths.iter().cycle().take(1000) {
+                    // What cannot be opened is told below, once.
+                    let _ = pool.head(path);
+                }
+            });
+        }
+    });
+    for path in paths {
+        let head = pool.head(path)?;
+        println!("{path}: {}", head.escape_ascii());
+        pool.forget(path);
+    }
+    println!("{} files open", pool.files.total_charge());
+    Ok(())
+}
+
+fn main() -> ExitCode {
+    let paths: Vec<String> = std::env::args().skip(1).collect();
+    match run(&paths) {
+        Ok(()) => ExitCode::SUCCESS,
+        Err(error) => {
+            eprintln!("open_files: {error}");
+            ExitCode::FAILURE
+        }
+    }
+}

@@ -1,0 +1,207 @@
+//! A cache in shards, each under a lock of its own.
+
+use std::borrow::Borrow;
+use std::fmt;
+use std::hash::{BuildHasher, Hash, RandomState};
+use std::num::NonZeroUsize;
+use std::ops::Deref;
+
+use crate::error::{GetError, Refusal};
+use crate::key::Key;
+use crate::unsharded;
+
+/// How many shards [`LruCache::new`] makes.
+const SHARDS: NonZeroUsize = NonZeroUsize::new(16).unwrap();
+
+/// A cache of heavy values that threads share, in shards.
+///
+/// Each shard is an [`unsharded::LruCache`] with a lock of its own and an equal share of the
+/// capacity, rounded up. The hasher chooses the shard of a key. So threads get in each other's way
+/// less, and a value leaves where its own shard is full.
+///
+/// # Examples
+///
+/// ```
+/// use concurrent_lru_proved::sharded::LruCache;
+///
+/// # fn main() -> Result<(), concurrent_lru_proved::Refusal> {
+/// let cache = LruCache::<u64, String>::new(1000)?;
+/// let handle = cache.get_or_init(&7, 1, |key| key.to_string())?;
+/// assert_eq!(*handle, "7");
+/// # Ok(())
+/// # }
+/// ```
+pub struct LruCache<K: Key + ?Sized, V, S = RandomState> {
+    shards: Box<[unsharded::LruCache<K, V>]>,
+    hasher: S,
+}
+
+impl<K: Key + ?Sized, V> LruCache<K, V> {
+    /// An empty cache of 16 shards, which share `capacity`.
+    ///
+    /// # Errors
+    ///
+    /// [`Refusal::Memory`] where there is no memory for it.
+    pub fn new(capacity: u64) -> Result<Self, Refusal> {
+        LruCache::with_shards_hasher(capacity, SHARDS, RandomState::new())
+    }
+}
+
+impl<K: Key + ?Sized, V, S> LruCache<K, V, S> {
+    /// An empty cache of this many shards, which share `capacity`, and whose keys the hasher
+    /// numbers.
+    ///
+    /// # Errors
+    ///
+    /// [`Refusal::Memory`] where there is no memory for it.
+    pub fn with_shards_hasher(
+        capacity: u64,
+        shards: NonZeroUsize,
+        hasher: S,
+    ) -> Result<Self, Refusal> {
+        let share = share(capacity, shards.get());
+        let shards: Result<_, Refusal> = (0..shards.get())
+            .map(|_| unsharded::LruCache::new(share))
+            .collect();
+        Ok(LruCache {
+            shards: shards?,
+            hasher,
+        })
+    }
+
+    /// Evicts every value that no handle has, shard after shard.
+    pub fn prune(&self) {
+        for shard in &self.shards {
+            shard.prune();
+        }
+    }
+
+    /// The sum of the charges of all values, those that are being made included. The shards are
+    /// asked one after another, so it is the total of no one moment where other threads call.
+    pub fn total_charge(&self) -> u128 {
+        let totals = self.shards.iter().map(|shard| shard.total_charge());
+        totals.map(u128::from).sum()
+    }
+
+    /// The capacities of all shards together, which rounding makes more than was asked for.
+    pub fn capacity(&self) -> u128 {
+        let capacities = self.shards.iter().map(|shard| shard.capacity());
+        capacities.map(u128::from).sum()
+    }
+
+    /// Sets the capacity that the shards share. Where the charges of a shard's values pass its
+    /// share, idle ones are evicted at once.
+    pub fn set_capacity(&self, capacity: u64) {
+        let share = share(capacity, self.shards.len());
+        for shard in &self.shards {
+            shard.set_capacity(share);
+        }
+    }
+}
+
+impl<K: Key + ?Sized, V, S: BuildHasher> LruCache<K, V, S> {
+    /// A handle of the value of a key; none where the cache has no value of it, or one that is
+    /// still being made. Does not wait for one.
+    ///
+    /// # Errors
+    ///
+    /// As [`unsharded::LruCache::get`].
+    pub fn get<Q>(&self, key: &Q) -> Result<Option<CacheHandle<'_, K, V>>, Refusal>
+    where
+        K: Borrow<Q>,
+        Q: Key<Form = K::Form> + Hash + ?Sized,
+    {
+        let found = self.shard(key).get(key)?;
+        Ok(found.map(CacheHandle))
+    }
+
+    /// A handle of the value of a key, which `init` makes where the cache has none. Other callers
+    /// of the key wait meanwhile.
+    ///
+    /// # Errors
+    ///
+    /// As [`unsharded::LruCache::get_or_init`].
+    pub fn get_or_init<Q>(
+        &self,
+        key: &Q,
+        charge: u64,
+        init: impl FnOnce(&Q) -> V,
+    ) -> Result<CacheHandle<'_, K, V>, Refusal>
+    where
+        K: Borrow<Q>,
+        Q: Key<Form = K::Form> + Hash + ?Sized,
+    {
+        let handle = self.shard(key).get_or_init(key, charge, init)?;
+        Ok(CacheHandle(handle))
+    }
+
+    /// A handle of the value of a key, which `init` makes where the cache has none, if it can.
+    /// Other callers of the key wait meanwhile; where `init` fails, one of them makes the value.
+    ///
+    /// # Errors
+    ///
+    /// As [`unsharded::LruCache::get_or_try_init`].
+    pub fn get_or_try_init<Q, E>(
+        &self,
+        key: &Q,
+        charge: u64,
+        init: impl FnOnce(&Q) -> Result<V, E>,
+    ) -> Result<CacheHandle<'_, K, V>, GetError<E>>
+    where
+        K: Borrow<Q>,
+        Q: Key<Form = K::Form> + Hash + ?Sized,
+    {
+        let handle = self.shard(key).get_or_try_init(key, charge, init)?;
+        Ok(CacheHandle(handle))
+    }
+
+    /// Evicts the value of a key where no handle has it; else nothing happens, now or later.
+    pub fn advice_evict<Q>(&self, key: &Q)
+    where
+        K: Borrow<Q>,
+        Q: Key<Form = K::Form> + Hash + ?Sized,
+    {
+        self.shard(key).advice_evict(key);
+    }
+
+    fn shard<Q: Hash + ?Sized>(&self, key: &Q) -> &unsharded::LruCache<K, V> {
+        let number = self.hasher.hash_one(key) % self.shards.len() as u64;
+        // Below the number of shards, which is a `usize`.
+        &self.shards[number as usize]
+    }
+}
+
+/// The share of each shard, rounded up.
+fn share(capacity: u64, shards: usize) -> u64 {
+    capacity.div_ceil(shards as u64)
+}
+
+impl<K: Key + ?Sized, V, S> fmt::Debug for LruCache<K, V, S> {
+    fn fmt(&self, f: &mut fmt::Formatter<'_>) -> fmt::Result {
+        f.debug_list().entries(&self.shards).finish()
+    }
+}
+
+/// A value in the cache, which is not evicted while this lives.
+pub struct CacheHandle<'a, K: Key + ?Sized, V>(unsharded::CacheHandle<'a, K, V>);
+
+impl<K: Key + ?Sized, V> CacheHandle<'_, K, V> {
+    /// The value.
+    pub fn value(&self) -> &V {
+        self.0.value()
+    }
+}
+
+impl<K: Key + ?Sized, V> Deref for CacheHandle<'_, K, V> {
+    type Target = V;
+
+    fn deref(&self) -> &V {
+        self.value()
+    }
+}
+
+impl<K: Key + ?Sized, V: fmt::Debug> fmt::Debug for CacheHandle<'_, K, V> {
+    fn fmt(&self, f: &mut fmt::Formatter<'_>) -> fmt::Result {
+        self.0.fmt(f)
+    }
+}

@@ -1,0 +1,188 @@
+// LevelDB over the cache and over its own: a database of 20,000 keys is read through both, at three
+// capacities. Every answer, every hit, every insertion and the total charge at the end must be
+// equal. Prints what was compared, and ends with 1 where something differs.
+#include <cstdint>
+#include <cstdio>
+#include <cstdlib>
+#include <memory>
+#include <string>
+#include <vector>
+
+#include "leveldb/cache.h"
+#include "leveldb/db.h"
+#include "leveldb/options.h"
+#include "leveldb_cache.h"
+
+namespace {
+
+constexpr std::uint64_t kKeys = 20000;
+constexpr std::uint64_t kReads = 60000;
+
+std::uint64_t Mix(std::uint64_t x) {
+  x += 0x9e3779b97f4a7c15u;
+  x = (x ^ (x >> 30)) * 0xbf58476d1ce4e5b9u;
+  x = (x ^ (x >> 27)) * 0x94d049bb133111ebu;
+  return x ^ (x >> 31);
+}
+
+std::string KeyOf(std::uint64_t n) {
+  char text[24];
+  std::snprintf(text, sizeof text, "%016llu", static_cast<unsigned long long>(n));
+  return text;
+}
+
+// 300 bytes, of which most compress away: LevelDB caches no block that it stored as it was and
+// maps.
+std::string ValueOf(std::uint64_t n) {
+  std::string value;
+  for (std::uint64_t i = 0; i < 6; i++) {
+    const std::uint64_t word = Mix(n * 8 + i);
+    value.append(reinterpret_cast<const char*>(&word), sizeof word);
+  }
+  value.append(300 - value.size(), 'v');
+  return value;
+}
+
+// Counts what a cache is asked, on one thread.
+class Counting : public leveldb::Cache {
+ public:
+  explicit Counting(leveldb::Cache* cache) : cache_(cache) {}
+
+  Handle* Insert(const leveldb::Slice& key, void* value, std::size_t charge,
+                 void (*deleter)(const leveldb::Slice&, void*)) override {
+    inserts++;
+    return cache_->Insert(key, value, charge, deleter);
+  }
+  Handle* Lookup(const leveldb::Slice& key) override {
+    lookups++;
+    Handle* handle = cache_->Lookup(key);
+    if (handle != nullptr) hits++;
+    return handle;
+  }
+  void Release(Handle* handle) override { cache_->Release(handle); }
+  void* Value(Handle* handle) override { return cache_->Value(handle); }
+  void Erase(const leveldb::Slice& key) override { cache_->Erase(key); }
+  std::uint64_t NewId() override { return cache_->NewId(); }
+  void Prune() override { cache_->Prune(); }
+  std::size_t TotalCharge() const override { return cache_->TotalCharge(); }
+
+  std::uint64_t lookups = 0;
+  std::uint64_t hits = 0;
+  std::uint64_t inserts = 0;
+
+ private:
+  std::unique_ptr<leveldb::Cache> cache_;
+};
+
+void Check(const leveldb::Status& status) {
+  if (status.ok()) return;
+  std::fprintf(stderr, "%s\n", status.ToString().c_str());
+  std::exit(2);
+}
+
+std::unique_ptr<leveldb::DB> Open(const std::string& path, leveldb::Cache* cache, bool create) {
+  leveldb::Options options;
+  options.create_if_missing = create;
+  options.block_cache = cache;
+  leveldb::DB* db = nullptr;
+  Check(leveldb::DB::Open(options, path, &db));
+  return std::unique_ptr<leveldb::DB>(db);
+}
+
+void Fill(const std::string& path) {
+  const std::unique_ptr<leveldb::Cache> cache(leveldb::NewLRUCache(1 << 20));
+  const std::unique_ptr<leveldb::DB> db = Open(path, cache.get(), true);
+  for (std::uint64_t i = 0; i < kKeys; i++) {
+    const std::uint64_t n = i * 7919 % kKeys;
+    Check(db->Put(leveldb::WriteOptions(), KeyOf(n), ValueOf(n)));
+  }
+  db->CompactRange(nullptr, nullptr);
+}
+
+// The key that a read asks for: nine of ten from a tenth of the keys, and one in fifty of no key.
+std::uint64_t Asked(std::uint64_t read) {
+  const std::uint64_t x = Mix(read);
+  if (x % 50 == 0) return kKeys + x % kKeys;
+  return (x >> 8) % 10 != 0 ? (x >> 16) % (kKeys / 10) * 10 : (x >> 16) % kKeys;
+}
+
+struct Outcome {
+  std::vector<std::string> answers;
+  std::uint64_t lookups, hits, inserts;
+  std::size_t total_charge;
+  std::uint64_t wrong;
+};
+
+// Reads at random, then all in order, as a scan does, and then at random again.
+Outcome Read(const std::string& path, leveldb::Cache* cache) {
+  Counting counting(cache);
+  Outcome outcome = {};
+  {
+    const std::unique_ptr<leveldb::DB> db = Open(path, &counting, false);
+    for (std::uint64_t read = 0; read < kReads; read++) {
+      if (read == kReads / 2) {
+        const std::unique_ptr<leveldb::Iterator> all(db->NewIterator(leveldb::ReadOptions()));
+        std::uint64_t n = 0;
+        for (all->SeekToFirst(); all->Valid(); all->Next(), n++) {
+          if (all->key() != KeyOf(n) || all->value() != ValueOf(n)) outcome.wrong++;
+        }
+        if (n != kKeys) outcome.wrong++;
+      }
+      const std::uint64_t n = Asked(read);
+      std::string value;
+      const leveldb::Status status = db->Get(leveldb::ReadOptions(), KeyOf(n), &value);
+      if (!status.IsNotFound()) Check(status);
+      if (status.IsNotFound() ? n < kKeys : value != ValueOf(n)) outcome.wrong++;
+      outcome.answers.push_back(status.IsNotFound() ? "none" : value);
+    }
+    outcome.lookups = counting.lookups;
+    outcome.hits = counting.hits;
+    outcome.inserts = counting.inserts;
+    outcome.total_charge = counting.TotalCharge();
+  }
+  return outcome;
+}
+
+bool Compare(const std::string& path, std::size_t capacity) {
+  const Outcome own = Read(path, leveldb::NewLRUCache(capacity));
+  const Outcome proved = Read(path, lru::NewLevelDBCache(capacity));
+  const bool equal = own.answers == proved.answers && own.lookups == proved.lookups &&
+                     own.hits == proved.hits && own.inserts == proved.inserts &&
+                     own.total_charge == proved.total_charge;
+  // A comparison of caches that only hit, or never do, would say nothing.
+  const bool telling = proved.hits > 0 && proved.inserts > 0;
+  const bool good = equal && telling && own.wrong == 0 && proved.wrong == 0;
+  const auto number = [](std::uint64_t n) { return static_cast<unsigned long long>(n); };
+  std::printf("leveldb, %zu KiB: %llu of %llu look-ups hit, %llu inserts, charge %zu",
+              capacity >> 10, number(proved.hits), number(proved.lookups), number(proved.inserts),
+              proved.total_charge);
+  if (good) {
+    std::printf(", as LevelDB's own cache\n");
+  } else {
+    std::printf(
+        "; LevelDB's own: %llu of %llu, %llu inserts, charge %zu; answers %s, %llu and %llu "
+        "wrong\n",
+        number(own.hits), number(own.lookups), number(own.inserts), own.total_charge,
+        own.answers == proved.answers ? "equal" : "not equal", number(proved.wrong),
+        number(own.wrong));
+  }
+  return good;
+}
+
+}  // namespace
+
+int main(int argc, char** argv) {
+  if (argc != 2) {
+    std::fprintf(stderr,
+                 "usage: leveldb FOLDER, a folder for the database that is not there yet\n");
+    return 2;
+  }
+  const std::string path = argv[1];
+  Fill(path);
+  bool good = true;
+  for (const std::size_t capacity :
+       {std::size_t{256} << 10, std::size_t{1} << 20, std::size_t{8} << 20}) {
+    good = Compare(path, capacity) && good;
+  }
+  return good ? 0 : 1;
+}
