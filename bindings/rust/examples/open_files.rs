@@ -8,13 +8,12 @@
 
 use std::error::Error;
 use std::fs::File;
-use std::io;
 use std::os::unix::fs::FileExt;
 use std::process::ExitCode;
 use std::thread;
 
-use concurrent_lru_proved::GetError;
 use concurrent_lru_proved::sharded::LruCache;
+use concurrent_lru_proved::{GetError, Refusal};
 
 /// How many idle files stay open in all.
 const OPEN: u64 = 32;
@@ -25,23 +24,22 @@ struct Pool {
 }
 
 impl Pool {
-    fn new() -> Result<Self, Box<dyn Error>> {
+    fn new() -> Result<Self, Refusal> {
         let files = LruCache::new(OPEN)?;
         Ok(Pool { files })
     }
 
     /// Reads the first bytes of a file, which is opened where it is not open.
-    fn head(&self, path: &str) -> Result<Vec<u8>, GetError<io::Error>> {
-        let file = self.files.get_or_try_init(path, 1, |path| File::open(path))?;
+    fn head(&self, path: &str) -> Result<Vec<u8>, Box<dyn Error>> {
+        let opened = self.files.get_or_try_init(path, 1, |path| File::open(path));
+        let file = opened.map_err(|error| match error {
+            GetError::Init(error) => format!("cannot open {path}: {error}").into(),
+            GetError::Refused(refusal) => Box::<dyn Error>::from(refusal),
+        })?;
         let mut head = [0; 16];
         // The handle keeps the file open, whatever other threads do.
-        let length = file.read_at(&mut head, 0).map_err(GetError::Init)?;
+        let length = file.read_at(&mut head, 0)?;
         Ok(head[..length].to_vec())
-    }
-
-    /// Closes a file whose path another one has now, unless it is being read.
-    fn forget(&self, path: &str) {
-        self.files.advice_evict(path);
     }
 }
 
@@ -58,11 +56,11 @@ fn run(paths: &[String]) -> Result<(), Box<dyn Error>> {
         }
     });
     for path in paths {
-        let head = pool.head(path)?;
-        println!("{path}: {}", head.escape_ascii());
-        pool.forget(path);
+        println!("{path}: {}", pool.head(path)?.escape_ascii());
     }
     println!("{} files open", pool.files.total_charge());
+    pool.files.prune();
+    println!("{} files open after a prune", pool.files.total_charge());
     Ok(())
 }
 

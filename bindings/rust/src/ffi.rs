@@ -1,36 +1,25 @@
-//! The declarations of `bindings/c/lru.h`.
+//! The types of `bindings/c/lru.h`, by the names that they have there without `lru_`.
 
 use std::ffi::c_void;
 use std::ptr;
 
-/// `lru_cache` and `lru2_cache`: where a cache lies.
+/// `lru_bytes`, `lru_words`, `lru_bytes_evicted` and `lru_words_evicted`: a cache, or a chain of
+/// entries that left one.
 #[repr(C)]
-#[derive(Clone, Copy)]
-pub struct Cache {
+pub struct Handle {
     at: *mut c_void,
+    open: bool,
 }
 
-impl Cache {
-    /// None yet.
-    pub const NONE: Cache = Cache {
+impl Handle {
+    /// A handle that is not open.
+    pub const CLOSED: Handle = Handle {
         at: ptr::null_mut(),
+        open: false,
     };
 }
 
-/// `lru_chain`: entries that left a cache.
-#[repr(C)]
-pub struct Chain {
-    at: *mut c_void,
-}
-
-impl Chain {
-    /// A chain without entries.
-    pub const EMPTY: Chain = Chain {
-        at: ptr::null_mut(),
-    };
-}
-
-/// `lru_told`: the answer of a call.
+/// `lru_told`: what a call tells.
 #[repr(C)]
 #[derive(Debug, Clone, Copy)]
 pub struct Told {
@@ -41,7 +30,7 @@ pub struct Told {
 
 /// `lru_gone`: an entry that left a cache.
 #[repr(C)]
-#[derive(Debug, Default)]
+#[derive(Debug, Clone, Copy)]
 pub struct Gone {
     pub stamp: u64,
     pub charge: u64,
@@ -51,6 +40,10 @@ pub struct Gone {
 pub const MAKE: u32 = 0;
 pub const WAIT: u32 = 1;
 pub const HIT: u32 = 2;
+pub const DONE: u32 = 3;
+pub const LEFT: u32 = 4;
+pub const REMOVED: u32 = 5;
+pub const MISSED: u32 = 6;
 pub const OVERFLOW: u32 = 7;
 pub const MEMORY: u32 = 9;
-pub const CHARGE: u32 = 11;
+pub const NO_CHARGE: u32 = 11;

@@ -2,7 +2,7 @@
 
 use std::ffi::{OsStr, OsString};
 
-use crate::form::{Bytes, Form, Words};
+pub use crate::form::{Bytes, Form, Words, Written};
 
 /// A key that the library can hold: one that is written as bytes or as two words.
 ///
@@ -39,13 +39,13 @@ pub trait Key {
     type Form: Form;
 
     /// The bytes or the words of this key.
-    fn written(&self) -> <Self::Form as Form>::Written<'_>;
+    fn written(&self) -> Written<'_, Self::Form>;
 }
 
 impl<K: Key + ?Sized> Key for &K {
     type Form = K::Form;
 
-    fn written(&self) -> <K::Form as Form>::Written<'_> {
+    fn written(&self) -> Written<'_, K::Form> {
         (**self).written()
     }
 }

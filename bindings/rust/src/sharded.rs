@@ -156,12 +156,16 @@ impl<K: Key + ?Sized, V, S: BuildHasher> LruCache<K, V, S> {
     }
 
     /// Evicts the value of a key where no handle has it; else nothing happens, now or later.
-    pub fn advice_evict<Q>(&self, key: &Q)
+    ///
+    /// # Errors
+    ///
+    /// As [`unsharded::LruCache::advice_evict`].
+    pub fn advice_evict<Q>(&self, key: &Q) -> Result<(), Refusal>
     where
         K: Borrow<Q>,
         Q: Key<Form = K::Form> + Hash + ?Sized,
     {
-        self.shard(key).advice_evict(key);
+        self.shard(key).advice_evict(key)
     }
 
     fn shard<Q: Hash + ?Sized>(&self, key: &Q) -> &unsharded::LruCache<K, V> {

@@ -9,10 +9,10 @@ use std::ops::Deref;
 use std::ptr::NonNull;
 use std::sync::{Condvar, Mutex, MutexGuard, PoisonError};
 
-use crate::proved::{Begun, Core, Evicted};
 use crate::error::{GetError, Refusal};
-use crate::form::Form;
+use crate::form::{Form, Written};
 use crate::key::Key;
+use crate::proved::{Begun, Core, Evicted};
 
 /// A cache of heavy values that threads share, under one lock.
 ///
@@ -39,12 +39,33 @@ use crate::key::Key;
 /// # Ok(())
 /// # }
 /// ```
+///
+/// Threads may share a cache where they may share its values, and drop them:
+///
+/// ```compile_fail,E0277
+/// use concurrent_lru_proved::unsharded::LruCache;
+/// use std::cell::Cell;
+///
+/// fn share<T: Sync>(_: &T) {}
+///
+/// share(&LruCache::<u64, Cell<u64>>::new(10).unwrap());
+/// ```
+///
+/// ```compile_fail,E0277
+/// use concurrent_lru_proved::unsharded::LruCache;
+/// use std::sync::MutexGuard;
+///
+/// fn share<T: Sync>(_: &T) {}
+///
+/// share(&LruCache::<u64, MutexGuard<'static, u64>>::new(10).unwrap());
+/// ```
 pub struct LruCache<K: Key + ?Sized, V> {
     shared: Mutex<Shared<K::Form, V>>,
     /// Told where a making ends, for those that wait for one.
     ended: Condvar,
-    // Handles lend values to threads, and the cache drops them on any.
-    marker: PhantomData<(fn(&K), V)>,
+    keys: PhantomData<fn(&K)>,
+    // Threads that share a cache share its values too, by handles.
+    values: PhantomData<V>,
 }
 
 /// What the lock guards.
@@ -68,7 +89,8 @@ impl<K: Key + ?Sized, V> LruCache<K, V> {
                 waiting: 0,
             }),
             ended: Condvar::new(),
-            marker: PhantomData,
+            keys: PhantomData,
+            values: PhantomData,
         })
     }
 
@@ -77,7 +99,8 @@ impl<K: Key + ?Sized, V> LruCache<K, V> {
     ///
     /// # Errors
     ///
-    /// [`Refusal::Overflow`] where the value has `u32::MAX` handles.
+    /// [`Refusal::Overflow`] where the value has `u32::MAX` handles; [`Refusal::Memory`] where the
+    /// key is longer than each one before and there is no memory for it.
     pub fn get<Q>(&self, key: &Q) -> Result<Option<CacheHandle<'_, K, V>>, Refusal>
     where
         K: Borrow<Q>,
@@ -101,7 +124,8 @@ impl<K: Key + ?Sized, V> LruCache<K, V> {
     /// [`Refusal::ZeroCharge`] where `charge` is 0; [`Refusal::Memory`] where there is no memory
     /// for an entry; [`Refusal::Overflow`] where the charges of all values would pass `u64::MAX`,
     /// where the value has `u32::MAX` handles, or where `u64::MAX` values were made. `init` does
-    /// not run then, and nothing is evicted.
+    /// not run then, and nothing is evicted. [`Refusal::Memory`] too where the value was made and
+    /// there is no memory to keep it, which is as if `init` had failed.
     pub fn get_or_init<Q>(
         &self,
         key: &Q,
@@ -143,25 +167,30 @@ impl<K: Key + ?Sized, V> LruCache<K, V> {
             Asked::Found(handle) => Ok(handle),
             Asked::Making(making) => {
                 let value = init(key).map_err(GetError::Init)?;
-                Ok(making.end(Box::new(value)))
+                Ok(making.end(Box::new(value))?)
             }
         }
     }
 
     /// Evicts the value of a key where no handle has it; else nothing happens, now or later.
-    pub fn advice_evict<Q>(&self, key: &Q)
+    ///
+    /// # Errors
+    ///
+    /// [`Refusal::Memory`] where the key is longer than each one before and there is no memory for
+    /// it.
+    pub fn advice_evict<Q>(&self, key: &Q) -> Result<(), Refusal>
     where
         K: Borrow<Q>,
         Q: Key<Form = K::Form> + ?Sized,
     {
         let written = key.written();
-        let mut evicted = Evicted::none();
-        self.lock().core.advice_evict(written, &mut evicted);
+        let mut evicted = Evicted::new();
+        self.lock().core.advice_evict(written, &mut evicted)
     }
 
     /// Evicts every value that no handle has.
     pub fn prune(&self) {
-        let mut evicted = Evicted::none();
+        let mut evicted = Evicted::new();
         self.lock().core.prune(&mut evicted);
     }
 
@@ -177,18 +206,18 @@ impl<K: Key + ?Sized, V> LruCache<K, V> {
 
     /// Sets the capacity. While the charges of all values pass it, idle ones are evicted at once.
     pub fn set_capacity(&self, capacity: u64) {
-        let mut evicted = Evicted::none();
+        let mut evicted = Evicted::new();
         self.lock().core.set_capacity(capacity, &mut evicted);
     }
 
     /// Finds or begins the entry of a key, and waits while another caller makes its value.
     fn begin(
         &self,
-        written: <K::Form as Form>::Written<'_>,
+        written: Written<'_, K::Form>,
         charge: u64,
     ) -> Result<Asked<'_, K, V>, Refusal> {
         // Declared before the lock is taken, so that it is dropped after the lock is let go.
-        let mut evicted = Evicted::none();
+        let mut evicted = Evicted::new();
         let mut shared = self.lock();
         let mut begun = shared.core.begin(written, charge, &mut evicted)?;
         loop {
@@ -201,7 +230,7 @@ impl<K: Key + ?Sized, V> LruCache<K, V> {
                     shared.waiting += 1;
                     shared = unpoisoned(self.ended.wait(shared));
                     shared.waiting -= 1;
-                    begun = shared.core.poll(stamp, &mut evicted)?;
+                    begun = shared.core.poll(stamp)?;
                 }
             }
         }
@@ -256,14 +285,22 @@ struct Making<'a, K: Key + ?Sized, V> {
 }
 
 impl<'a, K: Key + ?Sized, V> Making<'a, K, V> {
-    /// Ends the making with its value.
-    fn end(self, value: Box<V>) -> CacheHandle<'a, K, V> {
-        let Making { cache, stamp } = self;
-        mem::forget(self);
-        let mut shared = cache.lock();
-        let value = shared.core.ready(stamp, value);
-        cache.wake(shared);
-        cache.handle(stamp, value)
+    /// Ends the making with its value. Where there is no memory for that, the making failed.
+    fn end(self, value: Box<V>) -> Result<CacheHandle<'a, K, V>, Refusal> {
+        let mut shared = self.cache.lock();
+        match shared.core.ready(self.stamp, value) {
+            Ok(value) => {
+                let handle = self.cache.handle(self.stamp, value);
+                self.cache.wake(shared);
+                mem::forget(self);
+                Ok(handle)
+            }
+            Err(value) => {
+                drop(shared);
+                drop(value);
+                Err(Refusal::Memory)
+            }
+        }
     }
 }
 
@@ -315,7 +352,7 @@ impl<K: Key + ?Sized, V: fmt::Debug> fmt::Debug for CacheHandle<'_, K, V> {
 
 impl<K: Key + ?Sized, V> Drop for CacheHandle<'_, K, V> {
     fn drop(&mut self) {
-        let mut evicted = Evicted::none();
+        let mut evicted = Evicted::new();
         self.cache.lock().core.release(self.stamp, &mut evicted);
     }
 }

@@ -70,7 +70,7 @@ fn calls_reach_the_shard_of_their_key() -> Result<(), GetError<()>> {
     for number in 0..100usize {
         let key = format!("key {number}");
         assert_eq!(cache.get(key.as_str())?.as_deref(), Some(&number));
-        cache.advice_evict(key.as_str());
+        cache.advice_evict(key.as_str())?;
         assert!(cache.get(key.as_str())?.is_none());
     }
     assert_eq!(cache.total_charge(), 0);
@@ -105,7 +105,10 @@ fn totals_of_shards_never_wrap() -> Result<(), Refusal> {
     let one = cache.get_or_init(&1, u64::MAX, |_| 1)?;
     assert_eq!(cache.total_charge(), 2 * u128::from(u64::MAX));
     assert_eq!((*zero, *one), (0, 1));
-    assert_eq!(cache.get_or_init(&2, 1, |_| 2).err(), Some(Refusal::Overflow));
+    assert_eq!(
+        cache.get_or_init(&2, 1, |_| 2).err(),
+        Some(Refusal::Overflow)
+    );
     Ok(())
 }
 
@@ -126,7 +129,7 @@ fn stress() -> Result<(), Refusal> {
     const CAPACITY: u64 = 128;
     let made = AtomicU64::new(0);
     let dropped = AtomicU64::new(0);
-    let cache = LruCache::new(CAPACITY)?;
+    let cache = LruCache::<u64, _>::new(CAPACITY)?;
     thread::scope(|scope| {
         for seed in 1..=8u64 {
             let (cache, made, dropped) = (&cache, &made, &dropped);
@@ -155,7 +158,10 @@ fn stress() -> Result<(), Refusal> {
     let kept = cache.total_charge();
     assert!(kept <= u128::from(CAPACITY));
     let so_far = dropped.load(Ordering::Relaxed);
-    assert_eq!(u128::from(made.load(Ordering::Relaxed)), kept + u128::from(so_far));
+    assert_eq!(
+        u128::from(made.load(Ordering::Relaxed)),
+        kept + u128::from(so_far)
+    );
     cache.prune();
     assert_eq!(
         made.load(Ordering::Relaxed),

@@ -1,6 +1,5 @@
 //! What a program may rely on, at the cache of one lock.
 
-use std::convert::Infallible;
 use std::sync::atomic::{AtomicU64, Ordering};
 use std::sync::{Arc, Barrier, Mutex};
 use std::thread;
@@ -31,12 +30,12 @@ fn an_evicted_value_is_made_again() -> Result<(), Refusal> {
 fn advice_evict_takes_only_what_no_handle_has() -> Result<(), Refusal> {
     let cache = LruCache::<u32, u32>::new(5)?;
     let handle = cache.get_or_init(&1, 3, |_| 1)?;
-    cache.advice_evict(&1);
+    cache.advice_evict(&1)?;
     assert!(cache.get(&1)?.is_some());
     drop(handle);
-    cache.advice_evict(&1);
+    cache.advice_evict(&1)?;
     assert!(cache.get(&1)?.is_none());
-    cache.advice_evict(&1);
+    cache.advice_evict(&1)?;
     assert_eq!(cache.total_charge(), 0);
     Ok(())
 }
@@ -162,13 +161,13 @@ impl Drop for Slow {
 
 #[test]
 fn callers_of_one_key_wait_for_one_making() -> Result<(), Refusal> {
-    let cache = LruCache::new(40)?;
+    let cache = LruCache::<u32, _>::new(40)?;
     let made = AtomicU64::new(0);
     let start = Instant::now();
     thread::scope(|scope| {
         for _ in 0..20 {
             scope.spawn(|| {
-                let handle = cache.get_or_init(&1u32, 10, |_| {
+                let handle = cache.get_or_init(&1, 10, |_| {
                     made.fetch_add(1, Ordering::Relaxed);
                     Slow::new()
                 });
@@ -232,7 +231,10 @@ fn a_pinned_value_stays_above_the_capacity() -> Result<(), Refusal> {
     let large = cache.get_or_init(&1, 100, |key| format!("value {key}"))?;
     let small = cache.get_or_init(&2, 1, |key| format!("value {key}"))?;
     assert_eq!(cache.total_charge(), 101);
-    assert_eq!((large.value().as_str(), small.value().as_str()), ("value 1", "value 2"));
+    assert_eq!(
+        (large.value().as_str(), small.value().as_str()),
+        ("value 1", "value 2")
+    );
     drop(large);
     assert_eq!(cache.total_charge(), 1);
     drop(small);
@@ -305,13 +307,14 @@ fn a_drop_may_call_the_cache() -> Result<(), Refusal> {
         fn drop(&mut self) {
             if let Some(cache) = self.cache.upgrade() {
                 cache.prune();
-                self.total.fetch_add(1 + cache.total_charge(), Ordering::Relaxed);
+                self.total
+                    .fetch_add(1 + cache.total_charge(), Ordering::Relaxed);
             }
         }
     }
 
     let total = Arc::new(AtomicU64::new(0));
-    let cache = Arc::new(LruCache::new(2)?);
+    let cache = Arc::new(LruCache::<u32, _>::new(2)?);
     for key in 0..4 {
         cache.get_or_init(&key, 1, |_| Calls {
             cache: Arc::downgrade(&cache),
@@ -373,7 +376,7 @@ fn stress() -> Result<(), Refusal> {
     const CAPACITY: u64 = 100;
     let made = AtomicU64::new(0);
     let dropped = AtomicU64::new(0);
-    let cache = LruCache::new(CAPACITY)?;
+    let cache = LruCache::<u64, _>::new(CAPACITY)?;
     thread::scope(|scope| {
         for seed in 1..=8u64 {
             let (cache, made, dropped) = (&cache, &made, &dropped);
@@ -470,5 +473,4 @@ fn errors_say_what_happened() {
         told(&GetError::Init(std::fmt::Error)),
         "the value could not be made"
     );
-    let _: Result<(), Infallible> = Ok(());
 }
