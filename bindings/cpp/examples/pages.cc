@@ -1,15 +1,16 @@
-// Threads read pages of a file through one cache: a page is read once while others wait for it,
-// stays while somebody uses it, and the pages used longest ago leave first.
+// Threads read a file through one cache of its pages. A page that one thread reads, others wait
+// for; it stays while anybody uses it; and the pages used longest ago leave first.
 //
-//   pages FILE [CAPACITY]     how many lines the file has, counted by four threads
+//   pages FILE [CAPACITY]     counts lines, blanks and commas, each on a thread of its own
 #include <cstdint>
-#include <cstdio>
 #include <cstdlib>
+#include <exception>
 #include <fstream>
+#include <functional>
+#include <future>
 #include <iostream>
 #include <stdexcept>
 #include <string>
-#include <thread>
 #include <vector>
 
 #include "lru.hpp"
@@ -29,16 +30,15 @@ Page read_page(const std::string& path, std::uint64_t number) {
   return page;
 }
 
-// Counts the lines of every fourth page, beginning with the page `first`.
-std::uint64_t count_lines(Pages& pages, const std::string& path, std::uint64_t first) {
-  std::uint64_t lines = 0;
-  for (std::uint64_t number = first;; number += 4) {
+std::uint64_t count(Pages& pages, const std::string& path, char wanted) {
+  std::uint64_t found = 0;
+  for (std::uint64_t number = 0;; number++) {
     // The handle pins the page: it is neither evicted nor deleted before the handle goes.
     const Pages::Handle page =
         pages.get_or_init(lru::Words{1, number}, kPageSize,
                           [&](lru::Words key) { return read_page(path, key.second); });
-    if (page->empty()) return lines;
-    for (const char byte : *page) lines += byte == '\n';
+    if (page->empty()) return found;
+    for (const char byte : *page) found += byte == wanted;
   }
 }
 
@@ -49,17 +49,16 @@ int main(int argc, char** argv) try {
   }
   const std::string path = argv[1];
   Pages pages(argc == 3 ? std::strtoull(argv[2], nullptr, 10) : 1 << 20);
-  read_page(path, 0);  // says so here where the file cannot be read, and not on a thread
 
-  std::vector<std::uint64_t> lines(4);
-  std::vector<std::thread> threads;
-  for (std::uint64_t t = 0; t < 4; t++) {
-    threads.emplace_back([&, t] { lines[t] = count_lines(pages, path, t); });
+  std::vector<std::future<std::uint64_t>> counts;
+  for (const char wanted : {'\n', ' ', ','}) {
+    counts.push_back(std::async(std::launch::async, count, std::ref(pages), path, wanted));
   }
-  for (std::thread& thread : threads) thread.join();
-
-  std::cout << lines[0] + lines[1] + lines[2] + lines[3] << " lines, " << pages.total_charge()
-            << " bytes of pages in the cache\n";
+  // What a thread throws, as where the file cannot be read, comes out of its future.
+  std::cout << counts[0].get() << " lines, ";
+  std::cout << counts[1].get() << " blanks, ";
+  std::cout << counts[2].get() << " commas\n";
+  std::cerr << pages.total_charge() << " bytes of pages in the cache\n";
 } catch (const std::exception& error) {
   std::cerr << "pages: " << error.what() << '\n';
   return 1;
