@@ -1,13 +1,12 @@
-// What a hit with its release and a miss with an eviction take: this cache beside LevelDB's, one
-// thread, keys of 16 bytes, a mutex round the calls of each. Prints nanoseconds of processor time a
-// call, the least and the median of all rounds, and the ratios of both to LevelDB's.
+// Measures a hit with its release and a miss with an eviction, for this cache and for LevelDB's:
+// one thread, keys of 16 bytes, a mutex around the calls of each. Prints nanoseconds of processor
+// time per operation, the least and the median of all rounds, and their ratios to LevelDB's.
 //
-//   cache_bench [ROUNDS [CALLS]]     the programs take turns in each round, so that they meet the
-//   same machine
+//   cache_bench [ROUNDS [CALLS]]
 //
-// A hit looks a present key up and releases it. A miss finds no entry of its key, makes one, for
-// which the oldest idle one leaves, and releases it: Lookup, Insert and Release of a LevelDB cache;
-// begin, ready and release of this one.
+// The caches take turns in each round. A hit looks up a key that is present and releases it. A miss
+// looks up a key that is absent, makes its entry, which evicts the oldest idle one, and releases
+// it: Lookup, Insert and Release of a LevelDB cache; begin, ready and release of this one.
 #include <time.h>
 
 #include <algorithm>
@@ -28,20 +27,20 @@
 
 namespace {
 
-// Seconds of processor time of this process: the machine may have other work.
+// Seconds of processor time of this process, as the machine may be busy with other work.
 double ProcessorTime() {
   timespec now;
   clock_gettime(CLOCK_PROCESS_CPUTIME_ID, &now);
   return static_cast<double>(now.tv_sec) + static_cast<double>(now.tv_nsec) * 1e-9;
 }
 
-// A block: its file, and its place there.
+// The key of a block: its file, and its offset there.
 lru::Words BlockOf(std::uint64_t n) { return lru::Words{1, n * 4096}; }
 
-// A value that costs nothing to make or to delete.
+// A value that takes no time to make or to delete.
 struct Nothing {};
 
-// Each cache answers whether a key is there, and makes the entry of one that is not.
+// Each of these classes wraps a cache. Hit and Miss return whether the call was what its name says.
 
 class LevelDBs {
  public:
@@ -71,7 +70,7 @@ class LevelDBs {
   std::unique_ptr<leveldb::Cache> cache_;
 };
 
-// The calls of lru.h, by the C++ header's names for both kinds of keys.
+// The functions of lru.h, for either kind of key.
 template <class Key>
 class Calls {
   using C = lru::detail::Calls<Key>;
@@ -125,7 +124,7 @@ class Calls {
     Pop();
   }
 
-  // What was evicted is the caller's, and the mutex is not held for it.
+  // Without the mutex, as the chain is this caller's own.
   void Pop() {
     lru_gone entry;
     while (C::pop(&gone_, &entry)) {
@@ -137,7 +136,7 @@ class Calls {
   typename C::Chain gone_ = {};
 };
 
-// The C++ classes, whose values are objects on the heap.
+// The classes of lru.hpp, whose values are objects on the heap.
 template <class Cache>
 class Classes {
  public:
@@ -179,7 +178,7 @@ void Measure(Cache cache, std::uint64_t entries, std::uint64_t calls, Times* tim
   times->hits.push_back((ProcessorTime() - start) / static_cast<double>(calls) * 1e9);
   if (hits != calls) std::exit(3);
 
-  // Each shard is full after these, so that each further miss evicts.
+  // After these every shard is full, so that each further miss evicts.
   std::uint64_t fresh = entries;
   for (std::uint64_t n = 0; n < entries; n++) cache->Miss(BlockOf(fresh++));
   std::uint64_t misses = 0;
@@ -218,8 +217,8 @@ int main(int argc, char** argv) {
   constexpr std::size_t kCaches = sizeof names / sizeof *names;
   for (const std::uint64_t entries : {std::uint64_t{1000}, std::uint64_t{100000}}) {
     Times times[kCaches];
-    // A quarter more than the entries, so that no uneven shard is full before the hits were
-    // measured.
+    // A quarter more than the entries, so that a shard that got more than its share of them does
+    // not evict before the hits are measured.
     const std::uint64_t capacity = entries + entries / 4;
     for (int round = 0; round < rounds; round++) {
       Measure(std::make_unique<LevelDBs>(leveldb::NewLRUCache(capacity)), entries, calls,

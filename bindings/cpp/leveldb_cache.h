@@ -1,32 +1,32 @@
-// The proved cache as a block cache of LevelDB, in place of leveldb::NewLRUCache:
+// A leveldb::Cache built on the proved library of lru.h, to be used like leveldb::NewLRUCache:
 //
 //   leveldb::Options options;
 //   options.block_cache = lru::NewLevelDBCache(8 << 20);
 //
-// Keys lie in the same 16 shards as in LevelDB's own cache, each under a mutex. What an engine may
-// notice:
+// Like LevelDB's own cache it has 16 shards, each with a mutex, and both choose the same shard for
+// a key. It differs from LevelDB's own cache in these points:
 //
-//  - It evicts at releases too. LevelDB's cache evicts at inserts alone, so there an entry whose
-//    release takes the charges of a shard no lower than its capacity stays until the next insert.
-//    Here a shard is over its capacity only while everything in it is in use. An entry that is
-//    larger than its shard leaves at its last release.
-//  - Insert over a present key. Where nobody has the old entry, it leaves, and the new one takes
-//    its place. Where somebody has it, the core cannot forget it yet: it stays until its last
-//    release, and counts until then, but is no longer found. The new entry is handed out and
-//    deleted at its last release, and is not kept: a Lookup misses.
-//  - Erase. As there: the key is not found any more. An entry that somebody has leaves at its last
-//    release. Until then it counts in TotalCharge, and an Insert of its key is not kept, as above.
+//  - Release evicts too. LevelDB's cache evicts only in Insert, so a shard whose pinned entries
+//    exceeded its capacity stays above it until the next Insert. Here a shard is above its capacity
+//    only while all of its entries are pinned. In particular, an entry larger than its shard's
+//    capacity is evicted at its last Release.
+//  - Insert of a key that is present. If the old entry is not pinned, the new one replaces it, as
+//    in LevelDB. If it is pinned, it can no longer be found, but the library has no call that
+//    removes a pinned entry: it keeps its charge, and its place under the key, until its last
+//    Release. Until then Insert returns a new entry that is not cached: Lookup does not find it, it
+//    has no charge, and its last Release deletes it.
+//  - Erase of a pinned entry. The key is no longer found, as in LevelDB, but the entry keeps its
+//    charge until its last Release, and until then Insert of the key does not cache, as above.
 //  - A charge of 0 counts as 1.
-//  - Where the cache gets no memory for an entry, or a sum of charges is at its end, Insert hands
-//    out an entry that is not kept. LevelDB's ends the process.
-//  - Deleters run after the mutex is let go, so they may be slow and may call the cache. LevelDB's
-//    run under it.
-//  - Entries in use when the cache is destroyed are deleted with it. LevelDB's asserts that there
-//    are none.
+//  - If there is no memory to cache an entry, or the total charge would overflow, Insert returns an
+//    entry that is not cached. LevelDB's cache ends the process if an allocation fails; this one
+//    does so only if there is no memory for the entry itself.
+//  - Deleters run without the mutex, so they may be slow and may call the cache. LevelDB's cache
+//    runs them with the mutex held.
+//  - The destructor deletes entries that are still pinned. LevelDB's asserts that there are none.
 //
-// The class is derived from one of LevelDB: where LevelDB was built without run-time type
-// information, a program that uses this is built with -fno-rtti. Nothing here throws, and
-// -fno-exceptions serves.
+// Nothing here throws, and the header compiles with -fno-exceptions. If LevelDB was built without
+// run-time type information, compile the file that includes this header with -fno-rtti.
 #ifndef LRU_LEVELDB_CACHE_H
 #define LRU_LEVELDB_CACHE_H
 
@@ -48,7 +48,7 @@ namespace lru {
 
 class LevelDBCache : public leveldb::Cache {
  public:
-  // Check ok() before use.
+  // The cache may be used only if ok().
   explicit LevelDBCache(std::size_t capacity) {
     const std::size_t share = capacity / kShards + (capacity % kShards != 0);
     for (std::size_t i = 0; i < kShards; i++) shards_.emplace_back(share);
@@ -57,7 +57,7 @@ class LevelDBCache : public leveldb::Cache {
   LevelDBCache(const LevelDBCache&) = delete;
   LevelDBCache& operator=(const LevelDBCache&) = delete;
 
-  // Whether there was memory for the cache.
+  // Whether the constructor could allocate the memory.
   bool ok() const {
     for (const Shard& shard : shards_) {
       if (!shard.core.is_open()) return false;
@@ -76,13 +76,13 @@ class LevelDBCache : public leveldb::Cache {
     if (told.code == LRU_HIT) {
       shard.Forget(key, told, &evicted);
       told = shard.core.begin(View(key), weight, &evicted);
-      // Somebody has the old entry still: this one is not kept.
+      // The old entry is still pinned: this one is not cached.
       if (told.code == LRU_HIT) shard.core.release(told.stamp, &evicted);
     }
     if (told.code == LRU_MAKE) {
       entry->stamp = told.stamp;
-      entry->kept = shard.core.ready(told.stamp, entry) == LRU_DONE;
-      if (!entry->kept) shard.core.fail(told.stamp);
+      entry->cached = shard.core.ready(told.stamp, entry) == LRU_DONE;
+      if (!entry->cached) shard.core.fail(told.stamp);
     }
     return reinterpret_cast<Handle*>(entry);
   }
@@ -101,7 +101,7 @@ class LevelDBCache : public leveldb::Cache {
 
   void Release(Handle* handle) override {
     Entry* entry = reinterpret_cast<Entry*>(handle);
-    if (!entry->kept) {
+    if (!entry->cached) {
       delete entry;
       return;
     }
@@ -109,8 +109,8 @@ class LevelDBCache : public leveldb::Cache {
     Evicted evicted;
     const std::lock_guard<std::mutex> lock(shard.mutex);
     shard.core.release(entry->stamp, &evicted);
-    // What left is deleted later, so the entry is there still. Where it was idle for a moment, it
-    // leaves now.
+    // Whatever was evicted is deleted at the end of this function, so `entry` is still valid. An
+    // erased entry that is idle now leaves at once.
     if (entry->erased) shard.core.advice_evict(View(entry->key()), &evicted);
   }
 
@@ -146,20 +146,20 @@ class LevelDBCache : public leveldb::Cache {
  private:
   static constexpr std::size_t kShards = 16;
 
-  // An entry with its key, in one allocation.
+  // An entry, followed by the bytes of its key.
   struct Entry {
     void* value;
     void (*deleter)(const leveldb::Slice&, void*);
     Entry* next = nullptr;
     std::uint64_t stamp = 0;
     std::size_t length;
-    bool kept = false;    // by the core
-    bool erased = false;  // not to be found any more; guarded by the shard's mutex
+    bool cached = false;
+    bool erased = false;  // no longer found; guarded by the shard's mutex
 
     static Entry* New(const leveldb::Slice& key, void* value,
                       void (*deleter)(const leveldb::Slice&, void*)) {
       void* at = std::malloc(sizeof(Entry) + key.size());
-      // LevelDB's Insert has no word for this, and ends the process too.
+      // Insert has no way to report this.
       if (at == nullptr) std::abort();
       return ::new (at) Entry(key, value, deleter);
     }
@@ -180,14 +180,14 @@ class LevelDBCache : public leveldb::Cache {
   };
 
   using Core = detail::Core<Entry, std::string_view>;
-  // In each function this is declared before the mutex is locked, so that deleters run once it was
-  // let go.
+  // Always declared before the mutex is locked: it is destroyed, and deleters run, after the mutex
+  // is unlocked.
   using Evicted = detail::Evicted<Entry>;
 
   struct alignas(64) Shard {
     explicit Shard(std::size_t capacity) : core(capacity) {}
 
-    // Lets an entry that was found go, and sees to it that it is not found again.
+    // Releases an entry that was found, and makes sure that it is not found again.
     void Forget(const leveldb::Slice& key, const lru_told& found, Evicted* evicted) {
       Core::node_of(found.value)->erased = true;
       core.release(found.stamp, evicted);
@@ -202,7 +202,7 @@ class LevelDBCache : public leveldb::Cache {
     return std::string_view(key.data(), key.size());
   }
 
-  // The hash that LevelDB's own cache has, so that keys shard alike.
+  // The hash function of LevelDB's own cache, so that both choose the same shards.
   static std::uint32_t Hash(const leveldb::Slice& key) {
     constexpr std::uint32_t kFactor = 0xc6a4a793;
     const auto* at = reinterpret_cast<const std::uint8_t*>(key.data());
@@ -217,7 +217,7 @@ class LevelDBCache : public leveldb::Cache {
     return hash ^ hash >> 24;
   }
 
-  // Up to four bytes, the lowest first.
+  // Up to four bytes as a number, the lowest byte first.
   static std::uint32_t Word(const std::uint8_t* at, std::size_t length) {
     std::uint32_t word = 0;
     for (std::size_t i = 0; i < length; i++) word |= static_cast<std::uint32_t>(at[i]) << (8 * i);
@@ -230,8 +230,8 @@ class LevelDBCache : public leveldb::Cache {
   std::atomic<std::uint64_t> last_id_{0};
 };
 
-// A cache of this capacity, which the caller deletes once nothing uses it. Null where there is no
-// memory for it.
+// A cache with the given capacity. The caller deletes it after the last database that uses it.
+// Returns null if there is no memory for it.
 inline leveldb::Cache* NewLevelDBCache(std::size_t capacity) {
   auto* cache = new LevelDBCache(capacity);
   if (cache->ok()) return cache;

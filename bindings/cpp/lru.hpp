@@ -1,18 +1,17 @@
-// A cache of heavy values that threads share, over the proved core of lru.h.
+// A cache of heavy values that threads share, built on the proved library of lru.h.
 //
 //   lru::Cache<Page> cache(1000);
 //   auto page = cache.get_or_init("a key", 1, [](std::string_view key) { return Page(key); });
-//   use(*page);  // pinned: it stays while the handle lives
+//   use(*page);  // pinned: the value stays while the handle lives
 //
-// An entry leaves the cache only while no handle has it: the one whose last handle went first
-// leaves first, once the charges of all entries pass the capacity. Values are made and deleted
-// outside of the lock.
+// A handle pins its value: a pinned value is neither evicted nor deleted. A value without a handle
+// is idle. While the total of all charges is above the capacity, idle values are evicted, the least
+// recently released first.
 //
-// What is proved is the core, every step of which is taken under the lock here: which entry is
-// found, pinned, evicted, and in which order. This header is ordinary C++, tested under the
-// sanitizers of the compilers.
+// The library is proved: which value is found, which ones are evicted, and in which order. This
+// header adds the locks and the values. It is ordinary C++, tested with the sanitizers.
 //
-// Needs C++17, the archive of the core, and threads (-pthread).
+// Requires C++17, the archive liblru.a, and threads (-pthread).
 #ifndef LRU_HPP
 #define LRU_HPP
 
@@ -33,23 +32,23 @@
 
 namespace lru {
 
-// The cache got no memory. No entry was added, and the call can be made again.
+// The cache could not allocate memory. No entry was added, and the call can be repeated.
 class OutOfMemory : public std::bad_alloc {
  public:
   const char* what() const noexcept override { return "lru: out of memory"; }
 };
 
-// The charges of all entries would pass 2^64 - 1, an entry would have 2^32 handles, or 2^64 - 1
-// entries were made. Nothing changed.
+// The total of all charges would exceed 2^64 - 1, a value would get more than 2^32 - 1 handles, or
+// 2^64 - 1 values have been made. Nothing changed.
 class Overflow : public std::overflow_error {
  public:
-  Overflow() : std::overflow_error("lru: a number of the cache is at its end") {}
+  Overflow() : std::overflow_error("lru: a number would overflow") {}
 };
 
-// An entry was asked for at a charge of 0. Nothing changed.
+// The charge was 0. Nothing changed.
 class ZeroCharge : public std::invalid_argument {
  public:
-  ZeroCharge() : std::invalid_argument("lru: a charge must be above 0") {}
+  ZeroCharge() : std::invalid_argument("lru: the charge is 0") {}
 };
 
 template <class Value, class Key = std::string_view>
@@ -57,7 +56,7 @@ class Cache;
 
 namespace detail {
 
-// A value of a Cache.
+// A value of a Cache, on the heap.
 template <class Value>
 struct Node {
   template <class Init, class Key>
@@ -67,7 +66,7 @@ struct Node {
   Node* next = nullptr;
 };
 
-// Throws what a refused call is told by.
+// Throws the exception for a refusal.
 [[noreturn]] inline void throw_refusal(lru_code code) {
   switch (code) {
     case LRU_MEMORY:
@@ -77,18 +76,19 @@ struct Node {
     case LRU_NO_CHARGE:
       throw ZeroCharge();
     default:
-      throw std::logic_error("lru: a call that no member of a cache makes");
+      throw std::logic_error("lru: the library refused a call that cannot be wrong");
   }
 }
 
 }  // namespace detail
 
-// A value in a cache, which stays while the handle lives. Move-only. One that was moved from or
-// reset, or that `get` answers where there is no value, has none.
+// A pinned value: it is neither evicted nor deleted while the handle lives. A handle is moved, not
+// copied. It is empty after it was moved from or reset, and `get` returns an empty one on a miss.
 //
-// Any thread may use and drop a handle, one at a time. The value is shared with the other handles
-// of it, on whatever threads they are: a Value that may be changed has a lock of its own, and
-// `Cache<const Value>` lends it for reading alone. Each handle goes before its cache does.
+// A handle may be used and destroyed on any thread, by one thread at a time. All handles of a value
+// refer to the same object, on whatever threads they are: a value that is changed needs a lock of
+// its own, and a Cache<const Value> gives access for reading only. A handle must not outlive its
+// cache.
 template <class Value, class Key = std::string_view>
 class Handle {
  public:
@@ -104,16 +104,16 @@ class Handle {
   Handle(const Handle&) = delete;
   Handle& operator=(const Handle&) = delete;
 
-  // Whether there is a value.
+  // Whether the handle has a value.
   explicit operator bool() const noexcept { return cache_ != nullptr; }
 
-  // The value, where there is one.
+  // The value. The handle must not be empty, except for get(), which returns null then.
   Value& operator*() const noexcept { return *get(); }
   Value* operator->() const noexcept { return get(); }
   Value* get() const noexcept { return cache_ == nullptr ? nullptr : value_; }
 
-  // Lets the value go. With its last handle it stands idle, and leaves at once where the cache is
-  // over its capacity.
+  // Releases the value; the handle is empty then. Without its last handle the value is idle, and
+  // evicted at once if the total is above the capacity.
   void reset() noexcept {
     if (cache_ != nullptr) std::exchange(cache_, nullptr)->release(stamp_);
   }
@@ -136,36 +136,35 @@ class Handle {
   Value* value_ = nullptr;
 };
 
-// A cache under one lock.
+// A cache behind one lock.
 //
-// Keys are byte strings (std::string_view, of which the cache keeps a copy while it has the entry)
-// or lru::Words. Every member may be called by any thread at any time; only the construction and
-// the destruction are for one thread alone.
+// Keys are byte strings (std::string_view; the cache copies the bytes for each entry that it makes)
+// or lru::Words. All members may be called from any thread at any time, except the constructor and
+// the destructor.
 //
-// A value is made by `init` and deleted without the lock, each on the thread whose call it is. So
-// both may take long, and may call the cache. But an `init` must not ask for the key that it makes
-// the value of, nor wait for another caller that does: it would wait for itself. A destructor must
-// not throw.
+// No lock is held while `init` makes a value or a value is deleted. So both may take long, and may
+// call the cache. But `init` must not ask for the key whose value it makes, and must not wait for
+// another thread that does: it would wait for itself. Destructors of values must not throw.
 template <class Value, class Key>
 class Cache {
  public:
   using Handle = lru::Handle<Value, Key>;
 
-  // An empty cache, which keeps values that no handle has as long as the charges of all are at most
-  // `capacity`. Throws OutOfMemory.
+  // An empty cache. It evicts idle values while the total of all charges is above `capacity`.
+  // Throws OutOfMemory.
   explicit Cache(std::uint64_t capacity) : core_(capacity) {
     if (!core_.is_open()) throw OutOfMemory();
   }
 
-  // Deletes what is in the cache. No handle may be left: one that is refers to nothing.
+  // Deletes all values. There must be no handle left: it would dangle.
   ~Cache() = default;
 
   Cache(const Cache&) = delete;
   Cache& operator=(const Cache&) = delete;
 
-  // A handle of the value of a key; one without a value where the cache has none, or one that is
-  // still being made. Does not wait for one. Throws Overflow where the value has 2^32 - 1 handles;
-  // OutOfMemory where the key is longer than each one before and there is no memory for it.
+  // A handle of the key's value, or an empty one if there is no value or it is still being made.
+  // Does not wait. Throws Overflow if the value has 2^32 - 1 handles, and OutOfMemory if the key is
+  // longer than any before and there is no memory for a copy.
   Handle get(Key key) {
     std::unique_lock<std::mutex> lock(mutex_);
     const lru_told told = core_.get(key);
@@ -175,19 +174,19 @@ class Cache {
     return handle(told);
   }
 
-  // A handle of the value of a key. Where the cache has none, it is what `init(key)` returns.
+  // A handle of the key's value. If there is none, `init(key)` makes it.
   //
-  // One caller makes the value, and others that ask for the key meanwhile wait for it. Where `init`
-  // throws, the exception is this call's and nothing of the entry is left, but for callers that
-  // wait: one of them makes the value, by its own `init`. What was evicted to make room before
-  // `init` ran does not come back.
+  // Only one caller at a time makes a key's value; the others wait for it. If `init` throws, the
+  // exception leaves this call and the cache keeps no entry. If others are waiting, one of them
+  // makes the value instead, with its own `init`. Values are evicted before `init` runs, and stay
+  // evicted if it fails.
   //
-  // The charge is what the value counts for against the capacity, above 0: bytes, or 1 each. The
-  // charge of a value that is there, or is being made, stays what it was.
+  // `charge` is what the value counts for against the capacity, in units of the caller's choice; it
+  // must be above 0. If the value exists already or is being made, its charge does not change.
   //
-  // Throws ZeroCharge, Overflow where a number of the cache is at its end, and OutOfMemory where
-  // there is no memory for the entry. Where there is none for the value, that is as if `init` had
-  // thrown; else `init` did not run and nothing was evicted.
+  // Throws ZeroCharge, Overflow and OutOfMemory before `init` runs, and nothing changes. Also
+  // throws std::bad_alloc after `init` has run, if there is no memory to keep the value; the value
+  // is deleted then, as if `init` had failed.
   template <class Init>
   Handle get_or_init(Key key, std::uint64_t charge, Init&& init) {
     const lru_told told = begin(key, charge);
@@ -196,8 +195,8 @@ class Cache {
     return making.end(std::make_unique<Node>(std::forward<Init>(init), key));
   }
 
-  // Evicts the value of a key where no handle has it; else nothing happens, now or later. Throws
-  // OutOfMemory where the key is longer than each one before and there is no memory for it.
+  // Evicts the key's value if it is idle. If it is pinned, nothing happens, now or later. Throws
+  // OutOfMemory if the key is longer than any before and there is no memory for a copy.
   void advice_evict(Key key) {
     Evicted evicted;
     std::unique_lock<std::mutex> lock(mutex_);
@@ -206,27 +205,26 @@ class Cache {
     if (code != LRU_DONE) detail::throw_refusal(code);
   }
 
-  // Evicts every value that no handle has.
+  // Evicts every idle value.
   void prune() {
     Evicted evicted;
     const std::lock_guard<std::mutex> lock(mutex_);
     core_.prune(&evicted);
   }
 
-  // The sum of the charges of all values, those that are being made included.
+  // The total of the charges of all values, including those that are being made.
   std::uint64_t total_charge() const {
     const std::lock_guard<std::mutex> lock(mutex_);
     return core_.total();
   }
 
-  // The total that the cache keeps idle values up to.
+  // The capacity.
   std::uint64_t capacity() const {
     const std::lock_guard<std::mutex> lock(mutex_);
     return core_.capacity();
   }
 
-  // Sets the capacity. While the charges of all values pass it, values that no handle has are
-  // evicted at once.
+  // Sets the capacity. Idle values that exceed it are evicted at once.
   void set_capacity(std::uint64_t capacity) {
     Evicted evicted;
     const std::lock_guard<std::mutex> lock(mutex_);
@@ -236,11 +234,11 @@ class Cache {
  private:
   friend Handle;
   using Node = detail::Node<Value>;
-  // In each function this is declared before the lock is taken, so that it goes once the lock was
-  // let go.
+  // Always declared before the lock is taken: it is destroyed, and the values with it, after the
+  // lock is released.
   using Evicted = detail::Evicted<Node>;
 
-  // The right and the duty to make a value. Where this goes before its end, the making failed.
+  // The duty to make a value. If it is destroyed before `end`, making the value has failed.
   class Making {
    public:
     Making(Cache* cache, std::uint64_t stamp) : cache_(cache), stamp_(stamp) {}
@@ -265,8 +263,8 @@ class Cache {
     return Handle(this, told.stamp, &core_.node_of(told.value)->value);
   }
 
-  // Finds or begins the entry of a key, and waits while another caller makes its value. LRU_HIT or
-  // LRU_MAKE.
+  // Finds the key's value, or waits until another caller has made it: LRU_HIT. Or begins to make
+  // it: LRU_MAKE.
   lru_told begin(Key key, std::uint64_t charge) {
     Evicted evicted;
     std::unique_lock<std::mutex> lock(mutex_);
@@ -280,7 +278,7 @@ class Cache {
     return told;
   }
 
-  // The core has the node from then on; where it got no memory for that, it does not.
+  // Gives the node to the core. Throws OutOfMemory, and then the node is still the caller's.
   void ready(std::uint64_t stamp, Node* node) {
     std::unique_lock<std::mutex> lock(mutex_);
     const lru_code code = core_.ready(stamp, node);
@@ -305,26 +303,26 @@ class Cache {
   }
 
   mutable std::mutex mutex_;
-  std::condition_variable ended_;  // told where a making ends
+  std::condition_variable ended_;  // notified when a caller has made a value, or has failed
   detail::Core<Node, Key> core_;
 };
 
-// A cache in shards, each a Cache with a lock of its own and an equal share of the capacity,
-// rounded up. So threads get in each other's way less, and a value leaves where its own shard is
-// full. `Hash` chooses the shard of a key.
+// A cache of several shards, each a Cache with its own lock and an equal share of the capacity,
+// rounded up. `Hash` chooses the shard of a key. Threads contend less, but a value is evicted when
+// its own shard is full.
 template <class Value, class Key = std::string_view, class Hash = std::hash<Key>>
 class ShardedCache {
  public:
   using Handle = lru::Handle<Value, Key>;
 
-  // An empty cache of this many shards, of which there is at least one. Throws OutOfMemory.
+  // An empty cache. Throws OutOfMemory, and std::invalid_argument if `shards` is 0.
   explicit ShardedCache(std::uint64_t capacity, std::size_t shards = 16, Hash hash = Hash())
       : hash_(std::move(hash)) {
-    if (shards == 0) throw std::invalid_argument("lru: a cache must have a shard");
+    if (shards == 0) throw std::invalid_argument("lru: the number of shards is 0");
     for (std::size_t i = 0; i < shards; i++) shards_.emplace_back(share(capacity, shards));
   }
 
-  // Each as the member of Cache.
+  // As for Cache.
   Handle get(Key key) { return shard(key).get(key); }
   template <class Init>
   Handle get_or_init(Key key, std::uint64_t charge, Init&& init) {
@@ -332,31 +330,30 @@ class ShardedCache {
   }
   void advice_evict(Key key) { shard(key).advice_evict(key); }
 
-  // Evicts every value that no handle has, shard after shard.
+  // Evicts every idle value, one shard after another.
   void prune() {
     for (Shard& shard : shards_) shard.prune();
   }
 
-  // The sum of the charges of all values, up to the greatest uint64_t. The shards are asked one
-  // after another, so it is the total of no one moment where other threads call.
+  // The total of the charges of all values, or 2^64 - 1 if it is more. The shards are read one
+  // after another, so while other threads call the cache it is no snapshot.
   std::uint64_t total_charge() const {
     return sum([](const Shard& shard) { return shard.total_charge(); });
   }
 
-  // The capacities of all shards together, which rounding makes more than was asked for, up to the
-  // greatest uint64_t.
+  // The total of the capacities of all shards, or 2^64 - 1 if it is more. Rounding may make it
+  // more than the capacity that was set.
   std::uint64_t capacity() const {
     return sum([](const Shard& shard) { return shard.capacity(); });
   }
 
-  // Sets the capacity that the shards share.
+  // Sets the capacity, of which each shard gets an equal share, rounded up.
   void set_capacity(std::uint64_t capacity) {
     for (Shard& shard : shards_) shard.set_capacity(share(capacity, shards_.size()));
   }
 
  private:
-  // Alone in its lines of the processor's cache, so that threads at two shards do not slow each
-  // other.
+  // Shards do not share cache lines, so that threads at different shards do not slow each other.
   struct alignas(64) Shard : Cache<Value, Key> {
     using Cache<Value, Key>::Cache;
   };

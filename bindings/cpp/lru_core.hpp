@@ -1,5 +1,5 @@
-// The proved core as C++ classes, for one owner or under a lock: what lru.hpp and leveldb_cache.h
-// are made of. It throws nothing, and compiles without exceptions and run-time type information.
+// The library of lru.h as C++ classes without a lock. lru.hpp and leveldb_cache.h are built on
+// them. Nothing here throws, and the header compiles with -fno-exceptions and -fno-rtti.
 #ifndef LRU_CORE_HPP
 #define LRU_CORE_HPP
 
@@ -13,7 +13,7 @@
 
 namespace lru {
 
-// A key of two words, as a block has that is known by its file and its place there.
+// A key of two words, such as the number of a file and an offset in it.
 struct Words {
   std::uint64_t first;
   std::uint64_t second;
@@ -27,7 +27,7 @@ struct Words {
 template <>
 struct std::hash<lru::Words> {
   std::size_t operator()(lru::Words key) const noexcept {
-    // Each word is spread over all bits, so that near offsets in a file lie in different shards.
+    // Both words affect all bits, so that neighbouring blocks of a file lie in different shards.
     const std::uint64_t mixed =
         (key.first * 0x9e3779b97f4a7c15u ^ key.second) * 0xbf58476d1ce4e5b9u;
     return static_cast<std::size_t>(mixed ^ mixed >> 32);
@@ -37,7 +37,7 @@ struct std::hash<lru::Words> {
 namespace lru {
 namespace detail {
 
-// The calls of lru.h for each kind of key.
+// The functions of lru.h, for each kind of key.
 template <class Key>
 struct Calls;
 
@@ -101,8 +101,8 @@ struct Calls<Words> {
   }
 };
 
-// Nodes that left a core, the oldest first. They are deleted where this goes, which must be without
-// the lock: a destructor of a value may take long, and may call the cache.
+// Nodes that were evicted, oldest first. The destructor deletes them. It must run without the lock:
+// the destructor of a value may take long, and may call the cache.
 template <class Node>
 class Evicted {
  public:
@@ -124,35 +124,36 @@ class Evicted {
   Node* last_ = nullptr;
 };
 
-// The proved core with a chain of its own, for whoever has the lock. To the core a value is one
-// word: the address of its Node, which has a member `Node* next` for the list of evicted ones.
+// A cache of lru.h with its own chain of evicted entries. The caller holds a lock during each call.
 //
-// Nothing here throws. Each call is one of lru.h, and hands what was evicted on.
+// The value that the library stores is the address of a Node, which has a member `Node* next` for
+// the list of evicted nodes. Each member calls the function of lru.h with its name, and moves what
+// that evicted to `evicted`.
 template <class Node, class Key>
 class Core {
  public:
-  // Check is_open() before use.
+  // The core may be used only if is_open().
   explicit Core(std::uint64_t capacity) noexcept {
     is_open_ = Calls::make_chain(&chain_) == LRU_DONE && Calls::make(capacity, &cache_) == LRU_DONE;
   }
 
-  // Deletes what is there still.
+  // Deletes all nodes that are left.
   ~Core() {
     Evicted<Node> rest;
     Calls::free(&cache_, &chain_);
-    hand_on(&rest);
+    take_evicted(&rest);
     Calls::free_chain(&chain_);
   }
 
   Core(const Core&) = delete;
   Core& operator=(const Core&) = delete;
 
-  // Whether there was memory for it.
+  // Whether the constructor could allocate the memory.
   bool is_open() const noexcept { return is_open_; }
 
   lru_told begin(Key key, std::uint64_t charge, Evicted<Node>* evicted) noexcept {
     const lru_told told = Calls::begin(&cache_, key, charge, &chain_);
-    if (told.code == LRU_MAKE) hand_on(evicted);
+    if (told.code == LRU_MAKE) take_evicted(evicted);
     return told;
   }
   lru_told poll(std::uint64_t stamp) noexcept { return Calls::poll(&cache_, stamp); }
@@ -163,26 +164,26 @@ class Core {
   lru_told get(Key key) noexcept { return Calls::get(&cache_, key); }
   lru_code release(std::uint64_t stamp, Evicted<Node>* evicted) noexcept {
     const lru_code code = Calls::release(&cache_, stamp, &chain_);
-    hand_on(evicted);
+    take_evicted(evicted);
     return code;
   }
   lru_code advice_evict(Key key, Evicted<Node>* evicted) noexcept {
     const lru_code code = Calls::advice_evict(&cache_, key, &chain_);
-    hand_on(evicted);
+    take_evicted(evicted);
     return code;
   }
   void prune(Evicted<Node>* evicted) noexcept {
     Calls::prune(&cache_, &chain_);
-    hand_on(evicted);
+    take_evicted(evicted);
   }
   void set_capacity(std::uint64_t capacity, Evicted<Node>* evicted) noexcept {
     Calls::set_capacity(&cache_, capacity, &chain_);
-    hand_on(evicted);
+    take_evicted(evicted);
   }
   std::uint64_t total() const noexcept { return Calls::total(&cache_).value; }
   std::uint64_t capacity() const noexcept { return Calls::capacity(&cache_).value; }
 
-  // The node that a value of this core stands for.
+  // The node of a value that the library told.
   static Node* node_of(std::uint64_t value) noexcept {
     return reinterpret_cast<Node*>(static_cast<std::uintptr_t>(value));
   }
@@ -194,13 +195,13 @@ class Core {
     return static_cast<std::uint64_t>(reinterpret_cast<std::uintptr_t>(node));
   }
 
-  // Empties the chain, which each call of lru.h wants empty.
-  void hand_on(Evicted<Node>* evicted) noexcept {
+  // Empties the chain. The next function of lru.h requires that.
+  void take_evicted(Evicted<Node>* evicted) noexcept {
     lru_gone gone;
     while (Calls::pop(&chain_, &gone)) evicted->add(node_of(gone.value));
   }
 
-  // The calls that change nothing take a pointer that is not const.
+  // Mutable because total and capacity take a pointer that is not const.
   mutable typename Calls::Cache cache_ = {};
   typename Calls::Chain chain_ = {};
   bool is_open_ = false;

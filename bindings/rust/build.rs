@@ -16,8 +16,8 @@ fn main() {
     println!("cargo::rerun-if-changed={}", archive.display());
     if !archive.exists() {
         println!(
-            "cargo::error=there is no {}: build it by `make -C bindings/c`, or set LRU_LIB_DIR \
-             to the folder that has liblru.a",
+            "cargo::error=there is no {}: run `make -C bindings/c`, or set LRU_LIB_DIR to the \
+             folder of liblru.a",
             archive.display()
         );
         return;

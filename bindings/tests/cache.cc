@@ -1,4 +1,4 @@
-// What a program may rely on at lru::Cache and lru::ShardedCache.
+// Tests lru::Cache and lru::ShardedCache.
 #include <atomic>
 #include <chrono>
 #include <condition_variable>
@@ -86,7 +86,7 @@ void handles_move() {
   CHECK(moved && *moved == 1);
   Numbers::Handle other = cache.get_or_init(key(2), 1, returns(2));
   CHECK(cache.total_charge() == 2);
-  // What it had is let go, and leaves a cache of capacity 0.
+  // The assignment releases 2, which a cache of capacity 0 evicts.
   other = std::move(moved);
   CHECK(*other == 1 && cache.total_charge() == 1);
   Numbers::Handle& same = other;
@@ -114,7 +114,7 @@ void an_init_that_throws_leaves_nothing() {
   }
   CHECK(thrown);
   CHECK(!cache.get(key(2)));
-  // Room was made before the value was tried.
+  // 1 was evicted before `init` ran.
   CHECK(!cache.get(key(1)) && cache.total_charge() == 0);
   CHECK(*cache.get_or_init(key(2), 1, returns(7)) == 7);
 }
@@ -145,7 +145,7 @@ void refusals_are_exceptions() {
   CHECK(no_shards);
 }
 
-// A place that two threads meet at.
+// A barrier for two threads.
 class Meeting {
  public:
   void meet() {
@@ -188,7 +188,7 @@ void one_that_waits_takes_a_failed_making_over() {
     try {
       cache.get_or_init(key(1), 1, [&](lru::Words) -> int {
         meeting.meet();
-        // Time for the other to wait; where it comes later, it makes the value all the same.
+        // Gives the other thread time to wait. If it comes later, it makes the value all the same.
         std::this_thread::sleep_for(std::chrono::milliseconds(50));
         throw std::runtime_error("no value");
       });
@@ -213,7 +213,7 @@ void other_keys_are_served_while_a_value_is_made() {
       return 1;
     });
   });
-  // The other thread cannot go on before this one was served.
+  // The other thread cannot continue before these calls have returned.
   meeting.meet();
   CHECK(!cache.get(key(1)));
   CHECK(*cache.get_or_init(key(2), 1, returns(2)) == 2);
@@ -222,7 +222,7 @@ void other_keys_are_served_while_a_value_is_made() {
   making.join();
 }
 
-// Writes down that it was deleted, and calls the cache.
+// Records that it was deleted, and calls the cache.
 struct Calling {
   using Cache = lru::Cache<Calling, lru::Words>;
 
@@ -249,7 +249,7 @@ void a_destructor_may_call_the_cache() {
   };
   make(1);
   make(2);
-  // For this one 1 leaves, whose destructor prunes 2.
+  // This evicts 1, whose destructor evicts 2.
   make(3);
   CHECK((deleted == std::vector<int>{1, 2}));
   cache.prune();
@@ -287,7 +287,7 @@ void a_capacity_is_set_at_any_time() {
   CHECK(!cache.get(key(2)) && cache.get(key(3)));
 }
 
-// Numbers a key by its second word.
+// The hash of a key is its second word.
 struct BySecond {
   std::size_t operator()(lru::Words k) const { return static_cast<std::size_t>(k.second); }
 };
@@ -300,7 +300,7 @@ void shards_have_equal_shares() {
   for (int n = 0; n <= 4; n++) {
     cache.get_or_init(key(static_cast<std::uint64_t>(n)), 1, returns(n));
   }
-  // The shard of the even keys had room for two.
+  // The shard of the even keys has room for two.
   CHECK(!cache.get(key(0)) && cache.get(key(1)) && cache.get(key(2)) && cache.get(key(3)));
   CHECK(*cache.get(key(4)) == 4 && cache.total_charge() == 4);
   cache.advice_evict(key(1));

@@ -1,6 +1,6 @@
-// LevelDB over the cache and over its own: a database of 20,000 keys is read through both, at three
-// capacities. Every answer, every hit, every insertion and the total charge at the end must be
-// equal. Prints what was compared, and ends with 1 where something differs.
+// Reads a database of 20,000 keys with this block cache and with LevelDB's own, at three
+// capacities. All answers must be equal, and the numbers of hits and insertions and the total
+// charge at the end. Prints these numbers, and exits with 1 if something differs.
 #include <cstdint>
 #include <cstdio>
 #include <cstdlib>
@@ -31,8 +31,7 @@ std::string KeyOf(std::uint64_t n) {
   return text;
 }
 
-// 300 bytes, of which most compress away: LevelDB caches no block that it stored as it was and
-// maps.
+// 300 bytes that compress well: LevelDB does not cache blocks that it stored uncompressed.
 std::string ValueOf(std::uint64_t n) {
   std::string value;
   for (std::uint64_t i = 0; i < 6; i++) {
@@ -43,7 +42,7 @@ std::string ValueOf(std::uint64_t n) {
   return value;
 }
 
-// Counts what a cache is asked, on one thread.
+// Counts the calls of a cache, for one thread.
 class Counting : public leveldb::Cache {
  public:
   explicit Counting(leveldb::Cache* cache) : cache_(cache) {}
@@ -99,7 +98,8 @@ void Fill(const std::string& path) {
   db->CompactRange(nullptr, nullptr);
 }
 
-// The key that a read asks for: nine of ten from a tenth of the keys, and one in fifty of no key.
+// The key that a read asks for. Nine of ten are from a tenth of the keys, and one in fifty does not
+// exist.
 std::uint64_t Asked(std::uint64_t read) {
   const std::uint64_t x = Mix(read);
   if (x % 50 == 0) return kKeys + x % kKeys;
@@ -113,7 +113,7 @@ struct Outcome {
   std::uint64_t wrong;
 };
 
-// Reads at random, then all in order, as a scan does, and then at random again.
+// Random reads, with a scan of all keys halfway.
 Outcome Read(const std::string& path, leveldb::Cache* cache) {
   Counting counting(cache);
   Outcome outcome = {};
@@ -149,7 +149,7 @@ bool Compare(const std::string& path, std::size_t capacity) {
   const bool equal = own.answers == proved.answers && own.lookups == proved.lookups &&
                      own.hits == proved.hits && own.inserts == proved.inserts &&
                      own.total_charge == proved.total_charge;
-  // A comparison of caches that only hit, or never do, would say nothing.
+  // If there were only hits, or only misses, equal numbers would mean nothing.
   const bool telling = proved.hits > 0 && proved.inserts > 0;
   const bool good = equal && telling && own.wrong == 0 && proved.wrong == 0;
   const auto number = [](std::uint64_t n) { return static_cast<unsigned long long>(n); };
@@ -173,8 +173,7 @@ bool Compare(const std::string& path, std::size_t capacity) {
 
 int main(int argc, char** argv) {
   if (argc != 2) {
-    std::fprintf(stderr,
-                 "usage: leveldb FOLDER, a folder for the database that is not there yet\n");
+    std::fprintf(stderr, "usage: leveldb FOLDER, where FOLDER does not exist yet\n");
     return 2;
   }
   const std::string path = argv[1];

@@ -1,5 +1,5 @@
-// lru::LevelDBCache beside LevelDB's own cache: the same answers where both promise the same, what
-// the header says where they differ, and threads, of which each object is deleted once.
+// Tests lru::LevelDBCache: what it has in common with LevelDB's own cache, on which these tests run
+// too; where it differs, as its header says; and threads, with each object deleted exactly once.
 #include "leveldb_cache.h"
 
 #include <atomic>
@@ -19,7 +19,7 @@ namespace {
 using leveldb::Slice;
 using Handle = leveldb::Cache::Handle;
 
-// Every object that was deleted since the last look, as "key=value ".
+// The objects deleted since the last call of Deleted(), each as "key=value ".
 std::string deleted;
 
 void Delete(const Slice& key, void* value) {
@@ -54,7 +54,7 @@ std::string Get(leveldb::Cache* cache, const std::string& key) {
 
 using NewCache = leveldb::Cache* (*)(std::size_t);
 
-// What LevelDB's cache and this one both do.
+// Tests that both caches pass.
 void HitsAndMisses(NewCache new_cache) {
   const std::unique_ptr<leveldb::Cache> cache(new_cache(1000));
   CHECK(Get(cache.get(), "a") == "none");
@@ -110,7 +110,7 @@ void ErasesWhatIsHeld(NewCache new_cache) {
   CHECK(Get(cache.get(), "a") == "2");
 }
 
-// An insertion over an entry that is held: the old one is not found again.
+// After an insertion over a pinned entry the old one is not found.
 void ReplacesWhatIsHeld(NewCache new_cache) {
   const std::unique_ptr<leveldb::Cache> cache(new_cache(1000));
   Handle* old = Insert(cache.get(), "a", "1");
@@ -130,7 +130,7 @@ void Same(NewCache new_cache) {
   }
 }
 
-// What the header says of this cache alone.
+// Tests for this cache only.
 
 void KeepsNoSecondEntryOfAKey() {
   const std::unique_ptr<leveldb::Cache> cache(lru::NewLevelDBCache(1000));
@@ -167,7 +167,7 @@ void DeletesWhatIsLeft() {
   CHECK(all == "a=1 b=2 " || all == "b=2 a=1 ");
 }
 
-// Deleters run without the mutex, and may call the cache.
+// Deleters run without the mutex, so they may call the cache.
 leveldb::Cache* called = nullptr;
 
 void DeleteAndCall(const Slice& key, void*) {
@@ -185,7 +185,7 @@ void DeletersMayCall() {
   CHECK(Deleted() == "ab=1 ");
 }
 
-// Threads. Each object is deleted once, by its own deleter, and not while somebody has it.
+// Threads: each object is deleted once, by its own deleter, and not while it is pinned.
 
 constexpr int kThreads = 8;
 constexpr int kCalls = 20000;

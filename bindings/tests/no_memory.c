@@ -1,9 +1,9 @@
-/* A run of calls in which a request for memory may be refused. A call that answers LRU_MEMORY is
- * made again; so every answer is that of a run with ample memory, whichever request was refused.
+/* A run of calls in which one request for memory may be refused. A call that answers LRU_MEMORY is
+ * repeated, so the answers are those of a run with ample memory, whichever request was refused.
  *
- * Each object that the caches were given must be deleted once, and all memory must be given back.
- * Writes the answers, and to standard error which call was refused. Ends with 1 where something
- * was wrong. tests/no_memory runs it with its first request refused, then the second, and so on.
+ * Each object that the caches were given must be deleted once, and all memory must be freed. Prints
+ * the answers, and to standard error the call that was refused. Exits with 1 if something is wrong.
+ * tests/no_memory runs this with the first request refused, then with the second, and so on.
  */
 #include <malloc.h>
 #include <stdint.h>
@@ -19,7 +19,7 @@ static void wrong(const char *what) {
     failed = 1;
 }
 
-/* Objects, which take no memory of the heap. */
+/* Objects that are not on the heap. */
 enum { OBJECTS = 256 };
 static struct object {
     int deletions;
@@ -34,14 +34,14 @@ static uint64_t new_object(void) {
 static void delete_object(uint64_t value, const char *why) {
     struct object *object = (struct object *)(uintptr_t)value;
     if (object < objects || object >= objects + made) {
-        wrong("a value that was never given");
+        wrong("an evicted value that was never given");
         return;
     }
     object->deletions++;
     printf("%s %d\n", why, (int)(object - objects));
 }
 
-/* Whether a call got no memory, and is to be made again. */
+/* Whether a call got no memory and must be repeated. */
 static int refused(lru_code code, const char *call) {
     if (code == LRU_MEMORY) fprintf(stderr, "memory %s\n", call);
     return code == LRU_MEMORY;
@@ -50,13 +50,13 @@ static int refused(lru_code code, const char *call) {
 static void say_code(const char *call, lru_code code) { printf("%s -> %d\n", call, (int)code); }
 
 static void say(const char *call, lru_told told) {
-    /* A hit's value is an address: its object is what is the same in each run. */
+    /* The value of a hit is an address. The number of its object is the same in each run. */
     long value = told.code == LRU_HIT ? (struct object *)(uintptr_t)told.value - objects
                                       : (long)told.value;
     printf("%s -> %d %d %ld\n", call, (int)told.code, (int)told.stamp, value);
 }
 
-/* Keys of bytes, each of its own length: so some are longer than each one before. */
+/* Keys of bytes have different lengths, so that some are longer than all before. */
 static char key_bytes[100];
 
 #define FAMILY lru_bytes
@@ -83,9 +83,9 @@ int main(void) {
     before = mallinfo2().uordblks;
     run_bytes();
     run_words();
-    if (mallinfo2().uordblks != before) wrong("memory was not given back");
+    if (mallinfo2().uordblks != before) wrong("memory was not freed");
     for (int i = 0; i < made; i++) {
-        if (objects[i].deletions != 1) wrong("an object was not deleted once");
+        if (objects[i].deletions != 1) wrong("an object was not deleted exactly once");
     }
     if (made == 0) wrong("no object was made");
     fflush(stdout);

@@ -1,17 +1,17 @@
-/* The script of no_memory.c, for one family of calls. Included once for each, with
+/* The script of no_memory.c for one family of functions. It is included once for each, with
  *
- *   FAMILY       the family: lru_bytes or lru_words
- *   NAME(call)   the call's name in it
- *   KEY(n)       a key, as the arguments of a call
- *   RUN          the name of the function that this defines
+ *   FAMILY       lru_bytes or lru_words
+ *   NAME(call)   the name of a function of the family
+ *   KEY(n)       the key of a number, as arguments
+ *   RUN          the name of the function that is defined here
  */
 
-/* The total and the number of entries: what a refused call must leave as it is. */
+/* The total charge and the number of entries, which a refused call must not change. */
 static uint64_t NAME(weighed)(FAMILY *cache) {
     return NAME(total)(cache).value * 1000 + NAME(len)(cache).value;
 }
 
-/* Takes what was evicted, and deletes it. */
+/* Deletes what was evicted. */
 static void NAME(take)(NAME(evicted) * gone) {
     lru_gone entry;
     while (NAME(evicted_pop)(gone, &entry)) delete_object(entry.value, "evicted");
@@ -57,7 +57,7 @@ static void NAME(let_go)(FAMILY *cache, NAME(evicted) * gone, uint64_t stamp) {
     NAME(take)(gone);
 }
 
-/* Makes the entry of a key where it is not there, and lets it go. */
+/* Makes the entry of a key if there is none, and releases it. */
 static void NAME(use)(FAMILY *cache, NAME(evicted) * gone, unsigned n, uint64_t charge) {
     lru_told told = NAME(ask)(cache, gone, n, charge);
     if (told.code == LRU_MAKE) NAME(give)(cache, told.stamp);
@@ -86,13 +86,13 @@ static void RUN(void) {
     say_code("evicted_new", code);
     NAME(open)(&cache);
 
-    /* Entries that come and go, while one is held. */
+    /* Entries are made and evicted while one is held. */
     held = NAME(ask)(&cache, &gone, 0, 3);
     NAME(give)(&cache, held.stamp);
     for (unsigned n = 1; n < 40; n++) NAME(use)(&cache, &gone, n, 1 + n % 3);
     for (unsigned n = 30; n < 40; n++) NAME(use)(&cache, &gone, n, 1);
 
-    /* A making that fails, once with nobody else there and once with one that waits. */
+    /* Making a value fails, once while nobody waits and once while somebody does. */
     waited = NAME(ask)(&cache, &gone, 50, 2);
     say_code("fail", NAME(fail)(&cache, waited.stamp));
     waited = NAME(ask)(&cache, &gone, 50, 2);
@@ -103,7 +103,7 @@ static void RUN(void) {
     say("poll", NAME(poll)(&cache, waited.stamp));
     NAME(let_go)(&cache, &gone, waited.stamp);
 
-    /* What is found, what is not, and what is advised away. */
+    /* Hits, misses and advice_evict. */
     waited = NAME(find)(&cache, 50);
     NAME(evict)(&cache, &gone, 50);
     NAME(let_go)(&cache, &gone, waited.stamp);
@@ -111,7 +111,7 @@ static void RUN(void) {
     NAME(find)(&cache, 50);
     NAME(find)(&cache, 99);
 
-    /* Room that is made ahead, a smaller capacity, a prune. */
+    /* reserve, a smaller capacity, prune. */
     code = NAME(reserve)(&cache, 100);
     if (refused(code, "reserve")) code = NAME(reserve)(&cache, 100);
     say_code("reserve", code);
@@ -120,7 +120,7 @@ static void RUN(void) {
     say_code("prune", NAME(prune)(&cache, &gone));
     NAME(take)(&gone);
 
-    /* Freed with an entry held, one idle and one that is being made; and opened anew. */
+    /* Free with one entry held, one idle and one being made; then open again. */
     NAME(use)(&cache, &gone, 60, 1);
     NAME(ask)(&cache, &gone, 61, 1);
     say("total", NAME(total)(&cache));

@@ -1,5 +1,5 @@
-// The cache again, as plainly as it can be written: two maps, and a list of what is idle. It is
-// slow, and answers what the library must answer, call by call.
+// The same cache written as plainly as possible, with two maps and a list of the idle entries. It
+// is slow. Each call must answer what the library answers.
 #ifndef LRU_TESTS_PLAIN_CACHE_HPP
 #define LRU_TESTS_PLAIN_CACHE_HPP
 
@@ -136,7 +136,7 @@ class PlainCache {
     return found->second.key;
   }
 
-  // What a free hands out: each entry that has a value, by its stamp.
+  // What free hands out: the entries that have a value, by stamp.
   std::vector<lru_gone> values() const {
     std::vector<lru_gone> all;
     for (const auto& [stamp, entry] : entries_) {
@@ -205,7 +205,7 @@ class PlainCache {
   std::uint32_t most_pins_;
   std::map<std::uint64_t, Entry> entries_;
   std::map<Key, std::uint64_t> stamps_;
-  std::list<std::uint64_t> idle_;  // the stamps of idle entries, the one released first in front
+  std::list<std::uint64_t> idle_;  // the stamps of idle entries, least recently released first
 };
 
 #endif

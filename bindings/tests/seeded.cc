@@ -1,6 +1,5 @@
-// Runs of random calls, at the library and at the plain cache side by side, for both kinds of keys:
-// each answer, and each entry that a call evicts, must be the same. Prints one line, and ends with
-// 1 where an answer differs.
+// Runs random calls on the library and on the plain cache, for both kinds of keys: each answer and
+// each evicted entry must be the same. Prints one line, and exits with 1 if an answer differs.
 #include <algorithm>
 #include <cinttypes>
 #include <cstdint>
@@ -16,7 +15,7 @@
 #include "lru.hpp"
 #include "plain_cache.hpp"
 
-// Beside their types, so that std's algorithms find them.
+// In the namespace of their types, so that std's algorithms find them.
 static bool operator==(const lru_told& one, const lru_told& other) {
   return one.code == other.code && one.stamp == other.stamp && one.value == other.value;
 }
@@ -29,7 +28,7 @@ namespace {
 constexpr std::uint64_t kSeeds = 20;
 constexpr int kSteps = 2000;
 
-// The calls of lru.h, and keys by number: each kind has some that begin alike.
+// The functions of lru.h for each kind of key, and keys by number, some of which begin alike.
 
 struct Bytes : lru::detail::Calls<std::string_view> {
   using Key = std::string;
@@ -125,7 +124,7 @@ class Run {
 
   Key any_key() { return Family::key(random_.below(12)); }
 
-  // The stamp of a pin that was told and not given back, mostly; else any that was told, or none.
+  // Mostly a stamp that has a pin, sometimes any other, or one that was never given.
   std::uint64_t any_stamp() {
     if (pins_.empty() || random_.below(8) == 0) return random_.below(latest_ + 2);
     return pins_[static_cast<std::size_t>(random_.below(pins_.size()))];
@@ -142,7 +141,7 @@ class Run {
     if (pin != pins_.end()) pins_.erase(pin);
   }
 
-  // Makes one call at both.
+  // Makes one random call on both caches. False if the answers differ.
   bool call() {
     const std::uint64_t kind = random_.below(28);
     if (kind < 6) return begin();
@@ -153,7 +152,7 @@ class Run {
     if (kind < 24) return release();
     if (kind < 25) return advice_evict();
     if (kind < 26) return set_capacity();
-    // A prune in four, as it leaves little for others to evict.
+    // Rarely, as a prune leaves little for other calls to evict.
     if (kind < 27) return random_.below(4) != 0 || prune();
     return reserve();
   }
@@ -228,7 +227,7 @@ class Run {
     return Family::reserve(&cache_, static_cast<std::size_t>(random_.below(64))) == LRU_DONE;
   }
 
-  // Whether the chain has what the plain cache evicted, in order.
+  // Whether the chain holds what the plain cache evicted, in order.
   bool evicted() {
     bool same = true;
     for (const lru_gone& expected : gone_) {
@@ -242,7 +241,7 @@ class Run {
     return same;
   }
 
-  // Whether both show the same, to all that asks and changes nothing.
+  // Whether the calls that change nothing answer the same.
   bool look() {
     const auto number = [](const lru_told& told) {
       return told.code == LRU_NUMBER ? std::optional<std::uint64_t>(told.value) : std::nullopt;
@@ -256,8 +255,8 @@ class Run {
            Family::key_of(&cache_, stamp) == plain_.key_of(stamp);
   }
 
-  // What a free hands out, whatever its order; and that a run evicted something, or it would say
-  // little.
+  // Whether free hands out the same entries, in any order, and the run evicted enough to mean
+  // something.
   bool end() {
     std::vector<lru_gone> left;
     lru_gone gone;
@@ -279,8 +278,8 @@ class Run {
   PlainCache<Key> plain_;
   typename Family::Cache cache_ = {};
   typename Family::Chain chain_ = {};
-  std::vector<lru_gone> gone_;       // what the plain cache evicted in this call
-  std::vector<std::uint64_t> pins_;  // stamps, each as often as it is pinned
+  std::vector<lru_gone> gone_;       // what the plain cache has just evicted
+  std::vector<std::uint64_t> pins_;  // a stamp for each pin
   std::uint64_t latest_ = kFirstStamp;
   std::size_t evictions_ = 0;
   const char* call_ = "";
@@ -294,7 +293,7 @@ int main() {
     same += Run<Bytes>(seed).all();
     same += Run<Pairs>(seed).all();
   }
-  std::printf("seeded: %" PRIu64 " of %" PRIu64 " runs of %d steps answer as the plain cache\n",
-              same, 2 * kSeeds, kSteps);
+  std::printf("seeded: %" PRIu64 " of %" PRIu64 " runs of %d steps equal the plain cache\n", same,
+              2 * kSeeds, kSteps);
   return same == 2 * kSeeds ? 0 : 1;
 }

@@ -1,6 +1,5 @@
-// Threads at one cache, for a run under a sanitizer: every value fits the key that was asked, and
-// each that was made is deleted exactly once. Prints one line, and ends with 1 where something was
-// wrong.
+// Threads use a cache, for a run with a sanitizer: each value must fit the key that was asked for,
+// and be deleted exactly once. Prints one line, and exits with 1 if something is wrong.
 #include <atomic>
 #include <cstdint>
 #include <cstdio>
@@ -26,7 +25,7 @@ struct Deletions {
   std::atomic<std::uint64_t> made{0};
   std::vector<std::atomic<int>> of = std::vector<std::atomic<int>>(kMostThreads * kCalls);
 
-  // How many objects were not deleted exactly this often.
+  // The number of objects that were not deleted exactly this often.
   std::uint64_t unlike(int wanted) const {
     std::uint64_t count = 0;
     for (std::uint64_t number = 0; number < made; number++) count += of[number] != wanted;
@@ -68,7 +67,7 @@ class Random {
   std::uint64_t state_;
 };
 
-// A key as the cache takes it. The text of one is what its bytes refer to.
+// Keys of both kinds, by number.
 struct TextKey {
   using Key = std::string_view;
   explicit TextKey(std::uint64_t n) : text("key " + std::to_string(n)) {}
@@ -83,7 +82,8 @@ struct WordsKey {
   lru::Words words;
 };
 
-// One thread's calls. It holds up to four handles at a time.
+// The calls of one thread, which holds up to four handles at a time. Returns how many values were
+// wrong.
 template <class KeyOf, class Cache>
 std::uint64_t calls(Cache& cache, std::uint64_t seed, Deletions* deletions) {
   Random random(seed);
@@ -143,7 +143,7 @@ bool stress(const char* name, std::size_t threads) {
     for (std::thread& thread : all) thread.join();
     cache.set_capacity(kCapacity);
     left = cache.total_charge();
-    // Half of the runs leave what is idle to the cache's destructor.
+    // In half of the runs the destructor of the cache deletes the idle values.
     if (threads == 4) {
       cache.prune();
       if (cache.total_charge() != 0 || deletions.unlike(1) != 0) wrong++;

@@ -1,6 +1,6 @@
-// The cache under LevelDB: a database whose blocks it keeps.
+// The cache as the block cache of a LevelDB database.
 //
-//   block_cache FOLDER     a folder for the database, which is made where it is not there
+//   block_cache FOLDER     the folder of the database, which is created if it does not exist
 #include <cstdio>
 #include <memory>
 #include <string>
@@ -31,7 +31,7 @@ int main(int argc, char** argv) {
     std::fprintf(stderr, "usage: block_cache FOLDER\n");
     return 2;
   }
-  // The cache outlives the database that uses it, so it comes first and goes last.
+  // Declared first and destroyed last, as the database uses it.
   const std::unique_ptr<leveldb::Cache> cache(lru::NewLevelDBCache(512 << 10));
   if (cache == nullptr) return Fail(leveldb::Status::IOError("no memory for the cache"));
 
@@ -44,12 +44,12 @@ int main(int argc, char** argv) {
   const std::unique_ptr<leveldb::DB> db(opened);
 
   for (int n = 0; n < kKeys; n++) {
-    // LevelDB caches the blocks that it decompressed, so these values compress.
+    // LevelDB does not cache blocks that it stored uncompressed, so these values compress.
     status = db->Put(leveldb::WriteOptions(), KeyOf(n),
                      std::string(200, static_cast<char>('a' + n % 26)));
     if (!status.ok()) return Fail(status);
   }
-  db->CompactRange(nullptr, nullptr);  // from the log and the memory to blocks of a table
+  db->CompactRange(nullptr, nullptr);  // writes the values to blocks on disk
 
   int found = 0;
   for (int round = 0; round < 2; round++) {

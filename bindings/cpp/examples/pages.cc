@@ -1,5 +1,6 @@
-// Threads read a file through one cache of its pages. A page that one thread reads, others wait
-// for; it stays while anybody uses it; and the pages used longest ago leave first.
+// Threads read a file through a cache of its pages. If two threads need the same page, one reads it
+// and the other waits. A page stays while a thread uses it, and the least recently used are
+// evicted.
 //
 //   pages FILE [CAPACITY]     counts lines, blanks and commas, each on a thread of its own
 #include <cstdint>
@@ -18,7 +19,7 @@
 constexpr std::uint64_t kPageSize = 4096;
 
 using Page = std::vector<char>;
-using Pages = lru::ShardedCache<const Page, lru::Words>;  // keys: which file, and the page's number
+using Pages = lru::ShardedCache<const Page, lru::Words>;  // keys: file, page
 
 Page read_page(const std::string& path, std::uint64_t number) {
   std::ifstream file(path, std::ios::binary);
@@ -33,7 +34,7 @@ Page read_page(const std::string& path, std::uint64_t number) {
 std::uint64_t count(Pages& pages, const std::string& path, char wanted) {
   std::uint64_t found = 0;
   for (std::uint64_t number = 0;; number++) {
-    // The handle pins the page: it is neither evicted nor deleted before the handle goes.
+    // The handle pins the page: it is neither evicted nor deleted while the handle lives.
     const Pages::Handle page =
         pages.get_or_init(lru::Words{1, number}, kPageSize,
                           [&](lru::Words key) { return read_page(path, key.second); });
@@ -54,7 +55,7 @@ int main(int argc, char** argv) try {
   for (const char wanted : {'\n', ' ', ','}) {
     counts.push_back(std::async(std::launch::async, count, std::ref(pages), path, wanted));
   }
-  // What a thread throws, as where the file cannot be read, comes out of its future.
+  // An exception on a thread, such as one from read_page, leaves its future here.
   std::cout << counts[0].get() << " lines, ";
   std::cout << counts[1].get() << " blanks, ";
   std::cout << counts[2].get() << " commas\n";

@@ -1,6 +1,6 @@
-//! A pool of open files that threads share: a file is opened once, stays open while somebody reads
-//! it, and the ones that nobody reads are closed, the one read longest ago first, once more than
-//! `OPEN` are open.
+//! A pool of open files that threads share. A file is opened once and stays open while a thread
+//! reads it. If more than `OPEN` files are open, those that no thread reads are closed, the least
+//! recently used first.
 //!
 //! ```text
 //! cargo run --example open_files -- FILE ..
@@ -15,7 +15,7 @@ use std::thread;
 use concurrent_lru_proved::sharded::LruCache;
 use concurrent_lru_proved::{GetError, Refusal};
 
-/// How many idle files stay open in all.
+/// The number of files that may stay open.
 const OPEN: u64 = 32;
 
 /// Open files by their paths.
@@ -29,7 +29,7 @@ impl Pool {
         Ok(Pool { files })
     }
 
-    /// Reads the first bytes of a file, which is opened where it is not open.
+    /// Reads the first bytes of a file, and opens it first if necessary.
     fn head(&self, path: &str) -> Result<Vec<u8>, Box<dyn Error>> {
         let opened = self.files.get_or_try_init(path, 1, |path| File::open(path));
         let file = opened.map_err(|error| match error {
@@ -49,7 +49,7 @@ fn run(paths: &[String]) -> Result<(), Box<dyn Error>> {
         for _ in 0..4 {
             scope.spawn(|| {
                 for path in paths.iter().cycle().take(1000) {
-                    // What cannot be opened is told below, once.
+                    // Errors are reported once, below.
                     let _ = pool.head(path);
                 }
             });

@@ -1,16 +1,16 @@
-//! What a call is refused for.
+//! The reasons why a call fails.
 
 use std::error::Error;
 use std::fmt;
 
-/// Why the cache refused a call. Nothing changed, and nothing was evicted.
+/// The reason why the cache refused a call. The cache did not change.
 #[derive(Debug, Clone, Copy, PartialEq, Eq, Hash)]
 #[non_exhaustive]
 pub enum Refusal {
-    /// The cache got no memory for an entry. The call can be made again.
+    /// The cache could not allocate memory. The call can be repeated.
     Memory,
-    /// A number of the cache is at its end: the charges of all entries would pass `u64::MAX`, an
-    /// entry would have more than `u32::MAX` handles, or `u64::MAX` entries were made.
+    /// A number would overflow: the total of all charges would exceed `u64::MAX`, a value would get
+    /// more than `u32::MAX` handles, or `u64::MAX` values have been made.
     Overflow,
     /// The charge was 0.
     ZeroCharge,
@@ -19,21 +19,21 @@ pub enum Refusal {
 impl fmt::Display for Refusal {
     fn fmt(&self, f: &mut fmt::Formatter<'_>) -> fmt::Result {
         f.write_str(match self {
-            Refusal::Memory => "the cache got no memory",
-            Refusal::Overflow => "a number of the cache is at its end",
-            Refusal::ZeroCharge => "a charge must be above 0",
+            Refusal::Memory => "the cache could not allocate memory",
+            Refusal::Overflow => "a number of the cache would overflow",
+            Refusal::ZeroCharge => "the charge is 0",
         })
     }
 }
 
 impl Error for Refusal {}
 
-/// Why `get_or_try_init` answers no handle.
+/// The reason why `get_or_try_init` returns no handle.
 #[derive(Debug, Clone, Copy, PartialEq, Eq, Hash)]
 pub enum GetError<E> {
-    /// The value could not be made: the error of `init`. No entry is left of it.
+    /// `init` failed with this error. The cache keeps no entry.
     Init(E),
-    /// The cache refused the call, and `init` did not run.
+    /// The cache refused the call.
     Refused(Refusal),
 }
 

@@ -1,10 +1,10 @@
-//! The types of `bindings/c/lru.h`, by the names that they have there without `lru_`.
+//! The types and codes of `bindings/c/lru.h`, under their names there without `lru_`.
 
 use std::ffi::c_void;
 use std::ptr;
 
 /// `lru_bytes`, `lru_words`, `lru_bytes_evicted` and `lru_words_evicted`: a cache, or a chain of
-/// entries that left one.
+/// evicted entries.
 #[repr(C)]
 pub struct Handle {
     at: *mut c_void,
@@ -19,7 +19,7 @@ impl Handle {
     };
 }
 
-/// `lru_told`: what a call tells.
+/// `lru_told`: the answer of a function.
 #[repr(C)]
 #[derive(Debug, Clone, Copy)]
 pub struct Told {
@@ -28,7 +28,7 @@ pub struct Told {
     pub code: u32,
 }
 
-/// `lru_gone`: an entry that left a cache.
+/// `lru_gone`: an evicted entry.
 #[repr(C)]
 #[derive(Debug, Clone, Copy)]
 pub struct Gone {

@@ -1,26 +1,26 @@
-//! What keys are written as, and the calls of the library for each form.
+//! The two forms of keys, and the functions of the library for each.
 
 use crate::ffi::{Gone, Handle, Told};
 
-/// What a key is written as: [`Bytes`] or [`Words`].
+/// The form that a key is written in: [`Bytes`] or [`Words`].
 ///
-/// The library has calls for these two, so no other type implements it.
+/// This trait is sealed, as the library has functions for these two forms.
 pub trait Form: sealed::Calls {}
 
 impl<F: sealed::Calls> Form for F {}
 
-/// A key of this form: `&[u8]` for [`Bytes`], `[u64; 2]` for [`Words`].
+/// A key as it is written: `&[u8]` for [`Bytes`], `[u64; 2]` for [`Words`].
 pub type Written<'a, F> = <F as sealed::Calls>::Written<'a>;
 
 pub(crate) mod sealed {
     use super::{Gone, Handle, Told};
 
-    /// The calls of `lru.h` for one form of keys.
+    /// The functions of `lru.h` for one form of keys.
     pub trait Calls: 'static {
         /// A key of this form.
         type Written<'a>: Copy;
 
-        /// The calls that name no key.
+        /// The functions that take no key.
         const STAMPED: Stamped;
 
         /// # Safety
@@ -48,11 +48,13 @@ pub(crate) mod sealed {
         ) -> u32;
     }
 
-    /// The calls of `lru.h` that name no key, for one form of keys.
+    /// The functions of `lru.h` that take no key, for one form of keys.
     ///
-    /// Each supposes that `cache` points to a cache, and `gone` to a chain, of this form: closed,
-    /// or made by `new` or `new_chain` of the same `Stamped`. It supposes that nothing else uses
-    /// these during the call, and that no two handles are copies of one.
+    /// # Safety
+    ///
+    /// `cache` must point to a cache and `gone` to a chain that are closed, or were opened by `new`
+    /// and `new_chain` of the same `Stamped`. They must be the only copies of these handles, and
+    /// nothing else may use them during the call.
     pub struct Stamped {
         pub new: unsafe extern "C" fn(capacity: u64, out: *mut Handle) -> u32,
         pub free: unsafe extern "C" fn(cache: *mut Handle, left: *mut Handle) -> u32,
@@ -71,7 +73,7 @@ pub(crate) mod sealed {
     }
 }
 
-/// Declares the calls whose names begin with a prefix and name no key, and names them `Stamped`.
+/// Declares the functions with a prefix that take no key, and makes a `Stamped` of them.
 macro_rules! stamped {
     ($prefix:literal) => {{
         unsafe extern "C" {
@@ -120,8 +122,7 @@ macro_rules! stamped {
     }};
 }
 
-/// The form of keys that are written as bytes. The cache keeps a copy of them while it has an
-/// entry of the key.
+/// The form of keys that are written as bytes.
 #[derive(Debug)]
 pub enum Bytes {}
 
@@ -148,8 +149,8 @@ impl sealed::Calls for Bytes {
     const STAMPED: sealed::Stamped = stamped!("lru_bytes");
 
     unsafe fn begin(cache: *mut Handle, key: &[u8], charge: u64, gone: *mut Handle) -> Told {
-        // SAFETY: a slice's pointer is not null and leads to its bytes, whose number is below
-        // 2^63. The caller answers for the handles.
+        // SAFETY: the pointer of a slice is not null and points to its bytes, of which there are
+        // fewer than 2^63. The caller guarantees the rest.
         unsafe { lru_bytes_begin_nonnull(cache, key.as_ptr(), key.len(), charge, gone) }
     }
 
@@ -164,7 +165,7 @@ impl sealed::Calls for Bytes {
     }
 }
 
-/// The form of keys that are written as two words, which are quicker to look up.
+/// The form of keys that are written as two words.
 #[derive(Debug)]
 pub enum Words {}
 
@@ -196,7 +197,7 @@ impl sealed::Calls for Words {
         charge: u64,
         gone: *mut Handle,
     ) -> Told {
-        // SAFETY: the caller answers for the handles, and words are never wrong.
+        // SAFETY: the caller guarantees what the function requires.
         unsafe { lru_words_begin(cache, first, second, charge, gone) }
     }
 

@@ -4,15 +4,16 @@ use std::ffi::{OsStr, OsString};
 
 pub use crate::form::{Bytes, Form, Words, Written};
 
-/// A key that the library can hold: one that is written as bytes or as two words.
+/// A key that the library can store: it is written as bytes or as two words.
 ///
-/// The cache knows a key by what it is written as. So two keys that are equal must be written
-/// alike, and two that are not must be written differently; and where `K: Borrow<Q>`, a `Q` must
-/// be written as the `K` that it is borrowed from. A key that breaks this finds the values of
-/// other keys, or none; it breaks nothing else.
+/// The library compares what keys are written as. So two keys must be written alike if and only if
+/// they are equal, and if `K: Borrow<Q>`, a `Q` must be written like the `K` that it was borrowed
+/// from. It is a logic error if they are not: a key may find the value of another key, or none. It
+/// is never undefined behavior.
 ///
-/// Integers, `char`, `bool` and pairs of `u64` are written as words. Strings and slices of bytes
-/// are written as bytes, which the cache copies where it makes an entry.
+/// Integers, `char`, `bool` and pairs of `u64` are written as words, which are faster to look up.
+/// Strings and slices of bytes are written as bytes, which the cache copies for each entry that it
+/// makes.
 ///
 /// # Examples
 ///
@@ -95,7 +96,7 @@ macro_rules! written_as_words {
     )*};
 }
 
-// A cast to a longer signed integer keeps the number, and each further cast here keeps the bits.
+// Signed integers are extended to 64 bits first, so different numbers stay different.
 written_as_words! {
     bool: |key| [0, u64::from(key)];
     char: |key| [0, u64::from(u32::from(key))];

@@ -1,18 +1,18 @@
-//! A concurrent LRU cache for heavy values, as open files or pages, whose core is proved.
+//! A concurrent LRU cache for heavy values, such as open files or pages, with a proved core.
 //!
-//! The core is a static library, written in Rust with contracts and proved to answer each call as
-//! the rules of the cache say: which value is found, which ones are evicted, and in which order.
-//! This crate is ordinary Rust round it: std's [`Mutex`](std::sync::Mutex) guards each core, and a
-//! [`Condvar`](std::sync::Condvar) is what callers wait at while another makes their value.
+//! The core is a static library. It is proved to follow the rules of the cache: which value is
+//! found, which ones are evicted, and in which order. This crate adds the locks and the values. It
+//! is ordinary Rust: a [`Mutex`](std::sync::Mutex) guards each core, and callers wait at a
+//! [`Condvar`](std::sync::Condvar) while another one makes their value.
 //!
 //! The names are those of the crate `concurrent_lru` 0.2.0:
 //!
 //! - [`unsharded::LruCache`] has one lock,
 //! - [`sharded::LruCache`] has one for each shard.
 //!
-//! What differs: keys are taken by reference and are those that can be written as bytes or as two
-//! words ([`key::Key`]), a call that the cache refuses answers a [`Refusal`], and the capacity can
-//! be set and asked for.
+//! It differs from that crate in three points: a key must be one that can be written as bytes or as
+//! two words ([`key::Key`]), and is passed by reference; calls return a [`Refusal`] if the cache
+//! cannot serve them; and the capacity can be read and set.
 //!
 //! # Examples
 //!
@@ -24,9 +24,9 @@
 //! let files = LruCache::<String, File>::new(10)?;
 //! let hosts = files.get_or_try_init("/etc/hosts", 1, |path| File::open(path))?;
 //! println!("{} bytes", hosts.metadata()?.len());
-//! drop(hosts); // idle now, and open still
+//! drop(hosts); // idle, but still open
 //! assert!(files.get("/etc/hosts")?.is_some());
-//! files.prune(); // closed
+//! files.prune(); // closes it
 //! assert!(files.get("/etc/hosts")?.is_none());
 //! # Ok(())
 //! # }
@@ -34,8 +34,9 @@
 //!
 //! # Building
 //!
-//! The build script looks for the archive of the core in the folder that the environment variable
-//! `LRU_LIB_DIR` names, and where it is not set, where a build of this repository leaves it.
+//! The build script looks for the archive of the core, `liblru.a`, in the folder that the
+//! environment variable `LRU_LIB_DIR` names, or else in `bindings/c/build` of this repository,
+//! where `make -C bindings/c` puts it.
 
 mod error;
 mod ffi;

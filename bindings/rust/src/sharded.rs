@@ -1,4 +1,4 @@
-//! A cache in shards, each under a lock of its own.
+//! A cache of several shards, each behind its own lock.
 
 use std::borrow::Borrow;
 use std::fmt;
@@ -10,14 +10,14 @@ use crate::error::{GetError, Refusal};
 use crate::key::Key;
 use crate::unsharded;
 
-/// How many shards [`LruCache::new`] makes.
+/// The number of shards that [`LruCache::new`] makes.
 const SHARDS: NonZeroUsize = NonZeroUsize::new(16).unwrap();
 
-/// A cache of heavy values that threads share, in shards.
+/// A cache of heavy values that threads share, in several shards.
 ///
-/// Each shard is an [`unsharded::LruCache`] with a lock of its own and an equal share of the
-/// capacity, rounded up. The hasher chooses the shard of a key. So threads get in each other's way
-/// less, and a value leaves where its own shard is full.
+/// Each shard is an [`unsharded::LruCache`] with its own lock and an equal share of the capacity,
+/// rounded up. The hasher chooses the shard of a key. Threads contend less, but a value is evicted
+/// when its own shard is full.
 ///
 /// # Examples
 ///
@@ -37,23 +37,22 @@ pub struct LruCache<K: Key + ?Sized, V, S = RandomState> {
 }
 
 impl<K: Key + ?Sized, V> LruCache<K, V> {
-    /// An empty cache of 16 shards, which share `capacity`.
+    /// Creates an empty cache of 16 shards.
     ///
     /// # Errors
     ///
-    /// [`Refusal::Memory`] where there is no memory for it.
+    /// [`Refusal::Memory`].
     pub fn new(capacity: u64) -> Result<Self, Refusal> {
         LruCache::with_shards_hasher(capacity, SHARDS, RandomState::new())
     }
 }
 
 impl<K: Key + ?Sized, V, S> LruCache<K, V, S> {
-    /// An empty cache of this many shards, which share `capacity`, and whose keys the hasher
-    /// numbers.
+    /// Creates an empty cache with the given number of shards and hasher.
     ///
     /// # Errors
     ///
-    /// [`Refusal::Memory`] where there is no memory for it.
+    /// [`Refusal::Memory`].
     pub fn with_shards_hasher(
         capacity: u64,
         shards: NonZeroUsize,
@@ -69,28 +68,29 @@ impl<K: Key + ?Sized, V, S> LruCache<K, V, S> {
         })
     }
 
-    /// Evicts every value that no handle has, shard after shard.
+    /// Evicts every idle value, one shard after another.
     pub fn prune(&self) {
         for shard in &self.shards {
             shard.prune();
         }
     }
 
-    /// The sum of the charges of all values, those that are being made included. The shards are
-    /// asked one after another, so it is the total of no one moment where other threads call.
+    /// The total of the charges of all values, including those that are being made. The shards are
+    /// read one after another, so while other threads call the cache it is no snapshot.
     pub fn total_charge(&self) -> u128 {
         let totals = self.shards.iter().map(|shard| shard.total_charge());
         totals.map(u128::from).sum()
     }
 
-    /// The capacities of all shards together, which rounding makes more than was asked for.
+    /// The total of the capacities of all shards. Rounding may make it more than the capacity that
+    /// was set.
     pub fn capacity(&self) -> u128 {
         let capacities = self.shards.iter().map(|shard| shard.capacity());
         capacities.map(u128::from).sum()
     }
 
-    /// Sets the capacity that the shards share. Where the charges of a shard's values pass its
-    /// share, idle ones are evicted at once.
+    /// Sets the capacity, of which each shard gets an equal share, rounded up. Idle values that
+    /// exceed it are evicted at once.
     pub fn set_capacity(&self, capacity: u64) {
         let share = share(capacity, self.shards.len());
         for shard in &self.shards {
@@ -100,8 +100,8 @@ impl<K: Key + ?Sized, V, S> LruCache<K, V, S> {
 }
 
 impl<K: Key + ?Sized, V, S: BuildHasher> LruCache<K, V, S> {
-    /// A handle of the value of a key; none where the cache has no value of it, or one that is
-    /// still being made. Does not wait for one.
+    /// Returns a handle of the key's value, or `None` if there is no value or it is still being
+    /// made. Does not wait.
     ///
     /// # Errors
     ///
@@ -115,8 +115,8 @@ impl<K: Key + ?Sized, V, S: BuildHasher> LruCache<K, V, S> {
         Ok(found.map(CacheHandle))
     }
 
-    /// A handle of the value of a key, which `init` makes where the cache has none. Other callers
-    /// of the key wait meanwhile.
+    /// Returns a handle of the key's value. If there is none, `init` makes it, while other callers
+    /// that ask for the key wait.
     ///
     /// # Errors
     ///
@@ -135,8 +135,8 @@ impl<K: Key + ?Sized, V, S: BuildHasher> LruCache<K, V, S> {
         Ok(CacheHandle(handle))
     }
 
-    /// A handle of the value of a key, which `init` makes where the cache has none, if it can.
-    /// Other callers of the key wait meanwhile; where `init` fails, one of them makes the value.
+    /// Returns a handle of the key's value. If there is none, `init` makes it, while other callers
+    /// that ask for the key wait; if it fails, one of them makes the value.
     ///
     /// # Errors
     ///
@@ -155,7 +155,7 @@ impl<K: Key + ?Sized, V, S: BuildHasher> LruCache<K, V, S> {
         Ok(CacheHandle(handle))
     }
 
-    /// Evicts the value of a key where no handle has it; else nothing happens, now or later.
+    /// Evicts the key's value if it is idle. If it is pinned, nothing happens, now or later.
     ///
     /// # Errors
     ///
@@ -170,12 +170,12 @@ impl<K: Key + ?Sized, V, S: BuildHasher> LruCache<K, V, S> {
 
     fn shard<Q: Hash + ?Sized>(&self, key: &Q) -> &unsharded::LruCache<K, V> {
         let number = self.hasher.hash_one(key) % self.shards.len() as u64;
-        // Below the number of shards, which is a `usize`.
+        // The remainder is less than the number of shards, so it fits.
         &self.shards[number as usize]
     }
 }
 
-/// The share of each shard, rounded up.
+/// The capacity of each shard.
 fn share(capacity: u64, shards: usize) -> u64 {
     capacity.div_ceil(shards as u64)
 }
@@ -186,7 +186,7 @@ impl<K: Key + ?Sized, V, S> fmt::Debug for LruCache<K, V, S> {
     }
 }
 
-/// A value in the cache, which is not evicted while this lives.
+/// A pinned value: it is not evicted while the handle lives.
 pub struct CacheHandle<'a, K: Key + ?Sized, V>(unsharded::CacheHandle<'a, K, V>);
 
 impl<K: Key + ?Sized, V> CacheHandle<'_, K, V> {

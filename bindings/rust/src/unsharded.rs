@@ -1,4 +1,4 @@
-//! A cache under one lock.
+//! A cache behind one lock.
 
 use std::borrow::Borrow;
 use std::convert::Infallible;
@@ -14,18 +14,18 @@ use crate::form::{Form, Written};
 use crate::key::Key;
 use crate::proved::{Begun, Core, Evicted};
 
-/// A cache of heavy values that threads share, under one lock.
+/// A cache of heavy values that threads share, behind one lock.
 ///
-/// A value is pinned while a [`CacheHandle`] of it lives, and is never evicted then. Once its last
-/// handle is dropped it stands idle. Idle values leave, the one released first in front, while the
-/// charges of all values pass the capacity.
+/// A [`CacheHandle`] pins its value: a pinned value is not evicted. A value without a handle is
+/// idle. While the total of all charges is above the capacity, idle values are evicted, the least
+/// recently released first.
 ///
-/// The lock is held for short steps alone: values are made and dropped without it, and keys are
-/// written before it is taken. So `init` and the `Drop` of a value may be slow, may panic, and may
-/// call the cache. But an `init` must not ask for the key that it makes the value of, nor wait for
-/// another caller that does: it would wait for itself.
+/// No lock is held while values are made or dropped. So `init` and `Drop` of a value may be slow,
+/// may panic, and may call the cache. But `init` must not ask for the key whose value it makes, and
+/// must not wait for another thread that does: it would wait for itself.
 ///
-/// Keys are taken by reference, as in std's maps: a cache of `String` is asked for a `&str`.
+/// Keys are passed by reference, as in [`HashMap`](std::collections::HashMap): a cache with keys of
+/// type `String` takes a `&str`.
 ///
 /// # Examples
 ///
@@ -40,7 +40,7 @@ use crate::proved::{Begun, Core, Evicted};
 /// # }
 /// ```
 ///
-/// Threads may share a cache where they may share its values, and drop them:
+/// A cache can be shared between threads only if its values can be shared and sent:
 ///
 /// ```compile_fail,E0277
 /// use concurrent_lru_proved::unsharded::LruCache;
@@ -61,27 +61,27 @@ use crate::proved::{Begun, Core, Evicted};
 /// ```
 pub struct LruCache<K: Key + ?Sized, V> {
     shared: Mutex<Shared<K::Form, V>>,
-    /// Told where a making ends, for those that wait for one.
+    /// Notified when a caller has made a value, or has failed to.
     ended: Condvar,
     keys: PhantomData<fn(&K)>,
-    // Threads that share a cache share its values too, by handles.
+    // Threads that share a cache also share its values, through handles.
     values: PhantomData<V>,
 }
 
 /// What the lock guards.
 struct Shared<F: Form, V> {
     core: Core<F, V>,
-    /// How many callers wait for a making to end.
+    /// The number of callers that wait for a value.
     waiting: usize,
 }
 
 impl<K: Key + ?Sized, V> LruCache<K, V> {
-    /// An empty cache, which keeps idle values as long as the charges of all are at most
+    /// Creates an empty cache. It evicts idle values while the total of all charges is above
     /// `capacity`.
     ///
     /// # Errors
     ///
-    /// [`Refusal::Memory`] where there is no memory for it.
+    /// [`Refusal::Memory`].
     pub fn new(capacity: u64) -> Result<Self, Refusal> {
         Ok(LruCache {
             shared: Mutex::new(Shared {
@@ -94,13 +94,13 @@ impl<K: Key + ?Sized, V> LruCache<K, V> {
         })
     }
 
-    /// A handle of the value of a key; none where the cache has no value of it, or one that is
-    /// still being made. Does not wait for one.
+    /// Returns a handle of the key's value, or `None` if there is no value or it is still being
+    /// made. Does not wait.
     ///
     /// # Errors
     ///
-    /// [`Refusal::Overflow`] where the value has `u32::MAX` handles; [`Refusal::Memory`] where the
-    /// key is longer than each one before and there is no memory for it.
+    /// [`Refusal::Overflow`] if the value has `u32::MAX` handles. [`Refusal::Memory`] if the key is
+    /// longer than any before and there is no memory for a copy.
     pub fn get<Q>(&self, key: &Q) -> Result<Option<CacheHandle<'_, K, V>>, Refusal>
     where
         K: Borrow<Q>,
@@ -111,21 +111,19 @@ impl<K: Key + ?Sized, V> LruCache<K, V> {
         Ok(found.map(|(stamp, value)| self.handle(stamp, value)))
     }
 
-    /// A handle of the value of a key, which `init` makes where the cache has none.
+    /// Returns a handle of the key's value. If there is none, `init` makes it.
     ///
-    /// One caller makes the value, and others that ask for the key meanwhile wait for it. Where
-    /// `init` panics, one of those makes it in its place, by its own `init`.
+    /// Only one caller at a time makes a key's value; the others wait for it. If `init` panics and
+    /// others are waiting, one of them makes the value, with its own `init`.
     ///
-    /// The charge is what the value counts for against the capacity. The charge of a value that is
-    /// there, or is being made, stays what it was.
+    /// `charge` is what the value counts for against the capacity, in units of the caller's choice.
+    /// If the value exists already or is being made, its charge does not change.
     ///
     /// # Errors
     ///
-    /// [`Refusal::ZeroCharge`] where `charge` is 0; [`Refusal::Memory`] where there is no memory
-    /// for an entry; [`Refusal::Overflow`] where the charges of all values would pass `u64::MAX`,
-    /// where the value has `u32::MAX` handles, or where `u64::MAX` values were made. `init` does
-    /// not run then, and nothing is evicted. [`Refusal::Memory`] too where the value was made and
-    /// there is no memory to keep it, which is as if `init` had failed.
+    /// [`Refusal::ZeroCharge`] if `charge` is 0, [`Refusal::Overflow`] and [`Refusal::Memory`]. In
+    /// these cases `init` does not run and nothing is evicted, with one exception: if there is no
+    /// memory to store the value that `init` has made, it is dropped as if `init` had failed.
     pub fn get_or_init<Q>(
         &self,
         key: &Q,
@@ -143,15 +141,15 @@ impl<K: Key + ?Sized, V> LruCache<K, V> {
             })
     }
 
-    /// A handle of the value of a key, which `init` makes where the cache has none, if it can.
+    /// Returns a handle of the key's value. If there is none, `init` makes it, or fails.
     ///
-    /// As [`get_or_init`](Self::get_or_init). Where `init` fails, nothing of the entry is left but
-    /// for callers that wait for it: one of them makes the value, by its own `init`. What was
-    /// evicted for the entry before `init` ran does not come back.
+    /// This is [`get_or_init`](Self::get_or_init) for an `init` that may fail. The cache keeps no
+    /// entry then. If others are waiting, one of them makes the value, with its own `init`. Values
+    /// are evicted before `init` runs, and stay evicted if it fails.
     ///
     /// # Errors
     ///
-    /// [`GetError::Init`] with the error of `init`; [`GetError::Refused`] as for
+    /// [`GetError::Init`] with the error of `init`, and [`GetError::Refused`] in the cases of
     /// [`get_or_init`](Self::get_or_init).
     pub fn get_or_try_init<Q, E>(
         &self,
@@ -172,12 +170,11 @@ impl<K: Key + ?Sized, V> LruCache<K, V> {
         }
     }
 
-    /// Evicts the value of a key where no handle has it; else nothing happens, now or later.
+    /// Evicts the key's value if it is idle. If it is pinned, nothing happens, now or later.
     ///
     /// # Errors
     ///
-    /// [`Refusal::Memory`] where the key is longer than each one before and there is no memory for
-    /// it.
+    /// [`Refusal::Memory`] if the key is longer than any before and there is no memory for a copy.
     pub fn advice_evict<Q>(&self, key: &Q) -> Result<(), Refusal>
     where
         K: Borrow<Q>,
@@ -188,35 +185,35 @@ impl<K: Key + ?Sized, V> LruCache<K, V> {
         self.lock().core.advice_evict(written, &mut evicted)
     }
 
-    /// Evicts every value that no handle has.
+    /// Evicts every idle value.
     pub fn prune(&self) {
         let mut evicted = Evicted::new();
         self.lock().core.prune(&mut evicted);
     }
 
-    /// The sum of the charges of all values, those that are being made included.
+    /// The total of the charges of all values, including those that are being made.
     pub fn total_charge(&self) -> u64 {
         self.lock().core.total()
     }
 
-    /// The total that the cache keeps idle values up to.
+    /// The capacity.
     pub fn capacity(&self) -> u64 {
         self.lock().core.capacity()
     }
 
-    /// Sets the capacity. While the charges of all values pass it, idle ones are evicted at once.
+    /// Sets the capacity. Idle values that exceed it are evicted at once.
     pub fn set_capacity(&self, capacity: u64) {
         let mut evicted = Evicted::new();
         self.lock().core.set_capacity(capacity, &mut evicted);
     }
 
-    /// Finds or begins the entry of a key, and waits while another caller makes its value.
+    /// Finds the key's value, waiting for it while another caller makes it, or begins to make it.
     fn begin(
         &self,
         written: Written<'_, K::Form>,
         charge: u64,
     ) -> Result<Asked<'_, K, V>, Refusal> {
-        // Declared before the lock is taken, so that it is dropped after the lock is let go.
+        // Declared before the lock is taken, so that it is dropped after the lock is released.
         let mut evicted = Evicted::new();
         let mut shared = self.lock();
         let mut begun = shared.core.begin(written, charge, &mut evicted)?;
@@ -248,7 +245,7 @@ impl<K: Key + ?Sized, V> LruCache<K, V> {
         unpoisoned(self.shared.lock())
     }
 
-    /// Lets the lock go, and wakes those that wait for a making.
+    /// Releases the lock, and wakes the callers that wait for a value.
     fn wake(&self, shared: MutexGuard<'_, Shared<K::Form, V>>) {
         let waiting = shared.waiting;
         drop(shared);
@@ -258,7 +255,7 @@ impl<K: Key + ?Sized, V> LruCache<K, V> {
     }
 }
 
-/// No code of a caller runs under the lock, so a panic there leaves nothing half done.
+/// No code of the user runs under the lock, so a poisoned one guards a sound cache.
 fn unpoisoned<T>(locked: Result<T, PoisonError<T>>) -> T {
     locked.unwrap_or_else(PoisonError::into_inner)
 }
@@ -272,20 +269,20 @@ impl<K: Key + ?Sized, V> fmt::Debug for LruCache<K, V> {
     }
 }
 
-/// What a caller that asked for a key has.
+/// What a caller that asked for a key has got.
 enum Asked<'a, K: Key + ?Sized, V> {
     Found(CacheHandle<'a, K, V>),
     Making(Making<'a, K, V>),
 }
 
-/// The right and the duty to make a value. Where it is dropped, the making failed.
+/// The duty to make a value. If it is dropped before `end`, making the value has failed.
 struct Making<'a, K: Key + ?Sized, V> {
     cache: &'a LruCache<K, V>,
     stamp: u64,
 }
 
 impl<'a, K: Key + ?Sized, V> Making<'a, K, V> {
-    /// Ends the making with its value. Where there is no memory for that, the making failed.
+    /// Stores the value. If there is no memory for that, making the value has failed.
     fn end(self, value: Box<V>) -> Result<CacheHandle<'a, K, V>, Refusal> {
         let mut shared = self.cache.lock();
         match shared.core.ready(self.stamp, value) {
@@ -312,26 +309,26 @@ impl<K: Key + ?Sized, V> Drop for Making<'_, K, V> {
     }
 }
 
-/// A value in the cache, which is not evicted while this lives.
+/// A pinned value: it is not evicted while the handle lives.
 pub struct CacheHandle<'a, K: Key + ?Sized, V> {
     cache: &'a LruCache<K, V>,
     stamp: u64,
-    /// The value of the entry with this stamp, of which this handle has a pin.
+    /// The value of the entry with this stamp. The handle has a pin of it.
     value: NonNull<V>,
 }
 
-// SAFETY: a handle lends its value, and its drop may drop values of the cache, on the thread that
-// it is on. Both may be done on any thread where values may be shared and sent.
+// SAFETY: a handle gives shared access to its value, and dropping it may drop values of the cache.
+// Both are sound on any thread if values are `Sync` and `Send`.
 unsafe impl<K: Key + ?Sized, V: Send + Sync> Send for CacheHandle<'_, K, V> {}
 
-// SAFETY: a shared handle lends its value, no more.
+// SAFETY: a shared handle gives shared access to its value only.
 unsafe impl<K: Key + ?Sized, V: Send + Sync> Sync for CacheHandle<'_, K, V> {}
 
 impl<K: Key + ?Sized, V> CacheHandle<'_, K, V> {
     /// The value.
     pub fn value(&self) -> &V {
-        // SAFETY: the entry is ready and this handle has a pin of it, so the cache neither drops
-        // the value nor lends it for writing before the handle is dropped.
+        // SAFETY: the handle has a pin of the entry, so the value is not dropped before the handle
+        // is. Nothing has mutable access to a value in the cache.
         unsafe { self.value.as_ref() }
     }
 }

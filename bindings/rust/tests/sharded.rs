@@ -1,4 +1,4 @@
-//! What a program may rely on, at the cache in shards.
+//! Tests the cache of several shards.
 
 use std::hash::{BuildHasher, BuildHasherDefault, DefaultHasher, Hasher};
 use std::num::NonZeroUsize;
@@ -8,7 +8,7 @@ use std::thread;
 use concurrent_lru_proved::sharded::LruCache;
 use concurrent_lru_proved::{GetError, Refusal};
 
-/// Numbers a `u64` by itself.
+/// The hash of a `u64` is the number itself.
 #[derive(Clone, Copy, Default)]
 struct Itself(u64);
 
@@ -112,7 +112,7 @@ fn totals_of_shards_never_wrap() -> Result<(), Refusal> {
     Ok(())
 }
 
-/// Adds its charge where it is dropped.
+/// Adds its charge when it is dropped.
 struct Counted<'a> {
     charge: u64,
     dropped: &'a AtomicU64,

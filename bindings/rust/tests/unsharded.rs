@@ -1,4 +1,4 @@
-//! What a program may rely on, at the cache of one lock.
+//! Tests the cache behind one lock.
 
 use std::sync::atomic::{AtomicU64, Ordering};
 use std::sync::{Arc, Barrier, Mutex};
@@ -40,7 +40,7 @@ fn advice_evict_takes_only_what_no_handle_has() -> Result<(), Refusal> {
     Ok(())
 }
 
-/// Writes its number down where it is dropped.
+/// Records its number when it is dropped.
 struct Recorded {
     number: u32,
     dropped: Arc<Mutex<Vec<u32>>>,
@@ -52,7 +52,7 @@ impl Drop for Recorded {
     }
 }
 
-/// A cache of capacity 2, and what was dropped.
+/// A cache of capacity 2, and the values that were dropped.
 struct Recording {
     cache: LruCache<u32, Recorded>,
     dropped: Arc<Mutex<Vec<u32>>>,
@@ -141,7 +141,7 @@ fn a_panic_in_a_making_leaves_nothing() -> Result<(), Refusal> {
     Ok(())
 }
 
-/// Takes long to make and long to drop.
+/// Takes long to make and to drop.
 struct Slow;
 
 const LONG: Duration = Duration::from_millis(500);
@@ -193,7 +193,7 @@ fn other_keys_are_served_while_a_value_is_made_and_dropped() -> Result<(), Refus
                 None
             })
         });
-        // The other thread cannot go on before this one has been served.
+        // The other thread cannot continue before these calls have returned.
         making.wait();
         assert!(cache.get(&2).is_ok_and(|handle| handle.is_none()));
         assert!(cache.get_or_init(&3, 1, |_| None).is_ok());
@@ -210,7 +210,8 @@ fn one_that_waits_takes_a_failed_making_over() -> Result<(), Refusal> {
         let failing = scope.spawn(|| {
             let failed = cache.get_or_try_init(&1, 1, |_| {
                 making.wait();
-                // Time for the other to wait; where it comes later, it makes the value all the same.
+                // Gives the other thread time to wait. If it comes later, it makes the value all
+                // the same.
                 thread::sleep(Duration::from_millis(50));
                 Err("no value")
             });
@@ -322,7 +323,7 @@ fn a_drop_may_call_the_cache() -> Result<(), Refusal> {
         })?;
     }
     cache.prune();
-    // Each was dropped, and the lock was free for its call.
+    // Each of the four was dropped, and its drop could lock the cache.
     assert!(total.load(Ordering::Relaxed) >= 4);
     assert_eq!(cache.total_charge(), 0);
     Ok(())
@@ -353,13 +354,13 @@ fn a_panicking_drop_loses_no_other() -> Result<(), Refusal> {
     let caught = thread::scope(|scope| scope.spawn(|| cache.prune()).join());
     assert!(caught.is_err());
     assert_eq!(*dropped.lock().unwrap(), [1, 2, 3]);
-    // The cache serves on.
+    // The cache still works.
     assert_eq!(cache.total_charge(), 0);
     assert!(cache.get(&1)?.is_none());
     Ok(())
 }
 
-/// Adds its charge where it is dropped.
+/// Adds its charge when it is dropped.
 struct Counted<'a> {
     charge: u64,
     dropped: &'a AtomicU64,
@@ -468,7 +469,10 @@ fn caches_and_handles_cross_threads() -> Result<(), Refusal> {
 #[test]
 fn errors_say_what_happened() {
     let told = |error: &dyn std::error::Error| error.to_string();
-    assert_eq!(told(&Refusal::Memory), "the cache got no memory");
+    assert_eq!(
+        told(&Refusal::Memory),
+        "the cache could not allocate memory"
+    );
     assert_eq!(
         told(&GetError::Init(std::fmt::Error)),
         "the value could not be made"
