@@ -213,7 +213,8 @@ int main(int argc, char** argv) {
     return 2;
   }
   const char* const names[] = {"LevelDB's own", "C, words",           "C, bytes",
-                               "C++, words",    "C++, words, shards", "leveldb_cache.h"};
+                               "C++, words",    "C++, words, shards", "LevelDBBlockCache",
+                               "LevelDBCache"};
   constexpr std::size_t kCaches = sizeof names / sizeof *names;
   for (const std::uint64_t entries : {std::uint64_t{1000}, std::uint64_t{100000}}) {
     Times times[kCaches];
@@ -229,8 +230,10 @@ int main(int argc, char** argv) {
               &times[3]);
       Measure(std::make_unique<Classes<lru::ShardedCache<Nothing, lru::Words>>>(capacity), entries,
               calls, &times[4]);
-      Measure(std::make_unique<LevelDBs>(lru::NewLevelDBCache(capacity)), entries, calls,
+      Measure(std::make_unique<LevelDBs>(lru::NewLevelDBBlockCache(capacity)), entries, calls,
               &times[5]);
+      Measure(std::make_unique<LevelDBs>(lru::NewLevelDBCache(capacity)), entries, calls,
+              &times[6]);
     }
     std::printf("%llu entries, nanoseconds of processor time a call (ratio to LevelDB's)\n",
                 static_cast<unsigned long long>(entries));

@@ -1,7 +1,10 @@
 // A leveldb::Cache built on the proved library of lru.h, to be used like leveldb::NewLRUCache:
 //
 //   leveldb::Options options;
-//   options.block_cache = lru::NewLevelDBCache(8 << 20);
+//   options.block_cache = lru::NewLevelDBBlockCache(8 << 20);
+//
+// LevelDB's block cache has keys of 16 bytes, and LevelDBBlockCache caches only such keys: it
+// stores them as two words, which is faster. LevelDBCache caches keys of any length.
 //
 // Like LevelDB's own cache it has 16 shards, each with a mutex, and both choose the same shard for
 // a key. It differs from LevelDB's own cache in these points:
@@ -39,6 +42,7 @@
 #include <mutex>
 #include <new>
 #include <string_view>
+#include <type_traits>
 
 #include "leveldb/cache.h"
 #include "leveldb/slice.h"
@@ -46,16 +50,18 @@
 
 namespace lru {
 
-class LevelDBCache : public leveldb::Cache {
+// `Key` is how the library stores keys: std::string_view or Words.
+template <class Key>
+class BasicLevelDBCache : public leveldb::Cache {
  public:
   // The cache may be used only if ok().
-  explicit LevelDBCache(std::size_t capacity) {
+  explicit BasicLevelDBCache(std::size_t capacity) {
     const std::size_t share = capacity / kShards + (capacity % kShards != 0);
     for (std::size_t i = 0; i < kShards; i++) shards_.emplace_back(share);
   }
 
-  LevelDBCache(const LevelDBCache&) = delete;
-  LevelDBCache& operator=(const LevelDBCache&) = delete;
+  BasicLevelDBCache(const BasicLevelDBCache&) = delete;
+  BasicLevelDBCache& operator=(const BasicLevelDBCache&) = delete;
 
   // Whether the constructor could allocate the memory.
   bool ok() const {
@@ -68,14 +74,15 @@ class LevelDBCache : public leveldb::Cache {
   Handle* Insert(const leveldb::Slice& key, void* value, std::size_t charge,
                  void (*deleter)(const leveldb::Slice& key, void* value)) override {
     Entry* entry = Entry::New(key, value, deleter);
+    if (!CanStore(key)) return reinterpret_cast<Handle*>(entry);
     const std::uint64_t weight = charge == 0 ? 1 : charge;
     Shard& shard = ShardOf(key);
     Evicted evicted;
     const std::lock_guard<std::mutex> lock(shard.mutex);
-    lru_told told = shard.core.begin(View(key), weight, &evicted);
+    lru_told told = shard.core.begin(Stored(key), weight, &evicted);
     if (told.code == LRU_HIT) {
       shard.Forget(key, told, &evicted);
-      told = shard.core.begin(View(key), weight, &evicted);
+      told = shard.core.begin(Stored(key), weight, &evicted);
       // The old entry is still pinned: this one is not cached.
       if (told.code == LRU_HIT) shard.core.release(told.stamp, &evicted);
     }
@@ -88,10 +95,11 @@ class LevelDBCache : public leveldb::Cache {
   }
 
   Handle* Lookup(const leveldb::Slice& key) override {
+    if (!CanStore(key)) return nullptr;
     Shard& shard = ShardOf(key);
     Evicted evicted;
     const std::lock_guard<std::mutex> lock(shard.mutex);
-    const lru_told told = shard.core.get(View(key));
+    const lru_told told = shard.core.get(Stored(key));
     if (told.code != LRU_HIT) return nullptr;
     Entry* entry = Core::node_of(told.value);
     if (!entry->erased) return reinterpret_cast<Handle*>(entry);
@@ -111,16 +119,17 @@ class LevelDBCache : public leveldb::Cache {
     shard.core.release(entry->stamp, &evicted);
     // Whatever was evicted is deleted at the end of this function, so `entry` is still valid. An
     // erased entry that is idle now leaves at once.
-    if (entry->erased) shard.core.advice_evict(View(entry->key()), &evicted);
+    if (entry->erased) shard.core.advice_evict(Stored(entry->key()), &evicted);
   }
 
   void* Value(Handle* handle) override { return reinterpret_cast<Entry*>(handle)->value; }
 
   void Erase(const leveldb::Slice& key) override {
+    if (!CanStore(key)) return;
     Shard& shard = ShardOf(key);
     Evicted evicted;
     const std::lock_guard<std::mutex> lock(shard.mutex);
-    const lru_told told = shard.core.get(View(key));
+    const lru_told told = shard.core.get(Stored(key));
     if (told.code == LRU_HIT) shard.Forget(key, told, &evicted);
   }
 
@@ -179,7 +188,7 @@ class LevelDBCache : public leveldb::Cache {
     }
   };
 
-  using Core = detail::Core<Entry, std::string_view>;
+  using Core = detail::Core<Entry, Key>;
   // Always declared before the mutex is locked: it is destroyed, and deleters run, after the mutex
   // is unlocked.
   using Evicted = detail::Evicted<Entry>;
@@ -191,15 +200,25 @@ class LevelDBCache : public leveldb::Cache {
     void Forget(const leveldb::Slice& key, const lru_told& found, Evicted* evicted) {
       Core::node_of(found.value)->erased = true;
       core.release(found.stamp, evicted);
-      core.advice_evict(View(key), evicted);
+      core.advice_evict(Stored(key), evicted);
     }
 
     mutable std::mutex mutex;
     Core core;
   };
 
-  static std::string_view View(const leveldb::Slice& key) {
-    return std::string_view(key.data(), key.size());
+  // A key of LevelDB as the library stores it, if it can.
+  static bool CanStore(const leveldb::Slice& key) {
+    return !std::is_same_v<Key, Words> || key.size() == sizeof(Words);
+  }
+  static Key Stored(const leveldb::Slice& key) {
+    if constexpr (std::is_same_v<Key, Words>) {
+      Words words;
+      std::memcpy(&words, key.data(), sizeof words);
+      return words;
+    } else {
+      return Key(key.data(), key.size());
+    }
   }
 
   // The hash function of LevelDB's own cache, so that both choose the same shards.
@@ -230,13 +249,29 @@ class LevelDBCache : public leveldb::Cache {
   std::atomic<std::uint64_t> last_id_{0};
 };
 
-// A cache with the given capacity. The caller deletes it after the last database that uses it.
-// Returns null if there is no memory for it.
-inline leveldb::Cache* NewLevelDBCache(std::size_t capacity) {
-  auto* cache = new LevelDBCache(capacity);
+using LevelDBCache = BasicLevelDBCache<std::string_view>;
+using LevelDBBlockCache = BasicLevelDBCache<Words>;
+
+namespace detail {
+
+template <class Cache>
+leveldb::Cache* NewIfOk(std::size_t capacity) {
+  auto* cache = new Cache(capacity);
   if (cache->ok()) return cache;
   delete cache;
   return nullptr;
+}
+
+}  // namespace detail
+
+// A cache with the given capacity, or null if there is no memory for it. The caller deletes it
+// after the last database that uses it.
+inline leveldb::Cache* NewLevelDBCache(std::size_t capacity) {
+  return detail::NewIfOk<LevelDBCache>(capacity);
+}
+
+inline leveldb::Cache* NewLevelDBBlockCache(std::size_t capacity) {
+  return detail::NewIfOk<LevelDBBlockCache>(capacity);
 }
 
 }  // namespace lru

@@ -143,30 +143,21 @@ Outcome Read(const std::string& path, leveldb::Cache* cache) {
   return outcome;
 }
 
-bool Compare(const std::string& path, std::size_t capacity) {
-  const Outcome own = Read(path, leveldb::NewLRUCache(capacity));
-  const Outcome proved = Read(path, lru::NewLevelDBCache(capacity));
-  const bool equal = own.answers == proved.answers && own.lookups == proved.lookups &&
-                     own.hits == proved.hits && own.inserts == proved.inserts &&
-                     own.total_charge == proved.total_charge;
-  // If there were only hits, or only misses, equal numbers would mean nothing.
-  const bool telling = proved.hits > 0 && proved.inserts > 0;
-  const bool good = equal && telling && own.wrong == 0 && proved.wrong == 0;
-  const auto number = [](std::uint64_t n) { return static_cast<unsigned long long>(n); };
-  std::printf("leveldb, %zu KiB: %llu of %llu look-ups hit, %llu inserts, charge %zu",
-              capacity >> 10, number(proved.hits), number(proved.lookups), number(proved.inserts),
-              proved.total_charge);
-  if (good) {
-    std::printf(", as LevelDB's own cache\n");
-  } else {
-    std::printf(
-        "; LevelDB's own: %llu of %llu, %llu inserts, charge %zu; answers %s, %llu and %llu "
-        "wrong\n",
-        number(own.hits), number(own.lookups), number(own.inserts), own.total_charge,
-        own.answers == proved.answers ? "equal" : "not equal", number(proved.wrong),
-        number(own.wrong));
-  }
-  return good;
+unsigned long long Number(std::uint64_t n) { return n; }
+
+void Print(const char* name, const Outcome& outcome) {
+  std::printf("  %-18s %llu of %llu look-ups hit, %llu insertions, charge %zu, %llu wrong\n", name,
+              Number(outcome.hits), Number(outcome.lookups), Number(outcome.inserts),
+              outcome.total_charge, Number(outcome.wrong));
+}
+
+// Whether a cache gave what LevelDB's own gave. If there were only hits, or only misses, equal
+// numbers would mean nothing.
+bool IsAs(const Outcome& own, const Outcome& proved) {
+  return own.answers == proved.answers && own.lookups == proved.lookups &&
+         own.hits == proved.hits && own.inserts == proved.inserts &&
+         own.total_charge == proved.total_charge && own.wrong == 0 && proved.wrong == 0 &&
+         proved.hits > 0 && proved.inserts > 0;
 }
 
 }  // namespace
@@ -179,9 +170,25 @@ int main(int argc, char** argv) {
   const std::string path = argv[1];
   Fill(path);
   bool good = true;
-  for (const std::size_t capacity :
-       {std::size_t{256} << 10, std::size_t{1} << 20, std::size_t{8} << 20}) {
-    good = Compare(path, capacity) && good;
+  std::string hits;
+  for (const std::size_t kibibytes : {256, 1024, 8192}) {
+    const std::size_t capacity = kibibytes << 10;
+    const Outcome own = Read(path, leveldb::NewLRUCache(capacity));
+    const Outcome blocks = Read(path, lru::NewLevelDBBlockCache(capacity));
+    const Outcome any = Read(path, lru::NewLevelDBCache(capacity));
+    if (!IsAs(own, blocks) || !IsAs(own, any)) {
+      good = false;
+      std::printf("%zu KiB: the answers of LevelDBBlockCache are %s, of LevelDBCache %s\n",
+                  kibibytes, own.answers == blocks.answers ? "equal" : "not equal",
+                  own.answers == any.answers ? "equal" : "not equal");
+      Print("LevelDB's own:", own);
+      Print("LevelDBBlockCache:", blocks);
+      Print("LevelDBCache:", any);
+    }
+    if (!hits.empty()) hits += ", ";
+    hits += std::to_string(own.hits) + " at " + std::to_string(kibibytes) + " KiB";
   }
+  std::printf("leveldb: %llu keys, %llu reads and a scan; hits %s: %s\n", Number(kKeys),
+              Number(kReads), hits.c_str(), good ? "equal to LevelDB's own cache" : "NOT EQUAL");
   return good ? 0 : 1;
 }

@@ -6,9 +6,11 @@
 #include <cstdint>
 #include <cstdio>
 #include <cstring>
+#include <functional>
 #include <memory>
 #include <string>
 #include <thread>
+#include <utility>
 #include <vector>
 
 #include "check.hpp"
@@ -19,170 +21,211 @@ namespace {
 using leveldb::Slice;
 using Handle = leveldb::Cache::Handle;
 
-// The objects deleted since the last call of Deleted(), each as "key=value ".
-std::string deleted;
+// A cache, with keys of 16 bytes if it needs them: short names are padded by zeros.
+class Tested {
+ public:
+  Tested(leveldb::Cache* cache, bool pads) : cache_(cache), pads_(pads) {}
 
-void Delete(const Slice& key, void* value) {
-  deleted += key.ToString() + "=" + *static_cast<std::string*>(value) + " ";
-  delete static_cast<std::string*>(value);
-}
+  leveldb::Cache* operator->() const { return cache_.get(); }
 
-std::string Deleted() { return std::exchange(deleted, ""); }
+  std::string Key(std::string name) const {
+    if (pads_) name.resize(16);
+    return name;
+  }
 
-Handle* Insert(leveldb::Cache* cache, const std::string& key, const std::string& value,
-               std::size_t charge = 1) {
-  return cache->Insert(key, new std::string(value), charge, Delete);
-}
+  Handle* Insert(const std::string& name, const std::string& value, std::size_t charge = 1) const {
+    return cache_->Insert(Key(name), new std::string(value), charge, Delete);
+  }
 
-void Put(leveldb::Cache* cache, const std::string& key, const std::string& value,
-         std::size_t charge = 1) {
-  cache->Release(Insert(cache, key, value, charge));
-}
+  void Put(const std::string& name, const std::string& value, std::size_t charge = 1) const {
+    cache_->Release(Insert(name, value, charge));
+  }
 
-std::string ValueOf(leveldb::Cache* cache, Handle* handle) {
-  return *static_cast<std::string*>(cache->Value(handle));
-}
+  Handle* Lookup(const std::string& name) const { return cache_->Lookup(Key(name)); }
 
-// The value of a key, or "none".
-std::string Get(leveldb::Cache* cache, const std::string& key) {
-  Handle* handle = cache->Lookup(key);
-  if (handle == nullptr) return "none";
-  const std::string value = ValueOf(cache, handle);
-  cache->Release(handle);
-  return value;
-}
+  void Erase(const std::string& name) const { cache_->Erase(Key(name)); }
 
-using NewCache = leveldb::Cache* (*)(std::size_t);
+  std::string ValueOf(Handle* handle) const {
+    return *static_cast<std::string*>(cache_->Value(handle));
+  }
 
-// Tests that both caches pass.
+  // The value of a key, or "none".
+  std::string Get(const std::string& name) const {
+    Handle* handle = Lookup(name);
+    if (handle == nullptr) return "none";
+    std::string value = ValueOf(handle);
+    cache_->Release(handle);
+    return value;
+  }
+
+  // The objects deleted since the last call, each as "key=value ".
+  static std::string Deleted() { return std::exchange(deleted_, ""); }
+
+ private:
+  static void Delete(const Slice& key, void* value) {
+    // Without the padding.
+    deleted_ += key.ToString().c_str() + ("=" + *static_cast<std::string*>(value)) + " ";
+    delete static_cast<std::string*>(value);
+  }
+
+  static inline std::string deleted_;
+
+  std::unique_ptr<leveldb::Cache> cache_;
+  bool pads_;
+};
+
+using NewCache = Tested (*)(std::size_t);
+
+Tested Own(std::size_t capacity) { return Tested(leveldb::NewLRUCache(capacity), false); }
+Tested Any(std::size_t capacity) { return Tested(lru::NewLevelDBCache(capacity), false); }
+Tested Blocks(std::size_t capacity) { return Tested(lru::NewLevelDBBlockCache(capacity), true); }
+
+// Tests that LevelDB's own cache passes too.
+
 void HitsAndMisses(NewCache new_cache) {
-  const std::unique_ptr<leveldb::Cache> cache(new_cache(1000));
-  CHECK(Get(cache.get(), "a") == "none");
-  Put(cache.get(), "a", "1");
-  Put(cache.get(), "", "empty");
-  Put(cache.get(), "a key that is longer than the others", "2", 5);
-  CHECK(Get(cache.get(), "a") == "1" && Get(cache.get(), "") == "empty");
-  CHECK(Get(cache.get(), "a key that is longer than the others") == "2");
+  const Tested cache = new_cache(1000);
+  CHECK(cache.Get("a") == "none");
+  cache.Put("a", "1");
+  cache.Put("", "empty");
+  cache.Put("a longer key", "2", 5);
+  CHECK(cache.Get("a") == "1" && cache.Get("") == "empty" && cache.Get("a longer key") == "2");
   CHECK(cache->TotalCharge() == 7);
-  Put(cache.get(), "a", "3");
-  CHECK(Get(cache.get(), "a") == "3" && Deleted() == "a=1 ");
+  cache.Put("a", "3");
+  CHECK(cache.Get("a") == "3" && cache.Deleted() == "a=1 ");
   CHECK(cache->TotalCharge() == 7);
-  cache->Erase("a");
-  cache->Erase("a");
-  CHECK(Get(cache.get(), "a") == "none" && Deleted() == "a=3 ");
+  cache.Erase("a");
+  cache.Erase("a");
+  CHECK(cache.Get("a") == "none" && cache.Deleted() == "a=3 ");
   const std::uint64_t id = cache->NewId();
   CHECK(cache->NewId() != id);
-  Handle* held = cache->Lookup("");
+  Handle* held = cache.Lookup("");
   cache->Prune();
-  CHECK(Deleted() == "a key that is longer than the others=2 ");
-  CHECK(ValueOf(cache.get(), held) == "empty" && cache->TotalCharge() == 1);
+  CHECK(cache.Deleted() == "a longer key=2 ");
+  CHECK(cache.ValueOf(held) == "empty" && cache->TotalCharge() == 1);
   cache->Release(held);
-  CHECK(Get(cache.get(), "") == "empty");
+  CHECK(cache.Get("") == "empty");
 }
 
 void EvictsByLastRelease(NewCache new_cache) {
-  const std::unique_ptr<leveldb::Cache> cache(new_cache(1600));
-  Put(cache.get(), "first", "1");
-  Put(cache.get(), "used", "2");
-  Handle* held = Insert(cache.get(), "held", "3");
+  const Tested cache = new_cache(1600);
+  cache.Put("first", "1");
+  cache.Put("used", "2");
+  Handle* held = cache.Insert("held", "3");
   for (int n = 0; n < 3000; n++) {
-    Put(cache.get(), "key" + std::to_string(n), "x");
-    CHECK(Get(cache.get(), "used") == "2");
+    cache.Put("key" + std::to_string(n), "x");
+    CHECK(cache.Get("used") == "2");
   }
-  CHECK(Get(cache.get(), "first") == "none");
-  CHECK(ValueOf(cache.get(), held) == "3" && Get(cache.get(), "held") == "3");
+  CHECK(cache.Get("first") == "none");
+  CHECK(cache.ValueOf(held) == "3" && cache.Get("held") == "3");
   cache->Release(held);
-  deleted.clear();
 }
 
 void ErasesWhatIsHeld(NewCache new_cache) {
-  const std::unique_ptr<leveldb::Cache> cache(new_cache(1000));
-  Handle* one = Insert(cache.get(), "a", "1");
-  Handle* two = cache->Lookup("a");
-  cache->Erase("a");
-  CHECK(Get(cache.get(), "a") == "none" && Deleted().empty());
-  CHECK(ValueOf(cache.get(), one) == "1" && ValueOf(cache.get(), two) == "1");
+  const Tested cache = new_cache(1000);
+  Handle* one = cache.Insert("a", "1");
+  Handle* two = cache.Lookup("a");
+  cache.Erase("a");
+  CHECK(cache.Get("a") == "none" && cache.Deleted().empty());
+  CHECK(cache.ValueOf(one) == "1" && cache.ValueOf(two) == "1");
   cache->Release(one);
-  CHECK(Deleted().empty());
+  CHECK(cache.Deleted().empty());
   cache->Release(two);
-  CHECK(Deleted() == "a=1 " && cache->TotalCharge() == 0);
-  Put(cache.get(), "a", "2");
-  CHECK(Get(cache.get(), "a") == "2");
+  CHECK(cache.Deleted() == "a=1 " && cache->TotalCharge() == 0);
+  cache.Put("a", "2");
+  CHECK(cache.Get("a") == "2");
 }
 
-// After an insertion over a pinned entry the old one is not found.
 void ReplacesWhatIsHeld(NewCache new_cache) {
-  const std::unique_ptr<leveldb::Cache> cache(new_cache(1000));
-  Handle* old = Insert(cache.get(), "a", "1");
-  Handle* fresh = Insert(cache.get(), "a", "2");
-  CHECK(ValueOf(cache.get(), old) == "1" && ValueOf(cache.get(), fresh) == "2");
-  CHECK(Get(cache.get(), "a") != "1");
+  const Tested cache = new_cache(1000);
+  Handle* old = cache.Insert("a", "1");
+  Handle* fresh = cache.Insert("a", "2");
+  CHECK(cache.ValueOf(old) == "1" && cache.ValueOf(fresh) == "2");
+  CHECK(cache.Get("a") != "1");
   cache->Release(old);
-  CHECK(Deleted() == "a=1 " && Get(cache.get(), "a") != "1");
+  CHECK(cache.Deleted() == "a=1 " && cache.Get("a") != "1");
   cache->Release(fresh);
-}
-
-void Same(NewCache new_cache) {
-  for (const auto test :
-       {HitsAndMisses, EvictsByLastRelease, ErasesWhatIsHeld, ReplacesWhatIsHeld}) {
-    test(new_cache);
-    deleted.clear();
-  }
 }
 
 // Tests for this cache only.
 
-void KeepsNoSecondEntryOfAKey() {
-  const std::unique_ptr<leveldb::Cache> cache(lru::NewLevelDBCache(1000));
-  Handle* old = Insert(cache.get(), "a", "1", 3);
-  Handle* fresh = Insert(cache.get(), "a", "2", 4);
-  CHECK(Get(cache.get(), "a") == "none" && cache->TotalCharge() == 3);
+void KeepsNoSecondEntryOfAKey(NewCache new_cache) {
+  const Tested cache = new_cache(1000);
+  Handle* old = cache.Insert("a", "1", 3);
+  Handle* fresh = cache.Insert("a", "2", 4);
+  CHECK(cache.Get("a") == "none" && cache->TotalCharge() == 3);
   cache->Release(fresh);
-  CHECK(Deleted() == "a=2 ");
-  Put(cache.get(), "a", "3", 5);
-  CHECK(Deleted() == "a=3 " && cache->TotalCharge() == 3);
+  CHECK(cache.Deleted() == "a=2 ");
+  cache.Put("a", "3", 5);
+  CHECK(cache.Deleted() == "a=3 " && cache->TotalCharge() == 3);
   cache->Release(old);
-  CHECK(Deleted() == "a=1 " && cache->TotalCharge() == 0);
-  Put(cache.get(), "a", "4", 5);
-  CHECK(Get(cache.get(), "a") == "4" && cache->TotalCharge() == 5);
+  CHECK(cache.Deleted() == "a=1 " && cache->TotalCharge() == 0);
+  cache.Put("a", "4", 5);
+  CHECK(cache.Get("a") == "4" && cache->TotalCharge() == 5);
 }
 
-void EvictsAtReleases() {
-  const std::unique_ptr<leveldb::Cache> cache(lru::NewLevelDBCache(16));
-  Handle* large = Insert(cache.get(), "a", "1", 100);
-  CHECK(Get(cache.get(), "a") == "1" && cache->TotalCharge() == 100);
+void EvictsAtReleases(NewCache new_cache) {
+  const Tested cache = new_cache(16);
+  Handle* large = cache.Insert("a", "1", 100);
+  CHECK(cache.Get("a") == "1" && cache->TotalCharge() == 100);
   cache->Release(large);
-  CHECK(Deleted() == "a=1 " && cache->TotalCharge() == 0);
-  Put(cache.get(), "b", "2", 0);
+  CHECK(cache.Deleted() == "a=1 " && cache->TotalCharge() == 0);
+  cache.Put("b", "2", 0);
   CHECK(cache->TotalCharge() == 1);
 }
 
-void DeletesWhatIsLeft() {
+void DeletesWhatIsLeft(NewCache new_cache) {
   {
-    const std::unique_ptr<leveldb::Cache> cache(lru::NewLevelDBCache(1000));
-    Put(cache.get(), "a", "1");
-    Insert(cache.get(), "b", "2");
+    const Tested cache = new_cache(1000);
+    cache.Put("a", "1");
+    cache.Insert("b", "2");
   }
-  const std::string all = Deleted();
+  const std::string all = Tested::Deleted();
   CHECK(all == "a=1 b=2 " || all == "b=2 a=1 ");
 }
 
 // Deleters run without the mutex, so they may call the cache.
-leveldb::Cache* called = nullptr;
-
-void DeleteAndCall(const Slice& key, void*) {
-  deleted += key.ToString();
-  called->Erase("b");
-  called->TotalCharge();
+void DeletersMayCall(NewCache new_cache) {
+  struct Caller {
+    const Tested* cache;
+    int calls;
+  };
+  const Tested cache = new_cache(1000);
+  Caller caller = {&cache, 0};
+  const auto call = [](const Slice&, void* value) {
+    auto* c = static_cast<Caller*>(value);
+    c->cache->Erase("b");
+    c->calls += (*c->cache)->TotalCharge() == 0;
+  };
+  cache->Release(cache->Insert(cache.Key("a"), &caller, 1, call));
+  cache.Put("b", "1");
+  cache.Erase("a");
+  CHECK(caller.calls == 1 && cache.Deleted() == "b=1 ");
 }
 
-void DeletersMayCall() {
-  const std::unique_ptr<leveldb::Cache> cache(lru::NewLevelDBCache(1000));
-  called = cache.get();
-  cache->Release(cache->Insert("a", nullptr, 1, DeleteAndCall));
-  Put(cache.get(), "b", "1");
-  cache->Erase("a");
-  CHECK(Deleted() == "ab=1 ");
+// A cache of blocks returns entries of other keys, and does not cache them.
+void CachesBlocksOnly() {
+  const Tested cache(lru::NewLevelDBBlockCache(1000), false);
+  Handle* handle = cache.Insert("a", "1");
+  CHECK(cache.ValueOf(handle) == "1" && cache.Get("a") == "none" && cache->TotalCharge() == 0);
+  cache.Erase("a");
+  cache->Release(handle);
+  CHECK(cache.Deleted() == "a=1 ");
+}
+
+void Common(NewCache new_cache) {
+  for (const auto test :
+       {HitsAndMisses, EvictsByLastRelease, ErasesWhatIsHeld, ReplacesWhatIsHeld}) {
+    test(new_cache);
+    Tested::Deleted();
+  }
+}
+
+void Differences(NewCache new_cache) {
+  for (const auto test :
+       {KeepsNoSecondEntryOfAKey, EvictsAtReleases, DeletesWhatIsLeft, DeletersMayCall}) {
+    test(new_cache);
+    Tested::Deleted();
+  }
 }
 
 // Threads: each object is deleted once, by its own deleter, and not while it is pinned.
@@ -209,13 +252,14 @@ void DeleteObject(const Slice& key, void* value) {
   delete object;
 }
 
-void Calls(leveldb::Cache* cache, std::uint64_t seed) {
+void Calls(const Tested& cache, std::uint64_t seed) {
   std::uint64_t random = seed * 0x9e3779b97f4a7c15u;
   Handle* held[4] = {};
   for (int call = 0; call < kCalls; call++) {
     random = random * 6364136223846793005u + 1442695040888963407u;
     const std::uint64_t n = (random >> 33) % 200;
-    const Slice key(reinterpret_cast<const char*>(&n), sizeof n);
+    const std::uint64_t words[2] = {n, n};
+    const Slice key(reinterpret_cast<const char*>(words), sizeof words);
     Handle*& slot = held[(random >> 41) % 4];
     if (slot != nullptr) cache->Release(std::exchange(slot, nullptr));
     const std::uint64_t kind = (random >> 44) % 64;
@@ -236,12 +280,12 @@ void Calls(leveldb::Cache* cache, std::uint64_t seed) {
   }
 }
 
-void Threads(int count) {
+void Threads(NewCache new_cache, int count) {
   {
-    const std::unique_ptr<leveldb::Cache> cache(lru::NewLevelDBCache(64));
+    const Tested cache = new_cache(64);
     std::vector<std::thread> threads;
     for (int t = 1; t <= count; t++) {
-      threads.emplace_back(Calls, cache.get(), static_cast<std::uint64_t>(t));
+      threads.emplace_back(Calls, std::cref(cache), static_cast<std::uint64_t>(t));
     }
     for (std::thread& thread : threads) thread.join();
     CHECK(cache->TotalCharge() <= 64 && alive > 0);
@@ -254,16 +298,15 @@ void Threads(int count) {
 }  // namespace
 
 int main() {
-  Same(leveldb::NewLRUCache);
-  Same(lru::NewLevelDBCache);
-  for (const auto test :
-       {KeepsNoSecondEntryOfAKey, EvictsAtReleases, DeletesWhatIsLeft, DeletersMayCall}) {
-    test();
-    deleted.clear();
+  Common(Own);
+  for (const NewCache new_cache : {Any, Blocks}) {
+    Common(new_cache);
+    Differences(new_cache);
+    Threads(new_cache, 4);
+    Threads(new_cache, kThreads);
   }
-  Threads(4);
-  Threads(kThreads);
-  std::printf("leveldb_cache.h: as LevelDB's cache, and 4 and 8 threads, %d checks failed\n",
+  CachesBlocksOnly();
+  std::printf("leveldb_cache.h: both caches, with 1, 4 and 8 threads: %d checks failed\n",
               failed_checks);
   return failed_checks == 0 ? 0 : 1;
 }

@@ -32,7 +32,7 @@ int main(int argc, char** argv) {
     return 2;
   }
   // Declared first and destroyed last, as the database uses it.
-  const std::unique_ptr<leveldb::Cache> cache(lru::NewLevelDBCache(512 << 10));
+  const std::unique_ptr<leveldb::Cache> cache(lru::NewLevelDBBlockCache(512 << 10));
   if (cache == nullptr) return Fail(leveldb::Status::IOError("no memory for the cache"));
 
   leveldb::Options options;
