@@ -8,6 +8,7 @@ ghost use Rattle.concurrent_lru.specs.Keys.{CopiesAreEqual};
 ghost use Rattle.concurrent_lru.specs.Pins.{IsHandleFor, made_key, made_charge, awaited_key, awaited_charge};
 ghost use Rattle.concurrent_lru.specs.ThreadedCalls.{IsTurnFor, IfInit};
 
+pub use crate::counts::Counts;
 use crate::door::{Asleep, Door, Maker, Met};
 pub use crate::fit::{Anything, Fit};
 pub use crate::get_error::GetError;
@@ -287,6 +288,19 @@ impl<K: Hash + Eq + Clone + Drop, V: Drop, R: Wait, F: Fit<K, V>> LruCache<K, V,
     /// entry, which keeps its place in the order of eviction. Takes no memory.
     pub fn contains(&self, key: &K) -> bool {
         self.door.enter().contains(key)
+    }
+
+    /// What the calls of this cache did since it was made, or since `reset_counts`, as the lock was
+    /// got: so its counts add up to the entries and the charges of one moment. Takes no memory.
+    pub fn counts(&self) -> Counts {
+        self.door.enter().counts()
+    }
+
+    /// What `counts` answers; all counts are 0 afterwards, and the counting begins anew at the
+    /// entries that are there. No call is missed in between, and none is counted twice. Takes no
+    /// memory.
+    pub fn reset_counts(&self) -> Counts {
+        self.door.enter().reset_counts()
     }
 
     // The calls above, each with what was asked under the lock.
