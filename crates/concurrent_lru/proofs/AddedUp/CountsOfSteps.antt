@@ -1,5 +1,5 @@
 -- Counts that add up go on adding up: what each step makes of them.
-use Rattle.std.proofs.Common.{◌≡◌, ◌≢◌, ℕ, ◌+◌, ◌-◌, ◌*◌, ◌<◌, ◌≤◌, ◌^◌, inl, inr, Bool, true, false, cond, List, [], length, Option, Some, None, Result, Ok, Err, refl, sym, ap, ◌∙◌, subst, arith, eqb, ◌==◌}
+use Rattle.std.proofs.Common.{◌≡◌, ◌≢◌, ℕ, ◌+◌, ◌-◌, ◌*◌, ◌<◌, ◌≤◌, ◌^◌, inl, inr, Bool, true, false, cond, List, [], length, Option, Some, None, Result, Ok, Err, OnOk, OnErr, refl, sym, ap, ◌∙◌, subst, arith, eqb, ◌==◌}
 use Rattle.std.specs.Option.{option_map_or}
 use Rattle.std.specs.List.{sum_by}
 use Rattle.std.specs.Ordering.{nat_cmp}
@@ -7,10 +7,11 @@ use Rattle.std.specs.FinMap.{values, empty}
 use Rattle.std.proofs.lemmas.Bool.{eqb-true, eq-eqb, true≢false}
 use Rattle.std.specs.declared.sync.Arc.{Arc}
 use Rattle.std.specs.declared.alloc.Global.{Global}
-use Rattle.concurrent_lru.specs.Results.{outcome_of_begin, outcome_of_get, outcome_of_poll}
+use Rattle.concurrent_lru.specs.Results.{outcome_of_begin, outcome_of_get, outcome_of_poll, outcome_of_ready}
+use Rattle.concurrent_lru.specs.Ready.{HasEqualKeyAt}
 use Rattle.concurrent_lru.specs.declared.step.Begun.{Begun}
 use Rattle.concurrent_lru.specs.declared.step.Begun.TheVariants as begun
-use Rattle.concurrent_lru.specs.Cache.{Cache, Idle, Held, IsLawful, held_at, charges, count_of, sum_of, empty_cache, ready, making, untaken}
+use Rattle.concurrent_lru.specs.Cache.{Cache, Idle, Held, IsLawful, held_at, charges, count_of, sum_of, empty_cache, most_pins_by_default, ready, making, untaken}
 use Rattle.concurrent_lru.specs.CountedCalls.{AddUp, IsSoundlyCounted, counted, counted_begin, counted_look, counted_poll, evicted, held_charge, is_insertion}
 use Rattle.concurrent_lru.specs.Counts.{counts_from, end_of_u64, inserted, one_failure, one_more, one_making, one_miss, removed}
 use Rattle.concurrent_lru.specs.Reads.{Reads}
@@ -255,6 +256,16 @@ module _ {K V : Type 0} where
       lawful = lawful;
       adds_up = subst (AddUp new) (sym is) (read_adds_up old new n k answers result sound.lawful sound.adds_up reads);
     }
+
+    pub soundly_readied : (old new : Cache K V) (n : Counts) (s : ℕ) (k : K) (v : V) (r : Result (Unit {0}) (Arc V Global)) → IsSoundlyCounted E old n → IsLawful E new → OnOk r (HasEqualKeyAt E old s k) → OnErr r (new ≡ old)
+        → (HasEqualKeyAt E old s k → Stands E old (ask.ready s v) (outcome_of_ready r) new) → IsSoundlyCounted E new n
+    soundly_readied old new n s k v (Ok x) sound lawful keyed same stands = soundly_counted old new n n (ask.ready s v) (accepted say.done []) sound (stands keyed) lawful refl
+    soundly_readied old new n s k v (Err a) sound lawful keyed same stands = subst (λ c. IsSoundlyCounted E c n) (sym same) sound
+
+    pub soundly_empty : (c : Cache K V) (n : Counts) (capacity : ℕ) → c ≡ empty_cache capacity most_pins_by_default 0 → n ≡ counts_from 0 0 → IsSoundlyCounted E c n
+    soundly_empty c n capacity is_empty is_none =
+        subst (λ m. IsSoundlyCounted E c m) (sym is_none)
+        (subst (λ d. IsSoundlyCounted E d (counts_from 0 0)) (sym is_empty) record { lawful = empty_lawful E capacity most_pins_by_default 0; adds_up = empty_adds_up capacity most_pins_by_default })
 
   -- the answers of the core's calls, and of those that count them
   pub get_counted : (c : Cache K V) (k : K) (r : Result (Option (ℕ × Arc V Global)) Refusal) (n : Counts) → counted_look r n ≡ counted c (ask.get k) (outcome_of_get r) n
