@@ -11,7 +11,7 @@ use Rattle.concurrent_lru.specs.Results.{outcome_of_begin, outcome_of_get, outco
 use Rattle.concurrent_lru.specs.Ready.{HasEqualKeyAt}
 use Rattle.concurrent_lru.specs.declared.step.Begun.{Begun}
 use Rattle.concurrent_lru.specs.declared.step.Begun.TheVariants as begun
-use Rattle.concurrent_lru.specs.Cache.{Cache, Idle, Held, IsLawful, held_at, charges, count_of, sum_of, empty_cache, most_pins_by_default, ready, making, untaken}
+use Rattle.concurrent_lru.specs.Cache.{Cache, Idle, Held, Settles, IsLawful, held_at, charges, count_of, sum_of, empty_cache, most_pins_by_default, ready, making, untaken}
 use Rattle.concurrent_lru.specs.CountedCalls.{AddUp, IsSoundlyCounted, counted, counted_begin, counted_look, counted_poll, evicted, held_charge, is_insertion}
 use Rattle.concurrent_lru.specs.Counts.{counts_from, end_of_u64, inserted, one_failure, one_more, one_making, one_miss, removed}
 use Rattle.concurrent_lru.specs.Reads.{Reads}
@@ -128,13 +128,32 @@ module _ {K V : Type 0} where
       let b : sum_of (empty_cache {K = K} {V = V} capacity most 0) ≡ 0 = empty_sum K V capacity most 0 in
       record { entries = omega (arith, a); charge = omega (arith, b); stamps = omega arith; entries_fit = omega arith; charge_fits = omega arith }
 
-  module _ {E : K → K → Bool} where
-    -- a begin that is to make a value: by its stamp, whether it inserted the entry
-    pub record Inserts (old : Cache K V) (charge s : ℕ) (out : List (Idle K V)) (new : Cache K V) : Type 0 where
-      pub sizes : Resizes old new 1 charge (length out) (charges out)
-      pub charge_fits : charge < 2 ^ 64
-      pub stamps : old.next + 1 < 2 ^ 64
+  -- a begin that is to make a value: by its stamp, whether it inserted the entry
+  pub record Inserts (old : Cache K V) (charge s : ℕ) (out : List (Idle K V)) (new : Cache K V) : Type 0 where
+    pub sizes : Resizes old new 1 charge (length out) (charges out)
+    pub charge_fits : charge < 2 ^ 64
+    pub stamps : old.next + 1 < 2 ^ 64
 
+  pub capacity_evicts : (old new : Cache K V) (m : ℕ) (out : List (Idle K V)) → Settles (with_capacity old m) out new → Evicts old out new
+  capacity_evicts old new m out h =
+      let s = settled_size (with_capacity old m) new out h in
+      record { entries = s.entries; charge = s.charge; next = s.next }
+
+  refusal_adds_up : (old : Cache K V) (n : Counts) (r : Request K V) (e : Refusal) → AddUp old n → AddUp old (counted old r (refused e) n)
+  refusal_adds_up old n (ask.begin k charge) e a = with_others old n n.hits n.misses n.waits (one_more n.refusals) n.makings n.failures a
+  refusal_adds_up old n (ask.get k) e a = with_others old n n.hits n.misses n.waits (one_more n.refusals) n.makings n.failures a
+  refusal_adds_up old n (ask.poll s) Memory a = with_others old n n.hits n.misses n.waits (one_more n.refusals) n.makings n.failures a
+  refusal_adds_up old n (ask.poll s) Overflow a = a
+  refusal_adds_up old n (ask.poll s) Stale a = a
+  refusal_adds_up old n (ask.ready s v) e a = a
+  refusal_adds_up old n (ask.fail s) e a = a
+  refusal_adds_up old n (ask.release s) e a = a
+  refusal_adds_up old n (ask.advice_evict k) e a = a
+  refusal_adds_up old n ask.prune e a = a
+  refusal_adds_up old n (ask.set_capacity m) e a = a
+  refusal_adds_up old n ask.total e a = a
+
+  module _ {E : K → K → Bool} where
     pub inserts : (old new : Cache K V) (k : K) (charge s : ℕ) (out : List (Idle K V)) → IsLawful E old → Step E old (ask.begin k charge) (say.make s) out new → s ≡ old.next → Inserts old charge s out new
     inserts old new k charge s out l (inl m) is =
         let f : sum_of old + charge < 2 ^ 64 = m.fits.0 in
@@ -155,14 +174,6 @@ module _ {K V : Type 0} where
     pub advice_evicts : (old new : Cache K V) (k : K) (out : List (Idle K V)) → IsLawful E old → Step E old (ask.advice_evict k) say.done out new → Evicts old out new
     advice_evicts old new k out l (inl h) = dropped_size old new k out l h
     advice_evicts old new k out l (inr h) = stayed_size old new out h.1
-
-    pub prune_evicts : (old new : Cache K V) (out : List (Idle K V)) → Step E old ask.prune say.done out new → Evicts old out new
-    prune_evicts old new out h = pruned_size old new out h.0 h.1
-
-    pub capacity_evicts : (old new : Cache K V) (m : ℕ) (out : List (Idle K V)) → Step E old (ask.set_capacity m) say.done out new → Evicts old out new
-    capacity_evicts old new m out h =
-        let s = settled_size (with_capacity old m) new out h in
-        record { entries = s.entries; charge = s.charge; next = s.next }
 
     -- a making that fails for good: what is owed once its failure is counted
     pub fail_owes : (old new : Cache K V) (n : Counts) (s : ℕ) (k : K) (out : List (Idle K V)) → AddUp old n → Step E old (ask.fail s) (say.removed k) out new → Owes new (one_failure n) 1 (held_charge old s)
@@ -190,24 +201,10 @@ module _ {K V : Type 0} where
     step_adds_up old new n (ask.get k) say.missed out l a h = with_others new n n.hits (one_more n.misses) n.waits n.refusals n.makings n.failures (kept_adds_up old new n a (same_size old new h.1.same))
     step_adds_up old new n (ask.release s) say.done out l a h = evicting_adds_up old new n out a (release_evicts old new s out h)
     step_adds_up old new n (ask.advice_evict k) say.done out l a h = evicting_adds_up old new n out a (advice_evicts old new k out l h)
-    step_adds_up old new n ask.prune say.done out l a h = evicting_adds_up old new n out a (prune_evicts old new out h)
+    step_adds_up old new n ask.prune say.done out l a h = evicting_adds_up old new n out a (pruned_size old new out h.0 h.1)
     step_adds_up old new n (ask.set_capacity m) say.done out l a h = evicting_adds_up old new n out a (capacity_evicts old new m out h)
     step_adds_up old new n ask.total (say.sum m) out l a h = kept_adds_up old new n a (same_size old new h.1.same)
     step_adds_up old new n _ _ out l a h = absurd h
-
-    refusal_adds_up : (old : Cache K V) (n : Counts) (r : Request K V) (e : Refusal) → AddUp old n → AddUp old (counted old r (refused e) n)
-    refusal_adds_up old n (ask.begin k charge) e a = with_others old n n.hits n.misses n.waits (one_more n.refusals) n.makings n.failures a
-    refusal_adds_up old n (ask.get k) e a = with_others old n n.hits n.misses n.waits (one_more n.refusals) n.makings n.failures a
-    refusal_adds_up old n (ask.poll s) Memory a = with_others old n n.hits n.misses n.waits (one_more n.refusals) n.makings n.failures a
-    refusal_adds_up old n (ask.poll s) Overflow a = a
-    refusal_adds_up old n (ask.poll s) Stale a = a
-    refusal_adds_up old n (ask.ready s v) e a = a
-    refusal_adds_up old n (ask.fail s) e a = a
-    refusal_adds_up old n (ask.release s) e a = a
-    refusal_adds_up old n (ask.advice_evict k) e a = a
-    refusal_adds_up old n ask.prune e a = a
-    refusal_adds_up old n (ask.set_capacity m) e a = a
-    refusal_adds_up old n ask.total e a = a
 
     -- whatever a call is asked and answers
     pub counted_adds_up : (old new : Cache K V) (n : Counts) (r : Request K V) (o : Outcome K V) → IsLawful E old → AddUp old n → Stands E old r o new → AddUp new (counted old r o n)

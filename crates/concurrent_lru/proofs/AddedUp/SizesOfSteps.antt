@@ -138,7 +138,7 @@ module _ {K V : Type 0} where
     pub made_size : (old new : Cache K V) (k : K) (charge s : ℕ) (out : List (Idle K V)) → IsLawful E old → Makes E old k charge s out new → Resizes old new 1 charge (length out) (charges out)
     made_size old new k charge s out l m =
         let mid = with_new_entry old m.copy charge in
-        let held = record { key = m.copy; charge = charge; pins = 1; phase = making } in
+        let held : Held K V = record { key = m.copy; charge = charge; pins = 1; phase = making } in
         let o = orderly l in
         let e : Evicts mid out new = settled_size mid new out (subst (λ t. Settles (record (with_held old t held) { next = old.next + 1 }) out new) m.stamp m.settles) in
         let a : length (values (insert old.held old.next held)) ≡ length (values old.held) + 1 = length-insert old.held old.next held (next_free E old o) in

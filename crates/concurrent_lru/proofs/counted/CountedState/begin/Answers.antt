@@ -7,8 +7,8 @@ use Rattle.concurrent_lru.specs.Results.{outcome_of_begin}
 use Rattle.concurrent_lru.proofs.AddedUp.CountsOfSteps.{Owes, begin_counted, begin_inserted, can_evict, told_evicted, soundly_counted}
 use Rattle.concurrent_lru.proofs.counted.CountedState.begin.Goals as goal
 
-pub invariant_of-self-then-not-is_insertion : goal.invariant_of-self-then-not-is_insertion
-invariant_of-self-then-not-is_insertion g c =
+pub invariant_of-self : goal.invariant_of-self
+invariant_of-self g c =
     let old = c.self.inside.state.cache in
     let r = c.begin-begun.result in
     let not = ap (is_insertion r) (sym c.next_stamp-next.ensures) ∙ sym c.is_insertion.ensures ∙ c.if-not-is_insertion.true in
