@@ -1,15 +1,17 @@
 //! A plan run from its first workload to its last, one after another.
+ghost use Rattle.std.specs.Prelude.{◌<◌};
 
 use crate::failure::Failure;
+use crate::hits;
+use crate::hits::Size;
 use crate::keys::Keys;
 use crate::mostly::{Asked, ByInit, ByRead, HitRatio, ask_all, read_mostly};
 use crate::parts::{Parts, PartsInShards};
 use crate::plan::{Mostly, Plan, Shown};
 use crate::report::{Report, Work};
 use crate::stress::{KEYS, stress};
-use crate::uses::{
-    fill, hit_get, hit_init, hit_parts, hit_read, look_up, map_of, miss_evict, miss_parts,
-};
+use crate::system::{SHARDS, System};
+use crate::uses::{hit_parts, look_up, map_of, miss_parts};
 use concurrent_lru::{sharded, unsharded};
 use std::alloc::Global;
 use std::hash::RandomState;
@@ -20,19 +22,8 @@ use std::rt::Clock;
 use std::sync::Wait;
 use std::thread::Threads;
 
-const ON_ONE_LOCK: &str = "port-unsharded";
-
-const IN_SHARDS: &str = "port-sharded";
-
-const READ_ON_ONE_LOCK: &str = "port-unsharded-read";
-
-const READ_IN_SHARDS: &str = "port-sharded-read";
-
-const IN_A_MAP: &str = "std-map";
-
-const PARTS_ON_ONE_LOCK: &str = "parts-unsharded";
-
-const PARTS_IN_SHARDS: &str = "parts-sharded";
+// How many shards a cache for many threads may have.
+const MORE_SHARDS: usize = 64;
 
 // The capacity of the stress workload on one lock, and in shards.
 const LOCK_CAPACITY: u64 = 100;
@@ -51,12 +42,41 @@ pub fn run<R: Threads + Wait + Clock + RandomSource + Sync, O: Write>(
     for entries in &plan.entries {
         use_map(alloc, *entries, plan.operations, &mut report)?;
         use_parts(rt, alloc, *entries, plan.operations, &mut report)?;
-        use_alone(rt, alloc, *entries, plan.operations, &mut report)?;
+        let size = Size {
+            entries: *entries,
+            threads: 1,
+            operations: plan.operations,
+        };
+        hits::on_one_lock(rt, rt, alloc, &size, &mut report)?;
     }
     for threads in [1, 2, 4, 8] {
         stress_parts(rt, rt, alloc, threads, plan.calls, &mut report)?;
         stress_lock(rt, rt, alloc, threads, plan.calls, &mut report)?;
         stress_shards(rt, rt, alloc, threads, plan.calls, &mut report)?;
+    }
+    Ok(())
+}
+
+/// Runs the hits and misses of a plan in more than one thread, on one lock and in shards, and writes
+/// a line for each workload. What was written before a failure stays written.
+pub fn run_in_threads<R: Threads + Wait + Clock + RandomSource + Sync, O: Write>(
+    rt: &R,
+    alloc: Global,
+    plan: &Plan,
+    out: &mut O,
+) -> Result<(), Failure> {
+    let mut report = Report::new(rt, out, plan.shown);
+    for threads in plan.threads {
+        for entries in &plan.entries {
+            let size = Size {
+                entries: *entries,
+                threads: *threads,
+                operations: plan.operations,
+            };
+            hits::on_one_lock(rt, rt, alloc, &size, &mut report)?;
+            hits::in_shards(rt, rt, alloc, SHARDS, &size, &mut report)?;
+            hits::in_shards(rt, rt, alloc, MORE_SHARDS, &size, &mut report)?;
+        }
     }
     Ok(())
 }
@@ -72,7 +92,7 @@ fn use_map<R: Clock, O: Write>(
     let mut keys = Keys::of(entries);
     let begin = report.start()?;
     let sum = look_up(&map, &mut keys, operations);
-    let work = Work::new(IN_A_MAP, "hit_get", entries.get(), 1, operations);
+    let work = Work::new(System::Map, "hit_get", entries.get(), 1, operations);
     report.end(&work, begin, sum)
 }
 
@@ -87,42 +107,12 @@ fn use_parts<R: Wait + Clock, O: Write>(
 ) -> Result<(), Failure> {
     let parts = Parts::filled(alloc, rt, entries.get())?;
     let mut keys = Keys::of(entries);
-    let work = |name| Work::new(PARTS_ON_ONE_LOCK, name, entries.get(), 1, operations);
+    let work = |name| Work::new(System::Parts, name, entries.get(), 1, operations);
     let begin = report.start()?;
     let sum = hit_parts(&parts, &mut keys, operations)?;
     report.end(&work("hit_get"), begin, sum)?;
     let begin = report.start()?;
     let sum = miss_parts(&parts, entries, operations)?;
-    report.end(&work("miss_evict"), begin, sum)
-}
-
-// The three workloads of one thread, on one cache that is full from the start.
-fn use_alone<R: Wait + Clock, O: Write>(
-    rt: &R,
-    alloc: Global,
-    entries: NonZeroU64,
-    operations: u32,
-    report: &mut Report<'_, R, O>,
-) -> Result<(), Failure> {
-    let cache: unsharded::LruCache<u64, u64, &R> = unsharded::LruCache::new(
-        alloc,
-        rt,
-        entries.get(),
-    );
-    fill(&cache, entries.get())?;
-    let mut keys = Keys::of(entries);
-    let work = |name| Work::new(ON_ONE_LOCK, name, entries.get(), 1, operations);
-    let begin = report.start()?;
-    let sum = hit_get(&cache, &mut keys, operations)?;
-    report.end(&work("hit_get"), begin, sum)?;
-    let begin = report.start()?;
-    let sum = hit_read(&cache, &mut keys, operations)?;
-    report.end(&work("hit_read"), begin, sum)?;
-    let begin = report.start()?;
-    let sum = hit_init(&cache, &mut keys, operations)?;
-    report.end(&work("hit_init"), begin, sum)?;
-    let begin = report.start()?;
-    let sum = miss_evict(&cache, operations)?;
     report.end(&work("miss_evict"), begin, sum)
 }
 
@@ -139,11 +129,17 @@ fn stress_parts<R: Threads + Wait + Clock + Sync, W: Wait + Clone + Drop + Sync,
     let parts = Parts::filled(alloc, wait, KEYS)?;
     let begin = report.start()?;
     let sum = stress(rt, &parts, threads, calls)?;
-    let work = Work::new(PARTS_ON_ONE_LOCK, "stress", LOCK_CAPACITY, threads, calls);
+    let work = Work::new(System::Parts, "stress", LOCK_CAPACITY, threads, calls);
     report.end(&work, begin, sum)?;
     let begin = report.start()?;
     let sum = stress(rt, &shards, threads, calls)?;
-    let work = Work::new(PARTS_IN_SHARDS, "stress", SHARDS_CAPACITY, threads, calls);
+    let work = Work::new(
+        System::PartsInShards,
+        "stress",
+        SHARDS_CAPACITY,
+        threads,
+        calls,
+    );
     report.end(&work, begin, sum)
 }
 
@@ -162,7 +158,7 @@ fn stress_lock<R: Threads + Wait + Clock + Sync, W: Wait + Drop + Sync, O: Write
     );
     let begin = report.start()?;
     let sum = stress(rt, &&cache, threads, calls)?;
-    let work = Work::new(ON_ONE_LOCK, "stress", LOCK_CAPACITY, threads, calls);
+    let work = Work::new(System::OneLock, "stress", LOCK_CAPACITY, threads, calls);
     report.end(&work, begin, sum)
 }
 
@@ -186,7 +182,13 @@ fn stress_shards<
     )?;
     let begin = report.start()?;
     let sum = stress(rt, &&cache, threads, calls)?;
-    let work = Work::new(IN_SHARDS, "stress", SHARDS_CAPACITY, threads, calls);
+    let work = Work::new(
+        System::Shards(SHARDS),
+        "stress",
+        SHARDS_CAPACITY,
+        threads,
+        calls,
+    );
     report.end(&work, begin, sum)
 }
 
@@ -203,7 +205,13 @@ pub fn run_mostly<R: Threads + Wait + Clock + RandomSource + Sync, O: Write, E: 
     let mut report = Report::new(rt, out, mostly.shown);
     for threads in [1, 2, 4, 8] {
         mostly_on_one_lock(rt, rt, alloc, mostly, threads, &mut report, err)?;
-        mostly_in_shards(rt, rt, alloc, mostly, threads, &mut report, err)?;
+        for shards in &mostly.shards {
+            let shards = usize::try_from(shards.get()).unwrap_or(0);
+            if shards == 0 {
+                return Err(Failure::Shards);
+            }
+            mostly_in_shards(rt, rt, alloc, shards, mostly, threads, &mut report, err)?;
+        }
     }
     Ok(())
 }
@@ -228,14 +236,22 @@ fn mostly_on_one_lock<
         mostly.capacity,
     );
     let asked = ByInit { cache: &cache };
-    ask_mostly(rt, &asked, ON_ONE_LOCK, mostly, threads, report, err)?;
+    ask_mostly(rt, &asked, System::OneLock, mostly, threads, report, err)?;
     let cache: unsharded::LruCache<u64, u64, W> = unsharded::LruCache::new(
         alloc,
         wait,
         mostly.capacity,
     );
     let asked = ByRead { cache: &cache };
-    ask_mostly(rt, &asked, READ_ON_ONE_LOCK, mostly, threads, report, err)
+    ask_mostly(
+        rt,
+        &asked,
+        System::ReadOnOneLock,
+        mostly,
+        threads,
+        report,
+        err,
+    )
 }
 
 fn mostly_in_shards<
@@ -247,34 +263,57 @@ fn mostly_in_shards<
     rt: &R,
     wait: W,
     alloc: Global,
+    shards: usize,
     mostly: &Mostly,
     threads: u32,
     report: &mut Report<'_, R, O>,
     err: &mut E,
-) -> Result<(), Failure> {
-    let cache: sharded::LruCache<u64, u64, W> = sharded::LruCache::new(
+) -> Result<(), Failure>
+    requires { 0 < shards }
+{
+    let made: Result<sharded::LruCache<u64, u64, W>, _> = sharded::LruCache::with_shards_hasher(
         alloc,
         wait.clone()?,
         mostly.capacity,
+        shards,
         RandomState::new(rt)?,
-    )?;
+    );
+    let cache = made?;
     let asked = ByInit { cache: &cache };
-    ask_mostly(rt, &asked, IN_SHARDS, mostly, threads, report, err)?;
-    let cache: sharded::LruCache<u64, u64, W> = sharded::LruCache::new(
+    ask_mostly(
+        rt,
+        &asked,
+        System::Shards(shards),
+        mostly,
+        threads,
+        report,
+        err,
+    )?;
+    let made: Result<sharded::LruCache<u64, u64, W>, _> = sharded::LruCache::with_shards_hasher(
         alloc,
         wait,
         mostly.capacity,
+        shards,
         RandomState::new(rt)?,
-    )?;
+    );
+    let cache = made?;
     let asked = ByRead { cache: &cache };
-    ask_mostly(rt, &asked, READ_IN_SHARDS, mostly, threads, report, err)
+    ask_mostly(
+        rt,
+        &asked,
+        System::ReadInShards(shards),
+        mostly,
+        threads,
+        report,
+        err,
+    )
 }
 
 // The workload on an empty cache, which is filled before the time begins.
 fn ask_mostly<R: Threads + Wait + Clock + Sync, A: Asked + Sync, O: Write, E: Write>(
     rt: &R,
     asked: &A,
-    system: &'static str,
+    system: System,
     mostly: &Mostly,
     threads: u32,
     report: &mut Report<'_, R, O>,

@@ -1,7 +1,7 @@
 //! Why the program ends early.
 //! Each failure has its line on standard error, and its status.
 
-use crate::plan::MOST_ENTRIES;
+use crate::plan::{MOST_ENTRIES, MOST_SHARDS};
 use concurrent_lru::lru_core::Refusal;
 use std::alloc::{AllocError, AllocFailed};
 use std::io;
@@ -14,6 +14,8 @@ pub enum Failure {
     Usage,
     /// A word that should be a number of entries is none, or one that is out of bounds.
     Entries,
+    /// A word that should be a number of shards is none, or one that is out of bounds.
+    Shards,
     /// A call of the cache was refused; a growth of the program's own counts as one too.
     Refused(Refusal),
     /// The file of keys has none, or its last is cut off.
@@ -38,11 +40,15 @@ impl Failure {
         let told = match self {
             Failure::Usage => writeln!(
                 err,
-                "usage: lru_bench check | time [ENTRIES ..] | mostly FILE, ENTRIES from 1 to {MOST_ENTRIES}"
+                "usage: lru_bench check | time [ENTRIES ..] | threads [ENTRIES ..] | mostly FILE [SHARDS ..]"
             ),
             Failure::Entries => writeln!(
                 err,
                 "lru_bench: ENTRIES is a number from 1 to {MOST_ENTRIES}"
+            ),
+            Failure::Shards => writeln!(
+                err,
+                "lru_bench: SHARDS is a number from 1 to {MOST_SHARDS}"
             ),
             Failure::Refused(refusal) => writeln!(err, "refused {}", refusal.code()),
             Failure::Keys => writeln!(err, "the file has no keys of four bytes"),
@@ -51,7 +57,7 @@ impl Failure {
             }
         };
         match (self, told) {
-            (Failure::Usage | Failure::Entries, Ok(())) => 2,
+            (Failure::Usage | Failure::Entries | Failure::Shards, Ok(())) => 2,
             _ => 1,
         }
     }

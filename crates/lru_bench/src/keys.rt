@@ -15,9 +15,14 @@ pub struct Keys {
 impl Keys {
     /// The keys from 0 up to `entries`, from the generator's first state on.
     pub fn of(entries: NonZeroU64) -> Keys {
+        Keys::of_worker(entries, 0)
+    }
+
+    /// The keys from 0 up to `entries`, from a worker's own state of the generator on.
+    pub fn of_worker(entries: NonZeroU64, worker: u32) -> Keys {
         Keys {
             entries: entries.get(),
-            state: 1,
+            state: u64::from(worker).wrapping_mul(77).wrapping_add(1),
         }
     }
 

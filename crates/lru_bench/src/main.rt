@@ -5,15 +5,19 @@
 mod bench;
 mod draws;
 mod failure;
+mod hits;
 mod keys;
 mod mostly;
+mod operation;
 mod parts;
 mod plan;
 mod program;
 mod report;
 mod shared;
 mod stress;
+mod system;
 mod uses;
+mod workers;
 
 use failure::Failure;
 use lru_support::words;

@@ -2,10 +2,9 @@
 //! `get_or_init` alone, or by `read` and by `get_or_init` only where nothing is found.
 
 use crate::draws::Draws;
+use crate::operation::Reads;
 use concurrent_lru::lru_core::Refusal;
-use concurrent_lru::{sharded, unsharded};
 use lru_support::cached::Cached;
-use std::hash::BuildHasher;
 use std::sync::Wait;
 use std::sync::atomic::{AtomicU64, Ordering};
 use std::thread::Threads;
@@ -62,24 +61,6 @@ fn make<C: Cached<u64>>(cache: C, key: u64) -> Result<Found, Refusal> {
     })?;
     let value = *C::value_of(&handle);
     Ok(Found { value, hit: !made })
-}
-
-/// `read` of values that are numbers.
-pub trait Reads {
-    /// The value of a key, where it is ready.
-    fn read_value(&self, key: u64) -> Result<Option<u64>, Refusal>;
-}
-
-impl<R: Wait> Reads for &unsharded::LruCache<u64, u64, R> {
-    fn read_value(&self, key: u64) -> Result<Option<u64>, Refusal> {
-        self.read(&key, |value| *value)
-    }
-}
-
-impl<R: Wait, S: BuildHasher> Reads for &sharded::LruCache<u64, u64, R, S> {
-    fn read_value(&self, key: u64) -> Result<Option<u64>, Refusal> {
-        self.read(&key, |value| *value)
-    }
 }
 
 /// What came of a run: the sum of the values, which no schedule changes, and how many were there.

@@ -4,7 +4,7 @@
 use crate::bench;
 use crate::draws::Draws;
 use crate::failure::Failure;
-use crate::plan::{Mostly, Plan, Shown};
+use crate::plan::{Mostly, Plan};
 use std::alloc::Global;
 use std::fs::Files;
 use std::io::Write;
@@ -20,9 +20,11 @@ use std::thread::Threads;
 /// line each, which never change: status 0. `time`, with the numbers of entries after it or with
 /// none, runs them long and writes how many nanoseconds an operation took, and to `err` how many
 /// processors there are: status 0. A word after it that is not a number from 1 to 10,000,000 is
-/// refused by a line on `err`, before anything is run: status 2. `mostly`, with the path of a file
-/// of keys, does so for the workload of reads that mostly hit, on that file's keys, and writes each
-/// hit ratio to `err`. Any other words write the usage line to `err`: status 2. Where a call is
+/// refused by a line on `err`, before anything is run: status 2. `threads` does so for the hits and
+/// misses in two, four and eight threads. `mostly`, with the path of a file of keys, does so for the
+/// workload of reads that mostly hit, on that file's keys, and writes each hit ratio to `err`; the
+/// words after the path are numbers of shards, from 1 to 4,096. Any other words write the usage line
+/// to `err`: status 2. Where a call is
 /// refused, `refused` and the refusal's number go to `err`, and the status is 1. Where the system
 /// fails, as at a write, a line says so on `err`, and the status is 1.
 pub fn program<R: Threads + Wait + Clock + RandomSource + Files + Sync, O: Write, E: Write>(
@@ -45,29 +47,39 @@ fn run<R: Threads + Wait + Clock + RandomSource + Files + Sync, O: Write, E: Wri
     out: &mut O,
     err: &mut E,
 ) -> Result<(), Failure> {
-    if let [word, path] = words
-        && word.as_str() == "mostly"
-    {
-        let mostly = Mostly::time(Draws::of_file(rt, alloc, path.as_str())?);
-        tell_machine(rt, err)?;
-        return bench::run_mostly(rt, alloc, &mostly, out, err);
-    }
-    let plan = plan(alloc, words)?;
-    if plan.shown == Shown::Time {
-        tell_machine(rt, err)?;
-        return bench::run(rt, alloc, &plan, out);
-    }
-    bench::run(rt, alloc, &plan, out)?;
-    bench::run_mostly(rt, alloc, &Mostly::check(alloc)?, out, err)
-}
-
-// What the words ask for.
-fn plan(alloc: Global, words: &[String]) -> Result<Plan, Failure> {
     match words {
-        [word] if word.as_str() == "check" => Plan::check(alloc),
-        [word, entries @ ..] if word.as_str() == "time" => Plan::time(alloc, entries),
+        [word] if word.as_str() == "check" => check(rt, alloc, out, err),
+        [word, entries @ ..] if word.as_str() == "time" => {
+            let plan = Plan::time(alloc, entries)?;
+            tell_machine(rt, err)?;
+            bench::run(rt, alloc, &plan, out)
+        }
+        [word, entries @ ..] if word.as_str() == "threads" => {
+            let plan = Plan::time(alloc, entries)?;
+            tell_machine(rt, err)?;
+            bench::run_in_threads(rt, alloc, &plan, out)
+        }
+        [word, path, shards @ ..] if word.as_str() == "mostly" => {
+            let draws = Draws::of_file(rt, alloc, path.as_str())?;
+            let mostly = Mostly::time(alloc, draws, shards)?;
+            tell_machine(rt, err)?;
+            bench::run_mostly(rt, alloc, &mostly, out, err)
+        }
         _ => Err(Failure::Usage),
     }
+}
+
+// Each workload, small, with its sums.
+fn check<R: Threads + Wait + Clock + RandomSource + Sync, O: Write, E: Write>(
+    rt: &R,
+    alloc: Global,
+    out: &mut O,
+    err: &mut E,
+) -> Result<(), Failure> {
+    let plan = Plan::check(alloc)?;
+    bench::run(rt, alloc, &plan, out)?;
+    bench::run_in_threads(rt, alloc, &plan, out)?;
+    bench::run_mostly(rt, alloc, &Mostly::check(alloc)?, out, err)
 }
 
 // Writes how many processors there are, where the system says it.

@@ -2,6 +2,7 @@
 
 use crate::failure::Failure;
 use crate::plan::Shown;
+use crate::system::System;
 use std::fmt;
 use std::io::Write;
 use std::rt::Clock;
@@ -10,8 +11,8 @@ use std::time::{Duration, Instant};
 /// A workload that was run.
 #[derive(Clone, Copy)]
 pub struct Work {
-    /// The cache: on one lock or in shards.
-    pub system: &'static str,
+    /// What the operations are asked of.
+    pub system: System,
     /// The workload's name.
     pub name: &'static str,
     /// The capacity of the cache.
@@ -26,7 +27,7 @@ impl Work {
     /// A workload of this name, on this cache of this capacity, of so many threads with so many
     /// operations each.
     pub fn new(
-        system: &'static str,
+        system: System,
         name: &'static str,
         entries: u64,
         threads: u32,
@@ -123,7 +124,7 @@ mod tests {
             (1, 0, 9, "0.0"),
         ];
         for (threads, operations, nanoseconds, text) in cases {
-            let work = Work::new("port-unsharded", "stress", 100, threads, operations);
+            let work = Work::new(System::OneLock, "stress", 100, threads, operations);
             let each = PerOperation::of(Duration::from_nanos(nanoseconds), &work);
             assert_eq!(rt; format!(in alloc; "{each}")?.as_str(), text);
         }

@@ -1,23 +1,13 @@
-//! The workloads of one thread, on a full cache on one lock. Each handle is dropped at once. And
-//! the look-ups of the first on a map alone, and hits and misses on the parts of the cache, which
-//! show what the cache adds to them.
+//! The look-ups of a map alone, and hits and misses on the parts of the cache, which show what the
+//! cache adds to them.
 
 use crate::keys::{FIRST_ABSENT, Keys, Leaving};
 use crate::parts::Parts;
 use concurrent_lru::lru_core::Refusal;
-use concurrent_lru::unsharded::LruCache;
 use std::alloc::{AllocError, Global};
 use std::collections::HashMap;
 use std::num::NonZeroU64;
 use std::sync::Wait;
-
-/// Makes the keys from 0 up to `entries`, at charge 1, each with itself as its value.
-pub fn fill<R: Wait>(cache: &LruCache<u64, u64, R>, entries: u64) -> Result<(), Refusal> {
-    for key in 0..entries {
-        drop(cache.get_or_init(key, 1, |key| *key)?);
-    }
-    Ok(())
-}
 
 /// A map from the keys from 0 up to `entries` to themselves.
 pub fn map_of(alloc: Global, entries: u64) -> Result<HashMap<u64, u64>, AllocError> {
@@ -37,62 +27,6 @@ pub fn look_up(map: &HashMap<u64, u64>, keys: &mut Keys, operations: u32) -> u64
         }
     }
     sum
-}
-
-/// Looks present keys up by `get`, and answers the sum of their values.
-pub fn hit_get<R: Wait>(
-    cache: &LruCache<u64, u64, R>,
-    keys: &mut Keys,
-    operations: u32,
-) -> Result<u64, Refusal> {
-    let mut sum: u64 = 0;
-    for _ in 0..operations {
-        if let Some(handle) = cache.get(keys.draw())? {
-            sum = sum.wrapping_add(*handle.value());
-        }
-    }
-    Ok(sum)
-}
-
-/// Reads present keys by `read`, and answers the sum of their values.
-pub fn hit_read<R: Wait>(
-    cache: &LruCache<u64, u64, R>,
-    keys: &mut Keys,
-    operations: u32,
-) -> Result<u64, Refusal> {
-    let mut sum: u64 = 0;
-    for _ in 0..operations {
-        if let Some(value) = cache.read(&keys.draw(), |value| *value)? {
-            sum = sum.wrapping_add(value);
-        }
-    }
-    Ok(sum)
-}
-
-/// Asks for present keys by `get_or_init`, and answers the sum of their values. One that had to
-/// be made would count as 0.
-pub fn hit_init<R: Wait>(
-    cache: &LruCache<u64, u64, R>,
-    keys: &mut Keys,
-    operations: u32,
-) -> Result<u64, Refusal> {
-    let mut sum: u64 = 0;
-    for _ in 0..operations {
-        let handle = cache.get_or_init(keys.draw(), 1, |_| 0)?;
-        sum = sum.wrapping_add(*handle.value());
-    }
-    Ok(sum)
-}
-
-/// Makes absent keys, for each of which an idle one is evicted, and answers the sum of their
-/// values.
-pub fn miss_evict<R: Wait>(cache: &LruCache<u64, u64, R>, operations: u32) -> Result<u64, Refusal> {
-    let mut sum: u64 = 0;
-    for number in 0..operations {
-        let handle = cache.get_or_init(FIRST_ABSENT + u64::from(number), 1, |key| *key)?;
-        sum = sum.wrapping_add(*handle.value());
-    }
-    Ok(sum)
 }
 
 /// `hit_get` by the parts alone.

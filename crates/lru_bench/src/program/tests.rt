@@ -6,7 +6,7 @@ use lru_support::writer::Limited;
 use std::test::Fail;
 
 const USAGE: &str =
-    "usage: lru_bench check | time [ENTRIES ..] | mostly FILE, ENTRIES from 1 to 10000000\n";
+    "usage: lru_bench check | time [ENTRIES ..] | threads [ENTRIES ..] | mostly FILE [SHARDS ..]\n";
 
 const ENTRIES: &str = "lru_bench: ENTRIES is a number from 1 to 10000000\n";
 
@@ -18,7 +18,7 @@ fn tells_its_usage(rt: HostRuntime) -> Result<(), Fail> {
     let wrong: [(&[&str], &str); 10] = [
         (&[], USAGE),
         (&["mostly"], USAGE),
-        (&["mostly", "a", "b"], USAGE),
+        (&["threads", "0"], ENTRIES),
         (&["times"], USAGE),
         (&["check", "8"], USAGE),
         (&["time", "0"], ENTRIES),
