@@ -5,7 +5,7 @@ use Rattle.std.specs.List.{count_by, sum, sum_by, zip}
 use Rattle.std.specs.List.Sorted.{IsPartitionedBy, IsPartitionPoint, IsNonDecreasingBy, IsPermutation}
 use Rattle.std.specs.Option.{MatchOption, IfSome, option_copied}
 use Rattle.std.proofs.lemmas.Bool.{cases_lt, le-leb, lt-leb, leb-true}
-use Rattle.std.proofs.lemmas.List.{get_or-map, get_or_append_left, get_or_push, length-map, length_push, map_push, take_all, take_more}
+use Rattle.std.proofs.lemmas.List.{get_or-map, get_or_append_left, get_or_push, length-map, length_push, length-take-le, map_push, take_all, take_more}
 use Rattle.std.proofs.lemmas.List.Sorted.{IsPermutation-map, length_permutation, sum_by-IsPermutation}
 use Rattle.std.proofs.lemmas.List.Sums.{sum_by-cons, sum_by_more, sum_by-take-le}
 use Rattle.lru_sizing.specs.HitsByWeight.{fits, hits_at}
@@ -204,6 +204,36 @@ reused-push_some [] (w ∷ weights) c v n = absurd (omega (arith, n))
 reused-push_some (d ∷ charges) [] c v n = absurd (omega (arith, n))
 reused-push_some (d ∷ charges) (None ∷ weights) c v n = reused-push_some charges weights c v (omega (arith, n))
 reused-push_some (d ∷ charges) (Some w ∷ weights) c v n = ap (λ ps. (w, d) ∷ ps) (reused-push_some charges weights c v (omega (arith, n)))
+
+-- the pairs of the uses before a place, and of one use more
+module _ {K : Type 0} (trace : List (K × ℕ)) (weights : List (Option ℕ)) (place : ℕ) (u : K × ℕ) (same : length trace ≡ length weights) (more : place < length weights) (at : get_or trace place u ≡ u) where
+  abbrev charges_of : List ℕ
+  charges_of = map (λ v. v.1) trace
+
+  charges_long : length charges_of ≡ length weights
+  charges_long = let n : length charges_of ≡ length trace = length-map trace (λ (v : K × ℕ). v.1) in omega (arith, n, same)
+
+  next_charge : take (place + 1) charges_of ≡ take place charges_of ++ u.1 ∷ []
+  next_charge =
+      take_more charges_of place 0 (let n : length charges_of ≡ length weights = charges_long in omega (arith, n, more))
+      ∙ ap (λ c. take place charges_of ++ c ∷ []) (get_or-map (λ (v : K × ℕ). v.1) trace place u 0 (omega (arith, same, more)) ∙ ap (λ v. v.1) at)
+
+  parts_long : length (take place charges_of) ≡ length (take place weights)
+  parts_long =
+      let n : length charges_of ≡ length weights = charges_long in
+      let a : length (take place charges_of) ≡ place = length-take-le place charges_of (omega (arith, n, more)) in
+      let b : length (take place weights) ≡ place = length-take-le place weights (omega (arith, more)) in
+      a ∙ sym b
+
+  pub reused_first : get_or weights place None ≡ None → reused (take (place + 1) charges_of) (take (place + 1) weights) ≡ reused (take place charges_of) (take place weights)
+  reused_first none =
+      ap (λ cs. reused cs (take (place + 1) weights)) next_charge ∙ ap (reused (take place charges_of ++ u.1 ∷ [])) (take_more weights place None more ∙ ap (λ o. take place weights ++ o ∷ []) none)
+      ∙ reused-push_none (take place charges_of) (take place weights) u.1 parts_long
+
+  pub reused_again : (w : ℕ) → get_or weights place None ≡ Some w → reused (take (place + 1) charges_of) (take (place + 1) weights) ≡ reused (take place charges_of) (take place weights) ++ (w, u.1) ∷ []
+  reused_again w some =
+      ap (λ cs. reused cs (take (place + 1) weights)) next_charge ∙ ap (reused (take place charges_of ++ u.1 ∷ [])) (take_more weights place None more ∙ ap (λ o. take place weights ++ o ∷ []) some)
+      ∙ reused-push_some (take place charges_of) (take place weights) u.1 w parts_long
 
 -- What a curve is built of: the pairs before i are taken, and left is the charge of all uses but those.
 pub record IsBuilt (total : ℕ) (ps : List (ℕ × ℕ)) (i left : ℕ) (weights made : List ℕ) : Type 0 where

@@ -1,5 +1,5 @@
 -- A replay, use by use: it goes on by one use, and answers as the reuse weights tell.
-use Rattle.std.proofs.Common.{◌≡◌, ℕ, zero, suc, ◌+◌, ◌<◌, ◌≤◌, ◌^◌, ◌⊎◌, inl, inr, Bool, true, false, List, [], ◌∷◌, ◌++◌, length, map, take, Some, refl, sym, ap, ◌∙◌, subst, arith}
+use Rattle.std.proofs.Common.{◌≡◌, ℕ, zero, suc, ◌+◌, ◌<◌, ◌≤◌, ◌^◌, ◌⊎◌, inl, inr, Bool, true, false, List, [], ◌∷◌, ◌++◌, length, map, get_or, take, Some, refl, sym, ap, ◌∙◌, subst, arith}
 use Rattle.std.specs.Cmp.{IsEquivalence}
 use Rattle.std.specs.FinMap as finmap
 use Rattle.std.specs.List.{AllByRecursion, sum_by, zip}
@@ -32,6 +32,7 @@ use Rattle.lru_sizing.specs.Replays.{IsReplay, IsUsedOnce}
 use Rattle.lru_sizing.specs.ReuseWeights.{used_keys, reuse_weights}
 use Rattle.lru_sizing.proofs.HitsByWeight.{at_the_start, every_use_hits_by_weight, none_joins}
 use Rattle.lru_sizing.proofs.Marks.{used_push}
+use Rattle.lru_sizing.proofs.Passes.{charged_at}
 
 module _ {K V : Type 0} where
   -- the requests of steps, and their outcomes
@@ -187,6 +188,10 @@ module _ {K V : Type 0} (E : K → K → Bool) where
         let charged : AllByRecursion (λ b. b.1 ≡ charge_in E trace b.0) (begins rs) = subst (AllByRecursion (λ b. b.1 ≡ charge_in E trace b.0)) (sym r.begun) (all_take (λ b. b.1 ≡ charge_in E trace b.0) place trace (begins_charged E eq trace one)) in
         let high : AllByRecursion IsCharged rs = charged_begins rs (subst (AllByRecursion (λ u. 0 < u.1)) (sym r.begun) (all_take (λ u. 0 < u.1) place trace above)) in
         changing_run E (charge_in E trace) eq (charge_agrees E eq trace) start.capacity [] r.steps start c (at_the_start E eq trace start empty pins) (priced (charge_in E trace) rs charged high) (plain_has_no_change K V start.capacity r.steps r.plain).0 r.run
+
+    -- each use has its key's charge
+    pub use_charge : (place : ℕ) (u : K × ℕ) → place < length trace → get_or trace place u ≡ u → u.1 ≡ charge_in E trace u.0
+    use_charge place u more at = subst (λ v. v.1 ≡ charge_in E trace v.0) at (charged_at E eq (charge_in E trace) trace place u (begins_charged E eq trace one) more)
 
     -- the keys that it used
     used_then : (start c : Cache K V) (place : ℕ) (hits : List Bool) (r : IsReplay E start (take place trace) hits c) → uses r.steps ≡ used_keys (take place trace)
