@@ -134,7 +134,7 @@ module _ {K V : Type 0} (E : K → K → Bool) where
 module _ {X : Type 0} where
   ones : (xs : List X) → sum_by (λ _. 1) xs ≡ length xs
   ones [] = refl
-  ones (x ∷ xs) = sum_by-cons (λ _. 1) x xs ∙ ap (λ n. 1 + n) (ones xs)
+  ones (x ∷ xs) = let e = sum_by-cons (λ _. 1) x xs in omega (arith, e, ones xs)
 
   -- a map without values has none at any place
   pub no_values : (m : FinMap nat_cmp X) (s : ℕ) (x : X) → length (finmap.values m) ≡ 0 → finmap.get m s ≡ Some x → ⊥
@@ -145,14 +145,17 @@ module _ {X : Type 0} where
 module _ {K V : Type 0} where
   -- where nothing is left without a prune, nothing was held
   pub tells_nobody : (old pruned : Cache K V) → pruned ≡ record old { idle = [] } → count_of pruned ≡ 0 → TellsHeld old []
-  tells_nobody old pruned is none s e v at value = absurd (no_values old.held s e (sym (ap count_of is) ∙ none) at)
+  tells_nobody old pruned is none s e v at value =
+      let all : 0 + length (finmap.values old.held) ≡ 0 = sym (ap count_of is) ∙ none in
+      absurd (no_values old.held s e (omega (arith, all)) at)
 
   -- What was held when all idle entries had been taken out is in what is taken out in the end, if nothing is left then.
   pub tells_held : (old pruned raised let_go new : Cache K V) (none out : List (Idle K V)) (capacity : ℕ)
       → pruned ≡ record old { idle = [] } → Settles (with_capacity pruned capacity) none raised → LosesNone raised let_go → out ≡ let_go.idle → new ≡ record let_go { idle = [] } → count_of new ≡ 0 → TellsHeld old out
   tells_held old pruned raised let_go new none out capacity is settles loses all last empty s e v at value =
       let there : held_at raised s ≡ Some e = ap (λ c. held_at c s) settles.others ∙ ap (λ c. held_at c s) is ∙ at in
+      let none_left : 0 + length (finmap.values let_go.held) ≡ 0 = sym (ap count_of last) ∙ empty in
       elim (loses.held s e v there value) [
-        | inl k ↦ absurd (no_values let_go.held s k.0 (sym (ap count_of last) ∙ empty) k.1)
+        | inl k ↦ absurd (no_values let_go.held s k.0 (omega (arith, none_left)) k.1)
         | inr k ↦ subst (λ xs. Contains xs (idle_again s e v)) (sym all) k
       ]

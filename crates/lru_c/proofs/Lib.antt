@@ -1,6 +1,9 @@
 pub mod ByKey
+pub mod ChainCodes
 pub mod Freed
+pub mod Opened
 pub mod BytesCacheAsBox
 pub mod BytesChainAsBox
 pub mod WordsCacheAsBox
 pub mod WordsChainAsBox
+pub mod WordsOpened
