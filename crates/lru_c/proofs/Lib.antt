@@ -4,6 +4,7 @@ pub mod Freed
 pub mod Opened
 pub mod BytesCacheAsBox
 pub mod BytesChainAsBox
+pub mod BytesOpened
 pub mod WordsCacheAsBox
 pub mod WordsChainAsBox
 pub mod WordsOpened

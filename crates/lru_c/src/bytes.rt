@@ -281,7 +281,14 @@ pub extern "C" fn lru_bytes_key_of_nonnull(
 ) -> LruTold
     ensures { KeyOf cache.old.cache.held stamp result buffer.old buffer.new cache.new.cache.held }
 {
-    replace_with(cache, (stamp, buffer), calls::key_of)
+    match replace_with(cache, (), calls::take) {
+        Some(taken) => {
+            let told = calls::copy_key(&taken.state, stamp, buffer);
+            *cache = LruBytes::of(taken);
+            told
+        }
+        None => LruTold::bare(code::CLOSED),
+    }
 }
 
 /// Opens an empty chain.

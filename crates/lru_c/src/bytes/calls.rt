@@ -1,12 +1,12 @@
 //! The calls on a cache behind a handle, which is handed in and handed back.
-ghost use Rattle.std.specs.Prelude.{◌≡◌, ◌<◌, ◌==◌, [], None, IfOk, MatchBool, MatchOption};
+ghost use Rattle.std.specs.Prelude.{◌≡◌, ◌<◌, ◌==◌, [], None, Some, IfOk, MatchBool, MatchOption};
 ghost use Rattle.concurrent_lru.specs.Cache.{count_of, empty_cache};
 ghost use Rattle.concurrent_lru.specs.Request as ask;
 ghost use Rattle.lru_c.specs.Codes as codes;
 ghost use Rattle.lru_c.specs.Handles.{OnOpen};
 ghost use Rattle.lru_c.specs.Opened.{TellsKey, TellsReady};
 ghost use Rattle.lru_c.specs.Told.{bare, told};
-ghost use Rattle.lru_c.specs.BytesCalls.{Asks, AsksByKey, AsksWithMemory, Begins, Contains, CopiesKey, Frees, KeyOf, Numbers, Reserves};
+ghost use Rattle.lru_c.specs.BytesCalls.{Asks, AsksByKey, AsksWithMemory, Begins, Contains, CopiesKey, Frees, Numbers, Reserves};
 
 use crate::code;
 use crate::steps;
@@ -223,20 +223,22 @@ pub(crate) fn contains(handle: LruBytes, key: &[u8]) -> (LruBytes, u32)
     }
 }
 
-pub(crate) fn key_of(handle: LruBytes, asked: (u64, &mut [u8])) -> (LruBytes, LruTold)
-    ensures { KeyOf handle.cache.held asked.entry.0 result.1 asked.entry.1.now asked.exit.1.now result.0.cache.held }
+// Takes the cache out of its handle, which is not open then.
+pub(crate) fn take(handle: LruBytes, _nothing: ()) -> (LruBytes, Option<Box<BytesCache>>)
+    ensures closed { result.0.cache.held ≡ None }
+    ensures taken { MatchOption result.1 (handle.cache.held ≡ None) (λ c. handle.cache.held ≡ Some c.value) }
 {
     match handle.opened() {
         Ok(cache) => {
-            let told = copy_key(&cache.state, asked.0, asked.1);
-            (LruBytes::of(cache), told)
+            let alloc = cache.alloc;
+            (LruBytes::closed(alloc), Some(cache))
         }
-        Err(handle) => (handle, LruTold::bare(code::CLOSED)),
+        Err(handle) => (handle, None),
     }
 }
 
 // Copies the key of a stamp to the front of a buffer.
-fn copy_key(state: &State<Vec<u8>, u64>, stamp: u64, buffer: &mut [u8]) -> LruTold
+pub(crate) fn copy_key(state: &State<Vec<u8>, u64>, stamp: u64, buffer: &mut [u8]) -> LruTold
     ensures { CopiesKey state.now.cache stamp result buffer.old buffer.new }
 {
     let Some(key) = state.key_of(stamp) else {
