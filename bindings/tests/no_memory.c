@@ -8,6 +8,7 @@
 #include <malloc.h>
 #include <stdint.h>
 #include <stdio.h>
+#include <stdlib.h>
 #include <string.h>
 
 #include "lru.h"
@@ -80,6 +81,10 @@ int main(void) {
     size_t before;
     setvbuf(stdout, out, _IOFBF, sizeof out);
     memset(key_bytes, 'k', sizeof key_bytes);
+    /* malloc takes some memory for itself when it is first used. calloc is never refused here, and
+     * volatile keeps the compiler from leaving the call out. */
+    void *volatile first = calloc(1, 1);
+    free(first);
     before = mallinfo2().uordblks;
     run_bytes();
     run_words();
