@@ -5,7 +5,7 @@ use Rattle.std.specs.List.{filter_map}
 use Rattle.std.specs.Cmp.{IsEquivalence}
 use Rattle.std.specs.FinMap.{get, insert}
 use Rattle.std.proofs.lemmas.Option.{same_Some}
-use Rattle.concurrent_lru.specs.Cache.{Cache, Idle, IsFront, IsLawful}
+use Rattle.concurrent_lru.specs.Cache.{Cache, Idle, IsFront, IsLawful, idle_at}
 use Rattle.concurrent_lru.specs.Steps.{IsAbsent, Detaches, Drops, Makes, held_detached, without}
 use Rattle.concurrent_lru.specs.Inserts.{Remakes, RefusesToReplace}
 use Rattle.concurrent_lru.specs.NodeTable.{Entry}
@@ -84,6 +84,7 @@ module _ {K V : Type 0} (E : K → K → Bool) (laws : IsEquivalence E) (capacit
     abbrev shown : Idle K V
     shown = record { stamp = e.stamp; key = e.key; charge = e.charge; value = value }
 
+    shown_at : idle_at old e.stamp ≡ Some shown
     shown_at = idle_here here value (seen_ready e (here.idle none).0).1 none
 
     -- the entries without the idle one

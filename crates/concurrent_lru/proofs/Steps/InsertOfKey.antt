@@ -1,6 +1,7 @@
 -- A key that was invalidated is absent, and what begins then is being made.
 use Rattle.std.proofs.Common.{◌≡◌, ℕ, ◌+◌, ◌<◌, ◌≤◌, ◌^◌, ◌⊎◌, inl, inr, Bool, true, false, List, [], Some, None, Result, Ok, Err, refl, sym, ap, ◌∙◌, subst, eqb}
 use Rattle.std.specs.Cmp.{IsEquivalence}
+use Rattle.std.specs.Result.{IsErrAnd}
 use Rattle.std.specs.FinMap as finmap
 use Rattle.std.specs.declared.sync.Arc.{Arc}
 use Rattle.std.specs.declared.alloc.Global.{Global}
@@ -12,6 +13,8 @@ use Rattle.concurrent_lru.specs.Request as ask
 use Rattle.concurrent_lru.specs.Reply as say
 use Rattle.concurrent_lru.specs.Runs.{accepted, refused, Stands}
 use Rattle.concurrent_lru.specs.Results.{outcome_of_ready, reply_of_begun}
+use Rattle.concurrent_lru.specs.Inserts.{Remakes, RefusesToReplace}
+use Rattle.concurrent_lru.specs.declared.list.Refusal.{Refusal}
 use Rattle.concurrent_lru.specs.declared.list.Refusal.TheVariants.{Memory, Overflow}
 use Rattle.concurrent_lru.specs.declared.step.Begun.{Begun}
 use Rattle.concurrent_lru.specs.declared.step.Begun.TheVariants as rust
@@ -83,3 +86,9 @@ module _ {K V : Type 0} (E : K → K → Bool) {old c : Cache K V} {k : K} {char
   pub stored_at_once : (v : V) (r : Result (Unit {0}) (Arc V Global)) (new : Cache K V) → Stands E c (ask.ready s v) (outcome_of_ready r) new → Stands E c (ask.ready s v) (accepted say.done []) new
   stored_at_once v (Ok x) new h = h
   stored_at_once v (Err a) new h = absurd (h.0 made made_holds)
+
+module _ {K V : Type 0} (E : K → K → Bool) where
+  -- what an answer with `?` tells of a refusal
+  pub remade_refused : (old new : Cache K V) (k : K) (charge : ℕ) (r : Result (ℕ × List (Idle K V) × List (Idle K V)) Refusal) (x : Refusal) → IsErrAnd r (λ e. e ≡ x) → RefusesToReplace E old k charge x new → Remakes E old k charge r new
+  remade_refused old new k charge (Ok _) x h w = absurd h
+  remade_refused old new k charge (Err e) x h w = subst (λ y. RefusesToReplace E old k charge y new) (sym h) w
