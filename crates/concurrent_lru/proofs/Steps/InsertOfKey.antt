@@ -8,12 +8,12 @@ use Rattle.std.specs.declared.alloc.Global.{Global}
 use Rattle.std.proofs.lemmas.Bool.{true≢false, eqb-true, eq-eqb}
 use Rattle.std.proofs.lemmas.Option.{none-some, same_Some}
 use Rattle.concurrent_lru.specs.Cache.{Cache, Idle, Held, making, sum_of, held_at, IsFound, IsLawful}
-use Rattle.concurrent_lru.specs.Steps.{IsAbsent, HasNumbers, Holds, Makes, Joins, Revives, Drops, Detaches, Step, held_detached, with_held}
+use Rattle.concurrent_lru.specs.Steps.{IsAbsent, HasNumbers, Holds, Makes, Joins, Revives, Drops, Detaches, Step, held_detached, held_in_phase, one_more_pin, with_held}
 use Rattle.concurrent_lru.specs.Request as ask
 use Rattle.concurrent_lru.specs.Reply as say
 use Rattle.concurrent_lru.specs.Runs.{accepted, refused, Stands}
 use Rattle.concurrent_lru.specs.Results.{outcome_of_ready, reply_of_begun}
-use Rattle.concurrent_lru.specs.Inserts.{Remakes, RefusesToReplace}
+use Rattle.concurrent_lru.specs.Inserts.{Remakes, Replaces, RefusesToReplace}
 use Rattle.concurrent_lru.specs.declared.list.Refusal.{Refusal}
 use Rattle.concurrent_lru.specs.declared.list.Refusal.TheVariants.{Memory, Overflow}
 use Rattle.concurrent_lru.specs.declared.step.Begun.{Begun}
@@ -82,12 +82,24 @@ module _ {K V : Type 0} (E : K → K → Bool) {old c : Cache K V} {k : K} {char
   pub made_holds : Holds c s made making
   made_holds = record { at = ap (λ x. finmap.get x.held s) m.settles.others ∙ inserted_at old.held s made; phase = refl }
 
-  -- so its value is stored
-  pub stored_at_once : (v : V) (r : Result (Unit {0}) (Arc V Global)) (new : Cache K V) → Stands E c (ask.ready s v) (outcome_of_ready r) new → Stands E c (ask.ready s v) (accepted say.done []) new
-  stored_at_once v (Ok x) new h = h
-  stored_at_once v (Err a) new h = absurd (h.0 made made_holds)
-
 module _ {K V : Type 0} (E : K → K → Bool) where
+  -- what a begin tells to make is being made
+  pub begun_holds : (old c : Cache K V) (k : K) (charge s : ℕ) (out : List (Idle K V)) → Step E old (ask.begin k charge) (say.make s) out c → (e : Held K V) × Holds c s e making
+  begun_holds old c k charge s out (inl m) = (made E m, made_holds E m)
+  begun_holds old c k charge s out (inr j) =
+      let own = held_in_phase making (one_more_pin j.entry) in
+      (own, record { at = ap (λ x. finmap.get x.held s) j.changed ∙ inserted_at old.held s own; phase = refl })
+
+  -- so its value is stored
+  pub stored_at_once : (c : Cache K V) (s : ℕ) (v : V) (r : Result (Unit {0}) (Arc V Global)) (new : Cache K V) → (e : Held K V) × Holds c s e making → Stands E c (ask.ready s v) (outcome_of_ready r) new → Stands E c (ask.ready s v) (accepted say.done []) new
+  stored_at_once c s v (Ok x) new holds h = h
+  stored_at_once c s v (Err a) new holds h = absurd (h.0 holds.0 holds.1)
+
+  -- An insert without its value, and then the value.
+  pub replaces : (old c new : Cache K V) (k : K) (charge : ℕ) (v : V) (m : ℕ × List (Idle K V) × List (Idle K V)) (r : Result (Unit {0}) (Arc V Global)) → Remakes E old k charge (Ok m) c → Stands E c (ask.ready m.0 v) (outcome_of_ready r) new
+      → Replaces E old k charge v m.0 m.1 m.2 new
+  replaces old c new k charge v m r w stores = (w.0, w.1, (c, w.2, (new, stored_at_once c m.0 v r new (begun_holds w.0 c k charge m.0 m.2 w.2) stores, refl)))
+
   -- what an answer with `?` tells of a refusal
   pub remade_refused : (old new : Cache K V) (k : K) (charge : ℕ) (r : Result (ℕ × List (Idle K V) × List (Idle K V)) Refusal) (x : Refusal) → IsErrAnd r (λ e. e ≡ x) → RefusesToReplace E old k charge x new → Remakes E old k charge r new
   remade_refused old new k charge (Ok _) x h w = absurd h
