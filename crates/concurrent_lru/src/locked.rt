@@ -360,18 +360,17 @@ impl<K: Hash + Eq + Clone + Drop, V: Drop, F: Fit<K, V>> Locked<K, V, F> {
         ensures pin { IfOk result (λ r. (r.0.key ≡ key.now) × (r.0.charge ≡ Some charge) × (r.0.value ≡ arc_value stored)) }
         ensures never_stale { IfErr result (λ e. e.0 ≢ Refusal.Stale) }
     {
-        match self.state.insert(key, charge, stored) {
-            Err((refusal, stored)) => Err((refusal, Sealed::of((stored, read)))),
-            Ok(inserted) => {
-                let Inserted {
-                    stamp,
-                    replaced,
-                    evicted,
-                } = inserted;
-                let pin = Pin::of(stamp, self.state.near(), key, Some(charge), read);
-                Ok((pin, Sealed::of((replaced, evicted))))
-            }
-        }
+        let inserted = match self.state.insert(key, charge, stored) {
+            Ok(inserted) => inserted,
+            Err((refusal, stored)) => return Err((refusal, Sealed::of((stored, read)))),
+        };
+        let Inserted {
+            stamp,
+            replaced,
+            evicted,
+        } = inserted;
+        let pin = Pin::of(stamp, self.state.near(), key, Some(charge), read);
+        Ok((pin, Sealed::of((replaced, evicted))))
     }
 
     /// The core's `prune`. Takes no memory.
