@@ -5,7 +5,7 @@ use Rattle.std.specs.Cmp.{IsEquivalence}
 use Rattle.std.specs.FinMap.{get}
 use Rattle.std.proofs.lemmas.Bool.{true≢false, eqb-true, eq-eqb}
 use Rattle.std.proofs.lemmas.Option.{none-some, same_Some}
-use Rattle.concurrent_lru.specs.Cache.{Idle, Held, Phase, making, untaken, ready, IsLawful, IsFound, idle_at}
+use Rattle.concurrent_lru.specs.Cache.{Idle, Held, Phase, making, untaken, ready, IsLawful, idle_at}
 use Rattle.concurrent_lru.specs.Steps.{Holds, IsNotIdle, IsUnready}
 use Rattle.concurrent_lru.specs.Request as ask
 use Rattle.concurrent_lru.specs.Runs.{IsFull, Overflows, WouldHit}

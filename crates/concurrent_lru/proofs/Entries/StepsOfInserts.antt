@@ -3,7 +3,7 @@ use Rattle.std.proofs.Common.{◌≡◌, ◌≢◌, ℕ, ◌+◌, ◌<◌, ◌�
 use Rattle.std.specs.Prelude.{IsSome}
 use Rattle.std.specs.List.{filter_map}
 use Rattle.std.specs.Cmp.{IsEquivalence}
-use Rattle.std.specs.FinMap.{get, insert}
+use Rattle.std.specs.FinMap.{insert}
 use Rattle.std.proofs.lemmas.Option.{same_Some}
 use Rattle.concurrent_lru.specs.Cache.{Cache, Idle, IsFront, IsLawful, idle_at}
 use Rattle.concurrent_lru.specs.Steps.{IsAbsent, Detaches, Drops, Makes, held_detached, without}

@@ -1,5 +1,5 @@
 -- An entry that is found by its key is an entry.
-use Rattle.std.proofs.Common.{ℕ, inl, inr, Bool}
+use Rattle.std.proofs.Common.{ℕ, inl, inr}
 use Rattle.concurrent_lru.specs.Cache.{Cache, IsEntry, IsFound}
 
 module _ {K V : Type 0} where

@@ -1,15 +1,14 @@
 -- After an insert of a value that fits its key, every ready value fits its key.
-use Rattle.std.proofs.Common.{◌≡◌, ℕ, ◌<◌, inl, inr, Bool, List, [], Some, Ok, refl, sym, ap, ◌∙◌, subst, arith}
+use Rattle.std.proofs.Common.{ℕ, ◌<◌, inl, inr, Bool, List, [], Ok, refl, sym, ap, ◌∙◌, subst, arith}
 use Rattle.std.specs.Cmp.{IsEquivalence}
 use Rattle.std.specs.FinMap as finmap
-use Rattle.concurrent_lru.specs.Cache.{Cache, Idle, Held, making, ready, held_at, IsLawful}
+use Rattle.concurrent_lru.specs.Cache.{Cache, Idle, making, ready, IsLawful}
 use Rattle.concurrent_lru.specs.Steps.{Step, ChangesPhase, held_in_phase, one_more_pin}
 use Rattle.concurrent_lru.specs.Request as ask
 use Rattle.concurrent_lru.specs.Reply as say
 use Rattle.concurrent_lru.specs.Runs.{accepted, Stands}
 use Rattle.concurrent_lru.specs.Ready.{EqualKeysFit, HasEqualKeyAt, ValuesFit}
 use Rattle.concurrent_lru.specs.Inserts.{Replaces, RefusesToReplace}
-use Rattle.concurrent_lru.specs.declared.list.Refusal.{Refusal}
 use Rattle.concurrent_lru.specs.declared.list.Refusal.TheVariants.{Stale}
 use Rattle.concurrent_lru.proofs.Entries.NodeWrittenOrAdded.{inserted_at}
 use Rattle.concurrent_lru.proofs.Steps.InsertOfKey.{made, made_holds}

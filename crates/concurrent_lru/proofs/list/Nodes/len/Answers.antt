@@ -1,7 +1,6 @@
 use Rattle.std.proofs.Common.{◌≡◌, sym, ap, ◌∙◌, map, Option, Some, None, refl}
 use Rattle.std.specs.Prelude.{is_some}
 use Rattle.std.specs.FinMap.{len}
-use denote.RawPtr.{Ptr}
 use Rattle.concurrent_lru.specs.Cells.{cell_at, ptr_in}
 use Rattle.concurrent_lru.specs.Relinks.{NodeCell}
 use Rattle.concurrent_lru.specs.SlotPointers.{ptr_of}

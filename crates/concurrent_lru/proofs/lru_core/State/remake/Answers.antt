@@ -1,11 +1,11 @@
 use Rattle.std.proofs.Common.{◌≡◌, ◌≢◌, ℕ, ◌+◌, ◌-◌, ◌<◌, ◌≤◌, ◌^◌, [], Ok, refl, sym, ap, subst, inl, inr, arith}
-use Rattle.concurrent_lru.specs.Cache.{Cache, Idle, IsLawful}
+use Rattle.concurrent_lru.specs.Cache.{IsLawful}
 use Rattle.concurrent_lru.specs.Steps.{IsAbsent, Makes}
-use Rattle.concurrent_lru.specs.NodeTable.{Entry, entry_of}
+use Rattle.concurrent_lru.specs.NodeTable.{entry_of}
 use Rattle.concurrent_lru.specs.Entries.{charges_of, cache_with}
 use Rattle.concurrent_lru.specs.Inserts.{Remakes, RefusesToReplace}
-use Rattle.concurrent_lru.specs.declared.list.Refusal.TheVariants.{Memory, Overflow}
-use Rattle.concurrent_lru.proofs.Entries.EntryAtPlace.{key_is, found_is, found_here, idle_place}
+use Rattle.concurrent_lru.specs.declared.list.Refusal.TheVariants.{Overflow}
+use Rattle.concurrent_lru.proofs.Entries.EntryAtPlace.{key_is, found_is, found_here}
 use Rattle.concurrent_lru.proofs.Entries.StepsOfInserts as steps
 use Rattle.concurrent_lru.proofs.Steps.InsertOfKey.{begun_new, remade_refused}
 use Rattle.concurrent_lru.proofs.lru_core.State.remake.Goals as goal

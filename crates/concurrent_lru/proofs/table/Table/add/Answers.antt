@@ -36,9 +36,9 @@ invariant_of-self-2 g c =
     let kept = c.self.invariant.stored.copies c.args.key.now c.in_ok-kept.kept c.in_ok-kept.ensures.cases in
     let absent = subst (λ t. ContainsNoKey g.K.PartialEq.eq t c.args.key.now) (sym c.self.view_is) c.requires.absent in
     let added : IsAdded g.K.PartialEq.eq c.make_room.new.nodes c.put-place.new.nodes c.make_room.new.by_key c.put-place.new.by_key c.make_room.new.by_stamp c.put-place.new.by_stamp c.put-place.result (new_entry c.args.stamp c.in_ok-own.own c.args.charge) c.in_ok-kept.kept =
-        put_added g.met.K.Eq.laws r c.in_ok-own.ensures.cases c.in_ok-kept.ensures.cases c.put-place.ensures.free
-        (c.put-place.ensures.nodes ∙ ap (insert c.make_room.new.nodes.nodes c.put-place.result) entry) c.put-place.ensures.idle (c.make_room.ensures.by_key c.in_ok-kept.kept ∙ alike_get g.met.K.Eq.laws c.self.inside.by_key c.in_ok-kept.kept c.args.key.now kept ∙ lacks_key c.self.invariant.stored c.args.key.now absent) (fresh_among r c.args.stamp lacks) c.put-place.ensures.by_key c.put-place.ensures.keeps
-        (λ kept q. c.put-place.ensures.by_stamp kept q ∙ ap (λ n. cond (eqb n q) (Some c.put-place.result) (mapped_place c.make_room.new.by_stamp q)) (ap (λ x. x.stamp) entry)) in
+    put_added g.met.K.Eq.laws r c.in_ok-own.ensures.cases c.in_ok-kept.ensures.cases c.put-place.ensures.free
+    (c.put-place.ensures.nodes ∙ ap (insert c.make_room.new.nodes.nodes c.put-place.result) entry) c.put-place.ensures.idle (c.make_room.ensures.by_key c.in_ok-kept.kept ∙ alike_get g.met.K.Eq.laws c.self.inside.by_key c.in_ok-kept.kept c.args.key.now kept ∙ lacks_key c.self.invariant.stored c.args.key.now absent) (fresh_among r c.args.stamp lacks) c.put-place.ensures.by_key c.put-place.ensures.keeps
+    (λ kept q. c.put-place.ensures.by_stamp kept q ∙ ap (λ n. cond (eqb n q) (Some c.put-place.result) (mapped_place c.make_room.new.by_stamp q)) (ap (λ x. x.stamp) entry)) in
     let sum = sum_with (entries_of c.make_room.new.nodes) (entries_of c.put-place.new.nodes) c.args.stamp (new_held c.in_ok-own.own c.args.charge) (idle_with g.met.K.Eq.laws r added) (held_with g.met.K.Eq.laws r added) (unheld r c.args.stamp lacks) in
     record {
       stored = stored_with g.met.K.Eq.laws r added;
@@ -54,9 +54,9 @@ returns-clause-idle g c =
     let kept = c.self.invariant.stored.copies c.args.key.now c.in_ok-kept.kept c.in_ok-kept.ensures.cases in
     let absent = subst (λ t. ContainsNoKey g.K.PartialEq.eq t c.args.key.now) (sym c.self.view_is) c.requires.absent in
     let added : IsAdded g.K.PartialEq.eq c.make_room.new.nodes c.put-place.new.nodes c.make_room.new.by_key c.put-place.new.by_key c.make_room.new.by_stamp c.put-place.new.by_stamp c.put-place.result (new_entry c.args.stamp c.in_ok-own.own c.args.charge) c.in_ok-kept.kept =
-        put_added g.met.K.Eq.laws r c.in_ok-own.ensures.cases c.in_ok-kept.ensures.cases c.put-place.ensures.free
-        (c.put-place.ensures.nodes ∙ ap (insert c.make_room.new.nodes.nodes c.put-place.result) entry) c.put-place.ensures.idle (c.make_room.ensures.by_key c.in_ok-kept.kept ∙ alike_get g.met.K.Eq.laws c.self.inside.by_key c.in_ok-kept.kept c.args.key.now kept ∙ lacks_key c.self.invariant.stored c.args.key.now absent) (fresh_among r c.args.stamp lacks) c.put-place.ensures.by_key c.put-place.ensures.keeps
-        (λ kept q. c.put-place.ensures.by_stamp kept q ∙ ap (λ n. cond (eqb n q) (Some c.put-place.result) (mapped_place c.make_room.new.by_stamp q)) (ap (λ x. x.stamp) entry)) in
+    put_added g.met.K.Eq.laws r c.in_ok-own.ensures.cases c.in_ok-kept.ensures.cases c.put-place.ensures.free
+    (c.put-place.ensures.nodes ∙ ap (insert c.make_room.new.nodes.nodes c.put-place.result) entry) c.put-place.ensures.idle (c.make_room.ensures.by_key c.in_ok-kept.kept ∙ alike_get g.met.K.Eq.laws c.self.inside.by_key c.in_ok-kept.kept c.args.key.now kept ∙ lacks_key c.self.invariant.stored c.args.key.now absent) (fresh_among r c.args.stamp lacks) c.put-place.ensures.by_key c.put-place.ensures.keeps
+    (λ kept q. c.put-place.ensures.by_stamp kept q ∙ ap (λ n. cond (eqb n q) (Some c.put-place.result) (mapped_place c.make_room.new.by_stamp q)) (ap (λ x. x.stamp) entry)) in
     idle_with g.met.K.Eq.laws r added ∙ ap (λ t. t.idle) (grown ∙ c.self.view_is)
 
 pub returns-clause-ok : goal.returns-clause-ok
@@ -68,10 +68,9 @@ returns-clause-ok g c =
     let kept = c.self.invariant.stored.copies c.args.key.now c.in_ok-kept.kept c.in_ok-kept.ensures.cases in
     let absent = subst (λ t. ContainsNoKey g.K.PartialEq.eq t c.args.key.now) (sym c.self.view_is) c.requires.absent in
     let added : IsAdded g.K.PartialEq.eq c.make_room.new.nodes c.put-place.new.nodes c.make_room.new.by_key c.put-place.new.by_key c.make_room.new.by_stamp c.put-place.new.by_stamp c.put-place.result (new_entry c.args.stamp c.in_ok-own.own c.args.charge) c.in_ok-kept.kept =
-        put_added g.met.K.Eq.laws r c.in_ok-own.ensures.cases c.in_ok-kept.ensures.cases c.put-place.ensures.free
-        (c.put-place.ensures.nodes ∙ ap (insert c.make_room.new.nodes.nodes c.put-place.result) entry) c.put-place.ensures.idle (c.make_room.ensures.by_key c.in_ok-kept.kept ∙ alike_get g.met.K.Eq.laws c.self.inside.by_key c.in_ok-kept.kept c.args.key.now kept ∙ lacks_key c.self.invariant.stored c.args.key.now absent) (fresh_among r c.args.stamp lacks) c.put-place.ensures.by_key c.put-place.ensures.keeps
-        (λ kept q. c.put-place.ensures.by_stamp kept q ∙ ap (λ n. cond (eqb n q) (Some c.put-place.result) (mapped_place c.make_room.new.by_stamp q)) (ap (λ x. x.stamp) entry)) in
-    (
+    put_added g.met.K.Eq.laws r c.in_ok-own.ensures.cases c.in_ok-kept.ensures.cases c.put-place.ensures.free
+    (c.put-place.ensures.nodes ∙ ap (insert c.make_room.new.nodes.nodes c.put-place.result) entry) c.put-place.ensures.idle (c.make_room.ensures.by_key c.in_ok-kept.kept ∙ alike_get g.met.K.Eq.laws c.self.inside.by_key c.in_ok-kept.kept c.args.key.now kept ∙ lacks_key c.self.invariant.stored c.args.key.now absent) (fresh_among r c.args.stamp lacks) c.put-place.ensures.by_key c.put-place.ensures.keeps
+    (λ kept q. c.put-place.ensures.by_stamp kept q ∙ ap (λ n. cond (eqb n q) (Some c.put-place.result) (mapped_place c.make_room.new.by_stamp q)) (ap (λ x. x.stamp) entry)) in (
       c.in_ok-own.own,
       c.self.invariant.stored.copies c.args.key.now c.in_ok-own.own c.in_ok-own.ensures.cases,
       held_with g.met.K.Eq.laws r added ∙ ap (λ t. insert t.held c.args.stamp (new_held c.in_ok-own.own c.args.charge)) (grown ∙ c.self.view_is),

@@ -68,9 +68,9 @@ invariant_of-self-2 g c =
     let kept = c.self.invariant.stored.copies c.args.key.now c.in_ok-kept.kept c.in_ok-kept.ensures.cases in
     let equal = c.requires.keyed n.0 (subst (λ t. GetsAt t c.args.place n.0) (grown ∙ c.self.view_is) (node_is_at r c.args.place n.0 n.1)) in
     let added : IsAdded g.K.PartialEq.eq c.set_detached.new.self c.put-new.new.nodes c.forget_key.new.by_key c.put-new.new.by_key c.make_room.new.by_stamp c.put-new.new.by_stamp c.put-new.result (new_entry c.args.stamp c.in_ok-own.own c.args.charge) c.in_ok-kept.kept =
-        put_added g.met.K.Eq.laws between c.in_ok-own.ensures.cases c.in_ok-kept.ensures.cases c.put-new.ensures.free
-        (c.put-new.ensures.nodes ∙ ap (insert c.set_detached.new.self.nodes c.put-new.result) entry) c.put-new.ensures.idle (forgotten g.met.K.Eq.laws c.make_room.new.by_key c.forget_key.new.by_key n.0.key c.in_ok-kept.kept c.args.key.now equal kept forgets) (fresh_written c.args.stamp writes (fresh_among r c.args.stamp lacks)) c.put-new.ensures.by_key c.put-new.ensures.keeps
-        (λ kept q. c.put-new.ensures.by_stamp kept q ∙ ap (λ n. cond (eqb n q) (Some c.put-new.result) (mapped_place c.make_room.new.by_stamp q)) (ap (λ x. x.stamp) entry)) in
+    put_added g.met.K.Eq.laws between c.in_ok-own.ensures.cases c.in_ok-kept.ensures.cases c.put-new.ensures.free
+    (c.put-new.ensures.nodes ∙ ap (insert c.set_detached.new.self.nodes c.put-new.result) entry) c.put-new.ensures.idle (forgotten g.met.K.Eq.laws c.make_room.new.by_key c.forget_key.new.by_key n.0.key c.in_ok-kept.kept c.args.key.now equal kept forgets) (fresh_written c.args.stamp writes (fresh_among r c.args.stamp lacks)) c.put-new.ensures.by_key c.put-new.ensures.keeps
+    (λ kept q. c.put-new.ensures.by_stamp kept q ∙ ap (λ n. cond (eqb n q) (Some c.put-new.result) (mapped_place c.make_room.new.by_stamp q)) (ap (λ x. x.stamp) entry)) in
     let free = unheld_written r (entries_of c.set_detached.new.self) (held_entry (entry_detached n.0)) c.args.place n.0 n.1 c.args.stamp lacks changed in
     let before = sum_written (entries_of c.make_room.new.nodes) (entries_of c.set_detached.new.self) n.0.stamp (held_entry n.0) (held_entry (entry_detached n.0)) (ap (λ t. t.idle) changed) (ap (λ t. t.held) changed) (held_found r c.args.place n.0 n.1 pinned) refl in
     let sum = sum_with (entries_of c.set_detached.new.self) (entries_of c.put-new.new.nodes) c.args.stamp (new_held c.in_ok-own.own c.args.charge) (idle_with g.met.K.Eq.laws between added) (held_with g.met.K.Eq.laws between added) free in
@@ -95,9 +95,9 @@ returns-clause-ok g c =
     let kept = c.self.invariant.stored.copies c.args.key.now c.in_ok-kept.kept c.in_ok-kept.ensures.cases in
     let equal = c.requires.keyed n.0 (subst (λ t. GetsAt t c.args.place n.0) (grown ∙ c.self.view_is) (node_is_at r c.args.place n.0 n.1)) in
     let added : IsAdded g.K.PartialEq.eq c.set_detached.new.self c.put-new.new.nodes c.forget_key.new.by_key c.put-new.new.by_key c.make_room.new.by_stamp c.put-new.new.by_stamp c.put-new.result (new_entry c.args.stamp c.in_ok-own.own c.args.charge) c.in_ok-kept.kept =
-        put_added g.met.K.Eq.laws between c.in_ok-own.ensures.cases c.in_ok-kept.ensures.cases c.put-new.ensures.free
-        (c.put-new.ensures.nodes ∙ ap (insert c.set_detached.new.self.nodes c.put-new.result) entry) c.put-new.ensures.idle (forgotten g.met.K.Eq.laws c.make_room.new.by_key c.forget_key.new.by_key n.0.key c.in_ok-kept.kept c.args.key.now equal kept forgets) (fresh_written c.args.stamp writes (fresh_among r c.args.stamp lacks)) c.put-new.ensures.by_key c.put-new.ensures.keeps
-        (λ kept q. c.put-new.ensures.by_stamp kept q ∙ ap (λ n. cond (eqb n q) (Some c.put-new.result) (mapped_place c.make_room.new.by_stamp q)) (ap (λ x. x.stamp) entry)) in
+    put_added g.met.K.Eq.laws between c.in_ok-own.ensures.cases c.in_ok-kept.ensures.cases c.put-new.ensures.free
+    (c.put-new.ensures.nodes ∙ ap (insert c.set_detached.new.self.nodes c.put-new.result) entry) c.put-new.ensures.idle (forgotten g.met.K.Eq.laws c.make_room.new.by_key c.forget_key.new.by_key n.0.key c.in_ok-kept.kept c.args.key.now equal kept forgets) (fresh_written c.args.stamp writes (fresh_among r c.args.stamp lacks)) c.put-new.ensures.by_key c.put-new.ensures.keeps
+    (λ kept q. c.put-new.ensures.by_stamp kept q ∙ ap (λ n. cond (eqb n q) (Some c.put-new.result) (mapped_place c.make_room.new.by_stamp q)) (ap (λ x. x.stamp) entry)) in
     subst (λ t. AddsOverHeld g.K.PartialEq.eq t c.args.place c.args.stamp c.args.key.now c.args.charge (entries_of c.put-new.new.nodes)) (grown ∙ c.self.view_is) (record {
       mid = entries_of c.set_detached.new.self;
       detached = record {

@@ -124,9 +124,9 @@ invariant_of-self-2 g c =
     let equal = c.requires.keyed e here in
     let forgets = forgets_taken r taken rests in
     let added : IsAdded g.K.PartialEq.eq c.take_away-old.new.nodes c.put-new.new.nodes c.take_away-old.new.by_key c.put-new.new.by_key c.take_away-old.new.by_stamp c.put-new.new.by_stamp c.put-new.result (new_entry c.args.stamp c.in_ok-own.own c.args.charge) c.in_ok-kept.kept =
-        put_added g.met.K.Eq.laws between c.in_ok-own.ensures.cases c.in_ok-kept.ensures.cases c.put-new.ensures.free
-        (c.put-new.ensures.nodes ∙ ap (insert c.take_away-old.new.nodes.nodes c.put-new.result) entry) c.put-new.ensures.idle (forgotten g.met.K.Eq.laws c.make_room.new.by_key c.take_away-old.new.by_key e.key c.in_ok-kept.kept c.args.key.now equal kept forgets) (fresh_taken c.make_room.new.nodes c.take_away-old.new.nodes c.args.place c.args.stamp taken.nodes (fresh_among r c.args.stamp lacks)) c.put-new.ensures.by_key c.put-new.ensures.keeps
-        (λ kept q. c.put-new.ensures.by_stamp kept q ∙ ap (λ n. cond (eqb n q) (Some c.put-new.result) (mapped_place c.take_away-old.new.by_stamp q)) (ap (λ x. x.stamp) entry)) in
+    put_added g.met.K.Eq.laws between c.in_ok-own.ensures.cases c.in_ok-kept.ensures.cases c.put-new.ensures.free
+    (c.put-new.ensures.nodes ∙ ap (insert c.take_away-old.new.nodes.nodes c.put-new.result) entry) c.put-new.ensures.idle (forgotten g.met.K.Eq.laws c.make_room.new.by_key c.take_away-old.new.by_key e.key c.in_ok-kept.kept c.args.key.now equal kept forgets) (fresh_taken c.make_room.new.nodes c.take_away-old.new.nodes c.args.place c.args.stamp taken.nodes (fresh_among r c.args.stamp lacks)) c.put-new.ensures.by_key c.put-new.ensures.keeps
+    (λ kept q. c.put-new.ensures.by_stamp kept q ∙ ap (λ n. cond (eqb n q) (Some c.put-new.result) (mapped_place c.take_away-old.new.by_stamp q)) (ap (λ x. x.stamp) entry)) in
     let free = ap (λ h. get h c.args.stamp) (held_same g.met.K.Eq.laws r taken rests) ∙ unheld r c.args.stamp lacks in
     let less = sum_evicted (entries_of c.make_room.new.nodes) (entries_of c.take_away-old.new.nodes) e.stamp (record { stamp = e.stamp; key = e.key; charge = e.charge; value = like.0 }) (stamps_apart c.make_room.new.nodes _ r.represents) (idle_without g.met.K.Eq.laws r taken rests) (held_same g.met.K.Eq.laws r taken rests) ((idle_found r c.args.place e taken.at rests).1 ∙ as_idle-ready e like.0 like.2) in
     let total : c.take_away-old.new.total ≡ charges_of (entries_of c.take_away-old.new.nodes) = less_alike _ _ _ _ e.charge c.take_away-old.ensures.total less (c.self.invariant.sums ∙ ap charges_of (sym grown)) in
@@ -178,9 +178,9 @@ returns-clause-ok g c =
     let equal = c.requires.keyed e here in
     let forgets = forgets_taken r taken rests in
     let added : IsAdded g.K.PartialEq.eq c.take_away-old.new.nodes c.put-new.new.nodes c.take_away-old.new.by_key c.put-new.new.by_key c.take_away-old.new.by_stamp c.put-new.new.by_stamp c.put-new.result (new_entry c.args.stamp c.in_ok-own.own c.args.charge) c.in_ok-kept.kept =
-        put_added g.met.K.Eq.laws between c.in_ok-own.ensures.cases c.in_ok-kept.ensures.cases c.put-new.ensures.free
-        (c.put-new.ensures.nodes ∙ ap (insert c.take_away-old.new.nodes.nodes c.put-new.result) entry) c.put-new.ensures.idle (forgotten g.met.K.Eq.laws c.make_room.new.by_key c.take_away-old.new.by_key e.key c.in_ok-kept.kept c.args.key.now equal kept forgets) (fresh_taken c.make_room.new.nodes c.take_away-old.new.nodes c.args.place c.args.stamp taken.nodes (fresh_among r c.args.stamp lacks)) c.put-new.ensures.by_key c.put-new.ensures.keeps
-        (λ kept q. c.put-new.ensures.by_stamp kept q ∙ ap (λ n. cond (eqb n q) (Some c.put-new.result) (mapped_place c.take_away-old.new.by_stamp q)) (ap (λ x. x.stamp) entry)) in
+    put_added g.met.K.Eq.laws between c.in_ok-own.ensures.cases c.in_ok-kept.ensures.cases c.put-new.ensures.free
+    (c.put-new.ensures.nodes ∙ ap (insert c.take_away-old.new.nodes.nodes c.put-new.result) entry) c.put-new.ensures.idle (forgotten g.met.K.Eq.laws c.make_room.new.by_key c.take_away-old.new.by_key e.key c.in_ok-kept.kept c.args.key.now equal kept forgets) (fresh_taken c.make_room.new.nodes c.take_away-old.new.nodes c.args.place c.args.stamp taken.nodes (fresh_among r c.args.stamp lacks)) c.put-new.ensures.by_key c.put-new.ensures.keeps
+    (λ kept q. c.put-new.ensures.by_stamp kept q ∙ ap (λ n. cond (eqb n q) (Some c.put-new.result) (mapped_place c.take_away-old.new.by_stamp q)) (ap (λ x. x.stamp) entry)) in
     subst (λ t. AddsOverIdle g.K.PartialEq.eq t c.args.place (entry_of c.take_away-old.result.value) c.args.stamp c.args.key.now c.args.charge (entries_of c.put-new.new.nodes)) (grown ∙ c.self.view_is) (record {
       mid = entries_of c.take_away-old.new.nodes;
       at = place_at r c.args.place e taken.at;

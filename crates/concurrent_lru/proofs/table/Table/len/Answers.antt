@@ -1,4 +1,4 @@
-use Rattle.std.proofs.Common.{◌≡◌, sym, ap, ◌∙◌}
+use Rattle.std.proofs.Common.{sym, ap, ◌∙◌}
 use Rattle.concurrent_lru.specs.Cache.{count_of}
 use Rattle.concurrent_lru.specs.Entries.{cache_of}
 use Rattle.concurrent_lru.proofs.Entries.CountOfEntries.{entries_of_nodes}
