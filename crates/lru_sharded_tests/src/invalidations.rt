@@ -5,7 +5,7 @@ use crate::{pure, threaded};
 use concurrent_lru::sharded::LruCache;
 use lru_fixtures::tables::shards::ShardCall;
 use lru_fixtures::threaded::Call;
-use lru_fixtures::threaded::Call::{Get, Init, Invalidate, LetGo, Show, Total};
+use lru_fixtures::threaded::Call::{Get, Init, Insert, Invalidate, LetGo, Show, Total};
 use lru_fixtures::threaded::Then::{AtOnce, Keep};
 use lru_support::hashers::ByOwnNumber;
 use std::sync::Wait;
@@ -57,6 +57,25 @@ const THREADED: [(Call, &str); 12] = [
 #[test]
 fn a_held_value_is_replaced(rt: HostRuntime) -> Result<(), test::Fail> {
     threaded::plays(&rt, rt.alloc(), 20, 2, &THREADED)
+}
+
+// A value that is put in replaces that of its key alone; the old one, if held, is read still.
+const PUT_IN: [(Call, &str); 10] = [
+    (Insert(1, 3, 1, Keep(0)), "Put(1)"),
+    (Insert(2, 3, 2, AtOnce), "Put(2)"),
+    (Insert(1, 4, 3, AtOnce), "Put(3)"),
+    (Total, "Number(10)"),
+    (Show, "[{2: 2}, {1: 3}]"),
+    (LetGo(0), "Done, drops [1]"),
+    (Insert(2, 5, 4, AtOnce), "Put(4), drops [2]"),
+    (Get(2, AtOnce), "Found(4)"),
+    (Get(1, AtOnce), "Found(3)"),
+    (Total, "Number(9)"),
+];
+
+#[test]
+fn a_present_key_is_replaced(rt: HostRuntime) -> Result<(), test::Fail> {
+    threaded::plays(&rt, rt.alloc(), 20, 2, &PUT_IN)
 }
 
 // What a handle reads after its value was taken back, what is found then, and what is made anew.

@@ -50,7 +50,7 @@ fn a_new_value_outlives_the_old_one(rt: HostRuntime) -> Result<(), test::Fail> {
 
 // The cases of a storage engine's own cache test, with a charge beside each value: a present key is
 // replaced, what is held is read still, and what nobody holds leaves in the order of its releases.
-const HIT_AND_MISS: [(Call, &str); 8] = [
+const HIT_AND_MISS: [(Call, &str); 9] = [
     (Get(100, AtOnce), "Absent"),
     (Insert(100, 1, 101, AtOnce), "Put(101)"),
     (Get(100, AtOnce), "Found(101)"),
@@ -59,6 +59,7 @@ const HIT_AND_MISS: [(Call, &str); 8] = [
     (Insert(100, 1, 102, AtOnce), "Put(102), drops [101]"),
     (Get(100, AtOnce), "Found(102)"),
     (Get(200, AtOnce), "Found(201)"),
+    (Get(300, AtOnce), "Absent"),
 ];
 
 #[test]
@@ -118,13 +119,34 @@ fn what_is_used_or_held_outlives_the_rest(rt: HostRuntime) -> Result<(), test::F
     plays(&rt, rt.alloc(), 3, &EVICTED)
 }
 
-// Held values may pass the capacity; heavy ones push light ones out; a prune leaves what is held.
-const CROWDED: [(Call, &str); 12] = [
+// Light entries and heavy ones: what stays weighs no more than the capacity, and the oldest leave.
+const HEAVY: [(Call, &str); 10] = [
+    (Insert(1, 1, 101, AtOnce), "Put(101)"),
+    (Insert(2, 10, 102, AtOnce), "Put(102)"),
+    (Insert(3, 1, 103, AtOnce), "Put(103)"),
+    (Insert(4, 10, 104, AtOnce), "Put(104)"),
+    (Insert(5, 1, 105, AtOnce), "Put(105), drops [101]"),
+    (Insert(6, 10, 106, AtOnce), "Put(106), drops [102]"),
+    (Insert(7, 10, 107, AtOnce), "Put(107), drops [103, 104]"),
+    (Total, "Number(21)"),
+    (Insert(8, 1, 108, AtOnce), "Put(108)"),
+    (Total, "Number(22)"),
+];
+
+#[test]
+fn heavy_entries_leave_room_for_few(rt: HostRuntime) -> Result<(), test::Fail> {
+    plays(&rt, rt.alloc(), 22, &HEAVY)
+}
+
+// Held values may pass the capacity, and a prune leaves what is held.
+const CROWDED: [(Call, &str); 14] = [
     (Insert(1, 2, 1, Keep(0)), "Put(1)"),
     (Insert(2, 2, 2, Keep(1)), "Put(2)"),
     (Insert(3, 2, 3, Keep(2)), "Put(3)"),
     (Total, "Number(6)"),
     (Get(1, AtOnce), "Found(1)"),
+    (Get(2, AtOnce), "Found(2)"),
+    (Get(3, AtOnce), "Found(3)"),
     (LetGo(0), "Done, drops [1]"),
     (LetGo(1), "Done"),
     (Insert(4, 1, 4, AtOnce), "Put(4), drops [2]"),
