@@ -1,7 +1,7 @@
 //! Steps of a journal, whose keys are texts, and then its records.
 ghost use Rattle.std.specs.Prelude.{◌<◌};
 
-use crate::step::{Asked, Step};
+use crate::step::{Asked, NO_SUCH_STEP, Step};
 use crate::told::Told;
 use concurrent_lru::lru_core::Refusal;
 use lru_journal::journal::Journal;
@@ -32,19 +32,11 @@ impl Asked<Step<&'static str>> for Journal<String, u64> {
         step: Step<&'static str>,
         told: &mut Told<'_, O, E>,
     ) -> Result<bool, Refusal> {
+        if let Some(key) = step.key() {
+            let key = String::from_str(alloc, key)?;
+            return Ok(ask_with_key(self, step, &key, told));
+        }
         match step {
-            Step::Begin(key, charge) => {
-                let key = String::from_str(alloc, key)?;
-                Ok(told.answer(&step, &self.begin(&key, charge.max(1))))
-            }
-            Step::Get(key) => {
-                let key = String::from_str(alloc, key)?;
-                Ok(told.answer(&step, &self.get(&key)))
-            }
-            Step::AdviceEvict(key) => {
-                let key = String::from_str(alloc, key)?;
-                Ok(told.answer(&step, &self.advice_evict(&key)))
-            }
             Step::Ready(stamp, value) => {
                 let value = Arc::new(alloc, value)?;
                 if let Some(value) = told.handed_over(&step, self.ready(stamp, value)) {
@@ -53,6 +45,26 @@ impl Asked<Step<&'static str>> for Journal<String, u64> {
                 Ok(false)
             }
             _ => Ok(ask_plainly(self, step, told)),
+        }
+    }
+}
+
+// Takes a step that has this key.
+fn ask_with_key<O: Write, E: Write>(
+    journal: &mut Journal<String, u64>,
+    step: Step<&'static str>,
+    key: &String,
+    told: &mut Told<'_, O, E>,
+) -> bool {
+    match step {
+        Step::Begin(_, charge) => told.answer(&step, &journal.begin(key, charge.max(1))),
+        Step::Get(_) => told.answer(&step, &journal.get(key)),
+        Step::Read(_) => told.answer(&step, &journal.read(key, |value| *value)),
+        Step::AdviceEvict(_) => told.answer(&step, &journal.advice_evict(key)),
+        Step::Invalidate(_) => told.answer(&step, &journal.invalidate(key)),
+        _ => {
+            told.line(&step, &NO_SUCH_STEP);
+            false
         }
     }
 }
@@ -69,6 +81,10 @@ fn ask_plainly<O: Write, E: Write>(
         Step::Release(stamp) => told.answer(&step, &journal.release(stamp)),
         Step::Prune => told.answer(&step, &journal.prune()),
         Step::SetCapacity(capacity) => told.answer(&step, &journal.set_capacity(capacity)),
-        _ => told.answer(&step, &journal.total()),
+        Step::Total => told.answer(&step, &journal.total()),
+        _ => {
+            told.line(&step, &NO_SUCH_STEP);
+            false
+        }
     }
 }

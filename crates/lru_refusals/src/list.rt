@@ -85,6 +85,7 @@ fn run_from(alloc: Global, step: Step<u64, u64>) -> Result<Answers, AllocError>
         Step::Total,
         Step::Release(0),
         Step::Release(0),
+        Step::Invalidate(1),
     ]?;
     let mut state: State<u64, u64> = State::new(alloc, 10);
     Ok(state.run(steps))
@@ -94,6 +95,7 @@ fn run_from(alloc: Global, step: Step<u64, u64>) -> Result<Answers, AllocError>
 fn run_shards(alloc: Global) -> Result<ShardAnswers, Refusal> {
     let steps = vec![in alloc;
         ShardStep::Get(1),
+        ShardStep::Invalidate(1),
         ShardStep::Poll(1, 0),
         ShardStep::Prune(2),
         ShardStep::Total(0),

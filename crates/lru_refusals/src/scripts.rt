@@ -3,7 +3,8 @@
 use crate::script::Script;
 use crate::state::Opening;
 use crate::step::Step::{
-    AdviceEvict, Begin, Fail, Get, Poll, Prune, Ready, Release, SetCapacity, Total,
+    AdviceEvict, Begin, Fail, Get, Insert, Invalidate, Poll, Prune, Read, Ready, Release,
+    SetCapacity, Total,
 };
 use crate::threaded::Call;
 use crate::{shards, step};
@@ -21,17 +22,23 @@ pub const SCRIPTS: &[(&str, Script)] = &[
     ("state-one-pin", Script::Limited(OF_ONE_PIN, ONE_PIN)),
     ("state-strays", Script::State(10, STRAYS)),
     ("state-hits", Script::State(10, HITS)),
+    ("state-reads", Script::State(2, READS)),
+    ("state-taken-back", Script::State(10, TAKEN_BACK)),
+    ("state-put-in", Script::State(3, PUT_IN)),
     ("state-capacities", Script::State(9, CAPACITIES)),
     ("state-growths", Script::State(9, GROWTHS)),
     ("state-room", Script::Limited(WITH_ROOM, GROWTHS)),
     ("state-much-room", Script::Limited(WITH_MUCH_ROOM, FILLED)),
     ("state-list", Script::List),
     ("shards-one-evicts", Script::Shards(2, 2, SHARDS)),
+    ("shards-taken-back", Script::Shards(6, 2, SHARDS_TAKEN_BACK)),
     ("shards-list", Script::ShardList),
     ("journal-evicts", Script::Journal(1, EVICTS)),
     ("journal-polls", Script::Journal(10, POLLS)),
     ("journal-stores", Script::Journal(10, STORES)),
     ("journal-fails", Script::Journal(10, FAILS)),
+    ("journal-reads", Script::Journal(2, READS)),
+    ("journal-taken-back", Script::Journal(10, TAKEN_BACK)),
     ("journal-finds-nothing", Script::Journal(10, FINDS_NOTHING)),
     ("journal-refuses", Script::Journal(10, REFUSES)),
     ("twin-hits", Script::Twin(10, TWIN_HITS, &[])),
@@ -39,6 +46,8 @@ pub const SCRIPTS: &[(&str, Script)] = &[
     ("twin-polls", Script::Twin(10, POLLS, &[])),
     ("twin-stores", Script::Twin(10, STORES, &[])),
     ("twin-fails", Script::Twin(10, FAILS, &[])),
+    ("twin-reads", Script::Twin(2, READS, &[])),
+    ("twin-taken-back", Script::Twin(10, TAKEN_BACK, &[])),
     ("twin-finds-nothing", Script::Twin(10, FINDS_NOTHING, &[])),
     ("twin-refuses", Script::Twin(10, REFUSES, &[])),
     (
@@ -48,6 +57,9 @@ pub const SCRIPTS: &[(&str, Script)] = &[
     ("unsharded-values", Script::Unsharded(10, VALUES)),
     ("unsharded-evicts", Script::Unsharded(5, LARGE_VALUES)),
     ("unsharded-fails", Script::Unsharded(10, FAILED)),
+    ("unsharded-reads", Script::Unsharded(2, READ_VALUES)),
+    ("unsharded-taken-back", Script::Unsharded(10, TAKEN_VALUES)),
+    ("unsharded-put-in", Script::Unsharded(3, PUT_VALUES)),
     ("unsharded-room", Script::Unsharded(10, ROOM)),
     ("unsharded-much-room", Script::Unsharded(40, MUCH_ROOM)),
     ("unsharded-over-two", Script::OverTwo),
@@ -55,6 +67,9 @@ pub const SCRIPTS: &[(&str, Script)] = &[
     ("sharded-values", Script::Sharded(10, 1, VALUES)),
     ("sharded-evicts", Script::Sharded(5, 1, LARGE_VALUES)),
     ("sharded-fails", Script::Sharded(10, 1, FAILED)),
+    ("sharded-reads", Script::Sharded(2, 1, READ_VALUES)),
+    ("sharded-taken-back", Script::Sharded(160, 16, TAKEN_VALUES)),
+    ("sharded-put-in", Script::Sharded(3, 1, PUT_VALUES)),
     ("sharded-room", Script::Sharded(40, 4, ROOM)),
     ("sharded-much-room", Script::Sharded(80, 2, MUCH_ROOM)),
     ("sharded-many", Script::Sharded(160, 16, VALUES)),
@@ -110,7 +125,13 @@ const AT_LAST_STAMP: Opening = Opening {
 };
 
 // A begin that was refused for want of memory has not used up the last stamp but one.
-const LAST_STAMP: &[Step] = &[Begin("1", 1), Begin("2", 1), Total];
+const LAST_STAMP: &[Step] = &[
+    Begin("1", 1),
+    Begin("2", 1),
+    Insert("1", 1, 5),
+    Begin("1", 1),
+    Total,
+];
 
 const OF_ONE_PIN: Opening = Opening {
     capacity: 10,
@@ -119,7 +140,15 @@ const OF_ONE_PIN: Opening = Opening {
     room: 0,
 };
 
-const ONE_PIN: &[Step] = &[Begin("1", 1), Ready(0, 1), Get("1"), Release(0), Get("1")];
+const ONE_PIN: &[Step] = &[
+    Begin("1", 1),
+    Ready(0, 1),
+    Get("1"),
+    Read("1"),
+    Release(0),
+    Read("1"),
+    Get("1"),
+];
 
 // Stamps that no longer fit.
 const STRAYS: &[Step] = &[
@@ -155,6 +184,33 @@ const HITS: &[Step] = &[
     Release(0),
     Release(0),
     AdviceEvict("1"),
+];
+
+// The old value is detached or evicted before the new one is there. The charge of an idle one does
+// not count beside that of the new one; that of a held one does.
+const PUT_IN: &[Step] = &[
+    Insert("1", 1, 10),
+    Insert("1", 2, 11),
+    Read("1"),
+    Release(0),
+    Release(1),
+    Insert("1", 3, 12),
+    Release(2),
+    Insert("2", 1, 20),
+    Release(3),
+    Insert("2", u64::MAX, 21),
+    Insert("3", 1, 30),
+    Insert("2", 1, 22),
+    Get("2"),
+    Release(4),
+    Release(4),
+    Begin("3", 1),
+    Insert("3", 1, 31),
+    Ready(5, 32),
+    Release(5),
+    Read("3"),
+    Release(6),
+    Total,
 ];
 
 const CAPACITIES: &[Step] = &[
@@ -270,8 +326,33 @@ const SHARDS: &[shards::ShardStep] = &[
     (1, Total),
 ];
 
+// An entry that is held when its key is taken back is evicted with its last pin; others leave at
+// once. The shard of the key alone looks for it.
+const SHARDS_TAKEN_BACK: &[shards::ShardStep] = &[
+    (1, Begin(1, 1)),
+    (1, Ready(0, 10)),
+    (0, Begin(0, 1)),
+    (0, Ready(0, 20)),
+    (0, Release(0)),
+    (1, Invalidate(3)),
+    (1, Invalidate(1)),
+    (1, Read(1)),
+    (0, Read(0)),
+    (1, Begin(1, 2)),
+    (1, Total),
+    (1, Release(0)),
+    (1, Ready(1, 11)),
+    (1, Read(1)),
+    (1, Release(1)),
+    (1, Invalidate(1)),
+    (0, Invalidate(0)),
+    (0, Total),
+    (1, Total),
+];
+
 // The tables of a journal and of a twin have each step once where its record needs new room: there
-// is none at first, then it lasts for four records, and then for eight.
+// is none at first, then it lasts for four records, and then for eight. A read asks for the room of
+// two.
 const EVICTS: &[Step] = &[
     Begin("1", 1),
     Ready(0, 1),
@@ -318,6 +399,45 @@ const FAILS: &[Step] = &[
     Fail(0),
     Total,
     Begin("1", 1),
+];
+
+// A read finds what is ready, makes it the newest, and leaves no pin.
+const READS: &[Step] = &[
+    Read("1"),
+    Begin("1", 1),
+    Read("1"),
+    Ready(0, 10),
+    Read("1"),
+    Release(0),
+    Begin("2", 1),
+    Ready(1, 20),
+    Release(1),
+    Read("1"),
+    Begin("3", 1),
+    Read("2"),
+    Read("1"),
+    Total,
+];
+
+// An entry whose key is taken back while a caller waits for it is made for that caller, beside the
+// new one of the key.
+const TAKEN_BACK: &[Step] = &[
+    Invalidate("1"),
+    Begin("1", 1),
+    Begin("1", 1),
+    Fail(0),
+    Invalidate("1"),
+    Get("1"),
+    Begin("1", 2),
+    Poll(0),
+    Ready(0, 10),
+    Ready(1, 20),
+    Total,
+    Release(0),
+    Read("1"),
+    Release(1),
+    Invalidate("1"),
+    Total,
 ];
 
 const FINDS_NOTHING: &[Step] = &[
@@ -431,6 +551,54 @@ const FAILED: &[Call] = &[
     Call::Get(3),
     Call::Try(3, 1, 3),
     Call::Get(3),
+    Call::Total,
+];
+
+// A read makes its entry the newest, and leaves no pin.
+const READ_VALUES: &[Call] = &[
+    Call::Read(1),
+    Call::Make(1, 1, 10),
+    Call::Make(2, 1, 20),
+    Call::Read(1),
+    Call::Make(3, 1, 30),
+    Call::Read(2),
+    Call::Read(1),
+    Call::Read(3),
+    Call::Total,
+    Call::Prune,
+    Call::Read(1),
+    Call::Total,
+];
+
+// A key that was taken back is found no more, and made anew.
+const TAKEN_VALUES: &[Call] = &[
+    Call::Invalidate(1),
+    Call::Make(1, 1, 10),
+    Call::Make(2, 2, 20),
+    Call::Invalidate(1),
+    Call::Get(1),
+    Call::Get(2),
+    Call::Total,
+    Call::Make(1, 3, 11),
+    Call::Get(1),
+    Call::Total,
+];
+
+// A value that is put in replaces the one that the key has, whose charge does not count beside its
+// own. One that is refused leaves all as it was.
+const PUT_VALUES: &[Call] = &[
+    Call::Insert(1, 1, 10),
+    Call::Insert(1, 2, 11),
+    Call::Get(1),
+    Call::Insert(2, 2, 20),
+    Call::Get(1),
+    Call::Get(2),
+    Call::Insert(2, u64::MAX, 21),
+    Call::Get(2),
+    Call::Total,
+    Call::Make(1, 1, 12),
+    Call::Insert(2, u64::MAX, 22),
+    Call::Get(1),
     Call::Total,
 ];
 

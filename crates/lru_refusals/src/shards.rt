@@ -1,7 +1,7 @@
 //! Steps of shards without a lock, whose keys are numbers: the shard of a key can be told from it.
 ghost use Rattle.std.specs.Prelude.{◌<◌};
 
-use crate::step::{Asked, Step};
+use crate::step::{Asked, NO_SUCH_STEP, Step};
 use crate::told::Told;
 use concurrent_lru::lru_core::Refusal;
 use concurrent_lru::sharded::Shards;
@@ -55,8 +55,13 @@ impl Asked<ShardStep> for Shards<u64, u64, ByOwnNumber> {
         match step {
             Step::Begin(key, charge) => { Ok(told.answer(&step, &self.begin(&key, charge.max(1)))) }
             Step::Get(key) => Ok(told.answer(&step, &self.get(&key))),
+            Step::Read(key) => Ok(told.answer(&step, &self.read(&key, |value| *value))),
             Step::AdviceEvict(key) => {
                 told.line(&step, &self.advice_evict(&key));
+                Ok(false)
+            }
+            Step::Invalidate(key) => {
+                told.line(&step, &self.invalidate(&key));
                 Ok(false)
             }
             Step::Ready(stamp, value) => {
@@ -84,6 +89,10 @@ fn ask_plainly<O: Write, E: Write>(
         Step::SetCapacity(capacity) => {
             told.answer(&step, &shards.set_capacity_shard(shard, capacity))
         }
-        _ => told.answer(&step, &shards.total_shard(shard)),
+        Step::Total => told.answer(&step, &shards.total_shard(shard)),
+        _ => {
+            told.line(&step, &NO_SUCH_STEP);
+            false
+        }
     }
 }

@@ -1,7 +1,7 @@
 //! Steps of a cache without a lock, whose keys are texts: copies of them ask for memory.
 ghost use Rattle.std.specs.Prelude.{◌<◌};
 
-use crate::step::{Asked, Step};
+use crate::step::{Asked, NO_SUCH_STEP, Step};
 use crate::told::Told;
 use concurrent_lru::lru_core::{Refusal, State};
 use std::alloc::Global;
@@ -61,20 +61,11 @@ impl Asked<Step<&'static str>> for State<String, u64> {
         step: Step<&'static str>,
         told: &mut Told<'_, O, E>,
     ) -> Result<bool, Refusal> {
+        if let Some(key) = step.key() {
+            let key = String::from_str(alloc, key)?;
+            return ask_with_key(alloc, self, step, &key, told);
+        }
         match step {
-            Step::Begin(key, charge) => {
-                let key = String::from_str(alloc, key)?;
-                Ok(told.answer(&step, &self.begin(&key, charge.max(1))))
-            }
-            Step::Get(key) => {
-                let key = String::from_str(alloc, key)?;
-                Ok(told.answer(&step, &self.get(&key)))
-            }
-            Step::AdviceEvict(key) => {
-                let key = String::from_str(alloc, key)?;
-                told.line(&step, &self.advice_evict(&key));
-                Ok(false)
-            }
             Step::Ready(stamp, value) => {
                 let value = Arc::new(alloc, value)?;
                 told.line(&step, &self.ready(stamp, value));
@@ -82,6 +73,46 @@ impl Asked<Step<&'static str>> for State<String, u64> {
             }
             _ => Ok(ask_plainly(self, step, told)),
         }
+    }
+}
+
+// Takes a step that has this key.
+fn ask_with_key<O: Write, E: Write>(
+    alloc: Global,
+    state: &mut State<String, u64>,
+    step: Step<&'static str>,
+    key: &String,
+    told: &mut Told<'_, O, E>,
+) -> Result<bool, Refusal> {
+    match step {
+        Step::Begin(_, charge) => {
+            return Ok(told.answer(&step, &state.begin(key, charge.max(1))));
+        }
+        Step::Get(_) => return Ok(told.answer(&step, &state.get(key))),
+        Step::Read(_) => return Ok(told.answer(&step, &state.read(key, |value| *value))),
+        Step::Insert(_, charge, value) => {
+            let value = Arc::new(alloc, value)?;
+            insert(state, step, key, charge.max(1), value, told);
+        }
+        Step::Invalidate(_) => told.line(&step, &state.invalidate(key)),
+        _ => told.line(&step, &state.advice_evict(key)),
+    }
+    Ok(false)
+}
+
+// Puts a value in; one that comes back for want of memory is put in once more.
+fn insert<O: Write, E: Write>(
+    state: &mut State<String, u64>,
+    step: Step<&'static str>,
+    key: &String,
+    charge: u64,
+    value: Arc<u64>,
+    told: &mut Told<'_, O, E>,
+)
+    requires { 0 < charge }
+{
+    if let Some(value) = told.handed_over(&step, state.insert(key, charge, value)) {
+        told.line(&step, &state.insert(key, charge, value));
     }
 }
 
@@ -97,7 +128,8 @@ fn ask_plainly<O: Write, E: Write>(
         Step::Release(stamp) => return told.answer(&step, &state.release(stamp)),
         Step::Prune => told.line(&step, &state.prune()),
         Step::SetCapacity(capacity) => told.line(&step, &state.set_capacity(capacity)),
-        _ => told.line(&step, &state.total()),
+        Step::Total => told.line(&step, &state.total()),
+        _ => told.line(&step, &NO_SUCH_STEP),
     }
     false
 }

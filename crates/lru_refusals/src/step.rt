@@ -18,10 +18,16 @@ pub enum Step<K> {
     Fail(u64),
     /// `get` with a key.
     Get(K),
+    /// `read` with a key, by a reader that copies the value.
+    Read(K),
     /// `release` with a stamp.
     Release(u64),
     /// `advice_evict` with a key.
     AdviceEvict(K),
+    /// `invalidate` with a key.
+    Invalidate(K),
+    /// `insert` with a key, a charge and a value.
+    Insert(K, u64, u64),
     /// `prune`.
     Prune,
     /// `set_capacity` with a capacity.
@@ -29,6 +35,24 @@ pub enum Step<K> {
     /// `total`.
     Total,
 }
+
+impl<K: Copy> Step<K> {
+    /// The key that the step names, where it names one.
+    pub fn key(self) -> Option<K> {
+        match self {
+            Step::Begin(key, _)
+            | Step::Get(key)
+            | Step::Read(key)
+            | Step::AdviceEvict(key)
+            | Step::Invalidate(key)
+            | Step::Insert(key, ..) => Some(key),
+            _ => None,
+        }
+    }
+}
+
+/// What is told of a step that the cache does not have.
+pub const NO_SUCH_STEP: &str = "no such step";
 
 /// A cache that takes steps `S`.
 pub trait Asked<S> {

@@ -23,6 +23,12 @@ pub enum Call {
     Fail(u64, u64),
     /// `get` with a key.
     Get(u64),
+    /// `read` with a key, by a reader that copies the value.
+    Read(u64),
+    /// `insert` with a key, a charge and a value.
+    Insert(u64, u64, u64),
+    /// `invalidate` with a key.
+    Invalidate(u64),
     /// `reserve` with a number of entries.
     Reserve(usize),
     /// `set_capacity` with a capacity.
@@ -114,11 +120,11 @@ fn make_over_two<C: Cached<u64>, O: Write, E: Write>(cache: C, told: &mut Told<'
     let wanted = match ran {
         Some(_) => {
             told.memory(&"get_or_init, after its init");
-            (None, None, 0)
+            (Ok(None), Ok(None), 0)
         }
         None => {
             told.memory(&"get_or_init, before its init");
-            (Some(1), Some(2), 2)
+            (Ok(Some(1)), Ok(Some(2)), 2)
         }
     };
     if left != wanted {
@@ -128,10 +134,10 @@ fn make_over_two<C: Cached<u64>, O: Write, E: Write>(cache: C, told: &mut Told<'
 }
 
 /// The value that a `get` finds.
-pub fn value_found<C: Cached<u64>>(cache: C, key: u64) -> Option<u64> {
-    match cache.found(key) {
-        Ok(Some(handle)) => Some(*C::value_of(&handle)),
-        _ => None,
+pub fn value_found<C: Cached<u64>>(cache: C, key: u64) -> Result<Option<u64>, Refusal> {
+    match cache.found(key)? {
+        Some(handle) => Ok(Some(*C::value_of(&handle))),
+        None => Ok(None),
     }
 }
 
@@ -162,6 +168,9 @@ fn ask<C: Cached<u64>, O: Write, E: Write>(
 ) -> bool {
     let mut ran = None;
     let made = match call {
+        Call::Insert(key, charge, value) => {
+            return told.answer(&call, &value_put(cache, key, charge.max(1), value));
+        }
         Call::Make(key, charge, value) => make_value(cache, key, charge.max(1), value, &mut ran),
         Call::Try(key, charge, value) => try_make_value(
             cache,
@@ -176,6 +185,14 @@ fn ask<C: Cached<u64>, O: Write, E: Write>(
     told.answer(&call, &value_made::<C>(made))
 }
 
+// The value that an insert puts in.
+fn value_put<C: Cached<u64>>(cache: C, key: u64, charge: u64, value: u64) -> Result<u64, Refusal>
+    requires { 0 < charge }
+{
+    let handle = cache.put(key, charge, value)?;
+    Ok(*C::value_of(&handle))
+}
+
 // Makes a call that makes no value.
 fn ask_for_none<C: Cached<u64>, O: Write, E: Write>(
     cache: C,
@@ -184,9 +201,11 @@ fn ask_for_none<C: Cached<u64>, O: Write, E: Write>(
 ) -> bool {
     match call {
         Call::Reserve(entries) => return told.answer(&call, &cache.make_room(entries)),
+        Call::Get(key) => return told.answer(&call, &value_found(cache, key)),
+        Call::Read(key) => return told.answer(&call, &cache.seen(key, |value| *value)),
         Call::SetCapacity(capacity) => cache.resize(capacity),
+        Call::Invalidate(key) => cache.take_back(key),
         Call::Prune => cache.clear(),
-        Call::Get(key) => told.line(&call, &value_found(cache, key)),
         _ => told.line(&call, &cache.total()),
     }
     false

@@ -54,10 +54,10 @@ impl<'a, O: Write, E: Write> Told<'a, O, E> {
 
     /// As `answer`, of a call that hands a value over. It answers the value that came back for want
     /// of memory, with which the call is to be made again.
-    pub fn handed_over<C: Debug, V: Debug + Drop>(
+    pub fn handed_over<C: Debug, T: Debug + Drop, V: Debug + Drop>(
         &mut self,
         call: &C,
-        answer: Result<(), (Refusal, V)>,
+        answer: Result<T, (Refusal, V)>,
     ) -> Option<V> {
         match answer {
             Err((Refusal::Memory, value)) => {

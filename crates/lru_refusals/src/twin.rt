@@ -1,7 +1,7 @@
 //! Steps of a twin, whose keys are texts, and then its records.
 ghost use Rattle.std.specs.Prelude.{◌≡◌, ◌<◌};
 
-use crate::step::Step;
+use crate::step::{NO_SUCH_STEP, Step};
 use crate::told::Told;
 use concurrent_lru::lru_core::Refusal;
 use lru_journal::journal::{Identity, LruCache, Opening, Pin, Record, Started, Tally};
@@ -99,19 +99,11 @@ fn ask<R: Wait + Drop, I: Identity, O: Write, E: Write>(
 ) -> Result<bool, Refusal>
     ensures { tally.new.parts ≡ tally.old.parts }
 {
+    if let Some(key) = step.key() {
+        let key = String::from_str(alloc, key)?;
+        return Ok(ask_with_key(cache, tally, step, &key, told));
+    }
     match step {
-        Step::Begin(key, charge) => {
-            let key = String::from_str(alloc, key)?;
-            Ok(told.answer(&step, &seen(cache.begin(tally, &key, charge.max(1)))))
-        }
-        Step::Get(key) => {
-            let key = String::from_str(alloc, key)?;
-            Ok(told.answer(&step, &found(cache.get(tally, &key))))
-        }
-        Step::AdviceEvict(key) => {
-            let key = String::from_str(alloc, key)?;
-            Ok(told.answer(&step, &cache.advice_evict(tally, &key)))
-        }
         Step::Ready(stamp, value) => {
             let value = Arc::new(alloc, value)?;
             if let Some(value) = told.handed_over(&step, cache.ready(tally, stamp, value)) {
@@ -125,6 +117,31 @@ fn ask<R: Wait + Drop, I: Identity, O: Write, E: Write>(
             Ok(false)
         }
         _ => Ok(ask_plainly(cache, tally, step, told)),
+    }
+}
+
+// Takes a step that has this key.
+fn ask_with_key<R: Wait + Drop, I: Identity, O: Write, E: Write>(
+    cache: &LruCache<String, u64, R, I>,
+    tally: &mut Tally<String, I>,
+    step: Step<&'static str>,
+    key: &String,
+    told: &mut Told<'_, O, E>,
+) -> bool
+    ensures { tally.new.parts ≡ tally.old.parts }
+{
+    match step {
+        Step::Begin(_, charge) => {
+            told.answer(&step, &seen(cache.begin(tally, key, charge.max(1))))
+        }
+        Step::Get(_) => told.answer(&step, &found(cache.get(tally, key))),
+        Step::Read(_) => told.answer(&step, &cache.read(tally, key, |value| *value)),
+        Step::AdviceEvict(_) => told.answer(&step, &cache.advice_evict(tally, key)),
+        Step::Invalidate(_) => told.answer(&step, &cache.invalidate(tally, key)),
+        _ => {
+            told.line(&step, &NO_SUCH_STEP);
+            false
+        }
     }
 }
 
@@ -161,7 +178,11 @@ fn ask_plainly<R: Wait + Drop, I: Identity, O: Write, E: Write>(
         Step::Fail(stamp) => told.answer(&step, &cache.fail(tally, stamp)),
         Step::Prune => told.answer(&step, &cache.prune(tally)),
         Step::SetCapacity(capacity) => told.answer(&step, &cache.set_capacity(tally, capacity)),
-        _ => told.answer(&step, &cache.total(tally)),
+        Step::Total => told.answer(&step, &cache.total(tally)),
+        _ => {
+            told.line(&step, &NO_SUCH_STEP);
+            false
+        }
     }
 }
 
