@@ -4,6 +4,8 @@
 #[cfg(test)]
 mod blocks;
 #[cfg(test)]
+mod changed;
+#[cfg(test)]
 mod first;
 #[cfg(test)]
 mod pages;
