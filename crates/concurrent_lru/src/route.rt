@@ -72,6 +72,22 @@ impl<K: Hash + Eq + Clone + Drop, V: Drop, R: Wait, S: BuildHasher, F: Fit<K, V>
         &self.shards[choose_shard(&self.hasher, key, self.shards.len())]
     }
 
+    /// The index of that shard, for `at`.
+    pub fn index_of(&self, key: &K) -> usize
+        ensures route { result ≡ key_number S.BuildHasher S.Hasher.Hasher K.hash_input self.now.hasher key.now % vec_len self.now.shards }
+        ensures within { result < vec_len self.now.shards }
+    {
+        choose_shard(&self.hasher, key, self.shards.len())
+    }
+
+    /// The shard of an index.
+    pub fn at(&self, index: usize) -> &LruCache<K, V, R, F>
+        requires within { index < vec_len self.now.shards }
+        ensures shard { slice_get self.now.shards.items index ≡ Some result.now }
+    {
+        &self.shards[index]
+    }
+
     /// `reserve` of each shard, one after another, with its share of the entries.
     ///
     /// `Memory` where the allocator refuses; the shards before that one keep their room.
