@@ -1,5 +1,5 @@
 //! Handles that borrow nothing: each keeps its cache alive by an `Arc` of its own, and has the
-//! index of its shard.
+//! route to its shard.
 ghost use Rattle.std.specs.Prelude.{◌≡◌, ◌≢◌, ◌<◌, ◌%◌, Some, None, Ok, Err, IfOk, IfErr, IfSome, slice_get, vec_len};
 ghost use Rattle.std.specs.Arc.{arc_value};
 ghost use Rattle.std.specs.Fn.{FnOnceReturnsAt, FnOnceTakesAt};
@@ -10,6 +10,7 @@ use crate::fit::{Anything, Fit};
 use crate::get_error::GetError;
 use crate::locked::Pin;
 use crate::lru_core::Refusal;
+use crate::route::Route;
 use crate::sharded::LruCache;
 use crate::unsharded;
 use std::fmt;
@@ -53,13 +54,13 @@ impl<K: Hash + Eq + Clone, V, R: Wait, S: BuildHasher, F: Fit<K, V>> OwnedHandle
     }
 }
 
-impl<K: Hash + Eq + Clone + Drop, V: Drop, R: Wait + Drop, S: BuildHasher + Drop, F: Fit<K, V>> OwnedHandle<
-    K,
-    V,
-    R,
-    S,
-    F,
-> {
+impl<
+    K: Hash + Eq + Clone + Drop,
+    V: Drop,
+    R: Wait + Drop,
+    S: BuildHasher + Drop,
+    F: Fit<K, V>,
+> OwnedHandle<K, V, R, S, F> {
     // A handle of a pin that was got from this shard.
     fn new(shard: OwnedShard<K, V, R, S, F>, pin: Pin<K, V, F>) -> Self
         ensures key { result.key ≡ pin.key }
@@ -112,45 +113,45 @@ impl<K: Hash + Eq + Clone + Drop, V: Drop, R: Wait + Drop, S: BuildHasher + Drop
 #[derive(Drop)]
 struct OwnedShard<K: Hash + Eq + Clone, V, R: Wait, S: BuildHasher, F: Fit<K, V>> {
     cache: Arc<LruCache<K, V, R, S, F>>,
-    index: usize,
-    ghost within: { index < vec_len (arc_value cache).routes.shards },
+    route: Route,
+    ghost within: { route.index < vec_len (arc_value cache).routes.shards },
 }
 
-impl<K: Hash + Eq + Clone + Drop, V: Drop, R: Wait + Drop, S: BuildHasher + Drop, F: Fit<K, V>> OwnedShard<
-    K,
-    V,
-    R,
-    S,
-    F,
-> {
+impl<
+    K: Hash + Eq + Clone + Drop,
+    V: Drop,
+    R: Wait + Drop,
+    S: BuildHasher + Drop,
+    F: Fit<K, V>,
+> OwnedShard<K, V, R, S, F> {
     // The shard that serves a key.
     //
     // `Memory` where the copy of the `Arc` is refused.
     fn of(cache: &Arc<LruCache<K, V, R, S, F>>, key: &K) -> Result<Self, Refusal>
         ensures cache { IfOk result (λ shard. arc_value shard.cache ≡ arc_value cache.now) }
-        ensures route { IfOk result (λ shard. shard.index ≡ key_number S.BuildHasher S.Hasher.Hasher K.hash_input (arc_value cache.now).routes.hasher key.now % vec_len (arc_value cache.now).routes.shards) }
+        ensures route { IfOk result (λ shard. shard.route.index ≡ key_number S.BuildHasher S.Hasher.Hasher K.hash_input (arc_value cache.now).routes.hasher key.now % vec_len (arc_value cache.now).routes.shards) }
         ensures err { IfErr result (λ e. e ≡ Refusal.Memory) }
     {
-        let index = cache.routes.index_of(key);
+        let route = cache.routes.route_of(key);
         let cache = Arc::try_clone(cache)?;
-        Ok(OwnedShard { cache, index })
+        Ok(OwnedShard { cache, route })
     }
 
     // The cache of one lock that this shard is.
     fn get(&self) -> &unsharded::LruCache<K, V, R, F>
-        ensures { slice_get (arc_value self.now.cache).routes.shards.items self.now.index ≡ Some result.now }
+        ensures { slice_get (arc_value self.now.cache).routes.shards.items self.now.route.index ≡ Some result.now }
     {
-        self.cache.routes.at(self.index)
+        self.cache.routes.at(self.route)
     }
 }
 
-impl<K: Hash + Eq + Clone + Drop, V: Drop, R: Wait + Drop, S: BuildHasher + Drop, F: Fit<K, V>> LruCache<
-    K,
-    V,
-    R,
-    S,
-    F,
-> {
+impl<
+    K: Hash + Eq + Clone + Drop,
+    V: Drop,
+    R: Wait + Drop,
+    S: BuildHasher + Drop,
+    F: Fit<K, V>,
+> LruCache<K, V, R, S, F> {
     /// `find`, with a handle that borrows nothing and keeps the cache alive.
     ///
     /// `Overflow` and `Memory` as there; `Memory` also where a copy of the `Arc` is refused, and
@@ -220,7 +221,10 @@ impl<K: Hash + Eq + Clone + Drop, V: Drop, R: Wait + Drop, S: BuildHasher + Drop
         let Ok(shard) = OwnedShard::of(this, key) else {
             return Err(GetError::Memory);
         };
-        let pin = shard.get().get_or_try_init_by(key, charge, init)?.into_pin();
+        let pin = shard
+            .get()
+            .get_or_try_init_by(key, charge, init)?
+            .into_pin();
         Ok(OwnedHandle::new(shard, pin))
     }
 }
