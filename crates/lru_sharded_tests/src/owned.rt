@@ -39,9 +39,15 @@ fn each_owned_handle_gives_its_pin_back_at_its_own_shard(rt: HostRuntime) {
     let one = LruCache::get_or_init_owned(&shared, &1, 3, |_| 6).expect(&rt, "memory");
     let two = LruCache::get_or_init_owned(&shared, &2, 3, |_| 7).expect(&rt, "memory");
     drop(one);
-    assert_eq!(rt; [0, 1, 2].map(|key| shared.contains(&key)), [true, false, true]);
+    assert_eq!(rt;
+        [0, 1, 2].map(|key| shared.contains(&key)),
+        [true, false, true]
+    );
     drop(two);
-    assert_eq!(rt; [0, 1, 2].map(|key| shared.contains(&key)), [true, false, false]);
+    assert_eq!(rt;
+        [0, 1, 2].map(|key| shared.contains(&key)),
+        [true, false, false]
+    );
     drop(zero);
     assert!(rt; shared.is_empty());
 }
@@ -85,4 +91,16 @@ fn an_owned_handle_ends_on_another_thread(rt: HostRuntime) {
     let handle = alone(rt.alloc(), own).expect(&rt, "memory");
     let reader = thread::spawn(&rt, move || read_last(handle)).expect(&rt, "a thread");
     assert_eq!(rt; reader.join(&rt), 5);
+}
+
+#[test]
+fn owners_of_a_value_share_its_handle(rt: HostRuntime) {
+    let shared = keeps_nothing(rt.alloc(), &rt).expect(&rt, "memory");
+    let handle = LruCache::get_or_init_owned(&shared, &1, 3, |_| 5).expect(&rt, "memory");
+    let first = Arc::new(rt.alloc(), handle).expect(&rt, "memory");
+    let second = Arc::try_clone(&first).expect(&rt, "memory");
+    drop(first);
+    assert_eq!(rt; shared.total_charge(), 3);
+    drop(second);
+    assert_eq!(rt; shared.total_charge(), 0);
 }
