@@ -5,6 +5,9 @@ ghost use Rattle.std.specs.Fn.{FnOnceReturnsAt, FnOnceTakesAt};
 ghost use Rattle.concurrent_lru.specs.Keys.{CopiesAreEqual};
 ghost use Rattle.concurrent_lru.specs.ThreadedCalls.{IfInit};
 
+mod owned;
+
+pub use self::owned::OwnedHandle;
 pub use crate::fit::{Anything, Fit};
 pub use crate::get_error::GetError;
 use crate::locked::{Advised, Invalidated};

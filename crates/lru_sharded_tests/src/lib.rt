@@ -29,6 +29,8 @@ mod meetings;
 #[cfg(test)]
 mod nested;
 #[cfg(test)]
+mod owned;
+#[cfg(test)]
 mod pure;
 #[cfg(test)]
 mod reads;
