@@ -4,6 +4,7 @@ use Rattle.std.specs.Ordering.{nat_cmp}
 use Rattle.std.specs.FinMap as finmap
 use Rattle.std.specs.HashMap as hash
 use Rattle.std.specs.HashMap.{HashMap}
+use Rattle.concurrent_lru.specs.Cache.{charges}
 use Rattle.concurrent_lru.specs.Keys.{CopiesAreEqual}
 use Rattle.concurrent_lru.specs.NodeTable.{Entry, NodeTable}
 use Rattle.concurrent_lru.specs.Representation.{IsRepresentation, idle_in, held_in}
@@ -33,7 +34,8 @@ module _ {K V : Type 0} where
     pub indexed : IsIndexed E nodes.nodes (hash.get E by_key) by_stamp
     pub copies : CopiesAreEqual is_clone E
 
-  -- and the total is the sum of the charges
-  pub record IsSoundTable {S : Type 0} (is_clone : K → K → Type 0) (E : K → K → Bool) (nodes : NodeTable K V) (by_key : HashMap K ℕ S) (by_stamp : Stamps) (total : ℕ) : Type 0 where
+  -- and the total is the sum of the charges, and beside it stands the sum of those of the idle entries
+  pub record IsSoundTable {S : Type 0} (is_clone : K → K → Type 0) (E : K → K → Bool) (nodes : NodeTable K V) (by_key : HashMap K ℕ S) (by_stamp : Stamps) (total idle_charge : ℕ) : Type 0 where
     pub stored : IsStored is_clone E nodes by_key by_stamp
     pub sums : total ≡ charges_of (entries_of nodes)
+    pub rests : idle_charge ≡ charges (idle_in nodes)

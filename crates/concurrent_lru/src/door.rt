@@ -261,6 +261,12 @@ impl<'a, K: Hash + Eq + Clone + Drop, V: Drop, R: Wait, F: Fit<K, V>> Inside<'a,
         guard.total()
     }
 
+    /// `Locked::pinned_charge`.
+    pub fn pinned_charge(self) -> u64 {
+        let Self { door: _, guard } = self;
+        guard.pinned_charge()
+    }
+
     /// `Locked::len`.
     pub fn len(self) -> usize {
         let Self { door: _, guard } = self;

@@ -3,7 +3,7 @@
 ghost use Rattle.std.specs.Prelude.{◌≡◌, ◌≢◌, ◌<◌, true, [], Err, Some, None, IsTrue, IsFalse, IfOk, IfErr, IfSome};
 ghost use Rattle.std.specs.Arc.{arc_value};
 ghost use Rattle.std.specs.Fn.{FnOnceReturnsAt, FnOnceTakesAt};
-ghost use Rattle.concurrent_lru.specs.Cache.{count_of, empty_cache, most_pins_by_default, sum_of, IsLawful};
+ghost use Rattle.concurrent_lru.specs.Cache.{count_of, empty_cache, most_pins_by_default, pinned_of, sum_of, IsLawful};
 ghost use Rattle.concurrent_lru.specs.Debts.{outcome_of_locked_begin, outcome_of_locked_poll, outcome_of_locked_get, AsksOnEntry, AsksOnPoll, IfEntered, IfPolled};
 ghost use Rattle.concurrent_lru.specs.Inserts.{Replaces, RefusesToReplace};
 ghost use Rattle.concurrent_lru.specs.Keys.{CopiesAreEqual};
@@ -396,6 +396,14 @@ impl<K: Hash + Eq + Clone + Drop, V: Drop, F: Fit<K, V>> Locked<K, V, F> {
         ensures total { result ≡ sum_of self.now }
     {
         self.state.total()
+    }
+
+    /// The sum of the charges of the held entries, those still being made included, and those that
+    /// are held after an `invalidate`.
+    pub fn pinned_charge(&self) -> u64
+        ensures { result ≡ pinned_of self.now }
+    {
+        self.state.pinned_charge()
     }
 
     /// The number of entries, those still being made included, and those that are held after an

@@ -158,6 +158,15 @@ impl<K: Hash + Eq + Clone + Drop, V: Drop, R: Wait, S: BuildHasher, F: Fit<K, V>
         total
     }
 
+    /// The sum of the shards' pinned charges, read one after another.
+    pub fn pinned_charge(&self) -> u128 {
+        let mut pinned = 0;
+        for shard in &self.shards {
+            pinned += u128::from(shard.pinned_charge());
+        }
+        pinned
+    }
+
     /// The sum of the shards' numbers of entries, read one after another, up to `usize::MAX`.
     pub fn len(&self) -> usize {
         let mut len: usize = 0;

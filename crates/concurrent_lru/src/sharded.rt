@@ -405,6 +405,12 @@ impl<K: Hash + Eq + Clone + Drop, V: Drop, R: Wait, S: BuildHasher, F: Fit<K, V>
         self.routes.total_charge()
     }
 
+    /// The sum of the shards' pinned charges, which are read one after another and are no snapshot.
+    /// Takes no memory.
+    pub fn pinned_charge(&self) -> u128 {
+        self.routes.pinned_charge()
+    }
+
     /// The sum of the shards' numbers of entries, which are read one after another and are no
     /// snapshot: what the cache holds at no one moment need be that many. Entries that are held
     /// after they were invalidated are counted too. Takes no memory.

@@ -4,7 +4,7 @@ ghost use Rattle.std.specs.Prelude.{◌≡◌, ◌+◌, ◌-◌, ◌/◌, ◌%�
 ghost use Rattle.std.specs.Arc.{arc_value};
 ghost use Rattle.std.specs.Fn.{FnOnceReturnsAt, FnOnceTakesAt};
 ghost use Rattle.std.specs.List.{AllByRecursion, AllZip};
-ghost use Rattle.concurrent_lru.specs.Cache.{count_of, empty_cache, most_pins_by_default};
+ghost use Rattle.concurrent_lru.specs.Cache.{count_of, empty_cache, most_pins_by_default, pinned_of};
 ghost use Rattle.concurrent_lru.specs.Keys.{CopiesAreEqual};
 ghost use Rattle.concurrent_lru.specs.Parts.{EachTakes, StandsAt, RunsApart};
 ghost use Rattle.concurrent_lru.specs.Reads.{FindsAt, ReadsAt};
@@ -315,6 +315,18 @@ impl<K: Hash + Eq + Clone, V: Drop, S: BuildHasher + Drop> Shards<K, V, S> {
             return Err(Refusal::Stale);
         };
         Ok(cache.total())
+    }
+
+    /// The sum of the charges of the held entries of all shards, those still being made included,
+    /// and those that are held after an `invalidate`. Takes no memory.
+    pub fn pinned_charge(&self) -> u128
+        ensures { result ≡ sum_by pinned_of self.now.caches }
+    {
+        let mut pinned = 0;
+        for shard in &self.shards {
+            pinned += u128::from(shard.pinned_charge());
+        }
+        pinned
     }
 
     /// The number of entries of all shards, those still being made included, and those that are

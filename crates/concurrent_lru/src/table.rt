@@ -4,7 +4,7 @@ ghost use Rattle.std.specs.Prelude.{◌≡◌, ◌≢◌, ℕ, ◌+◌, ◌<◌,
 ghost use Rattle.std.specs.Arc.{arc_value};
 ghost use Rattle.std.specs.HashMap as hash;
 ghost use Rattle.std.specs.HashMap.{spare};
-ghost use Rattle.concurrent_lru.specs.Cache.{count_of, idle_at, IsFront};
+ghost use Rattle.concurrent_lru.specs.Cache.{count_of, idle_at, pinned_of, IsFront};
 ghost use Rattle.std.specs.FinMap as map;
 ghost use Rattle.concurrent_lru.specs.Keys.{CopiesAreEqual};
 ghost use Rattle.concurrent_lru.specs.NodeTable.{Entry, entry_of, chain_of, phase_of, value_of, ContainsNode, LacksIdle, IsNewStamp};
@@ -34,6 +34,8 @@ pub struct Table<K: Hash + Eq + Clone, V> {
     by_key: HashMap<K, Place>,
     by_stamp: Stamps,
     total: u64,
+    // The idle entries' part of the total.
+    idle_charge: u64,
     // Where a look by stamp begins: the place of the entry that was pinned last, or that a caller
     // tells. It is a hint alone: any place will do.
     near: Place,
@@ -50,7 +52,7 @@ impl<K: Hash + Eq + Clone, V> Model for Table<K, V> {
 
     ghost view = { λ a. entries_of a.nodes };
 
-    ghost invariant = { λ a. IsSoundTable K.is_clone K.eq a.nodes a.by_key a.by_stamp a.total };
+    ghost invariant = { λ a. IsSoundTable K.is_clone K.eq a.nodes a.by_key a.by_stamp a.total a.idle_charge };
 }
 
 impl<K: Hash + Eq + Clone, V: Drop> Table<K, V> {
@@ -93,6 +95,7 @@ impl<K: Hash + Eq + Clone, V: Drop> Table<K, V> {
             by_key: HashMap::new(alloc),
             by_stamp,
             total: 0,
+            idle_charge: 0,
             near: Place::first(),
         }
     }
@@ -121,6 +124,13 @@ impl<K: Hash + Eq + Clone, V: Drop> Table<K, V> {
         ensures { result ≡ charges_of self.now }
     {
         self.total
+    }
+
+    /// The sum of the charges of held entries, detached ones included.
+    pub fn pinned_charge(&self) -> u64
+        ensures { result ≡ pinned_of (cache_of self.now) }
+    {
+        self.total - self.idle_charge
     }
 
     /// The place of the entry with this stamp.
@@ -266,6 +276,7 @@ impl<K: Hash + Eq + Clone, V: Drop> Table<K, V> {
             &mut self.total,
             place,
         );
+        self.idle_charge -= old.charge;
         let new = put(
             &mut self.nodes,
             &mut self.by_key,
@@ -353,7 +364,9 @@ impl<K: Hash + Eq + Clone, V: Drop> Table<K, V> {
         ensures err { OnErr result (self.new ≡ self.old) }
         ensures refusal { IfErr result (λ e. e ≡ Refusal.Memory) }
     {
+        let charge = self.nodes.node(place).charge;
         let value = self.nodes.revive(place)?;
+        self.idle_charge -= charge;
         self.near = place;
         Ok(value)
     }
@@ -363,8 +376,10 @@ impl<K: Hash + Eq + Clone, V: Drop> Table<K, V> {
         requires { IsReadyAt self.old place }
         ensures { RestsAt self.old place self.new }
     {
+        let charge = self.nodes.node(place).charge;
         self.nodes.set_pins(place, 0);
         self.nodes.append(place);
+        self.idle_charge += charge;
     }
 
     /// Makes an idle entry the newest idle one, as a pin and the release of it do. Takes no memory.
@@ -409,13 +424,15 @@ impl<K: Hash + Eq + Clone, V: Drop> Table<K, V> {
         ensures work { self.new.work ≡ self.old.work + 1 }
     {
         self.nodes.remove(place);
-        take_away(
+        let node = take_away(
             &mut self.nodes,
             &mut self.by_key,
             &mut self.by_stamp,
             &mut self.total,
             place,
-        )
+        );
+        self.idle_charge -= node.charge;
+        node
     }
 
     // Takes the oldest idle entry away, if there is one.

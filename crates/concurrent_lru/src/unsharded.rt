@@ -319,6 +319,13 @@ impl<K: Hash + Eq + Clone + Drop, V: Drop, R: Wait, F: Fit<K, V>> LruCache<K, V,
         self.door.enter().total()
     }
 
+    /// The sum of the charges of the entries that are held, those still being made included, and
+    /// those that are held after they were invalidated: the rest of `total_charge` is idle. No entry
+    /// is visited. Takes no memory.
+    pub fn pinned_charge(&self) -> u64 {
+        self.door.enter().pinned_charge()
+    }
+
     /// The number of entries, idle or held, those still being made included, and those that are held
     /// after they were invalidated. No entry is visited. Takes no memory.
     pub fn len(&self) -> usize {

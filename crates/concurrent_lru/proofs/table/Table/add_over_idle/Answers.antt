@@ -2,6 +2,7 @@ use Rattle.std.proofs.Common.{◌≡◌, ◌+◌, ◌<◌, ◌≤◌, ◌^◌, c
 use Rattle.std.specs.Prelude.{is_some}
 use Rattle.std.specs.List.{list_any}
 use Rattle.std.specs.FinMap.{get, insert, remove}
+use Rattle.concurrent_lru.specs.Cache.{charges}
 use Rattle.concurrent_lru.specs.NodeTable.{IsNewStamp, entry_of, new_entry}
 use Rattle.concurrent_lru.specs.Entries.{AddsOverIdle, ContainsIdleAt, ContainsNoStamp, GetsAt, new_held, charges_of}
 use Rattle.concurrent_lru.specs.Indexes.{entries_of}
@@ -19,6 +20,7 @@ pub invariant_of-self : goal.invariant_of-self
 invariant_of-self g c = record {
   stored = stored_same c.self.invariant.stored c.make_room.ensures.nodes c.make_room.ensures.idle c.make_room.ensures.by_key c.make_room.ensures.keeps c.make_room.ensures.by_stamp;
   sums = c.self.invariant.sums ∙ ap charges_of (sym (entries_same c.self.inside.nodes c.make_room.new.nodes c.make_room.ensures.nodes c.make_room.ensures.idle c.make_room.ensures.work));
+  rests = c.self.invariant.rests ∙ ap (λ t. charges t.idle) (sym (entries_same c.self.inside.nodes c.make_room.new.nodes c.make_room.ensures.nodes c.make_room.ensures.idle c.make_room.ensures.work));
 }
 
 pub returns-in_err-make_room-clause-err : goal.returns-in_err-make_room-clause-err

@@ -1,6 +1,7 @@
 use Rattle.std.proofs.Common.{◌≡◌, Some, refl, sym, ap, ◌∙◌, subst}
 use Rattle.std.specs.Prelude.{is_some}
 use Rattle.std.specs.Arc.{arc_value}
+use Rattle.concurrent_lru.specs.Cache.{charges}
 use Rattle.concurrent_lru.specs.NodeTable.{value_in}
 use Rattle.concurrent_lru.specs.Entries.{ContainsIdleAt, RevivesAt, charges_of, value_at}
 use Rattle.concurrent_lru.specs.Indexes.{entries_of}
@@ -24,6 +25,7 @@ pub invariant_of-self : goal.invariant_of-self
 invariant_of-self g c = let same = c.in_err-value.ensures.same in record {
   stored = stored_same c.self.invariant.stored same.0 same.1 (λ k. refl) refl (λ s. refl);
   sums = c.self.invariant.sums ∙ ap charges_of (sym (entries_same c.self.inside.nodes c.revive.new.self same.0 same.1 same.2));
+  rests = c.self.invariant.rests ∙ ap (λ t. charges t.idle) (sym (entries_same c.self.inside.nodes c.revive.new.self same.0 same.1 same.2));
 }
 
 pub returns-in_err-value-clause-err : goal.returns-in_err-value-clause-err
