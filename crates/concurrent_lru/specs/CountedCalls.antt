@@ -70,6 +70,7 @@ module _ {K V : Type 0} where
   counted c (ask.fail s) (accepted (say.removed k) out) n = removed (held_charge c s) (one_failure n)
   counted c (ask.release s) (accepted p out) n = evicted out n
   counted c (ask.advice_evict k) (accepted p out) n = evicted out n
+  counted c (ask.invalidate k) (accepted p out) n = evicted out n
   counted c ask.prune (accepted p out) n = evicted out n
   counted c (ask.set_capacity m) (accepted p out) n = evicted out n
   counted c _ _ n = n

@@ -216,6 +216,18 @@ impl<K: Hash + Eq + Clone, V: Drop> CountedState<K, V> {
         evicted
     }
 
+    /// The core's `invalidate`. Counts what it evicts: an idle entry now, a held one when its last
+    /// pin is released.
+    pub fn invalidate(&mut self, key: &K) -> Evicted<K, V>
+        ensures step { Stands K.eq self.old.cache (ask.invalidate key.now) (outcome_of_evictions result) self.new.cache }
+        ensures counted { self.new.counts ≡ counted self.old.cache (ask.invalidate key.now) (outcome_of_evictions result) self.old.counts }
+        ensures lawful { IsLawful K.eq self.new.cache }
+    {
+        let evicted = self.state.invalidate(key);
+        self.counts.evict(self.state.len() as u64, self.state.total());
+        evicted
+    }
+
     /// The core's `prune`. Counts what it evicts.
     pub fn prune(&mut self) -> Evicted<K, V>
         ensures step { Stands K.eq self.old.cache ask.prune (outcome_of_evictions result) self.new.cache }

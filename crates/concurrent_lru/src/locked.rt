@@ -366,7 +366,8 @@ impl<K: Hash + Eq + Clone + Drop, V: Drop, F: Fit<K, V>> Locked<K, V, F> {
 
     /// The core's `invalidate`. Takes no memory.
     pub fn invalidate(&mut self, key: &K) -> (Sealed<Evicted<K, V>>, Invalidated<K>)
-        ensures step { Stands K.eq self.old (ask.invalidate key.now) (outcome_of_evictions result.0) self.new }
+        ensures step { Stands K.eq self.old.cache (ask.invalidate key.now) (outcome_of_evictions result.0) self.new.cache }
+        ensures counted { self.new.counts ≡ counted self.old.cache (ask.invalidate key.now) (outcome_of_evictions result.0) self.old.counts }
         ensures done { result.1 ≡ key.now }
     {
         (Sealed::of(self.state.invalidate(key)), Invalidated::of(key))

@@ -24,7 +24,7 @@ use Rattle.concurrent_lru.specs.Steps.{Step, with_capacity}
 use Rattle.concurrent_lru.specs.declared.counts.Counts.{Counts}
 use Rattle.concurrent_lru.specs.declared.list.Refusal.{Refusal}
 use Rattle.concurrent_lru.specs.declared.list.Refusal.TheVariants.{Memory, Overflow, Stale}
-use Rattle.concurrent_lru.proofs.AddedUp.SizesOfSteps.{Resizes, KeepsSize, Evicts, same_size, settled_size, joined_size, left_size, phase_size, hit_size, made_size, removed_size, rested_size, dropped_size, stayed_size, pruned_size, evicts_none}
+use Rattle.concurrent_lru.proofs.AddedUp.SizesOfSteps.{Resizes, KeepsSize, Evicts, same_size, settled_size, joined_size, left_size, phase_size, hit_size, made_size, removed_size, rested_size, ended_size, detached_size, dropped_size, stayed_size, pruned_size, evicts_none}
 use Rattle.concurrent_lru.proofs.Steps.EmptyCache.{no_entries, empty_sum, empty_lawful}
 
 module _ {K V : Type 0} where
@@ -149,6 +149,7 @@ module _ {K V : Type 0} where
   refusal_adds_up old n (ask.fail s) e a = a
   refusal_adds_up old n (ask.release s) e a = a
   refusal_adds_up old n (ask.advice_evict k) e a = a
+  refusal_adds_up old n (ask.invalidate k) e a = a
   refusal_adds_up old n ask.prune e a = a
   refusal_adds_up old n (ask.set_capacity m) e a = a
   refusal_adds_up old n ask.total e a = a
@@ -169,11 +170,17 @@ module _ {K V : Type 0} where
     -- the calls that evict, by what they answer
     pub release_evicts : (old new : Cache K V) (s : ℕ) (out : List (Idle K V)) → Step E old (ask.release s) say.done out new → Evicts old out new
     release_evicts old new s out (inl h) = evicts_none old new out (left_size old new s (ready h.0) (ready h.0) out h.1) h.1.none
-    release_evicts old new s out (inr h) = rested_size old new s out h
+    release_evicts old new s out (inr (inl h)) = rested_size old new s out h
+    release_evicts old new s out (inr (inr h)) = ended_size old new s out h
 
     pub advice_evicts : (old new : Cache K V) (k : K) (out : List (Idle K V)) → IsLawful E old → Step E old (ask.advice_evict k) say.done out new → Evicts old out new
     advice_evicts old new k out l (inl h) = dropped_size old new k out l h
     advice_evicts old new k out l (inr h) = stayed_size old new out h.1
+
+    pub invalidate_evicts : (old new : Cache K V) (k : K) (out : List (Idle K V)) → IsLawful E old → Step E old (ask.invalidate k) say.done out new → Evicts old out new
+    invalidate_evicts old new k out l (inl h) = dropped_size old new k out l h
+    invalidate_evicts old new k out l (inr (inl h)) = evicts_none old new out (detached_size old new k out h) h.none
+    invalidate_evicts old new k out l (inr (inr h)) = stayed_size old new out h.1
 
     -- a making that fails for good: what is owed once its failure is counted
     pub fail_owes : (old new : Cache K V) (n : Counts) (s : ℕ) (k : K) (out : List (Idle K V)) → AddUp old n → Step E old (ask.fail s) (say.removed k) out new → Owes new (one_failure n) 1 (held_charge old s)
@@ -201,6 +208,7 @@ module _ {K V : Type 0} where
     step_adds_up old new n (ask.get k) say.missed out l a h = with_others new n n.hits (one_more n.misses) n.waits n.refusals n.makings n.failures (kept_adds_up old new n a (same_size old new h.1.same))
     step_adds_up old new n (ask.release s) say.done out l a h = evicting_adds_up old new n out a (release_evicts old new s out h)
     step_adds_up old new n (ask.advice_evict k) say.done out l a h = evicting_adds_up old new n out a (advice_evicts old new k out l h)
+    step_adds_up old new n (ask.invalidate k) say.done out l a h = evicting_adds_up old new n out a (invalidate_evicts old new k out l h)
     step_adds_up old new n ask.prune say.done out l a h = evicting_adds_up old new n out a (pruned_size old new out h.0 h.1)
     step_adds_up old new n (ask.set_capacity m) say.done out l a h = evicting_adds_up old new n out a (capacity_evicts old new m out h)
     step_adds_up old new n ask.total (say.sum m) out l a h = kept_adds_up old new n a (same_size old new h.1.same)
@@ -214,7 +222,8 @@ module _ {K V : Type 0} where
     -- a release that evicts nothing keeps the size
     quiet_release_size : (old new : Cache K V) (s : ℕ) → Step E old (ask.release s) say.done [] new → KeepsSize old new
     quiet_release_size old new s (inl h) = left_size old new s (ready h.0) (ready h.0) [] h.1
-    quiet_release_size old new s (inr h) = rested_size old new s [] h
+    quiet_release_size old new s (inr (inl h)) = rested_size old new s [] h
+    quiet_release_size old new s (inr (inr h)) = ended_size old new s [] h
 
     -- a read is a get and a release, or a get that finds nothing
     read_size : {T : Type 0} (old new : Cache K V) (k : K) (answers : V → T → Type 0) (result : Result (Option (ℕ × T)) Refusal) → IsLawful E old → Reads E old k answers result new → KeepsSize old new

@@ -7,7 +7,7 @@ use Rattle.std.proofs.lemmas.Bool.{eqb-true}
 use Rattle.std.proofs.lemmas.Option.{none-some}
 use Rattle.std.proofs.lemmas.List.Sums.{sum_by-append}
 use Rattle.concurrent_lru.specs.Cache.{Cache, Idle, Held, Phase, making, IsLawful, Settles, idle_at, held_at, sum_of, count_of, charges}
-use Rattle.concurrent_lru.specs.Steps.{with_held, without, held_by_one, Makes, Joins, Revives, Hits, ChangesPhase, Leaves, Removes, Rests, Stays, Drops, held_in_phase, one_more_pin, one_pin_less, idle_again, without_held, with_capacity}
+use Rattle.concurrent_lru.specs.Steps.{with_held, without, held_by_one, Makes, Joins, Revives, Hits, ChangesPhase, Leaves, Removes, Rests, Ends, Stays, Drops, Detaches, held_in_phase, held_detached, one_more_pin, one_pin_less, idle_again, without_held, with_capacity}
 use Rattle.concurrent_lru.specs.Representation.{held_charges}
 use Rattle.concurrent_lru.proofs.Entries.SumsOfHeld.{sum_by-cons, sum-insert, sum-remove, sum-change}
 use Rattle.concurrent_lru.proofs.Steps.BeginOfAbsent.{with_new_entry, next_free, sum-made}
@@ -138,7 +138,7 @@ module _ {K V : Type 0} where
     pub made_size : (old new : Cache K V) (k : K) (charge s : ℕ) (out : List (Idle K V)) → IsLawful E old → Makes E old k charge s out new → Resizes old new 1 charge (length out) (charges out)
     made_size old new k charge s out l m =
         let mid = with_new_entry old m.copy charge in
-        let held : Held K V = record { key = m.copy; charge = charge; pins = 1; phase = making } in
+        let held : Held K V = record { key = m.copy; charge = charge; pins = 1; detached = false; phase = making } in
         let o = orderly l in
         let e : Evicts mid out new = settled_size mid new out (subst (λ t. Settles (record (with_held old t held) { next = old.next + 1 }) out new) m.stamp m.settles) in
         let a : length (values (insert old.held old.next held)) ≡ length (values old.held) + 1 = length-insert old.held old.next held (next_free E old o) in
@@ -181,6 +181,22 @@ module _ {K V : Type 0} where
         let n : length out ≡ 1 = ap length d.one in
         let m : charges out ≡ d.entry.charge + charges {K = K} {V = V} [] = ap charges d.one ∙ sum_by-cons (λ (x : Idle K V). x.charge) d.entry [] in
         record { entries = omega (arith, a, e, n); charge = omega (arith, b, f, m); next = omega (arith, c) }
+
+    -- the last pin of a detached entry is given back: the entry leaves
+    pub ended_size : (old new : Cache K V) (s : ℕ) (out : List (Idle K V)) → Ends E old s out new → Evicts old out new
+    ended_size old new s out r =
+        let x = idle_again s r.entry r.value in
+        let a : count_of new ≡ count_of (without_held old s) = ap count_of r.changed in
+        let b : sum_of new ≡ sum_of (without_held old s) = ap sum_of r.changed in
+        let c : new.next ≡ old.next = ap (λ c. c.next) r.changed in
+        let d : length (values (remove old.held s)) + 1 ≡ length (values old.held) = length-remove old.held s r.entry r.holds.at in
+        let e : held_charges (remove old.held s) + r.entry.charge ≡ held_charges old.held = sum-remove (λ x. x.charge) old.held s r.entry r.holds.at in
+        let n : length out ≡ 1 = ap length r.one in
+        let m : charges out ≡ r.entry.charge + charges {K = K} {V = V} [] = ap charges r.one ∙ sum_by-cons (λ (y : Idle K V). y.charge) x [] in
+        record { entries = omega (arith, a, d, n); charge = omega (arith, b, e, m); next = omega (arith, c) }
+
+    pub detached_size : (old new : Cache K V) (k : K) (out : List (Idle K V)) → Detaches E old k out new → KeepsSize old new
+    detached_size old new k out d = written_size old new d.stamp d.entry (held_detached d.entry) d.at refl d.changed
 
     pub stayed_size : (old new : Cache K V) (out : List (Idle K V)) → Stays E old out new → Evicts old out new
     stayed_size old new out s = evicts_none old new out (same_size old new s.same) s.none
