@@ -230,13 +230,17 @@ impl<'a, K: Hash + Eq + Clone + Drop, V: Drop, R: Wait, F: Fit<K, V>> Inside<'a,
     }
 
     /// `Locked::counts`.
-    pub fn counts(self) -> Counts {
+    pub fn counts(self) -> Counts
+        ensures { result ≡ (mutex_guard_value self.entry.guard).counts }
+    {
         let Self { door: _, guard } = self;
         guard.counts()
     }
 
     /// `Locked::reset_counts`.
-    pub fn reset_counts(self) -> Counts {
+    pub fn reset_counts(self) -> Counts
+        ensures { result ≡ (mutex_guard_value self.entry.guard).counts }
+    {
         let Self { door: _, mut guard } = self;
         guard.reset_counts()
     }

@@ -35,6 +35,7 @@ enum Call {
     // `contains`.
     Look(u64),
     AdviceEvict(u64),
+    Invalidate(u64),
     SetCapacity(u64),
     Prune,
 }
@@ -58,6 +59,7 @@ fn call<R: Wait>(cache: &LruCache<u64, u64, R>, call: Call) {
             let _ = cache.contains(&key);
         }
         Call::AdviceEvict(key) => cache.advice_evict(key),
+        Call::Invalidate(key) => cache.invalidate(&key),
         Call::SetCapacity(capacity) => cache.set_capacity(capacity),
         Call::Prune => cache.prune(),
     }
@@ -65,7 +67,7 @@ fn call<R: Wait>(cache: &LruCache<u64, u64, R>, call: Call) {
 
 // Calls in order on a cache of capacity 6, and after each the hits, misses, refusals, makings,
 // failures, insertions, evictions and removals.
-const CALLS: [(Call, [u64; 8]); 17] = [
+const CALLS: [(Call, [u64; 8]); 19] = [
     (Call::Get(1), [0, 1, 0, 0, 0, 0, 0, 0]),
     (Call::Read(1), [0, 2, 0, 0, 0, 0, 0, 0]),
     (Call::Make(1, 2), [0, 3, 0, 1, 0, 1, 0, 0]),
@@ -84,6 +86,8 @@ const CALLS: [(Call, [u64; 8]); 17] = [
     (Call::AdviceEvict(4), [4, 7, 1, 5, 1, 5, 3, 1]),
     (Call::SetCapacity(3), [4, 7, 1, 5, 1, 5, 4, 1]),
     (Call::Prune, [4, 7, 1, 5, 1, 5, 4, 1]),
+    (Call::Make(7, 2), [4, 8, 1, 6, 1, 6, 4, 1]),
+    (Call::Invalidate(7), [4, 8, 1, 6, 1, 6, 5, 1]),
 ];
 
 #[test]
@@ -107,8 +111,8 @@ fn each_call_counts_what_it_answers(rt: HostRuntime) {
         assert!(rt; adds_up(&cache), "after {step:?}");
     }
     let counts = cache.counts();
-    assert_eq!(rt; counts.inserted_charge, 13);
-    assert_eq!(rt; counts.evicted_charge, 10);
+    assert_eq!(rt; counts.inserted_charge, 15);
+    assert_eq!(rt; counts.evicted_charge, 12);
     assert_eq!(rt; counts.removed_charge, 3);
 }
 
@@ -128,6 +132,33 @@ fn a_prune_counts_each_entry_that_it_evicts(rt: HostRuntime) -> Result<(), Refus
     drop(held);
     let counts = cache.counts();
     assert_eq!(rt; (counts.evictions, counts.evicted_charge), (6, 22));
+    assert!(rt; adds_up(&cache));
+    Ok(())
+}
+
+// An idle entry is evicted at once, and a held one as its last handle is let go.
+#[test]
+fn an_invalidated_entry_is_evicted_once(rt: HostRuntime) -> Result<(), Refusal> {
+    let cache: LruCache<u64, u64, &HostRuntime> = LruCache::new(rt.alloc(), &rt, 100);
+    drop(cache.get_or_init(1, 3, |key| *key)?);
+    cache.invalidate(&1);
+    let idle = cache.counts();
+    assert_eq!(rt; (idle.evictions, idle.evicted_charge), (1, 3));
+    let held = cache.get_or_init(2, 5, |key| *key)?;
+    let again = cache.get_or_init(2, 5, |key| *key)?;
+    cache.invalidate(&2);
+    assert_eq!(rt; cache.counts().evictions, 1);
+    assert!(rt; adds_up(&cache));
+    // A new entry of the key, beside the one that is held.
+    drop(cache.get_or_init(2, 7, |key| *key)?);
+    drop(held);
+    assert_eq!(rt; cache.counts().evictions, 1);
+    drop(again);
+    cache.invalidate(&9);
+    let counts = cache.counts();
+    assert_eq!(rt; (counts.insertions, counts.inserted_charge), (3, 15));
+    assert_eq!(rt; (counts.evictions, counts.evicted_charge), (2, 8));
+    assert_eq!(rt; (cache.len(), cache.total_charge()), (1, 7));
     assert!(rt; adds_up(&cache));
     Ok(())
 }
