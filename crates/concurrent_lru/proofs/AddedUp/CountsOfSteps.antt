@@ -225,6 +225,15 @@ module _ {K V : Type 0} where
     quiet_release_size old new s (inr (inl h)) = rested_size old new s [] h
     quiet_release_size old new s (inr (inr h)) = ended_size old new s [] h
 
+    -- an invalidate, and then a begin that inserts an entry: what is owed once the entry is counted, and that it adds up
+    pub owed_for_replaced : (old mid new : Cache K V) (n : Counts) (k : K) (charge s : ℕ) (replaced out : List (Idle K V)) → IsLawful E old → IsLawful E mid → AddUp old n → Step E old (ask.invalidate k) say.done replaced mid → Step E mid (ask.begin k charge) (say.make s) out new → s ≡ mid.next → Owes new (inserted charge (evicted replaced n)) (length out) (charges out)
+    owed_for_replaced old mid new n k charge s replaced out l lm a h b is =
+        let i = inserts mid new k charge s out lm b is in
+        owed_for_new mid new (evicted replaced n) charge (length out) (charges out) (evicting_adds_up old mid n replaced a (invalidate_evicts old mid k replaced l h)) i.sizes i.charge_fits i.stamps
+
+    pub replaced_adds_up : (old mid new : Cache K V) (n : Counts) (k : K) (charge s : ℕ) (replaced out : List (Idle K V)) → IsLawful E old → IsLawful E mid → AddUp old n → Step E old (ask.invalidate k) say.done replaced mid → Step E mid (ask.begin k charge) (say.make s) out new → s ≡ mid.next → AddUp new (evicted out (inserted charge (evicted replaced n)))
+    replaced_adds_up old mid new n k charge s replaced out l lm a h b is = evictions_add_up new (inserted charge (evicted replaced n)) out (owed_for_replaced old mid new n k charge s replaced out l lm a h b is)
+
     -- a read is a get and a release, or a get that finds nothing
     read_size : {T : Type 0} (old new : Cache K V) (k : K) (answers : V → T → Type 0) (result : Result (Option (ℕ × T)) Refusal) → IsLawful E old → Reads E old k answers result new → KeepsSize old new
     read_size old new k answers (Ok (Some r)) l h =
