@@ -18,6 +18,8 @@ pub mod SlotTable
 pub mod Representation
 pub mod Entries
 pub mod Counted
+pub mod Counts
+pub mod CountedCalls
 pub mod Stamps
 pub mod Indexes
 pub mod Chain

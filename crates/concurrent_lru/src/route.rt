@@ -5,6 +5,7 @@ ghost use Rattle.std.specs.Prelude.{◌≡◌, ◌<◌, ◌+◌, ◌-◌, ◌/�
 ghost use Rattle.concurrent_lru.specs.Keys.{CopiesAreEqual};
 ghost use Rattle.concurrent_lru.specs.Sharded.{key_number};
 
+use crate::counts::Counts;
 use crate::fit::Fit;
 use crate::locked::{Pruned, Reserved, Resized};
 use crate::lru_core::Refusal;
@@ -174,6 +175,24 @@ impl<K: Hash + Eq + Clone + Drop, V: Drop, R: Wait, S: BuildHasher, F: Fit<K, V>
             len = len.saturating_add(shard.len());
         }
         len
+    }
+
+    /// The sum of the shards' counts, read one after another.
+    pub fn counts(&self) -> Counts {
+        let mut counts = Counts::default();
+        for shard in &self.shards {
+            counts = counts.saturating_add(shard.counts());
+        }
+        counts
+    }
+
+    /// The sum of the shards' counts, each of which begins anew, one after another.
+    pub fn reset_counts(&self) -> Counts {
+        let mut counts = Counts::default();
+        for shard in &self.shards {
+            counts = counts.saturating_add(shard.reset_counts());
+        }
+        counts
     }
 }
 

@@ -8,6 +8,7 @@ ghost use Rattle.concurrent_lru.specs.ThreadedCalls.{IfInit};
 mod owned;
 
 pub use self::owned::OwnedHandle;
+pub use crate::counts::Counts;
 pub use crate::fit::{Anything, Fit};
 pub use crate::get_error::GetError;
 use crate::locked::{Advised, Invalidated};
@@ -421,6 +422,19 @@ impl<K: Hash + Eq + Clone + Drop, V: Drop, R: Wait, S: BuildHasher, F: Fit<K, V>
     /// Whether `len` is 0: no shard had an entry as its lock was got. Takes no memory.
     pub fn is_empty(&self) -> bool {
         self.len() == 0
+    }
+
+    /// The sum of the shards' counts, which are read one after another and are no snapshot: they
+    /// need not add up while other threads use the cache. A sum past the greatest number of its
+    /// type is told as that number. Takes no memory.
+    pub fn counts(&self) -> Counts {
+        self.routes.counts()
+    }
+
+    /// The sum of what each shard's `reset_counts` answers, one shard after another. No call is
+    /// missed in between, and none is counted twice. Takes no memory.
+    pub fn reset_counts(&self) -> Counts {
+        self.routes.reset_counts()
     }
 
     /// Whether the key has a value, as in the cache of one lock, within the key's shard. Takes no

@@ -1,13 +1,14 @@
 //! One cache behind one lock, for any number of threads.
 //! Makers and the drops of values run without the lock, readers under it; callers of a value in the
 //! making wait.
-ghost use Rattle.std.specs.Prelude.{◌≡◌, ◌≢◌, ◌<◌, Some, None, Ok, Err, IfOk, IfErr, IfSome};
+ghost use Rattle.std.specs.Prelude.{◌≡◌, ◌≢◌, ◌+◌, ◌<◌, ◌≤◌, Some, None, Ok, Err, IfOk, IfErr, IfSome};
 ghost use Rattle.std.specs.Fn.{FnOnceReturnsAt, FnOnceTakesAt};
 ghost use Rattle.concurrent_lru.specs.Doors.{IsAwake};
 ghost use Rattle.concurrent_lru.specs.Keys.{CopiesAreEqual};
 ghost use Rattle.concurrent_lru.specs.Pins.{IsHandleFor, made_key, made_charge, awaited_key, awaited_charge};
 ghost use Rattle.concurrent_lru.specs.ThreadedCalls.{IsTurnFor, IfInit};
 
+pub use crate::counts::Counts;
 use crate::door::{Asleep, Door, Maker, Met};
 pub use crate::fit::{Anything, Fit};
 pub use crate::get_error::GetError;
@@ -342,6 +343,25 @@ impl<K: Hash + Eq + Clone + Drop, V: Drop, R: Wait, F: Fit<K, V>> LruCache<K, V,
     /// entry, which keeps its place in the order of eviction. Takes no memory.
     pub fn contains(&self, key: &K) -> bool {
         self.door.enter().contains(key)
+    }
+
+    /// What the calls of this cache did since it was made, or since `reset_counts`, as the lock was
+    /// got: so its counts add up to the entries and the charges of one moment. Takes no memory.
+    pub fn counts(&self) -> Counts
+        ensures entries { result.evictions + result.removals ≤ result.entries_before + result.insertions }
+        ensures charge { result.evicted_charge + result.removed_charge ≤ result.charge_before + result.inserted_charge }
+    {
+        self.door.enter().counts()
+    }
+
+    /// What `counts` answers; all counts are 0 afterwards, and the counting begins anew at the
+    /// entries that are there. No call is missed in between, and none is counted twice. Takes no
+    /// memory.
+    pub fn reset_counts(&self) -> Counts
+        ensures entries { result.evictions + result.removals ≤ result.entries_before + result.insertions }
+        ensures charge { result.evicted_charge + result.removed_charge ≤ result.charge_before + result.inserted_charge }
+    {
+        self.door.enter().reset_counts()
     }
 
     // The calls above, each with what was asked under the lock.

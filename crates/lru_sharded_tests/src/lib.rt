@@ -7,6 +7,8 @@ mod careless;
 #[cfg(test)]
 mod contents;
 #[cfg(test)]
+mod counts;
+#[cfg(test)]
 mod crossings;
 #[cfg(test)]
 mod errands;

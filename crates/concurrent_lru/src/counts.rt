@@ -1,0 +1,212 @@
+//! Counts of what the calls of a cache did. They are plain numbers, kept beside the cache under its
+//! lock.
+ghost use Rattle.std.specs.Prelude.{◌≡◌, ◌+◌, ◌-◌, ◌<◌, ◌≤◌, ◌^◌};
+ghost use Rattle.concurrent_lru.specs.Counts.{added, counts_from, hit_ratio_of, inserted, one_failure, one_hit, one_making, one_miss, one_refusal, one_wait};
+
+use std::fmt;
+use std::num::nearest_u64_to_f64;
+
+/// What the calls of a cache did since it was made, or since its counts were last reset.
+///
+/// A count that reaches the greatest number of its type stays there. Of one cache behind one lock
+/// the counts add up: the entries that were there before and those inserted are those present, those
+/// evicted and those removed, and so are their charges. The counts of entries and of charges never
+/// reach an end there, since a cache runs out of stamps first.
+#[derive(Clone, Copy, Debug, Default, PartialEq, Eq)]
+pub struct Counts {
+    /// Calls that asked for a value and found it ready.
+    pub hits: u64,
+    /// Calls that asked for a value which was neither ready nor, for a call that would wait for it,
+    /// in the making.
+    pub misses: u64,
+    /// Calls that found the value in the making by another caller, and waited for it.
+    pub waits: u64,
+    /// Calls that asked for a value and were refused it, as `Memory` or `Overflow`.
+    pub refusals: u64,
+    /// Makings begun: how often a caller was told to make a value.
+    pub makings: u64,
+    /// Makings failed: `init` answered an error, or there was no memory for the value.
+    pub failures: u64,
+    /// Entries inserted.
+    pub insertions: u64,
+    /// Entries evicted.
+    pub evictions: u64,
+    /// Entries removed since their making failed and nobody waited for them.
+    pub removals: u64,
+    /// Entries that were there when the counting began.
+    pub entries_before: u64,
+    /// The sum of the charges of the entries inserted.
+    pub inserted_charge: u128,
+    /// The sum of the charges of the entries evicted.
+    pub evicted_charge: u128,
+    /// The sum of the charges of the entries removed.
+    pub removed_charge: u128,
+    /// The sum of the charges of the entries that were there when the counting began.
+    pub charge_before: u128,
+}
+
+impl Counts {
+    // Counts that begin at a cache with so many entries of so much charge.
+    pub(crate) fn from(entries: u64, charge: u64) -> Self
+        ensures { result ≡ counts_from entries charge }
+    {
+        Counts {
+            hits: 0,
+            misses: 0,
+            waits: 0,
+            refusals: 0,
+            makings: 0,
+            failures: 0,
+            insertions: 0,
+            evictions: 0,
+            removals: 0,
+            entries_before: entries,
+            inserted_charge: 0,
+            evicted_charge: 0,
+            removed_charge: 0,
+            charge_before: u128::from(charge),
+        }
+    }
+
+    /// Of the calls that hit or missed, the part that hit: `hits` divided by the sum of `hits` and
+    /// `misses`, as the nearest floats of both. None where none did either. Calls that waited or
+    /// were refused do not count.
+    pub fn hit_ratio(&self) -> Option<f64>
+        ensures { result ≡ hit_ratio_of self.now }
+    {
+        let asked = self.hits.saturating_add(self.misses);
+        if asked == 0 {
+            return None;
+        }
+        Some(nearest_u64_to_f64(self.hits) / nearest_u64_to_f64(asked))
+    }
+
+    /// The sum of these counts and others, one by one. A sum past the greatest number of its type
+    /// is told as that number.
+    pub fn saturating_add(self, other: Counts) -> Counts
+        ensures { result ≡ added self other }
+    {
+        Counts {
+            hits: self.hits.saturating_add(other.hits),
+            misses: self.misses.saturating_add(other.misses),
+            waits: self.waits.saturating_add(other.waits),
+            refusals: self.refusals.saturating_add(other.refusals),
+            makings: self.makings.saturating_add(other.makings),
+            failures: self.failures.saturating_add(other.failures),
+            insertions: self.insertions.saturating_add(other.insertions),
+            evictions: self.evictions.saturating_add(other.evictions),
+            removals: self.removals.saturating_add(other.removals),
+            entries_before: self.entries_before.saturating_add(other.entries_before),
+            inserted_charge: self.inserted_charge.saturating_add(other.inserted_charge),
+            evicted_charge: self.evicted_charge.saturating_add(other.evicted_charge),
+            removed_charge: self.removed_charge.saturating_add(other.removed_charge),
+            charge_before: self.charge_before.saturating_add(other.charge_before),
+        }
+    }
+
+    #[inline(always)]
+    pub(crate) fn hit(&mut self)
+        ensures { self.new ≡ one_hit self.old }
+    {
+        self.hits = self.hits.saturating_add(1);
+    }
+
+    #[inline(always)]
+    pub(crate) fn miss(&mut self)
+        ensures { self.new ≡ one_miss self.old }
+    {
+        self.misses = self.misses.saturating_add(1);
+    }
+
+    pub(crate) fn wait(&mut self)
+        ensures { self.new ≡ one_wait self.old }
+    {
+        self.waits = self.waits.saturating_add(1);
+    }
+
+    pub(crate) fn refuse(&mut self)
+        ensures { self.new ≡ one_refusal self.old }
+    {
+        self.refusals = self.refusals.saturating_add(1);
+    }
+
+    pub(crate) fn make(&mut self)
+        ensures { self.new ≡ one_making self.old }
+    {
+        self.makings = self.makings.saturating_add(1);
+    }
+
+    pub(crate) fn fail(&mut self)
+        ensures { self.new ≡ one_failure self.old }
+    {
+        self.failures = self.failures.saturating_add(1);
+    }
+
+    // An entry of this charge was inserted.
+    pub(crate) fn insert(&mut self, charge: u64)
+        requires entries { self.old.insertions + 1 < 2 ^ 64 }
+        requires charge { self.old.inserted_charge + charge < 2 ^ 128 }
+        ensures { self.new ≡ inserted charge self.old }
+    {
+        self.insertions += 1;
+        self.inserted_charge += u128::from(charge);
+    }
+
+    // Entries were evicted, and so many of so much charge are left: what these and the removed ones
+    // leave of those before and those inserted was evicted.
+    pub(crate) fn evict(&mut self, entries: u64, charge: u64)
+        requires entries { entries + self.old.removals ≤ self.old.entries_before + self.old.insertions }
+        requires entries_fit { self.old.entries_before + self.old.insertions < 2 ^ 64 }
+        requires charge { charge + self.old.removed_charge ≤ self.old.charge_before + self.old.inserted_charge }
+        requires charge_fits { self.old.charge_before + self.old.inserted_charge < 2 ^ 128 }
+        ensures { self.new ≡ record self.old { evictions = self.old.entries_before + self.old.insertions - self.old.removals - entries; evicted_charge = self.old.charge_before + self.old.inserted_charge - self.old.removed_charge - charge } }
+    {
+        self.evictions = self.entries_before + self.insertions - self.removals - entries;
+        self.evicted_charge =
+            self.charge_before + self.inserted_charge - self.removed_charge - u128::from(charge);
+    }
+
+    // An entry was removed, and so much charge is left: what it and the evicted ones leave of the
+    // charge before and the inserted one was removed.
+    pub(crate) fn remove(&mut self, charge: u64)
+        requires entries { self.old.removals + 1 < 2 ^ 64 }
+        requires charge { charge + self.old.evicted_charge ≤ self.old.charge_before + self.old.inserted_charge }
+        requires charge_fits { self.old.charge_before + self.old.inserted_charge < 2 ^ 128 }
+        ensures { self.new ≡ record self.old { removals = self.old.removals + 1; removed_charge = self.old.charge_before + self.old.inserted_charge - self.old.evicted_charge - charge } }
+    {
+        self.removals += 1;
+        self.removed_charge =
+            self.charge_before + self.inserted_charge - self.evicted_charge - u128::from(charge);
+    }
+}
+
+// All counts in one line.
+impl fmt::Display for Counts {
+    ghost use Rattle.std.specs.Prelude.{Some};
+    ghost use Rattle.concurrent_lru.specs.Counts.{counts_text};
+
+    ghost output = { λ n. Some (counts_text n) };
+
+    fn fmt<W: fmt::Write>(&self, f: &mut fmt::Formatter<W>) -> fmt::Result {
+        write!(
+            f,
+            "hits {}, misses {}, waits {}, refusals {}, makings {}, failures {}, \
+             inserted {} of charge {}, evicted {} of charge {}, removed {} of charge {}, \
+             before {} of charge {}",
+            self.hits,
+            self.misses,
+            self.waits,
+            self.refusals,
+            self.makings,
+            self.failures,
+            self.insertions,
+            self.inserted_charge,
+            self.evictions,
+            self.evicted_charge,
+            self.removals,
+            self.removed_charge,
+            self.entries_before,
+            self.charge_before
+        )
+    }
+}

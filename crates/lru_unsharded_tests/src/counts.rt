@@ -1,0 +1,326 @@
+//! Counts of what calls did: each kind of call, that they add up, and what a reset answers.
+
+use crate::makings::{Meeting, comes_second, fails_first, makes_first, takes_over};
+use concurrent_lru::unsharded::{Counts, GetError, LruCache, Refusal};
+use std::alloc::Global;
+use std::sync::Wait;
+use std::test::Fail;
+use std::thread;
+use std::thread::Threads;
+
+// Whether the counts of a cache that no other thread uses add up to its entries and its total.
+fn adds_up<R: Wait>(cache: &LruCache<u64, u64, R>) -> bool {
+    let counts = cache.counts();
+    let entries = (cache.len() as u64)
+        .wrapping_add(counts.evictions)
+        .wrapping_add(counts.removals);
+    let charge = u128::from(cache.total_charge())
+        .wrapping_add(counts.evicted_charge)
+        .wrapping_add(counts.removed_charge);
+    entries == counts.entries_before.wrapping_add(counts.insertions)
+        && charge == counts.charge_before.wrapping_add(counts.inserted_charge)
+}
+
+// A call of one thread.
+#[derive(Clone, Copy, Debug)]
+enum Call {
+    // `get`, whose handle is let go at once.
+    Get(u64),
+    // `read`.
+    Read(u64),
+    // `get_or_init` at a charge, whose handle is let go at once.
+    Make(u64, u64),
+    // `get_or_try_init` at a charge, whose `init` fails.
+    Fail(u64, u64),
+    // `contains`.
+    Look(u64),
+    AdviceEvict(u64),
+    Invalidate(u64),
+    SetCapacity(u64),
+    Prune,
+}
+
+// Makes a call. Whatever it answers is told by the counts.
+fn call<R: Wait>(cache: &LruCache<u64, u64, R>, call: Call) {
+    match call {
+        Call::Get(key) => {
+            let _ = cache.get(key);
+        }
+        Call::Read(key) => {
+            let _ = cache.read(&key, |value| *value);
+        }
+        Call::Make(key, charge) => {
+            let _ = cache.get_or_init(key, charge.max(1), |key| *key);
+        }
+        Call::Fail(key, charge) => {
+            let _ = cache.get_or_try_init(key, charge.max(1), |_| -> Result<u64, u8> { Err(9) });
+        }
+        Call::Look(key) => {
+            let _ = cache.contains(&key);
+        }
+        Call::AdviceEvict(key) => cache.advice_evict(key),
+        Call::Invalidate(key) => cache.invalidate(&key),
+        Call::SetCapacity(capacity) => cache.set_capacity(capacity),
+        Call::Prune => cache.prune(),
+    }
+}
+
+// Calls in order on a cache of capacity 6, and after each the hits, misses, refusals, makings,
+// failures, insertions, evictions and removals.
+const CALLS: [(Call, [u64; 8]); 19] = [
+    (Call::Get(1), [0, 1, 0, 0, 0, 0, 0, 0]),
+    (Call::Read(1), [0, 2, 0, 0, 0, 0, 0, 0]),
+    (Call::Make(1, 2), [0, 3, 0, 1, 0, 1, 0, 0]),
+    (Call::Make(1, 3), [1, 3, 0, 1, 0, 1, 0, 0]),
+    (Call::Get(1), [2, 3, 0, 1, 0, 1, 0, 0]),
+    (Call::Read(1), [3, 3, 0, 1, 0, 1, 0, 0]),
+    (Call::Fail(1, 4), [4, 3, 0, 1, 0, 1, 0, 0]),
+    (Call::Look(1), [4, 3, 0, 1, 0, 1, 0, 0]),
+    (Call::Look(2), [4, 3, 0, 1, 0, 1, 0, 0]),
+    (Call::Fail(2, 3), [4, 4, 0, 2, 1, 2, 0, 1]),
+    (Call::Make(3, 2), [4, 5, 0, 3, 1, 3, 0, 1]),
+    (Call::Make(4, 2), [4, 6, 0, 4, 1, 4, 0, 1]),
+    (Call::Make(5, u64::MAX), [4, 6, 1, 4, 1, 4, 0, 1]),
+    // Two entries leave at once.
+    (Call::Make(6, 4), [4, 7, 1, 5, 1, 5, 2, 1]),
+    (Call::AdviceEvict(4), [4, 7, 1, 5, 1, 5, 3, 1]),
+    (Call::SetCapacity(3), [4, 7, 1, 5, 1, 5, 4, 1]),
+    (Call::Prune, [4, 7, 1, 5, 1, 5, 4, 1]),
+    (Call::Make(7, 2), [4, 8, 1, 6, 1, 6, 4, 1]),
+    (Call::Invalidate(7), [4, 8, 1, 6, 1, 6, 5, 1]),
+];
+
+#[test]
+fn each_call_counts_what_it_answers(rt: HostRuntime) {
+    let cache: LruCache<u64, u64, &HostRuntime> = LruCache::new(rt.alloc(), &rt, 6);
+    for (step, numbers) in CALLS {
+        call(&cache, step);
+        let counts = cache.counts();
+        let told = [
+            counts.hits,
+            counts.misses,
+            counts.refusals,
+            counts.makings,
+            counts.failures,
+            counts.insertions,
+            counts.evictions,
+            counts.removals,
+        ];
+        assert_eq!(rt; told, numbers, "after {step:?}");
+        assert_eq!(rt; counts.waits, 0, "after {step:?}");
+        assert!(rt; adds_up(&cache), "after {step:?}");
+    }
+    let counts = cache.counts();
+    assert_eq!(rt; counts.inserted_charge, 15);
+    assert_eq!(rt; counts.evicted_charge, 12);
+    assert_eq!(rt; counts.removed_charge, 3);
+}
+
+#[test]
+fn a_prune_counts_each_entry_that_it_evicts(rt: HostRuntime) -> Result<(), Refusal> {
+    let cache: LruCache<u64, u64, &HostRuntime> = LruCache::new(rt.alloc(), &rt, 100);
+    for key in 1..=5 {
+        drop(cache.get_or_init(key, key.max(1), |key| *key)?);
+    }
+    let held = cache.get_or_init(9, 7, |key| *key)?;
+    cache.prune();
+    let counts = cache.counts();
+    assert_eq!(rt; (counts.evictions, counts.evicted_charge), (5, 15));
+    assert!(rt; adds_up(&cache));
+    // The drop of the last handle settles the cache: here it evicts the entry itself.
+    cache.set_capacity(0);
+    drop(held);
+    let counts = cache.counts();
+    assert_eq!(rt; (counts.evictions, counts.evicted_charge), (6, 22));
+    assert!(rt; adds_up(&cache));
+    Ok(())
+}
+
+// An idle entry is evicted at once, and a held one as its last handle is let go.
+#[test]
+fn an_invalidated_entry_is_evicted_once(rt: HostRuntime) -> Result<(), Refusal> {
+    let cache: LruCache<u64, u64, &HostRuntime> = LruCache::new(rt.alloc(), &rt, 100);
+    drop(cache.get_or_init(1, 3, |key| *key)?);
+    cache.invalidate(&1);
+    let idle = cache.counts();
+    assert_eq!(rt; (idle.evictions, idle.evicted_charge), (1, 3));
+    let held = cache.get_or_init(2, 5, |key| *key)?;
+    let again = cache.get_or_init(2, 5, |key| *key)?;
+    cache.invalidate(&2);
+    assert_eq!(rt; cache.counts().evictions, 1);
+    assert!(rt; adds_up(&cache));
+    // A new entry of the key, beside the one that is held.
+    drop(cache.get_or_init(2, 7, |key| *key)?);
+    drop(held);
+    assert_eq!(rt; cache.counts().evictions, 1);
+    drop(again);
+    cache.invalidate(&9);
+    let counts = cache.counts();
+    assert_eq!(rt; (counts.insertions, counts.inserted_charge), (3, 15));
+    assert_eq!(rt; (counts.evictions, counts.evicted_charge), (2, 8));
+    assert_eq!(rt; (cache.len(), cache.total_charge()), (1, 7));
+    assert!(rt; adds_up(&cache));
+    Ok(())
+}
+
+#[test]
+fn a_reset_answers_what_was_counted(rt: HostRuntime) -> Result<(), Refusal> {
+    let cache: LruCache<u64, u64, &HostRuntime> = LruCache::new(rt.alloc(), &rt, 100);
+    assert_eq!(rt; cache.reset_counts(), Counts::default());
+    for key in [1, 2, 1] {
+        drop(cache.get_or_init(key, 10, |key| *key)?);
+    }
+    let counts = cache.counts();
+    assert_eq!(rt; (counts.hits, counts.misses, counts.insertions), (1, 2, 2));
+    assert_eq!(rt; cache.reset_counts(), counts);
+    // The entries that are there are those before.
+    let anew = cache.counts();
+    assert_eq!(rt; (anew.hits, anew.misses, anew.insertions), (0, 0, 0));
+    assert_eq!(rt; (anew.entries_before, anew.charge_before), (2, 20));
+    assert!(rt; adds_up(&cache));
+    cache.advice_evict(1);
+    assert_eq!(rt; (cache.counts().evictions, cache.counts().evicted_charge), (1, 10));
+    assert!(rt; adds_up(&cache));
+    Ok(())
+}
+
+#[test]
+fn counts_are_told_in_one_line(rt: HostRuntime) -> Result<(), Fail> {
+    let alloc = rt.alloc();
+    let cache: LruCache<u64, u64, &HostRuntime> = LruCache::new(alloc, &rt, 5);
+    for key in [1, 2, 2] {
+        drop(cache.get_or_init(key, 3, |key| *key)?);
+    }
+    let counts = cache.reset_counts();
+    assert_eq!(rt;
+        format!(in alloc; "{counts}")?.as_str(),
+        "hits 1, misses 2, waits 0, refusals 0, makings 2, failures 0, inserted 2 of charge 6, evicted 1 of charge 3, removed 0 of charge 0, before 0 of charge 0"
+    );
+    let anew = cache.counts();
+    assert_eq!(rt;
+        format!(in alloc; "{anew}")?.as_str(),
+        "hits 0, misses 0, waits 0, refusals 0, makings 0, failures 0, inserted 0 of charge 0, evicted 0 of charge 0, removed 0 of charge 0, before 1 of charge 3"
+    );
+    Ok(())
+}
+
+#[test]
+fn the_hit_ratio_is_of_hits_and_misses(rt: HostRuntime) {
+    let none = Counts::default();
+    assert_eq!(rt; none.hit_ratio(), None);
+    let some = Counts {
+        hits: 3,
+        misses: 1,
+        waits: 9,
+        refusals: 9,
+        ..none
+    };
+    assert_eq!(rt; some.hit_ratio(), Some(0.75));
+    let more = Counts { hits: u64::MAX, ..some };
+    assert_eq!(rt; more.saturating_add(some).hits, u64::MAX);
+    assert_eq!(rt; more.saturating_add(some).misses, 2);
+    assert_eq!(rt; more.hit_ratio(), Some(1.0));
+}
+
+// How often the two meet again, at most, where the second came too late to wait.
+const MEETINGS: u32 = 50;
+
+// The counts after two callers asked for one value, the second while the first made it; none where
+// the second came too late.
+fn counts_of_meeting<R: Wait + Threads + Clone + Drop + Send + Sync>(
+    rt: &R,
+    alloc: Global,
+) -> Option<Counts> {
+    let cache: LruCache<u64, u64, R> = LruCache::new(alloc, rt.clone().ok()?, 10);
+    let meeting = Meeting::new();
+    let made = thread::join(
+        rt,
+        || makes_first(&cache, &meeting),
+        || comes_second(&cache, &meeting),
+    );
+    let counts = cache.counts();
+    match made {
+        (Some(5), Some(5)) if counts.hits == 0 => Some(counts),
+        _ => None,
+    }
+}
+
+#[test]
+fn a_caller_that_waits_is_counted(rt: HostRuntime) {
+    let mut counts = counts_of_meeting(&rt, rt.alloc());
+    for _ in 0..MEETINGS {
+        if counts.is_none() {
+            counts = counts_of_meeting(&rt, rt.alloc());
+        }
+    }
+    let counts = counts.expect(&rt, "the second never waited");
+    assert_eq!(rt; (counts.hits, counts.misses, counts.waits), (0, 1, 1));
+    assert_eq!(rt; (counts.makings, counts.failures, counts.insertions), (1, 0, 1));
+}
+
+// The counts after the first caller failed and the second, which waited, made the value; none where
+// the second came too late.
+fn counts_of_failure<R: Wait + Threads + Clone + Drop + Send + Sync>(
+    rt: &R,
+    alloc: Global,
+) -> Option<Counts> {
+    let cache: LruCache<u64, u64, R> = LruCache::new(alloc, rt.clone().ok()?, 10);
+    let meeting = Meeting::new();
+    let made = thread::join(
+        rt,
+        || fails_first(&cache, &meeting),
+        || takes_over(&cache, &meeting),
+    );
+    let counts = cache.counts();
+    match made {
+        (true, Some(5)) if counts.waits > 0 => Some(counts),
+        _ => None,
+    }
+}
+
+// The entry stays for the caller that waits, so it is neither removed nor inserted again.
+#[test]
+fn a_making_that_is_taken_over_is_counted(rt: HostRuntime) {
+    let mut counts = counts_of_failure(&rt, rt.alloc());
+    for _ in 0..MEETINGS {
+        if counts.is_none() {
+            counts = counts_of_failure(&rt, rt.alloc());
+        }
+    }
+    let counts = counts.expect(&rt, "the second never waited");
+    assert_eq!(rt; (counts.hits, counts.misses, counts.waits), (0, 1, 1));
+    assert_eq!(rt; (counts.makings, counts.failures), (2, 1));
+    assert_eq!(rt; (counts.insertions, counts.removals), (1, 0));
+}
+
+// Whether each of some calls of one thread is answered.
+fn works<R: Wait>(cache: &LruCache<u64, u64, R>, seed: u64) -> bool {
+    for turn in 0..1_000u64 {
+        let key = turn.wrapping_mul(seed.wrapping_add(7)) % 20;
+        let made = cache.get_or_try_init(key, 1, |key| -> Result<u64, u64> {
+            if *key == 13 { Err(*key) } else { Ok(*key) }
+        });
+        match made {
+            Ok(_) => {}
+            Err(GetError::Init(13)) => {}
+            Err(_) => return false,
+        }
+    }
+    true
+}
+
+#[test]
+fn four_threads_counts_add_up(rt: HostRuntime) -> Result<(), Fail> {
+    let cache: LruCache<u64, u64, &HostRuntime> = LruCache::new(rt.alloc(), &rt, 8);
+    let answered = thread::map_indices(&rt, rt.alloc(), 4, &|seed| works(&cache, seed as u64))?;
+    assert_eq!(rt; answered.as_slice(), [true; 4].as_slice());
+    assert!(rt; adds_up(&cache));
+    let counts = cache.counts();
+    let asked = counts
+        .hits
+        .wrapping_add(counts.misses)
+        .wrapping_add(counts.waits);
+    assert_eq!(rt; asked, 4_000);
+    assert_eq!(rt; counts.refusals, 0);
+    Ok(())
+}
