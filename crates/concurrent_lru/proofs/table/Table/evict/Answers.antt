@@ -1,4 +1,4 @@
-use Rattle.std.proofs.Common.{◌≤◌, sym, ap, ◌∙◌, subst, eqb}
+use Rattle.std.proofs.Common.{◌-◌, ◌≤◌, sym, ap, ◌∙◌, subst, eqb}
 use Rattle.std.specs.Prelude.{is_some}
 use Rattle.std.specs.List.{list_any}
 use Rattle.std.specs.FinMap.{get, remove}
@@ -13,11 +13,11 @@ use Rattle.concurrent_lru.proofs.Entries.EntryAddedOrTaken.{IsTaken, stored_with
 use Rattle.concurrent_lru.specs.Indexes.{entries_of}
 use Rattle.concurrent_lru.proofs.Steps.BeginOfAbsent.{as_idle-ready}
 use Rattle.concurrent_lru.proofs.Entries.NodeAtPlace.{idle_like}
+use Rattle.concurrent_lru.proofs.Entries.ChargesOfIdle.{kept_less, kept_bound}
 use Rattle.concurrent_lru.proofs.Entries.SumsOfCharges.{sum_evicted, idle_bound, stamps_apart, less_alike}
 use Rattle.concurrent_lru.specs.Indexes.{stamps_of}
 use Rattle.concurrent_lru.proofs.Entries.PlacesOfNodes.{stamps_cut}
 use Rattle.concurrent_lru.proofs.table.Table.evict.Goals as goal
-use Rattle.concurrent_lru.proofs.table.Table.evict.Goals.{After-take_away-node}
 
 pub remove-requires : goal.remove-requires
 remove-requires g c = idle_node c.self.invariant.stored c.args.place (subst (λ t. ContainsIdleAt t c.args.place) (sym c.self.view_is) c.requires)
@@ -30,10 +30,10 @@ take_away-node-requires-clause-within g c =
 pub take_away-node-requires-clause-apart : goal.take_away-node-requires-clause-apart
 take_away-node-requires-clause-apart g c = ap (list_any (eqb c.args.place)) c.remove.ensures.idle ∙ list_any-filter_self c.args.place c.self.inside.nodes.idle
 
-rests : (g : _) (c : After-take_away-node g) → IsIn c.args.place c.self.inside.nodes.idle
+rests : (g : _) (c : goal.After-self-1 g) → IsIn c.args.place c.self.inside.nodes.idle
 rests g c = idle_node c.self.invariant.stored c.args.place (subst (λ t. ContainsIdleAt t c.args.place) (sym c.self.view_is) c.requires)
 
-taken : (g : _) (c : After-take_away-node g) → IsTaken g.K.PartialEq.eq c.self.inside.nodes c.take_away-node.new.nodes c.self.inside.by_key c.take_away-node.new.by_key c.self.inside.by_stamp c.take_away-node.new.by_stamp c.args.place (entry_of c.take_away-node.result.value)
+taken : (g : _) (c : goal.After-self-1 g) → IsTaken g.K.PartialEq.eq c.self.inside.nodes c.take_away-node.new.nodes c.self.inside.by_key c.take_away-node.new.by_key c.self.inside.by_stamp c.take_away-node.new.by_stamp c.args.place (entry_of c.take_away-node.result.value)
 taken g c = record {
   at = ap (λ m. get m c.args.place) (sym c.remove.ensures.nodes) ∙ c.take_away-node.ensures.entry;
   nodes = c.take_away-node.ensures.nodes ∙ ap (λ m. remove m c.args.place) c.remove.ensures.nodes;
@@ -51,6 +51,7 @@ invariant_of-self g c =
     record {
       stored = stored_without g.met.K.Eq.laws c.self.invariant.stored (taken g c);
       sums = less_alike _ _ _ _ e.charge c.take_away-node.ensures.total sum c.self.invariant.sums;
+      rests = ap (λ n. c.self.inside.idle_charge - (entry_of n).charge) c.deref.ensures ∙ kept_less c.self.invariant.stored c.args.place e (taken g c).at (rests g c) _ c.self.invariant.rests (entries_of c.take_away-node.new.nodes) (idle_without g.met.K.Eq.laws c.self.invariant.stored (taken g c) (rests g c));
     }
 
 pub take_away-node-requires-clause-counted : goal.take_away-node-requires-clause-counted
@@ -77,3 +78,9 @@ returns-clause-held g c = held_same g.met.K.Eq.laws c.self.invariant.stored (tak
 
 pub returns-clause-stamps : goal.returns-clause-stamps
 returns-clause-stamps g c = ap stamps_of (taken g c).nodes ∙ stamps_cut c.self.inside.nodes.nodes c.args.place ∙ ap (λ t. remove t.stamps c.args.place) c.self.view_is
+
+pub overflow_sub-self : goal.overflow_sub-self
+overflow_sub-self g c =
+    let at = ap (λ m. get m c.args.place) (sym c.remove.ensures.nodes) ∙ c.take_away-node.ensures.entry in
+    let idle = idle_node c.self.invariant.stored c.args.place (subst (λ t. ContainsIdleAt t c.args.place) (sym c.self.view_is) c.requires) in
+    subst (λ n. (entry_of n).charge ≤ c.self.inside.idle_charge) (sym c.deref.ensures) (kept_bound c.self.invariant.stored c.args.place _ at idle _ c.self.invariant.rests)
