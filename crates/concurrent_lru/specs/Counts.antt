@@ -86,9 +86,25 @@ part_of hits asked = cond (asked == 0) None (Some (float.div binary64 (float.of_
 abbrev pub hit_ratio_of : Counts → Option Float
 hit_ratio_of n = part_of n.hits (min (n.hits + n.misses) end_of_u64)
 
--- the line that `{}` prints
+-- The line that `{}` prints: what calls found, what was refused and made, and how many entries there
+-- are of each kind, with the sum of their charges.
+abbrev pub asked_text : Counts → List ℕ
+asked_text n = codes "hits " ++ (decimal n.hits ++ (codes ", misses " ++ (decimal n.misses ++ (codes ", waits " ++ decimal n.waits))))
+
+abbrev pub makings_text : Counts → List ℕ
+makings_text n = codes ", refusals " ++ (decimal n.refusals ++ (codes ", makings " ++ (decimal n.makings ++ (codes ", failures " ++ decimal n.failures))))
+
+abbrev pub entries_text : List ℕ → ℕ → ℕ → List ℕ
+entries_text kind entries charge = codes ", " ++ (kind ++ (codes " " ++ (decimal entries ++ (codes " of charge " ++ decimal charge))))
+
 abbrev pub counts_text : Counts → List ℕ
-counts_text n = codes "hits " ++ (decimal n.hits ++ (codes ", misses " ++ (decimal n.misses ++ (codes ", waits " ++ (decimal n.waits ++ (codes ", refusals " ++ (decimal n.refusals ++ (codes ", makings " ++ (decimal n.makings ++ (codes ", failures " ++ (decimal n.failures ++ (codes ", inserted " ++ (decimal n.insertions ++ (codes " of charge " ++ (decimal n.inserted_charge ++ (codes ", evicted " ++ (decimal n.evictions ++ (codes " of charge " ++ (decimal n.evicted_charge ++ (codes ", removed " ++ (decimal n.removals ++ (codes " of charge " ++ (decimal n.removed_charge ++ (codes ", before " ++ (decimal n.entries_before ++ (codes " of charge " ++ decimal n.charge_before))))))))))))))))))))))))))
+counts_text n =
+    asked_text n
+    ++ (makings_text n
+    ++ (entries_text (codes "inserted") n.insertions n.inserted_charge
+    ++ (entries_text (codes "evicted") n.evictions n.evicted_charge
+    ++ (entries_text (codes "removed") n.removals n.removed_charge
+    ++ entries_text (codes "before") n.entries_before n.charge_before))))
 
 -- counts as the list of their numbers
 abbrev numbers : Counts → List ℕ

@@ -1,7 +1,8 @@
 //! Counts of what the calls of a cache did. They are plain numbers, kept beside the cache under its
 //! lock.
 ghost use Rattle.std.specs.Prelude.{◌≡◌, ◌+◌, ◌-◌, ◌<◌, ◌≤◌, ◌^◌};
-ghost use Rattle.concurrent_lru.specs.Counts.{added, counts_from, hit_ratio_of, inserted, one_failure, one_hit, one_making, one_miss, one_refusal, one_wait};
+ghost use Rattle.std.specs.Fmt.{WritesOnOk};
+ghost use Rattle.concurrent_lru.specs.Counts.{added, asked_text, counts_from, entries_text, hit_ratio_of, inserted, makings_text, one_failure, one_hit, one_making, one_miss, one_refusal, one_wait};
 
 use std::fmt;
 use std::num::nearest_u64_to_f64;
@@ -188,25 +189,41 @@ impl fmt::Display for Counts {
     ghost output = { λ n. Some (counts_text n) };
 
     fn fmt<W: fmt::Write>(&self, f: &mut fmt::Formatter<W>) -> fmt::Result {
-        write!(
-            f,
-            "hits {}, misses {}, waits {}, refusals {}, makings {}, failures {}, \
-             inserted {} of charge {}, evicted {} of charge {}, removed {} of charge {}, \
-             before {} of charge {}",
-            self.hits,
-            self.misses,
-            self.waits,
-            self.refusals,
-            self.makings,
-            self.failures,
-            self.insertions,
-            self.inserted_charge,
-            self.evictions,
-            self.evicted_charge,
-            self.removals,
-            self.removed_charge,
-            self.entries_before,
-            self.charge_before
-        )
+        write_asked(self, f)?;
+        write_makings(self, f)?;
+        write_entries("inserted", self.insertions, self.inserted_charge, f)?;
+        write_entries("evicted", self.evictions, self.evicted_charge, f)?;
+        write_entries("removed", self.removals, self.removed_charge, f)?;
+        write_entries("before", self.entries_before, self.charge_before, f)
     }
+}
+
+// What the calls that asked for a value found.
+fn write_asked<W: fmt::Write>(n: &Counts, f: &mut fmt::Formatter<W>) -> fmt::Result
+    ensures { WritesOnOk W.write_str_gives f.old result (asked_text n.now) f.new }
+{
+    write!(f, "hits {}, misses {}, waits {}", n.hits, n.misses, n.waits)
+}
+
+// What was refused, and the makings.
+fn write_makings<W: fmt::Write>(n: &Counts, f: &mut fmt::Formatter<W>) -> fmt::Result
+    ensures { WritesOnOk W.write_str_gives f.old result (makings_text n.now) f.new }
+{
+    write!(
+        f,
+        ", refusals {}, makings {}, failures {}",
+        n.refusals, n.makings, n.failures
+    )
+}
+
+// How many entries there are of one kind, and the sum of their charges.
+fn write_entries<W: fmt::Write>(
+    kind: &str,
+    entries: u64,
+    charge: u128,
+    f: &mut fmt::Formatter<W>,
+) -> fmt::Result
+    ensures { WritesOnOk W.write_str_gives f.old result (entries_text kind.now entries charge) f.new }
+{
+    write!(f, ", {kind} {entries} of charge {charge}")
 }

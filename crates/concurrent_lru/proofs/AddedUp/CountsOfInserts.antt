@@ -1,5 +1,5 @@
 -- Counts that add up go on adding up where an insert replaces an entry.
-use Rattle.std.proofs.Common.{◌≡◌, ℕ, ◌+◌, ◌-◌, ◌*◌, ◌<◌, ◌≤◌, ◌^◌, inl, inr, Bool, List, [], length, Result, Ok, Err, OnErr, refl, sym, ap, ◌∙◌, subst, arith}
+use Rattle.std.proofs.Common.{◌≡◌, ℕ, ◌+◌, ◌-◌, ◌*◌, ◌<◌, ◌≤◌, ◌^◌, inl, inr, Bool, List, [], length, sym, ap, ◌∙◌, subst, arith}
 use Rattle.std.specs.Cmp.{IsEquivalence}
 use Rattle.concurrent_lru.specs.Cache.{Cache, Idle, making, ready, IsLawful, charges, count_of, sum_of}
 use Rattle.concurrent_lru.specs.CountedCalls.{AddUp, IsSoundlyCounted, replaced}
@@ -7,7 +7,6 @@ use Rattle.concurrent_lru.specs.Counts.{end_of_u64, inserted, one_more, one_refu
 use Rattle.concurrent_lru.specs.Inserts.{Replaces}
 use Rattle.concurrent_lru.specs.Request as ask
 use Rattle.concurrent_lru.specs.Reply as say
-use Rattle.concurrent_lru.specs.Runs.{accepted, Stands}
 use Rattle.concurrent_lru.specs.Steps.{IsAbsent, Step}
 use Rattle.concurrent_lru.specs.declared.counts.Counts.{Counts}
 use Rattle.concurrent_lru.specs.declared.step.Begun.TheVariants as begun

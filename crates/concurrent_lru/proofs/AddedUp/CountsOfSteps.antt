@@ -1,7 +1,6 @@
 -- Counts that add up go on adding up: what each step makes of them.
 use Rattle.std.proofs.Common.{◌≡◌, ◌≢◌, ℕ, ◌+◌, ◌-◌, ◌*◌, ◌<◌, ◌≤◌, ◌^◌, inl, inr, Bool, true, false, cond, List, [], length, Option, Some, None, Result, Ok, Err, OnOk, OnErr, refl, sym, ap, ◌∙◌, subst, arith, eqb, ◌==◌}
 use Rattle.std.specs.Option.{option_map_or}
-use Rattle.std.specs.List.{sum_by}
 use Rattle.std.specs.Ordering.{nat_cmp}
 use Rattle.std.specs.FinMap.{values, empty}
 use Rattle.std.proofs.lemmas.Bool.{eqb-true, eq-eqb, true≢false}
@@ -11,7 +10,7 @@ use Rattle.concurrent_lru.specs.Results.{outcome_of_begin, outcome_of_get, outco
 use Rattle.concurrent_lru.specs.Ready.{HasEqualKeyAt}
 use Rattle.concurrent_lru.specs.declared.step.Begun.{Begun}
 use Rattle.concurrent_lru.specs.declared.step.Begun.TheVariants as begun
-use Rattle.concurrent_lru.specs.Cache.{Cache, Idle, Held, Settles, IsLawful, held_at, charges, count_of, sum_of, empty_cache, most_pins_by_default, ready, making, untaken}
+use Rattle.concurrent_lru.specs.Cache.{Cache, Idle, Held, Settles, IsLawful, charges, count_of, sum_of, empty_cache, most_pins_by_default, ready, making, untaken}
 use Rattle.concurrent_lru.specs.CountedCalls.{AddUp, IsSoundlyCounted, counted, counted_begin, counted_look, counted_poll, evicted, held_charge, is_insertion}
 use Rattle.concurrent_lru.specs.Counts.{counts_from, end_of_u64, inserted, one_failure, one_more, one_making, one_miss, removed}
 use Rattle.concurrent_lru.specs.Reads.{Reads}

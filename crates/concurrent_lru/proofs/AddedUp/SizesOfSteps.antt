@@ -1,13 +1,13 @@
 -- How many entries a cache has after a step, and of how much charge: what came and what left.
-use Rattle.std.proofs.Common.{◌≡◌, ℕ, suc, ◌+◌, inl, inr, Bool, true, false, cond, not, List, [], ◌∷◌, ◌++◌, length, map, Option, Some, None, refl, sym, ap, ◌∙◌, subst, arith, eqb, ◌==◌, length-append}
+use Rattle.std.proofs.Common.{◌≡◌, ℕ, ◌+◌, inl, inr, Bool, true, false, cond, not, List, [], ◌∷◌, ◌++◌, length, map, Some, None, refl, ap, ◌∙◌, subst, arith, eqb, ◌==◌, length-append}
 use Rattle.std.specs.List.{find, IsDistinct, AllByRecursion, sum_by}
 use Rattle.std.specs.Ordering.{nat_cmp}
 use Rattle.std.specs.FinMap.{FinMap, get, insert, remove, values}
 use Rattle.std.proofs.lemmas.Bool.{eqb-true}
 use Rattle.std.proofs.lemmas.Option.{none-some}
 use Rattle.std.proofs.lemmas.List.Sums.{sum_by-append}
-use Rattle.concurrent_lru.specs.Cache.{Cache, Idle, Held, Phase, making, IsLawful, Settles, idle_at, held_at, sum_of, count_of, charges}
-use Rattle.concurrent_lru.specs.Steps.{with_held, without, held_by_one, Makes, Joins, Revives, Hits, ChangesPhase, Leaves, Removes, Rests, Ends, Stays, Drops, Detaches, held_in_phase, held_detached, one_more_pin, one_pin_less, idle_again, without_held, with_capacity}
+use Rattle.concurrent_lru.specs.Cache.{Cache, Idle, Held, Phase, making, IsLawful, Settles, held_at, sum_of, count_of, charges}
+use Rattle.concurrent_lru.specs.Steps.{with_held, without, held_by_one, Makes, Joins, Revives, Hits, ChangesPhase, Leaves, Removes, Rests, Ends, Stays, Drops, Detaches, held_in_phase, held_detached, one_more_pin, one_pin_less, idle_again, without_held}
 use Rattle.concurrent_lru.specs.Representation.{held_charges}
 use Rattle.concurrent_lru.proofs.Entries.SumsOfHeld.{sum_by-cons, sum-insert, sum-remove, sum-change}
 use Rattle.concurrent_lru.proofs.Steps.BeginOfAbsent.{with_new_entry, next_free, sum-made}
