@@ -199,8 +199,8 @@ impl<
     }
 
     /// Takes the value of a key back: whoever asks for the key after this call gets a value that is
-    /// made after it. An idle entry is evicted; a held one is detached from its key and stays for its
-    /// holders, until the last pin is given back.
+    /// made after it. An idle entry is evicted; a held one is detached from its key and stays for
+    /// its holders, until the last pin is given back.
     ///
     /// A refusal leaves the key its value.
     pub fn invalidate(&self, tally: &mut Tally<K, I>, key: &K) -> Result<(), Refusal>

@@ -1,4 +1,5 @@
-//! How many entries all shards have, how much of their totals is pinned, and which keys have a value.
+//! How many entries all shards have, how much of their totals is pinned, and which keys have a
+//! value.
 
 use concurrent_lru::sharded::{LruCache, Refusal, Shards};
 use lru_fixtures::tables::Answers;
