@@ -13,7 +13,9 @@ use Rattle.concurrent_lru.specs.Stamps.{keeps_map, mapped_place}
 use Rattle.concurrent_lru.specs.declared.table.stamps.Stamps.{Stamps}
 
 module _ {K V : Type 0} where
-  -- each node that is not detached is found by its key, and where a map of stamps is kept each node by its stamp; what is found is a node with that key, not detached, or with that stamp; only nodes with pins are detached
+  -- each node that is not detached is found by its key, and where a map of stamps is kept each node
+  -- by its stamp; what is found is a node with that key, not detached, or with that stamp; only
+  -- nodes with pins are detached
   pub record IsIndexed (E : K → K → Bool) (nodes : finmap.FinMap nat_cmp (Entry K V)) (by_key : K → Option ℕ) (by_stamp : Stamps) : Type 0 where
     pub key_found : (p : ℕ) (e : Entry K V) → finmap.get nodes p ≡ Some e → e.detached ≡ false → by_key e.key ≡ Some p
     pub key_kept : (k : K) (p : ℕ) → by_key k ≡ Some p → (e : Entry K V) × (finmap.get nodes p ≡ Some e) × (E e.key k ≡ true) × (e.detached ≡ false)

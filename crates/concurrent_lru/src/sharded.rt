@@ -352,8 +352,8 @@ impl<K: Hash + Eq + Clone + Drop, V: Drop, R: Wait, S: BuildHasher, F: Fit<K, V>
 
     /// Takes the value of a key back, at the key's shard, as in the cache of one lock: whoever asks
     /// for the key after this call gets a value that is made after it, also while others hold the
-    /// old one. An entry that nobody holds is evicted; one that is held stays, for its holders alone,
-    /// and is evicted when its last handle is dropped. Copies no key and takes no memory.
+    /// old one. An entry that nobody holds is evicted; one that is held stays, for its holders
+    /// alone, and is evicted when its last handle is dropped. Copies no key and takes no memory.
     pub fn invalidate(&self, key: &K) {
         let _: Invalidated<K> = self.routes.of(key).invalidated(key);
     }

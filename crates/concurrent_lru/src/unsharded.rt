@@ -254,21 +254,21 @@ impl<K: Hash + Eq + Clone + Drop, V: Drop, R: Wait, F: Fit<K, V>> LruCache<K, V,
     /// Takes the value of a key back: whoever asks for the key after this call gets a value that is
     /// made after it, also while others hold the old one. Copies no key and takes no memory.
     ///
-    /// An entry that nobody holds is evicted. One that is held is detached from the key, whether its
-    /// value is there or still being made: no call finds it by the key any more, and the next one
-    /// makes a new entry. Its handles read the value that they had, callers that wait for its value
-    /// get that value, and when its last handle is dropped it is evicted at once. Until then it is
-    /// counted: in `total_charge` by its charge, and in `len`. Where the key has no entry, nothing
-    /// happens.
+    /// An entry that nobody holds is evicted. One that is held is detached from the key, whether
+    /// its value is there or still being made: no call finds it by the key any more, and the next
+    /// one makes a new entry. Its handles read the value that they had, callers that wait for its
+    /// value get that value, and when its last handle is dropped it is evicted at once. Until then
+    /// it is counted: in `total_charge` by its charge, and in `len`. Where the key has no entry,
+    /// nothing happens.
     ///
     /// The original crate has no such call; this one is this project's own.
     pub fn invalidate(&self, key: &K) {
         let _: Invalidated<K> = self.invalidated(key);
     }
 
-    /// Puts a value in and answers its handle, whatever the key has: an `invalidate`, and a making of
-    /// the key that is done at once, with nothing in between. It is for a value that is there before
-    /// its charge is known, and for one that is to replace another.
+    /// Puts a value in and answers its handle, whatever the key has: an `invalidate`, and a making
+    /// of the key that is done at once, with nothing in between. It is for a value that is there
+    /// before its charge is known, and for one that is to replace another.
     ///
     /// What the key had is taken back as by `invalidate`: handles read the value that they had, and
     /// callers that wait for a making get what that making gives. Waits for no maker.
@@ -321,14 +321,14 @@ impl<K: Hash + Eq + Clone + Drop, V: Drop, R: Wait, F: Fit<K, V>> LruCache<K, V,
     }
 
     /// The sum of the charges of the entries that are held, those still being made included, and
-    /// those that are held after they were invalidated: the rest of `total_charge` is idle. No entry
-    /// is visited. Takes no memory.
+    /// those that are held after they were invalidated: the rest of `total_charge` is idle. No
+    /// entry is visited. Takes no memory.
     pub fn pinned_charge(&self) -> u64 {
         self.door.enter().pinned_charge()
     }
 
-    /// The number of entries, idle or held, those still being made included, and those that are held
-    /// after they were invalidated. No entry is visited. Takes no memory.
+    /// The number of entries, idle or held, those still being made included, and those that are
+    /// held after they were invalidated. No entry is visited. Takes no memory.
     pub fn len(&self) -> usize {
         self.door.enter().len()
     }

@@ -1,5 +1,5 @@
-//! How many entries there are, how much of the total is pinned, and which keys have a value, in each
-//! state that an entry can be in.
+//! How many entries there are, how much of the total is pinned, and which keys have a value, in
+//! each state that an entry can be in.
 
 use concurrent_lru::lru_core::{Evicted, Refusal, State};
 use lru_fixtures::makes::make;

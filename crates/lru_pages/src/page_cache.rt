@@ -97,9 +97,10 @@ impl<'a, B: Blocks, R: Wait> PageCache<'a, B, R> {
         self.pages.total_charge()
     }
 
-    /// What the calls of this cache did since it was made, or since `reset_counts`: `misses` are
-    /// the calls that read a block, and `failures` the blocks that could not be read, or that there
-    /// was no memory for. Takes no memory.
+    /// What the calls of this cache did since it was made, or since `reset_counts`. `makings` is
+    /// how often the reader was asked for a block, and `failures` how often it gave none, or there
+    /// was no memory for the page. A `read` that finds no page is a miss too, though it reads no
+    /// block. Takes no memory.
     pub fn counts(&self) -> Counts {
         self.pages.counts()
     }

@@ -1,4 +1,5 @@
-//! How many entries all shards have, how much of their totals is pinned, and which keys have a value.
+//! How many entries all shards have, how much of their totals is pinned, and which keys have a
+//! value.
 
 use concurrent_lru::sharded::{LruCache, Refusal, Shards};
 use lru_fixtures::tables::Answers;
@@ -59,6 +60,36 @@ fn pinned_charges_of_all_shards_are_summed(rt: HostRuntime) -> Result<(), Refusa
     drop(first);
     assert_eq!(rt; cache.pinned_charge(), 0);
     Ok(())
+}
+
+// Each entry counts in its own shard: one that is being made, one that is detached, and one of each
+// shard that is held.
+#[test]
+fn pinned_charges_are_those_of_each_state(rt: HostRuntime) {
+    let made: Result<LruCache<u64, u64, &HostRuntime, ByOwnNumber>, _> =
+        LruCache::with_shards_hasher(rt.alloc(), &rt, 90, 3, ByOwnNumber);
+    let cache = made.expect(&rt, "memory");
+    assert_eq!(rt; cache.pinned_charge(), 0);
+    let mut while_made = None;
+    let last = cache.get_or_init(2, 1, |_| {
+        while_made = Some(cache.pinned_charge());
+        5
+    });
+    assert_eq!(rt; while_made, Some(1));
+    let old = cache.insert(&1, 2, 5);
+    cache.invalidate(&1);
+    let new = cache.insert(&1, 4, 5);
+    let first = cache.insert(&0, 8, 5);
+    drop(cache.insert(&3, 16, 5));
+    assert_eq!(rt; (cache.total_charge(), cache.pinned_charge()), (31, 15));
+    drop(new);
+    assert_eq!(rt; (cache.total_charge(), cache.pinned_charge()), (31, 11));
+    drop(old);
+    assert_eq!(rt; (cache.total_charge(), cache.pinned_charge()), (29, 9));
+    drop(first);
+    assert_eq!(rt; (cache.total_charge(), cache.pinned_charge()), (29, 1));
+    drop(last);
+    assert_eq!(rt; (cache.total_charge(), cache.pinned_charge()), (29, 0));
 }
 
 #[test]

@@ -1,5 +1,5 @@
-//! How many entries there are, how much of the total is pinned, and which keys have a value, asked of
-//! a cache that threads share.
+//! How many entries there are, how much of the total is pinned, and which keys have a value, asked
+//! of a cache that threads share.
 
 use concurrent_lru::unsharded::{LruCache, Refusal};
 use std::sync::Wait;
