@@ -461,10 +461,10 @@ impl<K: Hash + Eq + Clone, V: Drop> Table<K, V> {
         ensures taken { MatchOption result ((map.get self.old.stamps place ≡ None) × (self.new ≡ self.old)) (λ node. TakesHeldAt self.old place (entry_of node.value) self.new) }
         ensures alone { IfSome result (λ node. chain_of node.value ≡ []) }
     {
-        if !self.nodes.contains(place) {
-            return None;
+        if self.nodes.contains(place) {
+            return Some(self.take_held(place));
         }
-        Some(self.take_held(place))
+        None
     }
 
     // Takes the oldest idle entry away, if there is one.
