@@ -12,7 +12,7 @@ idle_left : (g : _) (c : After-settle-idle g) → (c.settle-idle.result ≡ c.se
 idle_left g c = prunes c.self.inside.table c.settle-idle.new.self c.settle-idle.result c.self.invariant.lawful c.settle-idle.ensures.held c.settle-idle.ensures.front
 
 pub take_each_held-held-requires : goal.take_each_held-held-requires
-take_each_held-held-requires g c = ap (λ x. x.idle) (idle_left g c).1
+take_each_held-held-requires g c = ap (λ x. x.idle) (idle_left g (goal.at.take_each_held-held-requires g c).After-settle-idle).1
 
 -- and the held ones left
 all_left : (g : _) (c : After-take_each_held-held g) → cache_with c.self.inside.capacity c.self.inside.most_pins c.self.inside.next c.take_each_held-held.new.self ≡ emptied (cache_with c.self.inside.capacity c.self.inside.most_pins c.self.inside.next c.self.inside.table)
@@ -32,6 +32,6 @@ returns g c = record {
     held = subst (λ m. TakesHeld m c.take_each_held-held.result) (c.settle-idle.ensures.held ∙ ap (λ x. x.cache.held) c.self.view_is) c.take_each_held-held.ensures.taken;
   };
   left = all_left g (goal.at.returns g c).After-take_each_held-held ∙ ap (λ x. emptied x.cache) c.self.view_is;
-  work = c.take_each_held-held.ensures.work ∙ c.settle-idle.ensures.work ∙ (λ j. (c.self.view_is j).work + length ((idle_left g (goal.at.returns g c).After-settle-idle).0 ∙ ap (λ x. x.cache.idle) c.self.view_is) j);
+  work = c.take_each_held-held.ensures.work ∙ c.settle-idle.ensures.work ∙ ap (λ xs. c.self.inside.table.work + length xs) (idle_left g (goal.at.returns g c).After-settle-idle).0 ∙ ap (λ x. x.work + length x.cache.idle) c.self.view_is;
   lawful = is_lawful g (goal.at.returns g c).After-take_each_held-held;
 }
