@@ -1,5 +1,5 @@
 use Rattle.std.proofs.Common.{◌≡◌, [], ◌++◌, ◌+◌, length, sym, ap, ◌∙◌, subst}
-use Rattle.concurrent_lru.specs.Cache.{Cache, IsLawful}
+use Rattle.concurrent_lru.specs.Cache.{IsLawful}
 use Rattle.concurrent_lru.specs.Entries.{cache_with}
 use Rattle.concurrent_lru.specs.TakeAll.{TakesHeld, emptied}
 use Rattle.concurrent_lru.proofs.Steps.Prune.{prunes}
