@@ -27,6 +27,7 @@ pub mod Results
 pub mod Inserts
 pub mod Reads
 pub mod Ready
+pub mod TakeAll
 pub mod OtherPins
 pub mod Pins
 pub mod Debts

@@ -13,6 +13,7 @@ ghost use Rattle.concurrent_lru.specs.Entries.{cache_of, charges_of, ContainsEnt
 ghost use Rattle.concurrent_lru.specs.Reads.{RenewsAt};
 ghost use Rattle.concurrent_lru.specs.Stamps.{keeps_map, mapped_place, HasRoomFor};
 ghost use Rattle.concurrent_lru.specs.Steps.{without, held_in_phase, held_detached};
+ghost use Rattle.concurrent_lru.specs.TakeAll.{TakesHeld, TakesHeldAt};
 
 mod stamps;
 
@@ -433,6 +434,37 @@ impl<K: Hash + Eq + Clone, V: Drop> Table<K, V> {
         );
         self.idle_charge -= node.charge;
         node
+    }
+
+    /// Takes every held entry away, where none is idle: detached ones too, and those without a value,
+    /// which are dropped. Answers those that have a value, in no order that is promised. Takes no
+    /// memory.
+    pub fn take_each_held(&mut self) -> Evicted<K, V>
+        requires { self.old.idle ≡ [] }
+        ensures taken { TakesHeld self.old.held result }
+        ensures idle { self.new.idle ≡ [] }
+        ensures held { self.new.held ≡ map.empty }
+        ensures work { self.new.work ≡ self.old.work }
+    {
+        let mut taken = Evicted::none();
+        for number in 0..self.nodes.end_of_places() {
+            if let Some(node) = self.take_held_at(Place::at(number)) {
+                taken.push_front(node);
+            }
+        }
+        taken
+    }
+
+    // Takes the held entry at a place away, if there is one. No entry is idle.
+    fn take_held_at(&mut self, place: Place) -> Option<Box<Node<K, V>>>
+        requires { self.old.idle ≡ [] }
+        ensures taken { MatchOption result ((map.get self.old.stamps place ≡ None) × (self.new ≡ self.old)) (λ node. TakesHeldAt self.old place (entry_of node.value) self.new) }
+        ensures alone { IfSome result (λ node. chain_of node.value ≡ []) }
+    {
+        if self.nodes.contains(place) {
+            return Some(self.take_held(place));
+        }
+        None
     }
 
     // Takes the oldest idle entry away, if there is one.
