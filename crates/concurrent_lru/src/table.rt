@@ -436,9 +436,8 @@ impl<K: Hash + Eq + Clone, V: Drop> Table<K, V> {
         node
     }
 
-    /// Takes every held entry away, where none is idle: detached ones too, and those without a value,
-    /// which are dropped. Answers those that have a value, in no order that is promised. Takes no
-    /// memory.
+    /// Takes every held entry away, detached ones too, where no entry is idle. Answers those that have
+    /// a value, in an unspecified order, and drops the others. Takes no memory.
     pub fn take_each_held(&mut self) -> Evicted<K, V>
         requires { self.old.idle ≡ [] }
         ensures taken { TakesHeld self.old.held result }
