@@ -436,9 +436,8 @@ impl<K: Hash + Eq + Clone, V: Drop> Table<K, V> {
         node
     }
 
-    /// Takes every held entry away, where none is idle: detached ones too, and those without a value,
-    /// which are dropped. Answers those that have a value, in no order that is promised. Takes no
-    /// memory.
+    /// Takes every held entry away, where none is idle. Answers those that have a value, detached
+    /// ones too, in no promised order; the others are dropped. Takes no memory.
     pub fn take_each_held(&mut self) -> Evicted<K, V>
         requires { self.old.idle ≡ [] }
         ensures taken { TakesHeld self.old.held result }
