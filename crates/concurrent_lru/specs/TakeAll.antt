@@ -15,7 +15,7 @@ module _ {K V : Type 0} where
   abbrev pub leaves_as : ℕ → Held K V → Option (Idle K V)
   leaves_as s e = option_map (idle_again s e) (value_in e.phase)
 
-  -- the held entry with the stamp s as it leaves: none where no held entry with a value has the stamp
+  -- the held entry with the stamp s as it leaves, where there is one and it has a value
   abbrev pub leaves_at : finmap.FinMap nat_cmp (Held K V) → ℕ → Option (Idle K V)
   leaves_at held s = option_and_then (leaves_as s) (finmap.get held s)
 
@@ -23,7 +23,8 @@ module _ {K V : Type 0} where
   abbrev pub taken_at : List (Idle K V) → ℕ → Option (Idle K V)
   taken_at taken s = find (λ x. x.stamp == s) taken
 
-  -- Of the held entries, exactly those that have a value were taken, detached ones included, and each of them once. Their order is left open.
+  -- Of the held entries, those that have a value were taken, detached ones too, each of them once,
+  -- and nothing else was. Their order is left open.
   pub record TakesHeld (held : finmap.FinMap nat_cmp (Held K V)) (taken : List (Idle K V)) : Type 0 where
     pub each : (s : ℕ) → taken_at taken s ≡ leaves_at held s
     pub once : IsDistinct nat_eq (map (λ x. x.stamp) taken)
@@ -34,11 +35,11 @@ module _ {K V : Type 0} where
     pub parts : taken ≡ cache.idle ++ others
     pub held : TakesHeld cache.held others
 
-  -- the cache without its entries: its capacity, its greatest number of pins and its next stamp are the same
+  -- the cache without its entries: the capacity, the most pins and the next stamp are the same
   abbrev pub emptied : Cache K V → Cache K V
   emptied c = empty_cache c.capacity c.most_pins c.next
 
-  -- the held entry e left its place, and all else is the same
+  -- the held entry e left its place p, and all else is the same
   pub record TakesHeldAt (old : Entries K V) (p : ℕ) (e : Entry K V) (new : Entries K V) : Type 0 where
     pub at : finmap.get old.stamps p ≡ Some e.stamp
     pub entry : finmap.get old.held e.stamp ≡ Some (held_entry e)

@@ -164,5 +164,5 @@ module _ {K V S : Type 0} {C : K → K → Type 0} {E : K → K → Bool} {t : N
   held_if_none_idle p e none at =
       let here = node_is_at r p e at in
       held_place here (λ zero_pins.
-          let i = here.idle zero_pins in
-          true≢false (sym i.0 ∙ ap is_some (sym i.1 ∙ ap (find (λ x. x.stamp == e.stamp)) none)))
+      let i = here.idle zero_pins in
+      true≢false (sym i.0 ∙ ap is_some (sym i.1 ∙ ap (find (λ x. x.stamp == e.stamp)) none)))
