@@ -16,18 +16,19 @@ use Rattle.concurrent_lru.proofs.AddedUp.CountsOfSteps.{Owes, invalidate_evicts,
 use Rattle.concurrent_lru.proofs.Steps.InsertOfKey.{begun_new, detached_absent, dropped_absent}
 use Rattle.concurrent_lru.proofs.Steps.ValuesInserted.{invalidated_lawful}
 
+module _ {K V : Type 0} where
+  -- an insert: what it replaces and evicts leaves, and an entry of its charge comes
+  pub record Enters (old : Cache K V) (charge : ℕ) (gone out : List (Idle K V)) (new : Cache K V) : Type 0 where
+    pub sizes : Resizes old new 1 charge (length gone + length out) (charges gone + charges out)
+    pub charge_fits : charge < 2 ^ 64
+    pub stamps : old.next + 1 < 2 ^ 64
+
 module _ {K V : Type 0} {E : K → K → Bool} where
   -- a key that was invalidated is absent
   invalidated_absent : (old mid : Cache K V) (k : K) (out : List (Idle K V)) → IsEquivalence E → IsLawful E old → Step E old (ask.invalidate k) say.done out mid → IsAbsent E mid k
   invalidated_absent old mid k out laws l (inl d) = dropped_absent E laws old l k mid out d
   invalidated_absent old mid k out laws l (inr (inl d)) = subst (λ c. IsAbsent E c k) (sym d.changed) (detached_absent E laws old l k d.stamp d.entry d.at d.found d.same_key)
   invalidated_absent old mid k out laws l (inr (inr h)) = subst (λ c. IsAbsent E c k) (sym h.1.same) h.0
-
-  -- an insert: what it replaces and evicts leaves, and an entry of its charge comes
-  pub record Enters (old : Cache K V) (charge : ℕ) (gone out : List (Idle K V)) (new : Cache K V) : Type 0 where
-    pub sizes : Resizes old new 1 charge (length gone + length out) (charges gone + charges out)
-    pub charge_fits : charge < 2 ^ 64
-    pub stamps : old.next + 1 < 2 ^ 64
 
   pub enters : (old new : Cache K V) (k : K) (charge : ℕ) (v : V) (s : ℕ) (gone out : List (Idle K V)) → IsEquivalence E → IsLawful E old → IsLawful E new → Replaces E old k charge v s gone out new → Enters old charge gone out new
   enters old new k charge v s gone out laws l last r =

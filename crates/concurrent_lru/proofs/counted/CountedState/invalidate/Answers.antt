@@ -3,6 +3,7 @@ use Rattle.concurrent_lru.specs.Cache.{count_of, sum_of}
 use Rattle.concurrent_lru.specs.CountedCalls.{evicted}
 use Rattle.concurrent_lru.specs.Request as ask
 use Rattle.concurrent_lru.specs.Results.{outcome_of_evictions}
+use Rattle.concurrent_lru.specs.Runs.{Stands}
 use Rattle.concurrent_lru.proofs.AddedUp.CountsOfSteps.{invalidate_evicts, can_count, counts_evicted, soundly_counted}
 use Rattle.concurrent_lru.proofs.counted.CountedState.invalidate.Goals as goal
 
@@ -43,3 +44,6 @@ returns-clause-counted g c =
     let n = c.self.inside.counts in
     let told = counts_evicted old new n out c.len.result c.total.result c.self.invariant.adds_up (invalidate_evicts {E = g.K.PartialEq.eq} old new c.args.key.now out c.self.invariant.lawful c.invalidate-evicted.ensures.step) c.len.ensures c.total.ensures.step.0 in
     subst (λ x. c.evict.new.self ≡ evicted out x.counts) c.self.view_is (c.evict.ensures ∙ told)
+
+pub returns-clause-step : goal.returns-clause-step
+returns-clause-step g c = subst (λ x. Stands g.K.PartialEq.eq x.cache (ask.invalidate c.args.key.now) (outcome_of_evictions c.invalidate-evicted.result) c.invalidate-evicted.new.self.cache) c.self.view_is c.invalidate-evicted.ensures.step
