@@ -206,17 +206,15 @@ reused-push_some (d ∷ charges) (None ∷ weights) c v n = reused-push_some cha
 reused-push_some (d ∷ charges) (Some w ∷ weights) c v n = ap (λ ps. (w, d) ∷ ps) (reused-push_some charges weights c v (omega (arith, n)))
 
 -- the pairs of the uses before a place, and of one use more
-module _ {K : Type 0} (trace : List (K × ℕ)) (weights : List (Option ℕ)) (place : ℕ) (u : K × ℕ) (same : length trace ≡ length weights) (more : place < length weights) (at : get_or trace place u ≡ u) where
+module _ {K : Type 0} (trace : List (K × ℕ)) (weights : List (Option ℕ)) (place : ℕ) (same : length trace ≡ length weights) (more : place < length weights) where
   abbrev charges_of : List ℕ
   charges_of = map (λ v. v.1) trace
 
   charges_long : length charges_of ≡ length weights
   charges_long = let n : length charges_of ≡ length trace = length-map trace (λ (v : K × ℕ). v.1) in omega (arith, n, same)
 
-  next_charge : take (place + 1) charges_of ≡ take place charges_of ++ u.1 ∷ []
-  next_charge =
-      take_more charges_of place 0 (let n : length charges_of ≡ length weights = charges_long in omega (arith, n, more))
-      ∙ ap (λ c. take place charges_of ++ c ∷ []) (get_or-map (λ (v : K × ℕ). v.1) trace place u 0 (omega (arith, same, more)) ∙ ap (λ v. v.1) at)
+  next_charge : take (place + 1) charges_of ≡ take place charges_of ++ get_or charges_of place 0 ∷ []
+  next_charge = take_more charges_of place 0 (let n : length charges_of ≡ length weights = charges_long in omega (arith, n, more))
 
   parts_long : length (take place charges_of) ≡ length (take place weights)
   parts_long =
@@ -227,13 +225,14 @@ module _ {K : Type 0} (trace : List (K × ℕ)) (weights : List (Option ℕ)) (p
 
   pub reused_first : get_or weights place None ≡ None → reused (take (place + 1) charges_of) (take (place + 1) weights) ≡ reused (take place charges_of) (take place weights)
   reused_first none =
-      ap (λ cs. reused cs (take (place + 1) weights)) next_charge ∙ ap (reused (take place charges_of ++ u.1 ∷ [])) (take_more weights place None more ∙ ap (λ o. take place weights ++ o ∷ []) none)
-      ∙ reused-push_none (take place charges_of) (take place weights) u.1 parts_long
+      ap (λ cs. reused cs (take (place + 1) weights)) next_charge ∙ ap (reused (take place charges_of ++ get_or charges_of place 0 ∷ [])) (take_more weights place None more ∙ ap (λ o. take place weights ++ o ∷ []) none)
+      ∙ reused-push_none (take place charges_of) (take place weights) (get_or charges_of place 0) parts_long
 
-  pub reused_again : (w : ℕ) → get_or weights place None ≡ Some w → reused (take (place + 1) charges_of) (take (place + 1) weights) ≡ reused (take place charges_of) (take place weights) ++ (w, u.1) ∷ []
-  reused_again w some =
-      ap (λ cs. reused cs (take (place + 1) weights)) next_charge ∙ ap (reused (take place charges_of ++ u.1 ∷ [])) (take_more weights place None more ∙ ap (λ o. take place weights ++ o ∷ []) some)
-      ∙ reused-push_some (take place charges_of) (take place weights) u.1 w parts_long
+  pub reused_again : (u : K × ℕ) (w : ℕ) → get_or weights place None ≡ Some w → reused (take (place + 1) charges_of) (take (place + 1) weights) ≡ reused (take place charges_of) (take place weights) ++ (w, (get_or trace place u).1) ∷ []
+  reused_again u w some =
+      ap (λ cs. reused cs (take (place + 1) weights)) next_charge ∙ ap (reused (take place charges_of ++ get_or charges_of place 0 ∷ [])) (take_more weights place None more ∙ ap (λ o. take place weights ++ o ∷ []) some)
+      ∙ reused-push_some (take place charges_of) (take place weights) (get_or charges_of place 0) w parts_long
+      ∙ ap (λ c. reused (take place charges_of) (take place weights) ++ (w, c) ∷ []) (get_or-map (λ (v : K × ℕ). v.1) trace place u 0 (omega (arith, same, more)))
 
 -- What a curve is built of: the pairs before i are taken, and left is the charge of all uses but those.
 pub record IsBuilt (total : ℕ) (ps : List (ℕ × ℕ)) (i left : ℕ) (weights made : List ℕ) : Type 0 where
@@ -250,39 +249,39 @@ module _ (total : ℕ) (ps : List (ℕ × ℕ)) where
       each zero l = omega arith
       each (suc h) l = absurd (omega (arith, l))
 
-  module _ (i left : ℕ) (weights made : List ℕ) (b : IsBuilt total ps i left weights made) (p : ℕ × ℕ) (more : i < length ps) (at : get_or ps i p ≡ p) where
-    charge_at : get_or (pair_charges ps) i 0 ≡ p.1
-    charge_at = get_or-map (λ (q : ℕ × ℕ). q.1) ps i p 0 more ∙ ap (λ q. q.1) at
+  module _ (i left : ℕ) (weights made : List ℕ) (b : IsBuilt total ps i left weights made) (more : i < length ps) where
+    abbrev next : ℕ × ℕ
+    next = get_or ps i (0, 0)
 
     long_charges : i < length (pair_charges ps)
     long_charges = let n : length (pair_charges ps) ≡ length ps = length-map ps (λ (q : ℕ × ℕ). q.1) in omega (arith, n, more)
 
-    more_charge : sum (take (i + 1) (pair_charges ps)) ≡ sum (take i (pair_charges ps)) + p.1
-    more_charge = sum_by_more (λ (x : ℕ). x) (pair_charges ps) i 0 long_charges ∙ ap (λ c. sum (take i (pair_charges ps)) + c) charge_at
+    more_charge : sum (take (i + 1) (pair_charges ps)) ≡ sum (take i (pair_charges ps)) + next.1
+    more_charge = sum_by_more (λ (x : ℕ). x) (pair_charges ps) i 0 long_charges ∙ ap (λ c. sum (take i (pair_charges ps)) + c) (get_or-map (λ (q : ℕ × ℕ). q.1) ps i (0, 0) 0 more)
 
     -- what is left holds the next charge
-    pub built_left : sum (pair_charges ps) ≤ total → p.1 ≤ left
+    pub built_left : sum (pair_charges ps) ≤ total → next.1 ≤ left
     built_left whole =
         let part : sum (take (i + 1) (pair_charges ps)) ≤ sum (pair_charges ps) = sum_by-take-le (λ (x : ℕ). x) (pair_charges ps) (i + 1) in
         let l : left + sum (take i (pair_charges ps)) ≡ total = b.left_is in
         omega (arith, part, l, more_charge, whole)
 
-    pub built_on : p.1 ≤ left → IsBuilt total ps (i + 1) (left - p.1) (weights ++ p.0 ∷ []) (made ++ (left - p.1) ∷ [])
+    pub built_on : next.1 ≤ left → IsBuilt total ps (i + 1) (left - next.1) (weights ++ next.0 ∷ []) (made ++ (left - next.1) ∷ [])
     built_on enough =
         let l : left + sum (take i (pair_charges ps)) ≡ total = b.left_is in
-        let next : left - p.1 + sum (take (i + 1) (pair_charges ps)) ≡ total = omega (arith, l, more_charge, enough) in
+        let then : left - next.1 + sum (take (i + 1) (pair_charges ps)) ≡ total = omega (arith, l, more_charge, enough) in
         let n : length made ≡ i + 1 = b.made_long in
         record {
-          weights_are = ap (λ ws. ws ++ p.0 ∷ []) b.weights_are ∙ sym (map_push (λ (q : ℕ × ℕ). q.0) (take i ps) p) ∙ ap pair_weights (sym (take_more ps i p more ∙ ap (λ q. take i ps ++ q ∷ []) at));
-          made_long = length_push made (left - p.1) ∙ ap (λ m. m + 1) b.made_long;
-          left_is = next;
+          weights_are = ap (λ ws. ws ++ next.0 ∷ []) b.weights_are ∙ sym (map_push (λ (q : ℕ × ℕ). q.0) (take i ps) next) ∙ ap pair_weights (sym (take_more ps i (0, 0) more));
+          made_long = length_push made (left - next.1) ∙ ap (λ m. m + 1) b.made_long;
+          left_is = then;
           each = λ h low. elim (cases_lt i h) [
             | inl late ↦
                 let last : h ≡ i + 1 = omega (arith, late, low) in
-                subst (λ k. get_or (made ++ (left - p.1) ∷ []) k 0 + sum (take k (pair_charges ps)) ≡ total) (sym last)
-                (ap (λ x. x + sum (take (i + 1) (pair_charges ps))) (get_or_push made (left - p.1) 0 (i + 1) n) ∙ next)
+                subst (λ k. get_or (made ++ (left - next.1) ∷ []) k 0 + sum (take k (pair_charges ps)) ≡ total) (sym last)
+                (ap (λ x. x + sum (take (i + 1) (pair_charges ps))) (get_or_push made (left - next.1) 0 (i + 1) n) ∙ then)
             | inr early ↦
-                ap (λ x. x + sum (take h (pair_charges ps))) (get_or_append_left made ((left - p.1) ∷ []) 0 h (omega (arith, n, early))) ∙ b.each h early
+                ap (λ x. x + sum (take h (pair_charges ps))) (get_or_append_left made ((left - next.1) ∷ []) 0 h (omega (arith, n, early))) ∙ b.each h early
           ];
         }
 
