@@ -9,7 +9,7 @@ use Rattle.std.proofs.lemmas.List.{get_or-map, get_or_append_left, get_or_push, 
 use Rattle.std.proofs.lemmas.List.Sorted.{IsPermutation-map, length_permutation, sum_by-IsPermutation}
 use Rattle.std.proofs.lemmas.List.Sums.{sum_by-cons, sum_by_more, sum_by-take-le}
 use Rattle.lru_sizing.specs.HitsByWeight.{fits, hits_at}
-use Rattle.lru_sizing.specs.Curves.{StepCurve, weights_within, hits_in, charge_made_at, reused, IsCurveOf, IsRising, IsLeastFor}
+use Rattle.lru_sizing.specs.Curves.{StepCurve, weights_within, hits_in, charge_made_at, reused, IsCurveOf, IsRising, IsStepCurve, IsLeastFor}
 
 -- one number more
 count_one : (p : ℕ → Bool) (x : ℕ) (xs : List ℕ) → count_by p (x ∷ xs) ≡ cond (p x) 1 0 + count_by p xs
@@ -266,7 +266,7 @@ module _ (total : ℕ) (ps : List (ℕ × ℕ)) where
         let l : left + sum (take i (pair_charges ps)) ≡ total = b.left_is in
         omega (arith, part, l, more_charge, whole)
 
-    pub built_on : next.1 ≤ left → IsBuilt total ps (i + 1) (left - next.1) (weights ++ next.0 ∷ []) (made ++ (left - next.1) ∷ [])
+    built_on : next.1 ≤ left → IsBuilt total ps (i + 1) (left - next.1) (weights ++ next.0 ∷ []) (made ++ (left - next.1) ∷ [])
     built_on enough =
         let l : left + sum (take i (pair_charges ps)) ≡ total = b.left_is in
         let then : left - next.1 + sum (take (i + 1) (pair_charges ps)) ≡ total = omega (arith, l, more_charge, enough) in
@@ -285,68 +285,99 @@ module _ (total : ℕ) (ps : List (ℕ × ℕ)) where
           ];
         }
 
--- what was built of all pairs is the curve
-module _ (charges : List ℕ) (weights : List (Option ℕ)) (ps : List (ℕ × ℕ)) (same : length charges ≡ length weights) (moved : IsPermutation (reused charges weights) ps) (up : IsNonDecreasingBy (λ (p : ℕ × ℕ). p.0) ps) where
-  pub pairs_charge : sum (pair_charges ps) ≤ sum charges
+    -- the same of what was pushed
+    pub built_push : (charge : ℕ) (ws ms : List ℕ) → charge ≡ next.1 → ws ≡ weights ++ next.0 ∷ [] → ms ≡ made ++ (left - charge) ∷ [] → next.1 ≤ left → IsBuilt total ps (i + 1) (left - charge) ws ms
+    built_push charge ws ms e w m enough =
+        subst (λ vs. IsBuilt total ps (i + 1) (left - charge) vs ms) (sym w)
+        (subst (λ vs. IsBuilt total ps (i + 1) (left - charge) (weights ++ next.0 ∷ []) vs) (sym m)
+        (subst (λ x. IsBuilt total ps (i + 1) (left - x) (weights ++ next.0 ∷ []) (made ++ (left - x) ∷ [])) (sym e) (built_on enough)))
+
+-- what is built of the pairs of a trace
+module _ {K : Type 0} (trace : List (K × ℕ)) (weights : List (Option ℕ)) (pairs : List (ℕ × ℕ)) (same : length trace ≡ length weights)
+    (moved : IsPermutation (reused (map (λ u. u.1) trace) weights) pairs) (rising : IsNonDecreasingBy (λ (p : ℕ × ℕ). p.0) pairs) (ps : List (ℕ × ℕ)) (is : ps ≡ pairs) where
+  abbrev charges : List ℕ
+  charges = map (λ u. u.1) trace
+
+  uses_long : length charges ≡ length trace
+  uses_long = length-map trace (λ (u : K × ℕ). u.1)
+
+  same_long : length charges ≡ length weights
+  same_long = uses_long ∙ same
+
+  same_pairs : IsPermutation (reused charges weights) ps
+  same_pairs = subst (IsPermutation (reused charges weights)) (sym is) moved
+
+  up : IsNonDecreasingBy (λ (p : ℕ × ℕ). p.0) ps
+  up = subst (IsNonDecreasingBy (λ (p : ℕ × ℕ). p.0)) (sym is) rising
+
+  pairs_charge : sum (pair_charges ps) ≤ sum charges
   pairs_charge =
-      let m : sum (pair_charges ps) ≡ sum (pair_charges (reused charges weights)) = sum_by-IsPermutation (λ (x : ℕ). x) (pair_charges (reused charges weights)) (pair_charges ps) (IsPermutation-map (λ (q : ℕ × ℕ). q.1) (reused charges weights) ps moved) in
+      let m : sum (pair_charges ps) ≡ sum (pair_charges (reused charges weights)) = sum_by-IsPermutation (λ (x : ℕ). x) (pair_charges (reused charges weights)) (pair_charges ps) (IsPermutation-map (λ (q : ℕ × ℕ). q.1) (reused charges weights) ps same_pairs) in
       let b : sum (pair_charges (reused charges weights)) ≤ sum charges = reused_charge charges weights in
       omega (arith, m, b)
 
-  pub pairs_long : length ps ≤ length charges
+  pairs_long : length ps ≤ length trace
   pairs_long =
-      let m : length ps ≡ length (reused charges weights) = length_permutation (reused charges weights) ps moved in
+      let m : length ps ≡ length (reused charges weights) = length_permutation (reused charges weights) ps same_pairs in
       let b : length (reused charges weights) ≤ length charges = reused_length charges weights in
-      omega (arith, m, b)
+      let n : length charges ≡ length trace = uses_long in
+      omega (arith, m, b, n)
 
-  module _ (i left : ℕ) (ws made : List ℕ) (b : IsBuilt (sum charges) ps i left ws made) (all : length ps ≤ i) where
-    whole : ws ≡ pair_weights ps
-    whole = b.weights_are ∙ ap pair_weights (take_all i ps all)
+  module _ (i left : ℕ) (ws made : List ℕ) (b : IsBuilt (sum charges) ps i left ws made) where
+    pub built_next : i < length ps → (get_or ps i (0, 0)).1 ≤ left
+    built_next more = built_left (sum charges) ps i left ws made b more pairs_charge
 
-    pub built_rising : IsRising ws
-    built_rising = subst IsRising (sym whole) (λ j k le l.
-        let n : length (pair_weights ps) ≡ length ps = length-map ps (λ (q : ℕ × ℕ). q.0) in
-        let low : k < length ps = omega (arith, l, n) in
-        let a : get_or (pair_weights ps) j 0 ≡ (get_or ps j (0, 0)).0 = get_or-map (λ (q : ℕ × ℕ). q.0) ps j (0, 0) 0 (omega (arith, le, low)) in
-        let d : get_or (pair_weights ps) k 0 ≡ (get_or ps k (0, 0)).0 = get_or-map (λ (q : ℕ × ℕ). q.0) ps k (0, 0) 0 low in
-        let r : (get_or ps j (0, 0)).0 ≤ (get_or ps k (0, 0)).0 = up j k (0, 0) le low in
-        omega (arith, a, d, r))
+    module _ (all : length ps ≤ i) where
+      whole : ws ≡ pair_weights ps
+      whole = b.weights_are ∙ ap pair_weights (take_all i ps all)
 
-    pub built_long : i ≤ length ps → length made ≡ length ws + 1
-    built_long within =
-        let n : length (pair_weights ps) ≡ length ps = length-map ps (λ (q : ℕ × ℕ). q.0) in
-        let w : length ws ≡ length (pair_weights ps) = ap length whole in
-        let m : length made ≡ i + 1 = b.made_long in
-        omega (arith, n, w, m, all, within)
+      whole_long : length ws ≡ length ps
+      whole_long = ap length whole ∙ length-map ps (λ (q : ℕ × ℕ). q.0)
 
-    pub built_short : length ws ≤ length charges
-    built_short =
-        let n : length (pair_weights ps) ≡ length ps = length-map ps (λ (q : ℕ × ℕ). q.0) in
-        let w : length ws ≡ length (pair_weights ps) = ap length whole in
-        omega (arith, n, w, pairs_long)
+      built_rising : IsRising ws
+      built_rising = subst IsRising (sym whole) (λ j k le l.
+          let n : length (pair_weights ps) ≡ length ps = length-map ps (λ (q : ℕ × ℕ). q.0) in
+          let low : k < length ps = omega (arith, l, n) in
+          let a : get_or (pair_weights ps) j 0 ≡ (get_or ps j (0, 0)).0 = get_or-map (λ (q : ℕ × ℕ). q.0) ps j (0, 0) 0 (omega (arith, le, low)) in
+          let d : get_or (pair_weights ps) k 0 ≡ (get_or ps k (0, 0)).0 = get_or-map (λ (q : ℕ × ℕ). q.0) ps k (0, 0) 0 low in
+          let r : (get_or ps j (0, 0)).0 ≤ (get_or ps k (0, 0)).0 = up j k (0, 0) le low in
+          omega (arith, a, d, r))
 
-    built_hits : (capacity : ℕ) → weights_within capacity ws ≡ pairs_within capacity ps
-    built_hits capacity = ap (weights_within capacity) whole ∙ within_firsts ps capacity
+      pub built_step_curve : i ≤ length ps → IsStepCurve (length trace) ws made
+      built_step_curve within = record {
+        rising = built_rising;
+        some_hit =
+            let w : length ws ≡ length ps = whole_long in
+            let n : length ps ≤ length trace = pairs_long in
+            omega (arith, w, n);
+        each_made =
+            let w : length ws ≡ length ps = whole_long in
+            let m : length made ≡ i + 1 = b.made_long in
+            omega (arith, w, m, all, within);
+      }
 
-    pairs_hits : (capacity : ℕ) → pairs_within capacity ps ≡ hits_at capacity weights
-    pairs_hits capacity = sum_by-IsPermutation (λ (q : ℕ × ℕ). cond (leb q.0 capacity) 1 0) (reused charges weights) ps moved ∙ reused_hits charges weights capacity same
+      built_hits : (capacity : ℕ) → weights_within capacity ws ≡ pairs_within capacity ps
+      built_hits capacity = ap (weights_within capacity) whole ∙ within_firsts ps capacity
 
-    built_made : (capacity : ℕ) → get_or made (pairs_within capacity ps) 0 ≡ charge_made_at capacity charges weights
-    built_made capacity =
-        let few : pairs_within capacity ps ≤ length ps =
-            let w : weights_within capacity (pair_weights ps) ≤ length (pair_weights ps) = within_all (pair_weights ps) capacity in
-            let n : length (pair_weights ps) ≡ length ps = length-map ps (λ (q : ℕ × ℕ). q.0) in
-            let f : weights_within capacity (pair_weights ps) ≡ pairs_within capacity ps = within_firsts ps capacity in
-            omega (arith, w, n, f) in
-        let at : get_or made (pairs_within capacity ps) 0 + sum (take (pairs_within capacity ps) (pair_charges ps)) ≡ sum charges = b.each (pairs_within capacity ps) (omega (arith, few, all)) in
-        let firsts : sum (take (pairs_within capacity ps) (pair_charges ps)) ≡ charge_within capacity ps = first_charges ps capacity up in
-        let m : charge_within capacity ps ≡ charge_within capacity (reused charges weights) = sum_by-IsPermutation (λ (q : ℕ × ℕ). cond (leb q.0 capacity) q.1 0) (reused charges weights) ps moved in
-        let parts : charge_made_at capacity charges weights + charge_within capacity (reused charges weights) ≡ sum charges = reused_made charges weights capacity same in
-        omega (arith, at, firsts, m, parts)
+      pairs_hits : (capacity : ℕ) → pairs_within capacity ps ≡ hits_at capacity weights
+      pairs_hits capacity = sum_by-IsPermutation (λ (q : ℕ × ℕ). cond (leb q.0 capacity) 1 0) (reused charges weights) ps same_pairs ∙ reused_hits charges weights capacity same_long
 
-    pub built_curve : (uses : ℕ) → uses ≡ length charges → IsCurveOf charges weights (record { uses = uses; weights = ws; made = made })
-    built_curve uses n = record {
-      uses = n;
-      hits = λ capacity. built_hits capacity ∙ pairs_hits capacity;
-      made = λ capacity. ap (λ h. get_or made h 0) (built_hits capacity) ∙ built_made capacity;
-    }
+      built_made : (capacity : ℕ) → get_or made (pairs_within capacity ps) 0 ≡ charge_made_at capacity charges weights
+      built_made capacity =
+          let few : pairs_within capacity ps ≤ length ps =
+              let w : weights_within capacity (pair_weights ps) ≤ length (pair_weights ps) = within_all (pair_weights ps) capacity in
+              let n : length (pair_weights ps) ≡ length ps = length-map ps (λ (q : ℕ × ℕ). q.0) in
+              let f : weights_within capacity (pair_weights ps) ≡ pairs_within capacity ps = within_firsts ps capacity in
+              omega (arith, w, n, f) in
+          let at : get_or made (pairs_within capacity ps) 0 + sum (take (pairs_within capacity ps) (pair_charges ps)) ≡ sum charges = b.each (pairs_within capacity ps) (omega (arith, few, all)) in
+          let firsts : sum (take (pairs_within capacity ps) (pair_charges ps)) ≡ charge_within capacity ps = first_charges ps capacity up in
+          let m : charge_within capacity ps ≡ charge_within capacity (reused charges weights) = sum_by-IsPermutation (λ (q : ℕ × ℕ). cond (leb q.0 capacity) q.1 0) (reused charges weights) ps same_pairs in
+          let parts : charge_made_at capacity charges weights + charge_within capacity (reused charges weights) ≡ sum charges = reused_made charges weights capacity same_long in
+          omega (arith, at, firsts, m, parts)
+
+      pub built_curve : IsCurveOf charges weights (record { uses = length trace; weights = ws; made = made })
+      built_curve = record {
+        uses = sym uses_long;
+        hits = λ capacity. built_hits capacity ∙ pairs_hits capacity;
+        made = λ capacity. ap (λ h. get_or made h 0) (built_hits capacity) ∙ built_made capacity;
+      }
