@@ -94,6 +94,11 @@ module _ {X : Type 0} (P : X → Type 0) where
   all_take (suc n) [] h = tt
   all_take (suc n) (x ∷ xs) h = (h.0, all_take n xs h.1)
 
+module _ {K : Type 0} (E : K → K → Bool) (eq : IsEquivalence E) (trace : List (K × ℕ)) (one : HaveOneCharge E trace) where
+  -- each use has its key's charge
+  pub use_charge : (place : ℕ) (u : K × ℕ) → place < length trace → get_or trace place u ≡ u → u.1 ≡ charge_in E trace u.0
+  use_charge place u more at = subst (λ v. v.1 ≡ charge_in E trace v.0) at (charged_at E eq (charge_in E trace) trace place u (begins_charged E eq trace one) more)
+
 module _ {K V : Type 0} (E : K → K → Bool) where
   -- nothing was used
   pub replay_none : (c : Cache K V) → IsReplay E c [] [] c
@@ -139,7 +144,7 @@ module _ {K V : Type 0} (E : K → K → Bool) where
   pub held_making : (old one : Cache K V) (k : K) (c s : ℕ) (out : List (Idle K V)) → old.held ≡ finmap.empty → Step E old (ask.begin k c) (say.make s) out one → (e : Held K V) × Holds one s e making
   held_making old one k c s out none step = elim step [
     | inl m ↦
-        let e : Held K V = record { key = m.copy; charge = c; pins = 1; phase = making } in
+        let e : Held K V = record { key = m.copy; charge = c; pins = 1; detached = false; phase = making } in
         (e, record { at = ap (λ z. finmap.get z.held s) m.settles.others ∙ inserted_at old.held s e; phase = refl })
     | inr j ↦ absurd (none_joins E old one k s _ _ out none j)
   ]
@@ -177,7 +182,10 @@ module _ {K V : Type 0} (E : K → K → Bool) where
   given_stamp one two s v out t = ap (λ z. z.next) t.changed
 
   pub released_stamp : (two new : Cache K V) (s : ℕ) (out : List (Idle K V)) → Step E two (ask.release s) say.done out new → new.next ≡ two.next
-  released_stamp two new s out step = elim step [ inl l ↦ ap (λ z. z.next) l.1.changed | inr r ↦ ap (λ z. z.next) r.settles.others ]
+  released_stamp two new s out step = elim step [
+    | inl l ↦ ap (λ z. z.next) l.1.changed
+    | inr last ↦ elim last [ inl r ↦ ap (λ z. z.next) r.settles.others | inr e ↦ ap (λ z. z.next) e.changed ]
+  ]
 
   module _ (eq : IsEquivalence E) (trace : List (K × ℕ)) (one : HaveOneCharge E trace) (above : AllByRecursion (λ u. 0 < u.1) trace) where
     -- how a replay of a beginning of the trace leaves the cache
@@ -188,10 +196,6 @@ module _ {K V : Type 0} (E : K → K → Bool) where
         let charged : AllByRecursion (λ b. b.1 ≡ charge_in E trace b.0) (begins rs) = subst (AllByRecursion (λ b. b.1 ≡ charge_in E trace b.0)) (sym r.begun) (all_take (λ b. b.1 ≡ charge_in E trace b.0) place trace (begins_charged E eq trace one)) in
         let high : AllByRecursion IsCharged rs = charged_begins rs (subst (AllByRecursion (λ u. 0 < u.1)) (sym r.begun) (all_take (λ u. 0 < u.1) place trace above)) in
         changing_run E (charge_in E trace) eq (charge_agrees E eq trace) start.capacity [] r.steps start c (at_the_start E eq trace start empty pins) (priced (charge_in E trace) rs charged high) (plain_has_no_change K V start.capacity r.steps r.plain).0 r.run
-
-    -- each use has its key's charge
-    pub use_charge : (place : ℕ) (u : K × ℕ) → place < length trace → get_or trace place u ≡ u → u.1 ≡ charge_in E trace u.0
-    use_charge place u more at = subst (λ v. v.1 ≡ charge_in E trace v.0) at (charged_at E eq (charge_in E trace) trace place u (begins_charged E eq trace one) more)
 
     -- the keys that it used
     used_then : (start c : Cache K V) (place : ℕ) (hits : List Bool) (r : IsReplay E start (take place trace) hits c) → uses r.steps ≡ used_keys (take place trace)
