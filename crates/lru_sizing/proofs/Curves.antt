@@ -40,7 +40,7 @@ count_last p (x ∷ xs) (suc r) h =
     omega (arith, i, a, b)
 
 -- so many hit first at the weight of the last of them
-pub least_at : (curve : StepCurve) (r : ℕ) → IsRising curve.weights → r < length curve.weights → IsLeastFor (r + 1) curve (get_or curve.weights r 0)
+pub least_at : (curve : StepCurve) (r : ℕ) → IsRising curve.weights → r < length curve.weights → IsLeastFor (r + 1) (λ c. hits_in c curve) (get_or curve.weights r 0)
 least_at curve r up l =
     let xs = curve.weights in
     record {
@@ -79,11 +79,11 @@ within_all xs capacity = count_last (λ w. leb w capacity) xs (length xs) (λ k 
 
 -- what a look-up of the last of so many tells
 pub least_found : (curve : StepCurve) (hits : ℕ) (o : Option (Bor ℕ)) (Z : Bor ℕ → Type 0) → 0 < hits → IsRising curve.weights → MatchOption o (length curve.weights ≤ hits - 1) (λ x. (hits - 1 < length curve.weights) × Z x) → IfSome o (λ x. x.now ≡ get_or curve.weights (hits - 1) x.now)
-    → MatchOption (option_copied o) (length curve.weights < hits) (IsLeastFor hits curve)
+    → MatchOption (option_copied o) (length curve.weights < hits) (IsLeastFor hits (λ c. hits_in c curve))
 least_found curve hits None Z pos up m f = omega (arith, pos, m)
 least_found curve hits (Some x) Z pos up m f =
     let all : hits - 1 + 1 ≡ hits = omega (arith, pos) in
-    subst (IsLeastFor hits curve) (sym (f ∙ same_default curve.weights (hits - 1) x.now 0 m.0)) (subst (λ n. IsLeastFor n curve (get_or curve.weights (hits - 1) 0)) all (least_at curve (hits - 1) up m.0))
+    subst (IsLeastFor hits (λ c. hits_in c curve)) (sym (f ∙ same_default curve.weights (hits - 1) x.now 0 m.0)) (subst (λ n. IsLeastFor n (λ c. hits_in c curve) (get_or curve.weights (hits - 1) 0)) all (least_at curve (hits - 1) up m.0))
 
 -- the weights of pairs of a weight and a charge, and their charges
 abbrev pub pair_weights : List (ℕ × ℕ) → List ℕ

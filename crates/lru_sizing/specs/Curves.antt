@@ -51,7 +51,7 @@ pub record IsCurveOf (charges : List ℕ) (weights : List (Option ℕ)) (curve :
   pub hits : (capacity : ℕ) → hits_in capacity curve ≡ hits_at capacity weights
   pub made : (capacity : ℕ) → charge_made_in capacity curve ≡ charge_made_at capacity charges weights
 
--- the least capacity at which so many uses hit
-pub record IsLeastFor (hits : ℕ) (curve : StepCurve) (capacity : ℕ) : Type 0 where
-  pub enough : hits ≤ hits_in capacity curve
-  pub least : (less : ℕ) → less < capacity → hits_in less curve < hits
+-- the least capacity at which so many uses hit, where so many hit at each
+pub record IsLeastFor (hits : ℕ) (hits_of : ℕ → ℕ) (capacity : ℕ) : Type 0 where
+  pub enough : hits ≤ hits_of capacity
+  pub least : (less : ℕ) → less < capacity → hits_of less < hits

@@ -97,7 +97,7 @@ impl Curve {
 
     /// The least capacity at which so many uses hit; none where no capacity has so many.
     pub fn least_capacity(&self, hits: usize) -> Option<u64>
-        ensures { MatchOption result (length self.now.weights < hits) (IsLeastFor hits self.now) }
+        ensures { MatchOption result (length self.now.weights < hits) (IsLeastFor hits (λ capacity. hits_in capacity self.now)) }
     {
         if hits == 0 {
             return Some(0);
