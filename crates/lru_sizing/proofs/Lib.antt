@@ -5,4 +5,5 @@ pub mod SumTrees
 pub mod Marks
 pub mod Passes
 pub mod Curves
+pub mod Estimates
 pub mod Replays

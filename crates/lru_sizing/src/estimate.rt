@@ -7,7 +7,7 @@
 //! for one in the whole trace. Misses are scaled and hits are what is left of all uses: hits of a
 //! few hot keys, which the sample may catch or not, would sway a scaled count of hits far more.
 
-ghost use Rattle.std.specs.Prelude.{◌≡◌, ◌<◌, ℕ, max, IfOk, IfErr, OnOk, MatchOption, length, map};
+ghost use Rattle.std.specs.Prelude.{◌≡◌, ◌<◌, ℕ, max, IfOk, IfErr, OnOk, MatchOption, length, vec_len, map};
 ghost use Rattle.concurrent_lru.specs.Uses.{HaveOneCharge};
 ghost use Rattle.lru_sizing.specs.Curves.{IsLeastFor};
 ghost use Rattle.lru_sizing.specs.Estimates.{is_sampled, estimated_misses, estimated_hits, estimated_charge_made, scaled_weight, scaled, IsEstimateOf};
@@ -153,7 +153,8 @@ fn scaled<K>(
     weights: &[Option<u64>],
 ) -> Result<Vec<Option<u64>>, AllocError>
     requires { length sampled.now ≡ length weights.now }
-    ensures { IfOk result (λ r. r.items ≡ scaled sample.one_in (map (λ u. u.1) sampled.now) weights.now) }
+    ensures scaled { IfOk result (λ r. r.items ≡ scaled sample.one_in (map (λ u. u.1) sampled.now) weights.now) }
+    ensures len { IfOk result (λ r. vec_len r ≡ length weights.now) }
 {
     let mut scaled = Vec::new(alloc);
     for (place, weight) in weights.iter().enumerate() {
