@@ -17,13 +17,9 @@ pub fn hits_of_a_list(
     let mut resident: Vec<(u64, u64)> = Vec::new(alloc);
     let mut hits = Vec::new(alloc);
     for used in trace {
-        let place = resident.iter().position(|other| other.0 == used.0);
-        if let Some(place) = place {
-            resident.retain(|other| other.0 != used.0);
-            hits.push(place < usize::MAX)?;
-        } else {
-            hits.push(false)?;
-        }
+        let before = resident.len();
+        resident.retain(|other| other.0 != used.0);
+        hits.push(resident.len() < before)?;
         resident.push(*used)?;
         shrink(&mut resident, capacity);
     }
