@@ -1,5 +1,6 @@
 -- The laws of one step of the cache.
 pub mod CasesOfSteps
+pub mod FoundEntries
 pub mod LawfulAfterChange
 pub mod LawfulAfterRest
 pub mod LawfulAfterRevival

@@ -4,7 +4,7 @@ use Rattle.std.specs.Option.{option_map, option_map_or}
 use Rattle.std.specs.Ordering.{nat_cmp}
 use Rattle.std.specs.Coded.{Coded, code_by, coded×, coded_ℕ, coded_list}
 use Rattle.std.specs.FinMap as finmap
-use Rattle.concurrent_lru.specs.Cache.{Cache, Idle, Held, IsEntry, IsLawful, idle_at, held_at, idle_code, held_code, charges, making, ready}
+use Rattle.concurrent_lru.specs.Cache.{Cache, Idle, Held, IsEntry, IsLawful, IsFound, idle_at, held_at, idle_code, held_code, charges, making, ready}
 use Rattle.concurrent_lru.specs.Steps.{without, held_by_one, held_in_phase, idle_again}
 use Rattle.concurrent_lru.specs.NodeTable.{Entry, value_in}
 use Rattle.concurrent_lru.specs.Representation.{as_idle, held_entry, held_charges}
@@ -37,20 +37,24 @@ module _ {K V : Type 0} where
   abbrev pub ContainsEntry : Entries K V → ℕ → K → ℕ → Type 0
   ContainsEntry t s k m = IsEntry (cache_of t) s k m
 
-  -- no entry has the stamp; none has a key equal to k
+  -- and it is found by its key
+  abbrev pub FindsEntry : Entries K V → ℕ → K → ℕ → Type 0
+  FindsEntry t s k m = IsFound (cache_of t) s k m
+
+  -- no entry has the stamp; none is found by a key equal to k
   abbrev pub ContainsNoStamp : Entries K V → ℕ → Type 0
   ContainsNoStamp t s = (k : K) (m : ℕ) → ¬ (ContainsEntry t s k m)
 
   abbrev pub ContainsNoKey : (K → K → Bool) → Entries K V → K → Type 0
-  ContainsNoKey E t k = (s : ℕ) (l : K) (m : ℕ) → ContainsEntry t s l m → E l k ≡ false
+  ContainsNoKey E t k = (s : ℕ) (l : K) (m : ℕ) → FindsEntry t s l m → E l k ≡ false
 
-  -- the place is that of an entry whose key equals k
+  -- the place is that of an entry which is found by a key equal to k
   pub record IsPlaceOfKey (E : K → K → Bool) (t : Entries K V) (p : ℕ) (k : K) : Type 0 where
     pub stamp : ℕ
     pub key : K
     pub charge : ℕ
     pub at : finmap.get t.stamps p ≡ Some stamp
-    pub entry : ContainsEntry t stamp key charge
+    pub entry : FindsEntry t stamp key charge
     pub same_key : E key k ≡ true
 
   -- the place is that of an entry; of an idle one; of a held one
@@ -62,6 +66,10 @@ module _ {K V : Type 0} where
 
   abbrev pub ContainsHeldAt : Entries K V → ℕ → Type 0
   ContainsHeldAt t p = (s : ℕ) × (finmap.get t.stamps p ≡ Some s) × IsSome (held_at (cache_of t) s)
+
+  -- that of a held one which is found by its key
+  abbrev pub ContainsFoundAt : Entries K V → ℕ → Type 0
+  ContainsFoundAt t p = (s : ℕ) × (finmap.get t.stamps p ≡ Some s) × (e : Held K V) × (held_at (cache_of t) s ≡ Some e) × (e.detached ≡ false)
 
   -- the entry e is at the place: idle where it has no pin, and else held
   pub record GetsAt (t : Entries K V) (p : ℕ) (e : Entry K V) : Type 0 where
@@ -79,7 +87,7 @@ module _ {K V : Type 0} where
 
   -- a held entry as a new one is
   abbrev pub new_held : K → ℕ → Held K V
-  new_held k m = record { key = k; charge = m; pins = 1; phase = making }
+  new_held k m = record { key = k; charge = m; pins = 1; detached = false; phase = making }
 
   -- the held entry of the place goes through f
   pub record Rewrites (f : Held K V → Held K V) (old : Entries K V) (p : ℕ) (new : Entries K V) : Type 0 where
@@ -113,7 +121,7 @@ module _ {K V : Type 0} where
     pub idle : idle_at (cache_of old) stamp ≡ Some entry
     pub changed : new ≡ record old { idle = without stamp old.idle; held = finmap.insert old.held stamp (held_by_one entry); work = old.work + 1 }
 
-  -- the held entry of the place is ready
+  -- the held entry of the place is ready, and not detached
   pub record IsReadyAt (t : Entries K V) (p : ℕ) : Type 0 where
     pub stamp : ℕ
     pub entry : Held K V
@@ -121,6 +129,7 @@ module _ {K V : Type 0} where
     pub at : finmap.get t.stamps p ≡ Some stamp
     pub held : held_at (cache_of t) stamp ≡ Some entry
     pub phase : entry.phase ≡ ready value
+    pub found : entry.detached ≡ false
 
   -- it becomes the newest idle one
   pub record RestsAt (old : Entries K V) (p : ℕ) (new : Entries K V) : Type 0 where

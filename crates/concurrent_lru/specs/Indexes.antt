@@ -1,5 +1,5 @@
 -- How a hashed map from keys to places, and one from stamps where it is kept, index the nodes, and what a `Table` keeps of both.
-use Rattle.std.specs.Prelude.{◌≡◌, ℕ, Bool, true, Option, Some, map}
+use Rattle.std.specs.Prelude.{◌≡◌, ℕ, Bool, true, false, Option, Some, map}
 use Rattle.std.specs.Ordering.{nat_cmp}
 use Rattle.std.specs.FinMap as finmap
 use Rattle.std.specs.HashMap as hash
@@ -12,10 +12,11 @@ use Rattle.concurrent_lru.specs.Stamps.{keeps_map, mapped_place}
 use Rattle.concurrent_lru.specs.declared.table.stamps.Stamps.{Stamps}
 
 module _ {K V : Type 0} where
-  -- each node is found by its key and, where a map of stamps is kept, by its stamp; what is found is a node with that key or stamp
+  -- each node that is not detached is found by its key, and where a map of stamps is kept each node by its stamp; what is found is a node with that key, not detached, or with that stamp; only nodes with pins are detached
   pub record IsIndexed (E : K → K → Bool) (nodes : finmap.FinMap nat_cmp (Entry K V)) (by_key : K → Option ℕ) (by_stamp : Stamps) : Type 0 where
-    pub key_found : (p : ℕ) (e : Entry K V) → finmap.get nodes p ≡ Some e → by_key e.key ≡ Some p
-    pub key_kept : (k : K) (p : ℕ) → by_key k ≡ Some p → (e : Entry K V) × (finmap.get nodes p ≡ Some e) × (E e.key k ≡ true)
+    pub key_found : (p : ℕ) (e : Entry K V) → finmap.get nodes p ≡ Some e → e.detached ≡ false → by_key e.key ≡ Some p
+    pub key_kept : (k : K) (p : ℕ) → by_key k ≡ Some p → (e : Entry K V) × (finmap.get nodes p ≡ Some e) × (E e.key k ≡ true) × (e.detached ≡ false)
+    pub idle_kept : (p : ℕ) (e : Entry K V) → finmap.get nodes p ≡ Some e → e.pins ≡ 0 → e.detached ≡ false
     pub stamp_found : keeps_map by_stamp ≡ true → (p : ℕ) (e : Entry K V) → finmap.get nodes p ≡ Some e → mapped_place by_stamp e.stamp ≡ Some p
     pub stamp_kept : keeps_map by_stamp ≡ true → (s p : ℕ) → mapped_place by_stamp s ≡ Some p → (e : Entry K V) × (finmap.get nodes p ≡ Some e) × (e.stamp ≡ s)
 

@@ -1,5 +1,5 @@
 -- Ready values: which ones a cache has, how steps change them, and that each fits its key by a mark.
-use Rattle.std.specs.Prelude.{◌≡◌, ℕ, ◌⊎◌, Bool, true, Some}
+use Rattle.std.specs.Prelude.{◌≡◌, ℕ, ◌⊎◌, Bool, true, false, Some}
 use Rattle.std.specs.List.{Contains}
 use Rattle.concurrent_lru.specs.Cache.{Cache, Idle, Held, ready, held_at, HasKeyAt, IsLawful}
 
@@ -18,9 +18,15 @@ module _ {K V : Type 0} where
   abbrev pub ReadyFor : (K → K → Bool) → Cache K V → K → V → Type 0
   ReadyFor E c k v = (own : K) × (E own k ≡ true) × HasReady c own v
 
-  -- a ready entry has a key that equals k by E
+  -- a ready entry that is found by its key, idle or held, has this key and this value
+  abbrev pub FindsReady : Cache K V → K → V → Type 0
+  FindsReady c k v =
+      ((x : Idle K V) × Contains c.idle x × (x.key ≡ k) × (x.value ≡ v))
+      ⊎ ((s : ℕ) × (e : Held K V) × (held_at c s ≡ Some e) × (e.key ≡ k) × (e.phase ≡ ready v) × (e.detached ≡ false))
+
+  -- a ready entry is found by a key that equals k by E
   abbrev pub HasReadyKey : (K → K → Bool) → Cache K V → K → Type 0
-  HasReadyKey E c k = (v : V) × ReadyFor E c k v
+  HasReadyKey E c k = (own : K) × (v : V) × (E own k ≡ true) × FindsReady c own v
 
   -- what is ready in the new cache was ready in the old one
   abbrev pub FewerReady : Cache K V → Cache K V → Type 0

@@ -23,6 +23,7 @@ module _ {K V : Type 0} where
   shard_of_step route (shard.Begin k c) = route k
   shard_of_step route (shard.Get k) = route k
   shard_of_step route (shard.AdviceEvict k) = route k
+  shard_of_step route (shard.Invalidate k) = route k
   shard_of_step route (shard.Poll i s) = i
   shard_of_step route (shard.Ready i s a) = i
   shard_of_step route (shard.Fail i s) = i
@@ -36,6 +37,7 @@ module _ {K V : Type 0} where
   step_at_shard (shard.Begin k c) = step.Begin k c
   step_at_shard (shard.Get k) = step.Get k
   step_at_shard (shard.AdviceEvict k) = step.AdviceEvict k
+  step_at_shard (shard.Invalidate k) = step.Invalidate k
   step_at_shard (shard.Poll i s) = step.Poll s
   step_at_shard (shard.Ready i s a) = step.Ready s a
   step_at_shard (shard.Fail i s) = step.Fail s

@@ -13,7 +13,7 @@ ghost use Rattle.concurrent_lru.specs.Ready.{ValuesFit};
 use crate::fit::Fit;
 use crate::handle::CacheHandle;
 use crate::locked::{
-    Advised, Entered, Locked, Making, Pin, Polled, Pruned, Reserved, Resized, Waiting,
+    Advised, Entered, Invalidated, Locked, Making, Pin, Polled, Pruned, Reserved, Resized, Waiting,
 };
 use crate::lru_core::Refusal;
 use std::alloc::Global;
@@ -196,6 +196,16 @@ impl<'a, K: Hash + Eq + Clone + Drop, V: Drop, R: Wait, F: Fit<K, V>> Inside<'a,
         let (gone, advised) = guard.advice_evict(key);
         drop(gone.open(guard));
         advised
+    }
+
+    /// `Locked::invalidate`. What it evicted is dropped without the lock.
+    pub fn invalidate(self, key: &K) -> Invalidated<K>
+        ensures { result ≡ key.now }
+    {
+        let Self { door: _, mut guard } = self;
+        let (gone, invalidated) = guard.invalidate(key);
+        drop(gone.open(guard));
+        invalidated
     }
 
     /// `Locked::prune`. What it evicted is dropped without the lock.

@@ -20,7 +20,7 @@ mod done;
 mod pins;
 mod sealed;
 
-pub use self::done::{Advised, Pruned, Reserved, Resized};
+pub use self::done::{Advised, Invalidated, Pruned, Reserved, Resized};
 pub use self::pins::{Entered, Making, Pin, Polled, Unread, Waiting, Woken};
 pub use self::sealed::{Sealed, Waiters};
 use crate::fit::Fit;
@@ -329,6 +329,14 @@ impl<K: Hash + Eq + Clone + Drop, V: Drop, F: Fit<K, V>> Locked<K, V, F> {
         (Sealed::of(self.state.advice_evict(key)), Advised::of(key))
     }
 
+    /// The core's `invalidate`. Takes no memory.
+    pub fn invalidate(&mut self, key: &K) -> (Sealed<Evicted<K, V>>, Invalidated<K>)
+        ensures step { Stands K.eq self.old (ask.invalidate key.now) (outcome_of_evictions result.0) self.new }
+        ensures done { result.1 ≡ key.now }
+    {
+        (Sealed::of(self.state.invalidate(key)), Invalidated::of(key))
+    }
+
     /// The core's `prune`. Takes no memory.
     pub fn prune(&mut self) -> (Sealed<Evicted<K, V>>, Pruned)
         ensures step { Stands K.eq self.old ask.prune (outcome_of_evictions result.0) self.new }
@@ -354,7 +362,8 @@ impl<K: Hash + Eq + Clone + Drop, V: Drop, F: Fit<K, V>> Locked<K, V, F> {
         self.state.total()
     }
 
-    /// The number of entries, those still being made included.
+    /// The number of entries, those still being made included, and those that are held after an
+    /// `invalidate`.
     pub fn len(&self) -> usize
         ensures { result ≡ count_of self.now }
     {

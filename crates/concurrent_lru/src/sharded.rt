@@ -7,7 +7,7 @@ ghost use Rattle.concurrent_lru.specs.ThreadedCalls.{IfInit};
 
 pub use crate::fit::{Anything, Fit};
 pub use crate::get_error::GetError;
-use crate::locked::Advised;
+use crate::locked::{Advised, Invalidated};
 pub use crate::lru_core::Refusal;
 use crate::route::Routes;
 use crate::shards::DEFAULT_SHARDS;
@@ -346,6 +346,14 @@ impl<K: Hash + Eq + Clone + Drop, V: Drop, R: Wait, S: BuildHasher, F: Fit<K, V>
         let _: Advised<K> = self.routes.of(key).advised(key);
     }
 
+    /// Takes the value of a key back, at the key's shard, as in the cache of one lock: whoever asks
+    /// for the key after this call gets a value that is made after it, also while others hold the
+    /// old one. An entry that nobody holds is evicted; one that is held stays, for its holders alone,
+    /// and is evicted when its last handle is dropped. Copies no key and takes no memory.
+    pub fn invalidate(&self, key: &K) {
+        let _: Invalidated<K> = self.routes.of(key).invalidated(key);
+    }
+
     /// Evicts every idle entry of each shard, one shard after another, and is no snapshot. Takes
     /// no memory.
     pub fn prune(&self) {
@@ -373,7 +381,8 @@ impl<K: Hash + Eq + Clone + Drop, V: Drop, R: Wait, S: BuildHasher, F: Fit<K, V>
     }
 
     /// The sum of the shards' numbers of entries, which are read one after another and are no
-    /// snapshot: what the cache holds at no one moment need be that many. Takes no memory.
+    /// snapshot: what the cache holds at no one moment need be that many. Entries that are held
+    /// after they were invalidated are counted too. Takes no memory.
     pub fn len(&self) -> usize {
         self.routes.len()
     }

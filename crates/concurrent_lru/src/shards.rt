@@ -59,6 +59,8 @@ pub enum ShardStep<K, V> {
     Get(K),
     /// `advice_evict` with a key.
     AdviceEvict(K),
+    /// `invalidate` with a key.
+    Invalidate(K),
     /// `poll` at a shard with a stamp.
     Poll(usize, u64),
     /// `ready` at a shard with a stamp and a value.
@@ -198,6 +200,15 @@ impl<K: Hash + Eq + Clone, V: Drop, S: BuildHasher + Drop> Shards<K, V, S> {
         self.shards[shard].advice_evict(key)
     }
 
+    /// `invalidate` at the key's shard. Takes no memory.
+    pub fn invalidate(&mut self, key: &K) -> Evicted<K, V>
+        ensures step { StandsAt K.eq self.old (key_shard S.BuildHasher S.Hasher.Hasher K.hash_input self.old key.now) (ask.invalidate key.now) (outcome_of_evictions result) self.new }
+        ensures lawful { AreLawful K.eq self.new }
+    {
+        let shard = self.route(key);
+        self.shards[shard].invalidate(key)
+    }
+
     /// `poll` at a shard. `Stale` also where there is no such shard; `Memory` as in one cache.
     pub fn poll(&mut self, shard: usize, stamp: u64) -> Result<Begun<V>, Refusal>
         ensures step { StandsAt K.eq self.old shard (ask.poll stamp) (outcome_of_poll result) self.new }
@@ -306,8 +317,9 @@ impl<K: Hash + Eq + Clone, V: Drop, S: BuildHasher + Drop> Shards<K, V, S> {
         Ok(cache.total())
     }
 
-    /// The number of entries of all shards, those still being made included. Exact, but for a sum
-    /// above `usize::MAX`, which is answered as that. Takes no memory.
+    /// The number of entries of all shards, those still being made included, and those that are
+    /// held after an `invalidate`. Exact, but for a sum above `usize::MAX`, which is answered as
+    /// that. Takes no memory.
     pub fn len(&self) -> usize
         ensures { sum_by count_of self.now.caches < 2 ^ 64 → result ≡ sum_by count_of self.now.caches }
     {
@@ -343,6 +355,7 @@ impl<K: Hash + Eq + Clone, V: Drop, S: BuildHasher + Drop> Shards<K, V, S> {
             ShardStep::Begin(key, charge) => (self.route(&key), Step::Begin(key, charge)),
             ShardStep::Get(key) => (self.route(&key), Step::Get(key)),
             ShardStep::AdviceEvict(key) => (self.route(&key), Step::AdviceEvict(key)),
+            ShardStep::Invalidate(key) => (self.route(&key), Step::Invalidate(key)),
             ShardStep::Poll(shard, stamp) => (shard, Step::Poll(stamp)),
             ShardStep::Ready(shard, stamp, value) => (shard, Step::Ready(stamp, value)),
             ShardStep::Fail(shard, stamp) => (shard, Step::Fail(stamp)),

@@ -9,10 +9,10 @@ ghost use Rattle.std.specs.FinMap as map;
 ghost use Rattle.concurrent_lru.specs.Keys.{CopiesAreEqual};
 ghost use Rattle.concurrent_lru.specs.NodeTable.{Entry, entry_of, chain_of, phase_of, value_of, ContainsNode, LacksIdle};
 ghost use Rattle.concurrent_lru.specs.Representation.{as_idle, held_entry, GetsEntry};
-ghost use Rattle.concurrent_lru.specs.Entries.{cache_of, charges_of, ContainsEntry, ContainsNoStamp, ContainsNoKey, IsPlaceOfKey, ContainsPlace, ContainsIdleAt, ContainsHeldAt, GetsAt, LacksMakingAt, IsReadyAt, ReadiesAt, Rewrites, RevivesAt, RestsAt, pins_at, value_at, held_with_pins, new_held};
+ghost use Rattle.concurrent_lru.specs.Entries.{cache_of, charges_of, ContainsEntry, ContainsNoStamp, ContainsNoKey, IsPlaceOfKey, ContainsPlace, ContainsIdleAt, ContainsHeldAt, ContainsFoundAt, GetsAt, LacksMakingAt, IsReadyAt, ReadiesAt, Rewrites, RevivesAt, RestsAt, pins_at, value_at, held_with_pins, new_held};
 ghost use Rattle.concurrent_lru.specs.Reads.{RenewsAt};
 ghost use Rattle.concurrent_lru.specs.Stamps.{keeps_map, mapped_place, HasRoomFor};
-ghost use Rattle.concurrent_lru.specs.Steps.{without, held_in_phase};
+ghost use Rattle.concurrent_lru.specs.Steps.{without, held_in_phase, held_detached};
 
 mod stamps;
 
@@ -223,6 +223,15 @@ impl<K: Hash + Eq + Clone, V: Drop> Table<K, V> {
         self.near = place;
     }
 
+    /// Detaches a held entry from its key: from then on its stamp alone finds it. Takes no memory.
+    pub fn detach(&mut self, place: Place)
+        requires { ContainsFoundAt self.old place }
+        ensures { Rewrites held_detached self.old place self.new }
+    {
+        forget_key(&self.nodes, &mut self.by_key, place);
+        self.nodes.set_detached(place);
+    }
+
     /// Writes the phase of a held entry: its making is handed over, or its value is there. Takes
     /// no memory.
     pub fn set_phase(&mut self, place: Place, phase: Phase<V>)
@@ -388,6 +397,18 @@ fn make_room<K: Hash + Eq + Drop, V: Drop>(
     Ok(())
 }
 
+// Takes the key of a node out of what finds places by key.
+fn forget_key<K: Hash + Eq + Drop, V: Drop>(
+    nodes: &Nodes<K, V>,
+    by_key: &mut HashMap<K, Place>,
+    place: Place,
+)
+    requires { ContainsNode nodes.now place }
+    ensures { (e : Entry K V) → GetsEntry nodes.now place e → (k : K) → hash.get K.eq by_key.new k ≡ cond (K.eq e.key k) None (hash.get K.eq by_key.old k) }
+{
+    let _place = by_key.remove(&nodes.node(place).key);
+}
+
 // Takes a node away that is in no order, what finds it, and its charge.
 fn take_away<K: Hash + Eq + Drop, V: Drop>(
     nodes: &mut Nodes<K, V>,
@@ -404,13 +425,16 @@ fn take_away<K: Hash + Eq + Drop, V: Drop>(
     ensures nodes { nodes.new.nodes ≡ map.remove nodes.old.nodes place }
     ensures idle { nodes.new.idle ≡ nodes.old.idle }
     ensures work { nodes.new.work ≡ nodes.old.work }
-    ensures by_key { (k : K) → hash.get K.eq by_key.new k ≡ cond (K.eq (entry_of result.value).key k) None (hash.get K.eq by_key.old k) }
+    ensures by_key { (k : K) → hash.get K.eq by_key.new k ≡ cond (entry_of result.value).detached (hash.get K.eq by_key.old k) (cond (K.eq (entry_of result.value).key k) None (hash.get K.eq by_key.old k)) }
     ensures keeps { keeps_map by_stamp.new ≡ keeps_map by_stamp.old }
     ensures by_stamp { keeps_map by_stamp.old ≡ true → (s : ℕ) → mapped_place by_stamp.new s ≡ cond (nat_eq (entry_of result.value).stamp s) None (mapped_place by_stamp.old s) }
     ensures total { total.new + (entry_of result.value).charge ≡ total.old }
 {
     let node = nodes.take(place);
-    let _place = by_key.remove(&node.key);
+    // The key of a detached one leads to a newer entry, if to any.
+    if !node.detached {
+        let _place = by_key.remove(&node.key);
+    }
     by_stamp.remove(node.stamp);
     *total -= node.charge;
     node

@@ -12,7 +12,7 @@ use crate::door::{Asleep, Door, Maker, Met};
 pub use crate::fit::{Anything, Fit};
 pub use crate::get_error::GetError;
 pub use crate::handle::CacheHandle;
-use crate::locked::{Advised, Pin, Pruned, Reserved, Resized};
+use crate::locked::{Advised, Invalidated, Pin, Pruned, Reserved, Resized};
 pub use crate::lru_core::Refusal;
 pub use crate::owned::OwnedHandle;
 use std::alloc::Global;
@@ -250,6 +250,21 @@ impl<K: Hash + Eq + Clone + Drop, V: Drop, R: Wait, F: Fit<K, V>> LruCache<K, V,
         let _: Advised<K> = self.advised(key);
     }
 
+    /// Takes the value of a key back: whoever asks for the key after this call gets a value that is
+    /// made after it, also while others hold the old one. Copies no key and takes no memory.
+    ///
+    /// An entry that nobody holds is evicted. One that is held is detached from the key, whether its
+    /// value is there or still being made: no call finds it by the key any more, and the next one
+    /// makes a new entry. Its handles read the value that they had, callers that wait for its value
+    /// get that value, and when its last handle is dropped it is evicted at once. Until then it is
+    /// counted: in `total_charge` by its charge, and in `len`. Where the key has no entry, nothing
+    /// happens.
+    ///
+    /// The original crate has no such call; this one is this project's own.
+    pub fn invalidate(&self, key: &K) {
+        let _: Invalidated<K> = self.invalidated(key);
+    }
+
     /// Evicts every idle entry, oldest first. Takes no memory.
     pub fn prune(&self) {
         let _: Pruned = self.pruned();
@@ -266,13 +281,14 @@ impl<K: Hash + Eq + Clone + Drop, V: Drop, R: Wait, F: Fit<K, V>> LruCache<K, V,
         self.door.enter().capacity()
     }
 
-    /// The sum of the charges of all entries, those still being made included. Takes no memory.
+    /// The sum of the charges of all entries, those still being made included, and those that are
+    /// held after they were invalidated. Takes no memory.
     pub fn total_charge(&self) -> u64 {
         self.door.enter().total()
     }
 
-    /// The number of entries, idle or held, those still being made included. No entry is visited.
-    /// Takes no memory.
+    /// The number of entries, idle or held, those still being made included, and those that are held
+    /// after they were invalidated. No entry is visited. Takes no memory.
     pub fn len(&self) -> usize {
         self.door.enter().len()
     }
@@ -301,6 +317,12 @@ impl<K: Hash + Eq + Clone + Drop, V: Drop, R: Wait, F: Fit<K, V>> LruCache<K, V,
         ensures { result ≡ key.now }
     {
         self.door.enter().advice_evict(key)
+    }
+
+    pub(crate) fn invalidated(&self, key: &K) -> Invalidated<K>
+        ensures { result ≡ key.now }
+    {
+        self.door.enter().invalidate(key)
     }
 
     pub(crate) fn pruned(&self) -> Pruned {

@@ -30,7 +30,7 @@ impl Both {
         Both {
             alloc,
             state: State::with_limits(alloc, capacity, first_stamp, most_pins),
-            plain: Plain::with_limits(capacity, first_stamp, most_pins),
+            plain: Plain::with_limits(alloc, capacity, first_stamp, most_pins),
         }
     }
 

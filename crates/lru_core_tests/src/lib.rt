@@ -17,6 +17,8 @@ mod ends;
 #[cfg(test)]
 mod example;
 #[cfg(test)]
+mod invalidations;
+#[cfg(test)]
 mod keys;
 #[cfg(test)]
 mod list;

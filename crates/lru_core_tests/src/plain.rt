@@ -1,4 +1,4 @@
-//! The same cache written as plainly as can be: an array of entries, which is walked at each call.
+//! The same cache written as plainly as can be: a list of entries, which is walked at each call.
 //! What it answers is what the cache is expected to answer.
 
 use concurrent_lru::lru_core::Refusal;
@@ -23,6 +23,8 @@ struct Entry {
     key: u64,
     charge: u64,
     pins: u32,
+    // Whether its key finds it no more.
+    detached: bool,
     phase: Phase,
     // When its last pin was given back: the number of that release.
     rested: u64,
@@ -83,25 +85,30 @@ pub(crate) struct Plain {
     /// The stamp of the entry that the last call gave a pin, where it gave one.
     pub(crate) pinned: Option<u64>,
     releases: u64,
-    entries: [Option<Entry>; KEYS],
+    entries: Vec<Entry>,
 }
 
 impl Plain {
     /// An empty cache, as `State::with_limits` makes one.
-    pub(crate) fn with_limits(capacity: u64, first_stamp: u64, most_pins: u32) -> Plain {
+    pub(crate) fn with_limits(
+        alloc: Global,
+        capacity: u64,
+        first_stamp: u64,
+        most_pins: u32,
+    ) -> Plain {
         Plain {
             capacity,
             most_pins,
             next: first_stamp,
             pinned: None,
             releases: 0,
-            entries: [None; KEYS],
+            entries: Vec::new(alloc),
         }
     }
 
     fn of_key(&self, key: u64) -> Option<Entry> {
-        for entry in self.entries.iter().flatten() {
-            if entry.key == key {
+        for entry in &self.entries {
+            if entry.key == key && !entry.detached {
                 return Some(*entry);
             }
         }
@@ -109,7 +116,7 @@ impl Plain {
     }
 
     fn of_stamp(&self, stamp: u64) -> Option<Entry> {
-        for entry in self.entries.iter().flatten() {
+        for entry in &self.entries {
             if entry.stamp == stamp {
                 return Some(*entry);
             }
@@ -119,23 +126,35 @@ impl Plain {
 
     fn total(&self) -> u64 {
         let mut total: u64 = 0;
-        for entry in self.entries.iter().flatten() {
+        for entry in &self.entries {
             total = total.saturating_add(entry.charge);
         }
         total
     }
 
-    // Writes what a key has now.
-    fn put(&mut self, key: u64, entry: Option<Entry>) {
-        if let Some(place) = self.entries.get_mut(key as usize) {
-            *place = entry;
+    // Writes what the entry of a stamp is now.
+    fn put(&mut self, entry: Entry) {
+        for place in &mut self.entries {
+            if place.stamp == entry.stamp {
+                *place = entry;
+            }
+        }
+    }
+
+    // Takes the entry of a stamp away.
+    fn remove(&mut self, stamp: u64) {
+        for index in 0..self.entries.len() {
+            if self.entries[index].stamp == stamp {
+                self.entries.swap_remove(index);
+                return;
+            }
         }
     }
 
     // Gives an entry one pin more.
     fn pin(&mut self, mut entry: Entry) {
         entry.pins = entry.pins.saturating_add(1);
-        self.put(entry.key, Some(entry));
+        self.put(entry);
         self.pinned = Some(entry.stamp);
     }
 
@@ -143,7 +162,7 @@ impl Plain {
     fn evict(&mut self, entry: Entry) -> Option<Gone> {
         match entry.phase {
             Phase::Ready(value) if entry.pins == 0 => {
-                self.put(entry.key, None);
+                self.remove(entry.stamp);
                 Some(Gone {
                     stamp: entry.stamp,
                     key: entry.key,
@@ -155,10 +174,17 @@ impl Plain {
         }
     }
 
+    // Takes an idle entry away, and tells of it alone.
+    fn evict_alone(&mut self, entry: Entry) -> Evicted {
+        let mut evicted = [None; KEYS];
+        evicted[0] = self.evict(entry);
+        Evicted(evicted)
+    }
+
     // The idle entry whose last pin was given back before those of the others.
     fn oldest(&self) -> Option<Entry> {
         let mut oldest: Option<Entry> = None;
-        for entry in self.entries.iter().flatten() {
+        for entry in &self.entries {
             oldest = older(oldest, *entry);
         }
         oldest
@@ -207,15 +233,17 @@ impl Plain {
         let (Some(next), Some(_)) = (stamp.checked_add(1), self.total().checked_add(charge)) else {
             return Err(Refusal::Overflow);
         };
-        self.next = next;
-        self.pin(Entry {
+        self.entries.push(Entry {
             stamp,
             key,
             charge,
-            pins: 0,
+            pins: 1,
+            detached: false,
             phase: Phase::Making,
             rested: 0,
-        });
+        })?;
+        self.next = next;
+        self.pinned = Some(stamp);
         Ok((Begun::Make(stamp), self.settle(self.capacity)))
     }
 
@@ -228,7 +256,7 @@ impl Plain {
             Phase::Making => Ok(Begun::Wait(stamp)),
             Phase::Untaken => {
                 entry.phase = Phase::Making;
-                self.put(entry.key, Some(entry));
+                self.put(entry);
                 Ok(Begun::Make(stamp))
             }
             Phase::Ready(value) => Ok(Begun::Hit(stamp, value)),
@@ -246,7 +274,7 @@ impl Plain {
     fn ready(&mut self, stamp: u64, value: u64) -> Result<(), u64> {
         let mut entry = self.being_made(stamp).ok_or(value)?;
         entry.phase = Phase::Ready(value);
-        self.put(entry.key, Some(entry));
+        self.put(entry);
         Ok(())
     }
 
@@ -255,10 +283,10 @@ impl Plain {
         if entry.pins > 1 {
             entry.pins -= 1;
             entry.phase = Phase::Untaken;
-            self.put(entry.key, Some(entry));
+            self.put(entry);
             return Ok(Failed::Left);
         }
-        self.put(entry.key, None);
+        self.remove(stamp);
         Ok(Failed::Removed(entry.key))
     }
 
@@ -284,7 +312,10 @@ impl Plain {
         entry.pins -= 1;
         entry.rested = self.releases;
         self.releases = self.releases.saturating_add(1);
-        self.put(entry.key, Some(entry));
+        if entry.pins == 0 && entry.detached {
+            return Ok(self.evict_alone(entry));
+        }
+        self.put(entry);
         let capacity = if entry.pins == 0 {
             self.capacity
         } else {
@@ -294,11 +325,22 @@ impl Plain {
     }
 
     fn advice_evict(&mut self, key: u64) -> Evicted {
-        let mut evicted = [None; KEYS];
-        if let Some(entry) = self.of_key(key) {
-            evicted[0] = self.evict(entry);
+        match self.of_key(key) {
+            Some(entry) => self.evict_alone(entry),
+            None => Evicted([None; KEYS]),
         }
-        Evicted(evicted)
+    }
+
+    fn invalidate(&mut self, key: u64) -> Evicted {
+        let Some(mut entry) = self.of_key(key) else {
+            return Evicted([None; KEYS]);
+        };
+        if entry.pins == 0 {
+            return self.evict_alone(entry);
+        }
+        entry.detached = true;
+        self.put(entry);
+        Evicted([None; KEYS])
     }
 
     fn key_of(&self, stamp: u64) -> Option<u64> {
@@ -322,6 +364,7 @@ impl Answers<Call> for Plain {
             Call::Get(key) => text_of(alloc, &self.get(key)),
             Call::Release(stamp) => text_of(alloc, &self.release(stamp)),
             Call::AdviceEvict(key) => text_of(alloc, &self.advice_evict(key)),
+            Call::Invalidate(key) => text_of(alloc, &self.invalidate(key)),
             Call::Prune => text_of(alloc, &self.settle(0)),
             Call::SetCapacity(capacity) => text_of(alloc, &self.set_capacity(capacity)),
             Call::Total => text_of(alloc, &self.total()),

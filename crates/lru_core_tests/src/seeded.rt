@@ -7,7 +7,7 @@ use rand_core::{Rng, SeedableRng};
 use rand_xoshiro::Xoshiro256PlusPlus;
 use std::alloc::Global;
 
-const KINDS: u64 = 11;
+const KINDS: u64 = 12;
 
 // The next call, whose stamp is among the last that were given out: `next` is the one after them.
 fn draw(generator: &mut Xoshiro256PlusPlus, next: u64) -> Call {
@@ -27,6 +27,7 @@ fn draw(generator: &mut Xoshiro256PlusPlus, next: u64) -> Call {
         7 => Call::Prune,
         8 => Call::Total,
         9 => Call::KeyOf(stamp),
+        10 => Call::Invalidate(key),
         _ => Call::SetCapacity(8 + c % 5),
     }
 }

@@ -77,6 +77,8 @@ pub enum Cause {
     Release,
     /// `advice_evict`.
     Advice,
+    /// `invalidate`.
+    Invalidation,
     /// `prune`.
     Prune,
     /// A smaller capacity.
@@ -132,6 +134,7 @@ pub fn evict_with<V: Drop, H: Drop, C: Cached<V, Handle = H>>(
         Cause::Failure => drop(try_make_value(cache, 5, 1, None, &mut ran)),
         Cause::Release => drop(handle),
         Cause::Advice => cache.advise(1),
+        Cause::Invalidation => cache.take_back(1),
         Cause::Prune => cache.clear(),
         Cause::Capacity => cache.resize(0),
     }

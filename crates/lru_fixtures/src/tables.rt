@@ -27,6 +27,8 @@ pub enum Call {
     Release(u64),
     /// `advice_evict` with a key.
     AdviceEvict(u64),
+    /// `invalidate` with a key.
+    Invalidate(u64),
     /// `prune`.
     Prune,
     /// `set_capacity` with a capacity.
@@ -98,6 +100,7 @@ impl Answers<Call> for State<u64, u64> {
             Call::Get(key) => text_of(alloc, &self.get(&key)),
             Call::Release(stamp) => text_of(alloc, &self.release(stamp)),
             Call::AdviceEvict(key) => text_of(alloc, &self.advice_evict(&key)),
+            Call::Invalidate(key) => text_of(alloc, &self.invalidate(&key)),
             Call::Prune => text_of(alloc, &self.prune()),
             Call::SetCapacity(capacity) => text_of(alloc, &self.set_capacity(capacity)),
             Call::Total => text_of(alloc, &self.total()),

@@ -22,6 +22,7 @@ module _ {K : Type 0} where
   request_of_recorded (step.Get k) = ask.get k
   request_of_recorded (step.Release s) = ask.release s
   request_of_recorded (step.AdviceEvict k) = ask.advice_evict k
+  request_of_recorded (step.Invalidate k) = ask.invalidate k
   request_of_recorded step.Prune = ask.prune
   request_of_recorded (step.SetCapacity c) = ask.set_capacity c
   request_of_recorded step.Total = ask.total

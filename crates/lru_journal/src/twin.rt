@@ -198,6 +198,21 @@ impl<
         Ok(())
     }
 
+    /// Takes the value of a key back: whoever asks for the key after this call gets a value that is
+    /// made after it. An idle entry is evicted; a held one is detached from its key and stays for its
+    /// holders, until the last pin is given back.
+    ///
+    /// A refusal leaves the key its value.
+    pub fn invalidate(&self, tally: &mut Tally<K, I>, key: &K) -> Result<(), Refusal>
+        ensures tallied { IsTallied tally.old (λ _. IsOfCopy K.eq key.now (λ copy. record_of (ask.invalidate copy) Told.Done)) result tally.new }
+        ensures parts { tally.new.parts ≡ tally.old.parts }
+        ensures memory { IfErr result (λ e. e ≡ Refusal.Memory) }
+    {
+        let evicted = self.door.enter().call(tally, step::Invalidate { key })?;
+        drop(evicted);
+        Ok(())
+    }
+
     /// Evicts every idle entry.
     pub fn prune(&self, tally: &mut Tally<K, I>) -> Result<(), Refusal>
         ensures tallied { IsTallied tally.old (λ _ r. r ≡ record_of ask.prune Told.Done) result tally.new }

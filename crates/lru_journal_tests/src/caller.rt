@@ -39,6 +39,7 @@ fn ask_plainly<R: Wait + Drop, I: Identity>(
         Call::Fail(stamp) => Answer::of(cache.fail(tally, stamp)),
         Call::Get(key) => Answer::of(cache.get(tally, &key)),
         Call::AdviceEvict(key) => Answer::of(cache.advice_evict(tally, &key)),
+        Call::Invalidate(key) => Answer::of(cache.invalidate(tally, &key)),
         Call::Prune => Answer::of(cache.prune(tally)),
         Call::SetCapacity(capacity) => Answer::of(cache.set_capacity(tally, capacity)),
         Call::Total => Answer::of(cache.total(tally)),

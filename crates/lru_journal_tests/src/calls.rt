@@ -6,7 +6,7 @@ use crate::answer::PINNED;
 use crate::table::{Row, ask_all};
 use concurrent_lru::lru_core::Refusal::{Overflow, Stale};
 use lru_fixtures::tables::Call::{
-    AdviceEvict, Begin, Fail, Get, Poll, Prune, Ready, Release, SetCapacity, Total,
+    AdviceEvict, Begin, Fail, Get, Invalidate, Poll, Prune, Ready, Release, SetCapacity, Total,
 };
 use lru_journal::journal::Told::{
     Done, Found, Hit, Left, Make, Missed, Removed, Total as Sum, Wait,
@@ -138,6 +138,34 @@ static ADVICE_AND_PRUNE: [Row; 19] = [
 #[test]
 fn advice_evicts_one_key_and_a_prune_all_that_is_idle(rt: HostRuntime) -> Result<(), test::Fail> {
     ask_all(&rt, rt.alloc(), 10, &ADVICE_AND_PRUNE)
+}
+
+// An entry that is held, and one that waits for its maker, are detached from their key; idle ones
+// are evicted.
+static TAKEN_BACK: [Row; 18] = [
+    (Invalidate(1), Says(Done), &[], "invalidate 1 -> done"),
+    (Begin(1, 1), Says(Make(0)), &[], "begin 1 1 -> make 0"),
+    (Begin(1, 1), Says(Wait(0)), &[], "begin 1 1 -> wait 0"),
+    (Invalidate(1), Says(Done), &[], "invalidate 1 -> done"),
+    (Begin(1, 2), Says(Make(1)), &[], "begin 1 2 -> make 1"),
+    (Ready(1, 21), Says(Done), &[], "ready 1 -> done"),
+    (Fail(0), Says(Left), &[], "fail 0 -> left"),
+    (Poll(0), Says(Make(0)), &[], "poll 0 -> make 0"),
+    (Ready(0, 20), Says(Done), &[], "ready 0 -> done"),
+    (Total, Says(Sum(3)), &[], "total -> total 3"),
+    (Get(1), Gives(Found(1), 21), &[], "get 1 -> some 1"),
+    (Release(0), Says(Done), &[(0, 1)], "release 0 -> done"),
+    (Release(0), Back(Stale, 0, PINNED), &[], ""),
+    (Release(1), Says(Done), &[], "release 1 -> done"),
+    (Release(1), Says(Done), &[], "release 1 -> done"),
+    (Invalidate(1), Says(Done), &[(1, 1)], "invalidate 1 -> done"),
+    (Get(1), Says(Missed), &[], "get 1 -> none"),
+    (Total, Says(Sum(0)), &[], "total -> total 0"),
+];
+
+#[test]
+fn an_invalidate_takes_a_value_back(rt: HostRuntime) -> Result<(), test::Fail> {
+    ask_all(&rt, rt.alloc(), 10, &TAKEN_BACK)
 }
 
 static SHRUNK_AT_ONCE: [Row; 5] = [

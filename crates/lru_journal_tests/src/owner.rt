@@ -67,6 +67,7 @@ pub(crate) fn ask(
         Call::Begin(key, charge) => Ok(begin(journal, key, charge)),
         Call::Release(stamp) => Ok(release(journal, stamp)),
         Call::AdviceEvict(key) => Ok(Heard::evicts(journal.advice_evict(&key))),
+        Call::Invalidate(key) => Ok(Heard::evicts(journal.invalidate(&key))),
         Call::Prune => Ok(Heard::evicts(journal.prune())),
         Call::SetCapacity(capacity) => Ok(Heard::evicts(journal.set_capacity(capacity))),
         _ => Ok(Heard::from(ask_in_place(journal, call))),

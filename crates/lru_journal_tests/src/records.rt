@@ -18,6 +18,7 @@ fn each_kind_of_record_has_its_text(rt: HostRuntime) -> Result<(), Fail> {
         (Recorded::Get(9), Told::Missed),
         (Recorded::Release(6), Told::Done),
         (Recorded::AdviceEvict(8), Told::Done),
+        (Recorded::Invalidate(8), Told::Done),
         (Recorded::Prune, Told::Done),
         (Recorded::SetCapacity(18446744073709551615), Told::Done),
         (Recorded::Total, Told::Total(18446744073709551615)),
@@ -36,6 +37,7 @@ fn each_kind_of_record_has_its_text(rt: HostRuntime) -> Result<(), Fail> {
         get 9 -> none\n\
         release 6 -> done\n\
         advice 8 -> done\n\
+        invalidate 8 -> done\n\
         prune -> done\n\
         capacity 18446744073709551615 -> done\n\
         total -> total 18446744073709551615\n";

@@ -60,7 +60,7 @@ impl Draws {
             Call::Get(key),
             Call::Get(key),
             Call::AdviceEvict(key),
-            Call::AdviceEvict(key),
+            Call::Invalidate(key),
             Call::Prune,
             Call::SetCapacity(4 + number),
             Call::Total,

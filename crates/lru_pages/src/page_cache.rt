@@ -77,13 +77,22 @@ impl<'a, B: Blocks, R: Wait> PageCache<'a, B, R> {
         )
     }
 
+    /// Takes the page of a number back, for a block that was written again: whoever asks for the
+    /// number after this call gets a page that is read after it. A page that nobody holds is
+    /// evicted. One that is held keeps its bytes for those that hold it, and is counted until the
+    /// last of its handles is dropped; so is one that is still being read, for those that wait for
+    /// it. Takes no memory.
+    pub fn invalidate(&self, number: u64) {
+        self.pages.invalidate(&number);
+    }
+
     /// Evicts every page that nobody holds. Takes no memory.
     pub fn prune(&self) {
         self.pages.prune();
     }
 
-    /// How many pages there are, those that are held and those that are being read included.
-    /// Takes no memory.
+    /// How many pages there are, those that are held and those that are being read included, also
+    /// where they were invalidated. Takes no memory.
     pub fn total_charge(&self) -> u64 {
         self.pages.total_charge()
     }

@@ -6,7 +6,7 @@ use Rattle.lru_replay.specs.declared.step.Fate.{Fate}
 use Rattle.lru_replay.specs.declared.step.Fate.TheVariants.{Drop, Keep}
 use Rattle.lru_replay.specs.declared.step.Making.{Making}
 use Rattle.lru_replay.specs.declared.step.Step.{Step}
-use Rattle.lru_replay.specs.declared.step.Step.TheVariants.{New, Init, Get, Release, Advice, Prune, Total}
+use Rattle.lru_replay.specs.declared.step.Step.TheVariants.{New, Init, Get, Release, Advice, Invalidate, Prune, Total}
 
 -- five words end in `drop` alone
 pub only_drop : (words : Words) (fate : Fate) → length words ≡ 5 → EndsIn words 4 fate → Drop ≡ fate
@@ -26,6 +26,7 @@ module _ (words : Words) (named : word words 0 ≡ codes "init") where
   only_init (Get key fate) spells = let other : word words 0 ≡ codes "get" = spells.0 in absurd (first_of (cc, search rules))
   only_init (Release slot) spells = let other : word words 0 ≡ codes "release" = spells.1 in absurd (first_of (cc, search rules))
   only_init (Advice key) spells = let other : word words 0 ≡ codes "advice" = spells.1 in absurd (first_of (cc, search rules))
+  only_init (Invalidate key) spells = let other : word words 0 ≡ codes "invalidate" = spells.1 in absurd (first_of (cc, search rules))
   only_init Prune spells = let other : word words 0 ≡ codes "prune" = spells.1 in absurd (first_of (cc, search rules))
   only_init Total spells = let other : word words 0 ≡ codes "total" = spells.1 in absurd (first_of (cc, search rules))
 

@@ -10,7 +10,7 @@ use Rattle.lru_replay.specs.declared.step.Outcome.{Outcome}
 use Rattle.lru_replay.specs.declared.step.Outcome.TheVariants.{Gives, Fails}
 use Rattle.lru_replay.specs.declared.step.Making.{Making}
 use Rattle.lru_replay.specs.declared.step.Step.{Step}
-use Rattle.lru_replay.specs.declared.step.Step.TheVariants.{New, Init, Get, Release, Advice, Prune, Total}
+use Rattle.lru_replay.specs.declared.step.Step.TheVariants.{New, Init, Get, Release, Advice, Invalidate, Prune, Total}
 
 -- the words of a line, a `&[&str]`
 abbrev pub Words : Type 0
@@ -56,5 +56,6 @@ Spells words (Init making fate) = (word words 0 ≡ codes "init") × SpellsMakin
 Spells words (Get key fate) = (word words 0 ≡ codes "get") × Writes (word words 1) key × EndsIn words 2 fate
 Spells words (Release slot) = (length words ≡ 2) × (word words 0 ≡ codes "release") × SpellsSlot (word words 1) slot
 Spells words (Advice key) = (length words ≡ 2) × (word words 0 ≡ codes "advice") × Writes (word words 1) key
+Spells words (Invalidate key) = (length words ≡ 2) × (word words 0 ≡ codes "invalidate") × Writes (word words 1) key
 Spells words Prune = (length words ≡ 1) × (word words 0 ≡ codes "prune")
 Spells words Total = (length words ≡ 1) × (word words 0 ≡ codes "total")

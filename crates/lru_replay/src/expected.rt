@@ -51,6 +51,8 @@ pub enum Expected {
     Release,
     /// The words of an `advice`.
     Advice,
+    /// The words of an `invalidate`.
+    Invalidate,
     /// The one word of a `prune`.
     Prune,
     /// The one word of a `total`.
@@ -71,12 +73,13 @@ impl Expected {
         match self {
             Expected::Text => "text of at most 1000 bytes",
             Expected::First => "`new CAPACITY` first",
-            Expected::Step => "a step: new, init, get, release, advice, prune or total",
+            Expected::Step => "a step: new, init, get, release, advice, invalidate, prune or total",
             Expected::New => "`new CAPACITY`",
             Expected::Init => "`init KEY CHARGE ok|fail drop|keep SLOT`",
             Expected::Get => "`get KEY drop|keep SLOT`",
             Expected::Release => "`release SLOT`",
             Expected::Advice => "`advice KEY`",
+            Expected::Invalidate => "`invalidate KEY`",
             Expected::Prune => "`prune` alone",
             Expected::Total => "`total` alone",
             Expected::Number => "a number up to 18446744073709551615",

@@ -35,6 +35,7 @@ pub fn parse<'a>(words: &[&'a str]) -> Result<Step, Wrong<'a>>
         }
         ["release", slot] => Ok(Step::Release(parse_slot(slot)?)),
         ["advice", key] => Ok(Step::Advice(parse_number(key)?)),
+        ["invalidate", key] => Ok(Step::Invalidate(parse_number(key)?)),
         ["prune"] => Ok(Step::Prune),
         ["total"] => Ok(Step::Total),
         [name, ..] => Err(wrong_of(name)),
@@ -50,6 +51,7 @@ fn wrong_of<'a>(name: &'a str) -> Wrong<'a> {
         "get" => Wrong::line(Expected::Get),
         "release" => Wrong::line(Expected::Release),
         "advice" => Wrong::line(Expected::Advice),
+        "invalidate" => Wrong::line(Expected::Invalidate),
         "prune" => Wrong::line(Expected::Prune),
         "total" => Wrong::line(Expected::Total),
         _ => Wrong::word(Expected::Step, name),

@@ -70,6 +70,7 @@ impl<R: Wait + Clone + Drop> Session<R> {
             Step::Total => return Ok(Answer::Total(self.cache.total_charge())),
             Step::Release(slot) => drop(slots.replace(slot, None)),
             Step::Advice(key) => self.cache.advice_evict(key),
+            Step::Invalidate(key) => self.cache.invalidate(&key),
             Step::Prune => self.cache.prune(),
             Step::New(_) => {}
         }

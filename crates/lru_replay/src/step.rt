@@ -53,6 +53,8 @@ pub enum Step {
     Release(Slot),
     /// The entry of this key is evicted, where it is idle.
     Advice(u64),
+    /// The value of this key is taken back: later steps do not find it.
+    Invalidate(u64),
     /// Every idle entry is evicted.
     Prune,
     /// The sum of the charges of all entries.
@@ -102,6 +104,7 @@ impl fmt::Display for Step {
             Step::Get(key, fate) => write!(f, "get {key} {fate}"),
             Step::Release(slot) => write!(f, "release {slot}"),
             Step::Advice(key) => write!(f, "advice {key}"),
+            Step::Invalidate(key) => write!(f, "invalidate {key}"),
             Step::Prune => write!(f, "prune"),
             Step::Total => write!(f, "total"),
         }

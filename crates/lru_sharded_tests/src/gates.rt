@@ -10,11 +10,12 @@ use std::thread;
 use std::thread::Threads;
 
 // What evicts a value, the capacity before, and the total while the value is dropped.
-const CAUSES: [(Cause, u64, u128); 6] = [
+const CAUSES: [(Cause, u64, u128); 7] = [
     (Cause::Begin, 2, 1),
     (Cause::Failure, 2, 1),
     (Cause::Release, 0, 0),
     (Cause::Advice, 2, 0),
+    (Cause::Invalidation, 2, 0),
     (Cause::Prune, 2, 0),
     (Cause::Capacity, 2, 0),
 ];

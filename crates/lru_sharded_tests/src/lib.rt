@@ -17,6 +17,8 @@ mod files;
 #[cfg(test)]
 mod gates;
 #[cfg(test)]
+mod invalidations;
+#[cfg(test)]
 mod keyed;
 #[cfg(test)]
 mod keys;

@@ -13,8 +13,8 @@ use std::alloc::Global;
 use std::hash::BuildHasher;
 use std::test;
 
-// Makes the calls of a table of so many empty shards, which share this capacity.
-fn plays<S: BuildHasher + Drop>(
+/// Makes the calls of a table of so many empty shards, which share this capacity.
+pub(crate) fn plays<S: BuildHasher + Drop>(
     alloc: Global,
     capacity: u64,
     shards: usize,

@@ -15,8 +15,8 @@ use std::alloc::Global;
 use std::sync::Wait;
 use std::test;
 
-// Makes the calls of a table of an empty cache of so many shards, which share this capacity.
-fn plays<R: Wait + Clone + Drop>(
+/// Makes the calls of a table of an empty cache of so many shards, which share this capacity.
+pub(crate) fn plays<R: Wait + Clone + Drop>(
     rt: &R,
     alloc: Global,
     capacity: u64,

@@ -37,6 +37,9 @@ pub trait Cached<V>: Copy {
     /// `advice_evict`.
     fn advise(self, key: u64);
 
+    /// `invalidate`.
+    fn take_back(self, key: u64);
+
     /// `prune`.
     fn clear(self);
 
@@ -84,6 +87,10 @@ impl<'a, V: Drop, R: Wait> Cached<V> for &'a unsharded::LruCache<u64, V, R> {
 
     fn advise(self, key: u64) {
         self.advice_evict(key);
+    }
+
+    fn take_back(self, key: u64) {
+        self.invalidate(&key);
     }
 
     fn clear(self) {
@@ -138,6 +145,10 @@ impl<'a, V: Drop, R: Wait, S: BuildHasher> Cached<V> for &'a sharded::LruCache<u
 
     fn advise(self, key: u64) {
         self.advice_evict(key);
+    }
+
+    fn take_back(self, key: u64) {
+        self.invalidate(&key);
     }
 
     fn clear(self) {

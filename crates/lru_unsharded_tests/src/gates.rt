@@ -25,11 +25,12 @@ fn makers_run_without_the_lock(rt: HostRuntime) {
 }
 
 // What evicts a value, the capacity before, and the total while the value is dropped.
-const CAUSES: [(Cause, u64, u128); 6] = [
+const CAUSES: [(Cause, u64, u128); 7] = [
     (Cause::Begin, 1, 1),
     (Cause::Failure, 1, 1),
     (Cause::Release, 0, 0),
     (Cause::Advice, 1, 0),
+    (Cause::Invalidation, 1, 0),
     (Cause::Prune, 1, 0),
     (Cause::Capacity, 1, 0),
 ];

@@ -19,6 +19,8 @@ mod gates;
 #[cfg(test)]
 mod handles;
 #[cfg(test)]
+mod invalidations;
+#[cfg(test)]
 mod keys;
 #[cfg(test)]
 mod makings;

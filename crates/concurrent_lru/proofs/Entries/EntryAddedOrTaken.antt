@@ -49,6 +49,7 @@ module _ {K V S : Type 0} (E : K → K → Bool) where
     pub nodes : t'.nodes ≡ insert t.nodes p e
     pub idle : t'.idle ≡ t.idle
     pub pins : e.pins ≡ 1
+    pub found : e.detached ≡ false
     pub same_key : E k e.key ≡ true
     pub absent : hash.get E by_key k ≡ None
     pub fresh : IsNewStamp t e.stamp
@@ -61,7 +62,7 @@ module _ {K V S : Type 0} (E : K → K → Bool) where
     pub at : get t.nodes p ≡ Some e
     pub nodes : t'.nodes ≡ remove t.nodes p
     pub idle : t'.idle ≡ filter (λ q. not (eqb q p)) t.idle
-    pub keys_now : (q : K) → hash.get E by_key' q ≡ cond (E e.key q) None (hash.get E by_key q)
+    pub keys_now : (q : K) → hash.get E by_key' q ≡ cond e.detached (hash.get E by_key q) (cond (E e.key q) None (hash.get E by_key q))
     pub keeps : keeps_map by_stamp' ≡ keeps_map by_stamp
     pub stamps_now : keeps_map by_stamp ≡ true → (s : ℕ) → mapped_place by_stamp' s ≡ cond (eqb e.stamp s) None (mapped_place by_stamp s)
 
@@ -80,7 +81,7 @@ module _ {K V S : Type 0} {C : K → K → Type 0} {E : K → K → Bool} where
     pub stored_with : IsStored C E t' by_key' by_stamp'
     stored_with = record {
       represents = represents_keys t' (keys t.nodes ++ p ∷ []) (added_represents r.represents adds);
-      indexed = indexed_added eq (alike_get eq by_key) r.indexed p e k a.nodes a.free a.same_key a.absent a.fresh a.keys_now a.keeps a.stamps_now;
+      indexed = indexed_added eq (alike_get eq by_key) r.indexed p e k a.nodes a.free a.same_key a.found a.absent a.fresh a.keys_now a.keeps a.stamps_now;
       copies = r.copies;
     }
 

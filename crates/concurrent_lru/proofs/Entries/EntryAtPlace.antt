@@ -5,13 +5,13 @@ use Rattle.std.specs.Cmp.{IsEquivalence}
 use Rattle.std.specs.FinMap.{get}
 use Rattle.std.proofs.lemmas.Bool.{true≢false, eqb-true, eq-eqb}
 use Rattle.std.proofs.lemmas.Option.{none-some, same_Some}
-use Rattle.concurrent_lru.specs.Cache.{Idle, Held, Phase, making, untaken, ready, IsLawful, idle_at}
+use Rattle.concurrent_lru.specs.Cache.{Idle, Held, Phase, making, untaken, ready, IsLawful, IsFound, idle_at}
 use Rattle.concurrent_lru.specs.Steps.{Holds, IsNotIdle, IsUnready}
 use Rattle.concurrent_lru.specs.Request as ask
 use Rattle.concurrent_lru.specs.Runs.{IsFull, Overflows, WouldHit}
 use Rattle.concurrent_lru.specs.NodeTable.{Entry, value_in, value_of}
 use Rattle.concurrent_lru.specs.Representation.{as_idle, held_entry}
-use Rattle.concurrent_lru.specs.Entries.{Entries, cache_of, cache_with, ContainsEntry, IsPlaceOfKey, GetsAt, ContainsIdleAt, ContainsHeldAt, IsReadyAt, value_at}
+use Rattle.concurrent_lru.specs.Entries.{Entries, cache_of, cache_with, ContainsEntry, FindsEntry, IsPlaceOfKey, GetsAt, ContainsIdleAt, ContainsHeldAt, ContainsFoundAt, IsReadyAt, value_at}
 use Rattle.concurrent_lru.proofs.Steps.BeginOfAbsent.{as_idle-ready}
 
 -- the phase that has a value
@@ -45,8 +45,11 @@ module _ {K V : Type 0} {t : Entries K V} {p : ℕ} {e : Entry K V} (here : Gets
   pub held_place : e.pins ≢ 0 → ContainsHeldAt t p
   held_place some = (e.stamp, here.at, ap is_some (here.held some))
 
-  pub ready_place : (v : V) → e.phase ≡ ready v → e.pins ≢ 0 → IsReadyAt t p
-  ready_place v phase some = record { stamp = e.stamp; entry = held_entry e; value = v; at = here.at; held = here.held some; phase = phase }
+  pub ready_place : (v : V) → e.phase ≡ ready v → e.pins ≢ 0 → e.detached ≡ false → IsReadyAt t p
+  ready_place v phase some found = record { stamp = e.stamp; entry = held_entry e; value = v; at = here.at; held = here.held some; phase = phase; found = found }
+
+  pub found_here : e.pins ≢ 0 → e.detached ≡ false → ContainsFoundAt t p
+  found_here some found = (e.stamp, here.at, held_entry e, here.held some, found)
 
   -- an entry whose value is at the place is ready with it
   pub value_here : (v : V) → value_at t p ≡ value_of e → value_at t p ≡ Some v → e.phase ≡ ready v
@@ -64,6 +67,16 @@ module _ {K V : Type 0} {t : Entries K V} {p : ℕ} {e : Entry K V} (here : Gets
         let r = seen_ready e (here.idle none).0 in
         inl (record { stamp = e.stamp; key = e.key; charge = e.charge; value = r.0 }, idle_here r.0 r.1 none, refl, refl)
     | false ↦ λ b. inr (held_entry e, here.held (λ none. true≢false (sym (eq-eqb e.pins 0 none) ∙ b)), refl, refl)
+  ] refl
+
+  -- and found by its key, where it is not detached or is idle
+  pub finds_entry : (e.pins ≢ 0 → e.detached ≡ false) → FindsEntry t e.stamp e.key e.charge
+  finds_entry found = elim (e.pins == 0) as (λ b. (e.pins == 0) ≡ b → FindsEntry t e.stamp e.key e.charge) [
+    | true ↦ λ b.
+        let none = eqb-true e.pins 0 b in
+        let r = seen_ready e (here.idle none).0 in
+        inl (record { stamp = e.stamp; key = e.key; charge = e.charge; value = r.0 }, idle_here r.0 r.1 none, refl, refl)
+    | false ↦ λ b. let some : e.pins ≢ 0 = λ none. true≢false (sym (eq-eqb e.pins 0 none) ∙ b) in inr (held_entry e, here.held some, refl, refl, found some)
   ] refl
 
   module _ {E : K → K → Bool} {capacity most next : ℕ} (l : IsLawful E (cache_with capacity most next t)) where
@@ -96,6 +109,15 @@ module _ {K V : Type 0} {t : Entries K V} {p : ℕ} {e : Entry K V} (here : Gets
         ] in
         ap (λ x. E x k) (sym same) ∙ w.same_key
 
+    -- a held node that was found by its key is not detached
+    pub found_is : (k : K) → IsPlaceOfKey E t p k → e.pins ≢ 0 → e.detached ≡ false
+    found_is k w some =
+        let stamp : e.stamp ≡ w.stamp = stamp_is w.stamp w.at in
+        elim w.entry [
+          | inl i ↦ absurd (none-some (held_entry e) (sym (l.held_apart w.stamp i.0 i.1) ∙ ap (get t.held) (sym stamp) ∙ here.held some))
+          | inr h ↦ ap (λ x. x.detached) (sym (held_is w.stamp h.0 w.at h.1).1) ∙ h.4
+        ]
+
     -- a node that has not the greatest number of pins has fewer
     pub has_room : 0 < most → (e.pins ≡ most → ⊥) → e.pins < most
     has_room high other = elim (e.pins == 0) as (λ b. (e.pins == 0) ≡ b → e.pins < most) [
@@ -104,34 +126,34 @@ module _ {K V : Type 0} {t : Entries K V} {p : ℕ} {e : Entry K V} (here : Gets
     ] refl
 
     -- an entry with this key that is not ready; a held one
-    pub is_unready : (k : K) → IsEquivalence E → E e.key k ≡ true → (e.phase ≡ making) ⊎ (e.phase ≡ untaken) → e.pins ≢ 0 → IsUnready E (cache_with capacity most next t) k
-    is_unready k laws same phase some s a m entry equal =
+    pub is_unready : (k : K) → IsEquivalence E → E e.key k ≡ true → (e.phase ≡ making) ⊎ (e.phase ≡ untaken) → e.pins ≢ 0 → (e.pins ≢ 0 → e.detached ≡ false) → IsUnready E (cache_with capacity most next t) k
+    is_unready k laws same phase some found s a m entry equal =
         let keys : E a e.key ≡ true = laws.congr a k e.key equal ∙ laws.symm k e.key ∙ same in
-        let stamp : s ≡ e.stamp = l.one_entry s e.stamp a e.key m e.charge entry has_entry keys in
+        let stamp : s ≡ e.stamp = l.one_entry s e.stamp a e.key m e.charge entry (finds_entry found) keys in
         (held_entry e, ap (get t.held) stamp ∙ here.held some, phase)
 
-    pub is_not_idle : (k : K) → IsEquivalence E → E e.key k ≡ true → e.pins ≢ 0 → IsNotIdle E (cache_with capacity most next t) k
-    is_not_idle k laws same some s x idle =
+    pub is_not_idle : (k : K) → IsEquivalence E → E e.key k ≡ true → e.pins ≢ 0 → (e.pins ≢ 0 → e.detached ≡ false) → IsNotIdle E (cache_with capacity most next t) k
+    is_not_idle k laws same some found s x idle =
         elim (E x.key k) as (λ b. E x.key k ≡ b → b ≡ false) [
           | true ↦ λ b.
               let keys : E x.key e.key ≡ true = laws.congr x.key k e.key b ∙ laws.symm k e.key ∙ same in
-              let stamp : s ≡ e.stamp = l.one_entry s e.stamp x.key e.key x.charge e.charge (inl (x, idle, refl, refl)) has_entry keys in
+              let stamp : s ≡ e.stamp = l.one_entry s e.stamp x.key e.key x.charge e.charge (inl (x, idle, refl, refl)) (finds_entry found) keys in
               absurd (none-some (held_entry e) (sym (l.held_apart s x idle) ∙ ap (get t.held) stamp ∙ here.held some))
           | false ↦ λ _. refl
         ] refl
 
   module _ (E : K → K → Bool) (capacity most next : ℕ) where
-    pub would_hit : (k : K) (v : V) → e.pins < most → E e.key k ≡ true → e.phase ≡ ready v → WouldHit E (cache_with capacity most next t) k
-    would_hit k v room same phase = elim (e.pins == 0) as (λ b. (e.pins == 0) ≡ b → WouldHit E (cache_with capacity most next t) k) [
+    pub would_hit : (k : K) (v : V) → (e.pins ≢ 0 → e.detached ≡ false) → e.pins < most → E e.key k ≡ true → e.phase ≡ ready v → WouldHit E (cache_with capacity most next t) k
+    would_hit k v found room same phase = elim (e.pins == 0) as (λ b. (e.pins == 0) ≡ b → WouldHit E (cache_with capacity most next t) k) [
       | true ↦ λ b. inr (e.stamp, record { stamp = e.stamp; key = e.key; charge = e.charge; value = v }, idle_here v phase (eqb-true e.pins 0 b), same)
-      | false ↦ λ b. inl (e.stamp, held_entry e, v, record { at = here.held (λ none. true≢false (sym (eq-eqb e.pins 0 none) ∙ b)); phase = phase }, same, room)
+      | false ↦ λ b. let some : e.pins ≢ 0 = λ none. true≢false (sym (eq-eqb e.pins 0 none) ∙ b) in inl (e.stamp, held_entry e, v, record { at = here.held some; phase = phase }, same, room, found some)
     ] refl
 
-    pub is_full : (k : K) → 0 < most → E e.key k ≡ true → e.pins ≡ most → IsFull E (cache_with capacity most next t) k
-    is_full k high same full = record { stamp = e.stamp; entry = held_entry e; at = here.held (λ none. omega (arith, none, high, full)); same_key = same; full = full }
+    pub is_full : (k : K) → (e.pins ≢ 0 → e.detached ≡ false) → 0 < most → E e.key k ≡ true → e.pins ≡ most → IsFull E (cache_with capacity most next t) k
+    is_full k found high same full = let some : e.pins ≢ 0 = λ none. omega (arith, none, high, full) in record { stamp = e.stamp; entry = held_entry e; at = here.held some; found = found some; same_key = same; full = full }
 
-    pub get_overflows : (k : K) (v : V) → 0 < most → E e.key k ≡ true → e.pins ≡ most → e.phase ≡ ready v → Overflows E (cache_with capacity most next t) (ask.get k)
-    get_overflows k v high same full phase = (record { stamp = e.stamp; entry = held_entry e; at = here.held (λ none. omega (arith, none, high, full)); same_key = same; full = full }, v, phase)
+    pub get_overflows : (k : K) (v : V) → (e.pins ≢ 0 → e.detached ≡ false) → 0 < most → E e.key k ≡ true → e.pins ≡ most → e.phase ≡ ready v → Overflows E (cache_with capacity most next t) (ask.get k)
+    get_overflows k v found high same full phase = let some : e.pins ≢ 0 = λ none. omega (arith, none, high, full) in (record { stamp = e.stamp; entry = held_entry e; at = here.held some; found = found some; same_key = same; full = full }, v, phase)
 
   module _ (capacity most next : ℕ) where
     pub holds : (s : ℕ) (q : Phase V) → get t.stamps p ≡ Some s → e.pins ≢ 0 → e.phase ≡ q → Holds (cache_with capacity most next t) s (held_entry e) q

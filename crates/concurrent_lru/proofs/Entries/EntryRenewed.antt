@@ -53,10 +53,10 @@ module _ {K V S : Type 0} {C : K → K → Type 0} {E : K → K → Bool} {t t' 
   releases = record { at = inserted_at t.nodes p (entry_with_pins 1 e); nodes = w.nodes ∙ sym (insert_back t.nodes p (entry_with_pins 1 e) e w.at); stamp = refl }
 
   stored_between : IsStored C E (between t p e) by_key by_stamp
-  stored_between = stored_revived r pins refl refl refl
+  stored_between = stored_revived r pins refl refl refl refl
 
   pub stored_renewed : IsStored C E t' by_key by_stamp
-  stored_renewed = let l = idle_like r p e w.at w.there in stored_rested stored_between releases refl l.0 w.idle refl l.1 l.2
+  stored_renewed = let l = idle_like r p e w.at w.there in stored_rested stored_between releases refl refl l.0 w.idle refl l.1 l.2 (r.indexed.idle_kept p e w.at l.1)
 
   pub entries_renewed : RenewsAt (entries_of t) p (entries_of t')
   entries_renewed =
@@ -79,8 +79,9 @@ module _ {K V S : Type 0} {C : K → K → Type 0} {E : K → K → Bool} {t t' 
             at = place_at stored_between p (entry_with_pins 1 e) (inserted_at t.nodes p (entry_with_pins 1 e));
             held = held_found stored_between p (entry_with_pins 1 e) (inserted_at t.nodes p (entry_with_pins 1 e)) refl;
             phase = l.2;
+            found = r.indexed.idle_kept p e w.at l.1;
           };
-          changed = entries_rested stored_between releases refl l.0 w.idle refl l.1 l.2 (omega (arith, work));
+          changed = entries_rested stored_between releases refl refl l.0 w.idle refl l.1 l.2 (omega (arith, work));
         };
       }
 

@@ -10,11 +10,11 @@ use Rattle.std.specs.HashMap.Eq.{lookup_congr}
 use Rattle.std.proofs.lemmas.Bool.{true≢false, false_from_ne_true}
 use Rattle.std.proofs.lemmas.Option.{none-some}
 use Rattle.concurrent_lru.specs.NodeTable.{Entry, NodeTable, HasStampAt, IsNewStamp}
-use Rattle.concurrent_lru.specs.Entries.{ContainsEntry, ContainsNoStamp, ContainsNoKey, IsPlaceOfKey}
+use Rattle.concurrent_lru.specs.Entries.{ContainsEntry, FindsEntry, ContainsNoStamp, ContainsNoKey, IsPlaceOfKey}
 use Rattle.concurrent_lru.specs.Stamps.{keeps_map, mapped_place}
 use Rattle.concurrent_lru.specs.declared.table.stamps.Stamps.{Stamps}
 use Rattle.concurrent_lru.specs.Indexes.{IsStored, entries_of}
-use Rattle.concurrent_lru.proofs.Steps.BeginOfAbsent.{entry_node, node_entry}
+use Rattle.concurrent_lru.proofs.Steps.BeginOfAbsent.{entry_node, node_entry, node_found, found_node_of}
 use Rattle.concurrent_lru.proofs.Entries.PlacesOfNodes.{get_stamps}
 
 -- equal keys have the same place
@@ -25,6 +25,10 @@ module _ {K V S : Type 0} {C : K → K → Type 0} {E : K → K → Bool} {t : N
   -- a node is an entry
   pub entry_at : (p : ℕ) (e : Entry K V) → get t.nodes p ≡ Some e → ContainsEntry (entries_of t) e.stamp e.key e.charge
   entry_at p e h = node_entry 0 0 0 t (keys t.nodes) p e r.represents h
+
+  -- and found by its key where it is not detached
+  pub found_at : (p : ℕ) (e : Entry K V) → get t.nodes p ≡ Some e → e.detached ≡ false → FindsEntry (entries_of t) e.stamp e.key e.charge
+  found_at p e h found = node_found 0 0 0 t (keys t.nodes) p e r.represents h found
 
   pub stamp_at : (s p : ℕ) → HasStampAt t p s → get (entries_of t).stamps p ≡ Some s
   stamp_at s p n = get_stamps t.nodes p ∙ ap (option_map (λ x. x.stamp)) n.1 ∙ ap Some n.2
@@ -48,17 +52,18 @@ module _ {K V S : Type 0} {C : K → K → Type 0} {E : K → K → Bool} {t : N
 
   pub found_key : IsEquivalence E → (k : K) (o : Option ℕ) → o ≡ hash.get E by_key k → MatchOption o (ContainsNoKey E (entries_of t) k) (λ p. IsPlaceOfKey E (entries_of t) p k)
   found_key eq k None h = λ s l m e.
-      let n = entry_node 0 0 0 t (keys t.nodes) s l m r.represents e in
-      false_from_ne_true (E l k) (λ b. none-some n.place (h ∙ sym (alike_get eq by_key n.entry.key k (ap (λ x. E x k) n.key_is ∙ b)) ∙ r.indexed.key_found n.place n.entry n.at))
+      let w = found_node_of 0 0 0 t (keys t.nodes) s l m r.represents r.indexed.idle_kept e in
+      let n = w.node in
+      false_from_ne_true (E l k) (λ b. none-some n.place (h ∙ sym (alike_get eq by_key n.entry.key k (ap (λ x. E x k) n.key_is ∙ b)) ∙ r.indexed.key_found n.place n.entry n.at w.found))
   found_key eq k (Some p) h =
       let n = r.indexed.key_kept k p (sym h) in
-      record { stamp = n.0.stamp; key = n.0.key; charge = n.0.charge; at = get_stamps t.nodes p ∙ ap (option_map (λ x. x.stamp)) n.1; entry = entry_at p n.0 n.1; same_key = n.2 }
+      record { stamp = n.0.stamp; key = n.0.key; charge = n.0.charge; at = get_stamps t.nodes p ∙ ap (option_map (λ x. x.stamp)) n.1; entry = found_at p n.0 n.1 n.3; same_key = n.2 }
 
   -- what has no entry is not found
   pub lacks_key : (k : K) → ContainsNoKey E (entries_of t) k → hash.get E by_key k ≡ None
   lacks_key k none = elim (hash.get E by_key k) as (λ o. hash.get E by_key k ≡ o → o ≡ None) [
     | None ↦ λ h. refl
-    | Some p ↦ λ h. let n = r.indexed.key_kept k p h in absurd (true≢false (sym n.2 ∙ none n.0.stamp n.0.key n.0.charge (entry_at p n.0 n.1)))
+    | Some p ↦ λ h. let n = r.indexed.key_kept k p h in absurd (true≢false (sym n.2 ∙ none n.0.stamp n.0.key n.0.charge (found_at p n.0 n.1 n.3)))
   ] refl
 
   -- no node has a stamp that no entry has

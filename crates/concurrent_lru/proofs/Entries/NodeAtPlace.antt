@@ -10,7 +10,7 @@ use Rattle.std.proofs.lemmas.Option.{none-some, same_Some}
 use Rattle.concurrent_lru.specs.Cache.{Idle, Held, ready, idle_at, held_at}
 use Rattle.concurrent_lru.specs.NodeTable.{Entry, NodeTable, value_in, value_of}
 use Rattle.concurrent_lru.specs.Representation.{as_idle, held_entry, held_in, idle_in, idle_at_place}
-use Rattle.concurrent_lru.specs.Entries.{ContainsPlace, ContainsIdleAt, ContainsHeldAt, GetsAt, IsReadyAt, ContainsNoStamp, cache_of, pins_at, value_at}
+use Rattle.concurrent_lru.specs.Entries.{ContainsPlace, ContainsIdleAt, ContainsHeldAt, ContainsFoundAt, GetsAt, IsReadyAt, ContainsNoStamp, cache_of, pins_at, value_at}
 use Rattle.concurrent_lru.specs.declared.table.stamps.Stamps.{Stamps}
 use Rattle.concurrent_lru.specs.Indexes.{IsStored, entries_of}
 use Rattle.concurrent_lru.proofs.Entries.NodeWrittenOrAdded.{held_in-get, held_in-found}
@@ -113,6 +113,26 @@ module _ {K V S : Type 0} {C : K → K → Type 0} {E : K → K → Bool} {t : N
       let pinned = held_node p e (h.stamp, h.at, ap is_some h.held) at in
       let same : h.entry ≡ held_entry e = same_Some _ _ (sym h.held ∙ sym (ap (held_at (cache_of (entries_of t))) stamp) ∙ held_found p e at pinned) in
       (pinned, ap (λ y. y.phase) (sym same) ∙ h.phase)
+
+  pub ready_found : (p : ℕ) (e : Entry K V) → IsReadyAt (entries_of t) p → get t.nodes p ≡ Some e → e.detached ≡ false
+  ready_found p e h at =
+      let n = node_of p h.stamp h.at in
+      let stamp : e.stamp ≡ h.stamp = ap (λ y. y.stamp) (same_Some _ _ (sym at ∙ n.at)) ∙ n.stamp in
+      let pinned = held_node p e (h.stamp, h.at, ap is_some h.held) at in
+      let same : h.entry ≡ held_entry e = same_Some _ _ (sym h.held ∙ sym (ap (held_at (cache_of (entries_of t))) stamp) ∙ held_found p e at pinned) in
+      ap (λ y. y.detached) (sym same) ∙ h.found
+
+  -- a held one that is found by its key
+  pub found_place : (p : ℕ) → ContainsFoundAt (entries_of t) p → ContainsHeldAt (entries_of t) p
+  found_place p h = (h.0, h.1, ap is_some h.3)
+
+  pub found_node : (p : ℕ) (e : Entry K V) → ContainsFoundAt (entries_of t) p → get t.nodes p ≡ Some e → e.detached ≡ false
+  found_node p e h at =
+      let n = node_of p h.0 h.1 in
+      let stamp : e.stamp ≡ h.0 = ap (λ y. y.stamp) (same_Some _ _ (sym at ∙ n.at)) ∙ n.stamp in
+      let pinned = held_node p e (found_place p h) at in
+      let same : h.2 ≡ held_entry e = same_Some _ _ (sym h.3 ∙ sym (ap (held_at (cache_of (entries_of t))) stamp) ∙ held_found p e at pinned) in
+      ap (λ y. y.detached) (sym same) ∙ h.4
 
   -- each place in the map of keys is shown
   pub values_are_places : IsEquivalence E → hash.IsUnique E by_key → AllByRecursion (λ p. ContainsPlace (entries_of t) p) (hash.values by_key)

@@ -60,20 +60,20 @@ module _ {K V : Type 0} where
       let rest = absent_stamp m s xs (λ t x k. h t x (in_tail t q xs k)) in
       elim (get m q) as (λ o. get m q ≡ o → find nat_cmp s (cons_option (option_and_then as_held o) (filter_map (held_at_place m) xs)) ≡ None) [
         | None ↦ λ e. rest
-        | Some x ↦ λ e. elim (x.pins == 0) as (λ t. find nat_cmp s (cons_option (cond t None (Some (x.stamp, record { key = x.key; charge = x.charge; pins = x.pins; phase = x.phase }))) (filter_map (held_at_place m) xs)) ≡ None) [
+        | Some x ↦ λ e. elim (x.pins == 0) as (λ t. find nat_cmp s (cons_option (cond t None (Some (x.stamp, record { key = x.key; charge = x.charge; pins = x.pins; detached = x.detached; phase = x.phase }))) (filter_map (held_at_place m) xs)) ≡ None) [
           | true ↦ rest
-          | false ↦ elim (same s x.stamp) as (λ u. same s x.stamp ≡ u → cond u (Some (record { key = x.key; charge = x.charge; pins = x.pins; phase = x.phase })) (find nat_cmp s (filter_map (held_at_place m) xs)) ≡ None) [
+          | false ↦ elim (same s x.stamp) as (λ u. same s x.stamp ≡ u → cond u (Some (record { key = x.key; charge = x.charge; pins = x.pins; detached = x.detached; phase = x.phase })) (find nat_cmp s (filter_map (held_at_place m) xs)) ≡ None) [
             | true ↦ λ u. absurd (h q x (in_self q xs) e (sym (same-true s x.stamp u)))
             | false ↦ λ u. rest
           ] refl
         ]
       ] refl
 
-  pub as_held-some : (e : Entry K V) → (e.pins == 0) ≡ false → as_held e ≡ Some (e.stamp, record { key = e.key; charge = e.charge; pins = e.pins; phase = e.phase })
-  as_held-some e h = ap (λ t. cond t None (Some (e.stamp, record { key = e.key; charge = e.charge; pins = e.pins; phase = e.phase }))) h
+  pub as_held-some : (e : Entry K V) → (e.pins == 0) ≡ false → as_held e ≡ Some (e.stamp, record { key = e.key; charge = e.charge; pins = e.pins; detached = e.detached; phase = e.phase })
+  as_held-some e h = ap (λ t. cond t None (Some (e.stamp, record { key = e.key; charge = e.charge; pins = e.pins; detached = e.detached; phase = e.phase }))) h
 
   pub as_held-none : (e : Entry K V) → (e.pins == 0) ≡ true → as_held e ≡ None
-  as_held-none e h = ap (λ t. cond t None (Some (e.stamp, record { key = e.key; charge = e.charge; pins = e.pins; phase = e.phase }))) h
+  as_held-none e h = ap (λ t. cond t None (Some (e.stamp, record { key = e.key; charge = e.charge; pins = e.pins; detached = e.detached; phase = e.phase }))) h
 
   -- the parts beside a place lack its stamp
   pub parts_lack : (table : NodeTable K V) (places : List ℕ) (p : ℕ) (e : Entry K V) → IsRepresentation table places → get table.nodes p ≡ Some e → (r : Around places p) → (find nat_cmp e.stamp (filter_map (held_at_place table.nodes) r.front) ≡ None) × (find nat_cmp e.stamp (filter_map (held_at_place table.nodes) r.back) ≡ None)
@@ -84,14 +84,14 @@ module _ {K V : Type 0} where
       (lack r.front parts.0, lack r.back parts.1)
 
   -- a held node is found under its stamp
-  pub held_in-get : (table : NodeTable K V) (places : List ℕ) (p : ℕ) (e : Entry K V) → IsRepresentation table places → get table.nodes p ≡ Some e → (e.pins == 0) ≡ false → get (held_in table places) e.stamp ≡ Some (record { key = e.key; charge = e.charge; pins = e.pins; phase = e.phase })
+  pub held_in-get : (table : NodeTable K V) (places : List ℕ) (p : ℕ) (e : Entry K V) → IsRepresentation table places → get table.nodes p ≡ Some e → (e.pins == 0) ≡ false → get (held_in table places) e.stamp ≡ Some (record { key = e.key; charge = e.charge; pins = e.pins; detached = e.detached; phase = e.phase })
   held_in-get table places p e represents at pinned =
       let r = around places p (represents.all_places p e at) in
       let lack = parts_lack table places p e represents at r in
       get-from_entries nat_cmp_total (filter_map (held_at_place table.nodes) places) e.stamp
       ∙ ap (find nat_cmp e.stamp) (ap (filter_map (held_at_place table.nodes)) r.whole ∙ filter_map-mid (held_at_place table.nodes) p r.front r.back
       ∙ ap (λ o. filter_map (held_at_place table.nodes) r.front ++ cons_option o (filter_map (held_at_place table.nodes) r.back)) (ap (option_and_then as_held) at ∙ as_held-some e pinned))
-      ∙ find-mid e.stamp (record { key = e.key; charge = e.charge; pins = e.pins; phase = e.phase }) (filter_map (held_at_place table.nodes) r.front) (filter_map (held_at_place table.nodes) r.back) lack.0
+      ∙ find-mid e.stamp (record { key = e.key; charge = e.charge; pins = e.pins; detached = e.detached; phase = e.phase }) (filter_map (held_at_place table.nodes) r.front) (filter_map (held_at_place table.nodes) r.back) lack.0
 
   -- what is found under a stamp is a held node
   pub record IsNode (table : NodeTable K V) (s : ℕ) (h : Held K V) : Type 0 where
@@ -100,16 +100,16 @@ module _ {K V : Type 0} where
     pub at : get table.nodes place ≡ Some entry
     pub stamp : entry.stamp ≡ s
     pub pinned : (entry.pins == 0) ≡ false
-    pub held : h ≡ record { key = entry.key; charge = entry.charge; pins = entry.pins; phase = entry.phase }
+    pub held : h ≡ record { key = entry.key; charge = entry.charge; pins = entry.pins; detached = entry.detached; phase = entry.phase }
 
   found_node : (table : NodeTable K V) (xs : List ℕ) (s : ℕ) (h : Held K V) → find nat_cmp s (filter_map (held_at_place table.nodes) xs) ≡ Some h → IsNode table s h
   found_node table [] s h e = absurd (none-some h e)
   found_node table (q ∷ xs) s h e =
       elim (get table.nodes q) as (λ o. get table.nodes q ≡ o → find nat_cmp s (cons_option (option_and_then as_held o) (filter_map (held_at_place table.nodes) xs)) ≡ Some h → IsNode table s h) [
         | None ↦ λ o k. found_node table xs s h k
-        | Some x ↦ λ o. elim (x.pins == 0) as (λ t. (x.pins == 0) ≡ t → find nat_cmp s (cons_option (cond t None (Some (x.stamp, record { key = x.key; charge = x.charge; pins = x.pins; phase = x.phase }))) (filter_map (held_at_place table.nodes) xs)) ≡ Some h → IsNode table s h) [
+        | Some x ↦ λ o. elim (x.pins == 0) as (λ t. (x.pins == 0) ≡ t → find nat_cmp s (cons_option (cond t None (Some (x.stamp, record { key = x.key; charge = x.charge; pins = x.pins; detached = x.detached; phase = x.phase }))) (filter_map (held_at_place table.nodes) xs)) ≡ Some h → IsNode table s h) [
           | true ↦ λ t k. found_node table xs s h k
-          | false ↦ λ t. elim (same s x.stamp) as (λ u. same s x.stamp ≡ u → cond u (Some (record { key = x.key; charge = x.charge; pins = x.pins; phase = x.phase })) (find nat_cmp s (filter_map (held_at_place table.nodes) xs)) ≡ Some h → IsNode table s h) [
+          | false ↦ λ t. elim (same s x.stamp) as (λ u. same s x.stamp ≡ u → cond u (Some (record { key = x.key; charge = x.charge; pins = x.pins; detached = x.detached; phase = x.phase })) (find nat_cmp s (filter_map (held_at_place table.nodes) xs)) ≡ Some h → IsNode table s h) [
             | true ↦ λ u k. record { place = q; entry = x; at = o; stamp = sym (same-true s x.stamp u); pinned = t; held = sym (same_Some _ _ k) }
             | false ↦ λ u k. found_node table xs s h k
           ] refl
@@ -184,22 +184,22 @@ module _ {K V : Type 0} where
     lack = parts_lack old places p e r w.at place_around
 
     -- held before and after
-    pub written_held : (e.pins == 0) ≡ false → (f.pins == 0) ≡ false → held_in new places ≡ insert (held_in old places) e.stamp (record { key = f.key; charge = f.charge; pins = f.pins; phase = f.phase })
+    pub written_held : (e.pins == 0) ≡ false → (f.pins == 0) ≡ false → held_in new places ≡ insert (held_in old places) e.stamp (record { key = f.key; charge = f.charge; pins = f.pins; detached = f.detached; phase = f.phase })
     written_held h k =
         let a = filter_map (held_at_place old.nodes) place_around.front in
         let b = filter_map (held_at_place old.nodes) place_around.back in
-        ap from_entries (new_pairs ∙ ap (λ o. a ++ cons_option o b) (as_held-some f k) ∙ ap (λ s. a ++ (s, record { key = f.key; charge = f.charge; pins = f.pins; phase = f.phase }) ∷ b) w.stamp)
-        ∙ from_entries-changed e.stamp (record { key = e.key; charge = e.charge; pins = e.pins; phase = e.phase }) (record { key = f.key; charge = f.charge; pins = f.pins; phase = f.phase }) a b lack.0
-        ∙ ap (λ es. insert (from_entries es) e.stamp (record { key = f.key; charge = f.charge; pins = f.pins; phase = f.phase })) (sym (old_pairs ∙ ap (λ o. a ++ cons_option o b) (as_held-some e h)))
+        ap from_entries (new_pairs ∙ ap (λ o. a ++ cons_option o b) (as_held-some f k) ∙ ap (λ s. a ++ (s, record { key = f.key; charge = f.charge; pins = f.pins; detached = f.detached; phase = f.phase }) ∷ b) w.stamp)
+        ∙ from_entries-changed e.stamp (record { key = e.key; charge = e.charge; pins = e.pins; detached = e.detached; phase = e.phase }) (record { key = f.key; charge = f.charge; pins = f.pins; detached = f.detached; phase = f.phase }) a b lack.0
+        ∙ ap (λ es. insert (from_entries es) e.stamp (record { key = f.key; charge = f.charge; pins = f.pins; detached = f.detached; phase = f.phase })) (sym (old_pairs ∙ ap (λ o. a ++ cons_option o b) (as_held-some e h)))
 
     -- idle before, held after
-    pub revived_held : (e.pins == 0) ≡ true → (f.pins == 0) ≡ false → held_in new places ≡ insert (held_in old places) e.stamp (record { key = f.key; charge = f.charge; pins = f.pins; phase = f.phase })
+    pub revived_held : (e.pins == 0) ≡ true → (f.pins == 0) ≡ false → held_in new places ≡ insert (held_in old places) e.stamp (record { key = f.key; charge = f.charge; pins = f.pins; detached = f.detached; phase = f.phase })
     revived_held h k =
         let a = filter_map (held_at_place old.nodes) place_around.front in
         let b = filter_map (held_at_place old.nodes) place_around.back in
-        ap from_entries (new_pairs ∙ ap (λ o. a ++ cons_option o b) (as_held-some f k) ∙ ap (λ s. a ++ (s, record { key = f.key; charge = f.charge; pins = f.pins; phase = f.phase }) ∷ b) w.stamp)
-        ∙ from_entries-inserted e.stamp (record { key = f.key; charge = f.charge; pins = f.pins; phase = f.phase }) a b lack.0 lack.1
-        ∙ ap (λ es. insert (from_entries es) e.stamp (record { key = f.key; charge = f.charge; pins = f.pins; phase = f.phase })) (sym (old_pairs ∙ ap (λ o. a ++ cons_option o b) (as_held-none e h)))
+        ap from_entries (new_pairs ∙ ap (λ o. a ++ cons_option o b) (as_held-some f k) ∙ ap (λ s. a ++ (s, record { key = f.key; charge = f.charge; pins = f.pins; detached = f.detached; phase = f.phase }) ∷ b) w.stamp)
+        ∙ from_entries-inserted e.stamp (record { key = f.key; charge = f.charge; pins = f.pins; detached = f.detached; phase = f.phase }) a b lack.0 lack.1
+        ∙ ap (λ es. insert (from_entries es) e.stamp (record { key = f.key; charge = f.charge; pins = f.pins; detached = f.detached; phase = f.phase })) (sym (old_pairs ∙ ap (λ o. a ++ cons_option o b) (as_held-none e h)))
 
     -- held before, idle after
     pub rested_held : (e.pins == 0) ≡ false → (f.pins == 0) ≡ true → held_in new places ≡ remove (held_in old places) e.stamp
@@ -207,7 +207,7 @@ module _ {K V : Type 0} where
         let a = filter_map (held_at_place old.nodes) place_around.front in
         let b = filter_map (held_at_place old.nodes) place_around.back in
         ap from_entries (new_pairs ∙ ap (λ o. a ++ cons_option o b) (as_held-none f k))
-        ∙ from_entries-cut e.stamp (record { key = e.key; charge = e.charge; pins = e.pins; phase = e.phase }) a b lack.0 lack.1
+        ∙ from_entries-cut e.stamp (record { key = e.key; charge = e.charge; pins = e.pins; detached = e.detached; phase = e.phase }) a b lack.0 lack.1
         ∙ ap (λ es. remove (from_entries es) e.stamp) (sym (old_pairs ∙ ap (λ o. a ++ cons_option o b) (as_held-some e h)))
 
     -- a held node is written and stays held
@@ -358,15 +358,15 @@ module _ {K V : Type 0} where
         ap (filter_map (idle_at_place new.nodes)) a.idle
         ∙ filter_map-same (idle_at_place new.nodes) (idle_at_place old.nodes) old.idle (λ q m. ap (option_and_then as_idle) (added_other q (not_self q p old.idle idle_free' m)))
 
-    pub added_held : held_in new rest ≡ insert (held_in old places) e.stamp (record { key = e.key; charge = e.charge; pins = e.pins; phase = e.phase })
+    pub added_held : held_in new rest ≡ insert (held_in old places) e.stamp (record { key = e.key; charge = e.charge; pins = e.pins; detached = e.detached; phase = e.phase })
     added_held =
         let pairs = filter_map (held_at_place old.nodes) places in
-        let here : filter_map (held_at_place new.nodes) rest ≡ pairs ++ (e.stamp, record { key = e.key; charge = e.charge; pins = e.pins; phase = e.phase }) ∷ [] =
+        let here : filter_map (held_at_place new.nodes) rest ≡ pairs ++ (e.stamp, record { key = e.key; charge = e.charge; pins = e.pins; detached = e.detached; phase = e.phase }) ∷ [] =
         ap (filter_map (held_at_place new.nodes)) a.more ∙ filter_map-append (held_at_place new.nodes) places (p ∷ [])
         ∙ ap (λ xs. xs ++ cons_option (held_at_place new.nodes p) []) (filter_map-same (held_at_place new.nodes) (held_at_place old.nodes) places (λ q m. ap (option_and_then as_held) (added_other q (not_self q p places place_free m))))
         ∙ ap (λ o. pairs ++ cons_option (option_and_then as_held o) []) added_at
         ∙ ap (λ o. pairs ++ cons_option o []) (as_held-some e pinned') in
-        ap from_entries here ∙ from_entries-push e.stamp (record { key = e.key; charge = e.charge; pins = e.pins; phase = e.phase }) pairs (absent_stamp old.nodes e.stamp places (λ q x m h s. a.fresh q x h s))
+        ap from_entries here ∙ from_entries-push e.stamp (record { key = e.key; charge = e.charge; pins = e.pins; detached = e.detached; phase = e.phase }) pairs (absent_stamp old.nodes e.stamp places (λ q x m h s. a.fresh q x h s))
 
 module _ {K V : Type 0} {old new : NodeTable K V} {places : List ℕ} {p : ℕ} {e f : Entry K V} (r : IsRepresentation old places) (w : WritesNode old new p e f) where
   -- an idle node is held again

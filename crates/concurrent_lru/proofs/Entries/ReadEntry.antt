@@ -19,7 +19,7 @@ use Rattle.concurrent_lru.proofs.Entries.SumsOfCharges.{sum_revived, sum_rested}
 use Rattle.concurrent_lru.proofs.Steps.StaysLawful.{hits_lawful}
 use Rattle.concurrent_lru.proofs.Steps.Release.{rests_lawful}
 
-module _ {K V : Type 0} (E : K → K → Bool) (capacity most next : ℕ) {t : Entries K V} {p : ℕ} {e : Entry K V} (here : GetsAt t p e) (k : K) (v : V) (equal : E e.key k ≡ true) (room : e.pins < most) (phase : e.phase ≡ ready v) where
+module _ {K V : Type 0} (E : K → K → Bool) (capacity most next : ℕ) {t : Entries K V} {p : ℕ} {e : Entry K V} (here : GetsAt t p e) (k : K) (v : V) (equal : E e.key k ≡ true) (room : e.pins < most) (phase : e.phase ≡ ready v) (found : e.pins ≢ 0 → e.detached ≡ false) where
   -- the entry as an idle one
   abbrev shown : Idle K V
   shown = record { stamp = e.stamp; key = e.key; charge = e.charge; value = v }
@@ -29,14 +29,14 @@ module _ {K V : Type 0} (E : K → K → Bool) (capacity most next : ℕ) {t : E
   joined = record t { held = insert t.held e.stamp (held_with_pins (e.pins + 1) (held_entry e)) }
 
   joins : e.pins ≢ 0 → Hits E (cache_with capacity most next t) k e.stamp v [] (cache_with capacity most next joined)
-  joins some = inl (joins_as_it_is E capacity most next here joined k (ready v) equal some room phase (record { stamp = e.stamp; entry = held_entry e; at = here.at; held = here.held some; changed = refl }))
+  joins some = inl (joins_as_it_is E capacity most next here joined k (ready v) (found some) equal some room phase (record { stamp = e.stamp; entry = held_entry e; at = here.at; held = here.held some; changed = refl }))
 
   -- the table where an idle one is pinned
   abbrev revived : Entries K V
   revived = record t { idle = without e.stamp t.idle; held = insert t.held e.stamp (held_by_one shown); work = t.work + 1 }
 
   found_idle : (u : Entries K V) → pins_at t p ≡ e.pins → e.pins ≡ 0 → RevivesAt t p u → Hits E (cache_with capacity most next t) k e.stamp v [] (cache_with capacity most next u)
-  found_idle u same none w = hits E capacity most next here u k v equal room phase same (λ _. w) (λ some. absurd (some (same ∙ none)))
+  found_idle u same none w = hits E capacity most next here u k v found equal room phase same (λ _. w) (λ some. absurd (some (same ∙ none)))
 
   pub finds : pins_at t p ≡ e.pins → Finds E (cache_with capacity most next t) k v
   finds same = elim (e.pins == 0) as (λ b. (e.pins == 0) ≡ b → Finds E (cache_with capacity most next t) k v) [
@@ -72,11 +72,12 @@ module _ {K V : Type 0} (E : K → K → Bool) (capacity most next : ℕ) {t : E
         let b = w.rested in
         let stamp : a.stamp ≡ e.stamp = sym (stamp_is here a.stamp a.at) in
         let is : a.entry ≡ shown = same_Some _ _ (sym a.idle ∙ ap (idle_at (cache_of t)) stamp ∙ idle_here here v phase none) in
-        let held : get w.mid.held e.stamp ≡ Some (held_entry (entry_with_pins 1 e)) =
+        let pinned : Entry K V = record e { pins = 1; detached = false } in
+        let held : get w.mid.held e.stamp ≡ Some (held_entry pinned) =
         ap (λ x. get x.held e.stamp) a.changed ∙ (λ j. get (insert t.held (stamp j) (held_by_one (is j))) e.stamp) ∙ inserted_at t.held e.stamp (held_by_one shown)
-        ∙ (λ j. Some (record { key = e.key; charge = e.charge; pins = 1; phase = sym phase j })) in
+        ∙ (λ j. Some (record { key = e.key; charge = e.charge; pins = 1; detached = false; phase = sym phase j })) in
         let at : get w.mid.stamps p ≡ Some e.stamp = ap (λ x. get x.stamps p) a.changed ∙ here.at in
-        let there : GetsAt w.mid p (entry_with_pins 1 e) = record { at = at; idle = λ z. absurd (omega (arith, z)); held = λ _. held } in
+        let there : GetsAt w.mid p pinned = record { at = at; idle = λ z. absurd (omega (arith, z)); held = λ _. held } in
         let first : charges_of w.mid ≡ charges_of t = sum_revived t w.mid a.stamp a.entry (held_by_one a.entry) l.idle_apart (ap (λ x. x.idle) a.changed) (ap (λ x. x.held) a.changed) a.idle (l.held_apart a.stamp a.entry a.idle) refl in
         let second : charges_of u ≡ charges_of w.mid = sum_rested w.mid u b.was.stamp b.was.entry (idle_again b.was.stamp b.was.entry b.was.value) (ap (λ x. x.idle) b.changed) (ap (λ x. x.held) b.changed) b.was.held refl in
         let few : capacity < charges_of t → ⊥ = λ over. none-some a.entry (sym (ap (find (λ x. x.stamp == a.stamp)) (l.settled over)) ∙ a.idle) in
@@ -84,7 +85,7 @@ module _ {K V : Type 0} (E : K → K → Bool) (capacity most next : ℕ) {t : E
         rests E capacity most next there u u e.stamp [] at refl b refl front
 
     pub read_idle : (u : Entries K V) → pins_at t p ≡ e.pins → e.pins ≡ 0 → RenewsAt t p u → GetsAndReleases E (cache_with capacity most next t) k e.stamp v (cache_with capacity most next u)
-    read_idle u same none w = (cache_with capacity most next w.mid, found_idle w.mid same none w.revived, (cache_with capacity most next u, inr (rested u none w), refl))
+    read_idle u same none w = (cache_with capacity most next w.mid, found_idle w.mid same none w.revived, (cache_with capacity most next u, inr (inl (rested u none w)), refl))
 
     pub read_lawful : (u : Entries K V) → IsEquivalence E → pins_at t p ≡ e.pins → e.pins ≡ 0 → RenewsAt t p u → IsLawful E (cache_with capacity most next u)
     read_lawful u laws same none w =

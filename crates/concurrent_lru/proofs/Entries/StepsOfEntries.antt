@@ -8,7 +8,7 @@ use Rattle.std.specs.FinMap.{FinMap, get, insert, remove, get-insert, same_map, 
 use Rattle.std.proofs.lemmas.Bool.{true≢false, eqb-true, eq-eqb}
 use Rattle.std.proofs.lemmas.Option.{same_Some}
 use Rattle.concurrent_lru.specs.Cache.{Phase, making, ready, Idle, Held, IsFront, Settles, idle_at}
-use Rattle.concurrent_lru.specs.Steps.{ChangesPhase, held_in_phase, IsAbsent, Makes, Joins, Revives, Hits, Leaves, Removes, Rests, Drops, held_by_one, without, with_capacity}
+use Rattle.concurrent_lru.specs.Steps.{ChangesPhase, held_in_phase, held_detached, Ends, Detaches, IsAbsent, Makes, Joins, Revives, Hits, Leaves, Removes, Rests, Drops, held_by_one, without, with_capacity}
 use Rattle.concurrent_lru.specs.NodeTable.{Entry}
 use Rattle.concurrent_lru.specs.Representation.{held_entry, as_idle}
 use Rattle.concurrent_lru.specs.Entries.{Entries, cache_with, cache_of, charges_of, new_held, GetsAt, ContainsHeldAt, Rewrites, RevivesAt, RestsAt, pins_at, held_with_pins}
@@ -78,13 +78,13 @@ module _ {K V : Type 0} (E : K → K → Bool) (capacity most next : ℕ) where
 
   module _ {t : Entries K V} {p : ℕ} {e : Entry K V} (here : GetsAt t p e) where
     -- begin on a held key
-    pub joins : (u : Entries K V) (k : K) (a b : Phase V) → E e.key k ≡ true → e.pins ≢ 0 → e.pins < most → e.phase ≡ a → u ≡ record t { held = insert t.held e.stamp (held_in_phase b (held_with_pins (e.pins + 1) (held_entry e))) }
+    pub joins : (u : Entries K V) (k : K) (a b : Phase V) → e.detached ≡ false → E e.key k ≡ true → e.pins ≢ 0 → e.pins < most → e.phase ≡ a → u ≡ record t { held = insert t.held e.stamp (held_in_phase b (held_with_pins (e.pins + 1) (held_entry e))) }
         → Joins E (cache_with capacity most next t) k e.stamp a b [] (cache_with capacity most next u)
-    joins u k a b equal some room phase is = record { entry = held_entry e; holds = record { at = here.held some; phase = phase }; same_key = equal; room = room; changed = ap (cache_with capacity most next) is; none = refl }
+    joins u k a b found equal some room phase is = record { entry = held_entry e; holds = record { at = here.held some; phase = phase }; found = found; same_key = equal; room = room; changed = ap (cache_with capacity most next) is; none = refl }
 
-    pub joins_as_it_is : (u : Entries K V) (k : K) (q : Phase V) → E e.key k ≡ true → e.pins ≢ 0 → e.pins < most → e.phase ≡ q → Rewrites (held_with_pins (e.pins + 1)) t p u
+    pub joins_as_it_is : (u : Entries K V) (k : K) (q : Phase V) → e.detached ≡ false → E e.key k ≡ true → e.pins ≢ 0 → e.pins < most → e.phase ≡ q → Rewrites (held_with_pins (e.pins + 1)) t p u
         → Joins E (cache_with capacity most next t) k e.stamp q q [] (cache_with capacity most next u)
-    joins_as_it_is u k q equal some room phase w = joins u k q q equal some room phase (pinned here some u (e.pins + 1) q phase w)
+    joins_as_it_is u k q found equal some room phase w = joins u k q q found equal some room phase (pinned here some u (e.pins + 1) q phase w)
 
     -- begin or get on an idle key
     revives : (u : Entries K V) (k : K) (v : V) → E e.key k ≡ true → e.pins ≡ 0 → e.phase ≡ ready v → RevivesAt t p u → Revives E (cache_with capacity most next t) k e.stamp v [] (cache_with capacity most next u)
@@ -102,13 +102,13 @@ module _ {K V : Type 0} (E : K → K → Bool) (capacity most next : ℕ) where
         }
 
     -- on a ready key
-    pub hits : (u : Entries K V) (k : K) (v : V) → E e.key k ≡ true → e.pins < most → e.phase ≡ ready v → pins_at t p ≡ e.pins → (pins_at t p ≡ 0 → RevivesAt t p u) → (pins_at t p ≢ 0 → Rewrites (held_with_pins (pins_at t p + 1)) t p u)
+    pub hits : (u : Entries K V) (k : K) (v : V) → (e.pins ≢ 0 → e.detached ≡ false) → E e.key k ≡ true → e.pins < most → e.phase ≡ ready v → pins_at t p ≡ e.pins → (pins_at t p ≡ 0 → RevivesAt t p u) → (pins_at t p ≢ 0 → Rewrites (held_with_pins (pins_at t p + 1)) t p u)
         → Hits E (cache_with capacity most next t) k e.stamp v [] (cache_with capacity most next u)
-    hits u k v equal room phase pinned revived held = elim (e.pins == 0) as (λ b. (e.pins == 0) ≡ b → Hits E (cache_with capacity most next t) k e.stamp v [] (cache_with capacity most next u)) [
+    hits u k v found equal room phase pinned revived held = elim (e.pins == 0) as (λ b. (e.pins == 0) ≡ b → Hits E (cache_with capacity most next t) k e.stamp v [] (cache_with capacity most next u)) [
       | true ↦ λ b. let none = eqb-true e.pins 0 b in inr (revives u k v equal none phase (revived (pinned ∙ none)))
       | false ↦ λ b.
           let some : e.pins ≢ 0 = λ none. true≢false (sym (eq-eqb e.pins 0 none) ∙ b) in
-          inl (joins_as_it_is u k (ready v) equal some room phase (subst (λ n. Rewrites (held_with_pins (n + 1)) t p u) pinned (held (λ none. some (sym pinned ∙ none)))))
+          inl (joins_as_it_is u k (ready v) (found some) equal some room phase (subst (λ n. Rewrites (held_with_pins (n + 1)) t p u) pinned (held (λ none. some (sym pinned ∙ none)))))
     ] refl
 
     -- poll and ready
@@ -153,12 +153,34 @@ module _ {K V : Type 0} (E : K → K → Bool) (capacity most next : ℕ) where
           entry = held_entry e;
           value = w.was.value;
           holds = record { at = there; phase = ap (λ h. h.phase) (sym is) ∙ w.was.phase };
+          found = ap (λ h. h.detached) (sym is) ∙ w.was.found;
           last = last;
           settles = record {
             front = subst (λ (m : Entries K V). IsFront (charges_of m) capacity m.idle out u.idle) changed front;
             others = λ j. record { capacity = capacity; most_pins = most; next = next; idle = u.idle; held = (held ∙ ap (λ m. m.held) changed) j };
           };
         }
+
+    -- release of the last pin of a detached one: the node d was taken away
+    pub ends : (u : Entries K V) (s : ℕ) (v : V) (d : Entry K V) (out : List (Idle K V)) → get t.stamps p ≡ Some s → e.phase ≡ ready v → e.detached ≡ true → e.pins ≡ 1 → get t.stamps p ≡ Some d.stamp → get t.held d.stamp ≡ Some (held_entry d) → u.idle ≡ t.idle → u.held ≡ remove t.held d.stamp → out ≡ filter_map as_idle (d ∷ [])
+        → Ends E (cache_with capacity most next t) s out (cache_with capacity most next u)
+    ends u s v d out at phase lost last taken entry idle held one =
+        let stamp : d.stamp ≡ s = same_Some _ _ (sym taken ∙ at) in
+        let is : held_entry d ≡ held_entry e = same_Some _ _ (sym entry ∙ ap (get t.held) (sym (stamp_is here d.stamp taken)) ∙ here.held (λ none. omega (arith, none, last))) in
+        let is_ready : d.phase ≡ ready v = ap (λ h. h.phase) is ∙ phase in
+        record {
+          entry = held_entry d;
+          value = v;
+          holds = record { at = ap (get t.held) (sym stamp) ∙ entry; phase = is_ready };
+          lost = ap (λ h. h.detached) is ∙ lost;
+          last = ap (λ h. h.pins) is ∙ last;
+          changed = λ j. record { capacity = capacity; most_pins = most; next = next; idle = idle j; held = (held ∙ ap (remove t.held) stamp) j };
+          one = one ∙ ap (λ o. cons_option o []) (as_idle-ready d v is_ready) ∙ (λ j. record { stamp = stamp j; key = d.key; charge = d.charge; value = v } ∷ []);
+        }
+
+    -- invalidate on a held key
+    pub detaches : (u : Entries K V) (k : K) → e.detached ≡ false → E e.key k ≡ true → e.pins ≢ 0 → Rewrites held_detached t p u → Detaches E (cache_with capacity most next t) k [] (cache_with capacity most next u)
+    detaches u k found equal some w = record { stamp = e.stamp; entry = held_entry e; at = here.held some; found = found; same_key = equal; changed = ap (cache_with capacity most next) (rewritten here some w); none = refl }
 
     -- fail of the last pin: the node d was taken away
     pub removes : (u : Entries K V) (s : ℕ) (d : Entry K V) → get t.stamps p ≡ Some s → e.phase ≡ making → e.pins ≡ 1 → get t.stamps p ≡ Some d.stamp → get t.held d.stamp ≡ Some (held_entry d) → u.idle ≡ t.idle → u.held ≡ remove t.held d.stamp

@@ -172,8 +172,8 @@ module _ {K V : Type 0} (E : K → K → Bool) (price : K → ℕ) (eq : IsEquiv
   pub made_used : (old one two new : Cache K V) (k : K) (c s : ℕ) (v : V) (out1 out2 out3 : List (Idle K V)) (ks : List K) → IsLawful E old → old.held ≡ finmap.empty → Paired E price old.idle ks → c ≡ price k
       → Makes E old k c s out1 one → ChangesPhase E one s making (ready v) out2 two → Rests E two s out3 new → IsUsed E price old new k ks
   made_used old one two new k c s v out1 out2 out3 ks l alone pairs charged m t r =
-      let e : Held K V = record { key = m.copy; charge = c; pins = 1; phase = making } in
-      let f : Held K V = record { key = m.copy; charge = c; pins = 1; phase = ready v } in
+      let e : Held K V = record { key = m.copy; charge = c; pins = 1; detached = false; phase = making } in
+      let f : Held K V = record { key = m.copy; charge = c; pins = 1; detached = false; phase = ready v } in
       let held1 : one.held ≡ finmap.insert finmap.empty s e = ap (λ z. z.held) m.settles.others ∙ ap (λ n. finmap.insert n s e) alone in
       let is : t.entry ≡ e = same_Some _ _ (sym t.holds.at ∙ ap (λ n. finmap.get n s) held1 ∙ inserted_at finmap.empty s e) in
       let held2 : two.held ≡ finmap.insert finmap.empty s f = ap (λ z. z.held) t.changed ∙ ap (λ n. finmap.insert n s (held_in_phase (ready v) t.entry)) held1 ∙ put_again finmap.empty s e (held_in_phase (ready v) t.entry) ∙ ap (λ x. finmap.insert finmap.empty s (held_in_phase (ready v) x)) is in

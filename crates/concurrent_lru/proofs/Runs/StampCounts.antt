@@ -8,7 +8,7 @@ use Rattle.std.proofs.lemmas.Bool.{eqb-true, eq-eqb, ne_eqb, cases_lt}
 use Rattle.std.proofs.lemmas.Option.{none-some, same_Some}
 use Rattle.std.proofs.lemmas.List.Sums.{sum_by-append, sum_by-cons}
 use Rattle.concurrent_lru.specs.Cache.{Cache, Idle, Held, making, untaken, ready, Settles, held_at}
-use Rattle.concurrent_lru.specs.Steps.{Step, Makes, Removes, Rests, Stays, Drops, Hits, without, held_in_phase, one_more_pin, one_pin_less, held_by_one, idle_again}
+use Rattle.concurrent_lru.specs.Steps.{Step, Makes, Removes, Rests, Stays, Drops, Hits, without, held_in_phase, one_more_pin, one_pin_less, held_by_one, idle_again, Ends, held_detached}
 use Rattle.concurrent_lru.specs.Request as ask
 use Rattle.concurrent_lru.specs.Request.{Request}
 use Rattle.concurrent_lru.specs.Reply as say
@@ -155,7 +155,7 @@ module _ {K V : Type 0} where
 module _ {K V : Type 0} (E : K → K → Bool) where
   makes_moves : (old new : Cache K V) (k : K) (c s : ℕ) (out : List (Idle K V)) → IsStamped old → Makes E old k c s out new → (new.next ≡ old.next + 1) × ((q : ℕ) → stamp_count_in_list q out + stamp_count_in_cache new q ≡ stamp_count_in_cache old q + one_if (old.next == q))
   makes_moves old new k c s out i m =
-      let e : Held K V = record { key = m.copy; charge = c; pins = 1; phase = making } in
+      let e : Held K V = record { key = m.copy; charge = c; pins = 1; detached = false; phase = making } in
       let mid : Cache K V = record old { held = finmap.insert old.held s e; next = old.next + 1 } in (
         ap (λ z. z.next) m.settles.others,
         λ q.
@@ -209,6 +209,19 @@ module _ {K V : Type 0} (E : K → K → Bool) where
         omega (arith, z, i, h, c),
   )
 
+  ends_moves : (old new : Cache K V) (s : ℕ) (out : List (Idle K V)) → Ends E old s out new → (new.next ≡ old.next) × ((q : ℕ) → stamp_count_in_list q out + stamp_count_in_cache new q ≡ stamp_count_in_cache old q)
+  ends_moves old new s out r =
+      let x : Idle K V = idle_again s r.entry r.value in (
+        ap (λ c. c.next) r.changed,
+        λ q.
+            let z : stamp_count_in_list q out ≡ stamp_count_in_list q (x ∷ []) = ap (stamp_count_in_list q) r.one in
+            let o : stamp_count_in_list q (x ∷ []) ≡ one_if (s == q) = omega arith in
+            let i : stamp_count_in_list q new.idle ≡ stamp_count_in_list q old.idle = ap (λ c. stamp_count_in_list q c.idle) r.changed in
+            let h : there new.held q ≡ there (finmap.remove old.held s) q = ap (λ c. there c.held q) r.changed in
+            let c : there (finmap.remove old.held s) q + one_if (s == q) ≡ there old.held q = there_gone old.held s r.entry q r.holds.at in
+            omega (arith, z, o, i, h, c),
+      )
+
   stays_moves : (old new : Cache K V) (out : List (Idle K V)) → Stays E old out new → (new.next ≡ old.next) × ((q : ℕ) → stamp_count_in_list q out + stamp_count_in_cache new q ≡ stamp_count_in_cache old q)
   stays_moves old new out s = (
     ap (λ c. c.next) s.same,
@@ -258,11 +271,21 @@ module _ {K V : Type 0} (E : K → K → Bool) where
   step_moves old new (ask.get k) say.missed out i h = inl (stays_moves old new out h.1)
   step_moves old new (ask.release s) say.done out i h = elim h [
     | inl l ↦ inl (same_stamp_count old new s l.1.entry (held_in_phase (ready l.0) (one_pin_less l.1.entry)) out l.1.holds.at l.1.changed l.1.none)
-    | inr r ↦ inl (rests_moves old new s out r)
+    | inr b ↦ elim b [
+      | inl r ↦ inl (rests_moves old new s out r)
+      | inr r ↦ inl (ends_moves old new s out r)
+    ]
   ]
   step_moves old new (ask.advice_evict k) say.done out i h = elim h [
     | inl d ↦ inl (drops_moves old new k out i d)
     | inr s ↦ inl (stays_moves old new out s.1)
+  ]
+  step_moves old new (ask.invalidate k) say.done out i h = elim h [
+    | inl d ↦ inl (drops_moves old new k out i d)
+    | inr b ↦ elim b [
+      | inl d ↦ inl (same_stamp_count old new d.stamp d.entry (held_detached d.entry) out d.at d.changed d.none)
+      | inr s ↦ inl (stays_moves old new out s.1)
+    ]
   ]
   step_moves old new ask.prune say.done out i h = inl (prunes_moves old new out h.0 h.1)
   step_moves old new (ask.set_capacity c) say.done out i h = inl (ap (λ z. z.next) h.others, λ q. settled_stamp_count (record old { capacity = c }) new out q h)

@@ -110,11 +110,21 @@ module _ {K V : Type 0} (E : K → K → Bool) where
   step_given old mid (ask.get k) say.missed out es n i h t = subst (Told es n) (ap (λ z. z.next) h.1.same) t
   step_given old mid (ask.release s) say.done out es n i h t = elim h [
     | inl l ↦ subst (Told es n) (ap (λ z. z.next) l.1.changed) t
-    | inr r ↦ subst (Told es n) (ap (λ z. z.next) r.settles.others) t
+    | inr b ↦ elim b [
+      | inl r ↦ subst (Told es n) (ap (λ z. z.next) r.settles.others) t
+      | inr r ↦ subst (Told es n) (ap (λ z. z.next) r.changed) t
+    ]
   ]
   step_given old mid (ask.advice_evict k) say.done out es n i h t = elim h [
     | inl d ↦ subst (Told es n) (ap (λ z. z.next) d.changed) t
     | inr s ↦ subst (Told es n) (ap (λ z. z.next) s.1.same) t
+  ]
+  step_given old mid (ask.invalidate k) say.done out es n i h t = elim h [
+    | inl d ↦ subst (Told es n) (ap (λ z. z.next) d.changed) t
+    | inr b ↦ elim b [
+      | inl d ↦ subst (Told es n) (ap (λ z. z.next) d.changed) t
+      | inr s ↦ subst (Told es n) (ap (λ z. z.next) s.1.same) t
+    ]
   ]
   step_given old mid ask.prune say.done out es n i h t = subst (Told es n) (ap (λ z. z.next) h.1) t
   step_given old mid (ask.set_capacity c) say.done out es n i h t = subst (Told es n) (ap (λ z. z.next) h.others) t

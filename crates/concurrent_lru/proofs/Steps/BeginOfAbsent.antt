@@ -6,7 +6,7 @@ use Rattle.std.specs.Cmp.{IsEquivalence}
 use Rattle.std.specs.FinMap as finmap
 use Rattle.std.proofs.lemmas.Bool.{eqb-true, eq-eqb, ne_eqb, true≢false}
 use Rattle.std.proofs.lemmas.Option.{none-some, same_Some}
-use Rattle.concurrent_lru.specs.Cache.{Cache, Idle, making, ready, IsEntry, IsLawful, Settles, idle_at, held_at, sum_of}
+use Rattle.concurrent_lru.specs.Cache.{Cache, Idle, making, ready, IsEntry, IsFound, IsLawful, Settles, idle_at, held_at, sum_of}
 use Rattle.concurrent_lru.specs.Steps.{IsAbsent, Makes, with_held}
 use Rattle.concurrent_lru.specs.NodeTable.{Entry, NodeTable}
 use Rattle.concurrent_lru.specs.Representation.{IsRepresentation, held_entry, held_charges, cache_in, as_idle, idle_at_place}
@@ -71,6 +71,30 @@ module _ {K V : Type 0} where
         record { place = n.place; entry = n.entry; at = n.at; stamp = n.stamp; key_is = ap (λ y. y.key) (sym n.held) ∙ h.2; charge_is = ap (λ y. y.charge) (sym n.held) ∙ h.3 }
   ]
 
+  -- an entry that is found by its key is a node's, which is not detached, where idle nodes are not
+  pub record IsFoundNodeOf (table : NodeTable K V) (s : ℕ) (key : K) (charge : ℕ) : Type 0 where
+    pub node : IsNodeOf table s key charge
+    pub found : node.entry.detached ≡ false
+
+  pub found_node_of : (capacity most next : ℕ) (table : NodeTable K V) (places : List ℕ) (s : ℕ) (key : K) (charge : ℕ) → IsRepresentation table places → ((p : ℕ) (e : Entry K V) → finmap.get table.nodes p ≡ Some e → e.pins ≡ 0 → e.detached ≡ false) → IsFound (cache_in capacity most next table places) s key charge → IsFoundNodeOf table s key charge
+  found_node_of capacity most next table places s key charge r rests e = elim e [
+    | inl i ↦
+        let n = found_idle table s i.0 table.idle (λ q m. m) i.1 in
+        let w = r.idle_ready n.place n.«in» in
+        let same : w.0 ≡ n.entry = same_Some _ _ (sym w.2 ∙ n.at) in
+        let p = idle_parts n.entry w.1 i.0 (ap (λ y. y.phase) (sym same) ∙ w.4) n.idle in
+        record {
+          node = record { place = n.place; entry = n.entry; at = n.at; stamp = p.0 ∙ eqb-true i.0.stamp s n.stamp; key_is = p.1 ∙ i.2; charge_is = p.2 ∙ i.3 };
+          found = rests n.place n.entry n.at (ap (λ y. y.pins) (sym same) ∙ w.3);
+        }
+    | inr h ↦
+        let n = held_in-found table places s h.0 h.1 in
+        record {
+          node = record { place = n.place; entry = n.entry; at = n.at; stamp = n.stamp; key_is = ap (λ y. y.key) (sym n.held) ∙ h.2; charge_is = ap (λ y. y.charge) (sym n.held) ∙ h.3 };
+          found = ap (λ y. y.detached) (sym n.held) ∙ h.4;
+        }
+  ]
+
   -- no idle entry of these places has the stamp
   pub lacks : (table : NodeTable K V) (s : ℕ) (xs : List ℕ) → ((q : ℕ) → IsIn q xs → IsIn q table.idle) → ((q : ℕ) (x : Entry K V) → IsIn q xs → finmap.get table.nodes q ≡ Some x → x.stamp ≡ s → ⊥) → (places : List ℕ) → IsRepresentation table places → find (λ z. z.stamp == s) (filter_map (idle_at_place table.nodes) xs) ≡ None
   lacks table s [] all none places r = refl
@@ -111,9 +135,21 @@ module _ {K V : Type 0} where
         | false ↦ λ b. inr (held_entry e, held_in-get table places p e r at b, refl, refl)
       ] refl
 
+  -- and found by its key where it is not detached
+  pub node_found : (capacity most next : ℕ) (table : NodeTable K V) (places : List ℕ) (p : ℕ) (e : Entry K V) → IsRepresentation table places → finmap.get table.nodes p ≡ Some e → e.detached ≡ false → IsFound (cache_in capacity most next table places) e.stamp e.key e.charge
+  node_found capacity most next table places p e r at found =
+      elim (e.pins == 0) as (λ b. (e.pins == 0) ≡ b → IsFound (cache_in capacity most next table places) e.stamp e.key e.charge) [
+        | true ↦ λ b.
+            let m = r.resting p e at (eqb-true e.pins 0 b) in
+            let w = r.idle_ready p m in
+            let same : w.0 ≡ e = same_Some _ _ (sym w.2 ∙ at) in
+            inl (record { stamp = e.stamp; key = e.key; charge = e.charge; value = w.1 }, idle_in-get capacity most next table places p e w.1 r at m (ap (λ y. y.phase) (sym same) ∙ w.4), refl, refl)
+        | false ↦ λ b. inr (held_entry e, held_in-get table places p e r at b, refl, refl, found)
+      ] refl
+
   -- one entry more
   abbrev pub with_new_entry : Cache K V → K → ℕ → Cache K V
-  with_new_entry c copy charge = record (with_held c c.next (record { key = copy; charge = charge; pins = 1; phase = making })) { next = c.next + 1 }
+  with_new_entry c copy charge = record (with_held c c.next (record { key = copy; charge = charge; pins = 1; detached = false; phase = making })) { next = c.next + 1 }
 
   pub next_free : (E : K → K → Bool) (c : Cache K V) → IsOrderly E c → held_at c c.next ≡ None
   next_free E c o = elim (held_at c c.next) as (λ q. held_at c c.next ≡ q → q ≡ None) [
@@ -127,20 +163,32 @@ module _ {K V : Type 0} where
     | inr h ↦ elim (eqb s c.next) as (λ b. eqb s c.next ≡ b → (IsEntry c s k m) ⊎ ((s ≡ c.next) × (copy ≡ k) × (charge ≡ m))) [
       | true ↦ λ b.
           let here : s ≡ c.next = eqb-true s c.next b in
-          let is = same_Some _ _ (sym (inserted_at c.held c.next (record { key = copy; charge = charge; pins = 1; phase = making })) ∙ ap (finmap.get (finmap.insert c.held c.next (record { key = copy; charge = charge; pins = 1; phase = making }))) (sym here) ∙ h.1) in
+          let is = same_Some _ _ (sym (inserted_at c.held c.next (record { key = copy; charge = charge; pins = 1; detached = false; phase = making })) ∙ ap (finmap.get (finmap.insert c.held c.next (record { key = copy; charge = charge; pins = 1; detached = false; phase = making }))) (sym here) ∙ h.1) in
           inr (here, ap (λ x. x.key) is ∙ h.2, ap (λ x. x.charge) is ∙ h.3)
-      | false ↦ λ b. inl (inr (h.0, sym (inserted_other c.held c.next s (record { key = copy; charge = charge; pins = 1; phase = making }) b) ∙ h.1, h.2, h.3))
+      | false ↦ λ b. inl (inr (h.0, sym (inserted_other c.held c.next s (record { key = copy; charge = charge; pins = 1; detached = false; phase = making }) b) ∙ h.1, h.2, h.3))
+    ] refl
+  ]
+
+  made_found : (c : Cache K V) (copy : K) (charge s : ℕ) (k : K) (m : ℕ) → IsFound (with_new_entry c copy charge) s k m → (IsFound c s k m) ⊎ ((s ≡ c.next) × (copy ≡ k) × (charge ≡ m))
+  made_found c copy charge s k m e = elim e [
+    | inl i ↦ inl (inl i)
+    | inr h ↦ elim (eqb s c.next) as (λ b. eqb s c.next ≡ b → (IsFound c s k m) ⊎ ((s ≡ c.next) × (copy ≡ k) × (charge ≡ m))) [
+      | true ↦ λ b.
+          let here : s ≡ c.next = eqb-true s c.next b in
+          let is = same_Some _ _ (sym (inserted_at c.held c.next (record { key = copy; charge = charge; pins = 1; detached = false; phase = making })) ∙ ap (finmap.get (finmap.insert c.held c.next (record { key = copy; charge = charge; pins = 1; detached = false; phase = making }))) (sym here) ∙ h.1) in
+          inr (here, ap (λ x. x.key) is ∙ h.2, ap (λ x. x.charge) is ∙ h.3)
+      | false ↦ λ b. inl (inr (h.0, sym (inserted_other c.held c.next s (record { key = copy; charge = charge; pins = 1; detached = false; phase = making }) b) ∙ h.1, h.2, h.3, h.4))
     ] refl
   ]
 
   pub orderly-made : (E : K → K → Bool) (c : Cache K V) (k copy : K) (charge : ℕ) → IsEquivalence E → IsOrderly E c → IsAbsent E c k → E copy k ≡ true → 0 < charge → 0 < c.most_pins → IsOrderly E (with_new_entry c copy charge)
   orderly-made E c k copy charge eq o absent same some pins = record {
-    one_entry = λ s t a b m n x y e. elim (made_entry c copy charge s a m x) [
-      | inl u ↦ elim (made_entry c copy charge t b n y) [
+    one_entry = λ s t a b m n x y e. elim (made_found c copy charge s a m x) [
+      | inl u ↦ elim (made_found c copy charge t b n y) [
         | inl v ↦ o.one_entry s t a b m n u v e
         | inr v ↦ absurd (true≢false (sym (eq.congr a copy k (ap (E a) v.1 ∙ e) ∙ same) ∙ absent s a m u))
       ]
-      | inr u ↦ elim (made_entry c copy charge t b n y) [
+      | inr u ↦ elim (made_found c copy charge t b n y) [
         | inl v ↦ absurd (true≢false (sym (sym (eq.congr copy b k (ap (λ z. E z b) u.1 ∙ e)) ∙ same) ∙ absent t b n v))
         | inr v ↦ u.0 ∙ sym v.0
       ]
@@ -151,7 +199,7 @@ module _ {K V : Type 0} where
           let low : s < c.next = o.below_next s x.key x.charge (inl (x, i, refl, refl)) in
           let here : s ≡ c.next = eqb-true s c.next b in
           absurd (omega (arith, low, here))
-      | false ↦ λ b. inserted_other c.held c.next s (record { key = copy; charge = charge; pins = 1; phase = making }) b ∙ o.held_apart s x i
+      | false ↦ λ b. inserted_other c.held c.next s (record { key = copy; charge = charge; pins = 1; detached = false; phase = making }) b ∙ o.held_apart s x i
     ] refl;
     below_next = λ s a m x. elim (made_entry c copy charge s a m x) [
       | inl u ↦ let low : s < c.next = o.below_next s a m u in omega (arith, low)
@@ -163,16 +211,16 @@ module _ {K V : Type 0} where
     ];
     pinned = λ s e h. elim (eqb s c.next) as (λ b. eqb s c.next ≡ b → (0 < e.pins) × (e.pins ≤ c.most_pins)) [
       | true ↦ λ b.
-          let is = same_Some _ _ (sym h ∙ ap (finmap.get (finmap.insert c.held c.next (record { key = copy; charge = charge; pins = 1; phase = making }))) (eqb-true s c.next b) ∙ inserted_at c.held c.next (record { key = copy; charge = charge; pins = 1; phase = making })) in
+          let is = same_Some _ _ (sym h ∙ ap (finmap.get (finmap.insert c.held c.next (record { key = copy; charge = charge; pins = 1; detached = false; phase = making }))) (eqb-true s c.next b) ∙ inserted_at c.held c.next (record { key = copy; charge = charge; pins = 1; detached = false; phase = making })) in
           let one : e.pins ≡ 1 = ap (λ x. x.pins) is in
           (omega (arith, one), omega (arith, one))
-      | false ↦ λ b. o.pinned s e (sym (inserted_other c.held c.next s (record { key = copy; charge = charge; pins = 1; phase = making }) b) ∙ h)
+      | false ↦ λ b. o.pinned s e (sym (inserted_other c.held c.next s (record { key = copy; charge = charge; pins = 1; detached = false; phase = making }) b) ∙ h)
     ] refl;
   }
 
   pub sum-made : (E : K → K → Bool) (c : Cache K V) (copy : K) (charge : ℕ) → IsOrderly E c → sum_of (with_new_entry c copy charge) ≡ sum_of c + charge
   sum-made E c copy charge o =
-      let a : held_charges (finmap.insert c.held c.next (record { key = copy; charge = charge; pins = 1; phase = making })) ≡ held_charges c.held + charge = sum-insert (λ e. e.charge) c.held c.next (record { key = copy; charge = charge; pins = 1; phase = making }) (next_free E c o) in
+      let a : held_charges (finmap.insert c.held c.next (record { key = copy; charge = charge; pins = 1; detached = false; phase = making })) ≡ held_charges c.held + charge = sum-insert (λ e. e.charge) c.held c.next (record { key = copy; charge = charge; pins = 1; detached = false; phase = making }) (next_free E c o) in
       omega (arith, a)
 
   pub makes_lawful : (E : K → K → Bool) (old new : Cache K V) (k : K) (charge s : ℕ) (out : List (Idle K V)) → IsEquivalence E → IsLawful E old → 0 < charge → 0 < old.most_pins → Makes E old k charge s out new → IsLawful E new
@@ -180,4 +228,4 @@ module _ {K V : Type 0} where
       let o = orderly l in
       settles_lawful E (with_new_entry old m.copy charge) new out (orderly-made E old k m.copy charge eq o m.absent m.same_key some pins)
       (subst (λ n. n < 2 ^ 64) (sym (sum-made E old m.copy charge o)) m.fits.0)
-      (subst (λ t. Settles (record (with_held old t (record { key = m.copy; charge = charge; pins = 1; phase = making })) { next = old.next + 1 }) out new) m.stamp m.settles)
+      (subst (λ t. Settles (record (with_held old t (record { key = m.copy; charge = charge; pins = 1; detached = false; phase = making })) { next = old.next + 1 }) out new) m.stamp m.settles)

@@ -52,4 +52,4 @@ module _ {K V : Type 0} where
   pub joins_lawful : (E : K → K → Bool) (old new : Cache K V) (k : K) (s : ℕ) (a b : Phase V) (out : List (Idle K V)) → IsLawful E old → Joins E old k s a b out new → IsLawful E new
   joins_lawful E old new k s a b out l j =
       let room = j.room in
-      subst (IsLawful E) (sym j.changed) (lawful-with_held E old s j.entry (steps.held_in_phase b (steps.one_more_pin j.entry)) l j.holds.at refl refl (omega arith) (omega (arith, room)))
+      subst (IsLawful E) (sym j.changed) (lawful-with_held E old s j.entry (steps.held_in_phase b (steps.one_more_pin j.entry)) l j.holds.at refl refl (λ h. h) (omega arith) (omega (arith, room)))

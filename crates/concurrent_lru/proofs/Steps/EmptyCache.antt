@@ -6,6 +6,7 @@ use Rattle.std.specs.FinMap.{empty, get-empty, values, len-empty, len-entries, e
 use Rattle.std.proofs.lemmas.Option.{none-some}
 use Rattle.std.proofs.lemmas.List.{nil_from_length}
 use Rattle.concurrent_lru.specs.Cache.{Held, IsEntry, IsLawful, empty_cache, sum_of}
+use Rattle.concurrent_lru.proofs.Steps.FoundEntries.{found_entry}
 
 pub no_entries : {X : Type 0} → entries (empty {X = X} {R = nat_cmp}) ≡ []
 no_entries {X} = nil_from_length (entries (empty {X = X} {R = nat_cmp})) (sym (len-entries (empty {X = X} {R = nat_cmp})) ∙ len-empty nat_cmp X)
@@ -22,7 +23,7 @@ module _ {K V : Type 0} where
   pub empty_lawful : (E : K → K → Bool) (capacity most next : ℕ) → IsLawful E (empty_cache {K = K} {V = V} capacity most next)
   unfolding IsDistinct
   empty_lawful E capacity most next = record {
-    one_entry = λ s t k l m n a b e. absurd (no_entry capacity most next s k m a);
+    one_entry = λ s t k l m n a b e. absurd (no_entry capacity most next s k m (found_entry (empty_cache capacity most next) s k m a));
     idle_apart = tt;
     held_apart = λ s x h. absurd (none-some x h);
     below_next = λ s k m a. absurd (no_entry capacity most next s k m a);

@@ -7,7 +7,7 @@ use Rattle.std.proofs.lemmas.Bool.{eqb-true}
 use Rattle.std.proofs.lemmas.Option.{none-some, same_Some}
 use Rattle.std.proofs.lemmas.List.{map-append}
 use Rattle.std.proofs.lemmas.List.Sums.{sum_by-append}
-use Rattle.concurrent_lru.specs.Cache.{Cache, Idle, Held, IsEntry, IsLawful, Settles, idle_at, held_at, sum_of, charges}
+use Rattle.concurrent_lru.specs.Cache.{Cache, Idle, Held, IsEntry, IsLawful, Settles, IsFound, idle_at, held_at, sum_of, charges}
 use Rattle.concurrent_lru.specs.Steps.{with_capacity, with_held}
 use Rattle.concurrent_lru.specs.Representation.{held_charges}
 use Rattle.concurrent_lru.proofs.Entries.NodeWrittenOrAdded.{inserted_at, inserted_other}
@@ -21,7 +21,7 @@ distinct_rest (x ∷ a) b d = distinct_rest a b d.1
 module _ {K V : Type 0} where
   -- a lawful cache, but for its sum
   pub record IsOrderly (E : K → K → Bool) (c : Cache K V) : Type 0 where
-    pub one_entry : (s t : ℕ) (k l : K) (m n : ℕ) → IsEntry c s k m → IsEntry c t l n → E k l ≡ true → s ≡ t
+    pub one_entry : (s t : ℕ) (k l : K) (m n : ℕ) → IsFound c s k m → IsFound c t l n → E k l ≡ true → s ≡ t
     pub idle_apart : IsDistinct eqb (map (λ x. x.stamp) c.idle)
     pub held_apart : (s : ℕ) (x : Idle K V) → idle_at c s ≡ Some x → held_at c s ≡ None
     pub below_next : (s : ℕ) (k : K) (m : ℕ) → IsEntry c s k m → s < c.next
@@ -35,11 +35,11 @@ module _ {K V : Type 0} where
   lawful_from o fits stops = record { one_entry = o.one_entry; idle_apart = o.idle_apart; held_apart = o.held_apart; below_next = o.below_next; charged = o.charged; pinned = o.pinned; sum_fits = fits; settled = stops }
 
   -- no entry is new
-  pub orderly_fewer : (E : K → K → Bool) (old new : Cache K V) → IsOrderly E old → ((s : ℕ) (k : K) (m : ℕ) → IsEntry new s k m → IsEntry old s k m) → new.next ≡ old.next
+  pub orderly_fewer : (E : K → K → Bool) (old new : Cache K V) → IsOrderly E old → ((s : ℕ) (k : K) (m : ℕ) → IsEntry new s k m → IsEntry old s k m) → ((s : ℕ) (k : K) (m : ℕ) → IsFound new s k m → IsFound old s k m) → new.next ≡ old.next
       → IsDistinct eqb (map (λ x. x.stamp) new.idle) → ((s : ℕ) (x : Idle K V) → idle_at new s ≡ Some x → held_at new s ≡ None)
       → ((s : ℕ) (e : Held K V) → held_at new s ≡ Some e → (0 < e.pins) × (e.pins ≤ new.most_pins)) → IsOrderly E new
-  orderly_fewer E old new o was next apart beside pins = record {
-    one_entry = λ s t k l m n a b e. o.one_entry s t k l m n (was s k m a) (was t l n b) e;
+  orderly_fewer E old new o was found next apart beside pins = record {
+    one_entry = λ s t k l m n a b e. o.one_entry s t k l m n (found s k m a) (found t l n b) e;
     idle_apart = apart;
     held_apart = beside;
     below_next = λ s k m a. subst (λ n. s < n) (sym next) (o.below_next s k m (was s k m a));
@@ -47,9 +47,9 @@ module _ {K V : Type 0} where
     pinned = pins;
   }
 
-  -- a held entry is written, and keeps its key and charge
-  pub orderly-with_held : (E : K → K → Bool) (c : Cache K V) (s : ℕ) (e f : Held K V) → IsOrderly E c → held_at c s ≡ Some e → f.key ≡ e.key → f.charge ≡ e.charge → 0 < f.pins → f.pins ≤ c.most_pins → IsOrderly E (with_held c s f)
-  orderly-with_held E c s e f o at key charge low high = orderly_fewer E c (with_held c s f) o
+  -- a held entry is written, and keeps its key and charge; it is not found where it was not
+  pub orderly-with_held : (E : K → K → Bool) (c : Cache K V) (s : ℕ) (e f : Held K V) → IsOrderly E c → held_at c s ≡ Some e → f.key ≡ e.key → f.charge ≡ e.charge → (f.detached ≡ false → e.detached ≡ false) → 0 < f.pins → f.pins ≤ c.most_pins → IsOrderly E (with_held c s f)
+  orderly-with_held E c s e f o at key charge found low high = orderly_fewer E c (with_held c s f) o
       (λ t k m a. elim a [
         | inl i ↦ inl i
         | inr h ↦ elim (eqb t s) as (λ b. eqb t s ≡ b → IsEntry c t k m) [
@@ -58,6 +58,16 @@ module _ {K V : Type 0} where
               let is : h.0 ≡ f = same_Some _ _ (sym h.1 ∙ ap (finmap.get (finmap.insert c.held s f)) here ∙ inserted_at c.held s f) in
               inr (e, ap (finmap.get c.held) here ∙ at, sym (ap (λ x. x.key) is ∙ key) ∙ h.2, sym (ap (λ x. x.charge) is ∙ charge) ∙ h.3)
           | false ↦ λ b. inr (h.0, sym (inserted_other c.held s t f b) ∙ h.1, h.2, h.3)
+        ] refl
+      ])
+      (λ t k m a. elim a [
+        | inl i ↦ inl i
+        | inr h ↦ elim (eqb t s) as (λ b. eqb t s ≡ b → IsFound c t k m) [
+          | true ↦ λ b.
+              let here : t ≡ s = eqb-true t s b in
+              let is : h.0 ≡ f = same_Some _ _ (sym h.1 ∙ ap (finmap.get (finmap.insert c.held s f)) here ∙ inserted_at c.held s f) in
+              inr (e, ap (finmap.get c.held) here ∙ at, sym (ap (λ x. x.key) is ∙ key) ∙ h.2, sym (ap (λ x. x.charge) is ∙ charge) ∙ h.3, found (sym (ap (λ x. x.detached) is) ∙ h.4))
+          | false ↦ λ b. inr (h.0, sym (inserted_other c.held s t f b) ∙ h.1, h.2, h.3, h.4)
         ] refl
       ])
       refl o.idle_apart
@@ -78,10 +88,10 @@ module _ {K V : Type 0} where
       let a : held_charges (finmap.insert c.held s f) + e.charge ≡ held_charges c.held + f.charge = sum-change (λ x. x.charge) c.held s e f at in
       omega (arith, a, charge)
 
-  pub lawful-with_held : (E : K → K → Bool) (c : Cache K V) (s : ℕ) (e f : Held K V) → IsLawful E c → held_at c s ≡ Some e → f.key ≡ e.key → f.charge ≡ e.charge → 0 < f.pins → f.pins ≤ c.most_pins → IsLawful E (with_held c s f)
-  lawful-with_held E c s e f l at key charge low high =
+  pub lawful-with_held : (E : K → K → Bool) (c : Cache K V) (s : ℕ) (e f : Held K V) → IsLawful E c → held_at c s ≡ Some e → f.key ≡ e.key → f.charge ≡ e.charge → (f.detached ≡ false → e.detached ≡ false) → 0 < f.pins → f.pins ≤ c.most_pins → IsLawful E (with_held c s f)
+  lawful-with_held E c s e f l at key charge found low high =
       let sum : sum_of (with_held c s f) ≡ sum_of c = sum-with_held c s e f at charge in
-      lawful_from (orderly-with_held E c s e f (orderly l) at key charge low high) (subst (λ n. n < 2 ^ 64) (sym sum) l.sum_fits) (λ more. l.settled (subst (λ n. c.capacity < n) sum more))
+      lawful_from (orderly-with_held E c s e f (orderly l) at key charge found low high) (subst (λ n. n < 2 ^ 64) (sym sum) l.sum_fits) (λ more. l.settled (subst (λ n. c.capacity < n) sum more))
 
   -- where something is found in the rest of a list of distinct stamps, it is found in the whole
   pub find_rest : (s : ℕ) (x : Idle K V) (a b : List (Idle K V)) → IsDistinct eqb (map (λ y. y.stamp) (a ++ b)) → find (λ y. y.stamp == s) b ≡ Some x → find (λ y. y.stamp == s) (a ++ b) ≡ Some x
@@ -103,6 +113,7 @@ module _ {K V : Type 0} where
   settles_lawful E old new out o fits s =
       subst (IsLawful E) (sym s.others) (lawful_from
       (orderly_fewer E old (record old { idle = new.idle }) o
+      (λ t k m a. elim a [ inl i ↦ inl (i.0, whole t i.0 i.1, i.2, i.3) | inr h ↦ inr h ])
       (λ t k m a. elim a [ inl i ↦ inl (i.0, whole t i.0 i.1, i.2, i.3) | inr h ↦ inr h ])
       refl (distinct_rest (map (λ x. x.stamp) out) (map (λ x. x.stamp) new.idle) (subst (IsDistinct eqb) (map-append (λ x. x.stamp) out new.idle) apart))
       (λ t x i. o.held_apart t x (whole t x i)) o.pinned)

@@ -6,7 +6,7 @@ use Rattle.std.specs.Cmp.{nat_cmp_total}
 use Rattle.std.specs.FinMap.{FinMap, get, remove, get-remove}
 use Rattle.std.proofs.lemmas.Option.{none-some}
 use Rattle.concurrent_lru.specs.Cache.{Cache, Idle, IsLawful, sum_of, charges}
-use Rattle.concurrent_lru.specs.Steps.{without_held, without, Removes, Drops}
+use Rattle.concurrent_lru.specs.Steps.{without_held, without, Removes, Drops, Ends}
 use Rattle.concurrent_lru.specs.Representation.{held_charges}
 use Rattle.concurrent_lru.proofs.Lists.DistinctEntries.{same}
 use Rattle.concurrent_lru.proofs.Lists.Removals.{removed_some}
@@ -30,10 +30,20 @@ module _ {K V : Type 0} where
         | inl i ↦ inl i
         | inr h ↦ inr (h.0, (removed_some c.held s t h.0 h.1).1, h.2, h.3)
       ])
+      (λ t k m a. elim a [
+        | inl i ↦ inl i
+        | inr h ↦ inr (h.0, (removed_some c.held s t h.0 h.1).1, h.2, h.3, h.4)
+      ])
       refl o.idle_apart (λ t x i. still_none c.held s t (o.held_apart t x i)) (λ t x h. o.pinned t x (removed_some c.held s t x h).1)
 
   pub removes_lawful : (E : K → K → Bool) (old new : Cache K V) (s : ℕ) (k : K) (out : List (Idle K V)) → IsLawful E old → Removes E old s k out new → IsLawful E new
   removes_lawful E old new s k out l r =
+      let a : held_charges (remove old.held s) + r.entry.charge ≡ held_charges old.held = sum-remove (λ x. x.charge) old.held s r.entry r.holds.at in
+      let fits : sum_of old < 2 ^ 64 = l.sum_fits in
+      subst (IsLawful E) (sym r.changed) (lawful_from (orderly-removed E old s (orderly l)) (omega (arith, a, fits)) (λ more. l.settled (omega (arith, a, more))))
+
+  pub ends_lawful : (E : K → K → Bool) (old new : Cache K V) (s : ℕ) (out : List (Idle K V)) → IsLawful E old → Ends E old s out new → IsLawful E new
+  ends_lawful E old new s out l r =
       let a : held_charges (remove old.held s) + r.entry.charge ≡ held_charges old.held = sum-remove (λ x. x.charge) old.held s r.entry r.holds.at in
       let fits : sum_of old < 2 ^ 64 = l.sum_fits in
       subst (IsLawful E) (sym r.changed) (lawful_from (orderly-removed E old s (orderly l)) (omega (arith, a, fits)) (λ more. l.settled (omega (arith, a, more))))
@@ -44,6 +54,10 @@ module _ {K V : Type 0} where
 
   orderly-dropped : (E : K → K → Bool) (c : Cache K V) (s : ℕ) → IsOrderly E c → IsOrderly E (dropped c s)
   orderly-dropped E c s o = orderly_fewer E c (dropped c s) o
+      (λ t k m a. elim a [
+        | inl i ↦ inl (i.0, (find_without s t i.0 c.idle i.1).0, i.2, i.3)
+        | inr h ↦ inr h
+      ])
       (λ t k m a. elim a [
         | inl i ↦ inl (i.0, (find_without s t i.0 c.idle i.1).0, i.2, i.3)
         | inr h ↦ inr h
@@ -62,6 +76,10 @@ module _ {K V : Type 0} where
   orderly-pruned : (E : K → K → Bool) (c : Cache K V) → IsOrderly E c → IsOrderly E (record c { idle = [] })
   unfolding IsDistinct
   orderly-pruned E c o = orderly_fewer E c (record c { idle = [] }) o
+      (λ t k m a. elim a [
+        | inl i ↦ absurd (none-some i.0 i.1)
+        | inr h ↦ inr h
+      ])
       (λ t k m a. elim a [
         | inl i ↦ absurd (none-some i.0 i.1)
         | inr h ↦ inr h

@@ -39,14 +39,21 @@ module _ {K V : Type 0} where
   abbrev pub rested : Cache K V → ℕ → Held K V → V → Cache K V
   rested c s e v = record (without_held c s) { idle = c.idle ++ idle_again s e v ∷ [] }
 
-  pub orderly-rested : (E : K → K → Bool) (c : Cache K V) (s : ℕ) (e : Held K V) (v : V) → IsOrderly E c → held_at c s ≡ Some e → IsOrderly E (rested c s e v)
-  orderly-rested E c s e v o at = orderly_fewer E c (rested c s e v) o
+  pub orderly-rested : (E : K → K → Bool) (c : Cache K V) (s : ℕ) (e : Held K V) (v : V) → IsOrderly E c → held_at c s ≡ Some e → e.detached ≡ false → IsOrderly E (rested c s e v)
+  orderly-rested E c s e v o at found = orderly_fewer E c (rested c s e v) o
       (λ t k m a. elim a [
         | inl i ↦ elim (find_push t (idle_again s e v) i.0 c.idle i.1) [
           | inl b ↦ inl (i.0, b, i.2, i.3)
           | inr b ↦ inr (e, ap (finmap.get c.held) (sym (eqb-true s t b.0)) ∙ at, ap (λ x. x.key) b.1 ∙ i.2, ap (λ x. x.charge) b.1 ∙ i.3)
         ]
         | inr h ↦ inr (h.0, (removed_some c.held s t h.0 h.1).1, h.2, h.3)
+      ])
+      (λ t k m a. elim a [
+        | inl i ↦ elim (find_push t (idle_again s e v) i.0 c.idle i.1) [
+          | inl b ↦ inl (i.0, b, i.2, i.3)
+          | inr b ↦ inr (e, ap (finmap.get c.held) (sym (eqb-true s t b.0)) ∙ at, ap (λ x. x.key) b.1 ∙ i.2, ap (λ x. x.charge) b.1 ∙ i.3, found)
+        ]
+        | inr h ↦ inr (h.0, (removed_some c.held s t h.0 h.1).1, h.2, h.3, h.4)
       ])
       refl
       (subst (IsDistinct eqb) (sym (map-append (λ x. x.stamp) c.idle (idle_again s e v ∷ []))) (IsDistinct-push nat_eq_equiv (map (λ x. x.stamp) c.idle) s o.idle_apart (not_a_stamp s c.idle not_idle)))

@@ -5,7 +5,7 @@ use Rattle.std.specs.FinMap as finmap
 use Rattle.std.specs.Cmp.{nat_eq_equiv}
 use Rattle.std.proofs.lemmas.Bool.{eqb-true, eq-eqb, true≢false}
 use Rattle.std.proofs.lemmas.Option.{none-some, same_Some}
-use Rattle.concurrent_lru.specs.Cache.{Cache, Idle, IsEntry, IsLawful, idle_at, sum_of, charges}
+use Rattle.concurrent_lru.specs.Cache.{Cache, Idle, IsEntry, IsFound, IsLawful, idle_at, sum_of, charges}
 use Rattle.concurrent_lru.specs.Steps.{with_held, without, held_by_one, Revives}
 use Rattle.concurrent_lru.specs.Representation.{held_charges}
 use Rattle.concurrent_lru.proofs.Entries.NodeWrittenOrAdded.{inserted_at, inserted_other}
@@ -67,6 +67,16 @@ module _ {K V : Type 0} where
               let is : h.0 ≡ held_by_one x = same_Some _ _ (sym h.1 ∙ ap (finmap.get (finmap.insert c.held s (held_by_one x))) here ∙ inserted_at c.held s (held_by_one x)) in
               inl (x, ap (λ u. find (λ z. z.stamp == u) c.idle) here ∙ at, sym (ap (λ y. y.key) is) ∙ h.2, sym (ap (λ y. y.charge) is) ∙ h.3)
           | false ↦ λ b. inr (h.0, sym (inserted_other c.held s t (held_by_one x) b) ∙ h.1, h.2, h.3)
+        ] refl
+      ])
+      (λ t k m a. elim a [
+        | inl i ↦ inl (i.0, (find_without s t i.0 c.idle i.1).0, i.2, i.3)
+        | inr h ↦ elim (eqb t s) as (λ b. eqb t s ≡ b → IsFound c t k m) [
+          | true ↦ λ b.
+              let here : t ≡ s = eqb-true t s b in
+              let is : h.0 ≡ held_by_one x = same_Some _ _ (sym h.1 ∙ ap (finmap.get (finmap.insert c.held s (held_by_one x))) here ∙ inserted_at c.held s (held_by_one x)) in
+              inl (x, ap (λ u. find (λ z. z.stamp == u) c.idle) here ∙ at, sym (ap (λ y. y.key) is) ∙ h.2, sym (ap (λ y. y.charge) is) ∙ h.3)
+          | false ↦ λ b. inr (h.0, sym (inserted_other c.held s t (held_by_one x) b) ∙ h.1, h.2, h.3, h.4)
         ] refl
       ])
       refl (subst (IsDistinct eqb) (sym (map_without s c.idle)) (IsDistinct-filter s (map (λ x. x.stamp) c.idle) o.idle_apart))

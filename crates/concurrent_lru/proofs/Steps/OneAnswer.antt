@@ -10,13 +10,13 @@ use Rattle.concurrent_lru.specs.Request as ask
 use Rattle.concurrent_lru.specs.Request.{Request}
 use Rattle.concurrent_lru.specs.Reply as say
 use Rattle.concurrent_lru.specs.Reply.{Reply}
-use Rattle.concurrent_lru.specs.Steps.{with_held, with_capacity, without_held, without, held_in_phase, one_more_pin, one_pin_less, held_by_one, idle_again, Makes, Joins, Revives, Hits, ChangesPhase, Leaves, Removes, Rests, Stays, Drops, IsAbsent, IsUnready, IsNotIdle, Step}
+use Rattle.concurrent_lru.specs.Steps.{with_held, with_capacity, without_held, without, held_in_phase, held_detached, one_more_pin, one_pin_less, held_by_one, idle_again, Makes, Joins, Revives, Hits, ChangesPhase, Leaves, Removes, Rests, Stays, Drops, Ends, Detaches, IsAbsent, IsUnready, IsNotIdle, Step}
 use Rattle.concurrent_lru.specs.StepLaws.{AreAlike, IsAlike, LeadsToOne, OneAnswer}
 use Rattle.concurrent_lru.proofs.Steps.BeginOfAbsent.{with_new_entry, sum-made}
 use Rattle.concurrent_lru.proofs.Lists.DistinctEntries.{same}
 use Rattle.concurrent_lru.proofs.Steps.OneFront.{one_front}
 use Rattle.concurrent_lru.proofs.Steps.LawfulAfterChange.{orderly}
-use Rattle.concurrent_lru.proofs.Steps.CasesOfSteps.{reply_in_phase, phase_after_asking, begin_cases, poll_cases, ready_cases, fail_cases, get_cases, release_cases, advice_evict_cases, prune_cases, set_capacity_cases, total_cases}
+use Rattle.concurrent_lru.proofs.Steps.CasesOfSteps.{reply_in_phase, phase_after_asking, begin_cases, poll_cases, ready_cases, fail_cases, get_cases, release_cases, advice_evict_cases, invalidate_cases, prune_cases, set_capacity_cases, total_cases}
 
 pub same_value : {V : Type 0} (v w : V) → ready v ≡ ready w → v ≡ w
 same_value v w h = cc
@@ -67,6 +67,16 @@ module _ {K V : Type 0} (E : K → K → Bool) where
       settles_once (record (without_held old s) { idle = old.idle ++ idle_again s b.entry b.value ∷ [] }) out away new other
       (subst (λ c. Settles c out new) (λ i. record (without_held old s) { idle = old.idle ++ idle_again s (e i) (v i) ∷ [] }) a.settles) b.settles
 
+  ends_once : (old : Cache K V) (s : ℕ) (out away : List (Idle K V)) (new other : Cache K V) → Ends E old s out new → Ends E old s away other → (out ≡ away) × (new ≡ other)
+  ends_once old s out away new other a b =
+      let e = same_entry old s a.entry b.entry a.holds.at b.holds.at in
+      let v : a.value ≡ b.value = same_value a.value b.value (sym a.holds.phase ∙ ap (λ x. x.phase) e ∙ b.holds.phase) in
+      (a.one ∙ (λ i. idle_again s (e i) (v i) ∷ []) ∙ sym b.one, a.changed ∙ sym b.changed)
+
+  -- a held entry is detached, or it is not
+  pub not_found_and_lost : (old : Cache K V) (s : ℕ) (e f : Held K V) → held_at old s ≡ Some e → held_at old s ≡ Some f → e.detached ≡ false → f.detached ≡ true → ⊥
+  not_found_and_lost old s e f a b found lost = true≢false (sym lost ∙ sym (ap (λ x. x.detached) (same_entry old s e f a b)) ∙ found)
+
   -- fail and release leave other pins, or it was the last one
   not_last : (old : Cache K V) (s : ℕ) (e f : Held K V) → held_at old s ≡ Some e → held_at old s ≡ Some f → 2 ≤ e.pins → f.pins ≡ 1 → ⊥
   not_last old s e f a b others last =
@@ -95,9 +105,9 @@ module _ {K V : Type 0} (E : K → K → Bool) where
     both_equal a b k p q = laws.symm a b ∙ laws.congr b k a q ∙ laws.symm k a ∙ p
 
     -- a key has one entry
-    pub held_once : (k : K) (s t : ℕ) (e f : Held K V) → held_at old s ≡ Some e → held_at old t ≡ Some f → E e.key k ≡ true → E f.key k ≡ true → (s ≡ t) × (e ≡ f)
-    held_once k s t e f a b p q =
-        let st : s ≡ t = l.one_entry s t e.key f.key e.charge f.charge (inr (e, a, refl, refl)) (inr (f, b, refl, refl)) (both_equal e.key f.key k p q) in
+    pub held_once : (k : K) (s t : ℕ) (e f : Held K V) → held_at old s ≡ Some e → held_at old t ≡ Some f → e.detached ≡ false → f.detached ≡ false → E e.key k ≡ true → E f.key k ≡ true → (s ≡ t) × (e ≡ f)
+    held_once k s t e f a b g h p q =
+        let st : s ≡ t = l.one_entry s t e.key f.key e.charge f.charge (inr (e, a, refl, refl, g)) (inr (f, b, refl, refl, h)) (both_equal e.key f.key k p q) in
         (st, same_Some _ _ (sym a ∙ ap (held_at old) st ∙ b))
 
     pub idle_once : (k : K) (s t : ℕ) (x y : Idle K V) → idle_at old s ≡ Some x → idle_at old t ≡ Some y → E x.key k ≡ true → E y.key k ≡ true → (s ≡ t) × (x ≡ y)
@@ -105,21 +115,21 @@ module _ {K V : Type 0} (E : K → K → Bool) where
         let st : s ≡ t = l.one_entry s t x.key y.key x.charge y.charge (inl (x, a, refl, refl)) (inl (y, b, refl, refl)) (both_equal x.key y.key k p q) in
         (st, same_Some _ _ (sym a ∙ ap (idle_at old) st ∙ b))
 
-    pub not_both : (k : K) (s t : ℕ) (e : Held K V) (x : Idle K V) → held_at old s ≡ Some e → idle_at old t ≡ Some x → E e.key k ≡ true → E x.key k ≡ true → ⊥
-    not_both k s t e x a b p q =
-        let st : s ≡ t = l.one_entry s t e.key x.key e.charge x.charge (inr (e, a, refl, refl)) (inl (x, b, refl, refl)) (both_equal e.key x.key k p q) in
+    pub not_both : (k : K) (s t : ℕ) (e : Held K V) (x : Idle K V) → held_at old s ≡ Some e → idle_at old t ≡ Some x → e.detached ≡ false → E e.key k ≡ true → E x.key k ≡ true → ⊥
+    not_both k s t e x a b g p q =
+        let st : s ≡ t = l.one_entry s t e.key x.key e.charge x.charge (inr (e, a, refl, refl, g)) (inl (x, b, refl, refl)) (both_equal e.key x.key k p q) in
         none-some e (sym (l.held_apart t x b) ∙ ap (held_at old) (sym st) ∙ a)
 
-    pub not_held : (k : K) (s : ℕ) (e : Held K V) → IsAbsent E old k → held_at old s ≡ Some e → E e.key k ≡ true → ⊥
-    not_held k s e absent a p = true≢false (sym p ∙ absent s e.key e.charge (inr (e, a, refl, refl)))
+    pub not_held : (k : K) (s : ℕ) (e : Held K V) → IsAbsent E old k → held_at old s ≡ Some e → e.detached ≡ false → E e.key k ≡ true → ⊥
+    not_held k s e absent a g p = true≢false (sym p ∙ absent s e.key e.charge (inr (e, a, refl, refl, g)))
 
     pub not_idle : (k : K) (s : ℕ) (x : Idle K V) → IsAbsent E old k → idle_at old s ≡ Some x → E x.key k ≡ true → ⊥
     not_idle k s x absent a p = true≢false (sym p ∙ absent s x.key x.charge (inl (x, a, refl, refl)))
 
     makes_once : (k : K) (charge s t : ℕ) (out away : List (Idle K V)) (new other : Cache K V) → Makes E old k charge s out new → Makes E old k charge t away other → (s ≡ t) × (out ≡ away) × IsAlike E new other
     makes_once k charge s t out away new other a b =
-        let p : Settles (with_new_entry old a.copy charge) out new = subst (λ u. Settles (record (with_held old u (record { key = a.copy; charge = charge; pins = 1; phase = making })) { next = old.next + 1 }) out new) a.stamp a.settles in
-        let q : Settles (with_new_entry old b.copy charge) away other = subst (λ u. Settles (record (with_held old u (record { key = b.copy; charge = charge; pins = 1; phase = making })) { next = old.next + 1 }) away other) b.stamp b.settles in
+        let p : Settles (with_new_entry old a.copy charge) out new = subst (λ u. Settles (record (with_held old u (record { key = a.copy; charge = charge; pins = 1; detached = false; phase = making })) { next = old.next + 1 }) out new) a.stamp a.settles in
+        let q : Settles (with_new_entry old b.copy charge) away other = subst (λ u. Settles (record (with_held old u (record { key = b.copy; charge = charge; pins = 1; detached = false; phase = making })) { next = old.next + 1 }) away other) b.stamp b.settles in
         let sums : sum_of (with_new_entry old a.copy charge) ≡ sum_of (with_new_entry old b.copy charge) = sum-made E old a.copy charge (orderly l) ∙ sym (sum-made E old b.copy charge (orderly l)) in
         let f = one_front (sum_of (with_new_entry old b.copy charge)) old.capacity old.idle out new.idle away other.idle (subst (λ n. IsFront n old.capacity old.idle out new.idle) sums p.front) q.front in (
           a.stamp ∙ sym b.stamp,
@@ -138,7 +148,7 @@ module _ {K V : Type 0} (E : K → K → Bool) where
 
     joins_once : (k : K) (s t : ℕ) (p q : Phase V) (out away : List (Idle K V)) (new other : Cache K V) → Joins E old k s p (phase_after_asking p) out new → Joins E old k t q (phase_after_asking q) away other → (s ≡ t) × (p ≡ q) × (out ≡ away) × (new ≡ other)
     joins_once k s t p q out away new other a b =
-        let e = held_once k s t a.entry b.entry a.holds.at b.holds.at a.same_key b.same_key in
+        let e = held_once k s t a.entry b.entry a.holds.at b.holds.at a.found b.found a.same_key b.same_key in
         let ph : p ≡ q = sym a.holds.phase ∙ ap (λ x. x.phase) e.1 ∙ b.holds.phase in
         (e.0, ph, a.none ∙ sym b.none, a.changed ∙ (λ i. with_held old (e.0 i) (held_in_phase (phase_after_asking (ph i)) (one_more_pin (e.1 i)))) ∙ sym b.changed)
 
@@ -149,14 +159,14 @@ module _ {K V : Type 0} (E : K → K → Bool) where
 
     hits_once : (k : K) (s t : ℕ) (v w : V) (out away : List (Idle K V)) (new other : Cache K V) → Hits E old k s v out new → Hits E old k t w away other → (s ≡ t) × (v ≡ w) × (out ≡ away) × (new ≡ other)
     hits_once k s t v w out away new other (inl a) (inl b) = let j = joins_once k s t (ready v) (ready w) out away new other a b in (j.0, same_value v w j.1, j.2, j.3)
-    hits_once k s t v w out away new other (inl a) (inr b) = absurd (not_both k s t a.entry b.entry a.holds.at b.at a.same_key b.same_key)
-    hits_once k s t v w out away new other (inr a) (inl b) = absurd (not_both k t s b.entry a.entry b.holds.at a.at b.same_key a.same_key)
+    hits_once k s t v w out away new other (inl a) (inr b) = absurd (not_both k s t a.entry b.entry a.holds.at b.at a.found a.same_key b.same_key)
+    hits_once k s t v w out away new other (inr a) (inl b) = absurd (not_both k t s b.entry a.entry b.holds.at a.at b.found b.same_key a.same_key)
     hits_once k s t v w out away new other (inr a) (inr b) = revives_once k s t v w out away new other a b
 
     -- a key that hits is not one that is absent or not ready
     pub hit_is_ready : (k : K) (s : ℕ) (v : V) (out : List (Idle K V)) (new : Cache K V) → Hits E old k s v out new → IsUnready E old k → ⊥
     hit_is_ready k s v out new (inl a) u =
-        let e = u s a.entry.key a.entry.charge (inr (a.entry, a.holds.at, refl, refl)) a.same_key in
+        let e = u s a.entry.key a.entry.charge (inr (a.entry, a.holds.at, refl, refl, a.found)) a.same_key in
         not_ready_too e.0.phase v (ap (λ x. x.phase) (same_entry old s e.0 a.entry e.1 a.holds.at) ∙ a.holds.phase) e.2
     hit_is_ready k s v out new (inr a) u =
         let e = u s a.entry.key a.entry.charge (inl (a.entry, a.at, refl, refl)) a.same_key in
@@ -172,22 +182,22 @@ module _ {K V : Type 0} (E : K → K → Bool) where
       | inl a ↦ elim (begin_cases E old k charge q away other h) [
         | inl b ↦ let m = makes_once k charge a.0 b.0 out away new other a.2 b.2 in (a.1 ∙ ap say.make m.0 ∙ sym b.1, m.1, m.2)
         | inr c ↦ elim c [
-          | inl b ↦ absurd (not_held k b.0 b.3.entry a.2.absent b.3.holds.at b.3.same_key)
+          | inl b ↦ absurd (not_held k b.0 b.3.entry a.2.absent b.3.holds.at b.3.found b.3.same_key)
           | inr b ↦ absurd (not_idle k b.0 b.3.entry a.2.absent b.3.at b.3.same_key)
         ]
       ]
       | inr c ↦ elim c [
         | inl a ↦ elim (begin_cases E old k charge q away other h) [
-          | inl b ↦ absurd (not_held k a.0 a.3.entry b.2.absent a.3.holds.at a.3.same_key)
+          | inl b ↦ absurd (not_held k a.0 a.3.entry b.2.absent a.3.holds.at a.3.found a.3.same_key)
           | inr d ↦ elim d [
             | inl b ↦ let j = joins_once k a.0 b.0 a.1 b.1 out away new other a.3 b.3 in (a.2 ∙ (λ i. reply_in_phase (j.1 i) (j.0 i)) ∙ sym b.2, j.2, alike_same laws new other j.3)
-            | inr b ↦ absurd (not_both k a.0 b.0 a.3.entry b.3.entry a.3.holds.at b.3.at a.3.same_key b.3.same_key)
+            | inr b ↦ absurd (not_both k a.0 b.0 a.3.entry b.3.entry a.3.holds.at b.3.at a.3.found a.3.same_key b.3.same_key)
           ]
         ]
         | inr a ↦ elim (begin_cases E old k charge q away other h) [
           | inl b ↦ absurd (not_idle k a.0 a.3.entry b.2.absent a.3.at a.3.same_key)
           | inr d ↦ elim d [
-            | inl b ↦ absurd (not_both k b.0 a.0 b.3.entry a.3.entry b.3.holds.at a.3.at b.3.same_key a.3.same_key)
+            | inl b ↦ absurd (not_both k b.0 a.0 b.3.entry a.3.entry b.3.holds.at a.3.at b.3.found b.3.same_key a.3.same_key)
             | inr b ↦ let j = revives_once k a.0 b.0 a.1 b.1 out away new other a.3 b.3 in (a.2 ∙ (λ i. say.hit (j.0 i) (j.1 i)) ∙ sym b.2, j.2, alike_same laws new other j.3)
           ]
         ]
@@ -218,19 +228,40 @@ module _ {K V : Type 0} (E : K → K → Bool) where
       ]
     ]
 
-    releases_once : (s : ℕ) (out away : List (Idle K V)) (new other : Cache K V) → ((v : V) × Leaves E old s (ready v) (ready v) out new) ⊎ Rests E old s out new → ((v : V) × Leaves E old s (ready v) (ready v) away other) ⊎ Rests E old s away other → (out ≡ away) × (new ≡ other)
+    releases_once : (s : ℕ) (out away : List (Idle K V)) (new other : Cache K V) → ((v : V) × Leaves E old s (ready v) (ready v) out new) ⊎ (Rests E old s out new ⊎ Ends E old s out new) → ((v : V) × Leaves E old s (ready v) (ready v) away other) ⊎ (Rests E old s away other ⊎ Ends E old s away other) → (out ≡ away) × (new ≡ other)
     releases_once s out away new other (inl a) (inl b) =
         let v : a.0 ≡ b.0 = same_value a.0 b.0 (sym a.1.holds.phase ∙ ap (λ x. x.phase) (same_entry old s a.1.entry b.1.entry a.1.holds.at b.1.holds.at) ∙ b.1.holds.phase) in
         leaves_once old s (ready b.0) (ready b.0) out away new other (subst (λ w. Leaves E old s (ready w) (ready w) out new) v a.1) b.1
-    releases_once s out away new other (inl a) (inr b) = absurd (not_last old s a.1.entry b.entry a.1.holds.at b.holds.at a.1.others b.last)
-    releases_once s out away new other (inr a) (inl b) = absurd (not_last old s b.1.entry a.entry b.1.holds.at a.holds.at b.1.others a.last)
-    releases_once s out away new other (inr a) (inr b) = rests_once old s out away new other a b
+    releases_once s out away new other (inl a) (inr (inl b)) = absurd (not_last old s a.1.entry b.entry a.1.holds.at b.holds.at a.1.others b.last)
+    releases_once s out away new other (inl a) (inr (inr b)) = absurd (not_last old s a.1.entry b.entry a.1.holds.at b.holds.at a.1.others b.last)
+    releases_once s out away new other (inr (inl a)) (inl b) = absurd (not_last old s b.1.entry a.entry b.1.holds.at a.holds.at b.1.others a.last)
+    releases_once s out away new other (inr (inr a)) (inl b) = absurd (not_last old s b.1.entry a.entry b.1.holds.at a.holds.at b.1.others a.last)
+    releases_once s out away new other (inr (inl a)) (inr (inl b)) = rests_once old s out away new other a b
+    releases_once s out away new other (inr (inl a)) (inr (inr b)) = absurd (not_found_and_lost old s a.entry b.entry a.holds.at b.holds.at a.found b.lost)
+    releases_once s out away new other (inr (inr a)) (inr (inl b)) = absurd (not_found_and_lost old s b.entry a.entry b.holds.at a.holds.at b.found a.lost)
+    releases_once s out away new other (inr (inr a)) (inr (inr b)) = ends_once old s out away new other a b
 
     advises_once : (k : K) (out away : List (Idle K V)) (new other : Cache K V) → Drops E old k out new ⊎ (IsNotIdle E old k × Stays E old out new) → Drops E old k away other ⊎ (IsNotIdle E old k × Stays E old away other) → (out ≡ away) × (new ≡ other)
     advises_once k out away new other (inl a) (inl b) = drops_once k out away new other a b
     advises_once k out away new other (inl a) (inr b) = absurd (true≢false (sym a.same_key ∙ b.0 a.stamp a.entry a.at))
     advises_once k out away new other (inr a) (inl b) = absurd (true≢false (sym b.same_key ∙ a.0 b.stamp b.entry b.at))
     advises_once k out away new other (inr a) (inr b) = stays_once old out away new other a.1 b.1
+
+    detaches_once : (k : K) (out away : List (Idle K V)) (new other : Cache K V) → Detaches E old k out new → Detaches E old k away other → (out ≡ away) × (new ≡ other)
+    detaches_once k out away new other a b =
+        let e = held_once k a.stamp b.stamp a.entry b.entry a.at b.at a.found b.found a.same_key b.same_key in
+        (a.none ∙ sym b.none, a.changed ∙ (λ i. with_held old (e.0 i) (held_detached (e.1 i))) ∙ sym b.changed)
+
+    invalidates_once : (k : K) (out away : List (Idle K V)) (new other : Cache K V) → Drops E old k out new ⊎ (Detaches E old k out new ⊎ (IsAbsent E old k × Stays E old out new)) → Drops E old k away other ⊎ (Detaches E old k away other ⊎ (IsAbsent E old k × Stays E old away other)) → (out ≡ away) × (new ≡ other)
+    invalidates_once k out away new other (inl a) (inl b) = drops_once k out away new other a b
+    invalidates_once k out away new other (inl a) (inr (inl b)) = absurd (not_both k b.stamp a.stamp b.entry a.entry b.at a.at b.found b.same_key a.same_key)
+    invalidates_once k out away new other (inl a) (inr (inr b)) = absurd (not_idle k a.stamp a.entry b.0 a.at a.same_key)
+    invalidates_once k out away new other (inr (inl a)) (inl b) = absurd (not_both k a.stamp b.stamp a.entry b.entry a.at b.at a.found a.same_key b.same_key)
+    invalidates_once k out away new other (inr (inl a)) (inr (inl b)) = detaches_once k out away new other a b
+    invalidates_once k out away new other (inr (inl a)) (inr (inr b)) = absurd (not_held k a.stamp a.entry b.0 a.at a.found a.same_key)
+    invalidates_once k out away new other (inr (inr a)) (inl b) = absurd (not_idle k b.stamp b.entry a.0 b.at b.same_key)
+    invalidates_once k out away new other (inr (inr a)) (inr (inl b)) = absurd (not_held k b.stamp b.entry a.0 b.at b.found b.same_key)
+    invalidates_once k out away new other (inr (inr a)) (inr (inr b)) = stays_once old out away new other a.1 b.1
 
     one_step : (new other : Cache K V) (r : Request K V) (p q : Reply K V) (out away : List (Idle K V)) → Step E old r p out new → Step E old r q away other → (p ≡ q) × (out ≡ away) × LeadsToOne E r new other
     one_step new other (ask.begin k charge) p q out away g h = one_begin k charge p q out away new other g h
@@ -255,6 +286,11 @@ module _ {K V : Type 0} (E : K → K → Bool) where
         let a = advice_evict_cases E old k p out new g in
         let b = advice_evict_cases E old k q away other h in
         let j = advises_once k out away new other a.1 b.1 in
+        (a.0 ∙ sym b.0, j.0, j.1)
+    one_step new other (ask.invalidate k) p q out away g h =
+        let a = invalidate_cases E old k p out new g in
+        let b = invalidate_cases E old k q away other h in
+        let j = invalidates_once k out away new other a.1 b.1 in
         (a.0 ∙ sym b.0, j.0, j.1)
     one_step new other ask.prune p q out away g h =
         let a = prune_cases E old p out new g in

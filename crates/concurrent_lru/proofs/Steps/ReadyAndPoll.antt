@@ -27,4 +27,4 @@ module _ {K V : Type 0} where
   pub changes_phase_lawful : (E : K → K → Bool) (old new : Cache K V) (s : ℕ) (f g : Phase V) (out : List (Idle K V)) → IsLawful E old → ChangesPhase E old s f g out new → IsLawful E new
   changes_phase_lawful E old new s f g out l t =
       let pins = l.pinned s t.entry t.holds.at in
-      subst (IsLawful E) (sym t.changed) (lawful-with_held E old s t.entry (steps.held_in_phase g t.entry) l t.holds.at refl refl pins.0 pins.1)
+      subst (IsLawful E) (sym t.changed) (lawful-with_held E old s t.entry (steps.held_in_phase g t.entry) l t.holds.at refl refl (λ h. h) pins.0 pins.1)

@@ -17,7 +17,7 @@ use Rattle.concurrent_lru.specs.Request as ask
 use Rattle.concurrent_lru.specs.Request.{Request}
 use Rattle.concurrent_lru.specs.Results.{outcome_of_begin, outcome_of_poll, outcome_of_ready, outcome_of_get}
 use Rattle.concurrent_lru.specs.Runs.{Outcome, accepted, refused, Refuses, Stands}
-use Rattle.concurrent_lru.specs.Steps.{with_capacity, with_held, without_held, without, one_more_pin, one_pin_less, held_in_phase, held_by_one, idle_again, Makes, Joins, Revives, Hits, ChangesPhase, Leaves, Removes, Rests, Drops}
+use Rattle.concurrent_lru.specs.Steps.{with_capacity, with_held, without_held, without, one_more_pin, one_pin_less, held_in_phase, held_by_one, idle_again, Makes, Joins, Revives, Hits, ChangesPhase, Leaves, Removes, Rests, Drops, held_detached}
 use Rattle.concurrent_lru.specs.ThreadedCalls.{IfHit}
 use Rattle.concurrent_lru.specs.declared.list.Refusal.{Refusal}
 use Rattle.concurrent_lru.specs.declared.list.Refusal.TheVariants.{Stale}
@@ -109,7 +109,7 @@ module _ {K V : Type 0} (E : K → K → Bool) where
   -- the cases of a step
   makes_fewer : (old new : Cache K V) (k : K) (charge s : ℕ) (out : List (Idle K V)) → Makes E old k charge s out new → FewerReady old new
   makes_fewer old new k charge s out m key v h =
-      elim (one_written old s (record { key = m.copy; charge = charge; pins = 1; phase = making }) key v (fewer_settled _ new out m.settles key v h)) [
+      elim (one_written old s (record { key = m.copy; charge = charge; pins = 1; detached = false; phase = making }) key v (fewer_settled _ new out m.settles key v h)) [
         | inl was ↦ was
         | inr is ↦ unready_making v is.1
       ]
@@ -208,7 +208,8 @@ module _ {K V : Type 0} (E : K → K → Bool) where
 
   release_fewer : (old new : Cache K V) (s : ℕ) (o : Outcome K V) → Stands E old (ask.release s) o new → FewerReady old new
   release_fewer old new s (accepted say.done out) (inl l) = leaves_fewer old new s (ready l.0) (ready l.0) out (λ v e. e) l.1
-  release_fewer old new s (accepted say.done out) (inr r) = rests_fewer old new s out r
+  release_fewer old new s (accepted say.done out) (inr (inl r)) = rests_fewer old new s out r
+  release_fewer old new s (accepted say.done out) (inr (inr r)) = subst (FewerReady old) (sym r.changed) (fewer_without old s)
   release_fewer old new s (accepted (say.make t) out) h = absurd h
   release_fewer old new s (accepted (say.wait t) out) h = absurd h
   release_fewer old new s (accepted (say.hit t v) out) h = absurd h
@@ -221,6 +222,11 @@ module _ {K V : Type 0} (E : K → K → Bool) where
   advice_evict_fewer : (old new : Cache K V) (k : K) (out : List (Idle K V)) → Stands E old (ask.advice_evict k) (accepted say.done out) new → FewerReady old new
   advice_evict_fewer old new k out (inl d) = drops_fewer old new k out d
   advice_evict_fewer old new k out (inr h) = fewer_same old new h.1.same
+
+  invalidate_fewer : (old new : Cache K V) (k : K) (out : List (Idle K V)) → Stands E old (ask.invalidate k) (accepted say.done out) new → FewerReady old new
+  invalidate_fewer old new k out (inl d) = drops_fewer old new k out d
+  invalidate_fewer old new k out (inr (inl d)) = subst (FewerReady old) (sym d.changed) (fewer_written old d.stamp d.entry (held_detached d.entry) d.at refl (λ v h. h))
+  invalidate_fewer old new k out (inr (inr h)) = fewer_same old new h.1.same
 
   prune_fewer : (old new : Cache K V) (out : List (Idle K V)) → Stands E old ask.prune (accepted say.done out) new → FewerReady old new
   prune_fewer old new out h = subst (FewerReady old) (sym h.1) (λ k v r. elim r [
@@ -305,6 +311,9 @@ module _ {K V : Type 0} (E : K → K → Bool) where
 
     pub advice_evict_kept : (old new : Cache K V) (k : K) (out : List (Idle K V)) → Stands E old (ask.advice_evict k) (accepted say.done out) new → ValuesFit fits old → ValuesFit fits new
     advice_evict_kept old new k out h = kept_fewer old new (advice_evict_fewer old new k out h)
+
+    pub invalidate_kept : (old new : Cache K V) (k : K) (out : List (Idle K V)) → Stands E old (ask.invalidate k) (accepted say.done out) new → ValuesFit fits old → ValuesFit fits new
+    invalidate_kept old new k out h = kept_fewer old new (invalidate_fewer old new k out h)
 
     pub prune_kept : (old new : Cache K V) (out : List (Idle K V)) → Stands E old ask.prune (accepted say.done out) new → ValuesFit fits old → ValuesFit fits new
     prune_kept old new out h = kept_fewer old new (prune_fewer old new out h)

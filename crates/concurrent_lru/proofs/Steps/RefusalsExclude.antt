@@ -1,5 +1,5 @@
 -- A request that is refused has no step, and is refused in one way.
-use Rattle.std.proofs.Common.{◌≡◌, ℕ, ◌+◌, ◌<◌, ◌≤◌, ◌^◌, ◌⊎◌, inl, inr, Bool, true, List, Some, refl, sym, ap, ◌∙◌, arith}
+use Rattle.std.proofs.Common.{◌≡◌, ℕ, ◌+◌, ◌<◌, ◌≤◌, ◌^◌, ◌⊎◌, inl, inr, Bool, true, false, List, Some, refl, sym, ap, ◌∙◌, arith}
 use Rattle.std.specs.Cmp.{IsEquivalence}
 use Rattle.std.proofs.lemmas.Option.{none-some}
 use Rattle.concurrent_lru.specs.Cache.{Cache, Idle, Held, IsLawful, held_at, sum_of}
@@ -40,54 +40,57 @@ module _ {K V : Type 0} (E : K → K → Bool) where
   ]
   stale_stops c new (ask.release s) p out h g = elim (release_cases E c s p out new g).1 [
     | inl a ↦ h a.1.entry a.0 a.1.holds
-    | inr a ↦ h a.entry a.value a.holds
+    | inr b ↦ elim b [
+      | inl a ↦ h a.entry a.value a.holds
+      | inr a ↦ h a.entry a.value a.holds
+    ]
   ]
   stale_stops c new r p out h g = absurd h
 
   module _ (laws : IsEquivalence E) (c : Cache K V) (l : IsLawful E c) where
     -- an entry of the key with room for a pin is not a full one
-    has_room : (k : K) (s : ℕ) (e : Held K V) → held_at c s ≡ Some e → E e.key k ≡ true → e.pins < c.most_pins → IsFull E c k → ⊥
-    has_room k s e at key room full =
-        let n : e.pins ≡ full.entry.pins = ap (λ x. x.pins) (held_once E laws c l k s full.stamp e full.entry at full.at key full.same_key).1 in
+    has_room : (k : K) (s : ℕ) (e : Held K V) → held_at c s ≡ Some e → e.detached ≡ false → E e.key k ≡ true → e.pins < c.most_pins → IsFull E c k → ⊥
+    has_room k s e at found key room full =
+        let n : e.pins ≡ full.entry.pins = ap (λ x. x.pins) (held_once E laws c l k s full.stamp e full.entry at full.at found full.found key full.same_key).1 in
         let most : full.entry.pins ≡ c.most_pins = full.full in
         absurd (omega (arith, n, most, room))
 
     hit_not_full : (k : K) (s : ℕ) (v : V) (out : List (Idle K V)) (new : Cache K V) → Hits E c k s v out new → IsFull E c k → ⊥
-    hit_not_full k s v out new (inl a) full = has_room k s a.entry a.holds.at a.same_key a.room full
-    hit_not_full k s v out new (inr a) full = not_both E laws c l k full.stamp s full.entry a.entry full.at a.at full.same_key a.same_key
+    hit_not_full k s v out new (inl a) full = has_room k s a.entry a.holds.at a.found a.same_key a.room full
+    hit_not_full k s v out new (inr a) full = not_both E laws c l k full.stamp s full.entry a.entry full.at a.at full.found full.same_key a.same_key
 
     would_hit_not_full : (k : K) → WouldHit E c k → IsFull E c k → ⊥
-    would_hit_not_full k (inl h) full = has_room k h.0 h.1 h.3.at h.4 h.5 full
-    would_hit_not_full k (inr h) full = not_both E laws c l k full.stamp h.0 full.entry h.1 full.at h.2 full.same_key h.3
+    would_hit_not_full k (inl h) full = has_room k h.0 h.1 h.3.at h.6 h.4 h.5 full
+    would_hit_not_full k (inr h) full = not_both E laws c l k full.stamp h.0 full.entry h.1 full.at h.2 full.found full.same_key h.3
 
     overflow_stops : (new : Cache K V) (r : Request K V) (p : Reply K V) (out : List (Idle K V)) → Overflows E c r → Step E c r p out new → ⊥
     overflow_stops new (ask.begin k charge) p out (inl h) g = elim (begin_cases E c k charge p out new g) [
       | inl a ↦ no_numbers c charge a.2.fits h.1
       | inr b ↦ elim b [
-        | inl a ↦ not_held E laws c l k a.0 a.3.entry h.0 a.3.holds.at a.3.same_key
+        | inl a ↦ not_held E laws c l k a.0 a.3.entry h.0 a.3.holds.at a.3.found a.3.same_key
         | inr a ↦ not_idle E laws c l k a.0 a.3.entry h.0 a.3.at a.3.same_key
       ]
     ]
     overflow_stops new (ask.begin k charge) p out (inr h) g = elim (begin_cases E c k charge p out new g) [
-      | inl a ↦ not_held E laws c l k h.stamp h.entry a.2.absent h.at h.same_key
+      | inl a ↦ not_held E laws c l k h.stamp h.entry a.2.absent h.at h.found h.same_key
       | inr b ↦ elim b [
-        | inl a ↦ has_room k a.0 a.3.entry a.3.holds.at a.3.same_key a.3.room h
-        | inr a ↦ not_both E laws c l k h.stamp a.0 h.entry a.3.entry h.at a.3.at h.same_key a.3.same_key
+        | inl a ↦ has_room k a.0 a.3.entry a.3.holds.at a.3.found a.3.same_key a.3.room h
+        | inr a ↦ not_both E laws c l k h.stamp a.0 h.entry a.3.entry h.at a.3.at h.found h.same_key a.3.same_key
       ]
     ]
     overflow_stops new (ask.get k) p out h g = elim (get_cases E c k p out new g) [
       | inl a ↦ hit_not_full k a.0 a.1 out new a.3 h.0
       | inr a ↦
-          let u = a.1 h.0.stamp h.0.entry.key h.0.entry.charge (inr (h.0.entry, h.0.at, refl, refl)) h.0.same_key in
+          let u = a.1 h.0.stamp h.0.entry.key h.0.entry.charge (inr (h.0.entry, h.0.at, refl, refl, h.0.found)) h.0.same_key in
           not_ready_too u.0.phase h.1 (ap (λ x. x.phase) (same_entry E c h.0.stamp u.0 h.0.entry u.1 h.0.at) ∙ h.2) u.2
     ]
     overflow_stops new r p out h g = absurd h
 
     overflow_takes_none : (r : Request K V) → Overflows E c r → TakesMemory E c r → ⊥
     overflow_takes_none (ask.begin k charge) (inl h) (inl m) = no_numbers c charge m.1 h.1
-    overflow_takes_none (ask.begin k charge) (inl h) (inr (inl m)) = not_held E laws c l k m.0 m.1 h.0 m.3.at m.4
+    overflow_takes_none (ask.begin k charge) (inl h) (inr (inl m)) = not_held E laws c l k m.0 m.1 h.0 m.3.at m.6 m.4
     overflow_takes_none (ask.begin k charge) (inl h) (inr (inr m)) = not_idle E laws c l k m.0 m.1 h.0 m.2 m.3
-    overflow_takes_none (ask.begin k charge) (inr h) (inl m) = not_held E laws c l k h.stamp h.entry m.0 h.at h.same_key
+    overflow_takes_none (ask.begin k charge) (inr h) (inl m) = not_held E laws c l k h.stamp h.entry m.0 h.at h.found h.same_key
     overflow_takes_none (ask.begin k charge) (inr h) (inr m) = would_hit_not_full k m h
     overflow_takes_none (ask.get k) h m = would_hit_not_full k m h.0
     overflow_takes_none r h m = absurd h

@@ -11,13 +11,13 @@ use Rattle.concurrent_lru.specs.Steps.{Hits, Step}
 use Rattle.concurrent_lru.specs.declared.list.Refusal.{Refusal}
 use Rattle.concurrent_lru.specs.StepLaws.{capacity_by, KeepsLimits, KeepsLawful, RunsKeepLawful}
 use Rattle.concurrent_lru.proofs.Steps.BeginOfAbsent.{makes_lawful}
-use Rattle.concurrent_lru.proofs.Steps.LawfulAfterLeaving.{removes_lawful, drops_lawful, prunes_lawful}
+use Rattle.concurrent_lru.proofs.Steps.LawfulAfterLeaving.{removes_lawful, ends_lawful, drops_lawful, prunes_lawful}
 use Rattle.concurrent_lru.proofs.Steps.BeginOfHeld.{joins_lawful}
 use Rattle.concurrent_lru.proofs.Steps.LawfulAfterChange.{sets_lawful}
 use Rattle.concurrent_lru.proofs.Steps.ReadyAndPoll.{changes_phase_lawful}
-use Rattle.concurrent_lru.proofs.Steps.Release.{rests_lawful, leaves_lawful}
+use Rattle.concurrent_lru.proofs.Steps.Release.{rests_lawful, leaves_lawful, detaches_lawful}
 use Rattle.concurrent_lru.proofs.Steps.LawfulAfterRevival.{revives_lawful}
-use Rattle.concurrent_lru.proofs.Steps.CasesOfSteps.{phase_after_asking, begin_cases, poll_cases, ready_cases, fail_cases, get_cases, release_cases, advice_evict_cases, prune_cases, set_capacity_cases, total_cases}
+use Rattle.concurrent_lru.proofs.Steps.CasesOfSteps.{phase_after_asking, begin_cases, poll_cases, ready_cases, fail_cases, get_cases, release_cases, advice_evict_cases, invalidate_cases, prune_cases, set_capacity_cases, total_cases}
 
 module _ {K V : Type 0} where
   -- the capacity is c, and the greatest number of pins is as it was
@@ -56,11 +56,21 @@ module _ {K V : Type 0} (E : K → K → Bool) (old : Cache K V) where
   ]
   step_limits new (ask.release s) p out h = elim (release_cases E old s p out new h).1 [
     | inl a ↦ same_limits old _ new old.capacity (refl, refl) a.1.changed
-    | inr a ↦ same_limits old _ new old.capacity (refl, refl) a.settles.others
+    | inr b ↦ elim b [
+      | inl a ↦ same_limits old _ new old.capacity (refl, refl) a.settles.others
+      | inr a ↦ same_limits old _ new old.capacity (refl, refl) a.changed
+    ]
   ]
   step_limits new (ask.advice_evict k) p out h = elim (advice_evict_cases E old k p out new h).1 [
     | inl a ↦ same_limits old _ new old.capacity (refl, refl) a.changed
     | inr a ↦ same_limits old _ new old.capacity (refl, refl) a.1.same
+  ]
+  step_limits new (ask.invalidate k) p out h = elim (invalidate_cases E old k p out new h).1 [
+    | inl a ↦ same_limits old _ new old.capacity (refl, refl) a.changed
+    | inr b ↦ elim b [
+      | inl a ↦ same_limits old _ new old.capacity (refl, refl) a.changed
+      | inr a ↦ same_limits old _ new old.capacity (refl, refl) a.1.same
+    ]
   ]
   step_limits new ask.prune p out h = same_limits old _ new old.capacity (refl, refl) (prune_cases E old p out new h).2
   step_limits new (ask.set_capacity c) p out h = same_limits old _ new c (refl, refl) (set_capacity_cases E old c p out new h).1.others
@@ -98,11 +108,21 @@ module _ {K V : Type 0} (E : K → K → Bool) (laws : IsEquivalence E) (old : C
   ]
   step_lawful new (ask.release s) p out above h = elim (release_cases E old s p out new h).1 [
     | inl a ↦ leaves_lawful E old new s (ready a.0) (ready a.0) out l a.1
-    | inr a ↦ rests_lawful E old new s out l a
+    | inr b ↦ elim b [
+      | inl a ↦ rests_lawful E old new s out l a
+      | inr a ↦ ends_lawful E old new s out l a
+    ]
   ]
   step_lawful new (ask.advice_evict k) p out above h = elim (advice_evict_cases E old k p out new h).1 [
     | inl a ↦ drops_lawful E old new k out l a
     | inr a ↦ subst (IsLawful E) (sym a.1.same) l
+  ]
+  step_lawful new (ask.invalidate k) p out above h = elim (invalidate_cases E old k p out new h).1 [
+    | inl a ↦ drops_lawful E old new k out l a
+    | inr b ↦ elim b [
+      | inl a ↦ detaches_lawful E old new k out l a
+      | inr a ↦ subst (IsLawful E) (sym a.1.same) l
+    ]
   ]
   step_lawful new ask.prune p out above h = prunes_lawful E old new l (prune_cases E old p out new h).2
   step_lawful new (ask.set_capacity c) p out above h = sets_lawful E old new c out l (set_capacity_cases E old c p out new h).1

@@ -7,7 +7,7 @@ ghost use Rattle.concurrent_lru.specs.Cells.{cell_at, key_at, AtKey, OfKey};
 ghost use Rattle.concurrent_lru.specs.SlotTable.{IsNodeTable, IsGood, idle_places, entry_in};
 ghost use Rattle.concurrent_lru.specs.SlotPointers.{IsTied};
 ghost use Rattle.concurrent_lru.specs.Slots.{map_of_slots};
-ghost use Rattle.concurrent_lru.specs.NodeTable.{Entry, phase_of, value_of, update_at, entry_with_pins, entry_in_phase};
+ghost use Rattle.concurrent_lru.specs.NodeTable.{Entry, phase_of, value_of, update_at, entry_with_pins, entry_detached, entry_in_phase};
 ghost use Rattle.concurrent_lru.specs.Relinks.{IsRelinked, Relinks, Unlinks, Revalues, LeftJoined, RightJoined, key_in, before_link, after_link, before_at, after_at};
 
 use crate::list::slots::Slots;
@@ -290,6 +290,17 @@ pub(super) fn write_pins<K: Drop, V: Drop>(slots: &mut Slots<K, V>, key: usize, 
 {
     let link = slots.look(key);
     hold(slots, link, pins);
+}
+
+// Tells the node under a key that it is detached from its key.
+pub(super) fn write_detached<K: Drop, V: Drop>(slots: &mut Slots<K, V>, key: usize)
+    requires tied { IsTied slots.old }
+    requires present { IsSome (cell_at slots.old.memory.cells key) }
+    ensures slots { slots.new ≡ record slots.old { memory = slots.new.memory; looks = slots.new.looks } }
+    ensures cells { Revalues slots.old.memory.cells slots.new.memory.cells key entry_detached }
+{
+    let link = slots.look(key);
+    slots.follow_mut(link).detach();
 }
 
 // Writes the phase of the node under a key.

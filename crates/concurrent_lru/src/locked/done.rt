@@ -27,6 +27,28 @@ impl<K> Advised<K> {
     }
 }
 
+/// `invalidate` was called. Clauses see the key.
+#[derive(Drop)]
+pub struct Invalidated<K> {
+    asked: Snapshot<K>,
+}
+
+impl<K> Model for Invalidated<K> {
+    ghost Value = { K };
+
+    ghost view = { λ i. i.asked.value };
+}
+
+impl<K> Invalidated<K> {
+    pub(super) fn of(key: &K) -> Self
+        ensures { result ≡ key.now }
+    {
+        Invalidated {
+            asked: Snapshot::of(key),
+        }
+    }
+}
+
 /// `prune` was called.
 #[derive(Drop)]
 pub struct Pruned(());

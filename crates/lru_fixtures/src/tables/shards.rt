@@ -20,6 +20,8 @@ pub enum ShardCall {
     Get(u64),
     /// `advice_evict` with a key.
     AdviceEvict(u64),
+    /// `invalidate` with a key.
+    Invalidate(u64),
     /// `poll`.
     Poll(usize, u64),
     /// `ready` with a value.
@@ -50,6 +52,7 @@ impl<S: BuildHasher + Drop> Answers<ShardCall> for Shards<u64, u64, S> {
             ShardCall::Begin(..) => String::from_str(alloc, "a charge is above 0"),
             ShardCall::Get(key) => text_of(alloc, &self.get(&key)),
             ShardCall::AdviceEvict(key) => text_of(alloc, &self.advice_evict(&key)),
+            ShardCall::Invalidate(key) => text_of(alloc, &self.invalidate(&key)),
             ShardCall::Poll(shard, stamp) => text_of(alloc, &self.poll(shard, stamp)),
             ShardCall::Ready(shard, stamp, value) => {
                 let value = Arc::new(alloc, value)?;

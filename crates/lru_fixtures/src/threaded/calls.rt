@@ -29,6 +29,8 @@ pub enum Call {
     LetGo(usize),
     /// `advice_evict` with a key.
     AdviceEvict(u64),
+    /// `invalidate` with a key.
+    Invalidate(u64),
     /// `prune`.
     Prune,
     /// `set_capacity` with a capacity.

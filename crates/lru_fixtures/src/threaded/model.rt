@@ -48,6 +48,11 @@ impl<P: Owned> Model<P> {
                 let evicted = self.owned.advised(key);
                 self.note(evicted)
             }
+            Call::Invalidate(key) => {
+                let evicted = self.owned.taken_back(key);
+                self.hide(key);
+                self.note(evicted)
+            }
             Call::Prune => self.prune(),
             Call::SetCapacity(capacity) => {
                 let evicted = self.owned.resized(capacity);
@@ -198,12 +203,23 @@ impl<P: Owned> Model<P> {
     fn note(&mut self, evicted: Evicted<u64, u64>) -> Result<Said, AllocError> {
         for gone in evicted {
             self.dropped.push(*gone.value)?;
-            self.remove(gone.key);
+            self.remove(gone.key, *gone.value);
         }
         Ok(Said::Done)
     }
 
-    fn remove(&mut self, key: u64) {
+    // Takes out an entry that has left, where it was not invalidated before.
+    fn remove(&mut self, key: u64, value: u64) {
+        for index in 0..self.entries.len() {
+            if self.entries[index].1 == key && self.entries[index].2 == value {
+                self.entries.swap_remove(index);
+                return;
+            }
+        }
+    }
+
+    // Takes out the entry of a key, where it has one: the text of a cache shows what keys find.
+    fn hide(&mut self, key: u64) {
         for index in 0..self.entries.len() {
             if self.entries[index].1 == key {
                 self.entries.swap_remove(index);

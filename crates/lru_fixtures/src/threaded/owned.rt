@@ -32,6 +32,9 @@ pub trait Owned {
     /// `advice_evict`.
     fn advised(&mut self, key: u64) -> Evicted<u64, u64>;
 
+    /// `invalidate`.
+    fn taken_back(&mut self, key: u64) -> Evicted<u64, u64>;
+
     /// `set_capacity`, of all shards.
     fn resized(&mut self, capacity: u64) -> Evicted<u64, u64>;
 
@@ -75,6 +78,10 @@ impl Owned for State<u64, u64> {
 
     fn advised(&mut self, key: u64) -> Evicted<u64, u64> {
         self.advice_evict(&key)
+    }
+
+    fn taken_back(&mut self, key: u64) -> Evicted<u64, u64> {
+        self.invalidate(&key)
     }
 
     fn resized(&mut self, capacity: u64) -> Evicted<u64, u64> {
@@ -125,6 +132,10 @@ impl<S: BuildHasher + Drop> Owned for Shards<u64, u64, S> {
 
     fn advised(&mut self, key: u64) -> Evicted<u64, u64> {
         self.advice_evict(&key)
+    }
+
+    fn taken_back(&mut self, key: u64) -> Evicted<u64, u64> {
+        self.invalidate(&key)
     }
 
     fn resized(&mut self, capacity: u64) -> Evicted<u64, u64> {

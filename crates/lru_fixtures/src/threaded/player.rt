@@ -121,6 +121,7 @@ fn said(ran: Option<u64>, number: u64) -> Said {
 fn asked<V, C: Cached<V>>(cache: C, call: Call) -> Said {
     match call {
         Call::AdviceEvict(key) => cache.advise(key),
+        Call::Invalidate(key) => cache.take_back(key),
         Call::Prune => cache.clear(),
         Call::SetCapacity(capacity) => cache.resize(capacity),
         Call::Reserve(entries) => {

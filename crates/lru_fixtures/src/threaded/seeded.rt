@@ -13,7 +13,7 @@ const CALLS: u64 = 2_000;
 // The next call, whose value would be its number. The numbers of 16 keys differ in their high
 // half alone, in their low half alone, or in both.
 fn draw(generator: &mut Xoshiro256PlusPlus, number: u64) -> Call {
-    let kind = generator.next_u64() % 26;
+    let kind = generator.next_u64() % 28;
     let key = generator.next_u64() % 4 * 4_294_967_296 + generator.next_u64() % 4;
     let charge = 1 + generator.next_u64() % 9;
     let limit = generator.next_u64() % 48;
@@ -33,6 +33,7 @@ fn draw(generator: &mut Xoshiro256PlusPlus, number: u64) -> Call {
         22 => Call::Prune,
         23 => Call::SetCapacity(limit),
         24 => Call::Reserve(limit as usize),
+        25..27 => Call::Invalidate(key),
         _ => Call::Total,
     }
 }

@@ -75,6 +75,14 @@ module _ {K V : Type 0} where
   told_by (ask.advice_evict k) (say.removed l) = refl
   told_by (ask.advice_evict k) say.missed = refl
   told_by (ask.advice_evict k) (say.sum n) = refl
+  told_by (ask.invalidate k) (say.make t) = refl
+  told_by (ask.invalidate k) (say.wait t) = refl
+  told_by (ask.invalidate k) (say.hit t w) = refl
+  told_by (ask.invalidate k) say.done = refl
+  told_by (ask.invalidate k) say.left = refl
+  told_by (ask.invalidate k) (say.removed l) = refl
+  told_by (ask.invalidate k) say.missed = refl
+  told_by (ask.invalidate k) (say.sum n) = refl
   told_by ask.prune (say.make t) = refl
   told_by ask.prune (say.wait t) = refl
   told_by ask.prune (say.hit t w) = refl

@@ -9,8 +9,8 @@ use Rattle.std.specs.FinMap.{FinMap, get, insert, remove, entries, entries_sorte
 use Rattle.std.specs.FinMap.Entries.{is_sorted, below_all}
 use Rattle.std.specs.FinMap.Entries.{find as find_entry}
 use Rattle.std.proofs.lemmas.Option.{same_Some, none-some}
-use Rattle.concurrent_lru.specs.Cache.{Cache, Idle, Held, Phase, making, untaken, ready, charges, sum_of, IsFront, Suffices, Settles, held_at, idle_at, IsEntry}
-use Rattle.concurrent_lru.specs.Steps.{IsAbsent, Holds, Makes, Joins, Revives, Hits, ChangesPhase, Leaves, Removes, Rests, Stays, Drops, IsUnready, IsNotIdle, Step, with_held, without}
+use Rattle.concurrent_lru.specs.Cache.{Cache, Idle, Held, Phase, making, untaken, ready, charges, sum_of, IsFront, Suffices, Settles, held_at, idle_at, IsFound}
+use Rattle.concurrent_lru.specs.Steps.{IsAbsent, Holds, Makes, Joins, Revives, Hits, ChangesPhase, Leaves, Removes, Rests, Stays, Drops, Ends, Detaches, IsUnready, IsNotIdle, Step, with_held, without}
 use Rattle.concurrent_lru.specs.Request as ask
 use Rattle.concurrent_lru.specs.Request.{Request}
 use Rattle.concurrent_lru.specs.Reply as say
@@ -105,14 +105,14 @@ module _ {K V W : Type 0} (f : V → W) where
       ∙ ap (λ es. charges c.idle + sum_by (λ e. e.charge) (map (λ e. e.1) es)) (entries-from_sorted nat_cmp _ (sorted_helds c.held))
       ∙ ap (λ n. charges c.idle + n) (held_sums (entries c.held))
 
-  -- entries with other values are the entries
-  pub entry_before : (c : Cache K V) (s : ℕ) (k : K) (m : ℕ) → IsEntry (cache_by f c) s k m → IsEntry c s k m
-  entry_before c s k m (inl x) =
+  -- entries that their keys find, with other values, are those entries
+  found_before : (c : Cache K V) (s : ℕ) (k : K) (m : ℕ) → IsFound (cache_by f c) s k m → IsFound c s k m
+  found_before c s k m (inl x) =
       let r = some_before (idle_by f) (idle_at c s) x.0 (sym (idle_by-at s c.idle) ∙ x.1) in
       inl (r.0, r.1, ap (λ y. y.key) r.2 ∙ x.2, ap (λ y. y.charge) r.2 ∙ x.3)
-  entry_before c s k m (inr e) =
+  found_before c s k m (inr e) =
       let r = some_before (held_by f) (held_at c s) e.0 (sym (get_by c.held s) ∙ e.1) in
-      inr (r.0, r.1, ap (λ y. y.key) r.2 ∙ e.2, ap (λ y. y.charge) r.2 ∙ e.3)
+      inr (r.0, r.1, ap (λ y. y.key) r.2 ∙ e.2, ap (λ y. y.charge) r.2 ∙ e.3, ap (λ y. y.detached) r.2 ∙ e.4)
 
   holds_by : (c : Cache K V) (s : ℕ) (e : Held K V) (p : Phase V) → Holds c s e p → Holds (cache_by f c) s (held_by f e) (phase_by f p)
   holds_by c s e p h = record { at = get_by c.held s ∙ ap (option_map (held_by f)) h.at; phase = ap (phase_by f) h.phase }
@@ -146,8 +146,8 @@ module _ {K V W : Type 0} (f : V → W) where
     others = ap (cache_by f) h.others;
   }
 
-  make_on : (old : Cache K V) (s : ℕ) (k : K) (charge : ℕ) → cache_by f (record (with_held old s (record { key = k; charge = charge; pins = 1; phase = making })) { next = old.next + 1 }) ≡ record (with_held (cache_by f old) s (record { key = k; charge = charge; pins = 1; phase = making })) { next = old.next + 1 }
-  make_on old s k charge = ap (λ m. record { capacity = old.capacity; most_pins = old.most_pins; next = old.next + 1; idle = map (idle_by f) old.idle; held = m }) (insert_by old.held s (record { key = k; charge = charge; pins = 1; phase = making }))
+  make_on : (old : Cache K V) (s : ℕ) (k : K) (charge : ℕ) → cache_by f (record (with_held old s (record { key = k; charge = charge; pins = 1; detached = false; phase = making })) { next = old.next + 1 }) ≡ record (with_held (cache_by f old) s (record { key = k; charge = charge; pins = 1; detached = false; phase = making })) { next = old.next + 1 }
+  make_on old s k charge = ap (λ m. record { capacity = old.capacity; most_pins = old.most_pins; next = old.next + 1; idle = map (idle_by f) old.idle; held = m }) (insert_by old.held s (record { key = k; charge = charge; pins = 1; detached = false; phase = making }))
 
   held_on : (old : Cache K V) (s : ℕ) (e : Held K V) → cache_by f (with_held old s e) ≡ with_held (cache_by f old) s (held_by f e)
   held_on old s e = ap (λ m. record (cache_by f old) { held = m }) (insert_by old.held s e)
@@ -158,7 +158,7 @@ module _ {K V W : Type 0} (f : V → W) where
 
   module _ (E : K → K → Bool) where
     absent_by : (c : Cache K V) (k : K) → IsAbsent E c k → IsAbsent E (cache_by f c) k
-    absent_by c k h = λ s l m e. h s l m (entry_before c s l m e)
+    absent_by c k h = λ s l m e. h s l m (found_before c s l m e)
 
     makes_by : (old : Cache K V) (k : K) (charge s : ℕ) (out : List (Idle K V)) (new : Cache K V) → Makes E old k charge s out new → Makes E (cache_by f old) k charge s (map (idle_by f) out) (cache_by f new)
     makes_by old k charge s out new h = record {
@@ -174,6 +174,7 @@ module _ {K V W : Type 0} (f : V → W) where
     joins_by old k s p q out new h = record {
       entry = held_by f h.entry;
       holds = holds_by old s h.entry p h.holds;
+      found = h.found;
       same_key = h.same_key;
       room = h.room;
       changed = ap (cache_by f) h.changed ∙ held_on old s _;
@@ -187,7 +188,7 @@ module _ {K V W : Type 0} (f : V → W) where
       same_key = h.same_key;
       value = ap f h.value;
       changed = ap (cache_by f) h.changed ∙ ap (λ m. record { capacity = old.capacity; most_pins = old.most_pins; next = old.next; idle = map (idle_by f) (without s old.idle); held = m }) (insert_by old.held s _)
-          ∙ ap (λ xs. record { capacity = old.capacity; most_pins = old.most_pins; next = old.next; idle = xs; held = insert (helds_by f old.held) s (held_by f (record { key = h.entry.key; charge = h.entry.charge; pins = 1; phase = ready h.entry.value })) }) (without_by s old.idle);
+          ∙ ap (λ xs. record { capacity = old.capacity; most_pins = old.most_pins; next = old.next; idle = xs; held = insert (helds_by f old.held) s (held_by f (record { key = h.entry.key; charge = h.entry.charge; pins = 1; detached = false; phase = ready h.entry.value })) }) (without_by s old.idle);
       none = ap (map (idle_by f)) h.none;
     }
 
@@ -223,11 +224,34 @@ module _ {K V W : Type 0} (f : V → W) where
       entry = held_by f h.entry;
       value = f h.value;
       holds = holds_by old s h.entry (ready h.value) h.holds;
+      found = h.found;
       last = h.last;
       settles = subst (λ c. Settles c (map (idle_by f) out) (cache_by f new))
           (ap (λ m. record { capacity = old.capacity; most_pins = old.most_pins; next = old.next; idle = map (idle_by f) (old.idle ++ record { stamp = s; key = h.entry.key; charge = h.entry.charge; value = h.value } ∷ []); held = m }) (remove_by old.held s)
           ∙ ap (λ xs. record { capacity = old.capacity; most_pins = old.most_pins; next = old.next; idle = xs; held = remove (helds_by f old.held) s }) (map-append (idle_by f) old.idle _))
           (settles_by _ out new h.settles);
+    }
+
+    ends_by : (old : Cache K V) (s : ℕ) (out : List (Idle K V)) (new : Cache K V) → Ends E old s out new → Ends E (cache_by f old) s (map (idle_by f) out) (cache_by f new)
+    ends_by old s out new h = record {
+      entry = held_by f h.entry;
+      value = f h.value;
+      holds = holds_by old s h.entry (ready h.value) h.holds;
+      lost = h.lost;
+      last = h.last;
+      changed = ap (cache_by f) h.changed ∙ ap (λ m. record (cache_by f old) { held = m }) (remove_by old.held s);
+      one = ap (map (idle_by f)) h.one;
+    }
+
+    detaches_by : (old : Cache K V) (k : K) (out : List (Idle K V)) (new : Cache K V) → Detaches E old k out new → Detaches E (cache_by f old) k (map (idle_by f) out) (cache_by f new)
+    detaches_by old k out new h = record {
+      stamp = h.stamp;
+      entry = held_by f h.entry;
+      at = get_by old.held h.stamp ∙ ap (option_map (held_by f)) h.at;
+      found = h.found;
+      same_key = h.same_key;
+      changed = ap (cache_by f) h.changed ∙ held_on old h.stamp _;
+      none = ap (map (idle_by f)) h.none;
     }
 
     stays_by : (old : Cache K V) (out : List (Idle K V)) (new : Cache K V) → Stays E old out new → Stays E (cache_by f old) (map (idle_by f) out) (cache_by f new)
@@ -254,7 +278,7 @@ module _ {K V W : Type 0} (f : V → W) where
 
     unready_by : (c : Cache K V) (k : K) → IsUnready E c k → IsUnready E (cache_by f c) k
     unready_by c k h = λ s l m e same.
-        let r = h s l m (entry_before c s l m e) same in
+        let r = h s l m (found_before c s l m e) same in
         (held_by f r.0, get_by c.held s ∙ ap (option_map (held_by f)) r.1, not_ready r.0.phase r.2)
 
     hits_by : (old : Cache K V) (k : K) (s : ℕ) (v : V) (out : List (Idle K V)) (new : Cache K V) → Hits E old k s v out new → Hits E (cache_by f old) k s (f v) (map (idle_by f) out) (cache_by f new)
@@ -275,9 +299,13 @@ module _ {K V W : Type 0} (f : V → W) where
     step_by old (ask.get k) (say.hit s v) out new h = hits_by old k s v out new h
     step_by old (ask.get k) say.missed out new h = (unready_by old k h.0, stays_by old out new h.1)
     step_by old (ask.release s) say.done out new (inl h) = inl (f h.0, leaves_by old s (ready h.0) (ready h.0) out new h.1)
-    step_by old (ask.release s) say.done out new (inr h) = inr (rests_by old s out new h)
+    step_by old (ask.release s) say.done out new (inr (inl h)) = inr (inl (rests_by old s out new h))
+    step_by old (ask.release s) say.done out new (inr (inr h)) = inr (inr (ends_by old s out new h))
     step_by old (ask.advice_evict k) say.done out new (inl h) = inl (drops_by old k out new h)
     step_by old (ask.advice_evict k) say.done out new (inr h) = inr (not_idle_by old k h.0, stays_by old out new h.1)
+    step_by old (ask.invalidate k) say.done out new (inl h) = inl (drops_by old k out new h)
+    step_by old (ask.invalidate k) say.done out new (inr (inl h)) = inr (inl (detaches_by old k out new h))
+    step_by old (ask.invalidate k) say.done out new (inr (inr h)) = inr (inr (absent_by old k h.0, stays_by old out new h.1))
     step_by old ask.prune say.done out new h = (ap (map (idle_by f)) h.0, ap (cache_by f) h.1)
     step_by old (ask.set_capacity c) say.done out new h = settles_by _ out new h
     step_by old ask.total (say.sum n) out new h = (h.0 ∙ sym (sum_by_same old), stays_by old out new h.1)
@@ -345,3 +373,10 @@ module _ {K V W : Type 0} (f : V → W) where
     step_by old ask.total say.left out new h = elim h [ ]
     step_by old ask.total (say.removed k) out new h = elim h [ ]
     step_by old ask.total say.missed out new h = elim h [ ]
+    step_by old (ask.invalidate l) (say.make s) out new h = elim h [ ]
+    step_by old (ask.invalidate l) (say.wait s) out new h = elim h [ ]
+    step_by old (ask.invalidate l) (say.hit s v) out new h = elim h [ ]
+    step_by old (ask.invalidate l) say.left out new h = elim h [ ]
+    step_by old (ask.invalidate l) (say.removed k) out new h = elim h [ ]
+    step_by old (ask.invalidate l) say.missed out new h = elim h [ ]
+    step_by old (ask.invalidate l) (say.sum n) out new h = elim h [ ]

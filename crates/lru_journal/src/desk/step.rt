@@ -215,6 +215,33 @@ impl<'a, K: Hash + Eq + Clone, V: Drop> Call<K, V> for AdviceEvict<'a, K> {
     }
 }
 
+/// `Journal::invalidate`.
+#[derive(Drop)]
+pub struct Invalidate<'a, K> {
+    pub(crate) key: &'a K,
+}
+
+impl<'a, K: Hash + Eq + Clone, V: Drop> Call<K, V> for Invalidate<'a, K> {
+    type Answer = Evicted<K, V>;
+
+    type Refused = Refusal;
+
+    ghost use Rattle.std.specs.Prelude.{◌≡◌};
+    ghost use Rattle.concurrent_lru.specs.declared.list.Refusal.TheVariants.{Memory};
+    ghost use Rattle.lru_journal.specs.Records.{record_of};
+    ghost use Rattle.lru_journal.specs.Replay.{IsOfCopy};
+    ghost use Rattle.concurrent_lru.specs.Request as ask;
+    ghost use Rattle.lru_journal.specs.declared.record.Told.TheVariants.{Done};
+
+    ghost is_record = { λ s _. IsOfCopy K.eq s.key.now (λ copy. record_of (ask.invalidate copy) Done) };
+
+    ghost may_refuse = { λ s e. e ≡ Memory };
+
+    fn take(self, journal: &mut Journal<K, V>) -> Result<Evicted<K, V>, Refusal> {
+        journal.invalidate(self.key)
+    }
+}
+
 /// `Journal::prune`.
 #[derive(Drop)]
 pub struct Prune;

@@ -23,7 +23,14 @@ prune
 advice 2
 new 1
 init 1 2 ok drop
-init 1 1 fail keep 3";
+init 1 1 fail keep 3
+new 2
+init 1 1 ok keep 0
+invalidate 1
+get 1 drop
+init 1 1 ok drop
+release 0
+invalidate 1";
 
 const ANSWERS: &str = "\
 new 2 => done []
@@ -40,6 +47,13 @@ advice 2 => done []
 new 1 => done []
 init 1 2 ok drop => made 1 [1]
 init 1 1 fail keep 3 => err []
+new 2 => done []
+init 1 1 ok keep 0 => made 1 []
+invalidate 1 => done []
+get 1 drop => none []
+init 1 1 ok drop => made 4 []
+release 0 => done [1]
+invalidate 1 => done [4]
 ";
 
 const USAGE: &str = "usage: lru_replay < STEPS\n";
@@ -49,14 +63,14 @@ const UNREAD: &str = "lru_replay: cannot read standard input: broken pipe\n";
 const UNWRITTEN: &str = "lru_replay: cannot write standard output: broken pipe\n";
 
 // Lines that are no steps, and what is said of each.
-const WRONG: [(&str, &str); 20] = [
+const WRONG: [(&str, &str); 21] = [
     (
         "",
-        "a step: new, init, get, release, advice, prune or total, not \"\"",
+        "a step: new, init, get, release, advice, invalidate, prune or total, not \"\"",
     ),
     (
         "turn 1",
-        "a step: new, init, get, release, advice, prune or total, not \"turn\"",
+        "a step: new, init, get, release, advice, invalidate, prune or total, not \"turn\"",
     ),
     ("new", "`new CAPACITY`, not \"new\""),
     ("new 1 2", "`new CAPACITY`, not \"new 1 2\""),
@@ -71,6 +85,7 @@ const WRONG: [(&str, &str); 20] = [
     ),
     ("release", "`release SLOT`, not \"release\""),
     ("advice", "`advice KEY`, not \"advice\""),
+    ("invalidate", "`invalidate KEY`, not \"invalidate\""),
     ("prune 1", "`prune` alone, not \"prune 1\""),
     ("total ", "`total` alone, not \"total \""),
     (

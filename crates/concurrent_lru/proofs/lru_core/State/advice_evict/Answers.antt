@@ -4,7 +4,7 @@ use Rattle.concurrent_lru.specs.NodeTable.{entry_of}
 use Rattle.concurrent_lru.specs.Entries.{cache_with}
 use Rattle.concurrent_lru.proofs.Steps.AdviceOfAbsent.{absent_not_idle}
 use Rattle.concurrent_lru.proofs.Steps.LawfulAfterLeaving.{drops_lawful}
-use Rattle.concurrent_lru.proofs.Entries.EntryAtPlace.{key_is, idle_place, is_not_idle}
+use Rattle.concurrent_lru.proofs.Entries.EntryAtPlace.{key_is, found_is, idle_place, is_not_idle}
 use Rattle.concurrent_lru.proofs.Entries.StepsOfEntries.{drops}
 use Rattle.concurrent_lru.proofs.lru_core.State.advice_evict.Goals as goal
 use Rattle.concurrent_lru.proofs.lru_core.State.advice_evict.Goals.{After-one}
@@ -22,7 +22,7 @@ returns-then-node-gt0-clause-step g c =
     let some = c.if-node-gt0.true in
     inr (
       subst (λ old. IsNotIdle g.K.PartialEq.eq old c.args.key.now) (ap (λ x. x.cache) c.self.view_is)
-          (is_not_idle here c.self.invariant.lawful c.args.key.now g.met.K.Eq.laws (key_is here c.self.invariant.lawful c.args.key.now c.in-Some.ensures) (λ none. omega (arith, none, some))),
+          (is_not_idle here c.self.invariant.lawful c.args.key.now g.met.K.Eq.laws (key_is here c.self.invariant.lawful c.args.key.now c.in-Some.ensures) (λ none. omega (arith, none, some)) (found_is here c.self.invariant.lawful c.args.key.now c.in-Some.ensures)),
       record { same = refl; none = c.none-then-node-gt0.ensures },
     )
 

@@ -8,7 +8,7 @@ use Rattle.concurrent_lru.specs.Entries.{cache_with, IsSound}
 use Rattle.concurrent_lru.specs.Request as ask
 use Rattle.concurrent_lru.specs.Runs.{Stands, Overflows, TakesMemory}
 use Rattle.concurrent_lru.specs.Results.{outcome_of_begin}
-use Rattle.concurrent_lru.proofs.Entries.EntryAtPlace.{key_is, has_room, held_place, unready_pinned, would_hit, is_full, value_here}
+use Rattle.concurrent_lru.proofs.Entries.EntryAtPlace.{key_is, found_is, has_room, held_place, unready_pinned, would_hit, is_full, value_here}
 use Rattle.concurrent_lru.proofs.Steps.NotReady.{unready_not_ready}
 use Rattle.concurrent_lru.proofs.Steps.BeginOfHeld.{joins_lawful}
 use Rattle.concurrent_lru.proofs.Steps.StaysLawful.{hits_lawful}
@@ -25,7 +25,7 @@ returns-then-pins-self-clause-step g c =
     let here = c.node-node.ensures.entry in
     let equal = key_is here c.self.invariant.lawful c.args.key.now c.in-Some.ensures in (
       subst (λ old. Overflows g.K.PartialEq.eq old (ask.begin c.args.key.now c.args.charge)) (ap (λ x. x.cache) c.self.view_is)
-          (inr (is_full here g.K.PartialEq.eq c.self.inside.capacity c.self.inside.most_pins c.self.inside.next c.args.key.now c.self.invariant.pins_above equal c.if-pins-self.true)),
+          (inr (is_full here g.K.PartialEq.eq c.self.inside.capacity c.self.inside.most_pins c.self.inside.next c.args.key.now (found_is here c.self.invariant.lawful c.args.key.now c.in-Some.ensures) c.self.invariant.pins_above equal c.if-pins-self.true)),
       refl,
     )
 
@@ -40,7 +40,7 @@ waits g c =
     let here = c.node-node.ensures.entry in
     let phase = ap phase_of c.in-Making.is in
     joins_as_it_is g.K.PartialEq.eq c.self.inside.capacity c.self.inside.most_pins c.self.inside.next here c.hold.new.self c.args.key.now making
-    (key_is here c.self.invariant.lawful c.args.key.now c.in-Some.ensures) (unready_pinned here (unready_not_ready _ (inl phase)))
+    (found_is here c.self.invariant.lawful c.args.key.now c.in-Some.ensures (unready_pinned here (unready_not_ready _ (inl phase)))) (key_is here c.self.invariant.lawful c.args.key.now c.in-Some.ensures) (unready_pinned here (unready_not_ready _ (inl phase)))
     (has_room here c.self.invariant.lawful c.self.invariant.pins_above c.if-pins-self.false) phase c.hold.ensures
 
 pub invariant_of-self : goal.invariant_of-self
@@ -71,7 +71,7 @@ takes g c =
     let phase = ap phase_of c.in-Untaken.is in
     let some = unready_pinned here (unready_not_ready _ (inr phase)) in
     joins g.K.PartialEq.eq c.self.inside.capacity c.self.inside.most_pins c.self.inside.next here c.set_phase.new.self c.args.key.now untaken making
-    (key_is here c.self.invariant.lawful c.args.key.now c.in-Some.ensures) some
+    (found_is here c.self.invariant.lawful c.args.key.now c.in-Some.ensures some) (key_is here c.self.invariant.lawful c.args.key.now c.in-Some.ensures) some
     (has_room here c.self.invariant.lawful c.self.invariant.pins_above c.if-pins-self.false) phase (rewritten_twice here some c.hold-in-Untaken.ensures c.set_phase.ensures)
 
 pub invariant_of-self-in-Untaken : goal.invariant_of-self-in-Untaken
@@ -100,7 +100,7 @@ returns-in_err-value-in-Ready-clause-step g c =
     (subst (λ old. Stands g.K.PartialEq.eq c.args.self.now.cache (ask.begin c.args.key.now c.args.charge) (outcome_of_begin c.from_residual.result) old) (sym (ap (λ x. x.cache) c.self.view_is))
     (begun_memory g.K.PartialEq.eq c.args.self.now.cache (ask.begin c.args.key.now c.args.charge) c.from_residual.result _ c.from_residual.ensures.1 c.in_err-value-in-Ready.ensures.refusal
     (subst (λ old. TakesMemory g.K.PartialEq.eq old (ask.begin c.args.key.now c.args.charge)) (ap (λ x. x.cache) c.self.view_is)
-    (inr (would_hit here g.K.PartialEq.eq c.self.inside.capacity c.self.inside.most_pins c.self.inside.next c.args.key.now c.in-Ready.field-0.value
+    (inr (would_hit here g.K.PartialEq.eq c.self.inside.capacity c.self.inside.most_pins c.self.inside.next c.args.key.now c.in-Ready.field-0.value (found_is here c.self.invariant.lawful c.args.key.now c.in-Some.ensures)
     (has_room here c.self.invariant.lawful c.self.invariant.pins_above c.if-pins-self.false)
     (key_is here c.self.invariant.lawful c.args.key.now c.in-Some.ensures) (ap phase_of c.in-Ready.is))))))
 
@@ -117,7 +117,7 @@ found : (g : _) (c : After-none-in-Ready g) → Hits g.K.PartialEq.eq (cache_wit
 found g c =
     let here = c.node-node.ensures.entry in
     hits g.K.PartialEq.eq c.self.inside.capacity c.self.inside.most_pins c.self.inside.next here c.pin.new.self c.args.key.now (arc_value c.in_ok-value-in-Ready.value)
-    (key_is here c.self.invariant.lawful c.args.key.now c.in-Some.ensures) (has_room here c.self.invariant.lawful c.self.invariant.pins_above c.if-pins-self.false)
+    (found_is here c.self.invariant.lawful c.args.key.now c.in-Some.ensures) (key_is here c.self.invariant.lawful c.args.key.now c.in-Some.ensures) (has_room here c.self.invariant.lawful c.self.invariant.pins_above c.if-pins-self.false)
     (value_here here (arc_value c.in_ok-value-in-Ready.value) c.node-node.ensures.value c.in_ok-value-in-Ready.ensures.value) c.node-node.ensures.pins c.in_ok-value-in-Ready.ensures.revived c.in_ok-value-in-Ready.ensures.held
 
 pub invariant_of-self-in-Ready : goal.invariant_of-self-in-Ready

@@ -3,7 +3,7 @@ use Rattle.concurrent_lru.specs.Entries.{cache_with}
 use Rattle.concurrent_lru.specs.NodeTable.{phase_of}
 use Rattle.concurrent_lru.specs.Ready.{HasReadyKey}
 use Rattle.concurrent_lru.specs.Steps.{IsUnready}
-use Rattle.concurrent_lru.proofs.Entries.EntryAtPlace.{key_is, unready_pinned, is_unready}
+use Rattle.concurrent_lru.proofs.Entries.EntryAtPlace.{key_is, found_is, unready_pinned, is_unready}
 use Rattle.concurrent_lru.proofs.Entries.ReadyAtPlace.{has_ready_key}
 use Rattle.concurrent_lru.proofs.Steps.NotReady.{absent_unready, unready_phase, unready_not_ready}
 use Rattle.concurrent_lru.proofs.lru_core.State.contains.Goals as goal
@@ -17,12 +17,12 @@ pub returns-in_default-phase-clause-no : goal.returns-in_default-phase-clause-no
 returns-in_default-phase-clause-no g c = λ _.
     let here = c.node-node.ensures.entry in
     let phase = unready_phase _ c.in_default-phase.not-Ready in
-    let unready = is_unready here c.self.invariant.lawful c.args.key.now g.met.K.Eq.laws (key_is here c.self.invariant.lawful c.args.key.now c.in-Some.ensures) phase (unready_pinned here (unready_not_ready _ phase)) in
+    let unready = is_unready here c.self.invariant.lawful c.args.key.now g.met.K.Eq.laws (key_is here c.self.invariant.lawful c.args.key.now c.in-Some.ensures) phase (unready_pinned here (unready_not_ready _ phase)) (found_is here c.self.invariant.lawful c.args.key.now c.in-Some.ensures) in
     subst (λ k. IsUnready g.K.PartialEq.eq k c.args.key.now) (ap (λ x. x.cache) c.self.view_is) unready
 
 pub returns-clause-yes : goal.returns-clause-yes
 returns-clause-yes g c = λ _.
     let here = c.node-node.ensures.entry in
-    let found = has_ready_key g.K.PartialEq.eq c.self.inside.capacity c.self.inside.most_pins c.self.inside.next here c.args.key.now c.in-Ready.field-0.value
+    let found = has_ready_key g.K.PartialEq.eq c.self.inside.capacity c.self.inside.most_pins c.self.inside.next here c.args.key.now c.in-Ready.field-0.value (found_is here c.self.invariant.lawful c.args.key.now c.in-Some.ensures)
     (key_is here c.self.invariant.lawful c.args.key.now c.in-Some.ensures) (ap phase_of c.in-Ready.is) in
     subst (λ k. HasReadyKey g.K.PartialEq.eq k c.args.key.now) (ap (λ x. x.cache) c.self.view_is) found

@@ -8,7 +8,7 @@ use Rattle.concurrent_lru.specs.Entries.{cache_with, IsSound}
 use Rattle.concurrent_lru.specs.Request as ask
 use Rattle.concurrent_lru.specs.Runs.{Stands, Overflows, TakesMemory}
 use Rattle.concurrent_lru.specs.Results.{outcome_of_get}
-use Rattle.concurrent_lru.proofs.Entries.EntryAtPlace.{key_is, has_room, unready_pinned, is_unready, would_hit, get_overflows, value_here}
+use Rattle.concurrent_lru.proofs.Entries.EntryAtPlace.{key_is, found_is, has_room, unready_pinned, is_unready, would_hit, get_overflows, value_here}
 use Rattle.concurrent_lru.proofs.Steps.NotReady.{absent_unready, unready_phase, unready_not_ready}
 use Rattle.concurrent_lru.proofs.Steps.StaysLawful.{hits_lawful}
 use Rattle.concurrent_lru.proofs.Steps.MemoryRefused.{got_memory}
@@ -25,7 +25,7 @@ pub returns-in_default-phase : goal.returns-in_default-phase
 returns-in_default-phase g c =
     let here = c.node-node.ensures.entry in
     let phase = unready_phase _ c.in_default-phase.not-Ready in
-    let unready = is_unready here c.self.invariant.lawful c.args.key.now g.met.K.Eq.laws (key_is here c.self.invariant.lawful c.args.key.now c.in-Some.ensures) phase (unready_pinned here (unready_not_ready _ phase)) in
+    let unready = is_unready here c.self.invariant.lawful c.args.key.now g.met.K.Eq.laws (key_is here c.self.invariant.lawful c.args.key.now c.in-Some.ensures) phase (unready_pinned here (unready_not_ready _ phase)) (found_is here c.self.invariant.lawful c.args.key.now c.in-Some.ensures) in
     record {
       step = (subst (λ old. IsUnready g.K.PartialEq.eq old c.args.key.now) (ap (λ x. x.cache) c.self.view_is) unready, record { same = refl; none = refl });
       work = omega arith;
@@ -37,7 +37,7 @@ returns-then-pins-self-clause-step g c =
     let here = c.node-node.ensures.entry in
     let equal = key_is here c.self.invariant.lawful c.args.key.now c.in-Some.ensures in (
       subst (λ old. Overflows g.K.PartialEq.eq old (ask.get c.args.key.now)) (ap (λ x. x.cache) c.self.view_is)
-          (get_overflows here g.K.PartialEq.eq c.self.inside.capacity c.self.inside.most_pins c.self.inside.next c.args.key.now c.in-Ready.field-0.value c.self.invariant.pins_above equal c.if-pins-self.true (ap phase_of c.in-Ready.is)),
+          (get_overflows here g.K.PartialEq.eq c.self.inside.capacity c.self.inside.most_pins c.self.inside.next c.args.key.now c.in-Ready.field-0.value (found_is here c.self.invariant.lawful c.args.key.now c.in-Some.ensures) c.self.invariant.pins_above equal c.if-pins-self.true (ap phase_of c.in-Ready.is)),
       refl,
     )
 
@@ -54,7 +54,7 @@ returns-in_err-value-clause-step g c =
     (subst (λ old. Stands g.K.PartialEq.eq c.args.self.now.cache (ask.get c.args.key.now) (outcome_of_get c.from_residual.result) old) (sym (ap (λ x. x.cache) c.self.view_is))
     (got_memory g.K.PartialEq.eq c.args.self.now.cache (ask.get c.args.key.now) c.from_residual.result _ c.from_residual.ensures.1 c.in_err-value.ensures.refusal
     (subst (λ old. TakesMemory g.K.PartialEq.eq old (ask.get c.args.key.now)) (ap (λ x. x.cache) c.self.view_is)
-    (would_hit here g.K.PartialEq.eq c.self.inside.capacity c.self.inside.most_pins c.self.inside.next c.args.key.now c.in-Ready.field-0.value
+    (would_hit here g.K.PartialEq.eq c.self.inside.capacity c.self.inside.most_pins c.self.inside.next c.args.key.now c.in-Ready.field-0.value (found_is here c.self.invariant.lawful c.args.key.now c.in-Some.ensures)
     (has_room here c.self.invariant.lawful c.self.invariant.pins_above c.if-pins-self.false)
     (key_is here c.self.invariant.lawful c.args.key.now c.in-Some.ensures) (ap phase_of c.in-Ready.is)))))
 
@@ -71,7 +71,7 @@ found : (g : _) (c : In_ok-value g) → Hits g.K.PartialEq.eq (cache_with c.self
 found g c =
     let here = c.node-node.ensures.entry in
     hits g.K.PartialEq.eq c.self.inside.capacity c.self.inside.most_pins c.self.inside.next here c.pin.new.self c.args.key.now (arc_value c.in_ok-value.value)
-    (key_is here c.self.invariant.lawful c.args.key.now c.in-Some.ensures) (has_room here c.self.invariant.lawful c.self.invariant.pins_above c.if-pins-self.false)
+    (found_is here c.self.invariant.lawful c.args.key.now c.in-Some.ensures) (key_is here c.self.invariant.lawful c.args.key.now c.in-Some.ensures) (has_room here c.self.invariant.lawful c.self.invariant.pins_above c.if-pins-self.false)
     (value_here here (arc_value c.in_ok-value.value) c.node-node.ensures.value c.in_ok-value.ensures.value) c.node-node.ensures.pins c.in_ok-value.ensures.revived c.in_ok-value.ensures.held
 
 pub invariant_of-self-2 : goal.invariant_of-self-2

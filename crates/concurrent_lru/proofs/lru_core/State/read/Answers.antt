@@ -6,7 +6,7 @@ use Rattle.concurrent_lru.specs.Entries.{cache_with}
 use Rattle.concurrent_lru.specs.Request as ask
 use Rattle.concurrent_lru.specs.Reads.{Finds, GetsAndReleases}
 use Rattle.concurrent_lru.specs.Runs.{Overflows}
-use Rattle.concurrent_lru.proofs.Entries.EntryAtPlace.{key_is, has_room, unready_pinned, is_unready, get_overflows}
+use Rattle.concurrent_lru.proofs.Entries.EntryAtPlace.{key_is, found_is, has_room, unready_pinned, is_unready, get_overflows}
 use Rattle.concurrent_lru.proofs.Entries.ReadEntry.{finds, read_held, read_idle, read_lawful}
 use Rattle.concurrent_lru.proofs.Steps.NotReady.{absent_unready, unready_phase, unready_not_ready}
 use Rattle.concurrent_lru.proofs.lru_core.State.read.Goals as goal
@@ -21,7 +21,7 @@ pub returns-in_default-phase : goal.returns-in_default-phase
 returns-in_default-phase g c =
     let here = c.node-node.ensures.entry in
     let phase = unready_phase _ c.in_default-phase.not-Ready in
-    let unready = is_unready here c.self.invariant.lawful c.args.key.now g.met.K.Eq.laws (key_is here c.self.invariant.lawful c.args.key.now c.in-Some.ensures) phase (unready_pinned here (unready_not_ready _ phase)) in
+    let unready = is_unready here c.self.invariant.lawful c.args.key.now g.met.K.Eq.laws (key_is here c.self.invariant.lawful c.args.key.now c.in-Some.ensures) phase (unready_pinned here (unready_not_ready _ phase)) (found_is here c.self.invariant.lawful c.args.key.now c.in-Some.ensures) in
     record {
       step = (subst (λ old. IsUnready g.K.PartialEq.eq old c.args.key.now) (ap (λ x. x.cache) c.self.view_is) unready, record { same = refl; none = refl });
       work = omega arith;
@@ -35,7 +35,7 @@ returns-then-pins-self-clause-step g c =
       refl,
       (
         subst (λ old. Overflows g.K.PartialEq.eq old (ask.get c.args.key.now)) (ap (λ x. x.cache) c.self.view_is)
-            (get_overflows here g.K.PartialEq.eq c.self.inside.capacity c.self.inside.most_pins c.self.inside.next c.args.key.now c.in-Ready.value.value c.self.invariant.pins_above equal c.if-pins-self.true (ap phase_of c.in-Ready.is)),
+            (get_overflows here g.K.PartialEq.eq c.self.inside.capacity c.self.inside.most_pins c.self.inside.next c.args.key.now c.in-Ready.value.value (found_is here c.self.invariant.lawful c.args.key.now c.in-Some.ensures) c.self.invariant.pins_above equal c.if-pins-self.true (ap phase_of c.in-Ready.is)),
         refl,
       ),
     )
@@ -44,7 +44,7 @@ pub reader-answer-requires : goal.reader-answer-requires
 reader-answer-requires g c =
     let here = c.node-node.ensures.entry in
     let found = finds g.K.PartialEq.eq c.self.inside.capacity c.self.inside.most_pins c.self.inside.next here c.args.key.now c.in-Ready.value.value (key_is here c.self.invariant.lawful c.args.key.now c.in-Some.ensures)
-    (has_room here c.self.invariant.lawful c.self.invariant.pins_above c.if-pins-self.false) (ap phase_of c.in-Ready.is) c.node-node.ensures.pins in
+    (has_room here c.self.invariant.lawful c.self.invariant.pins_above c.if-pins-self.false) (ap phase_of c.in-Ready.is) (found_is here c.self.invariant.lawful c.args.key.now c.in-Some.ensures) c.node-node.ensures.pins in
     c.requires.callable c.in-Ready.value.value (subst (λ old. Finds g.K.PartialEq.eq old c.args.key.now c.in-Ready.value.value) (ap (λ x. x.cache) c.self.view_is) found) c.deref.result c.deref.ensures
 
 pub returns-then-pins-gt0-clause-step : goal.returns-then-pins-gt0-clause-step
@@ -53,7 +53,7 @@ returns-then-pins-gt0-clause-step g c =
     let v = c.in-Ready.value.value in
     let pinned = c.if-pins-gt0.true in
     let read = read_held g.K.PartialEq.eq c.self.inside.capacity c.self.inside.most_pins c.self.inside.next here c.args.key.now v (key_is here c.self.invariant.lawful c.args.key.now c.in-Some.ensures)
-    (has_room here c.self.invariant.lawful c.self.invariant.pins_above c.if-pins-self.false) (ap phase_of c.in-Ready.is) (λ none. omega (arith, none, pinned)) in
+    (has_room here c.self.invariant.lawful c.self.invariant.pins_above c.if-pins-self.false) (ap phase_of c.in-Ready.is) (found_is here c.self.invariant.lawful c.args.key.now c.in-Some.ensures) (λ none. omega (arith, none, pinned)) in
     (v, subst (λ old. GetsAndReleases g.K.PartialEq.eq old c.args.key.now (entry_of c.node-node.result.now).stamp v old) (ap (λ x. x.cache) c.self.view_is) read, search (rules, of_calls))
 
 unpinned : (g : _) (c : After-renew g) → (entry_of c.node-node.result.now).pins ≡ 0
@@ -63,7 +63,7 @@ lawful : (g : _) (c : After-renew g) → IsLawful g.K.PartialEq.eq (cache_with c
 lawful g c =
     let here = c.node-node.ensures.entry in
     read_lawful g.K.PartialEq.eq c.self.inside.capacity c.self.inside.most_pins c.self.inside.next here c.args.key.now c.in-Ready.value.value (key_is here c.self.invariant.lawful c.args.key.now c.in-Some.ensures)
-    (has_room here c.self.invariant.lawful c.self.invariant.pins_above c.if-pins-self.false) (ap phase_of c.in-Ready.is) c.self.invariant.lawful c.renew.new.self g.met.K.Eq.laws c.node-node.ensures.pins (unpinned g c) c.renew.ensures.entry
+    (has_room here c.self.invariant.lawful c.self.invariant.pins_above c.if-pins-self.false) (ap phase_of c.in-Ready.is) (found_is here c.self.invariant.lawful c.args.key.now c.in-Some.ensures) c.self.invariant.lawful c.renew.new.self g.met.K.Eq.laws c.node-node.ensures.pins (unpinned g c) c.renew.ensures.entry
 
 pub invariant_of-self : goal.invariant_of-self
 invariant_of-self g c = record { lawful = lawful g c; pins_above = c.self.invariant.pins_above }
@@ -73,7 +73,7 @@ returns-clause-step g c =
     let here = c.node-node.ensures.entry in
     let v = c.in-Ready.value.value in
     let read = read_idle g.K.PartialEq.eq c.self.inside.capacity c.self.inside.most_pins c.self.inside.next here c.args.key.now v (key_is here c.self.invariant.lawful c.args.key.now c.in-Some.ensures)
-    (has_room here c.self.invariant.lawful c.self.invariant.pins_above c.if-pins-self.false) (ap phase_of c.in-Ready.is) c.self.invariant.lawful c.renew.new.self c.node-node.ensures.pins (unpinned g c) c.renew.ensures.entry in
+    (has_room here c.self.invariant.lawful c.self.invariant.pins_above c.if-pins-self.false) (ap phase_of c.in-Ready.is) (found_is here c.self.invariant.lawful c.args.key.now c.in-Some.ensures) c.self.invariant.lawful c.renew.new.self c.node-node.ensures.pins (unpinned g c) c.renew.ensures.entry in
     let new = cache_with c.self.inside.capacity c.self.inside.most_pins c.self.inside.next c.renew.new.self in
     (v, subst (λ old. GetsAndReleases g.K.PartialEq.eq old c.args.key.now (entry_of c.node-node.result.now).stamp v new) (ap (λ x. x.cache) c.self.view_is) read, search (rules, of_calls))
 

@@ -1,13 +1,14 @@
 use Rattle.std.proofs.Common.{◌≡◌, ℕ, ◌<◌, [], refl, sym, ap, ◌∙◌, subst, arith, inl, inr}
 use Rattle.concurrent_lru.specs.Cache.{ready, IsLawful, held_at}
-use Rattle.concurrent_lru.specs.Steps.{Leaves, Rests}
+use Rattle.concurrent_lru.specs.Steps.{Leaves, Rests, Ends}
 use Rattle.concurrent_lru.specs.NodeTable.{entry_of, phase_of}
 use Rattle.concurrent_lru.specs.Entries.{cache_with}
 use Rattle.concurrent_lru.proofs.Entries.EntryAtPlace.{held_is, held_place, ready_place}
 use Rattle.concurrent_lru.proofs.Steps.Release.{phase_ready, leaves_lawful, rests_lawful}
-use Rattle.concurrent_lru.proofs.Entries.StepsOfEntries.{leaves_as_it_is, rests}
+use Rattle.concurrent_lru.proofs.Steps.LawfulAfterLeaving.{ends_lawful}
+use Rattle.concurrent_lru.proofs.Entries.StepsOfEntries.{leaves_as_it_is, rests, ends}
 use Rattle.concurrent_lru.proofs.lru_core.State.release.Goals as goal
-use Rattle.concurrent_lru.proofs.lru_core.State.release.Goals.{After-none, After-settle}
+use Rattle.concurrent_lru.proofs.lru_core.State.release.Goals.{After-none, After-settle, After-one}
 
 pub returns-in_default-clause-step : goal.returns-in_default-clause-step
 returns-in_default-clause-step g c = (λ h v holds. c.in_default.ensures h.key h.charge (inr (h, ap (λ k. held_at k.cache c.args.stamp) c.self.view_is ∙ holds.at, refl, refl)), refl)
@@ -51,10 +52,25 @@ pub returns-then-pins-gt1-clause-lawful : goal.returns-then-pins-gt1-clause-lawf
 returns-then-pins-gt1-clause-lawful g c = leaves_lawful _ _ _ _ _ _ _ c.self.invariant.lawful (unpinned g c)
 
 pub rest-requires : goal.rest-requires
-rest-requires g c = ready_place c.node-node.ensures.entry c.in-Ready.field-0.value (ap phase_of c.in-Ready.is) c.if-pins-eq0.false
+rest-requires g c = ready_place c.node-node.ensures.entry c.in-Ready.field-0.value (ap phase_of c.in-Ready.is) c.if-pins-eq0.false c.if-detached.false
 
 one : (n : ℕ) → (n ≡ 0 → ⊥) → (1 < n → ⊥) → n ≡ 1
 one n some few = omega arith
+
+ended : (g : _) (c : After-one g) → Ends g.K.PartialEq.eq (cache_with c.self.inside.capacity c.self.inside.most_pins c.self.inside.next c.self.inside.table) c.args.stamp c.one.result (cache_with c.self.inside.capacity c.self.inside.most_pins c.self.inside.next c.take_held.new.self)
+ended g c =
+    let few = c.if-pins-gt1.false in
+    ends g.K.PartialEq.eq c.self.inside.capacity c.self.inside.most_pins c.self.inside.next c.node-node.ensures.entry c.take_held.new.self c.args.stamp c.in-Ready.field-0.value (entry_of c.take_held.result.value) c.one.result c.in-Some.ensures
+    (ap phase_of c.in-Ready.is) c.if-detached.true (one (entry_of c.node-node.result.now).pins c.if-pins-eq0.false (λ many. omega (arith, many, few))) c.take_held.ensures.at c.take_held.ensures.entry c.take_held.ensures.idle c.take_held.ensures.held c.one.ensures
+
+pub invariant_of-self-then-detached : goal.invariant_of-self-then-detached
+invariant_of-self-then-detached g c = record { lawful = ends_lawful _ _ _ _ _ c.self.invariant.lawful (ended g c); pins_above = c.self.invariant.pins_above }
+
+pub returns-then-detached-clause-step : goal.returns-then-detached-clause-step
+returns-then-detached-clause-step g c = inr (inr (subst (λ old. Ends g.K.PartialEq.eq old c.args.stamp c.one.result (cache_with c.self.inside.capacity c.self.inside.most_pins c.self.inside.next c.take_held.new.self)) (ap (λ x. x.cache) c.self.view_is) (ended g c)))
+
+pub returns-then-detached-clause-lawful : goal.returns-then-detached-clause-lawful
+returns-then-detached-clause-lawful g c = ends_lawful _ _ _ _ _ c.self.invariant.lawful (ended g c)
 
 rested : (g : _) (c : After-settle g) → Rests g.K.PartialEq.eq (cache_with c.self.inside.capacity c.self.inside.most_pins c.self.inside.next c.self.inside.table) c.args.stamp c.settle.result (cache_with c.self.inside.capacity c.self.inside.most_pins c.self.inside.next c.settle.new.self)
 rested g c =
@@ -66,7 +82,7 @@ pub invariant_of-self-2 : goal.invariant_of-self-2
 invariant_of-self-2 g c = record { lawful = rests_lawful _ _ _ _ _ c.self.invariant.lawful (rested g c); pins_above = c.self.invariant.pins_above }
 
 pub returns-clause-step : goal.returns-clause-step
-returns-clause-step g c = inr (subst (λ old. Rests g.K.PartialEq.eq old c.args.stamp c.settle.result (cache_with c.self.inside.capacity c.self.inside.most_pins c.self.inside.next c.settle.new.self)) (ap (λ x. x.cache) c.self.view_is) (rested g c))
+returns-clause-step g c = inr (inl (subst (λ old. Rests g.K.PartialEq.eq old c.args.stamp c.settle.result (cache_with c.self.inside.capacity c.self.inside.most_pins c.self.inside.next c.settle.new.self)) (ap (λ x. x.cache) c.self.view_is) (rested g c)))
 
 pub returns-clause-lawful : goal.returns-clause-lawful
 returns-clause-lawful g c = rests_lawful _ _ _ _ _ c.self.invariant.lawful (rested g c)

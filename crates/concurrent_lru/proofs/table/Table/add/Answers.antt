@@ -37,6 +37,7 @@ added g c =
       nodes = c.insert_reserved-place.ensures.nodes ∙ ap (insert c.make_room.new.nodes.nodes c.insert_reserved-place.result) entry;
       idle = c.insert_reserved-place.ensures.idle;
       pins = refl;
+      found = refl;
       same_key = laws.congr c.in_ok-kept.kept c.args.key.now c.in_ok-own.own kept ∙ laws.symm c.args.key.now c.in_ok-own.own ∙ own;
       absent = c.make_room.ensures.by_key c.in_ok-kept.kept ∙ alike_get laws c.self.inside.by_key c.in_ok-kept.kept c.args.key.now kept
           ∙ lacks_key c.self.invariant.stored c.args.key.now (subst (λ t. ContainsNoKey g.K.PartialEq.eq t c.args.key.now) (sym c.self.view_is) c.requires.absent);

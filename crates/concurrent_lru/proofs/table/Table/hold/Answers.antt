@@ -14,9 +14,9 @@ pub invariant_of-self : goal.invariant_of-self
 invariant_of-self g c =
     let h = subst (λ t. ContainsHeldAt t c.args.place) (sym c.self.view_is) c.requires.held in
     let n = some_node c.self.invariant.stored c.args.place (h.0, h.1) in
-    let changed = entries_written c.self.invariant.stored (pinned_writes c.self.inside.nodes c.set_pins.new.self c.args.place c.args.pins n.0 n.1 c.set_pins.ensures.nodes) refl c.set_pins.ensures.idle (held_node c.self.invariant.stored c.args.place n.0 h n.1) (not_zero c.args.pins c.requires.some) c.set_pins.ensures.work in
+    let changed = entries_written c.self.invariant.stored (pinned_writes c.self.inside.nodes c.set_pins.new.self c.args.place c.args.pins n.0 n.1 c.set_pins.ensures.nodes) refl refl c.set_pins.ensures.idle (held_node c.self.invariant.stored c.args.place n.0 h n.1) (not_zero c.args.pins c.requires.some) c.set_pins.ensures.work in
     record {
-      stored = stored_written c.self.invariant.stored (pinned_writes c.self.inside.nodes c.set_pins.new.self c.args.place c.args.pins n.0 n.1 c.set_pins.ensures.nodes) refl c.set_pins.ensures.idle (held_node c.self.invariant.stored c.args.place n.0 h n.1) (not_zero c.args.pins c.requires.some);
+      stored = stored_written c.self.invariant.stored (pinned_writes c.self.inside.nodes c.set_pins.new.self c.args.place c.args.pins n.0 n.1 c.set_pins.ensures.nodes) refl refl c.set_pins.ensures.idle (held_node c.self.invariant.stored c.args.place n.0 h n.1) (not_zero c.args.pins c.requires.some);
       sums = c.self.invariant.sums ∙ sym (sum_written (entries_of c.self.inside.nodes) (entries_of c.set_pins.new.self) n.0.stamp _ _ (ap (λ t. t.idle) changed) (ap (λ t. t.held) changed) (held_found c.self.invariant.stored c.args.place n.0 n.1 (held_node c.self.invariant.stored c.args.place n.0 h n.1)) refl);
     }
 
@@ -29,5 +29,5 @@ returns g c =
       entry = _;
       at = place_at c.self.invariant.stored c.args.place n.0 n.1;
       held = held_found c.self.invariant.stored c.args.place n.0 n.1 (held_node c.self.invariant.stored c.args.place n.0 h n.1);
-      changed = entries_written c.self.invariant.stored (pinned_writes c.self.inside.nodes c.set_pins.new.self c.args.place c.args.pins n.0 n.1 c.set_pins.ensures.nodes) refl c.set_pins.ensures.idle (held_node c.self.invariant.stored c.args.place n.0 h n.1) (not_zero c.args.pins c.requires.some) c.set_pins.ensures.work;
+      changed = entries_written c.self.invariant.stored (pinned_writes c.self.inside.nodes c.set_pins.new.self c.args.place c.args.pins n.0 n.1 c.set_pins.ensures.nodes) refl refl c.set_pins.ensures.idle (held_node c.self.invariant.stored c.args.place n.0 h n.1) (not_zero c.args.pins c.requires.some) c.set_pins.ensures.work;
     })

@@ -6,7 +6,7 @@ use Rattle.concurrent_lru.specs.Entries.{IsReadyAt, RestsAt}
 use Rattle.concurrent_lru.specs.Indexes.{entries_of}
 use Rattle.concurrent_lru.proofs.Entries.NodeWrittenOrAdded.{inserted_at}
 use Rattle.concurrent_lru.proofs.Entries.NodeTaken.{held_not_idle}
-use Rattle.concurrent_lru.proofs.Entries.NodeAtPlace.{has_node, some_node, held_found, ready_like, place_at}
+use Rattle.concurrent_lru.proofs.Entries.NodeAtPlace.{has_node, some_node, held_found, ready_like, ready_found, place_at}
 use Rattle.concurrent_lru.proofs.Steps.Release.{pinned_writes}
 use Rattle.concurrent_lru.proofs.Entries.EntryWritten.{rests_nodes, stored_rested, entries_rested}
 use Rattle.concurrent_lru.proofs.Entries.SumsOfCharges.{sum_rested}
@@ -33,9 +33,9 @@ invariant_of-self g c =
     let h = subst (λ t. IsReadyAt t c.args.place) (sym c.self.view_is) c.requires in
     let n = some_node c.self.invariant.stored c.args.place (h.stamp, h.at) in
     let l = ready_like c.self.invariant.stored c.args.place n.0 h n.1 in
-    let changed = entries_rested c.self.invariant.stored (rests_nodes c.self.inside.nodes c.set_pins.new.self c.append.new.self c.args.place n.0 n.1 c.set_pins.ensures.nodes c.append.ensures.nodes) refl h.value (c.append.ensures.idle ∙ ap (λ xs. xs ++ c.args.place ∷ []) c.set_pins.ensures.idle) l.0 refl l.1 (c.append.ensures.work ∙ ap (λ n. n + 1) c.set_pins.ensures.work) in
+    let changed = entries_rested c.self.invariant.stored (rests_nodes c.self.inside.nodes c.set_pins.new.self c.append.new.self c.args.place n.0 n.1 c.set_pins.ensures.nodes c.append.ensures.nodes) refl refl h.value (c.append.ensures.idle ∙ ap (λ xs. xs ++ c.args.place ∷ []) c.set_pins.ensures.idle) l.0 refl l.1 (c.append.ensures.work ∙ ap (λ n. n + 1) c.set_pins.ensures.work) in
     record {
-      stored = stored_rested c.self.invariant.stored (rests_nodes c.self.inside.nodes c.set_pins.new.self c.append.new.self c.args.place n.0 n.1 c.set_pins.ensures.nodes c.append.ensures.nodes) refl h.value (c.append.ensures.idle ∙ ap (λ xs. xs ++ c.args.place ∷ []) c.set_pins.ensures.idle) l.0 refl l.1;
+      stored = stored_rested c.self.invariant.stored (rests_nodes c.self.inside.nodes c.set_pins.new.self c.append.new.self c.args.place n.0 n.1 c.set_pins.ensures.nodes c.append.ensures.nodes) refl refl h.value (c.append.ensures.idle ∙ ap (λ xs. xs ++ c.args.place ∷ []) c.set_pins.ensures.idle) l.0 refl l.1 (ready_found c.self.invariant.stored c.args.place n.0 h n.1);
       sums = c.self.invariant.sums ∙ sym (sum_rested (entries_of c.self.inside.nodes) (entries_of c.append.new.self) n.0.stamp _ _ (ap (λ t. t.idle) changed) (ap (λ t. t.held) changed) (held_found c.self.invariant.stored c.args.place n.0 n.1 l.0) refl);
     }
 
@@ -52,6 +52,7 @@ returns g c =
         at = place_at c.self.invariant.stored c.args.place n.0 n.1;
         held = held_found c.self.invariant.stored c.args.place n.0 n.1 l.0;
         phase = l.1;
+        found = ready_found c.self.invariant.stored c.args.place n.0 h n.1;
       };
-      changed = entries_rested c.self.invariant.stored (rests_nodes c.self.inside.nodes c.set_pins.new.self c.append.new.self c.args.place n.0 n.1 c.set_pins.ensures.nodes c.append.ensures.nodes) refl h.value (c.append.ensures.idle ∙ ap (λ xs. xs ++ c.args.place ∷ []) c.set_pins.ensures.idle) l.0 refl l.1 (c.append.ensures.work ∙ ap (λ n. n + 1) c.set_pins.ensures.work);
+      changed = entries_rested c.self.invariant.stored (rests_nodes c.self.inside.nodes c.set_pins.new.self c.append.new.self c.args.place n.0 n.1 c.set_pins.ensures.nodes c.append.ensures.nodes) refl refl h.value (c.append.ensures.idle ∙ ap (λ xs. xs ++ c.args.place ∷ []) c.set_pins.ensures.idle) l.0 refl l.1 (c.append.ensures.work ∙ ap (λ n. n + 1) c.set_pins.ensures.work);
     })

@@ -1,0 +1,78 @@
+//! Values of shards that are taken back while they are held.
+ghost use Rattle.std.specs.Prelude.{◌<◌};
+
+use crate::{pure, threaded};
+use concurrent_lru::sharded::LruCache;
+use lru_fixtures::tables::shards::ShardCall;
+use lru_fixtures::threaded::Call;
+use lru_fixtures::threaded::Call::{Get, Init, Invalidate, LetGo, Show, Total};
+use lru_fixtures::threaded::Then::{AtOnce, Keep};
+use lru_support::hashers::ByOwnNumber;
+use std::sync::Wait;
+use std::test;
+
+// The shard of the key alone detaches; stamps of the other shard stay as they were.
+const PURE: [(ShardCall, &str); 13] = [
+    (ShardCall::Begin(1, 3), "Ok((1, Make(0), []))"),
+    (ShardCall::Ready(1, 0, 20), "Ok(())"),
+    (ShardCall::Use(0), "Ok((0, [], []))"),
+    (ShardCall::Invalidate(3), "[]"),
+    (ShardCall::Invalidate(1), "[]"),
+    (ShardCall::Get(1), "Ok(None)"),
+    (ShardCall::Begin(1, 4), "Ok((1, Make(1), []))"),
+    (ShardCall::Total(1), "Ok(7)"),
+    (
+        ShardCall::Release(1, 0),
+        "Ok([Gone { stamp: 0, key: 1, charge: 3, value: 20 }])",
+    ),
+    (ShardCall::Fail(1, 1), "Ok(Removed(1))"),
+    (
+        ShardCall::Invalidate(0),
+        "[Gone { stamp: 0, key: 0, charge: 1, value: 0 }]",
+    ),
+    (ShardCall::Total(0), "Ok(0)"),
+    (ShardCall::Total(1), "Ok(0)"),
+];
+
+#[test]
+fn the_shard_of_the_key_detaches(rt: HostRuntime) -> Result<(), test::Fail> {
+    pure::plays(rt.alloc(), 20, 2, ByOwnNumber, &PURE)
+}
+
+const THREADED: [(Call, &str); 12] = [
+    (Init(1, 3, 1, Keep(0)), "Made(1, 1)"),
+    (Init(2, 3, 2, AtOnce), "Made(2, 2)"),
+    (Invalidate(1), "Done"),
+    (Get(1, AtOnce), "Absent"),
+    (Get(2, AtOnce), "Found(2)"),
+    (Init(1, 4, 3, AtOnce), "Made(1, 3)"),
+    (Total, "Number(10)"),
+    (Show, "[{2: 2}, {1: 3}]"),
+    (LetGo(0), "Done, drops [1]"),
+    (Get(1, AtOnce), "Found(3)"),
+    (Invalidate(2), "Done, drops [2]"),
+    (Total, "Number(4)"),
+];
+
+#[test]
+fn a_held_value_is_replaced(rt: HostRuntime) -> Result<(), test::Fail> {
+    threaded::plays(&rt, rt.alloc(), 20, 2, &THREADED)
+}
+
+// What a handle reads after its value was taken back, what is found then, and what is made anew.
+fn reads_around<R: Wait>(cache: &LruCache<u64, u64, R, ByOwnNumber>) -> Option<(u64, bool, u64)> {
+    let old = cache.get_or_init(1, 1, |_| 5).ok()?;
+    cache.invalidate(&1);
+    let found = cache.contains(&1);
+    let new = cache.get_or_init(1, 1, |_| 6).ok()?;
+    Some((*old.value(), found, *new.value()))
+}
+
+#[test]
+fn a_handle_reads_its_own_value(rt: HostRuntime) {
+    let made: Result<LruCache<u64, u64, &HostRuntime, ByOwnNumber>, _> =
+        LruCache::with_shards_hasher(rt.alloc(), &rt, 10, 2, ByOwnNumber);
+    let cache = made.expect(&rt, "memory");
+    assert_eq!(rt; reads_around(&cache), Some((5, false, 6)));
+    assert_eq!(rt; (cache.total_charge(), cache.len()), (1, 1));
+}
