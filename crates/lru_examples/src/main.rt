@@ -1,0 +1,53 @@
+//! Four threads share a cache: each value is made once, by whichever thread asks first.
+#![tactic(auto)]
+
+#[cfg(test)]
+mod blocks;
+#[cfg(test)]
+mod first;
+#[cfg(test)]
+mod pages;
+#[cfg(test)]
+mod plans;
+
+use concurrent_lru::unsharded::LruCache;
+use std::sync::Wait;
+use std::sync::atomic::{AtomicU64, Ordering};
+use std::thread::Threads;
+use std::{io, thread};
+
+fn main(rt: HostRuntime) -> io::Result<()> {
+    let cache = LruCache::new(rt.alloc(), &rt, 1_000);
+    let made = AtomicU64::new(0);
+    ask_from_four_threads(&rt, &cache, &made);
+    let made = made.load(Ordering::SeqCst);
+    println!(rt;
+        "{made} values were made for 400 calls, and {} are kept",
+        cache.len()
+    )
+}
+
+// Each thread asks for the same 100 keys.
+fn ask_from_four_threads<R: Threads + Wait + Send + Sync, W: Wait + Send + Sync>(
+    rt: &R,
+    cache: &LruCache<u64, u64, W>,
+    made: &AtomicU64,
+) {
+    thread::scope(thread::scope_env(), rt, |scope| {
+        for _ in 0..4u32 {
+            let _started = scope.spawn(move || ask(cache, made));
+        }
+    });
+}
+
+// Asks for 100 keys, and counts the values that this thread had to make.
+fn ask<W: Wait>(cache: &LruCache<u64, u64, W>, made: &AtomicU64) {
+    for key in 0..100u64 {
+        let handle = cache.get_or_init(key, 1, |key| {
+            made.fetch_add(1, Ordering::SeqCst);
+            *key * 2
+        });
+        // Refused only where there is no memory, and then nothing is kept.
+        drop(handle);
+    }
+}
