@@ -1,4 +1,5 @@
 //! A page cache over memory: blocks are slices of one vector.
+ghost use Rattle.std.specs.Prelude.{⊤};
 
 use lru_pages::{Blocks, PageCache};
 use std::alloc::Global;
@@ -24,7 +25,7 @@ impl Blocks for Bytes<'_> {
     type Fault = Fault;
 
     // A contract may tell more: which bytes are which block. Here any are.
-    ghost is_block = { λ _ _ _. Rattle.std.specs.Prelude.⊤ };
+    ghost is_block = { λ _ _ _. ⊤ };
 
     fn block(&self, number: u64) -> Result<Vec<u8>, Fault> {
         let Ok(number) = usize::try_from(number) else {
@@ -47,7 +48,7 @@ fn pages_are_read_once(rt: HostRuntime) -> Result<(), Fail> {
     let page = pages.page(1)?;
     assert_eq!(rt; page.bytes(), b" two".as_slice());
     // In memory already: `read` shows its bytes, and reads no block.
-    assert_eq!(rt; pages.read(1, |bytes| bytes[0])?, Some(b' '));
+    assert_eq!(rt; pages.read(1, |bytes| bytes.len())?, Some(4));
     assert!(rt; pages.page(4).is_err());
     Ok(())
 }

@@ -31,7 +31,7 @@ fn compile(query: &String) -> Result<Plan, Unplanned> {
 }
 
 // The charge of a plan is the length of its query, and above 0 for an empty query too.
-fn plan<'a, R: Wait>(
+fn plan_of<'a, R: Wait>(
     plans: &'a LruCache<String, Plan, R>,
     query: &String,
 ) -> Result<CacheHandle<'a, String, Plan, R>, GetError<Unplanned>> {
@@ -43,14 +43,14 @@ fn plan<'a, R: Wait>(
 fn plans_are_found_by_their_query(rt: HostRuntime) -> Result<(), Fail> {
     let plans = LruCache::new(rt.alloc(), &rt, 1_000);
     let query = String::from_str(rt.alloc(), "select name limit 10")?;
-    assert_eq!(rt; plan(&plans, &query)?.limit, 10);
+    assert_eq!(rt; plan_of(&plans, &query)?.limit, 10);
     // The second look-up is a hit, and copies no text.
     assert_eq!(rt; plans.read(&query, |plan| plan.limit)?, Some(10));
     assert_eq!(rt; plans.total_charge(), 20);
 
     // A query that does not compile leaves nothing behind.
     let wrong = String::from_str(rt.alloc(), "select name")?;
-    let error = plan(&plans, &wrong).err();
+    let error = plan_of(&plans, &wrong).err();
     assert!(rt; matches!(&error, Some(GetError::Init(Unplanned::NoLimit))));
     assert_eq!(rt; plans.len(), 1);
     Ok(())
