@@ -1,5 +1,5 @@
-//! Counts of what the calls of a cache did. They are plain numbers, kept beside the cache under its
-//! lock.
+//! Counts of what the calls of a cache have done. They are plain numbers, kept beside the cache under
+//! its lock.
 ghost use Rattle.std.specs.Prelude.{◌≡◌, ◌+◌, ◌-◌, ◌<◌, ◌≤◌, ◌^◌};
 ghost use Rattle.std.specs.Fmt.{WritesOnOk};
 ghost use Rattle.concurrent_lru.specs.Counts.{added, asked_text, counts_from, entries_text, hit_ratio_of, inserted, makings_text, one_failure, one_hit, one_making, one_miss, one_refusal, one_wait};
@@ -7,34 +7,34 @@ ghost use Rattle.concurrent_lru.specs.Counts.{added, asked_text, counts_from, en
 use std::fmt;
 use std::num::nearest_u64_to_f64;
 
-/// What the calls of a cache did since it was made, or since its counts were last reset.
+/// What the calls of a cache have done since it was made, or since its counts were last reset.
 ///
-/// A count that reaches the greatest number of its type stays there. Of one cache behind one lock
-/// the counts add up: the entries that were there before and those inserted are those present, those
-/// evicted and those removed, and so are their charges. The counts of entries and of charges never
-/// reach an end there, since a cache runs out of stamps first.
+/// A count that reaches the maximum of its type stays there. The counts of a cache behind one lock
+/// add up: the entries present when the counting began and those inserted since are the entries
+/// present now, those evicted and those removed. The same holds for their charges. In one cache no
+/// number in this sum reaches its maximum, because the cache runs out of stamps first.
 #[derive(Clone, Copy, Debug, Default, PartialEq, Eq)]
 pub struct Counts {
     /// Calls that asked for a value and found it ready.
     pub hits: u64,
-    /// Calls that asked for a value which was neither ready nor, for a call that would wait for it,
-    /// in the making.
+    /// Calls that asked for a value that was not ready. A call that waits for a value in the making
+    /// is counted in `waits` instead.
     pub misses: u64,
-    /// Calls that found the value in the making by another caller, and waited for it.
+    /// Calls that found the value being made by another caller, and waited for it.
     pub waits: u64,
-    /// Calls that asked for a value and were refused it, as `Memory` or `Overflow`.
+    /// Calls that asked for a value and were refused it with `Memory` or `Overflow`.
     pub refusals: u64,
-    /// Makings begun: how often a caller was told to make a value.
+    /// Makings begun: how often a caller was asked to make a value.
     pub makings: u64,
-    /// Makings failed: `init` answered an error, or there was no memory for the value.
+    /// Makings that failed: `init` returned an error, or there was no memory for the value.
     pub failures: u64,
     /// Entries inserted.
     pub insertions: u64,
     /// Entries evicted.
     pub evictions: u64,
-    /// Entries removed since their making failed and nobody waited for them.
+    /// Entries removed because their making failed and no caller was waiting for them.
     pub removals: u64,
-    /// Entries that were there when the counting began.
+    /// Entries present when the counting began.
     pub entries_before: u64,
     /// The sum of the charges of the entries inserted.
     pub inserted_charge: u128,
@@ -42,12 +42,12 @@ pub struct Counts {
     pub evicted_charge: u128,
     /// The sum of the charges of the entries removed.
     pub removed_charge: u128,
-    /// The sum of the charges of the entries that were there when the counting began.
+    /// The sum of the charges of the entries present when the counting began.
     pub charge_before: u128,
 }
 
 impl Counts {
-    // Counts that begin at a cache with so many entries of so much charge.
+    // Counting begins, at a cache with so many entries of so much charge.
     pub(crate) fn from(entries: u64, charge: u64) -> Self
         ensures { result ≡ counts_from entries charge }
     {
@@ -69,9 +69,8 @@ impl Counts {
         }
     }
 
-    /// Of the calls that hit or missed, the part that hit: `hits` divided by the sum of `hits` and
-    /// `misses`, as the nearest floats of both. None where none did either. Calls that waited or
-    /// were refused do not count.
+    /// The hit ratio: `hits` divided by the sum of `hits` and `misses`, each as the nearest `f64`.
+    /// `None` if there were no hits and no misses. Calls that waited or were refused do not count.
     pub fn hit_ratio(&self) -> Option<f64>
         ensures { result ≡ hit_ratio_of self.now }
     {
@@ -82,8 +81,8 @@ impl Counts {
         Some(nearest_u64_to_f64(self.hits) / nearest_u64_to_f64(asked))
     }
 
-    /// The sum of these counts and others, one by one. A sum past the greatest number of its type
-    /// is told as that number.
+    /// Adds the counts of another cache to these, one by one. A sum that exceeds the maximum of its
+    /// type is that maximum.
     pub fn saturating_add(self, other: Counts) -> Counts
         ensures { result ≡ added self other }
     {
@@ -153,8 +152,8 @@ impl Counts {
         self.inserted_charge += u128::from(charge);
     }
 
-    // Entries were evicted, and so many of so much charge are left: what these and the removed ones
-    // leave of those before and those inserted was evicted.
+    // Entries were evicted, and so many of so much charge are left. All that came and is neither
+    // left nor removed has been evicted.
     pub(crate) fn evict(&mut self, entries: u64, charge: u64)
         requires entries { entries + self.old.removals ≤ self.old.entries_before + self.old.insertions }
         requires entries_fit { self.old.entries_before + self.old.insertions < 2 ^ 64 }
@@ -167,8 +166,8 @@ impl Counts {
             self.charge_before + self.inserted_charge - self.removed_charge - u128::from(charge);
     }
 
-    // An entry was removed, and so much charge is left: what it and the evicted ones leave of the
-    // charge before and the inserted one was removed.
+    // An entry was removed, and so much charge is left. All charge that came and is neither left
+    // nor evicted has been removed.
     pub(crate) fn remove(&mut self, charge: u64)
         requires entries { self.old.removals + 1 < 2 ^ 64 }
         requires charge { charge + self.old.evicted_charge ≤ self.old.charge_before + self.old.inserted_charge }
