@@ -1,4 +1,5 @@
--- How each call on a cache changes its counts, by what it is asked and what it answers, and that the counts add up.
+-- How each call on a cache changes its counts, by what it is asked and what it answers, and that
+-- the counts add up.
 use Rattle.std.specs.Prelude.{◌≡◌, ℕ, ◌+◌, ◌*◌, ◌<◌, ◌≤◌, ◌^◌, Bool, false, cond, List, length, ◌==◌, Option, Some, None, Result, Ok, Err, refl}
 use Rattle.std.specs.Option.{option_map_or}
 use Rattle.std.specs.Coded.{Coded, code_by, coded×}
@@ -49,7 +50,8 @@ module _ {K V : Type 0} where
   abbrev pub evicted : List (Idle K V) → Counts → Counts
   evicted out n = record n { evictions = n.evictions + length out; evicted_charge = n.evicted_charge + charges out }
 
-  -- an insert: these entries were replaced, one of this charge was inserted, and these were evicted for it
+  -- an insert: these entries were replaced, one of this charge was inserted, and these were evicted
+  -- for it
   abbrev pub replaced : List (Idle K V) → List (Idle K V) → ℕ → Counts → Counts
   replaced old out charge n = evicted out (inserted charge (evicted old n))
 
@@ -79,8 +81,9 @@ module _ {K V : Type 0} where
   counted c (ask.set_capacity m) (accepted p out) n = evicted out n
   counted c _ _ n = n
 
-  -- What holds of the counts whenever the lock is got. The entries present are those before and those inserted, less
-  -- those evicted and those removed, and so are the charges. None of these numbers is at its end.
+  -- What holds of the counts whenever the lock is got. The entries present are those before and
+  -- those inserted, less those evicted and those removed, and so are the charges. None of these
+  -- numbers is at its end.
   pub record AddUp (c : Cache K V) (n : Counts) : Type 0 where
     pub entries : count_of c + n.evictions + n.removals ≡ n.entries_before + n.insertions
     pub charge : sum_of c + n.evicted_charge + n.removed_charge ≡ n.charge_before + n.inserted_charge

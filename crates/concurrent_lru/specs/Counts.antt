@@ -86,8 +86,8 @@ part_of hits asked = cond (asked == 0) None (Some (float.div binary64 (float.of_
 abbrev pub hit_ratio_of : Counts → Option Float
 hit_ratio_of n = part_of n.hits (min (n.hits + n.misses) end_of_u64)
 
--- The line that `{}` prints: what calls found, what was refused and made, and how many entries there
--- are of each kind, with the sum of their charges.
+-- The line that `{}` prints: what calls found, what was refused and made, and how many entries
+-- there are of each kind, with the sum of their charges.
 abbrev pub asked_text : Counts → List ℕ
 asked_text n = codes "hits " ++ (decimal n.hits ++ (codes ", misses " ++ (decimal n.misses ++ (codes ", waits " ++ decimal n.waits))))
 

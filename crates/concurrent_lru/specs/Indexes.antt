@@ -1,4 +1,5 @@
--- How a hashed map from keys to places, and one from stamps where it is kept, index the nodes, and what a `Table` keeps of both.
+-- How a hashed map from keys to places, and one from stamps where it is kept, index the nodes, and
+-- what a `Table` keeps of both.
 use Rattle.std.specs.Prelude.{◌≡◌, ℕ, Bool, true, false, Option, Some, map}
 use Rattle.std.specs.Ordering.{nat_cmp}
 use Rattle.std.specs.FinMap as finmap
@@ -36,7 +37,8 @@ module _ {K V : Type 0} where
     pub indexed : IsIndexed E nodes.nodes (hash.get E by_key) by_stamp
     pub copies : CopiesAreEqual is_clone E
 
-  -- and the total is the sum of the charges, and beside it stands the sum of those of the idle entries
+  -- and the total is the sum of the charges, and beside it stands the sum of those of the idle
+  -- entries
   pub record IsSoundTable {S : Type 0} (is_clone : K → K → Type 0) (E : K → K → Bool) (nodes : NodeTable K V) (by_key : HashMap K ℕ S) (by_stamp : Stamps) (total idle_charge : ℕ) : Type 0 where
     pub stored : IsStored is_clone E nodes by_key by_stamp
     pub sums : total ≡ charges_of (entries_of nodes)

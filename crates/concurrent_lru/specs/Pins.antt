@@ -6,7 +6,8 @@ use Rattle.concurrent_lru.specs.declared.locked.pins.Waiting.{Waiting}
 use Rattle.concurrent_lru.specs.declared.locked.pins.Woken.{Woken}
 use Rattle.concurrent_lru.specs.declared.locked.pins.Unread.{Unread}
 
--- a pin in a ready entry: the stamp of the entry, the key and the charge that were asked, and the value
+-- a pin in a ready entry: the stamp of the entry, the key and the charge that were asked, and the
+-- value
 pub record PinOf (K V : Type 0) : Type 0 where
   pub stamp : ℕ
   pub key : K

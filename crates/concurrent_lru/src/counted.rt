@@ -371,8 +371,8 @@ fn count_begin<K, V>(counts: &mut Counts, begun: &Result<(Begun<V>, Evicted<K, V
     }
 }
 
-// Whether a begin inserted an entry, which then has the stamp that was the next one. A failed making
-// that is taken over has a stamp from before.
+// Whether a begin inserted an entry, which then has the stamp that was the next one. A failed
+// making that is taken over has a stamp from before.
 #[inline(always)]
 fn is_insertion<K, V>(begun: &Result<(Begun<V>, Evicted<K, V>), Refusal>, next: u64) -> bool
     ensures { result ≡ is_insertion begun.now next }

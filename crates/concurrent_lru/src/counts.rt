@@ -1,5 +1,5 @@
-//! Counts of what the calls of a cache have done. They are plain numbers, kept beside the cache under
-//! its lock.
+//! Counts of what the calls of a cache have done. They are plain numbers, kept beside the cache
+//! under its lock.
 ghost use Rattle.std.specs.Prelude.{◌≡◌, ◌+◌, ◌-◌, ◌<◌, ◌≤◌, ◌^◌};
 ghost use Rattle.std.specs.Fmt.{WritesOnOk};
 ghost use Rattle.concurrent_lru.specs.Counts.{added, asked_text, counts_from, entries_text, hit_ratio_of, inserted, makings_text, one_failure, one_hit, one_making, one_miss, one_refusal, one_wait};

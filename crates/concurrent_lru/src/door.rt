@@ -23,9 +23,10 @@ use std::hash::Hash;
 use std::sync::{Arc, Condvar, Mutex, MutexGuard, Wait};
 use std::{fmt, hint};
 
-// How often a call looks at a lock that another has before it sleeps: after 64, 128 .. 4,096 pauses, each of some tens of
-// nanoseconds. A look takes the lock's line of memory from the call that has it, so the first pause is as long as several
-// calls, and those that wait leave the lock to one that makes many in a row.
+// How often a call looks at a lock that another has before it sleeps: after 64, 128 .. 4,096
+// pauses, each of some tens of nanoseconds. A look takes the lock's line of memory from the call
+// that has it, so the first pause is as long as several calls, and those that wait leave the lock
+// to one that makes many in a row.
 const LOOKS: u32 = 7;
 
 const FIRST_PAUSES: u32 = 64;
@@ -101,8 +102,8 @@ impl<K: Hash + Eq + Clone + Drop, V: Drop, R: Wait, F: Fit<K, V>> Door<K, V, R, 
         Inside { door: self, guard }
     }
 
-    // Gets the lock where another call has it. Calls are shorter than a sleep and its wake, so this looks for a while,
-    // less and less often, before it sleeps.
+    // Gets the lock where another call has it. Calls are shorter than a sleep and its wake, so this
+    // looks for a while, less and less often, before it sleeps.
     #[cold]
     fn contend(&self) -> MutexGuard<'_, Locked<K, V, F>> {
         for look in 0..LOOKS {

@@ -33,8 +33,9 @@ pub fn capacity_per_shard(capacity: u64, shards: usize) -> u64
 // How many shards a cache has where nothing else is said.
 pub(crate) const DEFAULT_SHARDS: usize = 16;
 
-// The shard, of so many, that serves a key: the hasher's number of it modulo their number. By the number of shards that
-// most caches have it is cut out, since a division of 64 bits takes as long as to get the lock.
+// The shard, of so many, that serves a key: the hasher's number of it modulo their number. By the
+// number of shards that most caches have it is cut out, since a division of 64 bits takes as long
+// as to get the lock.
 #[inline(always)]
 pub(crate) fn choose_shard<K: Hash, S: BuildHasher>(hasher: &S, key: &K, shards: usize) -> usize
     requires { 0 < shards }

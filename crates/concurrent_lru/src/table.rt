@@ -1,5 +1,6 @@
-//! The entries of a cache as one value: nodes, what finds their places by key and by stamp, and the total of the charges.
-//! No rule of the cache is decided here but the order of eviction: what happens when is the core's.
+//! The entries of a cache as one value: nodes, what finds their places by key and by stamp, and the
+//! total of the charges. No rule of the cache is decided here but the order of eviction: what
+//! happens when is the core's.
 ghost use Rattle.std.specs.Prelude.{◌≡◌, ◌≢◌, ℕ, ◌+◌, ◌<◌, ◌≤◌, ◌^◌, Some, None, [], IsSome, OnOk, OnErr, IfOk, IfErr, IfSome, MatchOption, filter_map, length, ◌∷◌, ◌++◌, true, cond, nat_eq};
 ghost use Rattle.std.specs.Arc.{arc_value};
 ghost use Rattle.std.specs.HashMap as hash;
@@ -436,8 +437,8 @@ impl<K: Hash + Eq + Clone, V: Drop> Table<K, V> {
         node
     }
 
-    /// Takes every held entry away, detached ones too, where no entry is idle. Answers those that have
-    /// a value, in an unspecified order, and drops the others. Takes no memory.
+    /// Takes every held entry away, detached ones too, where no entry is idle. Answers those that
+    /// have a value, in an unspecified order, and drops the others. Takes no memory.
     pub fn take_each_held(&mut self) -> Evicted<K, V>
         requires { self.old.idle ≡ [] }
         ensures taken { TakesHeld self.old.held result }

@@ -413,8 +413,8 @@ impl<K: Hash + Eq + Clone + Drop, V: Drop, R: Wait, F: Fit<K, V>> LruCache<K, V,
         }
     }
 
-    // `awaited`, apart from `start`, so that what a wait needs in memory is made where one waits: beside the call of a hit
-    // it would be made for each hit too.
+    // `awaited`, apart from `start`, so that what a wait needs in memory is made where one waits:
+    // beside the call of a hit it would be made for each hit too.
     #[inline(always)]
     fn wait_for<'a>(
         &'a self,

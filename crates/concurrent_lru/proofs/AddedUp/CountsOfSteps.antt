@@ -224,7 +224,8 @@ module _ {K V : Type 0} where
     quiet_release_size old new s (inr (inl h)) = rested_size old new s [] h
     quiet_release_size old new s (inr (inr h)) = ended_size old new s [] h
 
-    -- an invalidate, and then a begin that inserts an entry: what is owed once the entry is counted, and that it adds up
+    -- an invalidate, and then a begin that inserts an entry: what is owed once the entry is
+    -- counted, and that it adds up
     pub owed_for_replaced : (old mid new : Cache K V) (n : Counts) (k : K) (charge s : ℕ) (replaced out : List (Idle K V)) → IsLawful E old → IsLawful E mid → AddUp old n → Step E old (ask.invalidate k) say.done replaced mid → Step E mid (ask.begin k charge) (say.make s) out new → s ≡ mid.next → Owes new (inserted charge (evicted replaced n)) (length out) (charges out)
     owed_for_replaced old mid new n k charge s replaced out l lm a h b is =
         let i = inserts mid new k charge s out lm b is in

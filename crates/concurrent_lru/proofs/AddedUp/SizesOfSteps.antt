@@ -58,7 +58,8 @@ module _ {K V : Type 0} where
         | false ↦ λ b k. let i : length (without s xs) + 1 ≡ length xs = length_without s y xs d.1 k in omega (arith, i)
       ] refl h
 
-  -- from old to new, so many entries of so much charge came, each with a stamp, and so many of so much left
+  -- from old to new, so many entries of so much charge came, each with a stamp, and so many of so
+  -- much left
   pub record Resizes (old new : Cache K V) (came came_charge left left_charge : ℕ) : Type 0 where
     pub entries : count_of new + left ≡ count_of old + came
     pub charge : sum_of new + left_charge ≡ sum_of old + came_charge

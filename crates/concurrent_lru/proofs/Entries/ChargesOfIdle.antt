@@ -1,4 +1,5 @@
--- The sum of the idle entries' charges, where one of them leaves and where a held one comes to rest.
+-- The sum of the idle entries' charges, where one of them leaves and where a held one comes to
+-- rest.
 use Rattle.std.proofs.Common.{◌≡◌, ℕ, ◌+◌, ◌-◌, ◌≤◌, Bool, Some, refl, ◌∙◌, arith}
 use Rattle.std.specs.FinMap.{get, remove}
 use Rattle.std.specs.HashMap.{HashMap}

@@ -1,4 +1,5 @@
--- The nodes and the maps that index them: at a start, after a growth, an insert, a write and a removal.
+-- The nodes and the maps that index them: at a start, after a growth, an insert, a write and a
+-- removal.
 use Rattle.std.proofs.Common.{◌≡◌, ◌≢◌, ℕ, ◌⊎◌, inl, inr, Bool, true, false, cond, Option, Some, None, refl, sym, ap, ◌∙◌, eqb}
 use Rattle.std.specs.Ordering.{nat_cmp}
 use Rattle.std.specs.Cmp.{IsEquivalence}

@@ -1,4 +1,5 @@
--- The sum of the charges: with an entry more, one less, one written, and where one comes to rest or is revived.
+-- The sum of the charges: with an entry more, one less, one written, and where one comes to rest or
+-- is revived.
 use Rattle.std.proofs.Common.{◌≡◌, ℕ, ◌+◌, ◌-◌, ◌≤◌, false, cond, not, List, [], ◌∷◌, ◌++◌, Option, Some, None, map, refl, sym, ap, ◌∙◌, subst, eqb, ◌==◌, ◌||◌, arith}
 use Rattle.std.specs.Prelude.{sum_by}
 use Rattle.std.specs.List.{IsDistinct, AllByRecursion, list_any, filter_map, cons_option, find}
