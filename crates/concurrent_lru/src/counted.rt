@@ -110,7 +110,8 @@ impl<K: Hash + Eq + Clone, V: Drop> CountedState<K, V> {
             return begun;
         }
         self.counts.insert(charge);
-        self.counts.evict(self.state.len() as u64, self.state.total());
+        self.counts
+            .evict(self.state.len() as u64, self.state.total());
         begun
     }
 
@@ -128,12 +129,7 @@ impl<K: Hash + Eq + Clone, V: Drop> CountedState<K, V> {
 
     /// The core's `ready`, as its `ready_keyed`. Counts nothing.
     #[inline(always)]
-    pub fn ready_keyed(
-        &mut self,
-        stamp: u64,
-        key: &K,
-        value: Arc<V>,
-    ) -> (Result<(), Arc<V>>, bool)
+    pub fn ready_keyed(&mut self, stamp: u64, key: &K, value: Arc<V>) -> (Result<(), Arc<V>>, bool)
         ensures step { HasEqualKeyAt K.eq self.old.cache stamp key.now → Stands K.eq self.old.cache (ask.ready stamp (arc_value value)) (outcome_of_ready result.0) self.new.cache }
         ensures counts { self.new.counts ≡ self.old.counts }
         ensures keyed { OnOk result.0 (HasEqualKeyAt K.eq self.old.cache stamp key.now) }
@@ -202,7 +198,8 @@ impl<K: Hash + Eq + Clone, V: Drop> CountedState<K, V> {
         if evicted.is_empty() {
             return Ok(evicted);
         }
-        self.counts.evict(self.state.len() as u64, self.state.total());
+        self.counts
+            .evict(self.state.len() as u64, self.state.total());
         Ok(evicted)
     }
 
@@ -213,7 +210,8 @@ impl<K: Hash + Eq + Clone, V: Drop> CountedState<K, V> {
         ensures lawful { IsLawful K.eq self.new.cache }
     {
         let evicted = self.state.advice_evict(key);
-        self.counts.evict(self.state.len() as u64, self.state.total());
+        self.counts
+            .evict(self.state.len() as u64, self.state.total());
         evicted
     }
 
@@ -225,7 +223,8 @@ impl<K: Hash + Eq + Clone, V: Drop> CountedState<K, V> {
         ensures lawful { IsLawful K.eq self.new.cache }
     {
         let evicted = self.state.invalidate(key);
-        self.counts.evict(self.state.len() as u64, self.state.total());
+        self.counts
+            .evict(self.state.len() as u64, self.state.total());
         evicted
     }
 
@@ -253,7 +252,8 @@ impl<K: Hash + Eq + Clone, V: Drop> CountedState<K, V> {
             }
         };
         self.counts.insert(charge);
-        self.counts.evict(self.state.len() as u64, self.state.total());
+        self.counts
+            .evict(self.state.len() as u64, self.state.total());
         Ok(inserted)
     }
 
@@ -264,7 +264,8 @@ impl<K: Hash + Eq + Clone, V: Drop> CountedState<K, V> {
         ensures lawful { IsLawful K.eq self.new.cache }
     {
         let evicted = self.state.prune();
-        self.counts.evict(self.state.len() as u64, self.state.total());
+        self.counts
+            .evict(self.state.len() as u64, self.state.total());
         evicted
     }
 
@@ -275,7 +276,8 @@ impl<K: Hash + Eq + Clone, V: Drop> CountedState<K, V> {
         ensures lawful { IsLawful K.eq self.new.cache }
     {
         let evicted = self.state.set_capacity(capacity);
-        self.counts.evict(self.state.len() as u64, self.state.total());
+        self.counts
+            .evict(self.state.len() as u64, self.state.total());
         evicted
     }
 

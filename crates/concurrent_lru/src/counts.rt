@@ -162,8 +162,9 @@ impl Counts {
         ensures { self.new ≡ record self.old { evictions = self.old.entries_before + self.old.insertions - self.old.removals - entries; evicted_charge = self.old.charge_before + self.old.inserted_charge - self.old.removed_charge - charge } }
     {
         self.evictions = self.entries_before + self.insertions - self.removals - entries;
-        self.evicted_charge =
-            self.charge_before + self.inserted_charge - self.removed_charge - u128::from(charge);
+        self.evicted_charge = self.charge_before + self.inserted_charge
+            - self.removed_charge
+            - u128::from(charge);
     }
 
     // An entry was removed, and so much charge is left. All charge that came and is neither left
@@ -175,8 +176,9 @@ impl Counts {
         ensures { self.new ≡ record self.old { removals = self.old.removals + 1; removed_charge = self.old.charge_before + self.old.inserted_charge - self.old.evicted_charge - charge } }
     {
         self.removals += 1;
-        self.removed_charge =
-            self.charge_before + self.inserted_charge - self.evicted_charge - u128::from(charge);
+        self.removed_charge = self.charge_before + self.inserted_charge
+            - self.evicted_charge
+            - u128::from(charge);
     }
 }
 

@@ -1,4 +1,4 @@
-use Rattle.std.proofs.Common.{◌≡◌, ◌+◌, ◌<◌, ◌≤◌, ◌^◌, ◌∙◌, [], Ok, sym, ap, subst, arith}
+use Rattle.std.proofs.Common.{◌≡◌, ◌+◌, ◌≤◌, ◌∙◌, [], Ok, sym, ap, subst, arith}
 use Rattle.concurrent_lru.specs.Cache.{sum_of}
 use Rattle.concurrent_lru.specs.CountedCalls.{counted, held_charge}
 use Rattle.concurrent_lru.specs.Counts.{removed}

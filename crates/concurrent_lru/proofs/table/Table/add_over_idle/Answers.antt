@@ -138,8 +138,8 @@ invariant_of-self-2 g c =
       stored = stored_with g.met.K.Eq.laws between added;
       sums = c.put-new.ensures.total ∙ ap (λ n. c.take_away-old.new.total + n) (ap (λ x. x.charge) entry) ∙ ap (λ n. n + c.args.charge) total ∙ sym sum;
       rests = ap (λ n. c.self.inside.idle_charge - (entry_of n).charge) c.deref.ensures
-        ∙ kept_less r c.args.place e taken.at rests _ (c.self.invariant.rests ∙ ap (λ t. charges t.idle) (sym grown)) (entries_of c.take_away-old.new.nodes) (idle_without g.met.K.Eq.laws r taken rests)
-        ∙ sym (ap charges (idle_with g.met.K.Eq.laws between added));
+          ∙ kept_less r c.args.place e taken.at rests _ (c.self.invariant.rests ∙ ap (λ t. charges t.idle) (sym grown)) (entries_of c.take_away-old.new.nodes) (idle_without g.met.K.Eq.laws r taken rests)
+          ∙ sym (ap charges (idle_with g.met.K.Eq.laws between added));
     }
 
 pub returns-clause-ready : goal.returns-clause-ready
