@@ -109,7 +109,7 @@ impl<'a> Picture<'a> {
         }
         writeln!(
             out,
-            r#"<text class="text" x="{LEFT}" y="600">hits of 100 uses; marked are 50, 80, 90 and 95 of 100 of the most</text>"#
+            r#"<text class="text" x="{LEFT}" y="600">the marks are at 50%, 80%, 90% and 95% of the greatest hit ratio</text>"#
         )
     }
 
@@ -151,16 +151,21 @@ impl<'a> Picture<'a> {
         writeln!(out, r#"H{RIGHT}"/>"#)
     }
 
-    // The least capacities for parts of the greatest hit ratio, each with its label. Labels go
-    // below the curve and above it by turns, so that near ones don't cover each other.
+    // The least capacities for parts of the greatest hit ratio, each marked once with its label.
+    // Labels go below the curve and above it by turns, so that near ones don't cover each other.
     fn write_knees<O: Write>(&self, out: &mut O) -> io::Result<()> {
         if self.sizes.most_hits() == 0 {
             return Ok(());
         }
         let mut side = Side::Below;
+        let mut before = None;
         for percent in KNEES {
-            self.write_knee(self.sizes.knee(percent), side, out)?;
-            side = side.other();
+            let capacity = self.sizes.knee(percent);
+            if before != Some(capacity) {
+                self.write_knee(capacity, side, out)?;
+                side = side.other();
+            }
+            before = Some(capacity);
         }
         Ok(())
     }
