@@ -131,13 +131,22 @@ impl fmt::Display for Failure {
                 writeln!(f, "line {line}: expected {}, not {word:?}", expected.text())
             }
             Failure::TwoCharges(key, first, second) => {
-                writeln!(f, "lines {first} and {second}: two charges of the key {key:?}")
+                writeln!(
+                    f,
+                    "lines {first} and {second}: two charges of the key {key:?}"
+                )
             }
             Failure::Overflow(line) => {
-                writeln!(f, "line {line}: the charges of the keys pass 18446744073709551615")
+                writeln!(
+                    f,
+                    "line {line}: the charges of the keys pass 18446744073709551615"
+                )
             }
             Failure::SampleOverflow => {
-                writeln!(f, "the charges of the sampled keys pass 18446744073709551615")
+                writeln!(
+                    f,
+                    "the charges of the sampled keys pass 18446744073709551615"
+                )
             }
             Failure::Differs(line) => {
                 writeln!(f, "line {line}: the replay and the reuse weight differ")

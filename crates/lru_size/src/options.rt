@@ -51,11 +51,21 @@ impl<'a> Options<'a> {
 
 fn command<'a>(alloc: Global) -> Result<Command<'a>, AllocError> {
     Command::new(alloc, "lru_size")
-        .about("Reads a trace, a line KEY [CHARGE] for each use, and prints the hits at each capacity.")
+        .about(
+            "Reads a trace, a line KEY [CHARGE] for each use, and prints the hits at each capacity.",
+        )
         .no_binary_name(true)
         .arg(capacities(alloc))?
-        .arg(file(alloc, "svg", "Write the curve as a picture, an SVG; - is standard output"))?
-        .arg(file(alloc, "csv", "Write the curve as numbers, CSV; - is standard output"))?
+        .arg(file(
+            alloc,
+            "svg",
+            "Write the curve as a picture, an SVG; - is standard output",
+        ))?
+        .arg(file(
+            alloc,
+            "csv",
+            "Write the curve as numbers, CSV; - is standard output",
+        ))?
         .arg(check(alloc))?
         .arg(sample(alloc)?)
 }

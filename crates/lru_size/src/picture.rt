@@ -9,14 +9,18 @@ use std::io::Write;
 
 // Where the axes are: the curve lies between these.
 const LEFT: u64 = 800;
+
 const RIGHT: u64 = 6_300;
+
 const TOP: u64 = 700;
+
 const BOTTOM: u64 = 3_700;
 
 // One look at the curve for each pixel of its width.
 const LOOKS: u64 = 550;
 
-const HEAD: &str = r#"<svg xmlns="http://www.w3.org/2000/svg" viewBox="0 0 8000 4400" width="800" height="440" font-family="sans-serif" font-size="130">
+const HEAD: &str =
+    r#"<svg xmlns="http://www.w3.org/2000/svg" viewBox="0 0 8000 4400" width="800" height="440" font-family="sans-serif" font-size="130">
 <style>
 .page { fill: #ffffff }
 .text { fill: #1f2328 }
@@ -79,7 +83,9 @@ impl<'a> Picture<'a> {
     // Where a number of hits is, from bottom to top.
     fn up(&self, hits: u64) -> u64 {
         let height = u128::from(BOTTOM - TOP);
-        let whole = u128::from(self.sizes.uses().max(1)).saturating_mul(u128::from(self.top.max(1)));
+        let whole = u128::from(self.sizes.uses().max(1)).saturating_mul(u128::from(
+            self.top.max(1),
+        ));
         let part = u128::from(hits).saturating_mul(height * 100) / whole.max(1);
         BOTTOM.saturating_sub(part as u64)
     }

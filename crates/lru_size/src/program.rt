@@ -52,7 +52,10 @@ pub fn program<F: Files<File = File>, I: BufRead + Drop, O: Write, E: Write>(
     let watcher = if is_watched { Some(&mut *err) } else { None };
     match run(alloc, files, words, input, out, watcher) {
         Ok(()) => 0,
-        Err(Failure::Help(text)) => match out.write_all(text.as_bytes()).and_then(|()| out.flush()) {
+        Err(Failure::Help(text)) => match out
+            .write_all(text.as_bytes())
+            .and_then(|()| out.flush())
+        {
             Ok(()) => 0,
             Err(error) => Failure::from(error).report(err),
         },

@@ -29,11 +29,7 @@ pub fn rows(alloc: Global, sizes: &Sizes, capacities: &[u64]) -> Result<Vec<Row>
     of_capacities(alloc, sizes, capacities)
 }
 
-fn of_capacities(
-    alloc: Global,
-    sizes: &Sizes,
-    capacities: &[u64],
-) -> Result<Vec<Row>, AllocError> {
+fn of_capacities(alloc: Global, sizes: &Sizes, capacities: &[u64]) -> Result<Vec<Row>, AllocError> {
     let row = |capacity: &u64| Row {
         capacity: *capacity,
         hits: sizes.hits(*capacity),
@@ -59,7 +55,11 @@ pub fn spread(alloc: Global, most: u64, count: u64) -> Result<Vec<u64>, AllocErr
 /// Prints the table and the knees.
 pub fn print<O: Write>(sizes: &Sizes, rows: &[Row], out: &mut O) -> io::Result<()> {
     let uses = sizes.uses();
-    writeln!(out, "{:>20} {:>20} {:>9} {:>20}", "capacity", "hits", "hit ratio", "charge made")?;
+    writeln!(
+        out,
+        "{:>20} {:>20} {:>9} {:>20}",
+        "capacity", "hits", "hit ratio", "charge made"
+    )?;
     for row in rows {
         let ratio = Percent {
             part: row.hits,
@@ -97,7 +97,11 @@ fn print_knees<O: Write>(sizes: &Sizes, out: &mut O) -> io::Result<()> {
         sizes.whole_capacity()
     )?;
     for percent in KNEES {
-        writeln!(out, "{percent} of 100 of it from capacity {} on", sizes.knee(percent))?;
+        writeln!(
+            out,
+            "{percent} of 100 of it from capacity {} on",
+            sizes.knee(percent)
+        )?;
     }
     Ok(())
 }

@@ -47,8 +47,8 @@ least_at curve r up l =
       enough = count_first (λ w. leb w (get_or curve.weights r 0)) curve.weights (r + 1) (omega (arith, l)) (λ k m. le-leb (get_or curve.weights k 0) (get_or curve.weights r 0) (up k r (omega (arith, m)) l));
       least = λ less m.
           let most : weights_within less curve.weights ≤ r = count_last (λ w. leb w less) curve.weights r (λ k low high.
-              let u : get_or curve.weights r 0 ≤ get_or curve.weights k 0 = up r k low high in
-              lt-leb (get_or curve.weights k 0) less (omega (arith, u, m))) in
+          let u : get_or curve.weights r 0 ≤ get_or curve.weights k 0 = up r k low high in
+          lt-leb (get_or curve.weights k 0) less (omega (arith, u, m))) in
           omega (arith, most);
     }
 
@@ -365,10 +365,10 @@ module _ {K : Type 0} (trace : List (K × ℕ)) (weights : List (Option ℕ)) (p
       built_made : (capacity : ℕ) → get_or made (pairs_within capacity ps) 0 ≡ charge_made_at capacity charges weights
       built_made capacity =
           let few : pairs_within capacity ps ≤ length ps =
-              let w : weights_within capacity (pair_weights ps) ≤ length (pair_weights ps) = within_all (pair_weights ps) capacity in
-              let n : length (pair_weights ps) ≡ length ps = length-map ps (λ (q : ℕ × ℕ). q.0) in
-              let f : weights_within capacity (pair_weights ps) ≡ pairs_within capacity ps = within_firsts ps capacity in
-              omega (arith, w, n, f) in
+          let w : weights_within capacity (pair_weights ps) ≤ length (pair_weights ps) = within_all (pair_weights ps) capacity in
+          let n : length (pair_weights ps) ≡ length ps = length-map ps (λ (q : ℕ × ℕ). q.0) in
+          let f : weights_within capacity (pair_weights ps) ≡ pairs_within capacity ps = within_firsts ps capacity in
+          omega (arith, w, n, f) in
           let at : get_or made (pairs_within capacity ps) 0 + sum (take (pairs_within capacity ps) (pair_charges ps)) ≡ sum charges = b.each (pairs_within capacity ps) (omega (arith, few, all)) in
           let firsts : sum (take (pairs_within capacity ps) (pair_charges ps)) ≡ charge_within capacity ps = first_charges ps capacity up in
           let m : charge_within capacity ps ≡ charge_within capacity (reused charges weights) = sum_by-IsPermutation (λ (q : ℕ × ℕ). cond (leb q.0 capacity) q.1 0) (reused charges weights) ps same_pairs in

@@ -215,13 +215,13 @@ module _ {K V : Type 0} (E : K → K → Bool) where
                 let past = used_keys (take place trace) in
                 let used : used_keys (take (place + 1) trace) ≡ used_keys (take place trace) ++ u.0 ∷ [] = ap used_keys next ∙ used_push (take place trace) u in
                 let order : last_uses E (used_keys (take (place + 1) trace)) ≡ (others E u.0 i.gone ++ others E u.0 i.kept) ++ u.0 ∷ [] =
-                    ap (last_uses E) used ∙ last_uses-push E (used_keys (take place trace)) u.0
-                    ∙ ap (λ ks. others E u.0 ks ++ u.0 ∷ []) (ap (last_uses E) (sym (used_then start c place hits r)) ∙ i.in_order)
-                    ∙ ap (λ ks. ks ++ u.0 ∷ []) (filter-append _ i.gone i.kept) in
+                ap (last_uses E) used ∙ last_uses-push E (used_keys (take place trace)) u.0
+                ∙ ap (λ ks. others E u.0 ks ++ u.0 ∷ []) (ap (last_uses E) (sym (used_then start c place hits r)) ∙ i.in_order)
+                ∙ ap (λ ks. ks ++ u.0 ∷ []) (filter-append _ i.gone i.kept) in
                 let same : others E u.0 i.kept ≡ i.kept = others_absent E (charge_in E trace) eq (charge_agrees E eq trace) u.0 c.idle i.kept (lacks c u.0 a.0 c.idle (each_is_found c.idle i.lawful.idle_apart)) i.paired in
                 let all : sum_by (charge_in E trace) (last_uses E (used_keys (take (place + 1) trace))) ≡ sum_by (charge_in E trace) (others E u.0 i.gone) + sum_by (charge_in E trace) (others E u.0 i.kept) + charge_in E trace u.0 =
-                    ap (sum_by (charge_in E trace)) order ∙ sum_by_push (charge_in E trace) (others E u.0 i.gone ++ others E u.0 i.kept) u.0
-                    ∙ ap (λ n. n + charge_in E trace u.0) (sum_by-append (charge_in E trace) (others E u.0 i.gone) (others E u.0 i.kept)) in
+                ap (sum_by (charge_in E trace)) order ∙ sum_by_push (charge_in E trace) (others E u.0 i.gone ++ others E u.0 i.kept) u.0
+                ∙ ap (λ n. n + charge_in E trace u.0) (sum_by-append (charge_in E trace) (others E u.0 i.gone) (others E u.0 i.kept)) in
                 let kept : sum_by (charge_in E trace) (others E u.0 i.kept) ≡ charges c.idle = ap (sum_by (charge_in E trace)) same ∙ sym (paired_sum E (charge_in E trace) c.idle i.kept i.paired) in
                 let none : held_charges c.held ≡ 0 = none_held_sum c.held i.held in
                 let whole : sum_of c ≡ charges c.idle + held_charges c.held = refl in

@@ -33,7 +33,9 @@ impl Sample {
     pub fn one_in(one_in: u64) -> Sample
         ensures { result.one_in ≡ max one_in 1 }
     {
-        Sample { one_in: one_in.max(1) }
+        Sample {
+            one_in: one_in.max(1),
+        }
     }
 
     /// Whether a key is sampled. Its hash alone decides that, so equal keys are answered alike, in

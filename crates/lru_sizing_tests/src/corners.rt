@@ -68,7 +68,10 @@ fn at_the_end_of_a_sum(rt: HostRuntime) -> Result<(), Fail> {
     let past = [(1, u64::MAX), (1, u64::MAX), (2, 1)];
     assert!(rt; matches!(curve_of(rt.alloc(), &past), Err(Refusal::Overflow(2))));
     // A cache that keeps the first key refuses the second; one that doesn't answers all uses.
-    assert_eq!(rt; replayed(rt.alloc(), &past, u64::MAX), Err(Refusal::Overflow(2)));
+    assert_eq!(rt;
+        replayed(rt.alloc(), &past, u64::MAX),
+        Err(Refusal::Overflow(2))
+    );
     assert_eq!(rt; replayed(rt.alloc(), &past, 7), Ok(0));
     Ok(())
 }
@@ -77,7 +80,10 @@ fn at_the_end_of_a_sum(rt: HostRuntime) -> Result<(), Fail> {
 fn with_two_charges_of_one_key(rt: HostRuntime) {
     let trace = [(1, 2), (2, 5), (1, 2), (2, 5), (1, 3)];
     assert!(rt; matches!(curve_of(rt.alloc(), &trace), Err(Refusal::TwoCharges(2, 4))));
-    assert_eq!(rt; replayed(rt.alloc(), &trace, 9), Err(Refusal::TwoCharges(2, 4)));
+    assert_eq!(rt;
+        replayed(rt.alloc(), &trace, 9),
+        Err(Refusal::TwoCharges(2, 4))
+    );
 }
 
 #[test]
@@ -96,8 +102,14 @@ fn without_a_charge(rt: HostRuntime) -> Result<(), Fail> {
 fn are_told_in_words(rt: HostRuntime) -> Result<(), Fail> {
     let cases = [
         (Refusal::Memory, "there is no memory"),
-        (Refusal::Overflow(4), "the charges of the keys up to use 4 pass u64::MAX"),
-        (Refusal::TwoCharges(2, 4), "uses 2 and 4 of one key have two charges"),
+        (
+            Refusal::Overflow(4),
+            "the charges of the keys up to use 4 pass u64::MAX",
+        ),
+        (
+            Refusal::TwoCharges(2, 4),
+            "uses 2 and 4 of one key have two charges",
+        ),
     ];
     for (refusal, text) in cases {
         let told = format!(in rt.alloc(); "{refusal}")?;

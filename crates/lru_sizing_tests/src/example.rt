@@ -27,13 +27,27 @@ fn hits_once_twice_and_three_times(rt: HostRuntime) -> Result<(), Fail> {
     assert_eq!(rt; curve.uses(), 7);
     assert_eq!(rt; curve.most_hits(), 3);
     // Capacity, hits, and the charge made: all of 21 but what hits.
-    let rows = [(0, 0, 21), (4, 0, 21), (5, 1, 19), (6, 1, 19), (7, 2, 16), (11, 2, 16), (12, 3, 14)];
+    let rows = [
+        (0, 0, 21),
+        (4, 0, 21),
+        (5, 1, 19),
+        (6, 1, 19),
+        (7, 2, 16),
+        (11, 2, 16),
+        (12, 3, 14),
+    ];
     for (capacity, hits, made) in rows {
         assert_eq!(rt; curve.hits(capacity), hits, "at {capacity}");
         assert_eq!(rt; curve.misses(capacity), 7 - hits, "at {capacity}");
         assert_eq!(rt; curve.charge_made(capacity), made, "at {capacity}");
     }
-    for (hits, least) in [(0, Some(0)), (1, Some(5)), (2, Some(7)), (3, Some(12)), (4, None)] {
+    for (hits, least) in [
+        (0, Some(0)),
+        (1, Some(5)),
+        (2, Some(7)),
+        (3, Some(12)),
+        (4, None),
+    ] {
         assert_eq!(rt; curve.least_capacity(hits), least, "for {hits} hits");
     }
     Ok(())

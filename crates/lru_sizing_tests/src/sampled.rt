@@ -11,6 +11,7 @@ use std::alloc::{AllocError, Global};
 use std::test::Fail;
 
 const KEYS: u64 = 10_000;
+
 const USES: u32 = 50_000;
 
 // For each key, how often it and those before it are used, out of as often as the last says.
@@ -55,11 +56,7 @@ fn sampled(
 
 // By how many uses in 10,000 an estimate of one key in `one_in` is wrong: in the mean over 20
 // capacities, and at most.
-fn errors(
-    alloc: Global,
-    trace: &[(u64, u64)],
-    one_in: u64,
-) -> Result<(u64, u64), Refusal> {
+fn errors(alloc: Global, trace: &[(u64, u64)], one_in: u64) -> Result<(u64, u64), Refusal> {
     let weights = reuse_weights(alloc, trace)?;
     if weights.len() != trace.len() {
         return Ok((u64::MAX, u64::MAX));
@@ -72,7 +69,11 @@ fn errors(
     for step in 1..=20u64 {
         let capacity = step * 1_250;
         let exact = curve.hits(capacity) as u64;
-        let wrong = estimate.hits(capacity).abs_diff(exact).saturating_mul(10_000) / u64::from(USES);
+        let wrong = estimate
+            .hits(capacity)
+            .abs_diff(exact)
+            .saturating_mul(10_000)
+            / u64::from(USES);
         sum = sum.saturating_add(wrong);
         most = most.max(wrong);
     }
@@ -84,7 +85,10 @@ fn are_near_the_exact_curve(rt: HostRuntime) -> Result<(), Fail> {
     for seed in 1..=3 {
         let trace = zipf(rt.alloc(), seed)?;
         let (mean, most) = errors(rt.alloc(), &trace, 10).map_err(|_| "refused")?;
-        assert!(rt; mean <= 100 && most <= 200, "seed {seed}: {mean} and {most} in 10,000");
+        assert!(rt;
+            mean <= 100 && most <= 200,
+            "seed {seed}: {mean} and {most} in 10,000"
+        );
     }
     Ok(())
 }

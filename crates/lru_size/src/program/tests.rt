@@ -4,8 +4,8 @@ use super::{Streams, program};
 use lru_support::words::words;
 use lru_support::writer::Limited;
 use std::alloc::Global;
-use std::fs::{self, File, Files};
 use std::env;
+use std::fs::{self, File, Files};
 use std::rt::Env;
 use std::test::Fail;
 
@@ -94,15 +94,30 @@ fn samples_all_keys_in_one(rt: HostRuntime) -> Result<(), Fail> {
 fn names_a_bad_line(rt: HostRuntime) -> Result<(), Fail> {
     let cases = [
         ("a\n\nb\n", "line 2: expected KEY [CHARGE]\n"),
-        ("a 1\nb x\n", "line 2: expected a charge from 1 to 18446744073709551615, not \"x\"\n"),
-        ("a 0\n", "line 1: expected a charge from 1 to 18446744073709551615, not \"0\"\n"),
-        ("a +3\n", "line 1: expected a charge from 1 to 18446744073709551615, not \"+3\"\n"),
+        (
+            "a 1\nb x\n",
+            "line 2: expected a charge from 1 to 18446744073709551615, not \"x\"\n",
+        ),
+        (
+            "a 0\n",
+            "line 1: expected a charge from 1 to 18446744073709551615, not \"0\"\n",
+        ),
+        (
+            "a +3\n",
+            "line 1: expected a charge from 1 to 18446744073709551615, not \"+3\"\n",
+        ),
         (
             "a 18446744073709551616\n",
             "line 1: expected a charge from 1 to 18446744073709551615, not \"18446744073709551616\"\n",
         ),
-        ("a 1 2\n", "line 1: expected nothing after the charge, not \"2\"\n"),
-        ("a\nb\na 2\n", "lines 1 and 3: two charges of the key \"a\"\n"),
+        (
+            "a 1 2\n",
+            "line 1: expected nothing after the charge, not \"2\"\n",
+        ),
+        (
+            "a\nb\na 2\n",
+            "lines 1 and 3: two charges of the key \"a\"\n",
+        ),
     ];
     for (input, wanted) in cases {
         let ended = run(rt.alloc(), &rt, &[], input, false)?;
@@ -159,7 +174,12 @@ fn tells_when_nothing_can_be_written(rt: HostRuntime) -> Result<(), Fail> {
     assert!(rt; str::from_utf8(&err)?.starts_with("lru_size: cannot write standard output: "));
     let ended = run(alloc, &rt, &["--svg", "/no/such/folder/x"], TRACE, false)?;
     assert_eq!(rt; ended.status, 1);
-    assert!(rt; ended.err.as_str().starts_with("lru_size: cannot write \"/no/such/folder/x\": "));
+    assert!(rt;
+        ended
+            .err
+            .as_str()
+            .starts_with("lru_size: cannot write \"/no/such/folder/x\": ")
+    );
     Ok(())
 }
 
@@ -186,7 +206,11 @@ fn writes_a_picture_and_numbers(rt: HostRuntime) -> Result<(), Fail> {
     assert!(rt; picture.as_str().ends_with("</svg>\n"));
     assert!(rt; picture.as_str().contains(">7: 28.57%</text>"));
     let numbers = written(&rt, "--csv", "lru_size_tests_numbers")?;
-    assert!(rt; numbers.as_str().starts_with("capacity,uses,hits,charge_made\n1,7,0,21\n"));
+    assert!(rt;
+        numbers
+            .as_str()
+            .starts_with("capacity,uses,hits,charge_made\n1,7,0,21\n")
+    );
     assert!(rt; numbers.as_str().ends_with("\n12,7,3,14\n"));
     let both = run(rt.alloc(), &rt, &["--csv", "-"], TRACE, false)?;
     assert!(rt; both.out.as_str().ends_with(numbers.as_str()));

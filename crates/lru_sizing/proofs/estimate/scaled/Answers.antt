@@ -15,5 +15,5 @@ returns-clause-scaled g c = c.loop-place.invariant ∙ scaled_all c.args.sample.
 pub returns-clause-len : goal.returns-clause-len
 returns-clause-len g c =
     let long : length c.loop-place.scaled.items ≡ length c.args.weights.now =
-        ap length (c.loop-place.invariant ∙ scaled_all c.args.sample.one_in c.args.sampled.now c.args.weights.now c.requires c.loop-place.place c.loop-place-test.false) ∙ scaled_long c.args.sample.one_in c.args.sampled.now c.args.weights.now c.requires in
+    ap length (c.loop-place.invariant ∙ scaled_all c.args.sample.one_in c.args.sampled.now c.args.weights.now c.requires c.loop-place.place c.loop-place-test.false) ∙ scaled_long c.args.sample.one_in c.args.sampled.now c.args.weights.now c.requires in
     omega (arith, long)
