@@ -34,11 +34,51 @@ fn first_seed(alloc: Global, seeds: RangeInclusive<u64>) -> Result<Option<u64>, 
 }
 
 #[test]
-fn first_ten_are_answered_alike_by_all(rt: HostRuntime) {
-    assert_eq!(rt; first_seed(rt.alloc(), 1..=10), Ok(None));
+fn one_and_two_are_answered_alike_by_all(rt: HostRuntime) {
+    assert_eq!(rt; first_seed(rt.alloc(), 1..=2), Ok(None));
 }
 
 #[test]
-fn last_ten_are_answered_alike_by_all(rt: HostRuntime) {
-    assert_eq!(rt; first_seed(rt.alloc(), 11..=20), Ok(None));
+fn three_and_four_are_answered_alike_by_all(rt: HostRuntime) {
+    assert_eq!(rt; first_seed(rt.alloc(), 3..=4), Ok(None));
+}
+
+#[test]
+fn five_and_six_are_answered_alike_by_all(rt: HostRuntime) {
+    assert_eq!(rt; first_seed(rt.alloc(), 5..=6), Ok(None));
+}
+
+#[test]
+fn seven_and_eight_are_answered_alike_by_all(rt: HostRuntime) {
+    assert_eq!(rt; first_seed(rt.alloc(), 7..=8), Ok(None));
+}
+
+#[test]
+fn nine_and_ten_are_answered_alike_by_all(rt: HostRuntime) {
+    assert_eq!(rt; first_seed(rt.alloc(), 9..=10), Ok(None));
+}
+
+#[test]
+fn eleven_and_twelve_are_answered_alike_by_all(rt: HostRuntime) {
+    assert_eq!(rt; first_seed(rt.alloc(), 11..=12), Ok(None));
+}
+
+#[test]
+fn thirteen_and_fourteen_are_answered_alike_by_all(rt: HostRuntime) {
+    assert_eq!(rt; first_seed(rt.alloc(), 13..=14), Ok(None));
+}
+
+#[test]
+fn fifteen_and_sixteen_are_answered_alike_by_all(rt: HostRuntime) {
+    assert_eq!(rt; first_seed(rt.alloc(), 15..=16), Ok(None));
+}
+
+#[test]
+fn seventeen_and_eighteen_are_answered_alike_by_all(rt: HostRuntime) {
+    assert_eq!(rt; first_seed(rt.alloc(), 17..=18), Ok(None));
+}
+
+#[test]
+fn nineteen_and_twenty_are_answered_alike_by_all(rt: HostRuntime) {
+    assert_eq!(rt; first_seed(rt.alloc(), 19..=20), Ok(None));
 }
