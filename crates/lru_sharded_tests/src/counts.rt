@@ -27,7 +27,10 @@ fn the_counts_of_all_shards_are_summed(rt: HostRuntime) -> Result<(), Refusal> {
     let counts = cache.counts();
     assert_eq!(rt; (counts.hits, counts.misses, counts.waits), (3, 9, 0));
     assert_eq!(rt; counts.hit_ratio(), Some(0.25));
-    assert_eq!(rt; (counts.makings, counts.failures, counts.refusals), (8, 1, 0));
+    assert_eq!(rt;
+        (counts.makings, counts.failures, counts.refusals),
+        (8, 1, 0)
+    );
     assert_eq!(rt; (counts.insertions, counts.inserted_charge), (8, 8));
     assert_eq!(rt; (counts.evictions, counts.evicted_charge), (2, 2));
     assert_eq!(rt; (counts.removals, counts.removed_charge), (1, 1));
@@ -67,7 +70,10 @@ fn what_each_shard_is_asked_is_counted_there(rt: HostRuntime) {
     cache.invalidate(&0);
     assert_eq!(rt; cache.counts().evictions, 0);
     cache.invalidate(&4);
-    assert_eq!(rt; (cache.counts().evictions, cache.counts().evicted_charge), (1, 2));
+    assert_eq!(rt;
+        (cache.counts().evictions, cache.counts().evicted_charge),
+        (1, 2)
+    );
     drop(held);
     assert_eq!(rt; cache.counts().evictions, 2);
     assert_eq!(rt; cache.counts().evicted_charge, full.inserted_charge);
@@ -115,10 +121,15 @@ fn each_call_is_counted_in_one_reset(rt: HostRuntime) -> Result<(), Fail> {
         3,
         ByOwnNumber,
     )?;
-    let told = thread::map_indices(&rt, rt.alloc(), 4, &|index| match index {
-        0 => resets_often(&cache),
-        _ => asks_often(&cache),
-    })?;
+    let told = thread::map_indices(
+        &rt,
+        rt.alloc(),
+        4,
+        &|index| match index {
+            0 => resets_often(&cache),
+            _ => asks_often(&cache),
+        },
+    )?;
     let mut asked = asked_in(&cache.counts());
     for part in told.as_slice() {
         asked = asked.wrapping_add(*part);

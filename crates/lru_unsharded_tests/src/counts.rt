@@ -76,7 +76,11 @@ fn make_call<R: Wait>(cache: &LruCache<u64, u64, R>, call: Call) {
 // Makes each call that only looks.
 fn look<R: Wait>(cache: &LruCache<u64, u64, R>, key: u64) {
     let _ = (cache.contains(&key), cache.len(), cache.is_empty());
-    let _ = (cache.total_charge(), cache.pinned_charge(), cache.capacity());
+    let _ = (
+        cache.total_charge(),
+        cache.pinned_charge(),
+        cache.capacity(),
+    );
 }
 
 // Hits, misses, refusals, makings, failures, insertions, evictions and removals.
@@ -179,7 +183,10 @@ fn a_held_value_that_is_replaced_is_evicted_once(rt: HostRuntime) {
     let old = cache.insert(&1, 3, 10).expect(&rt, "memory");
     let new = cache.insert(&1, 5, 11).expect(&rt, "memory");
     let held = cache.counts();
-    assert_eq!(rt; (held.insertions, held.inserted_charge, held.evictions), (2, 8, 0));
+    assert_eq!(rt;
+        (held.insertions, held.inserted_charge, held.evictions),
+        (2, 8, 0)
+    );
     drop(old);
     let replaced = cache.counts();
     assert_eq!(rt; (replaced.evictions, replaced.evicted_charge), (1, 3));
@@ -260,7 +267,10 @@ fn a_reset_answers_what_was_counted(rt: HostRuntime) {
     assert_eq!(rt; (anew.entries_before, anew.charge_before), (2, 20));
     assert!(rt; adds_up(&cache));
     cache.advice_evict(1);
-    assert_eq!(rt; (cache.counts().evictions, cache.counts().evicted_charge), (1, 10));
+    assert_eq!(rt;
+        (cache.counts().evictions, cache.counts().evicted_charge),
+        (1, 10)
+    );
     assert!(rt; adds_up(&cache));
 }
 
@@ -296,7 +306,10 @@ fn the_hit_ratio_is_of_hits_and_misses(rt: HostRuntime) {
         ..none
     };
     assert_eq!(rt; some.hit_ratio(), Some(0.75));
-    let more = Counts { hits: u64::MAX, ..some };
+    let more = Counts {
+        hits: u64::MAX,
+        ..some
+    };
     assert_eq!(rt; more.saturating_add(some).hits, u64::MAX);
     assert_eq!(rt; more.saturating_add(some).misses, 2);
     assert_eq!(rt; more.hit_ratio(), Some(1.0));
@@ -335,7 +348,10 @@ fn a_caller_that_waits_is_counted(rt: HostRuntime) {
     }
     let counts = counts.expect(&rt, "the second never waited");
     assert_eq!(rt; (counts.hits, counts.misses, counts.waits), (0, 1, 1));
-    assert_eq!(rt; (counts.makings, counts.failures, counts.insertions), (1, 0, 1));
+    assert_eq!(rt;
+        (counts.makings, counts.failures, counts.insertions),
+        (1, 0, 1)
+    );
 }
 
 // The counts after the first caller failed and the second, which waited, made the value; none where
@@ -440,10 +456,15 @@ fn asks_often<R: Wait>(cache: &LruCache<u64, u64, R>) -> u64 {
 #[test]
 fn each_call_is_counted_in_one_reset(rt: HostRuntime) -> Result<(), Fail> {
     let cache: LruCache<u64, u64, &HostRuntime> = LruCache::new(rt.alloc(), &rt, 8);
-    let told = thread::map_indices(&rt, rt.alloc(), 4, &|index| match index {
-        0 => resets_often(&cache),
-        _ => asks_often(&cache),
-    })?;
+    let told = thread::map_indices(
+        &rt,
+        rt.alloc(),
+        4,
+        &|index| match index {
+            0 => resets_often(&cache),
+            _ => asks_often(&cache),
+        },
+    )?;
     let mut asked = asked_in(&cache.counts());
     for part in told.as_slice() {
         asked = asked.wrapping_add(*part);

@@ -26,7 +26,10 @@ impl Meeting {
 }
 
 /// The value of key 1, made as 5 while the other caller comes.
-pub(crate) fn makes_first<R: Wait>(cache: &LruCache<u64, u64, R>, meeting: &Meeting) -> Option<u64> {
+pub(crate) fn makes_first<R: Wait>(
+    cache: &LruCache<u64, u64, R>,
+    meeting: &Meeting,
+) -> Option<u64> {
     let mut met = false;
     let made = cache.get_or_init(1, 3, |_| {
         raise(&meeting.started);
