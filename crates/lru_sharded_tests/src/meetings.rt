@@ -1,11 +1,11 @@
-//! What runs without the lock of a shard: makers, and the reading of a handle while the cache is
-//! printed. In each gate two threads have to meet; a limit of looks ends it where they don't.
+//! Makers run without the lock of a shard. In each gate two threads have to meet; a limit of looks
+//! ends it where they don't.
 
 use concurrent_lru::sharded::LruCache;
-use lru_fixtures::meetings::{Print, Shown, meets_in_making, text_and_number};
+use lru_fixtures::meetings::meets_in_making;
 use lru_support::hashers::ByOwnNumber;
+use std::sync::Wait;
 use std::sync::atomic::AtomicU64;
-use std::sync::{Arc, Wait};
 use std::thread;
 use std::thread::Threads;
 
@@ -41,25 +41,4 @@ fn makers_run_without_the_lock_of_their_shard(rt: HostRuntime) {
     for keys in [(1, 3), (5, 6)] {
         assert_eq!(rt; makers_meet(&rt, &cache, keys), (true, true), "{keys:?}");
     }
-}
-
-#[test]
-fn a_handle_is_read_without_the_lock_of_its_shard(rt: HostRuntime) {
-    let print = Arc::new(rt.alloc(), Print::new()).expect(&rt, "memory");
-    let shown = Shown::new(&print, 7).expect(&rt, "memory");
-    let own = rt.clone().expect(&rt, "memory");
-    let made: Result<Cache<Shown, HostRuntime>, _> = LruCache::with_shards_hasher(
-        rt.alloc(),
-        own,
-        20,
-        2,
-        ByOwnNumber,
-    );
-    let cache = made.expect(&rt, "memory");
-    let handle = cache
-        .get_or_init(1, 1, move |_| shown)
-        .expect(&rt, "memory");
-    let (text, number) = text_and_number(&rt, rt.alloc(), &cache, &handle, &*print);
-    assert_eq!(rt; text.expect(&rt, "memory").as_str(), "[{}, {1: 7}]");
-    assert_eq!(rt; (number, print.is_met()), (Some(7), true));
 }
