@@ -1,0 +1,10 @@
+pub mod ByKey
+pub mod ChainCodes
+pub mod Freed
+pub mod Opened
+pub mod BytesCacheAsBox
+pub mod BytesChainAsBox
+pub mod BytesOpened
+pub mod WordsCacheAsBox
+pub mod WordsChainAsBox
+pub mod WordsOpened

@@ -1,0 +1,17 @@
+//! What the handle of a chain leads to.
+
+use crate::words::key::Words;
+use concurrent_lru::lru_core::Evicted;
+use std::marker::Send;
+
+/// What a call took out of a cache, oldest first: these, and then those.
+#[derive(Drop)]
+pub struct WordsChain {
+    /// What is popped first.
+    pub first: Evicted<Words, u64>,
+    /// What is popped after it.
+    pub then: Evicted<Words, u64>,
+}
+
+// The entries may go to another thread, and so may the chain.
+unsafe impl Send for WordsChain {}
