@@ -7,8 +7,9 @@ use Rattle.lru_c.specs.Codes as code
 use Rattle.lru_c.specs.Told as tells
 use Rattle.lru_c.specs.Told.{bare, told, IsSame}
 use Rattle.lru_c.specs.Opened.{TellsReady}
-use Rattle.lru_c.specs.Chains.{chain_code}
+use Rattle.lru_c.specs.Chains.{IntoChain}
 use Rattle.lru_c.specs.Handles.{OnOpen}
+use Rattle.lru_c.specs.Inserts.{TellsInsertOf}
 use Rattle.lru_c.specs.declared.told.LruTold.{LruTold}
 use Rattle.std_alloc.specs.declared.vec.Vec.{Vec}
 use Rattle.std.specs.declared.alloc.Global.{Global}
@@ -53,6 +54,15 @@ abbrev pub Begins : Option BytesCache → List ℕ → ℕ → LruTold → Entri
 Begins old bytes charge t gone new =
     OnOpen old new (λ o n. BeginsByKey o.state.cache bytes charge t gone n.state.cache) ((t ≡ bare code.closed) × (gone ≡ []))
 
+-- An insert, with what it replaced and what it evicted.
+abbrev pub Inserts : Option BytesCache → List ℕ → ℕ → ℕ → LruTold → Entries → Entries → Option BytesCache → Type 0
+Inserts old bytes charge v t replaced evicted new =
+    OnOpen old new (λ o n. TellsInsertOf bytes_eq (λ key. key.items ≡ bytes) o.state.cache charge v t replaced evicted n.state.cache) ((t ≡ bare code.closed) × (replaced ≡ []) × (evicted ≡ []))
+
+-- The same, with both in one chain.
+abbrev pub InsertsInto : Option BytesCache → List ℕ → ℕ → ℕ → LruTold → Entries → Option BytesCache → Type 0
+InsertsInto old bytes charge v t out new = (replaced : Entries) × (evicted : Entries) × (out ≡ replaced ++ evicted) × Inserts old bytes charge v t replaced evicted new
+
 -- This number of the cache was told, and the cache is the same.
 abbrev pub Numbers : Option BytesCache → (Cache Key ℕ → ℕ) → LruTold → Option BytesCache → Type 0
 Numbers old number t new = OnOpen old new (λ o n. (t ≡ told code.number 0 (number o.state.cache)) × (n.state.cache ≡ o.state.cache)) (t ≡ bare code.closed)
@@ -82,11 +92,6 @@ KeyOf old stamp t before after new = OnOpen old new (λ o n. CopiesKey o.state.c
 abbrev pub Frees : Option BytesCache → ℕ → Entries → Entries → Type 0
 Frees old c idle held = MatchOption old ((c ≡ code.closed) × (idle ≡ []) × (held ≡ [])) (λ o. (c ≡ code.done) × (idle ≡ o.state.cache.idle))
 
--- A call that puts what it took out into a chain. Where the chain takes more, the call did this with what is in the chain now; else it told why, and nothing changed.
-abbrev pub IntoChain : Option BytesChain → Option BytesChain → ℕ → Option BytesCache → Option BytesCache → (Entries → Type 0) → Type 0
-IntoChain before after c old new Step =
-    MatchBool (chain_code (entries_of before) == code.done) (MatchOption (entries_of after) ⊥ Step) ((c ≡ chain_code (entries_of before)) × (after ≡ before) × (new ≡ old))
-
--- The same of a call that frees the cache.
+-- A call that frees the cache into a chain.
 abbrev pub FreesInto : Option BytesChain → Option BytesChain → ℕ → Option BytesCache → Option BytesCache → Type 0
-FreesInto before after c old new = IntoChain before after c old new (λ out. (new ≡ None) × ((idle : Entries) × (held : Entries) × Frees old c idle held × (out ≡ idle ++ held)))
+FreesInto before after c old new = IntoChain (entries_of before) (entries_of after) c old new (λ out. (new ≡ None) × ((idle : Entries) × (held : Entries) × Frees old c idle held × (out ≡ idle ++ held)))

@@ -1,5 +1,5 @@
 -- The chains that C holds: what is in them, and what C is told of them.
-use Rattle.std.specs.Prelude.{◌≡◌, ℕ, List, [], ◌∷◌, Option, Some, None, MatchBool, ◌==◌}
+use Rattle.std.specs.Prelude.{◌≡◌, ℕ, List, [], ◌∷◌, Option, Some, None, MatchBool, MatchOption, ◌==◌}
 use Rattle.concurrent_lru.specs.Cache.{Idle}
 use Rattle.lru_c.specs.Codes as code
 use Rattle.lru_c.specs.declared.told.LruGone.{LruGone}
@@ -20,3 +20,8 @@ module _ {K : Type 0} where
   abbrev pub TellsFirst : List (Idle K ℕ) → LruGone → List (Idle K ℕ) → Type 0
   TellsFirst [] g rest = ⊥
   TellsFirst (x ∷ xs) g rest = (rest ≡ xs) × (g.stamp ≡ x.stamp) × (g.charge ≡ x.charge) × (g.value ≡ x.value)
+
+module _ {K A : Type 0} where
+  -- A call that puts what it took out into a chain, told with the entries of the chain before and after it. Where the chain took more, the call did this with what is in the chain now; else it told why, and nothing changed.
+  abbrev pub IntoChain : Option (List (Idle K ℕ)) → Option (List (Idle K ℕ)) → ℕ → A → A → (List (Idle K ℕ) → Type 0) → Type 0
+  IntoChain before after c old new Step = MatchBool (chain_code before == code.done) (MatchOption after ⊥ Step) ((c ≡ chain_code before) × (after ≡ before) × (new ≡ old))

@@ -1,6 +1,7 @@
 -- The definitions that the contracts of the calls from C cite.
 pub mod Codes
 pub mod Told
+pub mod Inserts
 pub mod Handles
 pub mod Chains
 pub mod Freed

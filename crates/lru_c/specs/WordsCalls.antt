@@ -7,8 +7,9 @@ use Rattle.lru_c.specs.Codes as code
 use Rattle.lru_c.specs.Told as tells
 use Rattle.lru_c.specs.Told.{bare, told, IsSame}
 use Rattle.lru_c.specs.Opened.{TellsKey, TellsReady}
-use Rattle.lru_c.specs.Chains.{chain_code}
+use Rattle.lru_c.specs.Chains.{IntoChain}
 use Rattle.lru_c.specs.Handles.{OnOpen}
+use Rattle.lru_c.specs.Inserts.{TellsInsertOf}
 use Rattle.lru_c.specs.declared.told.LruTold.{LruTold}
 use Rattle.lru_c.specs.declared.words.key.Words.{Words}
 use Rattle.lru_c.specs.declared.words.cache.WordsCache.{WordsCache}
@@ -41,6 +42,15 @@ Begins old key charge t gone new =
     (λ o n. MatchBool (charge == 0) ((t ≡ bare code.no_charge) × IsSame o.state.cache gone n.state.cache) (tells.Asks words_eq o.state.cache (ask.begin key charge) t gone n.state.cache))
     ((t ≡ bare code.closed) × (gone ≡ []))
 
+-- An insert, with what it replaced and what it evicted.
+abbrev pub Inserts : Option WordsCache → Words → ℕ → ℕ → LruTold → Entries → Entries → Option WordsCache → Type 0
+Inserts old key charge v t replaced evicted new =
+    OnOpen old new (λ o n. TellsInsertOf words_eq (λ k. k ≡ key) o.state.cache charge v t replaced evicted n.state.cache) ((t ≡ bare code.closed) × (replaced ≡ []) × (evicted ≡ []))
+
+-- The same, with both in one chain.
+abbrev pub InsertsInto : Option WordsCache → Words → ℕ → ℕ → LruTold → Entries → Option WordsCache → Type 0
+InsertsInto old key charge v t out new = (replaced : Entries) × (evicted : Entries) × (out ≡ replaced ++ evicted) × Inserts old key charge v t replaced evicted new
+
 -- This number of the cache was told, and the cache is the same.
 abbrev pub Numbers : Option WordsCache → (Cache Words ℕ → ℕ) → LruTold → Option WordsCache → Type 0
 Numbers old number t new = OnOpen old new (λ o n. (t ≡ told code.number 0 (number o.state.cache)) × (n.state.cache ≡ o.state.cache)) (t ≡ bare code.closed)
@@ -61,11 +71,6 @@ KeyOf old stamp c key new = OnOpen old new (λ o n. TellsKey o.state.cache stamp
 abbrev pub Frees : Option WordsCache → ℕ → Entries → Entries → Type 0
 Frees old c idle held = MatchOption old ((c ≡ code.closed) × (idle ≡ []) × (held ≡ [])) (λ o. (c ≡ code.done) × (idle ≡ o.state.cache.idle))
 
--- A call that puts what it took out into a chain. Where the chain takes more, the call did this with what is in the chain now; else it told why, and nothing changed.
-abbrev pub IntoChain : Option WordsChain → Option WordsChain → ℕ → Option WordsCache → Option WordsCache → (Entries → Type 0) → Type 0
-IntoChain before after c old new Step =
-    MatchBool (chain_code (entries_of before) == code.done) (MatchOption (entries_of after) ⊥ Step) ((c ≡ chain_code (entries_of before)) × (after ≡ before) × (new ≡ old))
-
--- The same of a call that frees the cache.
+-- A call that frees the cache into a chain.
 abbrev pub FreesInto : Option WordsChain → Option WordsChain → ℕ → Option WordsCache → Option WordsCache → Type 0
-FreesInto before after c old new = IntoChain before after c old new (λ out. (new ≡ None) × ((idle : Entries) × (held : Entries) × Frees old c idle held × (out ≡ idle ++ held)))
+FreesInto before after c old new = IntoChain (entries_of before) (entries_of after) c old new (λ out. (new ≡ None) × ((idle : Entries) × (held : Entries) × Frees old c idle held × (out ≡ idle ++ held)))

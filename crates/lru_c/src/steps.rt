@@ -4,12 +4,13 @@ ghost use Rattle.std.specs.Arc.{arc_value};
 ghost use Rattle.concurrent_lru.specs.Cache.{count_of};
 ghost use Rattle.concurrent_lru.specs.Request as ask;
 ghost use Rattle.lru_c.specs.Codes as codes;
+ghost use Rattle.lru_c.specs.Inserts.{refusal_code, TellsInsert};
 ghost use Rattle.lru_c.specs.Opened.{TellsReady};
 ghost use Rattle.lru_c.specs.Told.{bare, told, Asks, AsksWithMemory, IsSame};
 
 use crate::code;
 use crate::told::LruTold;
-use concurrent_lru::lru_core::{Begun, Evicted, Failed, Refusal, State};
+use concurrent_lru::lru_core::{Begun, Evicted, Failed, Inserted, Refusal, State};
 use std::alloc::Global;
 use std::hash::Hash;
 use std::sync::Arc;
@@ -132,6 +133,71 @@ pub(crate) fn advice_evict<K: Hash + Eq + Clone>(
     ensures { Asks K.eq state.old.cache (ask.advice_evict key.now) (bare result.0) result.1 state.new.cache }
 {
     (code::DONE, state.advice_evict(key))
+}
+
+pub(crate) fn invalidate<K: Hash + Eq + Clone>(
+    state: &mut State<K, u64>,
+    key: &K,
+) -> (u32, Evicted<K, u64>)
+    ensures { Asks K.eq state.old.cache (ask.invalidate key.now) (bare result.0) result.1 state.new.cache }
+{
+    (code::DONE, state.invalidate(key))
+}
+
+// Answers what the new entry replaced, and what its charge evicted.
+pub(crate) fn insert<K: Hash + Eq + Clone>(
+    state: &mut State<K, u64>,
+    alloc: Global,
+    key: &K,
+    charge: u64,
+    value: u64,
+) -> (LruTold, (Evicted<K, u64>, Evicted<K, u64>))
+    requires { 0 < charge }
+    ensures { TellsInsert K.eq state.old.cache key.now charge value result.0 result.1.0 result.1.1 state.new.cache }
+{
+    match Arc::new(alloc, value) {
+        Ok(shared) => insert_shared(state, key, charge, shared),
+        Err(_) => refused(code::MEMORY),
+    }
+}
+
+fn insert_shared<K: Hash + Eq + Clone>(
+    state: &mut State<K, u64>,
+    key: &K,
+    charge: u64,
+    shared: Arc<u64>,
+) -> (LruTold, (Evicted<K, u64>, Evicted<K, u64>))
+    requires { 0 < charge }
+    ensures { TellsInsert K.eq state.old.cache key.now charge (arc_value shared) result.0 result.1.0 result.1.1 state.new.cache }
+{
+    match state.insert(key, charge, shared) {
+        Ok(inserted) => {
+            let Inserted {
+                stamp,
+                replaced,
+                evicted,
+            } = inserted;
+            (LruTold::of(code::DONE, stamp, 0), (replaced, evicted))
+        }
+        Err((refusal, _back)) => refused(code_of(refusal)),
+    }
+}
+
+// A refusal of an insert: a code, and nothing that was replaced or evicted.
+pub(crate) fn refused<K: Drop>(code: u32) -> (LruTold, (Evicted<K, u64>, Evicted<K, u64>))
+    ensures { (result.0 ≡ bare code) × (result.1.0 ≡ []) × (result.1.1 ≡ []) }
+{
+    (LruTold::bare(code), (Evicted::none(), Evicted::none()))
+}
+
+fn code_of(refusal: Refusal) -> u32
+    ensures { result ≡ refusal_code refusal }
+{
+    match refusal {
+        Refusal::Overflow => code::OVERFLOW,
+        Refusal::Stale => code::STALE,
+        Refusal::Memory => code::MEMORY,
+    }
 }
 
 pub(crate) fn prune<K: Hash + Eq + Clone>(state: &mut State<K, u64>) -> (u32, Evicted<K, u64>)

@@ -2,11 +2,11 @@
 ghost use Rattle.std.specs.Prelude.{◌≡◌, ◌==◌, [], false, is_some, true, None, Some, MatchBool, MatchOption};
 ghost use Rattle.concurrent_lru.specs.Cache.{count_of, empty_cache, most_pins_by_default};
 ghost use Rattle.concurrent_lru.specs.Request as ask;
-ghost use Rattle.lru_c.specs.Chains.{chain_code, entries_in, TellsFirst};
+ghost use Rattle.lru_c.specs.Chains.{chain_code, entries_in, IntoChain, TellsFirst};
 ghost use Rattle.lru_c.specs.Codes as codes;
 ghost use Rattle.lru_c.specs.Opened.{Opens};
 ghost use Rattle.lru_c.specs.Told.{bare};
-ghost use Rattle.lru_c.specs.WordsCalls.{entries_of, Asks, AsksWithMemory, Begins, Contains, FreesInto, IntoChain, KeyOf, Numbers, Reserves};
+ghost use Rattle.lru_c.specs.WordsCalls.{entries_of, Asks, AsksWithMemory, Begins, Contains, FreesInto, InsertsInto, KeyOf, Numbers, Reserves};
 
 pub mod cache;
 pub mod cache_at;
@@ -107,7 +107,7 @@ pub extern "C" fn lru_words_begin(
     charge: u64,
     gone: &mut LruWordsEvicted,
 ) -> LruTold
-    ensures { IntoChain gone.old.chain.held gone.new.chain.held result.code cache.old.cache.held cache.new.cache.held (λ out. Begins cache.old.cache.held (record { first = first; second = second }) charge result out cache.new.cache.held) }
+    ensures { IntoChain (entries_of gone.old.chain.held) (entries_of gone.new.chain.held) result.code cache.old.cache.held cache.new.cache.held (λ out. Begins cache.old.cache.held (record { first = first; second = second }) charge result out cache.new.cache.held) }
 {
     let filled = replace_with(gone, (), chain_calls::is_filled);
     if filled != code::DONE {
@@ -176,7 +176,7 @@ pub extern "C" fn lru_words_release(
     stamp: u64,
     gone: &mut LruWordsEvicted,
 ) -> u32
-    ensures { IntoChain gone.old.chain.held gone.new.chain.held result cache.old.cache.held cache.new.cache.held (λ out. Asks cache.old.cache.held (ask.release stamp) (bare result) out cache.new.cache.held) }
+    ensures { IntoChain (entries_of gone.old.chain.held) (entries_of gone.new.chain.held) result cache.old.cache.held cache.new.cache.held (λ out. Asks cache.old.cache.held (ask.release stamp) (bare result) out cache.new.cache.held) }
 {
     let filled = replace_with(gone, (), chain_calls::is_filled);
     if filled != code::DONE {
@@ -195,7 +195,7 @@ pub extern "C" fn lru_words_advice_evict(
     second: u64,
     gone: &mut LruWordsEvicted,
 ) -> u32
-    ensures { IntoChain gone.old.chain.held gone.new.chain.held result cache.old.cache.held cache.new.cache.held (λ out. Asks cache.old.cache.held (ask.advice_evict (record { first = first; second = second })) (bare result) out cache.new.cache.held) }
+    ensures { IntoChain (entries_of gone.old.chain.held) (entries_of gone.new.chain.held) result cache.old.cache.held cache.new.cache.held (λ out. Asks cache.old.cache.held (ask.advice_evict (record { first = first; second = second })) (bare result) out cache.new.cache.held) }
 {
     let filled = replace_with(gone, (), chain_calls::is_filled);
     if filled != code::DONE {
@@ -206,13 +206,59 @@ pub extern "C" fn lru_words_advice_evict(
     answer
 }
 
+/// Takes the entry of a key off it. An idle entry is evicted into a chain; a held one is found by
+/// its stamp alone from then on, and is evicted with its last pin. No entry: nothing happens.
+#[unsafe(no_mangle)]
+pub extern "C" fn lru_words_invalidate(
+    cache: &mut LruWords,
+    first: u64,
+    second: u64,
+    gone: &mut LruWordsEvicted,
+) -> u32
+    ensures { IntoChain (entries_of gone.old.chain.held) (entries_of gone.new.chain.held) result cache.old.cache.held cache.new.cache.held (λ out. Asks cache.old.cache.held (ask.invalidate (record { first = first; second = second })) (bare result) out cache.new.cache.held) }
+{
+    let filled = replace_with(gone, (), chain_calls::is_filled);
+    if filled != code::DONE {
+        return filled;
+    }
+    let (answer, taken) = replace_with(cache, Words { first, second }, calls::invalidate);
+    replace_with(gone, (Evicted::none(), taken), chain_calls::put);
+    answer
+}
+
+/// Puts a value in, whatever the key has: takes the entry of the key off it as an invalidate does,
+/// and makes a new one, in which the caller has a pin: `DONE` with its stamp. The entry that was
+/// idle under the key, and then what the charge evicted, oldest first, are put into a chain.
+///
+/// `NO_CHARGE` for a charge of 0, `CLOSED` where the cache or the chain is not open, `NOT_EMPTY` where
+/// the chain has entries, `OVERFLOW` and `MEMORY`: nothing changes, and the value is not taken.
+#[unsafe(no_mangle)]
+pub extern "C" fn lru_words_insert(
+    cache: &mut LruWords,
+    first: u64,
+    second: u64,
+    charge: u64,
+    value: u64,
+    gone: &mut LruWordsEvicted,
+) -> LruTold
+    ensures { IntoChain (entries_of gone.old.chain.held) (entries_of gone.new.chain.held) result.code cache.old.cache.held cache.new.cache.held (λ out. InsertsInto cache.old.cache.held (record { first = first; second = second }) charge value result out cache.new.cache.held) }
+{
+    let filled = replace_with(gone, (), chain_calls::is_filled);
+    if filled != code::DONE {
+        return LruTold::bare(filled);
+    }
+    let (answer, taken) = replace_with(cache, (Words { first, second }, charge, value), calls::insert);
+    replace_with(gone, taken, chain_calls::put);
+    answer
+}
+
 /// Evicts each idle entry into a chain, oldest first.
 #[unsafe(no_mangle)]
 pub extern "C" fn lru_words_prune(
     cache: &mut LruWords,
     gone: &mut LruWordsEvicted,
 ) -> u32
-    ensures { IntoChain gone.old.chain.held gone.new.chain.held result cache.old.cache.held cache.new.cache.held (λ out. Asks cache.old.cache.held ask.prune (bare result) out cache.new.cache.held) }
+    ensures { IntoChain (entries_of gone.old.chain.held) (entries_of gone.new.chain.held) result cache.old.cache.held cache.new.cache.held (λ out. Asks cache.old.cache.held ask.prune (bare result) out cache.new.cache.held) }
 {
     let filled = replace_with(gone, (), chain_calls::is_filled);
     if filled != code::DONE {
@@ -230,7 +276,7 @@ pub extern "C" fn lru_words_set_capacity(
     capacity: u64,
     gone: &mut LruWordsEvicted,
 ) -> u32
-    ensures { IntoChain gone.old.chain.held gone.new.chain.held result cache.old.cache.held cache.new.cache.held (λ out. Asks cache.old.cache.held (ask.set_capacity capacity) (bare result) out cache.new.cache.held) }
+    ensures { IntoChain (entries_of gone.old.chain.held) (entries_of gone.new.chain.held) result cache.old.cache.held cache.new.cache.held (λ out. Asks cache.old.cache.held (ask.set_capacity capacity) (bare result) out cache.new.cache.held) }
 {
     let filled = replace_with(gone, (), chain_calls::is_filled);
     if filled != code::DONE {

@@ -24,6 +24,7 @@ pub struct BytesCache {
 
 impl BytesCache {
     ghost use Rattle.lru_c.specs.BytesCalls.{bytes_eq, BeginsByKey, ContainsBytes};
+    ghost use Rattle.lru_c.specs.Inserts.{TellsInsertOf};
     ghost use Rattle.lru_c.specs.Told.{bare, Asks, AsksOf};
 
     // Copies the bytes of a key into the room for one. False where the room can't grow.
@@ -63,6 +64,32 @@ impl BytesCache {
             return (code::MEMORY, Evicted::none());
         }
         steps::advice_evict(&mut self.state, &self.key)
+    }
+
+    pub(crate) fn invalidate(&mut self, key: &[u8]) -> (u32, Evicted<Vec<u8>, u64>)
+        ensures { AsksOf bytes_eq (λ k. k.items ≡ key.now) self.old.state.cache ask.invalidate (bare result.0) result.1 self.new.state.cache }
+    {
+        if !self.keep(key) {
+            return (code::MEMORY, Evicted::none());
+        }
+        steps::invalidate(&mut self.state, &self.key)
+    }
+
+    pub(crate) fn insert(
+        &mut self,
+        key: &[u8],
+        charge: u64,
+        value: u64,
+    ) -> (LruTold, (Evicted<Vec<u8>, u64>, Evicted<Vec<u8>, u64>))
+        ensures { TellsInsertOf bytes_eq (λ k. k.items ≡ key.now) self.old.state.cache charge value result.0 result.1.0 result.1.1 self.new.state.cache }
+    {
+        if charge == 0 {
+            return steps::refused(code::NO_CHARGE);
+        }
+        if !self.keep(key) {
+            return steps::refused(code::MEMORY);
+        }
+        steps::insert(&mut self.state, self.alloc, &self.key, charge, value)
     }
 
     pub(crate) fn contains(&mut self, key: &[u8]) -> u32

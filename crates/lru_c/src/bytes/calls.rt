@@ -6,7 +6,7 @@ ghost use Rattle.lru_c.specs.Codes as codes;
 ghost use Rattle.lru_c.specs.Handles.{OnOpen};
 ghost use Rattle.lru_c.specs.Opened.{TellsKey, TellsReady};
 ghost use Rattle.lru_c.specs.Told.{bare, told};
-ghost use Rattle.lru_c.specs.BytesCalls.{Asks, AsksByKey, AsksWithMemory, Begins, Contains, CopiesKey, Frees, Numbers, Reserves};
+ghost use Rattle.lru_c.specs.BytesCalls.{Asks, AsksByKey, AsksWithMemory, Begins, Contains, CopiesKey, Frees, Inserts, Numbers, Reserves};
 
 use crate::code;
 use crate::steps;
@@ -70,6 +70,34 @@ pub(crate) fn advice_evict(handle: LruBytes, key: &[u8]) -> (LruBytes, (u32, Gon
             (LruBytes::of(cache), answer)
         }
         Err(handle) => (handle, (code::CLOSED, Evicted::none())),
+    }
+}
+
+pub(crate) fn invalidate(handle: LruBytes, key: &[u8]) -> (LruBytes, (u32, Gone))
+    ensures { AsksByKey handle.cache.held ask.invalidate key.now (bare result.1.0) result.1.1 result.0.cache.held }
+{
+    match handle.opened() {
+        Ok(mut cache) => {
+            let answer = cache.invalidate(key);
+            (LruBytes::of(cache), answer)
+        }
+        Err(handle) => (handle, (code::CLOSED, Evicted::none())),
+    }
+}
+
+// Puts a value in, for a key, a charge and that value: what was replaced, and what was evicted.
+pub(crate) fn insert(
+    handle: LruBytes,
+    asked: (&[u8], u64, u64),
+) -> (LruBytes, (LruTold, (Gone, Gone)))
+    ensures { Inserts handle.cache.held asked.entry.0.now asked.entry.1 asked.entry.2 result.1.0 result.1.1.0 result.1.1.1 result.0.cache.held }
+{
+    match handle.opened() {
+        Ok(mut cache) => {
+            let answer = cache.insert(asked.0, asked.1, asked.2);
+            (LruBytes::of(cache), answer)
+        }
+        Err(handle) => (handle, steps::refused(code::CLOSED)),
     }
 }
 

@@ -1,7 +1,11 @@
 //! What the handle of a cache leads to.
+ghost use Rattle.std.specs.Prelude.{◌≡◌};
 
+use crate::code;
+use crate::steps;
+use crate::told::LruTold;
 use crate::words::key::Words;
-use concurrent_lru::lru_core::State;
+use concurrent_lru::lru_core::{Evicted, State};
 use std::alloc::Global;
 
 /// A cache whose keys are two words.
@@ -13,4 +17,23 @@ pub struct WordsCache {
     pub state: State<Words, u64>,
     /// The stamp that the first entry got; no entry has a lower one.
     pub first_stamp: u64,
+}
+
+impl WordsCache {
+    ghost use Rattle.lru_c.specs.WordsCalls.{words_eq};
+    ghost use Rattle.lru_c.specs.Inserts.{TellsInsertOf};
+
+    pub(crate) fn insert(
+        &mut self,
+        key: &Words,
+        charge: u64,
+        value: u64,
+    ) -> (LruTold, (Evicted<Words, u64>, Evicted<Words, u64>))
+        ensures { TellsInsertOf words_eq (λ k. k ≡ key.now) self.old.state.cache charge value result.0 result.1.0 result.1.1 self.new.state.cache }
+    {
+        if charge == 0 {
+            return steps::refused(code::NO_CHARGE);
+        }
+        steps::insert(&mut self.state, self.alloc, key, charge, value)
+    }
 }

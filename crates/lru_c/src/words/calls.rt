@@ -6,7 +6,7 @@ ghost use Rattle.lru_c.specs.Codes as codes;
 ghost use Rattle.lru_c.specs.Handles.{OnOpen};
 ghost use Rattle.lru_c.specs.Opened.{TellsKey, TellsReady};
 ghost use Rattle.lru_c.specs.Told.{bare, told};
-ghost use Rattle.lru_c.specs.WordsCalls.{Asks, AsksWithMemory, Begins, Contains, Frees, KeyOf, Numbers, Reserves};
+ghost use Rattle.lru_c.specs.WordsCalls.{Asks, AsksWithMemory, Begins, Contains, Frees, Inserts, KeyOf, Numbers, Reserves};
 
 use crate::code;
 use crate::steps;
@@ -70,6 +70,34 @@ pub(crate) fn advice_evict(handle: LruWords, key: Words) -> (LruWords, (u32, Gon
             (LruWords::of(cache), answer)
         }
         Err(handle) => (handle, (code::CLOSED, Evicted::none())),
+    }
+}
+
+pub(crate) fn invalidate(handle: LruWords, key: Words) -> (LruWords, (u32, Gone))
+    ensures { Asks handle.cache.held (ask.invalidate key) (bare result.1.0) result.1.1 result.0.cache.held }
+{
+    match handle.opened() {
+        Ok(mut cache) => {
+            let answer = steps::invalidate(&mut cache.state, &key);
+            (LruWords::of(cache), answer)
+        }
+        Err(handle) => (handle, (code::CLOSED, Evicted::none())),
+    }
+}
+
+// Puts a value in, for a key, a charge and that value: what was replaced, and what was evicted.
+pub(crate) fn insert(
+    handle: LruWords,
+    asked: (Words, u64, u64),
+) -> (LruWords, (LruTold, (Gone, Gone)))
+    ensures { Inserts handle.cache.held asked.0 asked.1 asked.2 result.1.0 result.1.1.0 result.1.1.1 result.0.cache.held }
+{
+    match handle.opened() {
+        Ok(mut cache) => {
+            let answer = cache.insert(&asked.0, asked.1, asked.2);
+            (LruWords::of(cache), answer)
+        }
+        Err(handle) => (handle, steps::refused(code::CLOSED)),
     }
 }
 
