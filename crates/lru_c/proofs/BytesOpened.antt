@@ -1,9 +1,13 @@
 -- What a step did with what an open handle leads to, as what a call did with the handle.
 use Rattle.std.proofs.Common.{◌≡◌, ℕ, List, sym, subst}
-use Rattle.std.specs.Prelude.{Option, Some}
+use Rattle.std.specs.Prelude.{Option, Some, ◌⊎◌}
+use Rattle.concurrent_lru.specs.Cache.{Cache}
 use Rattle.concurrent_lru.specs.Request.{Request}
+use Rattle.lru_c.specs.Codes as code
+use Rattle.lru_c.specs.Inserts.{TellsInsertOf}
 use Rattle.lru_c.specs.Told as tells
-use Rattle.lru_c.specs.BytesCalls.{bytes_eq, Entries, Key, Asks, AsksByKey, AsksWithMemory, Begins, BeginsByKey, Contains, ContainsBytes}
+use Rattle.lru_c.specs.Told.{told}
+use Rattle.lru_c.specs.BytesCalls.{bytes_eq, Entries, Key, Asks, AsksByKey, AsksWithMemory, Begins, BeginsByKey, Contains, ContainsBytes, Inserts, Numbers, Reserves}
 use Rattle.lru_c.specs.declared.told.LruTold.{LruTold}
 use Rattle.lru_c.specs.declared.bytes.cache.BytesCache.{BytesCache}
 use Rattle.lru_c.proofs.Opened.{on_open}
@@ -29,3 +33,17 @@ module _ {old new : Option BytesCache} {x y : BytesCache} (o : old ≡ Some x) (
   pub contains : (bytes : List ℕ) (c : ℕ) → ContainsBytes a.state.cache bytes c → y.state ≡ a.state → Contains old bytes c new
   contains bytes c h same =
       on_open old new x y (λ p q. ContainsBytes p.state.cache bytes c × (q.state.cache ≡ p.state.cache)) _ o n (subst (λ p. ContainsBytes p.state.cache bytes c × (y.state.cache ≡ p.state.cache)) is (h, λ i. (same i).cache))
+
+  pub inserts : (bytes : List ℕ) (charge v : ℕ) (t : LruTold) (replaced evicted : Entries) → TellsInsertOf bytes_eq (λ key. key.items ≡ bytes) a.state.cache charge v t replaced evicted y.state.cache → Inserts old bytes charge v t replaced evicted new
+  inserts bytes charge v t replaced evicted h =
+      on_open old new x y (λ p q. TellsInsertOf bytes_eq (λ key. key.items ≡ bytes) p.state.cache charge v t replaced evicted q.state.cache) _ o n
+      (subst (λ p. TellsInsertOf bytes_eq (λ key. key.items ≡ bytes) p.state.cache charge v t replaced evicted y.state.cache) is h)
+
+  pub numbers : (number : Cache Key ℕ → ℕ) (t : LruTold) → t ≡ told code.number 0 (number a.state.cache) → y.state.cache ≡ x.state.cache → Numbers old number t new
+  numbers number t h same =
+      on_open old new x y (λ p q. (t ≡ told code.number 0 (number p.state.cache)) × (q.state.cache ≡ p.state.cache)) _ o n
+      (subst (λ p. t ≡ told code.number 0 (number p.state.cache)) is h, same)
+
+  pub reserves : (c : ℕ) → (c ≡ code.done) ⊎ (c ≡ code.memory) → y.state.cache ≡ a.state.cache → Reserves old c new
+  reserves c h same =
+      on_open old new x y (λ p q. ((c ≡ code.done) ⊎ (c ≡ code.memory)) × (q.state.cache ≡ p.state.cache)) _ o n (h, subst (λ p. y.state.cache ≡ p.state.cache) is same)

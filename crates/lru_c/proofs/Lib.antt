@@ -1,4 +1,6 @@
 pub mod ByKey
+pub mod IntoChain
+pub mod BytesCopies
 pub mod ChainCodes
 pub mod Freed
 pub mod Opened

@@ -1,0 +1,5 @@
+use Rattle.lru_c.proofs.BytesOpened.{reserves}
+use Rattle.lru_c.proofs.bytes.calls.reserve.Goals as goal
+
+pub returns-in-Ok : goal.returns-in-Ok
+returns-in-Ok c = reserves c.in-Ok.ensures c.of.ensures c.deref_mut.result.now c.deref_mut.ensures.value c.reserve-answer.result c.reserve-answer.ensures.code c.reserve-answer.ensures.same

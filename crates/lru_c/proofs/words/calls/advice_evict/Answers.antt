@@ -1,0 +1,7 @@
+use Rattle.concurrent_lru.specs.Request as ask
+use Rattle.lru_c.specs.Told.{bare}
+use Rattle.lru_c.proofs.WordsOpened.{asks}
+use Rattle.lru_c.proofs.words.calls.advice_evict.Goals as goal
+
+pub returns-in-Ok : goal.returns-in-Ok
+returns-in-Ok c = asks c.in-Ok.ensures c.of.ensures c.deref_mut.result.now c.deref_mut.ensures.value (ask.advice_evict c.args.key) (bare c.advice_evict-answer.result.0) c.advice_evict-answer.result.1 c.advice_evict-answer.ensures
