@@ -206,8 +206,9 @@ pub extern "C" fn lru_words_advice_evict(
     answer
 }
 
-/// Takes the entry of a key off it. An idle entry is evicted into a chain; a held one is found by
-/// its stamp alone from then on, and is evicted with its last pin. No entry: nothing happens.
+/// Detaches the entry of a key, so that no call by the key finds it. An idle entry is evicted into a
+/// chain; a held one is found by its stamp still, and is evicted with its last pin. Where the key has
+/// no entry, nothing happens.
 #[unsafe(no_mangle)]
 pub extern "C" fn lru_words_invalidate(
     cache: &mut LruWords,
@@ -226,9 +227,9 @@ pub extern "C" fn lru_words_invalidate(
     answer
 }
 
-/// Puts a value in, whatever the key has: takes the entry of the key off it as an invalidate does,
-/// and makes a new one, in which the caller has a pin: `DONE` with its stamp. The entry that was
-/// idle under the key, and then what the charge evicted, oldest first, are put into a chain.
+/// Puts a value in, whatever the key has: detaches the entry of the key as an invalidate does, and
+/// makes a new one, in which the caller has a pin: `DONE` with its stamp. The entry that was idle
+/// under the key, and then what the charge evicted, oldest first, are put into a chain.
 ///
 /// `NO_CHARGE` for a charge of 0, `CLOSED` where the cache or the chain is not open, `NOT_EMPTY` where
 /// the chain has entries, `OVERFLOW` and `MEMORY`: nothing changes, and the value is not taken.
