@@ -224,9 +224,9 @@ static inline lru_code lru_bytes_advice_evict(lru_bytes *cache, const void *key,
 static inline lru_code lru_bytes_invalidate(lru_bytes *cache, const void *key, size_t length,
                                             lru_bytes_evicted *gone);
 
-/* Puts a value in, whatever the key has: detaches the entry of the key as invalidate does, and makes
- * a new one with this charge, above 0, and this value.  The caller has a pin in it, to be given
- * back by release.  The entry that was idle under the key, and then, oldest first, what the charge
+/* Puts a value in, whatever the key has: detaches the entry of the key as invalidate does, and
+ * makes a new one with this charge, above 0, and this value.  The caller has a pin in it, to be
+ * given back by release.  The entry that was idle under the key, and then, oldest first, what the charge
  * evicted are put into `gone`.
  *
  * Asks for memory.  LRU_DONE with the stamp, and the value is the cache's; LRU_OVERFLOW where the
@@ -290,7 +290,8 @@ bool lru_bytes_evicted_is_empty(lru_bytes_evicted *chain);
 /* --------------------------------------------------------------------- keys of two words */
 
 /* As the calls above.  The key is (first, second), two keys are equal where both words are, and no
- * call asks for memory but new, new_with_limits, begin for a new entry, ready, insert and reserve. */
+ * call asks for memory but new, new_with_limits, begin for a new entry, ready, insert and
+ * reserve. */
 lru_code lru_words_new(uint64_t capacity, lru_words *out);
 lru_code lru_words_new_with_limits(uint64_t capacity, uint64_t first_stamp, uint32_t most_pins,
                                    lru_words *out);
