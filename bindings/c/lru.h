@@ -226,8 +226,8 @@ static inline lru_code lru_bytes_invalidate(lru_bytes *cache, const void *key, s
 
 /* Puts a value in, whatever the key has: detaches the entry of the key as invalidate does, and
  * makes a new one with this charge, above 0, and this value.  The caller has a pin in it, to be
- * given back by release.  The entry that was idle under the key, and then, oldest first, what the charge
- * evicted are put into `gone`.
+ * given back by release.  The entry that was idle under the key, and then, oldest first, what the
+ * charge evicted are put into `gone`.
  *
  * Asks for memory.  LRU_DONE with the stamp, and the value is the cache's; LRU_OVERFLOW where the
  * total would pass 2^64 - 1, not counting an idle entry of the key, or where the stamps are used
