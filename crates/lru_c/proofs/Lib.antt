@@ -1,4 +1,5 @@
 pub mod ByKey
+pub mod Inserted
 pub mod IntoChain
 pub mod BytesCopies
 pub mod ChainCodes
