@@ -1,4 +1,5 @@
--- What a `State` is seen as: the abstract cache, and beside it a count of the writes of its idle order. What the outcome of a call adds to the count.
+-- What a `State` is seen as: the abstract cache, and beside it a count of the writes of its idle
+-- order. What the outcome of a call adds to the count.
 use Rattle.std.specs.Prelude.{◌≡◌, ℕ, ◌+◌, ◌≤◌, List, length, map, sum_by, refl}
 use Rattle.std.specs.Coded.{Coded, code_by, coded×, coded_ℕ}
 use Rattle.concurrent_lru.specs.Cache.{Cache, cache_code}
@@ -22,12 +23,14 @@ module _ {K V : Type 0} where
   abbrev pub caches_in : List (Counted K V) → List (Cache K V)
   caches_in cs = map (λ c. c.cache) cs
 
-  -- the order was written at most once more than entries were evicted, and on a refusal it was not written
+  -- the order was written at most once more than entries were evicted, and on a refusal it was not
+  -- written
   abbrev pub WritesAtMostOneMore : Counted K V → Outcome K V → Counted K V → Type 0
   WritesAtMostOneMore old (accepted reply evicted) new = new.work ≤ old.work + 1 + length evicted
   WritesAtMostOneMore old (refused e) new = new.work ≡ old.work
 
-  -- of a run, the most writes: for each step that is accepted one, and one for each entry that it evicted
+  -- of a run, the most writes: for each step that is accepted one, and one for each entry that it
+  -- evicted
   abbrev pub most_writes : Outcome K V → ℕ
   most_writes (accepted reply evicted) = 1 + length evicted
   most_writes (refused e) = 0

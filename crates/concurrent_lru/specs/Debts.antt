@@ -1,6 +1,7 @@
--- What the calls under the lock answer: each as an outcome of the abstract cache, and what its debts were asked with.
+-- What the calls under the lock answer: each as an outcome of the abstract cache, and what its
+-- debts were asked with.
 use Rattle.std.specs.Prelude.{◌≡◌, ℕ, [], Option, Some, None, Result, Ok, Err, ⊤}
-use Rattle.concurrent_lru.specs.Cache.{Cache}
+use Rattle.concurrent_lru.specs.CountedCalls.{LockedCache}
 use Rattle.concurrent_lru.specs.Pins.{PinOf, made_stamp, made_key, made_charge, awaited_stamp, awaited_key, awaited_charge, cache_left_by}
 use Rattle.concurrent_lru.specs.Reply as say
 use Rattle.concurrent_lru.specs.Runs.{Outcome, accepted, refused}
@@ -31,13 +32,14 @@ module _ {K V F : Type 0} where
   outcome_of_locked_poll (poll.Refused u) = refused Memory
   outcome_of_locked_poll poll.Stray = refused Stale
 
-  -- the debts are of a caller that asked for this key, with this charge, from a call that left this cache under the lock
-  abbrev pub AsksOnEntry : Entered K V F → K → ℕ → Cache K V → Type 0
+  -- the debts are of a caller that asked for this key, with this charge, from a call that left this
+  -- cache under the lock
+  abbrev pub AsksOnEntry : Entered K V F → K → ℕ → LockedCache K V → Type 0
   AsksOnEntry (enter.Make m evicted) k c new = (made_key m ≡ k) × (made_charge m ≡ c)
   AsksOnEntry (enter.Wait w) k c new = (awaited_key w ≡ k) × (awaited_charge w ≡ c) × (cache_left_by w ≡ new)
   AsksOnEntry (enter.Hit p) k c new = (p.key ≡ k) × (p.charge ≡ Some c)
 
-  abbrev pub AsksOnPoll : Polled K V F → K → ℕ → Cache K V → Type 0
+  abbrev pub AsksOnPoll : Polled K V F → K → ℕ → LockedCache K V → Type 0
   AsksOnPoll (poll.Make m) k c new = (made_key m ≡ k) × (made_charge m ≡ c)
   AsksOnPoll (poll.Wait w) k c new = (awaited_key w ≡ k) × (awaited_charge w ≡ c) × (cache_left_by w ≡ new)
   AsksOnPoll (poll.Hit p) k c new = (p.key ≡ k) × (p.charge ≡ Some c)

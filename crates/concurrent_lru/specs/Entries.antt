@@ -1,4 +1,5 @@
--- What a `Table` is seen as: its entries, idle and held, and the stamp of the entry at each place. What each of its calls does to them.
+-- What a `Table` is seen as: its entries, idle and held, and the stamp of the entry at each place.
+-- What each of its calls does to them.
 use Rattle.std.specs.Prelude.{◌≡◌, ◌≢◌, ℕ, ◌<◌, ◌+◌, ◌++◌, ◌∷◌, [], Bool, true, false, List, Option, IsSome, Some, None, refl}
 use Rattle.std.specs.Option.{option_map, option_map_or}
 use Rattle.std.specs.Ordering.{nat_cmp}
@@ -9,7 +10,8 @@ use Rattle.concurrent_lru.specs.Steps.{without, held_by_one, held_in_phase, held
 use Rattle.concurrent_lru.specs.NodeTable.{Entry, value_in}
 use Rattle.concurrent_lru.specs.Representation.{as_idle, held_entry, held_charges}
 
--- the idle entries stand oldest first; a place is where an entry lies until it is taken away; work is how often the idle order was written
+-- the idle entries stand oldest first; a place is where an entry lies until it is taken away; work
+-- is how often the idle order was written
 pub record Entries (K V : Type 0) : Type 0 where
   pub idle : List (Idle K V)
   pub held : finmap.FinMap nat_cmp (Held K V)

@@ -1,9 +1,11 @@
--- How a hashed map from keys to places, and one from stamps where it is kept, index the nodes, and what a `Table` keeps of both.
+-- How a hashed map from keys to places, and one from stamps where it is kept, index the nodes, and
+-- what a `Table` keeps of both.
 use Rattle.std.specs.Prelude.{◌≡◌, ℕ, Bool, true, false, Option, Some, map}
 use Rattle.std.specs.Ordering.{nat_cmp}
 use Rattle.std.specs.FinMap as finmap
 use Rattle.std.specs.HashMap as hash
 use Rattle.std.specs.HashMap.{HashMap}
+use Rattle.concurrent_lru.specs.Cache.{charges}
 use Rattle.concurrent_lru.specs.Keys.{CopiesAreEqual}
 use Rattle.concurrent_lru.specs.NodeTable.{Entry, NodeTable}
 use Rattle.concurrent_lru.specs.Representation.{IsRepresentation, idle_in, held_in}
@@ -12,7 +14,9 @@ use Rattle.concurrent_lru.specs.Stamps.{keeps_map, mapped_place}
 use Rattle.concurrent_lru.specs.declared.table.stamps.Stamps.{Stamps}
 
 module _ {K V : Type 0} where
-  -- each node that is not detached is found by its key, and where a map of stamps is kept each node by its stamp; what is found is a node with that key, not detached, or with that stamp; only nodes with pins are detached
+  -- each node that is not detached is found by its key, and where a map of stamps is kept each node
+  -- by its stamp; what is found is a node with that key, not detached, or with that stamp; only
+  -- nodes with pins are detached
   pub record IsIndexed (E : K → K → Bool) (nodes : finmap.FinMap nat_cmp (Entry K V)) (by_key : K → Option ℕ) (by_stamp : Stamps) : Type 0 where
     pub key_found : (p : ℕ) (e : Entry K V) → finmap.get nodes p ≡ Some e → e.detached ≡ false → by_key e.key ≡ Some p
     pub key_kept : (k : K) (p : ℕ) → by_key k ≡ Some p → (e : Entry K V) × (finmap.get nodes p ≡ Some e) × (E e.key k ≡ true) × (e.detached ≡ false)
@@ -33,7 +37,9 @@ module _ {K V : Type 0} where
     pub indexed : IsIndexed E nodes.nodes (hash.get E by_key) by_stamp
     pub copies : CopiesAreEqual is_clone E
 
-  -- and the total is the sum of the charges
-  pub record IsSoundTable {S : Type 0} (is_clone : K → K → Type 0) (E : K → K → Bool) (nodes : NodeTable K V) (by_key : HashMap K ℕ S) (by_stamp : Stamps) (total : ℕ) : Type 0 where
+  -- and the total is the sum of the charges, and beside it stands the sum of those of the idle
+  -- entries
+  pub record IsSoundTable {S : Type 0} (is_clone : K → K → Type 0) (E : K → K → Bool) (nodes : NodeTable K V) (by_key : HashMap K ℕ S) (by_stamp : Stamps) (total idle_charge : ℕ) : Type 0 where
     pub stored : IsStored is_clone E nodes by_key by_stamp
     pub sums : total ≡ charges_of (entries_of nodes)
+    pub rests : idle_charge ≡ charges (idle_in nodes)

@@ -18,6 +18,8 @@ pub mod SlotTable
 pub mod Representation
 pub mod Entries
 pub mod Counted
+pub mod Counts
+pub mod CountedCalls
 pub mod Stamps
 pub mod Indexes
 pub mod Chain
@@ -25,6 +27,7 @@ pub mod Results
 pub mod Inserts
 pub mod Reads
 pub mod Ready
+pub mod TakeAll
 pub mod OtherPins
 pub mod Pins
 pub mod Debts

@@ -1,4 +1,5 @@
--- What one step may do to caches side by side, and what a run of steps may: each cache runs its own part.
+-- What one step may do to caches side by side, and what a run of steps may: each cache runs its own
+-- part.
 use Rattle.std.specs.Prelude.{◌≡◌, ◌≢◌, ℕ, ◌+◌, ◌<◌, ◌≤◌, ◌==◌, Bool, List, [], ◌∷◌, map, length, replicate, slice_index_or, if◌then◌else◌}
 use Rattle.std.specs.List.{AllByRecursion, flat_map}
 use Rattle.concurrent_lru.specs.Cache.{Cache, Idle}
@@ -30,7 +31,8 @@ module _ {K V S : Type 0} (E : K → K → Bool) where
     -- there is no shard past the last
     pub stranger : length old.caches ≤ i → (outcome ≡ refused Stale) × (new ≡ old)
 
-  -- From old, each shard runs its own part of the requests with its own part of the answers, and all goes on to new.
+  -- From old, each shard runs its own part of the requests with its own part of the answers, and
+  -- all goes on to new.
   pub record RunsApart (old : Sharded K V S) (asked : List (ℕ × Request K V)) (told : List (ℕ × Outcome K V)) (new : Sharded K V S) : Type 0 where
     pub hasher : new.hasher ≡ old.hasher
     pub count : length new.caches ≡ length old.caches
@@ -40,8 +42,8 @@ module _ {K V S : Type 0} (E : K → K → Bool) where
     -- there is no shard past the last
     pub strangers : AllByRecursion (λ t. length old.caches ≤ t.0 → t.1 ≡ refused Stale) told
 
-  -- From old, each of the first n shards takes the same request, shard 0 first, and all goes on to new. What they evicted is
-  -- one list, what shard 0 evicted first.
+  -- From old, each of the first n shards takes the same request, shard 0 first, and all goes on to
+  -- new. What they evicted is one list, what shard 0 evicted first.
   pub record FirstTake (n : ℕ) (old : Sharded K V S) (request : Request K V) (evicted : List (Idle K V)) (new : Sharded K V S) : Type 0 where
     -- what each of them evicted
     pub lists : List (List (Idle K V))

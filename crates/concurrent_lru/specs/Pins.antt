@@ -1,12 +1,13 @@
 -- What a caller has in an entry, as clauses see it.
 use Rattle.std.specs.Prelude.{◌≡◌, ℕ, Option}
-use Rattle.concurrent_lru.specs.Cache.{Cache}
+use Rattle.concurrent_lru.specs.CountedCalls.{LockedCache}
 use Rattle.concurrent_lru.specs.declared.locked.pins.Making.{Making}
 use Rattle.concurrent_lru.specs.declared.locked.pins.Waiting.{Waiting}
 use Rattle.concurrent_lru.specs.declared.locked.pins.Woken.{Woken}
 use Rattle.concurrent_lru.specs.declared.locked.pins.Unread.{Unread}
 
--- a pin in a ready entry: the stamp of the entry, the key and the charge that were asked, and the value
+-- a pin in a ready entry: the stamp of the entry, the key and the charge that were asked, and the
+-- value
 pub record PinOf (K V : Type 0) : Type 0 where
   pub stamp : ℕ
   pub key : K
@@ -55,7 +56,7 @@ module _ {K V F : Type 0} where
   abbrev pub awaited_charge : Waiting K V F → ℕ
   awaited_charge w = w.charge
 
-  abbrev pub cache_left_by : Waiting K V F → Cache K V
+  abbrev pub cache_left_by : Waiting K V F → LockedCache K V
   cache_left_by w = w.left.value
 
 -- the stamp of the entry whose value was not read

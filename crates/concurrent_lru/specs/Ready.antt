@@ -1,4 +1,5 @@
--- Ready values: which ones a cache has, how steps change them, and that each fits its key by a mark.
+-- Ready values: which ones a cache has, how steps change them, and that each fits its key by a
+-- mark.
 use Rattle.std.specs.Prelude.{◌≡◌, ℕ, ◌⊎◌, Bool, true, false, Some}
 use Rattle.std.specs.List.{Contains}
 use Rattle.concurrent_lru.specs.Cache.{Cache, Idle, Held, ready, held_at, HasKeyAt, IsLawful}
@@ -32,7 +33,8 @@ module _ {K V : Type 0} where
   abbrev pub FewerReady : Cache K V → Cache K V → Type 0
   FewerReady old new = (k : K) (v : V) → HasReady new k v → HasReady old k v
 
-  -- what is ready in the new cache was ready in the old one, or is v under the key of the entry with the stamp s
+  -- what is ready in the new cache was ready in the old one, or is v under the key of the entry
+  -- with the stamp s
   abbrev pub OneMoreReady : Cache K V → ℕ → V → Cache K V → Type 0
   OneMoreReady old s v new = (k : K) (w : V) → HasReady new k w → HasReady old k w ⊎ ((w ≡ v) × HasKeyAt old s k)
 

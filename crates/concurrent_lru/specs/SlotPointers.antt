@@ -23,7 +23,8 @@ module _ {K V : Type 0} where
   place_in None = None
   place_in (Some c) = Some (place_of c.value)
 
-  -- each pointer is that of the node under its key, no two are the same, and each node has its own key
+  -- each pointer is that of the node under its key, no two are the same, and each node has its own
+  -- key
   pub record IsTied (s : Slots K V) : Type 0 where
     pub pointers : (key : ℕ) → ptr_in (cell_at s.memory.cells key) ≡ ptr_of (get s.pointers key)
     pub apart : (key : ℕ) (p : Ptr) → ptr_in (cell_at s.memory.cells key) ≡ Some p → key_at s.memory.cells p ≡ Some key

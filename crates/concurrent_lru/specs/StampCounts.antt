@@ -1,4 +1,5 @@
--- How often a stamp stands in a run and in the cache that it ends in, and the stamps that the run gives out.
+-- How often a stamp stands in a run and in the cache that it ends in, and the stamps that the run
+-- gives out.
 use Rattle.std.specs.Prelude.{◌≡◌, ℕ, ◌+◌, Bool, cond, List, [], ◌∷◌, sum_by, ◌==◌, nat_lt, Option, Some, None}
 use Rattle.concurrent_lru.specs.Cache.{Cache, Idle, held_at}
 use Rattle.concurrent_lru.specs.Request as ask
@@ -37,7 +38,8 @@ module _ {K V : Type 0} where
   abbrev pub stamp_count : ℕ → List (Request K V × Outcome K V) → Cache K V → ℕ
   stamp_count s es c = sum_by (stamp_count_in_outcome s) es + stamp_count_in_cache c s
 
-  -- The stamps given out, in order. A begin that is to make a value has a new stamp, from the next one on, or that of a making that others gave up.
+  -- The stamps given out, in order. A begin that is to make a value has a new stamp, from the next
+  -- one on, or that of a making that others gave up.
   abbrev pub stamps_given : ℕ → List (Request K V × Outcome K V) → List ℕ
   stamps_given next [] = []
   stamps_given next ((ask.begin _ _, accepted (say.make s) _) ∷ es) = cond (nat_lt s next) (stamps_given next es) (s ∷ stamps_given (s + 1) es)

@@ -1,5 +1,6 @@
--- Runs in which the capacity changes, their moments, and the weight of a used key. E is the equality of keys.
--- None of this knows of pins, of an idle order or of evicting: it speaks of last uses, charges and capacities alone.
+-- Runs in which the capacity changes, their moments, and the weight of a used key. E is the
+-- equality of keys. None of this knows of pins, of an idle order or of evicting: it speaks of last
+-- uses, charges and capacities alone.
 use Rattle.std.specs.Prelude.{◌≡◌, ℕ, ◌≤◌, Bool, false, cond, List, [], ◌∷◌, ◌++◌, sum_by}
 use Rattle.std.specs.List.{list_any}
 use Rattle.concurrent_lru.specs.Request as ask
@@ -9,8 +10,8 @@ use Rattle.concurrent_lru.specs.Runs.{Outcome, accepted}
 use Rattle.concurrent_lru.specs.Uses.{uses, last_uses}
 
 module _ {K V : Type 0} where
-  -- A plain run with changes of capacity besides: each key is made or hit, and released at once, a get may miss, and between two
-  -- such groups the capacity may be set.
+  -- A plain run with changes of capacity besides: each key is made or hit, and released at once, a
+  -- get may miss, and between two such groups the capacity may be set.
   abbrev pub IsPlainWithChanges : List (Request K V × Outcome K V) → Type 0
   IsPlainWithChanges [] = Unit {0}
   IsPlainWithChanges ((ask.begin k c, accepted (say.make s) _) ∷ (ask.ready t _, accepted say.done _) ∷ (ask.release u, accepted say.done _) ∷ es) = (t ≡ s) × (u ≡ s) × IsPlainWithChanges es
@@ -26,7 +27,8 @@ module _ {K V : Type 0} where
   capacity_after capacity ((ask.set_capacity c, _) ∷ es) = capacity_after c es
   capacity_after capacity (_ ∷ es) = capacity_after capacity es
 
-  -- A moment of a run is a place where it comes apart: some steps lie before it, and the others after it.
+  -- A moment of a run is a place where it comes apart: some steps lie before it, and the others
+  -- after it.
   abbrev pub IsMoment : List (Request K V × Outcome K V) → List (Request K V × Outcome K V) → List (Request K V × Outcome K V) → Type 0
   IsMoment es before after = es ≡ before ++ after
 
@@ -36,7 +38,8 @@ module _ {K : Type 0} (E : K → K → Bool) where
   end_from k [] = []
   end_from k (l ∷ ls) = cond (E k l) (l ∷ ls) (end_from k ls)
 
-  -- the weight of a used key: the sum of the charges of the distinct keys last used at or after its own last use
+  -- the weight of a used key: the sum of the charges of the distinct keys last used at or after its
+  -- own last use
   abbrev pub weight : (K → ℕ) → List K → K → ℕ
   weight charge used k = sum_by charge (end_from k (last_uses E used))
 
@@ -44,7 +47,8 @@ module _ {K : Type 0} (E : K → K → Bool) where
   abbrev pub LacksUseOf : {V : Type 0} → K → List (Request K V × Outcome K V) → Type 0
   LacksUseOf k es = list_any (E k) (uses es) ≡ false
 
-  -- P holds, of the steps before it, at every moment since the last use of k, the end of that use included
+  -- P holds, of the steps before it, at every moment since the last use of k, the end of that use
+  -- included
   abbrev pub SinceLastUse : {V : Type 0} → List (Request K V × Outcome K V) → K → (List (Request K V × Outcome K V) → Type 0) → Type 0
   SinceLastUse {V} es k P = (before after : List (Request K V × Outcome K V)) → IsMoment es before after → LacksUseOf k after → P before
 

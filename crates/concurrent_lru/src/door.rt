@@ -5,11 +5,13 @@ ghost use Rattle.std.specs.Arc.{arc_value};
 ghost use Rattle.std.specs.Fn.{FnOnceReturnsAt, FnOnceTakesAt};
 ghost use Rattle.std.specs.Sync.Mutex.{mutex_guard_value};
 ghost use Rattle.concurrent_lru.specs.Cache.{sum_of, IsLawful};
+ghost use Rattle.concurrent_lru.specs.CountedCalls.{AddUp};
 ghost use Rattle.concurrent_lru.specs.Doors.{IsAwake, IsMetFor};
 ghost use Rattle.concurrent_lru.specs.Keys.{CopiesAreEqual};
 ghost use Rattle.concurrent_lru.specs.Pins.{IsHandleFor, made_key, made_charge, awaited_key, awaited_charge};
 ghost use Rattle.concurrent_lru.specs.Ready.{ValuesFit};
 
+use crate::counts::Counts;
 use crate::fit::Fit;
 use crate::handle::CacheHandle;
 use crate::locked::{
@@ -21,9 +23,10 @@ use std::hash::Hash;
 use std::sync::{Arc, Condvar, Mutex, MutexGuard, Wait};
 use std::{fmt, hint};
 
-// How often a call looks at a lock that another has before it sleeps: after 64, 128 .. 4,096 pauses, each of some tens of
-// nanoseconds. A look takes the lock's line of memory from the call that has it, so the first pause is as long as several
-// calls, and those that wait leave the lock to one that makes many in a row.
+// How often a call looks at a lock that another has before it sleeps: after 64, 128 .. 4,096
+// pauses, each of some tens of nanoseconds. A look takes the lock's line of memory from the call
+// that has it, so the first pause is as long as several calls, and those that wait leave the lock
+// to one that makes many in a row.
 const LOOKS: u32 = 7;
 
 const FIRST_PAUSES: u32 = 64;
@@ -86,9 +89,10 @@ impl<K: Hash + Eq + Clone + Drop, V: Drop, R: Wait, F: Fit<K, V>> Door<K, V, R, 
     /// Gets the lock. All calls get it here, so the clauses hold of every state that they meet.
     #[inline(always)]
     pub fn enter(&self) -> Inside<'_, K, V, R, F>
-        ensures lawful { IsLawful K.eq (mutex_guard_value result.guard) }
-        ensures settled { (mutex_guard_value result.guard).capacity < sum_of (mutex_guard_value result.guard) → (mutex_guard_value result.guard).idle ≡ [] }
-        ensures kept { ValuesFit F.fits (mutex_guard_value result.guard) }
+        ensures lawful { IsLawful K.eq (mutex_guard_value result.guard).cache }
+        ensures settled { (mutex_guard_value result.guard).cache.capacity < sum_of (mutex_guard_value result.guard).cache → (mutex_guard_value result.guard).cache.idle ≡ [] }
+        ensures kept { ValuesFit F.fits (mutex_guard_value result.guard).cache }
+        ensures adds_up { AddUp (mutex_guard_value result.guard).cache (mutex_guard_value result.guard).counts }
     {
         let guard = match self.locked.try_lock() {
             Some(guard) => guard,
@@ -98,8 +102,8 @@ impl<K: Hash + Eq + Clone + Drop, V: Drop, R: Wait, F: Fit<K, V>> Door<K, V, R, 
         Inside { door: self, guard }
     }
 
-    // Gets the lock where another call has it. Calls are shorter than a sleep and its wake, so this looks for a while,
-    // less and less often, before it sleeps.
+    // Gets the lock where another call has it. Calls are shorter than a sleep and its wake, so this
+    // looks for a while, less and less often, before it sleeps.
     #[cold]
     fn contend(&self) -> MutexGuard<'_, Locked<K, V, F>> {
         for look in 0..LOOKS {
@@ -255,10 +259,32 @@ impl<'a, K: Hash + Eq + Clone + Drop, V: Drop, R: Wait, F: Fit<K, V>> Inside<'a,
         resized
     }
 
+    /// `Locked::counts`.
+    pub fn counts(self) -> Counts
+        ensures { result ≡ (mutex_guard_value self.entry.guard).counts }
+    {
+        let Self { door: _, guard } = self;
+        guard.counts()
+    }
+
+    /// `Locked::reset_counts`.
+    pub fn reset_counts(self) -> Counts
+        ensures { result ≡ (mutex_guard_value self.entry.guard).counts }
+    {
+        let Self { door: _, mut guard } = self;
+        guard.reset_counts()
+    }
+
     /// `Locked::total`.
     pub fn total(self) -> u64 {
         let Self { door: _, guard } = self;
         guard.total()
+    }
+
+    /// `Locked::pinned_charge`.
+    pub fn pinned_charge(self) -> u64 {
+        let Self { door: _, guard } = self;
+        guard.pinned_charge()
     }
 
     /// `Locked::len`.

@@ -2,6 +2,8 @@
 //! leaves, oldest release first, once the charges pass the capacity.
 #![tactic(auto)]
 
+mod counted;
+pub mod counts;
 mod door;
 mod eviction;
 pub mod fit;

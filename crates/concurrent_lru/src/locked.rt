@@ -1,9 +1,12 @@
-//! What lies under the lock: the core's state, whose ready values fit their keys.
+//! What lies under the lock: the core's state, whose ready values fit their keys, and the counts of
+//! its calls.
 //! Each call is one step of the core, and what it leaves to be done is a debt, which is not `Drop`.
-ghost use Rattle.std.specs.Prelude.{◌≡◌, ◌≢◌, ◌<◌, true, [], Err, Some, None, IsTrue, IsFalse, IfOk, IfErr, IfSome};
+ghost use Rattle.std.specs.Prelude.{◌≡◌, ◌≢◌, ◌<◌, true, [], Err, Some, None, IsTrue, IsFalse, IfOk, IfErr, IfSome, OnErr};
 ghost use Rattle.std.specs.Arc.{arc_value};
 ghost use Rattle.std.specs.Fn.{FnOnceReturnsAt, FnOnceTakesAt};
-ghost use Rattle.concurrent_lru.specs.Cache.{count_of, empty_cache, most_pins_by_default, sum_of, IsLawful};
+ghost use Rattle.concurrent_lru.specs.Cache.{count_of, empty_cache, most_pins_by_default, pinned_of, sum_of, IsLawful};
+ghost use Rattle.concurrent_lru.specs.CountedCalls.{counted, counted_look, replaced, AddUp};
+ghost use Rattle.concurrent_lru.specs.Counts.{counts_from, one_refusal};
 ghost use Rattle.concurrent_lru.specs.Debts.{outcome_of_locked_begin, outcome_of_locked_poll, outcome_of_locked_get, AsksOnEntry, AsksOnPoll, IfEntered, IfPolled};
 ghost use Rattle.concurrent_lru.specs.Inserts.{Replaces, RefusesToReplace};
 ghost use Rattle.concurrent_lru.specs.Keys.{CopiesAreEqual};
@@ -24,39 +27,42 @@ mod sealed;
 pub use self::done::{Advised, Invalidated, Pruned, Reserved, Resized};
 pub use self::pins::{Entered, Making, Pin, Polled, Unread, Waiting, Woken};
 pub use self::sealed::{Sealed, Waiters};
+use crate::counted::CountedState;
+use crate::counts::Counts;
 use crate::fit::Fit;
 use crate::list::Place;
-use crate::lru_core::{Begun, Evicted, Failed, Inserted, Refusal, State};
+use crate::lru_core::{Begun, Evicted, Failed, Inserted, Refusal};
 use std::alloc::Global;
 use std::fmt;
 use std::hash::Hash;
 use std::marker::{Model, PhantomData};
 use std::sync::Arc;
 
-/// A state of the core whose ready values fit their keys by the mark F.
+/// A state of the core whose ready values fit their keys by the mark F, with counts of its calls.
 ///
-/// Clauses see it as the abstract cache. Its type keeps, whenever the lock is got, that the cache
-/// is lawful (so its total is above the capacity only where nothing is idle), and that the value
-/// of every ready entry fits its key.
+/// Clauses see it as the abstract cache and the counts. Its type keeps, whenever the lock is got,
+/// that the cache is lawful (so its total is above the capacity only where nothing is idle), that
+/// the value of every ready entry fits its key, and that the counts add up to the entries and their
+/// charges. Each call counts what it answers, by `counted` of specs/CountedCalls.antt.
 ///
 /// It keeps no map by stamp. A debt has the place of its entry beside the stamp, and a pinned
 /// entry stays at its place, so a call that pays a debt finds the entry there at once. Only a
 /// stamp from elsewhere, or one whose entry has left, costs a look at every entry.
 #[derive(Drop)]
 pub struct Locked<K: Hash + Eq + Clone, V, F: Fit<K, V>> {
-    state: State<K, V>,
+    state: CountedState<K, V>,
     mark: PhantomData<F>,
 }
 
 impl<K: Hash + Eq + Clone, V, F: Fit<K, V>> Model for Locked<K, V, F> {
-    ghost use Rattle.concurrent_lru.specs.Cache.{Cache, cache_code};
+    ghost use Rattle.concurrent_lru.specs.CountedCalls.{LockedCache, locked_cache_code};
     ghost use Rattle.concurrent_lru.specs.Ready.{IsSoundUnderLock};
 
-    ghost Value = { Cache K V };
+    ghost Value = { LockedCache K V };
 
-    ghost coded = { cache_code K.code V.code };
+    ghost coded = { locked_cache_code K.code V.code };
 
-    ghost view = { λ a. a.state.cache };
+    ghost view = { λ a. a.state };
 
     ghost invariant = { λ a. IsSoundUnderLock K.eq F.fits a.state.cache };
 }
@@ -65,10 +71,11 @@ impl<K: Hash + Eq + Clone + Drop, V: Drop, F: Fit<K, V>> Locked<K, V, F> {
     /// An empty cache that settles to `capacity`. Takes no memory.
     pub fn new(alloc: Global, capacity: u64) -> Self
         requires copies { CopiesAreEqual K.is_clone K.eq }
-        ensures empty { result ≡ empty_cache capacity most_pins_by_default 0 }
+        ensures empty { result.cache ≡ empty_cache capacity most_pins_by_default 0 }
+        ensures counts { result.counts ≡ counts_from 0 0 }
     {
         Locked {
-            state: State::without_map_of_stamps(alloc, capacity),
+            state: CountedState::without_map_of_stamps(alloc, capacity),
             mark: PhantomData,
         }
     }
@@ -87,18 +94,36 @@ impl<K: Hash + Eq + Clone + Drop, V: Drop, F: Fit<K, V>> Locked<K, V, F> {
 
     /// Does nothing; its contract tells what holds whenever the lock is got.
     pub fn show(&self)
-        ensures lawful { IsLawful K.eq self.now }
-        ensures settled { self.now.capacity < sum_of self.now → self.now.idle ≡ [] }
-        ensures kept { ValuesFit F.fits self.now }
+        ensures lawful { IsLawful K.eq self.now.cache }
+        ensures settled { self.now.cache.capacity < sum_of self.now.cache → self.now.cache.idle ≡ [] }
+        ensures kept { ValuesFit F.fits self.now.cache }
+        ensures adds_up { AddUp self.now.cache self.now.counts }
     {
-        let _ = &self.state;
+        self.state.show();
+    }
+
+    /// What was counted.
+    pub fn counts(&self) -> Counts
+        ensures { result ≡ self.now.counts }
+    {
+        self.state.counts()
+    }
+
+    /// What was counted; the counting begins anew.
+    pub fn reset_counts(&mut self) -> Counts
+        ensures counted { result ≡ self.old.counts }
+        ensures anew { self.new.counts ≡ counts_from (count_of self.old.cache) (sum_of self.old.cache) }
+        ensures cache { self.new.cache ≡ self.old.cache }
+    {
+        self.state.reset_counts()
     }
 
     /// The core's `begin`. The value of a hit fits the key.
     #[inline(always)]
     pub fn begin(&mut self, key: &K, charge: u64) -> Result<Entered<K, V, F>, Refusal>
         requires charged { 0 < charge }
-        ensures step { Stands K.eq self.old (ask.begin key.now charge) (outcome_of_locked_begin result) self.new }
+        ensures step { Stands K.eq self.old.cache (ask.begin key.now charge) (outcome_of_locked_begin result) self.new.cache }
+        ensures counted { self.new.counts ≡ counted self.old.cache (ask.begin key.now charge) (outcome_of_locked_begin result) self.old.counts }
         ensures asked { IfOk result (λ e. AsksOnEntry e key.now charge self.new) }
         ensures hit { IfOk result (λ e. IfEntered e (F.fits key.now)) }
         ensures never_stale { IfErr result (λ e. e ≢ Refusal.Stale) }
@@ -126,7 +151,8 @@ impl<K: Hash + Eq + Clone + Drop, V: Drop, F: Fit<K, V>> Locked<K, V, F> {
     #[inline(always)]
     fn begun(&mut self, key: &K, charge: u64) -> Result<(Begun<V>, Evicted<K, V>), Refusal>
         requires charged { 0 < charge }
-        ensures step { Stands K.eq self.old (ask.begin key.now charge) (outcome_of_begin result) self.new }
+        ensures step { Stands K.eq self.old.cache (ask.begin key.now charge) (outcome_of_begin result) self.new.cache }
+        ensures counted { self.new.counts ≡ counted self.old.cache (ask.begin key.now charge) (outcome_of_begin result) self.old.counts }
         ensures hit { IfOk result (λ r. IfHit r.0 (F.fits key.now)) }
         ensures never_stale { IfErr result (λ e. e ≢ Refusal.Stale) }
     {
@@ -136,7 +162,8 @@ impl<K: Hash + Eq + Clone + Drop, V: Drop, F: Fit<K, V>> Locked<K, V, F> {
     /// The core's `get`. The value found fits the key.
     #[inline(always)]
     pub fn get(&mut self, key: &K) -> Result<Option<Pin<K, V, F>>, Refusal>
-        ensures step { Stands K.eq self.old (ask.get key.now) (outcome_of_locked_get result) self.new }
+        ensures step { Stands K.eq self.old.cache (ask.get key.now) (outcome_of_locked_get result) self.new.cache }
+        ensures counted { self.new.counts ≡ counted self.old.cache (ask.get key.now) (outcome_of_locked_get result) self.old.counts }
         ensures asked { IfOk result (λ found. IfSome found (λ p. (p.key ≡ key.now) × (p.charge ≡ None))) }
         ensures hit { IfOk result (λ found. IfSome found (λ p. F.fits key.now p.value)) }
         ensures never_stale { IfErr result (λ e. e ≢ Refusal.Stale) }
@@ -156,7 +183,8 @@ impl<K: Hash + Eq + Clone + Drop, V: Drop, F: Fit<K, V>> Locked<K, V, F> {
     where
         G: FnOnce(&V) -> T + Drop,
         requires callable { (v : V) → F.fits key.now v → FnOnceTakesAt G.FnOnce reader v }
-        ensures step { Reads K.eq self.old key.now (FnOnceReturnsAt G.FnOnce reader) result self.new }
+        ensures step { Reads K.eq self.old.cache key.now (FnOnceReturnsAt G.FnOnce reader) result self.new.cache }
+        ensures counted { self.new.counts ≡ counted_look result self.old.counts }
         ensures fits { IfOk result (λ found. IfSome found (λ r. (v : V) × F.fits key.now v × FnOnceReturnsAt G.FnOnce reader v r.1)) }
         ensures refused { IfErr result (λ e. e ≡ Refusal.Overflow) }
     {
@@ -173,15 +201,15 @@ impl<K: Hash + Eq + Clone + Drop, V: Drop, F: Fit<K, V>> Locked<K, V, F> {
     // Those that wait for the value of the entry with this stamp: whoever has a pin in it beside
     // its maker.
     fn waiters(&self, stamp: u64) -> Waiters
-        ensures { IsFalse result → HasNoOtherPin self.now stamp }
+        ensures { IsFalse result → HasNoOtherPin self.now.cache stamp }
     {
         Waiters::of(self.state.is_shared(stamp))
     }
 
     // Whether the entry with this stamp has this key. A stamp whose entry has left may not.
     fn has_key(&self, stamp: u64, key: &K) -> bool
-        ensures yes { IsTrue result → HasEqualKeyAt K.eq self.now stamp key.now }
-        ensures no { IsFalse result → HasEqualKeyAt K.eq self.now stamp key.now → ⊥ }
+        ensures yes { IsTrue result → HasEqualKeyAt K.eq self.now.cache stamp key.now }
+        ensures no { IsFalse result → HasEqualKeyAt K.eq self.now.cache stamp key.now → ⊥ }
     {
         match self.state.key_of(stamp) {
             Some(own) => *own == *key,
@@ -192,8 +220,9 @@ impl<K: Hash + Eq + Clone + Drop, V: Drop, F: Fit<K, V>> Locked<K, V, F> {
     /// The core's `poll`, where the pin's entry has the key. The value of a hit fits the key.
     pub fn poll(&mut self, woken: Woken<K>, key: &K) -> Polled<K, V, F>
         requires asked { woken_key woken ≡ key.now }
-        ensures step { HasEqualKeyAt K.eq self.old (woken_stamp woken) key.now → Stands K.eq self.old (ask.poll (woken_stamp woken)) (outcome_of_locked_poll result) self.new }
-        ensures stray { (HasEqualKeyAt K.eq self.old (woken_stamp woken) key.now → ⊥) → (result ≡ Polled.Stray) × (self.new ≡ self.old) }
+        ensures step { HasEqualKeyAt K.eq self.old.cache (woken_stamp woken) key.now → Stands K.eq self.old.cache (ask.poll (woken_stamp woken)) (outcome_of_locked_poll result) self.new.cache }
+        ensures counted { self.new.counts ≡ counted self.old.cache (ask.poll (woken_stamp woken)) (outcome_of_locked_poll result) self.old.counts }
+        ensures stray { (HasEqualKeyAt K.eq self.old.cache (woken_stamp woken) key.now → ⊥) → (result ≡ Polled.Stray) × (self.new ≡ self.old) }
         ensures asked { AsksOnPoll result key.now (woken_charge woken) self.new }
         ensures hit { IfPolled result (F.fits key.now) }
     {
@@ -217,8 +246,9 @@ impl<K: Hash + Eq + Clone + Drop, V: Drop, F: Fit<K, V>> Locked<K, V, F> {
 
     // The core's `poll`, where the stamp's entry has the key, with its own answer.
     fn polled(&mut self, stamp: u64, place: Place, key: &K) -> Result<Begun<V>, Refusal>
-        ensures step { HasEqualKeyAt K.eq self.old stamp key.now → Stands K.eq self.old (ask.poll stamp) (outcome_of_poll result) self.new }
-        ensures stray { (HasEqualKeyAt K.eq self.old stamp key.now → ⊥) → (result ≡ Err Refusal.Stale) × (self.new ≡ self.old) }
+        ensures step { HasEqualKeyAt K.eq self.old.cache stamp key.now → Stands K.eq self.old.cache (ask.poll stamp) (outcome_of_poll result) self.new.cache }
+        ensures counted { self.new.counts ≡ counted self.old.cache (ask.poll stamp) (outcome_of_poll result) self.old.counts }
+        ensures stray { (HasEqualKeyAt K.eq self.old.cache stamp key.now → ⊥) → (result ≡ Err Refusal.Stale) × (self.new ≡ self.old) }
         ensures hit { IfOk result (λ b. IfHit b (F.fits key.now)) }
     {
         self.look_near(place);
@@ -244,11 +274,12 @@ impl<K: Hash + Eq + Clone + Drop, V: Drop, F: Fit<K, V>> Locked<K, V, F> {
         requires asked { made_key making ≡ key.now }
         requires fits { F.fits key.now (arc_value stored) }
         requires same { arc_value read ≡ arc_value stored }
-        ensures step { HasEqualKeyAt K.eq self.old (made_stamp making) key.now → Stands K.eq self.old (ask.ready (made_stamp making) (arc_value stored)) (outcome_of_ready result.1) self.new }
-        ensures stray { (HasEqualKeyAt K.eq self.old (made_stamp making) key.now → ⊥) → (result.1 ≡ Err stored) × (self.new ≡ self.old) }
+        ensures step { HasEqualKeyAt K.eq self.old.cache (made_stamp making) key.now → Stands K.eq self.old.cache (ask.ready (made_stamp making) (arc_value stored)) (outcome_of_ready result.1) self.new.cache }
+        ensures counts { self.new.counts ≡ self.old.counts }
+        ensures stray { (HasEqualKeyAt K.eq self.old.cache (made_stamp making) key.now → ⊥) → (result.1 ≡ Err stored) × (self.new ≡ self.old) }
         ensures back { IfErr result.1 (λ a. arc_value a ≡ arc_value stored) }
         ensures pin { result.0 ≡ record { stamp = made_stamp making; key = key.now; charge = Some (made_charge making); value = arc_value stored } }
-        ensures quiet { IsFalse result.2 → HasNoOtherPin self.old (made_stamp making) }
+        ensures quiet { IsFalse result.2 → HasNoOtherPin self.old.cache (made_stamp making) }
     {
         let Making {
             stamp,
@@ -272,9 +303,10 @@ impl<K: Hash + Eq + Clone + Drop, V: Drop, F: Fit<K, V>> Locked<K, V, F> {
         key: &K,
     ) -> (Sealed<Result<Failed<K>, Refusal>>, Waiters)
         requires asked { made_key making ≡ key.now }
-        ensures step { HasEqualKeyAt K.eq self.old (made_stamp making) key.now → Stands K.eq self.old (ask.fail (made_stamp making)) (outcome_of_fail result.0) self.new }
-        ensures stray { (HasEqualKeyAt K.eq self.old (made_stamp making) key.now → ⊥) → (result.0 ≡ Err Refusal.Stale) × (self.new ≡ self.old) }
-        ensures quiet { IsFalse result.1 → HasNoOtherPin self.old (made_stamp making) }
+        ensures step { HasEqualKeyAt K.eq self.old.cache (made_stamp making) key.now → Stands K.eq self.old.cache (ask.fail (made_stamp making)) (outcome_of_fail result.0) self.new.cache }
+        ensures counted { self.new.counts ≡ counted self.old.cache (ask.fail (made_stamp making)) (outcome_of_fail result.0) self.old.counts }
+        ensures stray { (HasEqualKeyAt K.eq self.old.cache (made_stamp making) key.now → ⊥) → (result.0 ≡ Err Refusal.Stale) × (self.new ≡ self.old) }
+        ensures quiet { IsFalse result.1 → HasNoOtherPin self.old.cache (made_stamp making) }
     {
         let Making {
             stamp,
@@ -296,7 +328,8 @@ impl<K: Hash + Eq + Clone + Drop, V: Drop, F: Fit<K, V>> Locked<K, V, F> {
     /// `Stale` where no held and ready entry has the stamp.
     #[inline(always)]
     pub fn release(&mut self, pin: Pin<K, V, F>) -> Sealed<(Arc<V>, Result<Evicted<K, V>, Refusal>)>
-        ensures step { Stands K.eq self.old (ask.release pin.stamp) (outcome_of_release result.1) self.new }
+        ensures step { Stands K.eq self.old.cache (ask.release pin.stamp) (outcome_of_release result.1) self.new.cache }
+        ensures counted { self.new.counts ≡ counted self.old.cache (ask.release pin.stamp) (outcome_of_release result.1) self.old.counts }
         ensures value { arc_value result.0 ≡ pin.value }
     {
         let Pin {
@@ -315,7 +348,8 @@ impl<K: Hash + Eq + Clone + Drop, V: Drop, F: Fit<K, V>> Locked<K, V, F> {
     ///
     /// `Stale` as in `release`.
     pub fn give_up(&mut self, unread: Unread) -> Sealed<Result<Evicted<K, V>, Refusal>>
-        ensures step { Stands K.eq self.old (ask.release (unread_stamp unread)) (outcome_of_release result) self.new }
+        ensures step { Stands K.eq self.old.cache (ask.release (unread_stamp unread)) (outcome_of_release result) self.new.cache }
+        ensures counted { self.new.counts ≡ counted self.old.cache (ask.release (unread_stamp unread)) (outcome_of_release result) self.old.counts }
     {
         let Unread { stamp, place } = unread;
         self.look_near(place);
@@ -324,7 +358,8 @@ impl<K: Hash + Eq + Clone + Drop, V: Drop, F: Fit<K, V>> Locked<K, V, F> {
 
     /// The core's `advice_evict`. Takes no memory.
     pub fn advice_evict(&mut self, key: &K) -> (Sealed<Evicted<K, V>>, Advised<K>)
-        ensures step { Stands K.eq self.old (ask.advice_evict key.now) (outcome_of_evictions result.0) self.new }
+        ensures step { Stands K.eq self.old.cache (ask.advice_evict key.now) (outcome_of_evictions result.0) self.new.cache }
+        ensures counted { self.new.counts ≡ counted self.old.cache (ask.advice_evict key.now) (outcome_of_evictions result.0) self.old.counts }
         ensures done { result.1 ≡ key.now }
     {
         (Sealed::of(self.state.advice_evict(key)), Advised::of(key))
@@ -332,7 +367,8 @@ impl<K: Hash + Eq + Clone + Drop, V: Drop, F: Fit<K, V>> Locked<K, V, F> {
 
     /// The core's `invalidate`. Takes no memory.
     pub fn invalidate(&mut self, key: &K) -> (Sealed<Evicted<K, V>>, Invalidated<K>)
-        ensures step { Stands K.eq self.old (ask.invalidate key.now) (outcome_of_evictions result.0) self.new }
+        ensures step { Stands K.eq self.old.cache (ask.invalidate key.now) (outcome_of_evictions result.0) self.new.cache }
+        ensures counted { self.new.counts ≡ counted self.old.cache (ask.invalidate key.now) (outcome_of_evictions result.0) self.old.counts }
         ensures done { result.1 ≡ key.now }
     {
         (Sealed::of(self.state.invalidate(key)), Invalidated::of(key))
@@ -355,8 +391,10 @@ impl<K: Hash + Eq + Clone + Drop, V: Drop, F: Fit<K, V>> Locked<K, V, F> {
         requires charged { 0 < charge }
         requires fits { F.fits key.now (arc_value stored) }
         requires same { arc_value read ≡ arc_value stored }
-        ensures step { IfOk result (λ r. Replaces K.eq self.old key.now charge (arc_value stored) r.0.stamp r.1.0 r.1.1 self.new) }
-        ensures refused { IfErr result (λ e. RefusesToReplace K.eq self.old key.now charge e.0 self.new) }
+        ensures step { IfOk result (λ r. Replaces K.eq self.old.cache key.now charge (arc_value stored) r.0.stamp r.1.0 r.1.1 self.new.cache) }
+        ensures refused { IfErr result (λ e. RefusesToReplace K.eq self.old.cache key.now charge e.0 self.new.cache) }
+        ensures inserted { IfOk result (λ r. self.new.counts ≡ replaced r.1.0 r.1.1 charge self.old.counts) }
+        ensures counts { OnErr result (self.new.counts ≡ one_refusal self.old.counts) }
         ensures pin { IfOk result (λ r. (r.0.key ≡ key.now) × (r.0.charge ≡ Some charge) × (r.0.value ≡ arc_value stored)) }
         ensures never_stale { IfErr result (λ e. e.0 ≢ Refusal.Stale) }
     {
@@ -375,14 +413,16 @@ impl<K: Hash + Eq + Clone + Drop, V: Drop, F: Fit<K, V>> Locked<K, V, F> {
 
     /// The core's `prune`. Takes no memory.
     pub fn prune(&mut self) -> (Sealed<Evicted<K, V>>, Pruned)
-        ensures step { Stands K.eq self.old ask.prune (outcome_of_evictions result.0) self.new }
+        ensures step { Stands K.eq self.old.cache ask.prune (outcome_of_evictions result.0) self.new.cache }
+        ensures counted { self.new.counts ≡ counted self.old.cache ask.prune (outcome_of_evictions result.0) self.old.counts }
     {
         (Sealed::of(self.state.prune()), Pruned::new())
     }
 
     /// The core's `set_capacity`. Takes no memory.
     pub fn set_capacity(&mut self, capacity: u64) -> (Sealed<Evicted<K, V>>, Resized)
-        ensures step { Stands K.eq self.old (ask.set_capacity capacity) (outcome_of_evictions result.0) self.new }
+        ensures step { Stands K.eq self.old.cache (ask.set_capacity capacity) (outcome_of_evictions result.0) self.new.cache }
+        ensures counted { self.new.counts ≡ counted self.old.cache (ask.set_capacity capacity) (outcome_of_evictions result.0) self.old.counts }
         ensures done { result.1 ≡ capacity }
     {
         (
@@ -393,30 +433,38 @@ impl<K: Hash + Eq + Clone + Drop, V: Drop, F: Fit<K, V>> Locked<K, V, F> {
 
     /// The sum of the charges of all entries, those still being made included.
     pub fn total(&self) -> u64
-        ensures total { result ≡ sum_of self.now }
+        ensures total { result ≡ sum_of self.now.cache }
     {
         self.state.total()
+    }
+
+    /// The sum of the charges of the held entries, those still being made included, and those that
+    /// are held after an `invalidate`.
+    pub fn pinned_charge(&self) -> u64
+        ensures { result ≡ pinned_of self.now.cache }
+    {
+        self.state.pinned_charge()
     }
 
     /// The number of entries, those still being made included, and those that are held after an
     /// `invalidate`.
     pub fn len(&self) -> usize
-        ensures { result ≡ count_of self.now }
+        ensures { result ≡ count_of self.now.cache }
     {
         self.state.len()
     }
 
     /// Whether the key has a value: the core's `contains`.
     pub fn contains(&self, key: &K) -> bool
-        ensures yes { IsTrue result → HasReadyKey K.eq self.now key.now }
-        ensures no { IsFalse result → IsUnready K.eq self.now key.now }
+        ensures yes { IsTrue result → HasReadyKey K.eq self.now.cache key.now }
+        ensures no { IsFalse result → IsUnready K.eq self.now.cache key.now }
     {
         self.state.contains(key)
     }
 
     /// The total that the cache settles to.
     pub fn capacity(&self) -> u64
-        ensures capacity { result ≡ self.now.capacity }
+        ensures capacity { result ≡ self.now.cache.capacity }
     {
         self.state.capacity()
     }

@@ -1,9 +1,11 @@
 //! The shards of a cache that threads share, and which of them serves a key.
-//! A single shard is reached by its key alone, so no call goes to another shard.
+//! A single shard is reached by its key alone, or by the route of one, so no call goes to another
+//! shard.
 ghost use Rattle.std.specs.Prelude.{◌≡◌, ◌<◌, ◌+◌, ◌-◌, ◌/◌, ◌%◌, Some, IfErr, IfOk, slice_get, vec_len};
 ghost use Rattle.concurrent_lru.specs.Keys.{CopiesAreEqual};
 ghost use Rattle.concurrent_lru.specs.Sharded.{key_number};
 
+use crate::counts::Counts;
 use crate::fit::Fit;
 use crate::locked::{Pruned, Reserved, Resized};
 use crate::lru_core::Refusal;
@@ -20,6 +22,12 @@ pub struct Routes<K: Hash + Eq + Clone, V, R: Wait, S, F: Fit<K, V>> {
     shards: Vec<LruCache<K, V, R, F>>,
     hasher: S,
     ghost some: { 0 < vec_len shards },
+}
+
+/// Which shard serves a key. `Routes::route_of` alone makes one.
+#[derive(Clone, Copy)]
+pub struct Route {
+    index: usize,
 }
 
 impl<
@@ -70,6 +78,24 @@ impl<K: Hash + Eq + Clone + Drop, V: Drop, R: Wait, S: BuildHasher, F: Fit<K, V>
         ensures route { slice_get self.now.shards.items (key_number S.BuildHasher S.Hasher.Hasher K.hash_input self.now.hasher key.now % vec_len self.now.shards) ≡ Some result.now }
     {
         &self.shards[choose_shard(&self.hasher, key, self.shards.len())]
+    }
+
+    /// The route to that shard, for callers that return to it without the key.
+    pub fn route_of(&self, key: &K) -> Route
+        ensures route { result.index ≡ key_number S.BuildHasher S.Hasher.Hasher K.hash_input self.now.hasher key.now % vec_len self.now.shards }
+        ensures within { result.index < vec_len self.now.shards }
+    {
+        Route {
+            index: choose_shard(&self.hasher, key, self.shards.len()),
+        }
+    }
+
+    /// The shard at the end of a route.
+    pub fn at(&self, route: Route) -> &LruCache<K, V, R, F>
+        requires within { route.index < vec_len self.now.shards }
+        ensures shard { slice_get self.now.shards.items route.index ≡ Some result.now }
+    {
+        &self.shards[route.index]
     }
 
     /// `reserve` of each shard, one after another, with its share of the entries.
@@ -133,6 +159,15 @@ impl<K: Hash + Eq + Clone + Drop, V: Drop, R: Wait, S: BuildHasher, F: Fit<K, V>
         total
     }
 
+    /// The sum of the shards' pinned charges, read one after another.
+    pub fn pinned_charge(&self) -> u128 {
+        let mut pinned = 0;
+        for shard in &self.shards {
+            pinned += u128::from(shard.pinned_charge());
+        }
+        pinned
+    }
+
     /// The sum of the shards' numbers of entries, read one after another, up to `usize::MAX`.
     pub fn len(&self) -> usize {
         let mut len: usize = 0;
@@ -140,6 +175,24 @@ impl<K: Hash + Eq + Clone + Drop, V: Drop, R: Wait, S: BuildHasher, F: Fit<K, V>
             len = len.saturating_add(shard.len());
         }
         len
+    }
+
+    /// The sum of the shards' counts, read one after another.
+    pub fn counts(&self) -> Counts {
+        let mut counts = Counts::default();
+        for shard in &self.shards {
+            counts = counts.saturating_add(shard.counts());
+        }
+        counts
+    }
+
+    /// The sum of the shards' counts, each of which begins anew, one after another.
+    pub fn reset_counts(&self) -> Counts {
+        let mut counts = Counts::default();
+        for shard in &self.shards {
+            counts = counts.saturating_add(shard.reset_counts());
+        }
+        counts
     }
 }
 

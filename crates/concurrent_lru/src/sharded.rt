@@ -5,6 +5,10 @@ ghost use Rattle.std.specs.Fn.{FnOnceReturnsAt, FnOnceTakesAt};
 ghost use Rattle.concurrent_lru.specs.Keys.{CopiesAreEqual};
 ghost use Rattle.concurrent_lru.specs.ThreadedCalls.{IfInit};
 
+mod owned;
+
+pub use self::owned::OwnedHandle;
+pub use crate::counts::Counts;
 pub use crate::fit::{Anything, Fit};
 pub use crate::get_error::GetError;
 use crate::locked::{Advised, Invalidated};
@@ -348,8 +352,8 @@ impl<K: Hash + Eq + Clone + Drop, V: Drop, R: Wait, S: BuildHasher, F: Fit<K, V>
 
     /// Takes the value of a key back, at the key's shard, as in the cache of one lock: whoever asks
     /// for the key after this call gets a value that is made after it, also while others hold the
-    /// old one. An entry that nobody holds is evicted; one that is held stays, for its holders alone,
-    /// and is evicted when its last handle is dropped. Copies no key and takes no memory.
+    /// old one. An entry that nobody holds is evicted; one that is held stays, for its holders
+    /// alone, and is evicted when its last handle is dropped. Copies no key and takes no memory.
     pub fn invalidate(&self, key: &K) {
         let _: Invalidated<K> = self.routes.of(key).invalidated(key);
     }
@@ -402,6 +406,12 @@ impl<K: Hash + Eq + Clone + Drop, V: Drop, R: Wait, S: BuildHasher, F: Fit<K, V>
         self.routes.total_charge()
     }
 
+    /// The sum of the shards' pinned charges, which are read one after another and are no snapshot.
+    /// Takes no memory.
+    pub fn pinned_charge(&self) -> u128 {
+        self.routes.pinned_charge()
+    }
+
     /// The sum of the shards' numbers of entries, which are read one after another and are no
     /// snapshot: what the cache holds at no one moment need be that many. Entries that are held
     /// after they were invalidated are counted too. Takes no memory.
@@ -412,6 +422,19 @@ impl<K: Hash + Eq + Clone + Drop, V: Drop, R: Wait, S: BuildHasher, F: Fit<K, V>
     /// Whether `len` is 0: no shard had an entry as its lock was got. Takes no memory.
     pub fn is_empty(&self) -> bool {
         self.len() == 0
+    }
+
+    /// The sum of the shards' counts, which are read one after another and are no snapshot: they
+    /// need not add up while other threads use the cache. A sum past the greatest number of its
+    /// type is told as that number. Takes no memory.
+    pub fn counts(&self) -> Counts {
+        self.routes.counts()
+    }
+
+    /// The sum of what each shard's `reset_counts` answers, one shard after another. No call is
+    /// missed in between, and none is counted twice. Takes no memory.
+    pub fn reset_counts(&self) -> Counts {
+        self.routes.reset_counts()
     }
 
     /// Whether the key has a value, as in the cache of one lock, within the key's shard. Takes no

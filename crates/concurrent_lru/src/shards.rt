@@ -4,7 +4,7 @@ ghost use Rattle.std.specs.Prelude.{◌≡◌, ◌+◌, ◌-◌, ◌/◌, ◌%�
 ghost use Rattle.std.specs.Arc.{arc_value};
 ghost use Rattle.std.specs.Fn.{FnOnceReturnsAt, FnOnceTakesAt};
 ghost use Rattle.std.specs.List.{AllByRecursion, AllZip};
-ghost use Rattle.concurrent_lru.specs.Cache.{count_of, empty_cache, most_pins_by_default};
+ghost use Rattle.concurrent_lru.specs.Cache.{count_of, empty_cache, most_pins_by_default, pinned_of};
 ghost use Rattle.concurrent_lru.specs.Keys.{CopiesAreEqual};
 ghost use Rattle.concurrent_lru.specs.Parts.{EachTakes, StandsAt, RunsApart};
 ghost use Rattle.concurrent_lru.specs.Reads.{FindsAt, ReadsAt};
@@ -33,8 +33,9 @@ pub fn capacity_per_shard(capacity: u64, shards: usize) -> u64
 // How many shards a cache has where nothing else is said.
 pub(crate) const DEFAULT_SHARDS: usize = 16;
 
-// The shard, of so many, that serves a key: the hasher's number of it modulo their number. By the number of shards that
-// most caches have it is cut out, since a division of 64 bits takes as long as to get the lock.
+// The shard, of so many, that serves a key: the hasher's number of it modulo their number. By the
+// number of shards that most caches have it is cut out, since a division of 64 bits takes as long
+// as to get the lock.
 #[inline(always)]
 pub(crate) fn choose_shard<K: Hash, S: BuildHasher>(hasher: &S, key: &K, shards: usize) -> usize
     requires { 0 < shards }
@@ -315,6 +316,18 @@ impl<K: Hash + Eq + Clone, V: Drop, S: BuildHasher + Drop> Shards<K, V, S> {
             return Err(Refusal::Stale);
         };
         Ok(cache.total())
+    }
+
+    /// The sum of the charges of the held entries of all shards, those still being made included,
+    /// and those that are held after an `invalidate`. Takes no memory.
+    pub fn pinned_charge(&self) -> u128
+        ensures { result ≡ sum_by pinned_of self.now.caches }
+    {
+        let mut pinned = 0;
+        for shard in &self.shards {
+            pinned += u128::from(shard.pinned_charge());
+        }
+        pinned
     }
 
     /// The number of entries of all shards, those still being made included, and those that are

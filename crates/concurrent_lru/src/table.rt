@@ -1,10 +1,11 @@
-//! The entries of a cache as one value: nodes, what finds their places by key and by stamp, and the total of the charges.
-//! No rule of the cache is decided here but the order of eviction: what happens when is the core's.
+//! The entries of a cache as one value: nodes, what finds their places by key and by stamp, and the
+//! total of the charges. No rule of the cache is decided here but the order of eviction: what
+//! happens when is the core's.
 ghost use Rattle.std.specs.Prelude.{◌≡◌, ◌≢◌, ℕ, ◌+◌, ◌<◌, ◌≤◌, ◌^◌, Some, None, [], IsSome, OnOk, OnErr, IfOk, IfErr, IfSome, MatchOption, filter_map, length, ◌∷◌, ◌++◌, true, cond, nat_eq};
 ghost use Rattle.std.specs.Arc.{arc_value};
 ghost use Rattle.std.specs.HashMap as hash;
 ghost use Rattle.std.specs.HashMap.{spare};
-ghost use Rattle.concurrent_lru.specs.Cache.{count_of, idle_at, IsFront};
+ghost use Rattle.concurrent_lru.specs.Cache.{count_of, idle_at, pinned_of, IsFront};
 ghost use Rattle.std.specs.FinMap as map;
 ghost use Rattle.concurrent_lru.specs.Keys.{CopiesAreEqual};
 ghost use Rattle.concurrent_lru.specs.NodeTable.{Entry, entry_of, chain_of, phase_of, value_of, ContainsNode, LacksIdle, IsNewStamp};
@@ -13,6 +14,7 @@ ghost use Rattle.concurrent_lru.specs.Entries.{cache_of, charges_of, ContainsEnt
 ghost use Rattle.concurrent_lru.specs.Reads.{RenewsAt};
 ghost use Rattle.concurrent_lru.specs.Stamps.{keeps_map, mapped_place, HasRoomFor};
 ghost use Rattle.concurrent_lru.specs.Steps.{without, held_in_phase, held_detached};
+ghost use Rattle.concurrent_lru.specs.TakeAll.{TakesHeld, TakesHeldAt};
 
 mod stamps;
 
@@ -34,6 +36,8 @@ pub struct Table<K: Hash + Eq + Clone, V> {
     by_key: HashMap<K, Place>,
     by_stamp: Stamps,
     total: u64,
+    // The idle entries' part of the total.
+    idle_charge: u64,
     // Where a look by stamp begins: the place of the entry that was pinned last, or that a caller
     // tells. It is a hint alone: any place will do.
     near: Place,
@@ -50,7 +54,7 @@ impl<K: Hash + Eq + Clone, V> Model for Table<K, V> {
 
     ghost view = { λ a. entries_of a.nodes };
 
-    ghost invariant = { λ a. IsSoundTable K.is_clone K.eq a.nodes a.by_key a.by_stamp a.total };
+    ghost invariant = { λ a. IsSoundTable K.is_clone K.eq a.nodes a.by_key a.by_stamp a.total a.idle_charge };
 }
 
 impl<K: Hash + Eq + Clone, V: Drop> Table<K, V> {
@@ -93,6 +97,7 @@ impl<K: Hash + Eq + Clone, V: Drop> Table<K, V> {
             by_key: HashMap::new(alloc),
             by_stamp,
             total: 0,
+            idle_charge: 0,
             near: Place::first(),
         }
     }
@@ -121,6 +126,13 @@ impl<K: Hash + Eq + Clone, V: Drop> Table<K, V> {
         ensures { result ≡ charges_of self.now }
     {
         self.total
+    }
+
+    /// The sum of the charges of held entries, detached ones included.
+    pub fn pinned_charge(&self) -> u64
+        ensures { result ≡ pinned_of (cache_of self.now) }
+    {
+        self.total - self.idle_charge
     }
 
     /// The place of the entry with this stamp.
@@ -266,6 +278,7 @@ impl<K: Hash + Eq + Clone, V: Drop> Table<K, V> {
             &mut self.total,
             place,
         );
+        self.idle_charge -= old.charge;
         let new = put(
             &mut self.nodes,
             &mut self.by_key,
@@ -353,7 +366,9 @@ impl<K: Hash + Eq + Clone, V: Drop> Table<K, V> {
         ensures err { OnErr result (self.new ≡ self.old) }
         ensures refusal { IfErr result (λ e. e ≡ Refusal.Memory) }
     {
+        let charge = self.nodes.node(place).charge;
         let value = self.nodes.revive(place)?;
+        self.idle_charge -= charge;
         self.near = place;
         Ok(value)
     }
@@ -363,8 +378,10 @@ impl<K: Hash + Eq + Clone, V: Drop> Table<K, V> {
         requires { IsReadyAt self.old place }
         ensures { RestsAt self.old place self.new }
     {
+        let charge = self.nodes.node(place).charge;
         self.nodes.set_pins(place, 0);
         self.nodes.append(place);
+        self.idle_charge += charge;
     }
 
     /// Makes an idle entry the newest idle one, as a pin and the release of it do. Takes no memory.
@@ -409,13 +426,45 @@ impl<K: Hash + Eq + Clone, V: Drop> Table<K, V> {
         ensures work { self.new.work ≡ self.old.work + 1 }
     {
         self.nodes.remove(place);
-        take_away(
+        let node = take_away(
             &mut self.nodes,
             &mut self.by_key,
             &mut self.by_stamp,
             &mut self.total,
             place,
-        )
+        );
+        self.idle_charge -= node.charge;
+        node
+    }
+
+    /// Takes every held entry away, detached ones too, where no entry is idle. Answers those that
+    /// have a value, in an unspecified order, and drops the others. Takes no memory.
+    pub fn take_each_held(&mut self) -> Evicted<K, V>
+        requires { self.old.idle ≡ [] }
+        ensures taken { TakesHeld self.old.held result }
+        ensures idle { self.new.idle ≡ [] }
+        ensures held { self.new.held ≡ map.empty }
+        ensures work { self.new.work ≡ self.old.work }
+    {
+        let mut taken = Evicted::none();
+        for number in 0..self.nodes.end_of_places() {
+            if let Some(node) = self.take_held_at(Place::at(number)) {
+                taken.push_front(node);
+            }
+        }
+        taken
+    }
+
+    // Takes the held entry at a place away, if there is one. No entry is idle.
+    fn take_held_at(&mut self, place: Place) -> Option<Box<Node<K, V>>>
+        requires { self.old.idle ≡ [] }
+        ensures taken { MatchOption result ((map.get self.old.stamps place ≡ None) × (self.new ≡ self.old)) (λ node. TakesHeldAt self.old place (entry_of node.value) self.new) }
+        ensures alone { IfSome result (λ node. chain_of node.value ≡ []) }
+    {
+        if self.nodes.contains(place) {
+            return Some(self.take_held(place));
+        }
+        None
     }
 
     // Takes the oldest idle entry away, if there is one.

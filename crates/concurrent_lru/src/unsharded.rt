@@ -1,13 +1,14 @@
 //! One cache behind one lock, for any number of threads.
 //! Makers and the drops of values run without the lock, readers under it; callers of a value in the
 //! making wait.
-ghost use Rattle.std.specs.Prelude.{◌≡◌, ◌≢◌, ◌<◌, Some, None, Ok, Err, IfOk, IfErr, IfSome};
+ghost use Rattle.std.specs.Prelude.{◌≡◌, ◌≢◌, ◌+◌, ◌<◌, ◌≤◌, Some, None, Ok, Err, IfOk, IfErr, IfSome};
 ghost use Rattle.std.specs.Fn.{FnOnceReturnsAt, FnOnceTakesAt};
 ghost use Rattle.concurrent_lru.specs.Doors.{IsAwake};
 ghost use Rattle.concurrent_lru.specs.Keys.{CopiesAreEqual};
 ghost use Rattle.concurrent_lru.specs.Pins.{IsHandleFor, made_key, made_charge, awaited_key, awaited_charge};
 ghost use Rattle.concurrent_lru.specs.ThreadedCalls.{IsTurnFor, IfInit};
 
+pub use crate::counts::Counts;
 use crate::door::{Asleep, Door, Maker, Met};
 pub use crate::fit::{Anything, Fit};
 pub use crate::get_error::GetError;
@@ -253,21 +254,21 @@ impl<K: Hash + Eq + Clone + Drop, V: Drop, R: Wait, F: Fit<K, V>> LruCache<K, V,
     /// Takes the value of a key back: whoever asks for the key after this call gets a value that is
     /// made after it, also while others hold the old one. Copies no key and takes no memory.
     ///
-    /// An entry that nobody holds is evicted. One that is held is detached from the key, whether its
-    /// value is there or still being made: no call finds it by the key any more, and the next one
-    /// makes a new entry. Its handles read the value that they had, callers that wait for its value
-    /// get that value, and when its last handle is dropped it is evicted at once. Until then it is
-    /// counted: in `total_charge` by its charge, and in `len`. Where the key has no entry, nothing
-    /// happens.
+    /// An entry that nobody holds is evicted. One that is held is detached from the key, whether
+    /// its value is there or still being made: no call finds it by the key any more, and the next
+    /// one makes a new entry. Its handles read the value that they had, callers that wait for its
+    /// value get that value, and when its last handle is dropped it is evicted at once. Until then
+    /// it is counted: in `total_charge` by its charge, and in `len`. Where the key has no entry,
+    /// nothing happens.
     ///
     /// The original crate has no such call; this one is this project's own.
     pub fn invalidate(&self, key: &K) {
         let _: Invalidated<K> = self.invalidated(key);
     }
 
-    /// Puts a value in and answers its handle, whatever the key has: an `invalidate`, and a making of
-    /// the key that is done at once, with nothing in between. It is for a value that is there before
-    /// its charge is known, and for one that is to replace another.
+    /// Puts a value in and answers its handle, whatever the key has: an `invalidate`, and a making
+    /// of the key that is done at once, with nothing in between. It is for a value that is there
+    /// before its charge is known, and for one that is to replace another.
     ///
     /// What the key had is taken back as by `invalidate`: handles read the value that they had, and
     /// callers that wait for a making get what that making gives. Waits for no maker.
@@ -319,8 +320,15 @@ impl<K: Hash + Eq + Clone + Drop, V: Drop, R: Wait, F: Fit<K, V>> LruCache<K, V,
         self.door.enter().total()
     }
 
-    /// The number of entries, idle or held, those still being made included, and those that are held
-    /// after they were invalidated. No entry is visited. Takes no memory.
+    /// The sum of the charges of the entries that are held, those still being made included, and
+    /// those that are held after they were invalidated: the rest of `total_charge` is idle. No
+    /// entry is visited. Takes no memory.
+    pub fn pinned_charge(&self) -> u64 {
+        self.door.enter().pinned_charge()
+    }
+
+    /// The number of entries, idle or held, those still being made included, and those that are
+    /// held after they were invalidated. No entry is visited. Takes no memory.
     pub fn len(&self) -> usize {
         self.door.enter().len()
     }
@@ -335,6 +343,25 @@ impl<K: Hash + Eq + Clone + Drop, V: Drop, R: Wait, F: Fit<K, V>> LruCache<K, V,
     /// entry, which keeps its place in the order of eviction. Takes no memory.
     pub fn contains(&self, key: &K) -> bool {
         self.door.enter().contains(key)
+    }
+
+    /// What the calls of this cache did since it was made, or since `reset_counts`, as the lock was
+    /// got: so its counts add up to the entries and the charges of one moment. Takes no memory.
+    pub fn counts(&self) -> Counts
+        ensures entries { result.evictions + result.removals ≤ result.entries_before + result.insertions }
+        ensures charge { result.evicted_charge + result.removed_charge ≤ result.charge_before + result.inserted_charge }
+    {
+        self.door.enter().counts()
+    }
+
+    /// What `counts` answers; all counts are 0 afterwards, and the counting begins anew at the
+    /// entries that are there. No call is missed in between, and none is counted twice. Takes no
+    /// memory.
+    pub fn reset_counts(&self) -> Counts
+        ensures entries { result.evictions + result.removals ≤ result.entries_before + result.insertions }
+        ensures charge { result.evicted_charge + result.removed_charge ≤ result.charge_before + result.inserted_charge }
+    {
+        self.door.enter().reset_counts()
     }
 
     // The calls above, each with what was asked under the lock.
@@ -386,8 +413,8 @@ impl<K: Hash + Eq + Clone + Drop, V: Drop, R: Wait, F: Fit<K, V>> LruCache<K, V,
         }
     }
 
-    // `awaited`, apart from `start`, so that what a wait needs in memory is made where one waits: beside the call of a hit
-    // it would be made for each hit too.
+    // `awaited`, apart from `start`, so that what a wait needs in memory is made where one waits:
+    // beside the call of a hit it would be made for each hit too.
     #[inline(always)]
     fn wait_for<'a>(
         &'a self,

@@ -1,9 +1,10 @@
-//! How many entries there are, and which keys have a value, in each state that an entry can be in.
+//! How many entries there are, how much of the total is pinned, and which keys have a value, in
+//! each state that an entry can be in.
 
 use concurrent_lru::lru_core::{Evicted, Refusal, State};
 use lru_fixtures::makes::make;
 use lru_fixtures::tables::Call::{
-    AdviceEvict, Begin, Fail, Get, Poll, Prune, Ready, Release, Total,
+    AdviceEvict, Begin, Fail, Get, Invalidate, Poll, Prune, Ready, Release, SetCapacity, Total,
 };
 use lru_fixtures::tables::{Answers, Call};
 use std::alloc::Global;
@@ -52,6 +53,43 @@ fn entries_are_counted_and_values_found(rt: HostRuntime) -> Result<(), test::Fai
         assert_eq!(rt; state.is_empty(), len == 0, "after {call:?}");
         let found = [state.contains(&1), state.contains(&2)];
         assert_eq!(rt; found, values, "after {call:?}");
+    }
+    Ok(())
+}
+
+// Calls of a cache of the capacity 9, in order: after each, the total and how much of it is pinned.
+const PINNED: [(Call, u64, u64); 16] = [
+    (Total, 0, 0),
+    // Being made, held, idle, and held again.
+    (Begin(1, 3), 3, 3),
+    (Ready(0, 10), 3, 3),
+    (Release(0), 3, 0),
+    (Get(1), 3, 3),
+    // One pin more changes nothing.
+    (Get(1), 3, 3),
+    (Release(0), 3, 3),
+    // Detached, it is still held; a new entry of its key is made beside it.
+    (Invalidate(1), 3, 3),
+    (Begin(1, 4), 7, 7),
+    (Ready(1, 11), 7, 7),
+    (Release(1), 7, 3),
+    // Until its last pin is given back.
+    (Release(0), 4, 0),
+    // A making that is given up.
+    (Begin(2, 5), 9, 5),
+    (Fail(2), 4, 0),
+    // What is idle is evicted.
+    (SetCapacity(3), 0, 0),
+    (Begin(3, 2), 2, 2),
+];
+
+#[test]
+fn pinned_charges_are_summed(rt: HostRuntime) -> Result<(), test::Fail> {
+    let alloc = rt.alloc();
+    let mut state: State<u64, u64> = State::new(alloc, 9);
+    for (call, total, pinned) in PINNED {
+        let _answer = state.answer(alloc, call)?;
+        assert_eq!(rt; (state.total(), state.pinned_charge()), (total, pinned), "after {call:?}");
     }
     Ok(())
 }

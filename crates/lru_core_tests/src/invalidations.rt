@@ -148,8 +148,8 @@ fn a_making_is_detached(rt: HostRuntime) -> Result<(), test::Fail> {
     answers_as_told(alloc, &mut State::new(alloc, 10), &MAKINGS)
 }
 
-// A detached entry leaves at its last release, whatever the capacity, and evicts nothing else; while
-// it is held, the idle entries make room for it, oldest first.
+// A detached entry leaves at its last release, whatever the capacity, and evicts nothing else;
+// while it is held, the idle entries make room for it, oldest first.
 const CROWDED: [(Call, &str); 14] = [
     (Begin(1, 3), "Ok((Make(0), []))"),
     (Ready(0, 1), "Ok(())"),

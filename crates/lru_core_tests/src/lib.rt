@@ -7,6 +7,8 @@ mod both;
 #[cfg(test)]
 mod capacities;
 #[cfg(test)]
+mod closing;
+#[cfg(test)]
 mod contents;
 #[cfg(test)]
 mod corners;

@@ -312,6 +312,16 @@ impl Plain {
         Ok(Some((entry.stamp, value)))
     }
 
+    // A get whose pin is given back at once. It leaves no pin, and evicts nothing.
+    fn read(&mut self, key: u64) -> Result<Option<(u64, u64)>, Refusal> {
+        let Some((stamp, value)) = self.get(key)? else {
+            return Ok(None);
+        };
+        let _evicted = self.release(stamp)?;
+        self.pinned = None;
+        Ok(Some((stamp, value)))
+    }
+
     fn release(&mut self, stamp: u64) -> Result<Evicted, Refusal> {
         let mut entry = self.of_stamp(stamp).ok_or(Refusal::Stale)?;
         if entry.pins == 0 || !matches!(entry.phase, Phase::Ready(_)) {
@@ -395,6 +405,7 @@ impl Answers<Call> for Plain {
             Call::Ready(stamp, value) => text_of(alloc, &self.ready(stamp, value)),
             Call::Fail(stamp) => text_of(alloc, &self.fail(stamp)),
             Call::Get(key) => text_of(alloc, &self.get(key)),
+            Call::Read(key) => text_of(alloc, &self.read(key)),
             Call::Release(stamp) => text_of(alloc, &self.release(stamp)),
             Call::AdviceEvict(key) => text_of(alloc, &self.advice_evict(key)),
             Call::Invalidate(key) => text_of(alloc, &self.invalidate(key)),

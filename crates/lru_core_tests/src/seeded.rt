@@ -7,7 +7,7 @@ use rand_core::{Rng, SeedableRng};
 use rand_xoshiro::Xoshiro256PlusPlus;
 use std::alloc::Global;
 
-const KINDS: u64 = 13;
+const KINDS: u64 = 14;
 
 // The next call, whose stamp is among the last that were given out: `next` is the one after them.
 fn draw(generator: &mut Xoshiro256PlusPlus, next: u64) -> Call {
@@ -29,6 +29,7 @@ fn draw(generator: &mut Xoshiro256PlusPlus, next: u64) -> Call {
         9 => Call::KeyOf(stamp),
         10 => Call::Invalidate(key),
         11 => Call::Insert(key, 1 + c % 4, b),
+        12 => Call::Read(key),
         _ => Call::SetCapacity(8 + c % 5),
     }
 }

@@ -14,7 +14,8 @@ fn a_changed_value_is_not_handed_out(rt: HostRuntime) -> Result<(), Fail> {
     assert_eq!(rt; *old, 10);
     assert_eq!(rt; *cache.get_or_init(1, 1, |_| 11)?, 11);
 
-    // A value that is at hand replaces what is there. The old one counts until its handle is dropped.
+    // A value that is at hand replaces what is there. The old one counts until its handle is
+    // dropped.
     let new = cache.insert(&1, 2, 12)?;
     assert_eq!(rt; *new, 12);
     assert_eq!(rt; cache.total_charge(), 3);

@@ -23,6 +23,8 @@ pub enum Call {
     Fail(u64),
     /// `get` with a key.
     Get(u64),
+    /// `read` with a key, by a reader that copies the value.
+    Read(u64),
     /// `release` with a stamp.
     Release(u64),
     /// `advice_evict` with a key.
@@ -104,6 +106,7 @@ impl Answers<Call> for State<u64, u64> {
             }
             Call::Fail(stamp) => text_of(alloc, &self.fail(stamp)),
             Call::Get(key) => text_of(alloc, &self.get(&key)),
+            Call::Read(key) => text_of(alloc, &self.read(&key, |value| *value)),
             Call::Release(stamp) => text_of(alloc, &self.release(stamp)),
             Call::AdviceEvict(key) => text_of(alloc, &self.advice_evict(&key)),
             Call::Invalidate(key) => text_of(alloc, &self.invalidate(&key)),

@@ -40,7 +40,8 @@ module _ {K V : Type 0} where
     pub lawful : IsLawful E j.cache
     pub legal : Replays E (start j.began) j.records (without_values j.cache)
 
-  -- From old, a journal may do this with the request: an accepted one is the cache's step and adds its own record; a refused one changes nothing, for want of memory or as the cache refuses it.
+  -- From old, a journal may do this with the request: an accepted one is the cache's step and adds
+  -- its own record; a refused one changes nothing, for want of memory or as the cache refuses it.
   abbrev pub Journals : (K → K → Bool) → Journaled K V → Request K V → Outcome K V → Journaled K V → Type 0
   Journals E old r (accepted reply evicted) new =
       Step E old.cache r reply evicted new.cache
@@ -55,7 +56,8 @@ module _ {K V : Type 0} where
       × (new ≡ record { cache = new.cache; records = old.records ++ records_of_read k found; began = old.began })
   JournalsRead E old k answers (Err e) new = ((e ≡ Memory) ⊎ Reads E old.cache k answers (Err e) new.cache) × (new ≡ old)
 
--- a step and its record, which is told of the answer: an accepted step adds it, a refused one changes nothing
+-- a step and its record, which is told of the answer: an accepted step adds it, a refused one
+-- changes nothing
 pub record IsRecorded {K V T E : Type 0} (old : Journaled K V) (is_record : T → Answered K → Type 0) (result : Result T E) (new : Journaled K V) : Type 0 where
   pub began : new.began ≡ old.began
   pub accepted : IfOk result (λ x. (r : Answered K) × is_record x r × (new.records ≡ old.records ++ r ∷ []))

@@ -88,7 +88,8 @@ pub record Receives {K : Type 0} (old : Hand K) (r : Answered K) (new : Hand K) 
   pub past : AllBelow position old.receipts
   pub gains : new ≡ hand_with_receipt old position r
 
--- a call and its tally: an accepted one adds the receipt of its record, which is told of the answer; a refused one leaves the tally
+-- a call and its tally: an accepted one adds the receipt of its record, which is told of the
+-- answer; a refused one leaves the tally
 pub record IsTallied {K T E : Type 0} (old : Hand K) (is_record : T → Answered K → Type 0) (result : Result T E) (new : Hand K) : Type 0 where
   pub accepted : IfOk result (λ x. (r : Answered K) × is_record x r × Receives old r new)
   pub refused : OnErr result (new ≡ old)
@@ -144,11 +145,13 @@ one_part v = view false [] 1 []
 abbrev pub view_with_view : {K : Type 0} → View K → View K → View K
 view_with_view v w = view v.keeps v.all (v.parts + w.parts) (v.receipts ++ w.receipts)
 
--- one pass at most knows all records. The records of its receipts stand among them. Without parts it has no receipts
+-- one pass at most knows all records. The records of its receipts stand among them. Without parts
+-- it has no receipts
 abbrev pub Fits : {K : Type 0} → ℕ → List (Answered K) → ℕ → View K → Type 0
 Fits seat log by v = (v.keeps ≡ true → (by ≡ seat) × (v.all ≡ log)) × Stand log v.receipts × (v.parts ≡ 0 → v.receipts ≡ [])
 
--- The word is the count of records. The parts are fixed in number. The positions in all tallies are the numbers below the count, each once
+-- The word is the count of records. The parts are fixed in number. The positions in all tallies are
+-- the numbers below the count, each once
 pub record IsCounted {K : Type 0} (words : List ℕ) (views : List (View K)) : Type 0 where
   pub seat : ℕ
   pub log : List (Answered K)

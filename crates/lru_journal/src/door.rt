@@ -1,5 +1,5 @@
-//! The lock of a twin. Each call gets it once, for one step of the journal, and lets it go: what the
-//! step took out of the cache is dropped after that.
+//! The lock of a twin. Each call gets it once, for one step of the journal, and lets it go: what
+//! the step took out of the cache is dropped after that.
 ghost use Rattle.std.specs.Prelude.{◌≡◌, ◌≢◌, IfErr, IfOk, IfSome};
 ghost use Rattle.std.specs.Fn.{FnOnceReturnsAt, FnOnceTakesAt};
 ghost use Rattle.lru_journal.specs.Records.{records_of_read};

@@ -28,7 +28,8 @@ use std::sync::{Arc, Wait};
 /// Each call is handed the caller's tally. An accepted call adds one receipt to it, the record of
 /// its own step and reply, at a position past all that the tally had (a `read` that finds its
 /// value adds two); a refused one leaves the tally. Any call may be refused with `Memory`, where
-/// there is no room for its record.
+/// there is no room for its record or for the record's copy of the key; this comes before
+/// `Overflow` and `Stale`.
 #[derive(Drop)]
 pub struct LruCache<K: Hash + Eq + Clone, V, R, I: Identity> {
     door: Door<K, V, R, I>,
@@ -199,8 +200,8 @@ impl<
     }
 
     /// Takes the value of a key back: whoever asks for the key after this call gets a value that is
-    /// made after it. An idle entry is evicted; a held one is detached from its key and stays for its
-    /// holders, until the last pin is given back.
+    /// made after it. An idle entry is evicted; a held one is detached from its key and stays for
+    /// its holders, until the last pin is given back.
     ///
     /// A refusal leaves the key its value.
     pub fn invalidate(&self, tally: &mut Tally<K, I>, key: &K) -> Result<(), Refusal>

@@ -74,6 +74,16 @@ impl From<Option<(u64, Arc<u64>)>> for Answer {
     }
 }
 
+// What a read answers: no pin, and the value that its reader copied.
+impl From<Option<(u64, u64)>> for Answer {
+    fn from(found: Option<(u64, u64)>) -> Answer {
+        match found {
+            Some((stamp, value)) => Answer::Gives(Told::Found(stamp), value),
+            None => Answer::Says(Told::Missed),
+        }
+    }
+}
+
 impl From<Option<Pin<u64>>> for Answer {
     fn from(found: Option<Pin<u64>>) -> Answer {
         match found {

@@ -38,6 +38,7 @@ fn ask_plainly<R: Wait + Drop, I: Identity>(
         Call::Poll(stamp) => Answer::of(cache.poll(tally, stamp)),
         Call::Fail(stamp) => Answer::of(cache.fail(tally, stamp)),
         Call::Get(key) => Answer::of(cache.get(tally, &key)),
+        Call::Read(key) => Answer::of(cache.read(tally, &key, |value| *value)),
         Call::AdviceEvict(key) => Answer::of(cache.advice_evict(tally, &key)),
         Call::Invalidate(key) => Answer::of(cache.invalidate(tally, &key)),
         Call::Prune => Answer::of(cache.prune(tally)),

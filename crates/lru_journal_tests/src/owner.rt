@@ -80,6 +80,7 @@ fn ask_in_place(journal: &mut Journal<u64, u64>, call: Call) -> Answer {
         Call::Poll(stamp) => Answer::of(journal.poll(stamp)),
         Call::Fail(stamp) => Answer::of(journal.fail(stamp)),
         Call::Get(key) => Answer::of(journal.get(&key)),
+        Call::Read(key) => Answer::of(journal.read(&key, |value| *value)),
         Call::Total => Answer::of(journal.total()),
         _ => Answer::Unmade,
     }

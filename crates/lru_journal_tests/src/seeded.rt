@@ -47,7 +47,7 @@ impl Draws {
 
     // A call at one of six keys or of the last pins.
     fn draw(&mut self) -> Call {
-        let kind = self.generator.next_u64() % 16;
+        let kind = self.generator.next_u64() % 18;
         let key = self.generator.next_u64() % 6;
         let number = self.generator.next_u64() % 8;
         let stamp = self.pins[(self.generator.next_u64() % 4) as usize];
@@ -59,6 +59,8 @@ impl Draws {
             Call::Release(stamp),
             Call::Get(key),
             Call::Get(key),
+            Call::Read(key),
+            Call::Read(key),
             Call::AdviceEvict(key),
             Call::Invalidate(key),
             Call::Prune,

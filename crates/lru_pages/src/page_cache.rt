@@ -7,7 +7,7 @@ ghost use Rattle.lru_pages.specs.Pages.{PageOf};
 
 use crate::blocks::Blocks;
 use crate::page::{Numbered, Page};
-use concurrent_lru::unsharded::{CacheHandle, GetError, LruCache, Refusal};
+use concurrent_lru::unsharded::{CacheHandle, Counts, GetError, LruCache, Refusal};
 use std::alloc::Global;
 use std::fmt;
 use std::sync::Wait;
@@ -95,6 +95,20 @@ impl<'a, B: Blocks, R: Wait> PageCache<'a, B, R> {
     /// where they were invalidated. Takes no memory.
     pub fn total_charge(&self) -> u64 {
         self.pages.total_charge()
+    }
+
+    /// What the calls of this cache did since it was made, or since `reset_counts`. `makings` is
+    /// how often the reader was asked for a block, and `failures` how often it gave none, or there
+    /// was no memory for the page. A `read` that finds no page is a miss too, though it reads no
+    /// block. Takes no memory.
+    pub fn counts(&self) -> Counts {
+        self.pages.counts()
+    }
+
+    /// What `counts` answers; the counting begins anew at the pages that are there. Takes no
+    /// memory.
+    pub fn reset_counts(&self) -> Counts {
+        self.pages.reset_counts()
     }
 
     /// How many pages there may be for one that nobody holds to be kept. Takes no memory.

@@ -92,6 +92,34 @@ fn a_block_is_read_once_while_its_page_is_there(rt: HostRuntime) -> Result<(), F
 }
 
 #[test]
+fn reads_and_finds_are_counted(rt: HostRuntime) -> Result<(), Fail> {
+    let reader = Fours::new(rt.alloc(), &rt, 0);
+    let pages = PageCache::new(rt.alloc(), &rt, &reader, 2);
+    let steps = [
+        Step::Gives(1, 1),
+        Step::Gives(1, 1),
+        Step::Shows(1, 1),
+        Step::Hides(2),
+        Step::Gives(2, 2),
+        Step::Lacks(9),
+        Step::Gives(3, 3),
+    ];
+    for step in steps {
+        assert!(rt; goes(&pages, step), "at {step:?}");
+    }
+    let counts = pages.counts();
+    assert_eq!(rt; (counts.hits, counts.misses, counts.waits), (2, 5, 0));
+    // Each block that the reader was asked for is a making; a read that finds no page is none.
+    assert!(rt; reader.was_asked([1, 2, 9, 3].as_slice()));
+    assert_eq!(rt; (counts.makings, counts.failures), (4, 1));
+    assert_eq!(rt; (counts.insertions, counts.evictions, counts.removals), (4, 1, 1));
+    assert_eq!(rt; pages.reset_counts(), counts);
+    assert_eq!(rt; pages.counts().hits, 0);
+    assert_eq!(rt; pages.counts().entries_before, pages.total_charge());
+    Ok(())
+}
+
+#[test]
 fn a_page_that_is_there_is_shown_without_a_handle(rt: HostRuntime) -> Result<(), Fail> {
     let reader = Fours::new(rt.alloc(), &rt, 0);
     let pages = PageCache::new(rt.alloc(), &rt, &reader, 2);

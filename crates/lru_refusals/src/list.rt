@@ -1,5 +1,5 @@
-//! Steps of a cache without a lock, or of shards, as one list, which asks for the room of its answers
-//! first.
+//! Steps of a cache without a lock, or of shards, as one list, which asks for the room of its
+//! answers first.
 ghost use Rattle.concurrent_lru.specs.Results.{IsCharged, request_of};
 
 use crate::told::Told;

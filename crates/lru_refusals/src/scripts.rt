@@ -57,6 +57,7 @@ pub const SCRIPTS: &[(&str, Script)] = &[
     ("unsharded-values", Script::Unsharded(10, VALUES)),
     ("unsharded-evicts", Script::Unsharded(5, LARGE_VALUES)),
     ("unsharded-fails", Script::Unsharded(10, FAILED)),
+    ("unsharded-reads", Script::Unsharded(2, READ_VALUES)),
     ("unsharded-taken-back", Script::Unsharded(10, TAKEN_VALUES)),
     ("unsharded-put-in", Script::Unsharded(3, PUT_VALUES)),
     ("unsharded-room", Script::Unsharded(10, ROOM)),
@@ -66,6 +67,7 @@ pub const SCRIPTS: &[(&str, Script)] = &[
     ("sharded-values", Script::Sharded(10, 1, VALUES)),
     ("sharded-evicts", Script::Sharded(5, 1, LARGE_VALUES)),
     ("sharded-fails", Script::Sharded(10, 1, FAILED)),
+    ("sharded-reads", Script::Sharded(2, 1, READ_VALUES)),
     ("sharded-taken-back", Script::Sharded(160, 16, TAKEN_VALUES)),
     ("sharded-put-in", Script::Sharded(3, 1, PUT_VALUES)),
     ("sharded-room", Script::Sharded(40, 4, ROOM)),
@@ -549,6 +551,22 @@ const FAILED: &[Call] = &[
     Call::Get(3),
     Call::Try(3, 1, 3),
     Call::Get(3),
+    Call::Total,
+];
+
+// A read makes its entry the newest, and leaves no pin.
+const READ_VALUES: &[Call] = &[
+    Call::Read(1),
+    Call::Make(1, 1, 10),
+    Call::Make(2, 1, 20),
+    Call::Read(1),
+    Call::Make(3, 1, 30),
+    Call::Read(2),
+    Call::Read(1),
+    Call::Read(3),
+    Call::Total,
+    Call::Prune,
+    Call::Read(1),
     Call::Total,
 ];
 

@@ -23,6 +23,8 @@ pub enum Call {
     Fail(u64, u64),
     /// `get` with a key.
     Get(u64),
+    /// `read` with a key, by a reader that copies the value.
+    Read(u64),
     /// `insert` with a key, a charge and a value.
     Insert(u64, u64, u64),
     /// `invalidate` with a key.
@@ -200,6 +202,7 @@ fn ask_for_none<C: Cached<u64>, O: Write, E: Write>(
     match call {
         Call::Reserve(entries) => return told.answer(&call, &cache.make_room(entries)),
         Call::Get(key) => return told.answer(&call, &value_found(cache, key)),
+        Call::Read(key) => return told.answer(&call, &cache.seen(key, |value| *value)),
         Call::SetCapacity(capacity) => cache.resize(capacity),
         Call::Invalidate(key) => cache.take_back(key),
         Call::Prune => cache.clear(),

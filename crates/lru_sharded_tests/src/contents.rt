@@ -1,4 +1,5 @@
-//! How many entries all shards have, and which keys have a value.
+//! How many entries all shards have, how much of their totals is pinned, and which keys have a
+//! value.
 
 use concurrent_lru::sharded::{LruCache, Refusal, Shards};
 use lru_fixtures::tables::Answers;
@@ -10,32 +11,85 @@ use lru_support::hashers::ByOwnNumber;
 use std::test;
 
 // Calls of two shards that keep two entries each, in order, and after each how many entries there
-// are, and whether the keys 1 and 2, of the shards 1 and 0, have a value.
-const STATES: [(ShardCall, usize, [bool; 2]); 9] = [
-    (Prune(0), 0, [false, false]),
-    (Begin(1, 1), 1, [false, false]),
-    (Use(2), 2, [false, true]),
-    (Ready(1, 0, 10), 2, [true, true]),
-    (Release(1, 0), 2, [true, true]),
-    (Use(3), 3, [true, true]),
-    (AdviceEvict(1), 2, [false, true]),
-    (Prune(0), 1, [false, false]),
-    (Fail(0, 0), 1, [false, false]),
+// are, the sum of the pinned charges, and whether the keys 1 and 2, of the shards 1 and 0, have a
+// value.
+const STATES: [(ShardCall, usize, u128, [bool; 2]); 9] = [
+    (Prune(0), 0, 0, [false, false]),
+    (Begin(1, 1), 1, 1, [false, false]),
+    (Use(2), 2, 1, [false, true]),
+    (Ready(1, 0, 10), 2, 1, [true, true]),
+    (Release(1, 0), 2, 0, [true, true]),
+    (Use(3), 3, 0, [true, true]),
+    (AdviceEvict(1), 2, 0, [false, true]),
+    (Prune(0), 1, 0, [false, false]),
+    (Fail(0, 0), 1, 0, [false, false]),
 ];
 
 #[test]
 fn entries_of_all_shards_are_counted(rt: HostRuntime) -> Result<(), test::Fail> {
     let alloc = rt.alloc();
     let mut shards: Shards<u64, u64, ByOwnNumber> = Shards::new(alloc, 4, 2, ByOwnNumber)?;
-    for (call, len, values) in STATES {
+    for (call, len, pinned, values) in STATES {
         let _answer = shards.answer(alloc, call)?;
         assert_eq!(rt; shards.len(), len, "after {call:?}");
         assert_eq!(rt; shards.is_empty(), len == 0, "after {call:?}");
+        assert_eq!(rt; shards.pinned_charge(), pinned, "after {call:?}");
         let found = [shards.contains(&1), shards.contains(&2)];
         assert_eq!(rt; found, values, "after {call:?}");
     }
     assert_eq!(rt; format!(in alloc; "{shards:?}")?.as_str(), "[{}, {3: 3}]");
     Ok(())
+}
+
+#[test]
+fn pinned_charges_of_all_shards_are_summed(rt: HostRuntime) -> Result<(), Refusal> {
+    let cache: LruCache<u64, u64, &HostRuntime, ByOwnNumber> = LruCache::with_shards_hasher(
+        rt.alloc(),
+        &rt,
+        6,
+        3,
+        ByOwnNumber,
+    )?;
+    let first = cache.get_or_init(0, 1, |key| *key)?;
+    let second = cache.get_or_init(1, u64::MAX, |key| *key)?;
+    drop(cache.get_or_init(2, 2, |key| *key)?);
+    assert_eq!(rt; cache.pinned_charge(), 1 + u128::from(u64::MAX));
+    assert_eq!(rt; cache.total_charge(), 3 + u128::from(u64::MAX));
+    drop(second);
+    assert_eq!(rt; cache.pinned_charge(), 1);
+    drop(first);
+    assert_eq!(rt; cache.pinned_charge(), 0);
+    Ok(())
+}
+
+// Each entry counts in its own shard: one that is being made, one that is detached, and one of each
+// shard that is held.
+#[test]
+fn pinned_charges_are_those_of_each_state(rt: HostRuntime) {
+    let made: Result<LruCache<u64, u64, &HostRuntime, ByOwnNumber>, _> =
+        LruCache::with_shards_hasher(rt.alloc(), &rt, 90, 3, ByOwnNumber);
+    let cache = made.expect(&rt, "memory");
+    assert_eq!(rt; cache.pinned_charge(), 0);
+    let mut while_made = None;
+    let last = cache.get_or_init(2, 1, |_| {
+        while_made = Some(cache.pinned_charge());
+        5
+    });
+    assert_eq!(rt; while_made, Some(1));
+    let old = cache.insert(&1, 2, 5);
+    cache.invalidate(&1);
+    let new = cache.insert(&1, 4, 5);
+    let first = cache.insert(&0, 8, 5);
+    drop(cache.insert(&3, 16, 5));
+    assert_eq!(rt; (cache.total_charge(), cache.pinned_charge()), (31, 15));
+    drop(new);
+    assert_eq!(rt; (cache.total_charge(), cache.pinned_charge()), (31, 11));
+    drop(old);
+    assert_eq!(rt; (cache.total_charge(), cache.pinned_charge()), (29, 9));
+    drop(first);
+    assert_eq!(rt; (cache.total_charge(), cache.pinned_charge()), (29, 1));
+    drop(last);
+    assert_eq!(rt; (cache.total_charge(), cache.pinned_charge()), (29, 0));
 }
 
 #[test]

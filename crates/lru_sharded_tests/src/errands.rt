@@ -1,5 +1,5 @@
-//! Values whose drops use a sharded cache, and other shards than their own: whatever evicts them, no
-//! lock is held, and the books are right afterwards.
+//! Values whose drops use a sharded cache, and other shards than their own: whatever evicts them,
+//! no lock is held, and the books are right afterwards.
 
 use concurrent_lru::sharded::LruCache;
 use lru_fixtures::errands::{Errands, Outcome, Sent, VALUES, evicts, serve};
@@ -11,7 +11,8 @@ use std::thread;
 use std::thread::Threads;
 
 // What evicts, the capacity of two shards, and what comes of it. Where the first value alone is
-// evicted, its errand evicts the second, of the other shard, and so on, so the drops end last first.
+// evicted, its errand evicts the second, of the other shard, and so on, so the drops end last
+// first.
 static CAUSES: [(Cause, u64, Outcome); 6] = [
     (
         Cause::Begin,

@@ -7,6 +7,8 @@ mod careless;
 #[cfg(test)]
 mod contents;
 #[cfg(test)]
+mod counts;
+#[cfg(test)]
 mod crossings;
 #[cfg(test)]
 mod errands;
@@ -28,6 +30,8 @@ mod makings;
 mod meetings;
 #[cfg(test)]
 mod nested;
+#[cfg(test)]
+mod owned;
 #[cfg(test)]
 mod pure;
 #[cfg(test)]

@@ -70,4 +70,8 @@ fn one_value_for_two_callers(rt: HostRuntime) {
     // The charge is the maker's.
     let (third, total) = thread::join(&rt, || found(&cache), || cache.total_charge());
     assert_eq!(rt; (third, total), (Some(5), 3));
+    // The second waited, or came later and hit.
+    let counts = cache.counts();
+    assert_eq!(rt; (counts.misses, counts.makings, counts.insertions), (1, 1, 1));
+    assert_eq!(rt; counts.hits.wrapping_add(counts.waits), 2);
 }

@@ -20,6 +20,12 @@ pub trait Cached<V>: Copy {
     /// `get`.
     fn found(self, key: u64) -> Result<Option<Self::Handle>, Refusal>;
 
+    /// `read`.
+    fn seen<T, G>(self, key: u64, reader: G) -> Result<Option<T>, Refusal>
+    where
+        G: FnOnce(&V) -> T + Drop,
+        requires callable { (v : V) → FnOnceTakesAt G.FnOnce reader v };
+
     /// `get_or_init`.
     fn made<I>(self, key: u64, charge: u64, init: I) -> Result<Self::Handle, Refusal>
     where
@@ -69,6 +75,14 @@ impl<'a, V: Drop, R: Wait> Cached<V> for &'a unsharded::LruCache<u64, V, R> {
 
     fn found(self, key: u64) -> Result<Option<Self::Handle>, Refusal> {
         self.get(key)
+    }
+
+    fn seen<T, G>(self, key: u64, reader: G) -> Result<Option<T>, Refusal>
+    where
+        G: FnOnce(&V) -> T + Drop,
+        requires callable { (v : V) → FnOnceTakesAt G.FnOnce reader v }
+    {
+        self.read(&key, reader)
     }
 
     fn made<I>(self, key: u64, charge: u64, init: I) -> Result<Self::Handle, Refusal>
@@ -133,6 +147,14 @@ impl<'a, V: Drop, R: Wait, S: BuildHasher> Cached<V> for &'a sharded::LruCache<u
 
     fn found(self, key: u64) -> Result<Option<Self::Handle>, Refusal> {
         self.get(key)
+    }
+
+    fn seen<T, G>(self, key: u64, reader: G) -> Result<Option<T>, Refusal>
+    where
+        G: FnOnce(&V) -> T + Drop,
+        requires callable { (v : V) → FnOnceTakesAt G.FnOnce reader v }
+    {
+        self.read(&key, reader)
     }
 
     fn made<I>(self, key: u64, charge: u64, init: I) -> Result<Self::Handle, Refusal>

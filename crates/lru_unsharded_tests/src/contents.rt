@@ -1,4 +1,5 @@
-//! How many entries there are and which keys have a value, asked of a cache that threads share.
+//! How many entries there are, how much of the total is pinned, and which keys have a value, asked
+//! of a cache that threads share.
 
 use concurrent_lru::unsharded::{LruCache, Refusal};
 use std::sync::Wait;
@@ -32,6 +33,29 @@ fn entries_are_counted_and_values_found(rt: HostRuntime) -> Result<(), Refusal> 
     assert_eq!(rt; seen(&cache), (1, false, [true, false]));
     cache.prune();
     assert_eq!(rt; seen(&cache), (0, true, [false, false]));
+    Ok(())
+}
+
+#[test]
+fn pinned_charges_are_summed(rt: HostRuntime) -> Result<(), Refusal> {
+    let cache: LruCache<u64, u64, &HostRuntime> = LruCache::new(rt.alloc(), &rt, 9);
+    assert_eq!(rt; cache.pinned_charge(), 0);
+    let mut while_made = None;
+    let old = cache.get_or_init(1, 3, |key| {
+        while_made = Some(cache.pinned_charge());
+        *key
+    })?;
+    assert_eq!(rt; while_made, Some(3));
+    drop(cache.get_or_init(2, 2, |key| *key)?);
+    assert_eq!(rt; (cache.total_charge(), cache.pinned_charge()), (5, 3));
+    cache.invalidate(&1);
+    let new = cache.get_or_init(1, 4, |key| *key)?;
+    assert_eq!(rt; (cache.total_charge(), cache.pinned_charge()), (9, 7));
+    drop(new);
+    // What was invalidated counts until its last handle is dropped.
+    assert_eq!(rt; (cache.total_charge(), cache.pinned_charge()), (9, 3));
+    drop(old);
+    assert_eq!(rt; (cache.total_charge(), cache.pinned_charge()), (6, 0));
     Ok(())
 }
 

@@ -227,8 +227,8 @@ fn comes_meanwhile<R: Wait>(
     }
 }
 
-// Whoever waited for the old making has its outcome, and no value stays; whoever came later made the
-// value anew, and that one stays.
+// Whoever waited for the old making has its outcome, and no value stays; whoever came later made
+// the value anew, and that one stays.
 #[test]
 fn a_waiter_has_the_outcome_of_its_making(rt: HostRuntime) {
     for _ in 0..50u32 {

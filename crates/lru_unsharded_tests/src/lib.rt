@@ -9,6 +9,8 @@ mod changes;
 #[cfg(test)]
 mod contents;
 #[cfg(test)]
+mod counts;
+#[cfg(test)]
 mod crossings;
 #[cfg(test)]
 mod errands;

@@ -25,8 +25,8 @@ impl Meeting {
     }
 }
 
-// The value of key 1, made as 5 while the other caller comes.
-fn makes_first<R: Wait>(cache: &LruCache<u64, u64, R>, meeting: &Meeting) -> Option<u64> {
+/// The value of key 1, made as 5 while the other caller comes.
+pub(crate) fn makes_first<R: Wait>(cache: &LruCache<u64, u64, R>, meeting: &Meeting) -> Option<u64> {
     let mut met = false;
     let made = cache.get_or_init(1, 3, |_| {
         raise(&meeting.started);
@@ -83,8 +83,8 @@ fn one_value_for_two_callers(rt: HostRuntime) {
     assert_eq!(rt; (third, total), (Some(5), 3));
 }
 
-// Fails to make key 1 once the other caller comes, and says whether it did.
-fn fails_first<R: Wait>(cache: &LruCache<u64, u64, R>, meeting: &Meeting) -> bool {
+/// Fails to make key 1 once the other caller comes, and says whether it did.
+pub(crate) fn fails_first<R: Wait>(cache: &LruCache<u64, u64, R>, meeting: &Meeting) -> bool {
     let made = cache.get_or_try_init(1, 3, |_| -> Result<u64, u8> {
         raise(&meeting.started);
         let error = if meets(&meeting.coming) { 9 } else { 8 };
@@ -94,8 +94,8 @@ fn fails_first<R: Wait>(cache: &LruCache<u64, u64, R>, meeting: &Meeting) -> boo
     matches!(&made, Err(GetError::Init(9)))
 }
 
-// The value of key 1, which this caller makes as 5 where the other has failed.
-fn takes_over<R: Wait>(cache: &LruCache<u64, u64, R>, meeting: &Meeting) -> Option<u64> {
+/// The value of key 1, which this caller makes as 5 where the other has failed.
+pub(crate) fn takes_over<R: Wait>(cache: &LruCache<u64, u64, R>, meeting: &Meeting) -> Option<u64> {
     if !meets(&meeting.started) {
         return None;
     }

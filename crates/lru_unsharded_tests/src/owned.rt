@@ -1,8 +1,9 @@
 //! Handles are read as their values, and owned ones keep their cache alive.
 
-use concurrent_lru::unsharded::{LruCache, OwnedHandle};
+use concurrent_lru::unsharded::{GetError, LruCache, OwnedHandle};
 use std::alloc::Global;
 use std::sync::{Arc, Wait};
+use std::thread;
 
 #[test]
 fn a_handle_is_read_as_its_value(rt: HostRuntime) {
@@ -22,8 +23,9 @@ fn an_entry_stays_until_its_owned_handles_are_dropped(rt: HostRuntime) {
         .expect(&rt, "memory")
         .expect(&rt, "an entry");
     assert_eq!(rt; (*first, *second), (5, 5));
+    assert_eq!(rt; Arc::strong_count(&shared), 3);
     drop(first);
-    assert_eq!(rt; shared.total_charge(), 3);
+    assert_eq!(rt; (shared.total_charge(), shared.pinned_charge()), (3, 3));
     drop(second);
     assert_eq!(rt; shared.total_charge(), 0);
     assert_eq!(rt; Arc::strong_count(&shared), 1);
@@ -35,7 +37,7 @@ fn an_owned_init_may_fail(rt: HostRuntime) {
     let cache: LruCache<u64, u64, &HostRuntime> = LruCache::new(alloc, &rt, 10);
     let shared = Arc::new(alloc, cache).expect(&rt, "memory");
     let failed = LruCache::get_or_try_init_owned(&shared, &1, 3, |_| Err::<u64, u64>(9));
-    assert!(rt; failed.is_err());
+    assert!(rt; matches!(&failed, Err(GetError::Init(9))));
     assert_eq!(rt; shared.total_charge(), 0);
     let made = LruCache::get_or_try_init_owned(&shared, &1, 3, |_| Ok::<u64, u64>(4)).ok();
     assert_eq!(rt; made.map(|handle| *handle), Some(4));
@@ -55,4 +57,36 @@ fn an_owned_handle_keeps_its_cache_alive(rt: HostRuntime) {
     assert_eq!(rt; *handle, 5);
     let text = format!(in alloc; "{handle:?}").expect(&rt, "memory");
     assert_eq!(rt; text.as_str(), "5");
+}
+
+// What a handle reads, and lets go.
+fn read_last<R: Wait + Drop>(handle: OwnedHandle<u64, u64, R>) -> u64 {
+    *handle
+}
+
+#[test]
+fn an_owned_handle_ends_on_another_thread(rt: HostRuntime) {
+    let own = rt.clone().expect(&rt, "memory");
+    let handle = alone(rt.alloc(), own).expect(&rt, "memory");
+    let reader = thread::spawn(&rt, move || read_last(handle)).expect(&rt, "a thread");
+    assert_eq!(rt; reader.join(&rt), 5);
+}
+
+// Each call counts as the one that it is named after.
+#[test]
+fn owned_calls_are_counted(rt: HostRuntime) {
+    let alloc = rt.alloc();
+    let cache: LruCache<u64, u64, &HostRuntime> = LruCache::new(alloc, &rt, 0);
+    let shared = Arc::new(alloc, cache).expect(&rt, "memory");
+    assert!(rt; matches!(LruCache::get_owned(&shared, &1), Ok(None)));
+    drop(LruCache::get_or_try_init_owned(&shared, &1, 3, |_| Err::<u64, u64>(9)));
+    let handle = LruCache::get_or_init_owned(&shared, &1, 3, |_| 5).expect(&rt, "memory");
+    drop(LruCache::get_or_try_init_owned(&shared, &1, 7, |_| Ok::<u64, u64>(6)));
+    drop(LruCache::get_owned(&shared, &1));
+    let held = shared.counts();
+    assert_eq!(rt; (held.hits, held.misses, held.refusals), (2, 3, 0));
+    assert_eq!(rt; (held.makings, held.failures), (2, 1));
+    assert_eq!(rt; (held.insertions, held.evictions, held.removals), (2, 0, 1));
+    drop(handle);
+    assert_eq!(rt; (shared.counts().evictions, shared.counts().evicted_charge), (1, 3));
 }

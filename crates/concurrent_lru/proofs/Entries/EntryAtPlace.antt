@@ -1,4 +1,5 @@
--- What the node at a place says of the cache: its entry under its stamp and its key, and the pins it may have.
+-- What the node at a place says of the cache: its entry under its stamp and its key, and the pins
+-- it may have.
 use Rattle.std.proofs.Common.{◌≡◌, ◌≢◌, ℕ, ◌<◌, ◌≤◌, ◌⊎◌, inl, inr, Bool, true, false, Some, refl, sym, ap, ◌∙◌, arith, ◌==◌}
 use Rattle.std.specs.Prelude.{IsSome, is_some}
 use Rattle.std.specs.Cmp.{IsEquivalence}

@@ -6,7 +6,7 @@ use Rattle.std.specs.Ordering.{nat_cmp}
 use Rattle.std.specs.Cmp.{nat_cmp_total}
 use Rattle.std.specs.FinMap.{FinMap, get, insert, get-insert, same_map, nat_cmp-IsAntisymmetric}
 use Rattle.std.specs.HashMap.{HashMap}
-use Rattle.concurrent_lru.specs.Cache.{Idle}
+use Rattle.concurrent_lru.specs.Cache.{Idle, charges}
 use Rattle.concurrent_lru.specs.Entries.{charges_of}
 use Rattle.concurrent_lru.specs.NodeTable.{Entry, NodeTable, entry_with_pins}
 use Rattle.concurrent_lru.specs.Reads.{RenewsAt}
@@ -16,7 +16,7 @@ use Rattle.concurrent_lru.specs.Indexes.{IsStored, entries_of}
 use Rattle.concurrent_lru.proofs.Entries.NodeWrittenOrAdded.{WritesNode, inserted_at}
 use Rattle.concurrent_lru.proofs.Entries.EntryWritten.{stored_revived, entries_revived_by_one, stored_rested, entries_rested}
 use Rattle.concurrent_lru.proofs.Entries.NodeAtPlace.{idle_like, idle_found, idle_unheld, held_found, place_at}
-use Rattle.concurrent_lru.proofs.Entries.SumsOfCharges.{sum_revived, sum_rested, stamps_apart}
+use Rattle.concurrent_lru.proofs.Entries.SumsOfCharges.{idle_less, idle_more, sum_revived, sum_rested, stamps_apart}
 use Rattle.concurrent_lru.proofs.Lists.DistinctEntries.{same, same-true}
 use Rattle.concurrent_lru.proofs.Lists.Members.{IsIn}
 use Rattle.concurrent_lru.proofs.Steps.BeginOfAbsent.{as_idle-ready}
@@ -93,3 +93,12 @@ module _ {K V S : Type 0} {C : K → K → Type 0} {E : K → K → Bool} {t t' 
       let there = entries_renewed in
       sum_rested (entries_of (between t p e)) (entries_of t') e.stamp (held_entry (entry_with_pins 1 e)) x (ap (λ u. u.idle) there.rested.changed) (ap (λ u. u.held) there.rested.changed) there.rested.was.held refl
       ∙ sum_revived (entries_of t) (entries_of (between t p e)) e.stamp x _ (stamps_apart t _ r.represents) (ap (λ u. u.idle) there.revived.changed) (ap (λ u. u.held) there.revived.changed) there.revived.idle (idle_unheld r p e w.at w.there) refl
+
+  pub rests_renewed : charges (entries_of t').idle ≡ charges (entries_of t).idle
+  unfolding entries_renewed
+  rests_renewed =
+      let l = idle_like r p e w.at w.there in
+      let x : Idle K V = record { stamp = e.stamp; key = e.key; charge = e.charge; value = l.0 } in
+      let there = entries_renewed in
+      idle_more (entries_of (between t p e)) (entries_of t') x (ap (λ u. u.idle) there.rested.changed)
+      ∙ idle_less (entries_of t) (entries_of (between t p e)) e.stamp x (stamps_apart t _ r.represents) (ap (λ u. u.idle) there.revived.changed) there.revived.idle

@@ -1,4 +1,5 @@
--- What a table stores, and its entries, where one node is written: a held one, one that is revived, one that comes to rest.
+-- What a table stores, and its entries, where one node is written: a held one, one that is revived,
+-- one that comes to rest.
 use Rattle.std.proofs.Common.{◌≡◌, ℕ, Bool, ◌<◌, ◌+◌, ◌++◌, ◌∷◌, [], false, not, cond, Some, None, refl, sym, ap, ◌∙◌, eqb, ◌==◌, arith}
 use Rattle.std.specs.List.{filter}
 use Rattle.std.specs.FinMap.{get, insert, remove, keys}

@@ -1,4 +1,5 @@
--- The nodes and the maps that index them: at a start, after a growth, an insert, a write and a removal.
+-- The nodes and the maps that index them: at a start, after a growth, an insert, a write and a
+-- removal.
 use Rattle.std.proofs.Common.{◌≡◌, ◌≢◌, ℕ, ◌⊎◌, inl, inr, Bool, true, false, cond, Option, Some, None, refl, sym, ap, ◌∙◌, eqb}
 use Rattle.std.specs.Ordering.{nat_cmp}
 use Rattle.std.specs.Cmp.{IsEquivalence}
@@ -179,7 +180,8 @@ module _ {K V : Type 0} {E : K → K → Bool} where
               ];
         }
 
-  -- a node is written, keeps its key and its stamp, and is detached where it was; a node without pins is not
+  -- a node is written, keeps its key and its stamp, and is detached where it was; a node without
+  -- pins is not
   pub indexed_written : {m n : FinMap nat_cmp (Entry K V)} {f : K → Option ℕ} {g : Stamps} (p : ℕ) (e d : Entry K V) → IsIndexed E m f g → n ≡ insert m p d → get m p ≡ Some e → d.key ≡ e.key → d.stamp ≡ e.stamp → d.detached ≡ e.detached → (d.pins ≡ 0 → e.detached ≡ false) → IsIndexed E n f g
   indexed_written {m} {n} {f} {g} p e d t is at same_key same_stamp same_found idle =
       let here : get n p ≡ Some d = ap (λ x. get x p) is ∙ inserted_at m p d in

@@ -40,7 +40,7 @@ pub no_first : (xs : List ℕ) → slice_get xs 0 ≡ None → xs ≡ []
 no_first [] h = refl
 no_first (x ∷ xs) h = absurd (none-some x (sym h))
 
-some_of : {A : Type 0} (o : Rattle.std.proofs.Common.Option A) → IsSome o → (x : A) × (o ≡ Some x)
+pub some_of : {A : Type 0} (o : Rattle.std.proofs.Common.Option A) → IsSome o → (x : A) × (o ≡ Some x)
 some_of None h = absurd (true≢false (sym h))
 some_of (Some x) h = (x, refl)
 

@@ -1,4 +1,5 @@
--- The keys of a map of nodes as its places, and the held entries and stamps, which are the same whatever the order of the places.
+-- The keys of a map of nodes as its places, and the held entries and stamps, which are the same
+-- whatever the order of the places.
 use Rattle.std.proofs.Common.{◌≡◌, ℕ, Bool, true, false, ◌&&◌, cond, List, [], ◌∷◌, map, Option, Some, None, refl, sym, ap, ◌∙◌, subst, eqb, length, arith}
 use Rattle.std.specs.Prelude.{T, is_some}
 use Rattle.std.specs.List.{list_any, IsDistinct, AllByRecursion, filter_map}

@@ -1,5 +1,6 @@
--- The sum of the charges: with an entry more, one less, one written, and where one comes to rest or is revived.
-use Rattle.std.proofs.Common.{◌≡◌, ℕ, ◌+◌, ◌≤◌, false, cond, not, List, [], ◌∷◌, ◌++◌, Option, Some, None, map, refl, sym, ap, ◌∙◌, subst, eqb, ◌==◌, ◌||◌, arith}
+-- The sum of the charges: with an entry more, one less, one written, and where one comes to rest or
+-- is revived.
+use Rattle.std.proofs.Common.{◌≡◌, ℕ, ◌+◌, ◌-◌, ◌≤◌, false, cond, not, List, [], ◌∷◌, ◌++◌, Option, Some, None, map, refl, sym, ap, ◌∙◌, subst, eqb, ◌==◌, ◌||◌, arith}
 use Rattle.std.specs.Prelude.{sum_by}
 use Rattle.std.specs.List.{IsDistinct, AllByRecursion, list_any, filter_map, cons_option, find}
 use Rattle.std.specs.Option.{option_and_then}
@@ -22,6 +23,10 @@ use Rattle.concurrent_lru.proofs.Entries.SumsOfHeld.{sum_by-cons, sum-insert, su
 pub less_alike : (left total sum all n : ℕ) → left + n ≡ total → sum + n ≡ all → total ≡ all → left ≡ sum
 less_alike left total sum all n a b c = omega (arith, a, b, c)
 
+-- and what is left where a part is taken off
+pub less_left : (total sum all n : ℕ) → total ≡ all → sum + n ≡ all → total - n ≡ sum
+less_left total sum all n a b = omega (arith, a, b)
+
 pub absent_in : (q : ℕ) (xs : List ℕ) → AllByRecursion (λ y. eqb q y ≡ false) xs → IsIn q xs → ⊥
 absent_in q [] h m = true≢false (sym m)
 absent_in q (x ∷ xs) h m = absent_in q xs h.1 (sym (ap (λ b. b || list_any (eqb q) xs) h.0) ∙ m)
@@ -34,6 +39,19 @@ module _ {K V : Type 0} where
       let b = sum_by-cons (λ (z : Idle K V). z.charge) x xs in
       let c = charges-append xs ys in
       omega (arith, a, b, c)
+
+  -- the sum of the idle entries, with one less, and with one more
+  pub idle_less : (t u : Entries K V) (s : ℕ) (x : Idle K V) → IsDistinct eqb (map (λ y. y.stamp) t.idle) → u.idle ≡ without s t.idle → find (λ z. z.stamp == s) t.idle ≡ Some x → charges u.idle + x.charge ≡ charges t.idle
+  idle_less t u s x apart i at =
+      let a : charges u.idle ≡ charges (without s t.idle) = ap charges i in
+      let c : charges (without s t.idle) + x.charge ≡ charges t.idle = charges_without s x t.idle apart at in
+      omega (arith, a, c)
+
+  pub idle_more : (t u : Entries K V) (x : Idle K V) → u.idle ≡ t.idle ++ x ∷ [] → charges u.idle ≡ charges t.idle + x.charge
+  idle_more t u x i =
+      let a : charges u.idle ≡ charges t.idle + charges (x ∷ []) = ap charges i ∙ charges-append t.idle (x ∷ []) in
+      let o : charges (x ∷ []) ≡ x.charge + charges {K = K} {V = V} [] = sum_by-cons (λ (z : Idle K V). z.charge) x [] in
+      omega (arith, a, o)
 
   pub sum_none : (t : Entries K V) → t.idle ≡ [] → t.held ≡ empty → charges_of t ≡ 0
   sum_none t i h =

@@ -1,4 +1,5 @@
--- The step of a cache in which a value is stored, or comes back since no entry is being made under the stamp.
+-- The step of a cache in which a value is stored, or comes back since no entry is being made under
+-- the stamp.
 use Rattle.std.proofs.Common.{◌≡◌, ℕ, inl, Bool, [], Some, Result, Ok, Err, sym, ap, ◌∙◌, subst}
 use Rattle.std.specs.Prelude.{OnOk, OnErr}
 use Rattle.std.specs.FinMap.{get}

@@ -1,4 +1,5 @@
--- What the slots show: the node at a place, whether it is idle, and what an insert, a write and a removal do to both.
+-- What the slots show: the node at a place, whether it is idle, and what an insert, a write and a
+-- removal do to both.
 use Rattle.std.proofs.Common.{◌≡◌, ◌≢◌, ℕ, ◌-◌, List, [], ◌∷◌, map, Option, Some, None, refl, sym, ap, ◌∙◌, subst, arith, ◌≤◌, IsSome, inl, inr, Bool, eqb}
 use Rattle.std.proofs.Common.{is_some}
 use Rattle.std.specs.List.{list_any}

@@ -26,7 +26,8 @@ use Rattle.concurrent_lru.proofs.Runs.WeightOfKey.{any_right, apart_end, any_oth
 
 module _ {K V : Type 0} (E : K → K → Bool) where
   module _ (price : K → ℕ) (eq : IsEquivalence E) (p : AgreesOnEqual E price) (first : ℕ) where
-    -- after these steps nothing is held, and the idle entries are those of the used keys that always fitted
+    -- after these steps nothing is held, and the idle entries are those of the used keys that
+    -- always fitted
     pub record IsNow (es : List (Request K V × Outcome K V)) (c : Cache K V) : Type 0 where
       pub held : c.held ≡ finmap.empty
       pub capacity : c.capacity ≡ capacity_after first es

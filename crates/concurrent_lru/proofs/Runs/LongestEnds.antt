@@ -1,4 +1,5 @@
--- The longest end that fits, by recursion from the front: ends of idle lists after settling, and of lists of keys.
+-- The longest end that fits, by recursion from the front: ends of idle lists after settling, and of
+-- lists of keys.
 use Rattle.std.proofs.Common.{◌≡◌, ℕ, ◌+◌, ◌<◌, ◌≤◌, ◌⊎◌, inl, inr, Bool, true, false, cond, not, List, [], ◌∷◌, ◌++◌, length, refl, sym, ap, ◌∙◌, subst, arith, ◌||◌}
 use Rattle.std.specs.List.{sum_by, filter, list_any}
 use Rattle.std.specs.Cmp.{IsEquivalence}

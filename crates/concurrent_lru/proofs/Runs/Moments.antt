@@ -59,7 +59,8 @@ module _ {K V : Type 0} (E : K → K → Bool) (price : K → ℕ) (first : ℕ)
   pub fitted_now : (es : List (Request K V × Outcome K V)) (q : K) → AlwaysFitted E price first es q → FitsNow es q
   fitted_now es q h = h es [] (sym (append-nil es)) refl
 
-  -- One step more adds one moment. Where the step uses the key, the moments before it count no more.
+  -- One step more adds one moment. Where the step uses the key, the moments before it count no
+  -- more.
   pub fitted_before : (es : List (Request K V × Outcome K V)) (e : Request K V × Outcome K V) (q : K) → AlwaysFitted E price first (es ++ e ∷ []) q → list_any (E q) (uses (e ∷ [])) ≡ false → AlwaysFitted E price first es q
   fitted_before es e q h n a b p m =
       h a (b ++ e ∷ []) (ap (λ zs. zs ++ e ∷ []) p ∙ append_assoc a b (e ∷ [])) (ap (list_any (E q)) (uses-append b (e ∷ [])) ∙ any_none (E q) (uses b) (uses (e ∷ [])) m n)

@@ -1,4 +1,5 @@
--- What every run promises: what plain runs leave, with changes of capacity and without, and that each stamp stands once.
+-- What every run promises: what plain runs leave, with changes of capacity and without, and that
+-- each stamp stands once.
 use Rattle.std.proofs.Common.{◌≡◌, ℕ, ◌<◌, ◌≤◌, ◌↔◌, inl, inr, Bool, true, false, List, [], ◌∷◌, length, map, refl, sym, ap, ◌∙◌, subst, arith}
 use Rattle.std.specs.List.{zip, sum_by, list_any, AllByRecursion}
 use Rattle.std.specs.Cmp.{IsEquivalence}

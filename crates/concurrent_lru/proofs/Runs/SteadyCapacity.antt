@@ -1,4 +1,5 @@
--- The weight of a key only grows from its last use on, so the weight at the end decides wherever the capacity stays.
+-- The weight of a key only grows from its last use on, so the weight at the end decides wherever
+-- the capacity stays.
 use Rattle.std.proofs.Common.{◌≡◌, ℕ, ◌+◌, ◌≤◌, Bool, true, false, cond, not, List, [], ◌∷◌, ◌++◌, refl, sym, ap, ◌∙◌, subst, arith}
 use Rattle.std.specs.List.{AllByRecursion, sum_by, list_any}
 use Rattle.std.specs.Cmp.{IsEquivalence}

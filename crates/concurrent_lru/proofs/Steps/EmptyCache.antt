@@ -11,7 +11,7 @@ use Rattle.concurrent_lru.proofs.Steps.FoundEntries.{found_entry}
 pub no_entries : {X : Type 0} → entries (empty {X = X} {R = nat_cmp}) ≡ []
 no_entries {X} = nil_from_length (entries (empty {X = X} {R = nat_cmp})) (sym (len-entries (empty {X = X} {R = nat_cmp})) ∙ len-empty nat_cmp X)
 
-empty_sum : (K V : Type 0) (capacity most next : ℕ) → sum_of (empty_cache {K = K} {V = V} capacity most next) ≡ 0
+pub empty_sum : (K V : Type 0) (capacity most next : ℕ) → sum_of (empty_cache {K = K} {V = V} capacity most next) ≡ 0
 empty_sum K V capacity most next =
     let a : sum_by (λ (e : Held K V). e.charge) (values (empty {X = Held K V} {R = nat_cmp})) ≡ 0 = ap (λ es. sum_by (λ (e : Held K V). e.charge) (Rattle.std.proofs.Common.map (λ e. e.1) es)) no_entries in
     omega (arith, a)

@@ -34,7 +34,7 @@ module _ {K V : Type 0} where
     | false ↦ ap (λ ys. x.stamp ∷ ys) (map_without s xs)
   ]
 
-  without_none : (s : ℕ) (xs : List (Idle K V)) → AllByRecursion (λ z. eqb s z ≡ false) (map (λ z. z.stamp) xs) → without s xs ≡ xs
+  pub without_none : (s : ℕ) (xs : List (Idle K V)) → AllByRecursion (λ z. eqb s z ≡ false) (map (λ z. z.stamp) xs) → without s xs ≡ xs
   without_none s [] h = refl
   without_none s (x ∷ xs) h = ap (λ b. cond (not b) (x ∷ without s xs) (without s xs)) (nat_eq_equiv.symm x.stamp s ∙ h.0) ∙ ap (λ ys. x ∷ ys) (without_none s xs h.1)
 

@@ -337,7 +337,8 @@ module _ {K V : Type 0} (E : K → K → Bool) where
     ready_kept old new s k v (accepted (say.sum n) out) eq law lawful at fit h kept = absurd h
     ready_kept old new s k v (refused e) eq law lawful at fit h kept = kept_fewer old new (fewer_same old new h.1) kept
 
-    -- where it is done only under a stamp whose entry has the key, the values fit whether it is done or not
+    -- where it is done only under a stamp whose entry has the key, the values fit whether it is
+    -- done or not
     pub keyed_kept : (old new : Cache K V) (s : ℕ) (k : K) (v : V) (r : Result (Unit {0}) (Arc V Global)) → IsEquivalence E → EqualKeysFit E fits → IsLawful E old → fits k v → OnOk r (HasEqualKeyAt E old s k) → OnErr r (new ≡ old)
         → (HasEqualKeyAt E old s k → Stands E old (ask.ready s v) (outcome_of_ready r) new) → ValuesFit fits old → ValuesFit fits new
     keyed_kept old new s k v (Ok x) eq law lawful fit keyed same stands kept = ready_kept old new s k v (accepted say.done []) eq law lawful keyed fit (stands keyed) kept

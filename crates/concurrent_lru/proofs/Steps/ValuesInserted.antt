@@ -30,6 +30,18 @@ module _ {K V : Type 0} (E : K → K → Bool) where
       let pins = l.pinned s own (ap (λ x. finmap.get x.held s) h.changed ∙ inserted_at c.held s own) in
       omega (arith, pins.0, pins.1)
 
+  -- the cache between an insert's invalidate and its begin is lawful
+  pub invalidated_lawful : (old new : Cache K V) (k : K) (charge : ℕ) (v : V) (s : ℕ) (replaced evicted : List (Idle K V)) → IsEquivalence E → IsLawful E old → IsLawful E new → (r : Replaces E old k charge v s replaced evicted new) → IsLawful E r.0
+  invalidated_lawful old new k charge v s replaced evicted laws l last r =
+      let mid = r.0 in
+      let begun = r.2.0 in
+      let stores : Stands E begun (ask.ready s v) (accepted say.done []) new = subst (λ c. Stands E begun (ask.ready s v) (accepted say.done []) c) (sym r.2.2.2) r.2.2.1 in
+      let a = (keeps_limits K V E old mid (ask.invalidate k) (accepted say.done replaced) r.1).1 in
+      let b = (keeps_limits K V E mid begun (ask.begin k charge) (accepted (say.make s) evicted) r.2.1).1 in
+      let c = (keeps_limits K V E begun new (ask.ready s v) (accepted say.done []) stores).1 in
+      let pins : 0 < new.most_pins = some_pins begun new s v [] last stores in
+      outcome_lawful E laws old l (omega (arith, a, b, c, pins)) mid (ask.invalidate k) (accepted say.done replaced) tt r.1
+
   pub insert_kept : (fits : K → V → Type 0) (old new : Cache K V) (k : K) (charge : ℕ) (v : V) (s : ℕ) (replaced evicted : List (Idle K V)) → IsEquivalence E → EqualKeysFit E fits → IsLawful E old → IsLawful E new → 0 < charge → fits k v
       → Replaces E old k charge v s replaced evicted new → ValuesFit fits old → ValuesFit fits new
   insert_kept fits old new k charge v s replaced evicted laws law l last some fit r kept =
@@ -38,11 +50,10 @@ module _ {K V : Type 0} (E : K → K → Bool) where
       let begun = r.2.0 in
       let makes : Stands E mid (ask.begin k charge) (accepted (say.make s) evicted) begun = r.2.1 in
       let stores : Stands E begun (ask.ready s v) (accepted say.done []) new = subst (λ c. Stands E begun (ask.ready s v) (accepted say.done []) c) (sym r.2.2.2) r.2.2.1 in
-      let a = (keeps_limits K V E old mid (ask.invalidate k) (accepted say.done replaced) gone).1 in
       let b = (keeps_limits K V E mid begun (ask.begin k charge) (accepted (say.make s) evicted) makes).1 in
       let c = (keeps_limits K V E begun new (ask.ready s v) (accepted say.done []) stores).1 in
       let pins : 0 < new.most_pins = some_pins begun new s v [] last stores in
-      let lawful : IsLawful E mid = outcome_lawful E laws old l (omega (arith, a, b, c, pins)) mid (ask.invalidate k) (accepted say.done replaced) tt gone in
+      let lawful : IsLawful E mid = invalidated_lawful old new k charge v s replaced evicted laws l last r in
       let begun_lawful : IsLawful E begun = outcome_lawful E laws mid lawful (omega (arith, b, c, pins)) begun (ask.begin k charge) (accepted (say.make s) evicted) some makes in
       keyed_kept E fits begun new s k v (Ok tt) laws law begun_lawful fit (begun_key mid begun k charge s evicted makes) tt (λ _. stores)
       (begin_kept E fits mid begun k charge (accepted (say.make s) evicted) makes (invalidate_kept E fits old mid k replaced gone kept))

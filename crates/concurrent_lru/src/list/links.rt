@@ -26,8 +26,8 @@ fn set_links<K, V>(
     node.after = after;
 }
 
-// One link of a node. The other is not read: a neighbour was often written last by another processor, and then a
-// read before the write moves it twice.
+// One link of a node. The other is not read: a neighbour was often written last by another
+// processor, and then a read before the write moves it twice.
 fn link_before<K, V>(node: &mut Node<K, V>, before: Option<*mut Node<K, V>>)
     ensures { IsRelinked node.old node.new before (after_link node.old) }
 {
@@ -254,8 +254,9 @@ fn hold<K: Drop, V: Drop>(slots: &mut Slots<K, V>, link: *mut Node<K, V>, pins: 
     slots.follow_mut(link).hold(pins);
 }
 
-// Takes the node under a key out of the idle order with one pin, and copies its value. The node is looked up once, before the
-// copy: a processor reads nothing behind an atomic instruction before that has ended.
+// Takes the node under a key out of the idle order with one pin, and copies its value. The node is
+// looked up once, before the copy: a processor reads nothing behind an atomic instruction before
+// that has ended.
 pub(super) fn revive_at<K: Drop, V: Drop>(
     slots: &mut Slots<K, V>,
     oldest: &mut Option<usize>,

@@ -39,9 +39,9 @@ impl<K> Making<K> {
     }
 }
 
-/// A debt: a pin in an entry whose value another caller makes. `sleep` takes it; a release would not,
-/// since there is no value yet. It knows the key and the charge that were asked, and what the call
-/// that answered it left under the lock.
+/// A debt: a pin in an entry whose value another caller makes. `sleep` takes it; a release would
+/// not, since there is no value yet. It knows the key and the charge that were asked, and what the
+/// call that answered it left under the lock.
 pub struct Waiting<K: Hash + Eq + Clone, V, F: Fit<K, V>> {
     stamp: u64,
     place: Place,

@@ -18,6 +18,8 @@ pub enum ShardCall {
     Begin(u64, u64),
     /// `get` with a key.
     Get(u64),
+    /// `read` with a key, by a reader that copies the value.
+    Read(u64),
     /// `advice_evict` with a key.
     AdviceEvict(u64),
     /// `invalidate` with a key.
@@ -51,6 +53,7 @@ impl<S: BuildHasher + Drop> Answers<ShardCall> for Shards<u64, u64, S> {
             }
             ShardCall::Begin(..) => String::from_str(alloc, "a charge is above 0"),
             ShardCall::Get(key) => text_of(alloc, &self.get(&key)),
+            ShardCall::Read(key) => text_of(alloc, &self.read(&key, |value| *value)),
             ShardCall::AdviceEvict(key) => text_of(alloc, &self.advice_evict(&key)),
             ShardCall::Invalidate(key) => text_of(alloc, &self.invalidate(&key)),
             ShardCall::Poll(shard, stamp) => text_of(alloc, &self.poll(shard, stamp)),

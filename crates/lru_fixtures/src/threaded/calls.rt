@@ -19,6 +19,8 @@ pub enum Then {
 pub enum Call {
     /// `get` with a key.
     Get(u64, Then),
+    /// `read` with a key, by a reader that tells the value.
+    Read(u64),
     /// `get_or_init` with a key, a charge, and an `init` that gives this value.
     Init(u64, u64, u64, Then),
     /// `get_or_try_init` with a key, a charge, and an `init` that gives this value.
@@ -52,11 +54,13 @@ pub enum Call {
 pub enum Said {
     /// A handle, and `init` ran: its key, and the handle's value.
     Made(u64, u64),
+    /// This value, without a handle.
+    Read(u64),
     /// A handle of this value, and no `init` ran.
     Found(u64),
     /// A handle of this value, which was put in.
     Put(u64),
-    /// No handle.
+    /// No handle and no value.
     Absent,
     /// `init` failed: its key.
     Failed(u64),

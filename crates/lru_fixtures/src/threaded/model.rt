@@ -39,6 +39,7 @@ impl<P: Owned> Model<P> {
     fn take(&mut self, alloc: Global, call: Call) -> Result<Said, AllocError> {
         match call {
             Call::Get(key, then) => self.get(key, then),
+            Call::Read(key) => self.read(key),
             Call::Init(key, charge, value, then) | Call::TryInit(key, charge, value, then) => {
                 self.init(alloc, key, charge, Some(value), then)
             }
@@ -73,6 +74,14 @@ impl<P: Owned> Model<P> {
             }
             Ok(None) => Ok(Said::Absent),
             Err(refusal) => Ok(Said::Refused(refusal)),
+        }
+    }
+
+    // A read is a get whose handle is dropped at once.
+    fn read(&mut self, key: u64) -> Result<Said, AllocError> {
+        match self.get(key, Then::AtOnce)? {
+            Said::Found(value) => Ok(Said::Read(value)),
+            other => Ok(other),
         }
     }
 

@@ -52,6 +52,7 @@ impl<'l, R: Wait + Clone + Drop, C: Cached<Logged<R>>> Player<'l, R, C> {
                 Ok(self.put_in(key, charge, value, then))
             }
             Call::Get(key, then) => Ok(self.get(key, then)),
+            Call::Read(key) => Ok(self.read(key)),
             Call::LetGo(slot) => {
                 self.put(slot, None);
                 Ok(Said::Done)
@@ -81,6 +82,14 @@ impl<'l, R: Wait + Clone + Drop, C: Cached<Logged<R>>> Player<'l, R, C> {
     fn get(&mut self, key: u64, then: Then) -> Said {
         match self.cache.found(key) {
             Ok(Some(handle)) => Said::Found(self.keep(handle, then)),
+            Ok(None) => Said::Absent,
+            Err(refusal) => Said::Refused(refusal),
+        }
+    }
+
+    fn read(&self, key: u64) -> Said {
+        match self.cache.seen(key, |value| value.number()) {
+            Ok(Some(number)) => Said::Read(number),
             Ok(None) => Said::Absent,
             Err(refusal) => Said::Refused(refusal),
         }

@@ -13,7 +13,7 @@ const CALLS: u64 = 2_000;
 // The next call, whose value would be its number. The numbers of 16 keys differ in their high
 // half alone, in their low half alone, or in both.
 fn draw(generator: &mut Xoshiro256PlusPlus, number: u64) -> Call {
-    let kind = generator.next_u64() % 31;
+    let kind = generator.next_u64() % 34;
     let key = generator.next_u64() % 4 * 4_294_967_296 + generator.next_u64() % 4;
     let charge = 1 + generator.next_u64() % 9;
     let limit = generator.next_u64() % 48;
@@ -35,6 +35,7 @@ fn draw(generator: &mut Xoshiro256PlusPlus, number: u64) -> Call {
         24 => Call::Reserve(limit as usize),
         25..27 => Call::Invalidate(key),
         27..30 => Call::Insert(key, charge, number, then),
+        30..33 => Call::Read(key),
         _ => Call::Total,
     }
 }

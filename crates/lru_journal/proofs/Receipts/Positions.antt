@@ -123,7 +123,8 @@ module _ {A : Type 0} where
   same_slot zero (x ∷ xs) (y ∷ z ∷ zs) e h = absurd (omega (arith, e))
   same_slot (suc n) (x ∷ xs) ys e h = same_slot n xs ys e h
 
-  -- where the receipts stand, and their positions are the numbers below the count, each once, the records are exactly the receipts
+  -- where the receipts stand, and their positions are the numbers below the count, each once, the
+  -- records are exactly the receipts
   pub exactly : (log : List A) (xs : List (ℕ × A)) → Stand log xs → ((n : ℕ) → receipt_count_at n xs ≡ once_below n (length log)) → AreExactly log xs
   exactly log xs p once n = same_slot n log (receipts_at n xs) (length_at n xs ∙ once n) (first_at n log xs p)
 

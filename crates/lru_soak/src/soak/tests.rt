@@ -3,8 +3,8 @@
 use lru_stress::plan::Plan;
 use lru_stress::run::run;
 
-// The seed, the capacity of each cache, and how many makings, hits and evictions there are where one
-// worker makes 2,000 calls, and the greatest total: as the rules of the cache have it.
+// The seed, the capacity of each cache, and how many makings, hits and evictions there are where
+// one worker makes 2,000 calls, and the greatest total: as the rules of the cache have it.
 const ALONE: [(u64, u64, [u64; 3], u128); 4] = [
     (1, 100, [3504, 2496, 1754], 100),
     (1, 40, [4947, 1053, 2544], 40),
@@ -49,7 +49,8 @@ fn each_call_is_a_hit_or_a_making(rt: HostRuntime) {
 #[test]
 fn keys_go_to_several_shards(rt: HostRuntime) {
     let mut plan = plan_of(1, 1, 2_000);
-    // So that the greatest total is that of the shards: one of them keeps 8, and 4 while it is read.
+    // So that the greatest total is that of the shards: one of them keeps 8, and 4 while it is
+    // read.
     plan.lock_capacity = 1;
     let counts = run(&rt, rt.alloc(), &plan).expect(&rt, "ok");
     assert!(rt; counts.greatest > 12, "{}", counts.greatest);

@@ -14,5 +14,5 @@ invariant_of-self g c = record {
 pub returns-clause-step : goal.returns-clause-step
 returns-clause-step g c =
     let new = c.invalidate.new.self.cache in
-    let step = subst (λ old. Stands g.K.PartialEq.eq old (ask.invalidate c.args.key.now) (outcome_of_evictions c.invalidate.result) new) c.self.view_is c.invalidate.ensures.step in
-    subst (λ out. Stands g.K.PartialEq.eq c.args.self.now (ask.invalidate c.args.key.now) (outcome_of_evictions out) new) (sym c.of.ensures) step
+    let step = subst (λ old. Stands g.K.PartialEq.eq old.cache (ask.invalidate c.args.key.now) (outcome_of_evictions c.invalidate.result) new) c.self.view_is c.invalidate.ensures.step in
+    subst (λ out. Stands g.K.PartialEq.eq c.args.self.now.cache (ask.invalidate c.args.key.now) (outcome_of_evictions out) new) (sym c.of.ensures) step

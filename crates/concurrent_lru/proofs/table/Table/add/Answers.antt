@@ -1,5 +1,6 @@
 use Rattle.std.proofs.Common.{◌≡◌, ◌+◌, cond, Some, sym, ap, ◌∙◌, subst, eqb}
 use Rattle.std.specs.FinMap.{insert}
+use Rattle.concurrent_lru.specs.Cache.{charges}
 use Rattle.concurrent_lru.specs.NodeTable.{IsNewStamp, entry_of, new_entry}
 use Rattle.concurrent_lru.specs.Entries.{ContainsNoKey, ContainsNoStamp, new_held, charges_of}
 use Rattle.concurrent_lru.specs.Indexes.{entries_of}
@@ -14,6 +15,7 @@ pub invariant_of-self : goal.invariant_of-self
 invariant_of-self g c = record {
   stored = stored_same c.self.invariant.stored c.make_room.ensures.nodes c.make_room.ensures.idle c.make_room.ensures.by_key c.make_room.ensures.keeps c.make_room.ensures.by_stamp;
   sums = c.self.invariant.sums ∙ ap charges_of (sym (entries_same c.self.inside.nodes c.make_room.new.nodes c.make_room.ensures.nodes c.make_room.ensures.idle c.make_room.ensures.work));
+  rests = c.self.invariant.rests ∙ ap (λ t. charges t.idle) (sym (entries_same c.self.inside.nodes c.make_room.new.nodes c.make_room.ensures.nodes c.make_room.ensures.idle c.make_room.ensures.work));
 }
 
 pub returns-in_err-make_room-clause-err : goal.returns-in_err-make_room-clause-err
@@ -43,6 +45,7 @@ invariant_of-self-2 g c =
     record {
       stored = stored_with g.met.K.Eq.laws r added;
       sums = c.put-place.ensures.total ∙ ap (λ n. c.self.inside.total + n) (ap (λ x. x.charge) entry) ∙ ap (λ n. n + c.args.charge) (c.self.invariant.sums ∙ ap charges_of (sym grown)) ∙ sym sum;
+      rests = c.self.invariant.rests ∙ ap charges (sym (idle_with g.met.K.Eq.laws r added ∙ ap (λ t. t.idle) grown));
     }
 
 pub returns-clause-idle : goal.returns-clause-idle

@@ -1,7 +1,8 @@
-use Rattle.std.proofs.Common.{◌≡◌, ◌+◌, ◌<◌, ◌≤◌, ◌^◌, cond, Some, sym, ap, ◌∙◌, subst, eqb, arith}
+use Rattle.std.proofs.Common.{◌≡◌, ◌+◌, ◌-◌, ◌<◌, ◌≤◌, ◌^◌, cond, Some, sym, ap, ◌∙◌, subst, eqb, arith}
 use Rattle.std.specs.Prelude.{is_some}
 use Rattle.std.specs.List.{list_any}
 use Rattle.std.specs.FinMap.{get, insert, remove}
+use Rattle.concurrent_lru.specs.Cache.{charges}
 use Rattle.concurrent_lru.specs.NodeTable.{IsNewStamp, entry_of, new_entry}
 use Rattle.concurrent_lru.specs.Entries.{AddsOverIdle, ContainsIdleAt, ContainsNoStamp, GetsAt, new_held, charges_of}
 use Rattle.concurrent_lru.specs.Indexes.{entries_of}
@@ -12,6 +13,7 @@ use Rattle.concurrent_lru.proofs.Entries.EntryAddedOrTaken.{IsAdded, IsTaken, pu
 use Rattle.concurrent_lru.proofs.Entries.EntryReplaced.{fresh_taken, forgotten, forgets_taken}
 use Rattle.concurrent_lru.proofs.Entries.NodeAtPlace.{has_node, idle_node, idle_found, idle_like, node_is_at, place_at, unheld}
 use Rattle.concurrent_lru.proofs.Steps.BeginOfAbsent.{as_idle-ready}
+use Rattle.concurrent_lru.proofs.Entries.ChargesOfIdle.{kept_less, kept_bound}
 use Rattle.concurrent_lru.proofs.Entries.SumsOfCharges.{sum_with, sum_evicted, idle_bound, stamps_apart, less_alike}
 use Rattle.concurrent_lru.proofs.table.Table.add_over_idle.Goals as goal
 
@@ -19,6 +21,7 @@ pub invariant_of-self : goal.invariant_of-self
 invariant_of-self g c = record {
   stored = stored_same c.self.invariant.stored c.make_room.ensures.nodes c.make_room.ensures.idle c.make_room.ensures.by_key c.make_room.ensures.keeps c.make_room.ensures.by_stamp;
   sums = c.self.invariant.sums ∙ ap charges_of (sym (entries_same c.self.inside.nodes c.make_room.new.nodes c.make_room.ensures.nodes c.make_room.ensures.idle c.make_room.ensures.work));
+  rests = c.self.invariant.rests ∙ ap (λ t. charges t.idle) (sym (entries_same c.self.inside.nodes c.make_room.new.nodes c.make_room.ensures.nodes c.make_room.ensures.idle c.make_room.ensures.work));
 }
 
 pub returns-in_err-make_room-clause-err : goal.returns-in_err-make_room-clause-err
@@ -134,6 +137,9 @@ invariant_of-self-2 g c =
     record {
       stored = stored_with g.met.K.Eq.laws between added;
       sums = c.put-new.ensures.total ∙ ap (λ n. c.take_away-old.new.total + n) (ap (λ x. x.charge) entry) ∙ ap (λ n. n + c.args.charge) total ∙ sym sum;
+      rests = ap (λ n. c.self.inside.idle_charge - (entry_of n).charge) c.deref.ensures
+          ∙ kept_less r c.args.place e taken.at rests _ (c.self.invariant.rests ∙ ap (λ t. charges t.idle) (sym grown)) (entries_of c.take_away-old.new.nodes) (idle_without g.met.K.Eq.laws r taken rests)
+          ∙ sym (ap charges (idle_with g.met.K.Eq.laws between added));
     }
 
 pub returns-clause-ready : goal.returns-clause-ready
@@ -196,3 +202,11 @@ returns-clause-ok g c =
         work = c.put-new.ensures.work;
       };
     })
+
+pub overflow_sub-self : goal.overflow_sub-self
+overflow_sub-self g c =
+    let r = stored_same {t' = c.make_room.new.nodes} {by_key' = c.make_room.new.by_key} {by_stamp' = c.make_room.new.by_stamp} c.self.invariant.stored c.make_room.ensures.nodes c.make_room.ensures.idle c.make_room.ensures.by_key c.make_room.ensures.keeps c.make_room.ensures.by_stamp in
+    let grown = entries_same c.self.inside.nodes c.make_room.new.nodes c.make_room.ensures.nodes c.make_room.ensures.idle c.make_room.ensures.work in
+    let idle = idle_node r c.args.place (subst (λ t. ContainsIdleAt t c.args.place) (sym (grown ∙ c.self.view_is)) c.requires.idle) in
+    let at = ap (λ m. get m c.args.place) (sym c.remove.ensures.nodes) ∙ c.take_away-old.ensures.entry in
+    subst (λ n. (entry_of n).charge ≤ c.self.inside.idle_charge) (sym c.deref.ensures) (kept_bound r c.args.place _ at idle _ (c.self.invariant.rests ∙ ap (λ t. charges t.idle) (sym grown)))

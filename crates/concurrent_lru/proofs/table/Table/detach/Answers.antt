@@ -1,4 +1,5 @@
 use Rattle.std.proofs.Common.{refl, sym, ap, ◌∙◌, subst}
+use Rattle.concurrent_lru.specs.Cache.{charges}
 use Rattle.concurrent_lru.specs.Entries.{ContainsFoundAt, Rewrites}
 use Rattle.concurrent_lru.specs.Steps.{held_detached}
 use Rattle.concurrent_lru.specs.Indexes.{entries_of}
@@ -24,6 +25,7 @@ invariant_of-self g c =
     record {
       stored = stored_detached g.met.K.Eq.laws c.self.invariant.stored writes c.set_detached.ensures.idle pinned (found_node c.self.invariant.stored c.args.place n.0 h n.1) (c.forget_key.ensures.forgotten n.0 n.1);
       sums = c.self.invariant.sums ∙ sym (sum_written (entries_of c.self.inside.nodes) (entries_of c.set_detached.new.self) n.0.stamp _ _ (ap (λ t. t.idle) changed) (ap (λ t. t.held) changed) (held_found c.self.invariant.stored c.args.place n.0 n.1 pinned) refl);
+      rests = c.self.invariant.rests ∙ ap (λ t. charges t.idle) (sym changed);
     }
 
 pub returns : goal.returns

@@ -5,7 +5,8 @@ use Rattle.concurrent_lru.proofs.Entries.ChainsOfEvicted.{front_from_steps}
 use Rattle.concurrent_lru.proofs.table.Table.evict_down_to.Goals as goal
 use Rattle.concurrent_lru.proofs.table.Table.evict_down_to.Goals.{After-reversed, else-loop-self-test, then-loop-self-test+in-None}
 
--- at either end of the loop the idle entries are as they were in its last turn, and there is no more to do
+-- at either end of the loop the idle entries are as they were in its last turn, and there is no
+-- more to do
 stopped : (g : _) (c : After-reversed g) → (c.loop-self.self.idle ≡ c.loop-self-test.self.idle) × ((charges_of c.loop-self.self ≤ c.args.capacity) ⊎ (c.loop-self-test.self.idle ≡ []))
 stopped g c = elim c.loop-self-test.branch [
   | else-loop-self-test w ↦ (sym (ap (λ t. t.idle) w.self-is), inl (subst (λ n. n ≤ c.args.capacity) c.total.ensures w.loop-self-test.false))

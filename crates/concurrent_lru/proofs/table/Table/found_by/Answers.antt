@@ -1,5 +1,6 @@
 use Rattle.std.proofs.Common.{sym, ap}
 use Rattle.std.specs.Map.{lookup}
+use Rattle.concurrent_lru.specs.Cache.{charges}
 use Rattle.concurrent_lru.proofs.Entries.PlacesOfNodes.{empty_represents, empty_held, no_stamps}
 use Rattle.concurrent_lru.proofs.Entries.IndexedByMaps.{indexed_empty}
 use Rattle.std.specs.List.{filter_map}
@@ -11,6 +12,7 @@ use Rattle.concurrent_lru.proofs.table.Table.found_by.Goals as goal
 pub invariant_of-result : goal.invariant_of-result
 invariant_of-result g c = record {
   sums = sym (sum_none (entries_of c.new.result) (ap (filter_map (idle_at_place c.new.result.nodes)) c.new.ensures.idle) (empty_held c.new.result c.new.ensures.nodes));
+  rests = sym (ap charges (ap (filter_map (idle_at_place c.new.result.nodes)) c.new.ensures.idle));
   stored = record {
     represents = empty_represents c.new.result c.new.ensures.nodes c.new.ensures.idle;
     indexed = indexed_empty _ _ _ c.new.ensures.nodes (λ k. ap (lookup (g.K.PartialEq.eq k)) c.new-2.ensures.empty) c.requires.unmapped;

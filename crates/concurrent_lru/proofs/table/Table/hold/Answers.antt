@@ -1,4 +1,5 @@
 use Rattle.std.proofs.Common.{refl, sym, ap, ◌∙◌, subst}
+use Rattle.concurrent_lru.specs.Cache.{charges}
 use Rattle.concurrent_lru.specs.Entries.{ContainsHeldAt, Rewrites, held_with_pins}
 use Rattle.concurrent_lru.specs.Indexes.{entries_of}
 use Rattle.concurrent_lru.proofs.Entries.NodeAtPlace.{has_node, some_node, held_node, held_found, place_at}
@@ -18,6 +19,7 @@ invariant_of-self g c =
     record {
       stored = stored_written c.self.invariant.stored (pinned_writes c.self.inside.nodes c.set_pins.new.self c.args.place c.args.pins n.0 n.1 c.set_pins.ensures.nodes) refl refl c.set_pins.ensures.idle (held_node c.self.invariant.stored c.args.place n.0 h n.1) (not_zero c.args.pins c.requires.some);
       sums = c.self.invariant.sums ∙ sym (sum_written (entries_of c.self.inside.nodes) (entries_of c.set_pins.new.self) n.0.stamp _ _ (ap (λ t. t.idle) changed) (ap (λ t. t.held) changed) (held_found c.self.invariant.stored c.args.place n.0 n.1 (held_node c.self.invariant.stored c.args.place n.0 h n.1)) refl);
+      rests = c.self.invariant.rests ∙ ap (λ t. charges t.idle) (sym changed);
     }
 
 pub returns : goal.returns

@@ -4,7 +4,7 @@ use Rattle.concurrent_lru.specs.Entries.{ContainsIdleAt, value_at}
 use Rattle.concurrent_lru.specs.Indexes.{entries_of}
 use Rattle.concurrent_lru.specs.Reads.{RenewsAt}
 use Rattle.concurrent_lru.proofs.Entries.NodeAtPlace.{some_node, idle_node, node_value}
-use Rattle.concurrent_lru.proofs.Entries.EntryRenewed.{Renews, stored_renewed, entries_renewed, sum_renewed}
+use Rattle.concurrent_lru.proofs.Entries.EntryRenewed.{Renews, stored_renewed, entries_renewed, rests_renewed, sum_renewed}
 use Rattle.concurrent_lru.proofs.table.Table.renew.Goals as goal
 use Rattle.concurrent_lru.proofs.table.Table.renew.Goals.{After-renew}
 
@@ -21,6 +21,7 @@ pub invariant_of-self : goal.invariant_of-self
 invariant_of-self g c = record {
   stored = stored_renewed c.self.invariant.stored (moved g c).1;
   sums = c.self.invariant.sums ∙ sym (sum_renewed c.self.invariant.stored (moved g c).1);
+  rests = c.self.invariant.rests ∙ sym (rests_renewed c.self.invariant.stored (moved g c).1);
 }
 
 pub returns-clause-entry : goal.returns-clause-entry

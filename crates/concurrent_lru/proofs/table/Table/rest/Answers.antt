@@ -1,15 +1,18 @@
-use Rattle.std.proofs.Common.{◌+◌, ◌++◌, ◌∷◌, [], refl, sym, ap, ◌∙◌, subst, eqb}
+use Rattle.std.proofs.Common.{◌≡◌, ◌+◌, ◌++◌, ◌∷◌, [], refl, sym, ap, ◌∙◌, subst, eqb, arith}
 use Rattle.std.specs.Prelude.{is_some}
 use Rattle.std.specs.List.{list_any}
 use Rattle.std.specs.FinMap.{get}
-use Rattle.concurrent_lru.specs.Entries.{IsReadyAt, RestsAt}
+use Rattle.concurrent_lru.specs.Cache.{charges}
+use Rattle.concurrent_lru.specs.NodeTable.{entry_of}
+use Rattle.concurrent_lru.specs.Entries.{IsReadyAt, RestsAt, charges_of}
 use Rattle.concurrent_lru.specs.Indexes.{entries_of}
 use Rattle.concurrent_lru.proofs.Entries.NodeWrittenOrAdded.{inserted_at}
 use Rattle.concurrent_lru.proofs.Entries.NodeTaken.{held_not_idle}
 use Rattle.concurrent_lru.proofs.Entries.NodeAtPlace.{has_node, some_node, held_found, ready_like, ready_found, place_at}
 use Rattle.concurrent_lru.proofs.Steps.Release.{pinned_writes}
 use Rattle.concurrent_lru.proofs.Entries.EntryWritten.{rests_nodes, stored_rested, entries_rested}
-use Rattle.concurrent_lru.proofs.Entries.SumsOfCharges.{sum_rested}
+use Rattle.concurrent_lru.proofs.Entries.ChargesOfIdle.{rest_bound}
+use Rattle.concurrent_lru.proofs.Entries.SumsOfCharges.{idle_more, sum_rested}
 use Rattle.concurrent_lru.proofs.table.Table.rest.Goals as goal
 
 pub set_pins-requires : goal.set_pins-requires
@@ -28,15 +31,35 @@ append-requires-clause-held g c =
     let n = some_node c.self.invariant.stored c.args.place (h.stamp, h.at) in
     ap (list_any (eqb c.args.place)) c.set_pins.ensures.idle ∙ held_not_idle c.self.inside.nodes _ c.args.place n.0 c.self.invariant.stored.represents n.1 (ready_like c.self.invariant.stored c.args.place n.0 h n.1).0
 
+-- the charge of the entry joins those of the idle ones, and the sum of all stays
+more_idle : (g : _) (c : goal.After-self-1 g) → c.self.inside.idle_charge + (entry_of c.node.result.now).charge ≡ charges (entries_of c.append.new.self).idle
+more_idle g c =
+    let h = subst (λ t. IsReadyAt t c.args.place) (sym c.self.view_is) c.requires in
+    let l = ready_like c.self.invariant.stored c.args.place (entry_of c.node.result.now) h c.node.ensures.entry in
+    let nodes = rests_nodes c.self.inside.nodes c.set_pins.new.self c.append.new.self c.args.place _ c.node.ensures.entry c.set_pins.ensures.nodes c.append.ensures.nodes in
+    let changed = entries_rested c.self.invariant.stored nodes refl refl h.value (c.append.ensures.idle ∙ ap (λ xs. xs ++ c.args.place ∷ []) c.set_pins.ensures.idle) l.0 refl l.1 (c.append.ensures.work ∙ ap (λ n. n + 1) c.set_pins.ensures.work) in
+    let more = idle_more (entries_of c.self.inside.nodes) (entries_of c.append.new.self) _ (ap (λ t. t.idle) changed) in
+    let rests = c.self.invariant.rests in
+    omega (arith, more, rests)
+
+sum_same : (g : _) (c : goal.After-self-1 g) → charges_of (entries_of c.append.new.self) ≡ charges_of (entries_of c.self.inside.nodes)
+sum_same g c =
+    let h = subst (λ t. IsReadyAt t c.args.place) (sym c.self.view_is) c.requires in
+    let l = ready_like c.self.invariant.stored c.args.place (entry_of c.node.result.now) h c.node.ensures.entry in
+    let nodes = rests_nodes c.self.inside.nodes c.set_pins.new.self c.append.new.self c.args.place _ c.node.ensures.entry c.set_pins.ensures.nodes c.append.ensures.nodes in
+    let changed = entries_rested c.self.invariant.stored nodes refl refl h.value (c.append.ensures.idle ∙ ap (λ xs. xs ++ c.args.place ∷ []) c.set_pins.ensures.idle) l.0 refl l.1 (c.append.ensures.work ∙ ap (λ n. n + 1) c.set_pins.ensures.work) in
+    sum_rested (entries_of c.self.inside.nodes) (entries_of c.append.new.self) (entry_of c.node.result.now).stamp _ _ (ap (λ t. t.idle) changed) (ap (λ t. t.held) changed) (held_found c.self.invariant.stored c.args.place _ c.node.ensures.entry l.0) refl
+
 pub invariant_of-self : goal.invariant_of-self
 invariant_of-self g c =
     let h = subst (λ t. IsReadyAt t c.args.place) (sym c.self.view_is) c.requires in
     let n = some_node c.self.invariant.stored c.args.place (h.stamp, h.at) in
     let l = ready_like c.self.invariant.stored c.args.place n.0 h n.1 in
-    let changed = entries_rested c.self.invariant.stored (rests_nodes c.self.inside.nodes c.set_pins.new.self c.append.new.self c.args.place n.0 n.1 c.set_pins.ensures.nodes c.append.ensures.nodes) refl refl h.value (c.append.ensures.idle ∙ ap (λ xs. xs ++ c.args.place ∷ []) c.set_pins.ensures.idle) l.0 refl l.1 (c.append.ensures.work ∙ ap (λ n. n + 1) c.set_pins.ensures.work) in
+    let nodes = rests_nodes c.self.inside.nodes c.set_pins.new.self c.append.new.self c.args.place n.0 n.1 c.set_pins.ensures.nodes c.append.ensures.nodes in
     record {
-      stored = stored_rested c.self.invariant.stored (rests_nodes c.self.inside.nodes c.set_pins.new.self c.append.new.self c.args.place n.0 n.1 c.set_pins.ensures.nodes c.append.ensures.nodes) refl refl h.value (c.append.ensures.idle ∙ ap (λ xs. xs ++ c.args.place ∷ []) c.set_pins.ensures.idle) l.0 refl l.1 (ready_found c.self.invariant.stored c.args.place n.0 h n.1);
-      sums = c.self.invariant.sums ∙ sym (sum_rested (entries_of c.self.inside.nodes) (entries_of c.append.new.self) n.0.stamp _ _ (ap (λ t. t.idle) changed) (ap (λ t. t.held) changed) (held_found c.self.invariant.stored c.args.place n.0 n.1 l.0) refl);
+      stored = stored_rested c.self.invariant.stored nodes refl refl h.value (c.append.ensures.idle ∙ ap (λ xs. xs ++ c.args.place ∷ []) c.set_pins.ensures.idle) l.0 refl l.1 (ready_found c.self.invariant.stored c.args.place n.0 h n.1);
+      sums = c.self.invariant.sums ∙ sym (sum_same g c);
+      rests = more_idle g c;
     }
 
 pub returns : goal.returns
@@ -56,3 +79,14 @@ returns g c =
       };
       changed = entries_rested c.self.invariant.stored (rests_nodes c.self.inside.nodes c.set_pins.new.self c.append.new.self c.args.place n.0 n.1 c.set_pins.ensures.nodes c.append.ensures.nodes) refl refl h.value (c.append.ensures.idle ∙ ap (λ xs. xs ++ c.args.place ∷ []) c.set_pins.ensures.idle) l.0 refl l.1 (c.append.ensures.work ∙ ap (λ n. n + 1) c.set_pins.ensures.work);
     })
+
+pub node-requires : goal.node-requires
+node-requires g c = let h = subst (λ t. IsReadyAt t c.args.place) (sym c.self.view_is) c.requires in has_node c.self.invariant.stored c.args.place (h.stamp, h.at)
+
+pub overflow_add-self : goal.overflow_add-self
+overflow_add-self g c =
+    let h = subst (λ t. IsReadyAt t c.args.place) (sym c.self.view_is) c.requires in
+    let l = ready_like c.self.invariant.stored c.args.place _ h c.node.ensures.entry in
+    let bound = rest_bound (entries_of c.self.inside.nodes) (entry_of c.node.result.now).stamp _ _ _ c.self.invariant.rests c.self.invariant.sums (held_found c.self.invariant.stored c.args.place _ c.node.ensures.entry l.0) in
+    let fits = c.self.ranges.1.1.1.0.1 in
+    omega (arith, bound, fits)

@@ -1,12 +1,17 @@
 use Rattle.std.proofs.Common.{◌≡◌, Some, refl, sym, ap, ◌∙◌, subst}
 use Rattle.std.specs.Prelude.{is_some}
 use Rattle.std.specs.Arc.{arc_value}
+use Rattle.concurrent_lru.specs.Cache.{charges}
 use Rattle.concurrent_lru.specs.NodeTable.{value_in}
 use Rattle.concurrent_lru.specs.Entries.{ContainsIdleAt, RevivesAt, charges_of, value_at}
 use Rattle.concurrent_lru.specs.Indexes.{entries_of}
 use Rattle.concurrent_lru.proofs.Steps.BeginOfAbsent.{as_idle-ready}
 use Rattle.concurrent_lru.proofs.Steps.Release.{pinned_writes}
-use Rattle.concurrent_lru.proofs.Entries.NodeAtPlace.{some_node, idle_node, idle_found, idle_like, place_at, node_value, idle_unheld}
+use Rattle.std.proofs.lemmas.Option.{same_Some}
+use Rattle.concurrent_lru.specs.Representation.{idle_in}
+use Rattle.concurrent_lru.specs.Steps.{without}
+use Rattle.concurrent_lru.proofs.Entries.ChargesOfIdle.{kept_less, kept_bound}
+use Rattle.concurrent_lru.proofs.Entries.NodeAtPlace.{has_node, some_node, idle_node, idle_found, idle_like, place_at, node_value, idle_unheld}
 use Rattle.concurrent_lru.proofs.Entries.EntryAddedOrTaken.{stored_same, entries_same, on_err}
 use Rattle.concurrent_lru.proofs.Entries.EntryWritten.{stored_revived, entries_revived_by_one}
 use Rattle.concurrent_lru.proofs.Entries.SumsOfCharges.{sum_revived, stamps_apart}
@@ -24,6 +29,7 @@ pub invariant_of-self : goal.invariant_of-self
 invariant_of-self g c = let same = c.in_err-value.ensures.same in record {
   stored = stored_same c.self.invariant.stored same.0 same.1 (λ k. refl) refl (λ s. refl);
   sums = c.self.invariant.sums ∙ ap charges_of (sym (entries_same c.self.inside.nodes c.revive.new.self same.0 same.1 same.2));
+  rests = c.self.invariant.rests ∙ ap (λ t. charges t.idle) (sym (entries_same c.self.inside.nodes c.revive.new.self same.0 same.1 same.2));
 }
 
 pub returns-in_err-value-clause-err : goal.returns-in_err-value-clause-err
@@ -42,6 +48,7 @@ invariant_of-self-2 g c =
       sums = c.self.invariant.sums ∙ sym (sum_revived (entries_of c.self.inside.nodes) (entries_of c.revive.new.self) n.0.stamp (record { stamp = n.0.stamp; key = n.0.key; charge = n.0.charge; value = l.0 }) _
           (stamps_apart c.self.inside.nodes _ c.self.invariant.stored.represents) (ap (λ t. t.idle) changed) (ap (λ t. t.held) changed)
           ((idle_found c.self.invariant.stored c.args.place n.0 n.1 m).1 ∙ as_idle-ready n.0 l.0 l.2) (idle_unheld c.self.invariant.stored c.args.place n.0 n.1 m) refl);
+      rests = kept_less c.self.invariant.stored c.args.place _ c.node.ensures.entry m _ c.self.invariant.rests (entries_of c.revive.new.self) (ap (λ t. t.idle) changed ∙ ap (λ e. without e.stamp (idle_in c.self.inside.nodes)) (same_Some _ _ (sym n.1 ∙ c.node.ensures.entry)));
     }
 
 pub returns-clause-value : goal.returns-clause-value
@@ -63,3 +70,9 @@ returns-clause-ok g c =
       idle = (idle_found c.self.invariant.stored c.args.place n.0 n.1 m).1 ∙ as_idle-ready n.0 l.0 l.2;
       changed = entries_revived_by_one c.self.invariant.stored (pinned_writes c.self.inside.nodes c.revive.new.self c.args.place 1 n.0 n.1 c.in_ok-value.ensures.nodes) l.0 c.in_ok-value.ensures.idle l.1 l.2 c.in_ok-value.ensures.work;
     })
+
+pub node-requires : goal.node-requires
+node-requires g c = let h = subst (λ t. ContainsIdleAt t c.args.place) (sym c.self.view_is) c.requires in has_node c.self.invariant.stored c.args.place (h.0, h.1)
+
+pub overflow_sub-self : goal.overflow_sub-self
+overflow_sub-self g c = kept_bound c.self.invariant.stored c.args.place _ c.node.ensures.entry (idle_node c.self.invariant.stored c.args.place (subst (λ t. ContainsIdleAt t c.args.place) (sym c.self.view_is) c.requires)) _ c.self.invariant.rests

@@ -1,4 +1,5 @@
 use Rattle.std.proofs.Common.{refl, sym, ap, ◌∙◌, subst}
+use Rattle.concurrent_lru.specs.Cache.{charges}
 use Rattle.concurrent_lru.specs.NodeTable.{phase_of}
 use Rattle.concurrent_lru.specs.Entries.{ContainsHeldAt, Rewrites}
 use Rattle.concurrent_lru.specs.Steps.{held_in_phase}
@@ -20,6 +21,7 @@ invariant_of-self g c =
     record {
       stored = stored_written c.self.invariant.stored (phase_writes c.self.inside.nodes c.set_phase.new.self c.args.place (phase_of c.args.phase) n.0 n.1 c.set_phase.ensures.nodes) refl refl c.set_phase.ensures.idle (held_node c.self.invariant.stored c.args.place n.0 h n.1) (held_node c.self.invariant.stored c.args.place n.0 h n.1);
       sums = c.self.invariant.sums ∙ sym (sum_written (entries_of c.self.inside.nodes) (entries_of c.set_phase.new.self) n.0.stamp _ _ (ap (λ t. t.idle) changed) (ap (λ t. t.held) changed) (held_found c.self.invariant.stored c.args.place n.0 n.1 (held_node c.self.invariant.stored c.args.place n.0 h n.1)) refl);
+      rests = c.self.invariant.rests ∙ ap (λ t. charges t.idle) (sym changed);
     }
 
 pub returns : goal.returns

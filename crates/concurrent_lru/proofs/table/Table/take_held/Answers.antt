@@ -1,5 +1,6 @@
 use Rattle.std.proofs.Common.{◌≡◌, ◌≤◌, false, sym, ap, ◌∙◌, subst, ◌==◌}
 use Rattle.std.specs.FinMap.{get, remove}
+use Rattle.concurrent_lru.specs.Cache.{charges}
 use Rattle.concurrent_lru.specs.NodeTable.{entry_of}
 use Rattle.concurrent_lru.specs.Representation.{held_entry}
 use Rattle.concurrent_lru.specs.Entries.{ContainsHeldAt}
@@ -43,6 +44,7 @@ invariant_of-self g c =
     record {
       stored = stored_without g.met.K.Eq.laws c.self.invariant.stored (taken g c);
       sums = less_alike _ _ _ _ e.charge c.take_away.ensures.total sum c.self.invariant.sums;
+      rests = c.self.invariant.rests ∙ ap charges (sym (idle_same g.met.K.Eq.laws c.self.invariant.stored (taken g c) (pinned g c)));
     }
 
 pub take_away-requires-clause-counted : goal.take_away-requires-clause-counted

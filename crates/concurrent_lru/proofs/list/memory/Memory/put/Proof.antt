@@ -85,7 +85,8 @@ put_spec 𝓤 𝓛 𝓜 𝓡 wired T A L LA g d dd dx allocator glued glue =
     sets ! (agg ! (and_then ! (get ! refl) (no_more !))) refl (word-Good [] (block_ptr b' o')) $ sets ! (of_opd ! (get ! refl)) refl fits' $
     sets ! (agg ! (and_then ! (get ! refl) (and_then ! (get ! refl) (no_more !)))) refl (and_tt (has_ty (layout (P E)) h') fits'.0, ((word-Good [] (block_ptr b' o')).1, (fits'.1, tt))) $
     move ! (4 ∷ 5 ∷ 6 ∷ []) $ opens ! tt (Mr E) {h = self.now} rb ro (λ vs. move ! (1 ∷ []) $ fsplit ! $
-    -- [the mark; the cells; its cell; the open borrow; obs; auth; the handle; nothing; the others' tokens; the value]
+    -- [the mark; the cells; its cell; the open borrow; obs; auth; the handle; nothing; the others'
+    -- tokens; the value]
     move ! (9 ∷ 1 ∷ []) $ use2 𝓛 (‵ (All E new.cells)) (cell_in E 𝓛 cells key one free) $ move ! (1 ∷ 0 ∷ []) $ fjoin ! $ move ! (1 ∷ 0 ∷ []) $ closes ! tt (Mr E) new vs rb ro $
     move ! (3 ∷ []) $ word_made ! (block_ptr b' o') $ pair_in (Ar E) (P E) ! out.0 a here h' $
     -- [the pair; obs; the borrow; the token; nothing; the others' tokens]

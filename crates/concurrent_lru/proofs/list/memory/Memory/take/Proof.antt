@@ -1,4 +1,5 @@
--- `take` closes the memory over the other values, and makes a box of the one taken out. Assumes `Logic`.
+-- `take` closes the memory over the other values, and makes a box of the one taken out. Assumes
+-- `Logic`.
 use Rattle.std.proofs.Common.{◌≡◌, List, [], ◌∷◌, ◌++◌, Some, None, refl, sym, ap, ◌∙◌, subst}
 use mir.Raw.{raw as bare}
 use mir.MapTy.{inst_fn}
@@ -70,7 +71,8 @@ take_spec 𝓤 𝓛 𝓜 𝓡 wired T A L LA g d dd allocator glued =
     opens ! tt (Mr E) {h = self.now} rb ro (λ vs. move ! (1 ∷ []) $ fsplit ! $ move ! (1 ∷ []) $
     use1 𝓛 (‵ (Owns E (Some one)) ⊛ ‵ (All E (put_at key None cells))) (cell_out E 𝓛 cells key one held.1) $ split ! $
     in_a_block ! one.at (λ p. box_owns (g.dealloc_token one.alloc) (R E) p one.value) (fst∗ 𝓤 (never 𝓤) (sem 𝓛 (g.dealloc_token one.alloc (bare (lone (R E).mir)) null_ptr))) (λ b o e.
-    -- [the box; the others; the mark; its cell; the open borrow; obs; auth; the handle; the tokens; two bounds]
+    -- [the box; the others; the mark; its cell; the open borrow; obs; auth; the handle; the tokens;
+    -- two bounds]
     rewrite ! 0 (λ (a : (P E).Denot). ‵ (box_owns (g.dealloc_token a) (R E) (block_ptr b o) one.value)) held.3 refl $
     take_at ! 2 $ rewrite ! 0 (λ (p : Ptr). ‵ (fat full_share (layout (Ar E)) (l 2) 0 (word p))) (sym held.2 ∙ e) refl $ give_at ! 2 $
     move ! (2 ∷ 1 ∷ []) $ fjoin ! $ move ! (2 ∷ 0 ∷ 3 ∷ 4 ∷ 5 ∷ []) $ closes ! tt (Mr E) new vs rb ro $

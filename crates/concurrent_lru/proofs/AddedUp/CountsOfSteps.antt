@@ -1,0 +1,370 @@
+-- Counts that add up go on adding up: what each step makes of them.
+use Rattle.std.proofs.Common.{◌≡◌, ◌≢◌, ℕ, ◌+◌, ◌-◌, ◌*◌, ◌<◌, ◌≤◌, ◌^◌, inl, inr, Bool, true, false, cond, List, [], length, Option, Some, None, Result, Ok, Err, OnOk, OnErr, refl, sym, ap, ◌∙◌, subst, arith, eqb, ◌==◌}
+use Rattle.std.specs.Option.{option_map_or}
+use Rattle.std.specs.Ordering.{nat_cmp}
+use Rattle.std.specs.FinMap.{values, empty}
+use Rattle.std.proofs.lemmas.Bool.{eqb-true, eq-eqb, true≢false}
+use Rattle.std.specs.declared.sync.Arc.{Arc}
+use Rattle.std.specs.declared.alloc.Global.{Global}
+use Rattle.concurrent_lru.specs.Results.{outcome_of_begin, outcome_of_get, outcome_of_poll, outcome_of_ready}
+use Rattle.concurrent_lru.specs.Ready.{HasEqualKeyAt}
+use Rattle.concurrent_lru.specs.declared.step.Begun.{Begun}
+use Rattle.concurrent_lru.specs.declared.step.Begun.TheVariants as begun
+use Rattle.concurrent_lru.specs.Cache.{Cache, Idle, Held, Settles, IsLawful, charges, count_of, sum_of, empty_cache, most_pins_by_default, ready, making, untaken}
+use Rattle.concurrent_lru.specs.CountedCalls.{AddUp, IsSoundlyCounted, counted, counted_begin, counted_look, counted_poll, evicted, held_charge, is_insertion}
+use Rattle.concurrent_lru.specs.Counts.{counts_from, end_of_u64, inserted, one_failure, one_more, one_making, one_miss, removed}
+use Rattle.concurrent_lru.specs.Reads.{Reads}
+use Rattle.concurrent_lru.specs.Request as ask
+use Rattle.concurrent_lru.specs.Request.{Request}
+use Rattle.concurrent_lru.specs.Reply as say
+use Rattle.concurrent_lru.specs.Reply.{Reply}
+use Rattle.concurrent_lru.specs.Runs.{Outcome, accepted, refused, Stands}
+use Rattle.concurrent_lru.specs.Steps.{Step, with_capacity}
+use Rattle.concurrent_lru.specs.declared.counts.Counts.{Counts}
+use Rattle.concurrent_lru.specs.declared.list.Refusal.{Refusal}
+use Rattle.concurrent_lru.specs.declared.list.Refusal.TheVariants.{Memory, Overflow, Stale}
+use Rattle.concurrent_lru.proofs.AddedUp.SizesOfSteps.{Resizes, KeepsSize, Evicts, same_size, settled_size, joined_size, left_size, phase_size, hit_size, made_size, removed_size, rested_size, ended_size, detached_size, dropped_size, stayed_size, pruned_size, evicts_none}
+use Rattle.concurrent_lru.proofs.Steps.EmptyCache.{no_entries, empty_sum, empty_lawful}
+
+module _ {K V : Type 0} where
+  -- the counts add up but for so many entries of so much charge that left and are not counted yet
+  pub record Owes (c : Cache K V) (n : Counts) (left left_charge : ℕ) : Type 0 where
+    pub entries : count_of c + left + n.evictions + n.removals ≡ n.entries_before + n.insertions
+    pub charge : sum_of c + left_charge + n.evicted_charge + n.removed_charge ≡ n.charge_before + n.inserted_charge
+    pub stamps : c.next < 2 ^ 64
+    pub entries_fit : n.entries_before + n.insertions ≤ c.next
+    pub charge_fits : n.charge_before + n.inserted_charge ≤ c.next * end_of_u64
+
+  -- counts that no law speaks of
+  pub with_others : (c : Cache K V) (n : Counts) (hits misses waits refusals makings failures : ℕ) → AddUp c n → AddUp c (record n { hits = hits; misses = misses; waits = waits; refusals = refusals; makings = makings; failures = failures })
+  with_others c n hits misses waits refusals makings failures a = record { entries = a.entries; charge = a.charge; stamps = a.stamps; entries_fit = a.entries_fit; charge_fits = a.charge_fits }
+
+  -- entries left
+  pub owed : (old new : Cache K V) (n : Counts) (o g : ℕ) → AddUp old n → Resizes old new 0 0 o g → Owes new n o g
+  owed old new n o g a r =
+      let e : count_of old + n.evictions + n.removals ≡ n.entries_before + n.insertions = a.entries in
+      let f : sum_of old + n.evicted_charge + n.removed_charge ≡ n.charge_before + n.inserted_charge = a.charge in
+      let s : old.next < 2 ^ 64 = a.stamps in
+      let u : n.entries_before + n.insertions ≤ old.next = a.entries_fit in
+      let v : n.charge_before + n.inserted_charge ≤ old.next * end_of_u64 = a.charge_fits in
+      let p : count_of new + o ≡ count_of old + 0 = r.entries in
+      let q : sum_of new + g ≡ sum_of old + 0 = r.charge in
+      let m : new.next ≡ old.next + 0 = r.next in
+      record { entries = omega (arith, e, p); charge = omega (arith, f, q); stamps = omega (arith, s, m); entries_fit = omega (arith, u, m); charge_fits = omega (arith, v, m) }
+
+  -- an entry came, and others left
+  pub owed_for_new : (old new : Cache K V) (n : Counts) (charge o g : ℕ) → AddUp old n → Resizes old new 1 charge o g → charge < 2 ^ 64 → old.next + 1 < 2 ^ 64 → Owes new (inserted charge n) o g
+  owed_for_new old new n charge o g a r fits stamps =
+      let e : count_of old + n.evictions + n.removals ≡ n.entries_before + n.insertions = a.entries in
+      let f : sum_of old + n.evicted_charge + n.removed_charge ≡ n.charge_before + n.inserted_charge = a.charge in
+      let u : n.entries_before + n.insertions ≤ old.next = a.entries_fit in
+      let v : n.charge_before + n.inserted_charge ≤ old.next * end_of_u64 = a.charge_fits in
+      let p : count_of new + o ≡ count_of old + 1 = r.entries in
+      let q : sum_of new + g ≡ sum_of old + charge = r.charge in
+      let m : new.next ≡ old.next + 1 = r.next in
+      record { entries = omega (arith, e, p); charge = omega (arith, f, q); stamps = omega (arith, stamps, m); entries_fit = omega (arith, u, m); charge_fits = omega (arith, v, m, fits) }
+
+  -- what left is counted as evicted, or as removed; or nothing left
+  pub evictions_add_up : (c : Cache K V) (n : Counts) (out : List (Idle K V)) → Owes c n (length out) (charges out) → AddUp c (evicted out n)
+  evictions_add_up c n out o =
+      let e : count_of c + length out + n.evictions + n.removals ≡ n.entries_before + n.insertions = o.entries in
+      let f : sum_of c + charges out + n.evicted_charge + n.removed_charge ≡ n.charge_before + n.inserted_charge = o.charge in
+      record { entries = omega (arith, e); charge = omega (arith, f); stamps = o.stamps; entries_fit = o.entries_fit; charge_fits = o.charge_fits }
+
+  pub removal_adds_up : (c : Cache K V) (n : Counts) (g : ℕ) → Owes c n 1 g → AddUp c (removed g n)
+  removal_adds_up c n g o =
+      let e : count_of c + 1 + n.evictions + n.removals ≡ n.entries_before + n.insertions = o.entries in
+      let f : sum_of c + g + n.evicted_charge + n.removed_charge ≡ n.charge_before + n.inserted_charge = o.charge in
+      record { entries = omega (arith, e); charge = omega (arith, f); stamps = o.stamps; entries_fit = o.entries_fit; charge_fits = o.charge_fits }
+
+  pub kept_adds_up : (old new : Cache K V) (n : Counts) → AddUp old n → KeepsSize old new → AddUp new n
+  kept_adds_up old new n a k =
+      let o = owed old new n 0 0 a k in
+      let e : count_of new + 0 + n.evictions + n.removals ≡ n.entries_before + n.insertions = o.entries in
+      let f : sum_of new + 0 + n.evicted_charge + n.removed_charge ≡ n.charge_before + n.inserted_charge = o.charge in
+      record { entries = omega (arith, e); charge = omega (arith, f); stamps = o.stamps; entries_fit = o.entries_fit; charge_fits = o.charge_fits }
+
+  pub evicting_adds_up : (old new : Cache K V) (n : Counts) (out : List (Idle K V)) → AddUp old n → Evicts old out new → AddUp new (evicted out n)
+  evicting_adds_up old new n out a e = evictions_add_up new n out (owed old new n (length out) (charges out) a e)
+
+  -- how the code tells what was evicted, from what is left
+  pub told_evicted : (c : Cache K V) (n : Counts) (out : List (Idle K V)) (entries charge : ℕ) → Owes c n (length out) (charges out) → entries ≡ count_of c → charge ≡ sum_of c
+      → record n { evictions = n.entries_before + n.insertions - n.removals - entries; evicted_charge = n.charge_before + n.inserted_charge - n.removed_charge - charge } ≡ evicted out n
+  told_evicted c n out entries charge o is_count is_sum =
+      let e : count_of c + length out + n.evictions + n.removals ≡ n.entries_before + n.insertions = o.entries in
+      let f : sum_of c + charges out + n.evicted_charge + n.removed_charge ≡ n.charge_before + n.inserted_charge = o.charge in
+      let a : n.entries_before + n.insertions - n.removals - entries ≡ n.evictions + length out = omega (arith, e, is_count) in
+      let b : n.charge_before + n.inserted_charge - n.removed_charge - charge ≡ n.evicted_charge + charges out = omega (arith, f, is_sum) in
+      ap (λ (x : ℕ). record n { evictions = x; evicted_charge = n.charge_before + n.inserted_charge - n.removed_charge - charge }) a
+      ∙ ap (λ (y : ℕ). record n { evictions = n.evictions + length out; evicted_charge = y }) b
+
+  pub told_removed : (c : Cache K V) (n : Counts) (g charge : ℕ) → Owes c n 1 g → charge ≡ sum_of c
+      → record n { removals = n.removals + 1; removed_charge = n.charge_before + n.inserted_charge - n.evicted_charge - charge } ≡ removed g n
+  told_removed c n g charge o is_sum =
+      let f : sum_of c + g + n.evicted_charge + n.removed_charge ≡ n.charge_before + n.inserted_charge = o.charge in
+      let b : n.charge_before + n.inserted_charge - n.evicted_charge - charge ≡ n.removed_charge + g = omega (arith, f, is_sum) in
+      ap (λ (y : ℕ). record n { removals = n.removals + 1; removed_charge = y }) b
+
+  -- nothing was evicted
+  pub evicted_none : (n : Counts) (out : List (Idle K V)) → out ≡ [] → evicted out n ≡ n
+  evicted_none n out none =
+      let a : n.evictions + length out ≡ n.evictions = let l : length out ≡ 0 = ap length none in omega (arith, l) in
+      let b : n.evicted_charge + charges out ≡ n.evicted_charge = let l : charges out ≡ 0 = ap charges none in omega (arith, l) in
+      ap (λ (x : ℕ). record n { evictions = x; evicted_charge = n.evicted_charge + charges out }) a ∙ ap (λ (y : ℕ). record n { evicted_charge = y }) b
+
+  -- counting anew
+  pub anew_adds_up : (c : Cache K V) (n : Counts) → AddUp c n → AddUp c (counts_from (count_of c) (sum_of c))
+  anew_adds_up c n a =
+      let e : count_of c + n.evictions + n.removals ≡ n.entries_before + n.insertions = a.entries in
+      let f : sum_of c + n.evicted_charge + n.removed_charge ≡ n.charge_before + n.inserted_charge = a.charge in
+      let u : n.entries_before + n.insertions ≤ c.next = a.entries_fit in
+      let v : n.charge_before + n.inserted_charge ≤ c.next * end_of_u64 = a.charge_fits in
+      record { entries = omega arith; charge = omega arith; stamps = a.stamps; entries_fit = omega (arith, e, u); charge_fits = omega (arith, f, v) }
+
+  pub empty_adds_up : (capacity most : ℕ) → AddUp (empty_cache {K = K} {V = V} capacity most 0) (counts_from 0 0)
+  empty_adds_up capacity most =
+      let a : length (values (empty {X = Held K V} {R = nat_cmp})) ≡ 0 = ap (λ es. length (Rattle.std.proofs.Common.map (λ e. e.1) es)) no_entries in
+      let b : sum_of (empty_cache {K = K} {V = V} capacity most 0) ≡ 0 = empty_sum K V capacity most 0 in
+      record { entries = omega (arith, a); charge = omega (arith, b); stamps = omega arith; entries_fit = omega arith; charge_fits = omega arith }
+
+  -- a begin that is to make a value: by its stamp, whether it inserted the entry
+  pub record Inserts (old : Cache K V) (charge s : ℕ) (out : List (Idle K V)) (new : Cache K V) : Type 0 where
+    pub sizes : Resizes old new 1 charge (length out) (charges out)
+    pub charge_fits : charge < 2 ^ 64
+    pub stamps : old.next + 1 < 2 ^ 64
+
+  pub capacity_evicts : (old new : Cache K V) (m : ℕ) (out : List (Idle K V)) → Settles (with_capacity old m) out new → Evicts old out new
+  capacity_evicts old new m out h =
+      let s = settled_size (with_capacity old m) new out h in
+      record { entries = s.entries; charge = s.charge; next = s.next }
+
+  refusal_adds_up : (old : Cache K V) (n : Counts) (r : Request K V) (e : Refusal) → AddUp old n → AddUp old (counted old r (refused e) n)
+  refusal_adds_up old n (ask.begin k charge) e a = with_others old n n.hits n.misses n.waits (one_more n.refusals) n.makings n.failures a
+  refusal_adds_up old n (ask.get k) e a = with_others old n n.hits n.misses n.waits (one_more n.refusals) n.makings n.failures a
+  refusal_adds_up old n (ask.poll s) Memory a = with_others old n n.hits n.misses n.waits (one_more n.refusals) n.makings n.failures a
+  refusal_adds_up old n (ask.poll s) Overflow a = a
+  refusal_adds_up old n (ask.poll s) Stale a = a
+  refusal_adds_up old n (ask.ready s v) e a = a
+  refusal_adds_up old n (ask.fail s) e a = a
+  refusal_adds_up old n (ask.release s) e a = a
+  refusal_adds_up old n (ask.advice_evict k) e a = a
+  refusal_adds_up old n (ask.invalidate k) e a = a
+  refusal_adds_up old n ask.prune e a = a
+  refusal_adds_up old n (ask.set_capacity m) e a = a
+  refusal_adds_up old n ask.total e a = a
+
+  module _ {E : K → K → Bool} where
+    pub inserts : (old new : Cache K V) (k : K) (charge s : ℕ) (out : List (Idle K V)) → IsLawful E old → Step E old (ask.begin k charge) (say.make s) out new → s ≡ old.next → Inserts old charge s out new
+    inserts old new k charge s out l (inl m) is =
+        let f : sum_of old + charge < 2 ^ 64 = m.fits.0 in
+        record { sizes = made_size old new k charge s out l m; charge_fits = omega (arith, f); stamps = m.fits.1 }
+    inserts old new k charge s out l (inr j) is =
+        let low : s < old.next = l.below_next s j.entry.key j.entry.charge (inr (j.entry, j.holds.at, refl, refl)) in
+        absurd (omega (arith, low, is))
+
+    pub takes_over : (old new : Cache K V) (k : K) (charge s : ℕ) (out : List (Idle K V)) → IsLawful E old → Step E old (ask.begin k charge) (say.make s) out new → s ≢ old.next → KeepsSize old new
+    takes_over old new k charge s out l (inl m) is = absurd (is m.stamp)
+    takes_over old new k charge s out l (inr j) is = joined_size old new k s untaken making out j
+
+    -- the calls that evict, by what they answer
+    pub release_evicts : (old new : Cache K V) (s : ℕ) (out : List (Idle K V)) → Step E old (ask.release s) say.done out new → Evicts old out new
+    release_evicts old new s out (inl h) = evicts_none old new out (left_size old new s (ready h.0) (ready h.0) out h.1) h.1.none
+    release_evicts old new s out (inr (inl h)) = rested_size old new s out h
+    release_evicts old new s out (inr (inr h)) = ended_size old new s out h
+
+    pub advice_evicts : (old new : Cache K V) (k : K) (out : List (Idle K V)) → IsLawful E old → Step E old (ask.advice_evict k) say.done out new → Evicts old out new
+    advice_evicts old new k out l (inl h) = dropped_size old new k out l h
+    advice_evicts old new k out l (inr h) = stayed_size old new out h.1
+
+    pub invalidate_evicts : (old new : Cache K V) (k : K) (out : List (Idle K V)) → IsLawful E old → Step E old (ask.invalidate k) say.done out new → Evicts old out new
+    invalidate_evicts old new k out l (inl h) = dropped_size old new k out l h
+    invalidate_evicts old new k out l (inr (inl h)) = evicts_none old new out (detached_size old new k out h) h.none
+    invalidate_evicts old new k out l (inr (inr h)) = stayed_size old new out h.1
+
+    -- a making that fails for good: what is owed once its failure is counted
+    pub fail_owes : (old new : Cache K V) (n : Counts) (s : ℕ) (k : K) (out : List (Idle K V)) → AddUp old n → Step E old (ask.fail s) (say.removed k) out new → Owes new (one_failure n) 1 (held_charge old s)
+    fail_owes old new n s k out a h =
+        subst (λ g. Owes new (one_failure n) 1 g) (sym (ap (λ e. option_map_or (λ x. x.charge) e 0) h.holds.at))
+        (owed old new (one_failure n) 1 h.entry.charge (with_others old n n.hits n.misses n.waits n.refusals n.makings (one_more n.failures) a) (removed_size old new s k out h))
+
+    step_adds_up : (old new : Cache K V) (n : Counts) (r : Request K V) (p : Reply K V) (out : List (Idle K V)) → IsLawful E old → AddUp old n → Step E old r p out new → AddUp new (counted old r (accepted p out) n)
+    step_adds_up old new n (ask.begin k charge) (say.make s) out l a h =
+        elim (s == old.next) as (λ b. (s == old.next) ≡ b → AddUp new (cond b (evicted out (inserted charge (one_making (one_miss n)))) (one_making (one_miss n)))) [
+          | true ↦ λ b.
+              let i = inserts old new k charge s out l h (eqb-true s old.next b) in
+              evictions_add_up new (inserted charge (one_making (one_miss n))) out (owed_for_new old new (one_making (one_miss n)) charge (length out) (charges out) (with_others old n n.hits (one_more n.misses) n.waits n.refusals (one_more n.makings) n.failures a) i.sizes i.charge_fits i.stamps)
+          | false ↦ λ b. with_others new n n.hits (one_more n.misses) n.waits n.refusals (one_more n.makings) n.failures (kept_adds_up old new n a (takes_over old new k charge s out l h (λ is. true≢false (sym (eq-eqb s old.next is) ∙ b))))
+        ] refl
+    step_adds_up old new n (ask.begin k charge) (say.wait s) out l a h = with_others new n n.hits n.misses (one_more n.waits) n.refusals n.makings n.failures (kept_adds_up old new n a (joined_size old new k s making making out h))
+    step_adds_up old new n (ask.begin k charge) (say.hit s v) out l a h = with_others new n (one_more n.hits) n.misses n.waits n.refusals n.makings n.failures (kept_adds_up old new n a (hit_size old new k s v out l h))
+    step_adds_up old new n (ask.poll s) (say.wait t) out l a h = kept_adds_up old new n a (phase_size old new s making making out h.1)
+    step_adds_up old new n (ask.poll s) (say.make t) out l a h = with_others new n n.hits n.misses n.waits n.refusals (one_more n.makings) n.failures (kept_adds_up old new n a (phase_size old new s untaken making out h.1))
+    step_adds_up old new n (ask.poll s) (say.hit t v) out l a h = kept_adds_up old new n a (phase_size old new s (ready v) (ready v) out h.1)
+    step_adds_up old new n (ask.ready s v) say.done out l a h = kept_adds_up old new n a (phase_size old new s making (ready v) out h)
+    step_adds_up old new n (ask.fail s) say.left out l a h = with_others new n n.hits n.misses n.waits n.refusals n.makings (one_more n.failures) (kept_adds_up old new n a (left_size old new s making untaken out h))
+    step_adds_up old new n (ask.fail s) (say.removed k) out l a h = removal_adds_up new (one_failure n) (held_charge old s) (fail_owes old new n s k out a h)
+    step_adds_up old new n (ask.get k) (say.hit s v) out l a h = with_others new n (one_more n.hits) n.misses n.waits n.refusals n.makings n.failures (kept_adds_up old new n a (hit_size old new k s v out l h))
+    step_adds_up old new n (ask.get k) say.missed out l a h = with_others new n n.hits (one_more n.misses) n.waits n.refusals n.makings n.failures (kept_adds_up old new n a (same_size old new h.1.same))
+    step_adds_up old new n (ask.release s) say.done out l a h = evicting_adds_up old new n out a (release_evicts old new s out h)
+    step_adds_up old new n (ask.advice_evict k) say.done out l a h = evicting_adds_up old new n out a (advice_evicts old new k out l h)
+    step_adds_up old new n (ask.invalidate k) say.done out l a h = evicting_adds_up old new n out a (invalidate_evicts old new k out l h)
+    step_adds_up old new n ask.prune say.done out l a h = evicting_adds_up old new n out a (pruned_size old new out h.0 h.1)
+    step_adds_up old new n (ask.set_capacity m) say.done out l a h = evicting_adds_up old new n out a (capacity_evicts old new m out h)
+    step_adds_up old new n ask.total (say.sum m) out l a h = kept_adds_up old new n a (same_size old new h.1.same)
+    step_adds_up old new n _ _ out l a h = absurd h
+
+    -- whatever a call is asked and answers
+    pub counted_adds_up : (old new : Cache K V) (n : Counts) (r : Request K V) (o : Outcome K V) → IsLawful E old → AddUp old n → Stands E old r o new → AddUp new (counted old r o n)
+    counted_adds_up old new n r (accepted p out) l a h = step_adds_up old new n r p out l a h
+    counted_adds_up old new n r (refused e) l a h = subst (λ c. AddUp c (counted old r (refused e) n)) (sym h.1) (refusal_adds_up old n r e a)
+
+    -- a release that evicts nothing keeps the size
+    quiet_release_size : (old new : Cache K V) (s : ℕ) → Step E old (ask.release s) say.done [] new → KeepsSize old new
+    quiet_release_size old new s (inl h) = left_size old new s (ready h.0) (ready h.0) [] h.1
+    quiet_release_size old new s (inr (inl h)) = rested_size old new s [] h
+    quiet_release_size old new s (inr (inr h)) = ended_size old new s [] h
+
+    -- an invalidate, and then a begin that inserts an entry: what is owed once the entry is
+    -- counted, and that it adds up
+    pub owed_for_replaced : (old mid new : Cache K V) (n : Counts) (k : K) (charge s : ℕ) (replaced out : List (Idle K V)) → IsLawful E old → IsLawful E mid → AddUp old n → Step E old (ask.invalidate k) say.done replaced mid → Step E mid (ask.begin k charge) (say.make s) out new → s ≡ mid.next → Owes new (inserted charge (evicted replaced n)) (length out) (charges out)
+    owed_for_replaced old mid new n k charge s replaced out l lm a h b is =
+        let i = inserts mid new k charge s out lm b is in
+        owed_for_new mid new (evicted replaced n) charge (length out) (charges out) (evicting_adds_up old mid n replaced a (invalidate_evicts old mid k replaced l h)) i.sizes i.charge_fits i.stamps
+
+    pub replaced_adds_up : (old mid new : Cache K V) (n : Counts) (k : K) (charge s : ℕ) (replaced out : List (Idle K V)) → IsLawful E old → IsLawful E mid → AddUp old n → Step E old (ask.invalidate k) say.done replaced mid → Step E mid (ask.begin k charge) (say.make s) out new → s ≡ mid.next → AddUp new (evicted out (inserted charge (evicted replaced n)))
+    replaced_adds_up old mid new n k charge s replaced out l lm a h b is = evictions_add_up new (inserted charge (evicted replaced n)) out (owed_for_replaced old mid new n k charge s replaced out l lm a h b is)
+
+    -- a read is a get and a release, or a get that finds nothing
+    read_size : {T : Type 0} (old new : Cache K V) (k : K) (answers : V → T → Type 0) (result : Result (Option (ℕ × T)) Refusal) → IsLawful E old → Reads E old k answers result new → KeepsSize old new
+    read_size old new k answers (Ok (Some r)) l h =
+        let run = h.1 in
+        let a = hit_size old run.0 k r.0 h.0 [] l run.1 in
+        let b = quiet_release_size run.0 run.2.0 r.0 run.2.1 in
+        let c = same_size run.2.0 new run.2.2 in
+        let ae : count_of run.0 + 0 ≡ count_of old + 0 = a.entries in
+        let af : sum_of run.0 + 0 ≡ sum_of old + 0 = a.charge in
+        let an : run.0.next ≡ old.next + 0 = a.next in
+        let be : count_of run.2.0 + 0 ≡ count_of run.0 + 0 = b.entries in
+        let bf : sum_of run.2.0 + 0 ≡ sum_of run.0 + 0 = b.charge in
+        let bn : run.2.0.next ≡ run.0.next + 0 = b.next in
+        let ce : count_of new + 0 ≡ count_of run.2.0 + 0 = c.entries in
+        let cf : sum_of new + 0 ≡ sum_of run.2.0 + 0 = c.charge in
+        let cn : new.next ≡ run.2.0.next + 0 = c.next in
+        record { entries = omega (arith, ae, be, ce); charge = omega (arith, af, bf, cf); next = omega (arith, an, bn, cn) }
+    read_size old new k answers (Ok None) l h = same_size old new h.1.same
+    read_size old new k answers (Err e) l h = same_size old new h.1.1
+
+    pub read_adds_up : {T : Type 0} (old new : Cache K V) (n : Counts) (k : K) (answers : V → T → Type 0) (result : Result (Option (ℕ × T)) Refusal) → IsLawful E old → AddUp old n → Reads E old k answers result new → AddUp new (counted_look result n)
+    read_adds_up old new n k answers (Ok (Some r)) l a h = with_others new n (one_more n.hits) n.misses n.waits n.refusals n.makings n.failures (kept_adds_up old new n a (read_size old new k answers (Ok (Some r)) l h))
+    read_adds_up old new n k answers (Ok None) l a h = with_others new n n.hits (one_more n.misses) n.waits n.refusals n.makings n.failures (kept_adds_up old new n a (read_size old new k answers (Ok None) l h))
+    read_adds_up old new n k answers (Err e) l a h = with_others new n n.hits n.misses n.waits (one_more n.refusals) n.makings n.failures (kept_adds_up old new n a (read_size old new k answers (Err e) l h))
+
+    -- the invariant after a call that answers so
+    pub soundly_counted : (old new : Cache K V) (n m : Counts) (r : Request K V) (o : Outcome K V) → IsSoundlyCounted E old n → Stands E old r o new → IsLawful E new → m ≡ counted old r o n → IsSoundlyCounted E new m
+    soundly_counted old new n m r o sound stands lawful is = record {
+      lawful = lawful;
+      adds_up = subst (AddUp new) (sym is) (counted_adds_up old new n r o sound.lawful sound.adds_up stands);
+    }
+
+    pub soundly_read : {T : Type 0} (old new : Cache K V) (n m : Counts) (k : K) (answers : V → T → Type 0) (result : Result (Option (ℕ × T)) Refusal) → IsSoundlyCounted E old n → Reads E old k answers result new → IsLawful E new → m ≡ counted_look result n → IsSoundlyCounted E new m
+    soundly_read old new n m k answers result sound reads lawful is = record {
+      lawful = lawful;
+      adds_up = subst (AddUp new) (sym is) (read_adds_up old new n k answers result sound.lawful sound.adds_up reads);
+    }
+
+    pub soundly_readied : (old new : Cache K V) (n : Counts) (s : ℕ) (k : K) (v : V) (r : Result (Unit {0}) (Arc V Global)) → IsSoundlyCounted E old n → IsLawful E new → OnOk r (HasEqualKeyAt E old s k) → OnErr r (new ≡ old)
+        → (HasEqualKeyAt E old s k → Stands E old (ask.ready s v) (outcome_of_ready r) new) → IsSoundlyCounted E new n
+    soundly_readied old new n s k v (Ok x) sound lawful keyed same stands = soundly_counted old new n n (ask.ready s v) (accepted say.done []) sound (stands keyed) lawful refl
+    soundly_readied old new n s k v (Err a) sound lawful keyed same stands = subst (λ c. IsSoundlyCounted E c n) (sym same) sound
+
+    pub soundly_empty : (c : Cache K V) (n : Counts) (capacity : ℕ) → c ≡ empty_cache capacity most_pins_by_default 0 → n ≡ counts_from 0 0 → IsSoundlyCounted E c n
+    soundly_empty c n capacity is_empty is_none =
+        subst (λ m. IsSoundlyCounted E c m) (sym is_none)
+        (subst (λ d. IsSoundlyCounted E d (counts_from 0 0)) (sym is_empty) record { lawful = empty_lawful E capacity most_pins_by_default 0; adds_up = empty_adds_up capacity most_pins_by_default })
+
+  -- the answers of the core's calls, and of those that count them
+  pub get_counted : (c : Cache K V) (k : K) (r : Result (Option (ℕ × Arc V Global)) Refusal) (n : Counts) → counted_look r n ≡ counted c (ask.get k) (outcome_of_get r) n
+  get_counted c k (Ok (Some found)) n = refl
+  get_counted c k (Ok None) n = refl
+  get_counted c k (Err e) n = refl
+
+  pub poll_counted : (c : Cache K V) (s : ℕ) (r : Result (Begun V) Refusal) (n : Counts) → counted_poll r n ≡ counted c (ask.poll s) (outcome_of_poll r) n
+  poll_counted c s (Ok (begun.Make t)) n = refl
+  poll_counted c s (Ok (begun.Wait t)) n = refl
+  poll_counted c s (Ok (begun.Hit t a)) n = refl
+  poll_counted c s (Err Memory) n = refl
+  poll_counted c s (Err Overflow) n = refl
+  poll_counted c s (Err Stale) n = refl
+
+  pub begin_counted : (c : Cache K V) (k : K) (charge : ℕ) (r : Result (Begun V × List (Idle K V)) Refusal) (n : Counts) → is_insertion r c.next ≡ false → counted_begin r n ≡ counted c (ask.begin k charge) (outcome_of_begin r) n
+  begin_counted c k charge (Ok (begun.Make s, out)) n not = sym (ap (λ b. cond b (evicted out (inserted charge (one_making (one_miss n)))) (one_making (one_miss n))) not)
+  begin_counted c k charge (Ok (begun.Wait s, out)) n not = refl
+  begin_counted c k charge (Ok (begun.Hit s a, out)) n not = refl
+  begin_counted c k charge (Err e) n not = refl
+
+  -- a begin that inserts an entry: what it says, and the counts after it
+  pub record Inserted (E : K → K → Bool) (old : Cache K V) (k : K) (charge : ℕ) (r : Result (Begun V × List (Idle K V)) Refusal) (new : Cache K V) (n : Counts) : Type 0 where
+    pub out : List (Idle K V)
+    pub asked : counted_begin r n ≡ one_making (one_miss n)
+    pub counted_is : counted old (ask.begin k charge) (outcome_of_begin r) n ≡ evicted out (inserted charge (one_making (one_miss n)))
+    pub insertions_fit : n.insertions + 1 < 2 ^ 64
+    pub charge_fits : n.inserted_charge + charge < 2 ^ 128
+    pub owes : Owes new (inserted charge (one_making (one_miss n))) (length out) (charges out)
+
+  pub begin_inserted : (E : K → K → Bool) (old new : Cache K V) (k : K) (charge : ℕ) (r : Result (Begun V × List (Idle K V)) Refusal) (n : Counts) → IsSoundlyCounted E old n → Stands E old (ask.begin k charge) (outcome_of_begin r) new → is_insertion r old.next ≡ true → Inserted E old k charge r new n
+  begin_inserted E old new k charge (Ok (begun.Make s, out)) n sound h is =
+      let i = inserts old new k charge s out sound.lawful h (eqb-true s old.next is) in
+      let a = sound.adds_up in
+      let f : charge < 2 ^ 64 = i.charge_fits in
+      let m : old.next + 1 < 2 ^ 64 = i.stamps in
+      let u : n.entries_before + n.insertions ≤ old.next = a.entries_fit in
+      let v : n.charge_before + n.inserted_charge ≤ old.next * end_of_u64 = a.charge_fits in
+      record {
+        out = out;
+        asked = refl;
+        counted_is = ap (λ b. cond b (evicted out (inserted charge (one_making (one_miss n)))) (one_making (one_miss n))) is;
+        insertions_fit = omega (arith, u, m);
+        charge_fits = omega (arith, v, m, f);
+        owes = owed_for_new old new (one_making (one_miss n)) charge (length out) (charges out) (with_others old n n.hits (one_more n.misses) n.waits n.refusals (one_more n.makings) n.failures a) i.sizes i.charge_fits i.stamps;
+      }
+  begin_inserted E old new k charge (Ok (begun.Wait s, out)) n sound h is = absurd (true≢false (sym is))
+  begin_inserted E old new k charge (Ok (begun.Hit s a, out)) n sound h is = absurd (true≢false (sym is))
+  begin_inserted E old new k charge (Err e) n sound h is = absurd (true≢false (sym is))
+
+  -- what the code asks of counts that it is to count evictions, or a removal, in
+  pub record CanEvict (c : Cache K V) (n : Counts) : Type 0 where
+    pub entries : count_of c + n.removals ≤ n.entries_before + n.insertions
+    pub entries_fit : n.entries_before + n.insertions < 2 ^ 64
+    pub charge : sum_of c + n.removed_charge ≤ n.charge_before + n.inserted_charge
+    pub charge_fits : n.charge_before + n.inserted_charge < 2 ^ 128
+
+  pub can_evict : (c : Cache K V) (n : Counts) (o g : ℕ) → Owes c n o g → CanEvict c n
+  can_evict c n o g w =
+      let e : count_of c + o + n.evictions + n.removals ≡ n.entries_before + n.insertions = w.entries in
+      let f : sum_of c + g + n.evicted_charge + n.removed_charge ≡ n.charge_before + n.inserted_charge = w.charge in
+      let s : c.next < 2 ^ 64 = w.stamps in
+      let u : n.entries_before + n.insertions ≤ c.next = w.entries_fit in
+      let v : n.charge_before + n.inserted_charge ≤ c.next * end_of_u64 = w.charge_fits in
+      record { entries = omega (arith, e); entries_fit = omega (arith, u, s); charge = omega (arith, f); charge_fits = omega (arith, v, s) }
+
+  pub record CanRemove (c : Cache K V) (n : Counts) : Type 0 where
+    pub entries : n.removals + 1 < 2 ^ 64
+    pub charge : sum_of c + n.evicted_charge ≤ n.charge_before + n.inserted_charge
+    pub charge_fits : n.charge_before + n.inserted_charge < 2 ^ 128
+
+  pub can_remove : (c : Cache K V) (n : Counts) (g : ℕ) → Owes c n 1 g → CanRemove c n
+  can_remove c n g w =
+      let e : count_of c + 1 + n.evictions + n.removals ≡ n.entries_before + n.insertions = w.entries in
+      let f : sum_of c + g + n.evicted_charge + n.removed_charge ≡ n.charge_before + n.inserted_charge = w.charge in
+      let s : c.next < 2 ^ 64 = w.stamps in
+      let u : n.entries_before + n.insertions ≤ c.next = w.entries_fit in
+      let v : n.charge_before + n.inserted_charge ≤ c.next * end_of_u64 = w.charge_fits in
+      record { entries = omega (arith, e, u, s); charge = omega (arith, f); charge_fits = omega (arith, v, s) }
+
+  -- where a call evicted these, the code may count them, and counts just these
+  pub can_count : (old new : Cache K V) (n : Counts) (out : List (Idle K V)) → AddUp old n → Evicts old out new → CanEvict new n
+  can_count old new n out a e = can_evict new n (length out) (charges out) (owed old new n (length out) (charges out) a e)
+
+  pub counts_evicted : (old new : Cache K V) (n : Counts) (out : List (Idle K V)) (entries charge : ℕ) → AddUp old n → Evicts old out new → entries ≡ count_of new → charge ≡ sum_of new
+      → record n { evictions = n.entries_before + n.insertions - n.removals - entries; evicted_charge = n.charge_before + n.inserted_charge - n.removed_charge - charge } ≡ evicted out n
+  counts_evicted old new n out entries charge a e is_count is_sum = told_evicted new n out entries charge (owed old new n (length out) (charges out) a e) is_count is_sum

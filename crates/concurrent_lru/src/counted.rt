@@ -1,0 +1,405 @@
+//! A state of the core, and beside it the counts of what its calls did.
+ghost use Rattle.std.specs.Prelude.{◌≡◌, ◌<◌, Some, None, IsTrue, IsFalse, IfErr, IfOk, OnOk, OnErr, MatchOption};
+ghost use Rattle.std.specs.Arc.{arc_value};
+ghost use Rattle.std.specs.Fn.{FnOnceReturnsAt, FnOnceTakesAt};
+ghost use Rattle.concurrent_lru.specs.Cache.{count_of, empty_cache, most_pins_by_default, pinned_of, sum_of, HasKeyAt, LacksStamp, IsLawful};
+ghost use Rattle.concurrent_lru.specs.CountedCalls.{counted, counted_begin, counted_look, counted_poll, is_insertion, replaced, AddUp};
+ghost use Rattle.concurrent_lru.specs.Counts.{counts_from, one_refusal};
+ghost use Rattle.concurrent_lru.specs.Inserts.{Inserts};
+ghost use Rattle.concurrent_lru.specs.Keys.{CopiesAreEqual};
+ghost use Rattle.concurrent_lru.specs.OtherPins.{HasNoOtherPin};
+ghost use Rattle.concurrent_lru.specs.Reads.{Finds, Reads};
+ghost use Rattle.concurrent_lru.specs.Ready.{HasEqualKeyAt, HasReadyKey};
+ghost use Rattle.concurrent_lru.specs.Request as ask;
+ghost use Rattle.concurrent_lru.specs.Results.{outcome_of_begin, outcome_of_poll, outcome_of_ready, outcome_of_fail, outcome_of_get, outcome_of_release, outcome_of_evictions};
+ghost use Rattle.concurrent_lru.specs.Runs.{Stands};
+ghost use Rattle.concurrent_lru.specs.Steps.{IsUnready};
+
+use crate::counts::Counts;
+use crate::list::Place;
+use crate::lru_core::{Begun, Evicted, Failed, Inserted, Refusal, State};
+use std::alloc::Global;
+use std::fmt;
+use std::hash::Hash;
+use std::marker::Model;
+use std::sync::Arc;
+
+/// A state of the core with counts of its calls.
+///
+/// Clauses see the abstract cache and the counts. Its type keeps that the cache is lawful and that
+/// the counts add up to its entries and their charges. Each call is the core's of its name, and
+/// counts what it answers.
+#[derive(Drop)]
+pub struct CountedState<K: Hash + Eq + Clone, V> {
+    state: State<K, V>,
+    counts: Counts,
+}
+
+impl<K: Hash + Eq + Clone, V> Model for CountedState<K, V> {
+    ghost use Rattle.concurrent_lru.specs.CountedCalls.{LockedCache, locked_cache_code, IsSoundlyCounted};
+
+    ghost Value = { LockedCache K V };
+
+    ghost coded = { locked_cache_code K.code V.code };
+
+    ghost view = { λ a. record { cache = a.state.cache; counts = a.counts } };
+
+    ghost invariant = { λ a. IsSoundlyCounted K.eq a.state.cache a.counts };
+}
+
+impl<K: Hash + Eq + Clone, V: Drop> CountedState<K, V> {
+    /// An empty cache that settles to `capacity`, with no map by stamp, and no calls counted.
+    pub fn without_map_of_stamps(alloc: Global, capacity: u64) -> CountedState<K, V>
+        requires { CopiesAreEqual K.is_clone K.eq }
+        ensures empty { result.cache ≡ empty_cache capacity most_pins_by_default 0 }
+        ensures counts { result.counts ≡ counts_from 0 0 }
+    {
+        CountedState {
+            state: State::without_map_of_stamps(alloc, capacity),
+            counts: Counts::from(0, 0),
+        }
+    }
+
+    /// Does nothing; its contract tells what holds of every value.
+    pub fn show(&self)
+        ensures lawful { IsLawful K.eq self.now.cache }
+        ensures adds_up { AddUp self.now.cache self.now.counts }
+    {
+        let _ = &self.state;
+    }
+
+    /// What was counted.
+    pub fn counts(&self) -> Counts
+        ensures { result ≡ self.now.counts }
+    {
+        self.counts
+    }
+
+    /// What was counted; the counting begins anew.
+    pub fn reset_counts(&mut self) -> Counts
+        ensures counted { result ≡ self.old.counts }
+        ensures anew { self.new.counts ≡ counts_from (count_of self.old.cache) (sum_of self.old.cache) }
+        ensures cache { self.new.cache ≡ self.old.cache }
+    {
+        let counted = self.counts;
+        self.counts = Counts::from(self.state.len() as u64, self.state.total());
+        counted
+    }
+
+    /// The core's `reserve`.
+    pub fn reserve(&mut self, entries: usize) -> Result<(), Refusal>
+        ensures err { IfErr result (λ e. e ≡ Refusal.Memory) }
+        ensures same { self.new ≡ self.old }
+    {
+        self.state.reserve(entries)
+    }
+
+    /// The core's `begin`: a hit, a wait, a refusal, or a miss that begins a making. Whether it
+    /// inserted the entry is told by the stamp, which is then the next one.
+    #[inline(always)]
+    pub fn begin(&mut self, key: &K, charge: u64) -> Result<(Begun<V>, Evicted<K, V>), Refusal>
+        requires { 0 < charge }
+        ensures step { Stands K.eq self.old.cache (ask.begin key.now charge) (outcome_of_begin result) self.new.cache }
+        ensures counted { self.new.counts ≡ counted self.old.cache (ask.begin key.now charge) (outcome_of_begin result) self.old.counts }
+        ensures lawful { IsLawful K.eq self.new.cache }
+    {
+        let next = self.state.next_stamp();
+        let begun = self.state.begin(key, charge);
+        count_begin(&mut self.counts, &begun);
+        if !is_insertion(&begun, next) {
+            return begun;
+        }
+        self.counts.insert(charge);
+        self.counts
+            .evict(self.state.len() as u64, self.state.total());
+        begun
+    }
+
+    /// The core's `poll`: a making begun where it is to make the value, a refusal where a copy is
+    /// refused.
+    pub fn poll(&mut self, stamp: u64) -> Result<Begun<V>, Refusal>
+        ensures step { Stands K.eq self.old.cache (ask.poll stamp) (outcome_of_poll result) self.new.cache }
+        ensures counted { self.new.counts ≡ counted self.old.cache (ask.poll stamp) (outcome_of_poll result) self.old.counts }
+        ensures lawful { IsLawful K.eq self.new.cache }
+    {
+        let polled = self.state.poll(stamp);
+        count_poll(&mut self.counts, &polled);
+        polled
+    }
+
+    /// The core's `ready`, as its `ready_keyed`. Counts nothing.
+    #[inline(always)]
+    pub fn ready_keyed(&mut self, stamp: u64, key: &K, value: Arc<V>) -> (Result<(), Arc<V>>, bool)
+        ensures step { HasEqualKeyAt K.eq self.old.cache stamp key.now → Stands K.eq self.old.cache (ask.ready stamp (arc_value value)) (outcome_of_ready result.0) self.new.cache }
+        ensures counts { self.new.counts ≡ self.old.counts }
+        ensures keyed { OnOk result.0 (HasEqualKeyAt K.eq self.old.cache stamp key.now) }
+        ensures same { OnErr result.0 (self.new.cache ≡ self.old.cache) }
+        ensures back { IfErr result.0 (λ a. a ≡ value) }
+        ensures quiet { IsFalse result.1 → HasNoOtherPin self.old.cache stamp }
+        ensures lawful { IsLawful K.eq self.new.cache }
+    {
+        self.state.ready_keyed(stamp, key, value)
+    }
+
+    /// The core's `fail`: a failed making, and a removal where the entry is gone.
+    pub fn fail(&mut self, stamp: u64) -> Result<Failed<K>, Refusal>
+        ensures step { Stands K.eq self.old.cache (ask.fail stamp) (outcome_of_fail result) self.new.cache }
+        ensures counted { self.new.counts ≡ counted self.old.cache (ask.fail stamp) (outcome_of_fail result) self.old.counts }
+        ensures lawful { IsLawful K.eq self.new.cache }
+    {
+        match self.state.fail(stamp)? {
+            Failed::Left => {
+                self.counts.fail();
+                Ok(Failed::Left)
+            }
+            Failed::Removed(key) => {
+                self.counts.fail();
+                self.counts.remove(self.state.total());
+                Ok(Failed::Removed(key))
+            }
+        }
+    }
+
+    /// The core's `get`: a hit, a miss or a refusal.
+    #[inline(always)]
+    pub fn get(&mut self, key: &K) -> Result<Option<(u64, Arc<V>)>, Refusal>
+        ensures step { Stands K.eq self.old.cache (ask.get key.now) (outcome_of_get result) self.new.cache }
+        ensures counted { self.new.counts ≡ counted self.old.cache (ask.get key.now) (outcome_of_get result) self.old.counts }
+        ensures lawful { IsLawful K.eq self.new.cache }
+    {
+        let found = self.state.get(key);
+        count_look(&mut self.counts, &found);
+        found
+    }
+
+    /// The core's `read`: a hit, a miss or a refusal.
+    #[inline(always)]
+    pub fn read<T, G>(&mut self, key: &K, reader: G) -> Result<Option<(u64, T)>, Refusal>
+    where
+        G: FnOnce(&V) -> T + Drop,
+        requires callable { (v : V) → Finds K.eq self.old.cache key.now v → FnOnceTakesAt G.FnOnce reader v }
+        ensures step { Reads K.eq self.old.cache key.now (FnOnceReturnsAt G.FnOnce reader) result self.new.cache }
+        ensures counted { self.new.counts ≡ counted_look result self.old.counts }
+        ensures lawful { IsLawful K.eq self.new.cache }
+    {
+        let found = self.state.read(key, reader);
+        count_look(&mut self.counts, &found);
+        found
+    }
+
+    /// The core's `release`. Counts what it evicts.
+    #[inline(always)]
+    pub fn release(&mut self, stamp: u64) -> Result<Evicted<K, V>, Refusal>
+        ensures step { Stands K.eq self.old.cache (ask.release stamp) (outcome_of_release result) self.new.cache }
+        ensures counted { self.new.counts ≡ counted self.old.cache (ask.release stamp) (outcome_of_release result) self.old.counts }
+        ensures lawful { IsLawful K.eq self.new.cache }
+    {
+        let evicted = self.state.release(stamp)?;
+        if evicted.is_empty() {
+            return Ok(evicted);
+        }
+        self.counts
+            .evict(self.state.len() as u64, self.state.total());
+        Ok(evicted)
+    }
+
+    /// The core's `advice_evict`. Counts what it evicts.
+    pub fn advice_evict(&mut self, key: &K) -> Evicted<K, V>
+        ensures step { Stands K.eq self.old.cache (ask.advice_evict key.now) (outcome_of_evictions result) self.new.cache }
+        ensures counted { self.new.counts ≡ counted self.old.cache (ask.advice_evict key.now) (outcome_of_evictions result) self.old.counts }
+        ensures lawful { IsLawful K.eq self.new.cache }
+    {
+        let evicted = self.state.advice_evict(key);
+        self.counts
+            .evict(self.state.len() as u64, self.state.total());
+        evicted
+    }
+
+    /// The core's `invalidate`. Counts what it evicts: an idle entry now, a held one when its last
+    /// pin is released.
+    pub fn invalidate(&mut self, key: &K) -> Evicted<K, V>
+        ensures step { Stands K.eq self.old.cache (ask.invalidate key.now) (outcome_of_evictions result) self.new.cache }
+        ensures counted { self.new.counts ≡ counted self.old.cache (ask.invalidate key.now) (outcome_of_evictions result) self.old.counts }
+        ensures lawful { IsLawful K.eq self.new.cache }
+    {
+        let evicted = self.state.invalidate(key);
+        self.counts
+            .evict(self.state.len() as u64, self.state.total());
+        evicted
+    }
+
+    /// The core's `insert`: an insertion, and what was replaced and evicted; or a refusal. It is no
+    /// hit, no miss and no making.
+    pub fn insert(
+        &mut self,
+        key: &K,
+        charge: u64,
+        value: Arc<V>,
+    ) -> Result<Inserted<K, V>, (Refusal, Arc<V>)>
+        requires { 0 < charge }
+        ensures step { Inserts K.eq self.old.cache key.now charge (arc_value value) result self.new.cache }
+        ensures inserted { IfOk result (λ i. self.new.counts ≡ replaced i.replaced i.evicted charge self.old.counts) }
+        ensures counts { OnErr result (self.new.counts ≡ one_refusal self.old.counts) }
+        ensures same { OnErr result (self.new.cache ≡ self.old.cache) }
+        ensures back { IfErr result (λ e. e.1 ≡ value) }
+        ensures lawful { IsLawful K.eq self.new.cache }
+    {
+        let inserted = match self.state.insert(key, charge, value) {
+            Ok(inserted) => inserted,
+            Err(refused) => {
+                self.counts.refuse();
+                return Err(refused);
+            }
+        };
+        self.counts.insert(charge);
+        self.counts
+            .evict(self.state.len() as u64, self.state.total());
+        Ok(inserted)
+    }
+
+    /// The core's `prune`. Counts what it evicts.
+    pub fn prune(&mut self) -> Evicted<K, V>
+        ensures step { Stands K.eq self.old.cache ask.prune (outcome_of_evictions result) self.new.cache }
+        ensures counted { self.new.counts ≡ counted self.old.cache ask.prune (outcome_of_evictions result) self.old.counts }
+        ensures lawful { IsLawful K.eq self.new.cache }
+    {
+        let evicted = self.state.prune();
+        self.counts
+            .evict(self.state.len() as u64, self.state.total());
+        evicted
+    }
+
+    /// The core's `set_capacity`. Counts what it evicts.
+    pub fn set_capacity(&mut self, capacity: u64) -> Evicted<K, V>
+        ensures step { Stands K.eq self.old.cache (ask.set_capacity capacity) (outcome_of_evictions result) self.new.cache }
+        ensures counted { self.new.counts ≡ counted self.old.cache (ask.set_capacity capacity) (outcome_of_evictions result) self.old.counts }
+        ensures lawful { IsLawful K.eq self.new.cache }
+    {
+        let evicted = self.state.set_capacity(capacity);
+        self.counts
+            .evict(self.state.len() as u64, self.state.total());
+        evicted
+    }
+
+    /// The sum of the charges of all entries, those still being made included.
+    pub fn total(&self) -> u64
+        ensures total { result ≡ sum_of self.now.cache }
+    {
+        self.state.total()
+    }
+
+    /// The sum of the charges of the held entries, those still being made included.
+    pub fn pinned_charge(&self) -> u64
+        ensures { result ≡ pinned_of self.now.cache }
+    {
+        self.state.pinned_charge()
+    }
+
+    /// The number of entries, those still being made included.
+    pub fn len(&self) -> usize
+        ensures { result ≡ count_of self.now.cache }
+    {
+        self.state.len()
+    }
+
+    /// The core's `contains`.
+    pub fn contains(&self, key: &K) -> bool
+        ensures yes { IsTrue result → HasReadyKey K.eq self.now.cache key.now }
+        ensures no { IsFalse result → IsUnready K.eq self.now.cache key.now }
+    {
+        self.state.contains(key)
+    }
+
+    /// The total that the cache settles to.
+    pub fn capacity(&self) -> u64
+        ensures capacity { result ≡ self.now.cache.capacity }
+    {
+        self.state.capacity()
+    }
+
+    /// The core's `key_of`.
+    pub fn key_of(&self, stamp: u64) -> Option<&K>
+        ensures { MatchOption result (LacksStamp self.now.cache stamp) (λ key. HasKeyAt self.now.cache stamp key.now) }
+    {
+        self.state.key_of(stamp)
+    }
+
+    /// The core's `is_shared`.
+    pub fn is_shared(&self, stamp: u64) -> bool
+        ensures { IsFalse result → HasNoOtherPin self.now.cache stamp }
+    {
+        self.state.is_shared(stamp)
+    }
+
+    /// The core's `near`.
+    pub fn near(&self) -> Place {
+        self.state.near()
+    }
+
+    /// The core's `look_near`.
+    pub fn look_near(&mut self, place: Place)
+        ensures { self.new ≡ self.old }
+    {
+        self.state.look_near(place);
+    }
+}
+
+// Counts the answer of a look for a value: a hit, a miss or a refusal.
+#[inline(always)]
+fn count_look<T>(counts: &mut Counts, found: &Result<Option<T>, Refusal>)
+    ensures { counts.new ≡ counted_look found.now counts.old }
+{
+    match found {
+        Ok(Some(_)) => counts.hit(),
+        Ok(None) => counts.miss(),
+        Err(_) => counts.refuse(),
+    }
+}
+
+// Counts the answer of a begin, but for an insertion: a hit, a wait, a refusal, or a miss that
+// begins a making.
+#[inline(always)]
+fn count_begin<K, V>(counts: &mut Counts, begun: &Result<(Begun<V>, Evicted<K, V>), Refusal>)
+    ensures { counts.new ≡ counted_begin begun.now counts.old }
+{
+    match begun {
+        Ok((Begun::Hit(_, _), _)) => counts.hit(),
+        Ok((Begun::Wait(_), _)) => counts.wait(),
+        Ok((Begun::Make(_), _)) => {
+            counts.miss();
+            counts.make();
+        }
+        Err(_) => counts.refuse(),
+    }
+}
+
+// Whether a begin inserted an entry, which then has the stamp that was the next one. A failed
+// making that is taken over has a stamp from before.
+#[inline(always)]
+fn is_insertion<K, V>(begun: &Result<(Begun<V>, Evicted<K, V>), Refusal>, next: u64) -> bool
+    ensures { result ≡ is_insertion begun.now next }
+{
+    match begun {
+        Ok((Begun::Make(stamp), _)) => *stamp == next,
+        _ => false,
+    }
+}
+
+// Counts the answer of a poll: a making begun, or a refusal for want of memory.
+fn count_poll<V>(counts: &mut Counts, polled: &Result<Begun<V>, Refusal>)
+    ensures { counts.new ≡ counted_poll polled.now counts.old }
+{
+    match polled {
+        Ok(Begun::Make(_)) => counts.make(),
+        Err(Refusal::Memory) => counts.refuse(),
+        Ok(_) => {}
+        Err(_) => {}
+    }
+}
+
+// As the core prints it.
+impl<K: Hash + Eq + Clone + fmt::Debug, V: Drop + fmt::Debug> fmt::Debug for CountedState<K, V> {
+    fn fmt<W: fmt::Write>(&self, f: &mut fmt::Formatter<W>) -> fmt::Result {
+        self.state.fmt(f)
+    }
+}

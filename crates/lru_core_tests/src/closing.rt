@@ -1,0 +1,80 @@
+//! A cache that is closed while pins are still counted.
+
+use concurrent_lru::lru_core::State;
+use lru_fixtures::tables::Call::{
+    Begin, Capacity, Fail, Get, Invalidate, KeyOf, Poll, Ready, Release, Show, Total,
+};
+use lru_fixtures::tables::{Call, answers_as_told, says};
+use std::test;
+
+// Idle are 1 and 0. Held are 2, which is ready, 3 and 4, which were invalidated, 3 with a value and
+// 4 without one, 5, which is being made, and 6, whose maker has failed.
+const BEFORE: [(Call, &str); 20] = [
+    (Begin(1, 1), "Ok((Make(0), []))"),
+    (Ready(0, 10), "Ok(())"),
+    (Release(0), "Ok([])"),
+    (Begin(2, 2), "Ok((Make(1), []))"),
+    (Ready(1, 11), "Ok(())"),
+    (Release(1), "Ok([])"),
+    (Begin(3, 3), "Ok((Make(2), []))"),
+    (Ready(2, 12), "Ok(())"),
+    (Begin(4, 4), "Ok((Make(3), []))"),
+    (Ready(3, 13), "Ok(())"),
+    (Invalidate(4), "[]"),
+    (Begin(4, 5), "Ok((Make(4), []))"),
+    (Invalidate(4), "[]"),
+    (Begin(5, 6), "Ok((Make(5), []))"),
+    (Begin(6, 7), "Ok((Make(6), []))"),
+    (Begin(6, 7), "Ok((Wait(6), []))"),
+    (Fail(6), "Ok(Left)"),
+    (Get(1), "Ok(Some((0, 10)))"),
+    (Release(0), "Ok([])"),
+    (Total, "28"),
+];
+
+// No entry is there, by its key or by its stamp, and a new one gets the next stamp.
+const AFTER: [(Call, &str); 12] = [
+    (Total, "0"),
+    (Show, "{}"),
+    (Get(1), "Ok(None)"),
+    (Get(3), "Ok(None)"),
+    (Release(2), "Err(Stale)"),
+    (Release(3), "Err(Stale)"),
+    (Poll(6), "Err(Stale)"),
+    (Fail(4), "Err(Stale)"),
+    (Ready(5, 15), "Err(15)"),
+    (KeyOf(3), "None"),
+    (Capacity, "100"),
+    (Begin(1, 1), "Ok((Make(7), []))"),
+];
+
+#[test]
+fn hands_out_every_value(rt: HostRuntime) -> Result<(), test::Fail> {
+    let alloc = rt.alloc();
+    let mut state = State::new(alloc, 100);
+    answers_as_told(alloc, &mut state, &BEFORE)?;
+    let mut taken = state.take_all();
+    let idle = (taken.pop(), taken.pop());
+    says(
+        alloc,
+        &idle,
+        "(Some(Gone { stamp: 1, key: 2, charge: 2, value: 11 }), \
+         Some(Gone { stamp: 0, key: 1, charge: 1, value: 10 }))",
+    )?;
+    // The order of the held ones is not promised.
+    let mut held = Vec::new(alloc);
+    for gone in taken {
+        held.push((gone.stamp, gone.key, gone.charge, *gone.value))?;
+    }
+    held.sort()?;
+    says(alloc, &held, "[(2, 3, 3, 12), (3, 4, 4, 13)]")?;
+    answers_as_told(alloc, &mut state, &AFTER)
+}
+
+#[test]
+fn an_empty_cache_has_nothing_to_hand_out(rt: HostRuntime) -> Result<(), test::Fail> {
+    let alloc = rt.alloc();
+    let mut state: State<u64, u64> = State::new(alloc, 10);
+    says(alloc, &state.take_all(), "[]")?;
+    answers_as_told(alloc, &mut state, &[(Begin(1, 1), "Ok((Make(0), []))")])
+}

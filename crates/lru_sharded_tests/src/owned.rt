@@ -1,0 +1,124 @@
+//! Owned handles of a cache in shards: each keeps the cache alive, and gives its pin back at its
+//! own shard.
+
+use concurrent_lru::sharded::{GetError, LruCache, OwnedHandle, Refusal};
+use lru_support::hashers::ByOwnNumber;
+use std::alloc::Global;
+use std::sync::{Arc, Wait};
+use std::thread;
+
+type Cache<R> = LruCache<u64, u64, R, ByOwnNumber>;
+
+// A cache of three shards that keeps nothing idle; the key says its shard.
+fn keeps_nothing<R: Wait + Clone + Drop>(alloc: Global, rt: R) -> Result<Arc<Cache<R>>, Refusal> {
+    let cache = LruCache::with_shards_hasher(alloc, rt, 0, 3, ByOwnNumber)?;
+    Ok(Arc::new(alloc, cache)?)
+}
+
+#[test]
+fn an_entry_stays_until_its_owned_handles_are_dropped(rt: HostRuntime) {
+    let shared = keeps_nothing(rt.alloc(), &rt).expect(&rt, "memory");
+    assert!(rt; matches!(LruCache::get_owned(&shared, &1), Ok(None)));
+    let first = LruCache::get_or_init_owned(&shared, &1, 3, |_| 5).expect(&rt, "memory");
+    let second = LruCache::get_owned(&shared, &1)
+        .expect(&rt, "memory")
+        .expect(&rt, "an entry");
+    assert_eq!(rt; (*first, *second), (5, 5));
+    assert_eq!(rt; Arc::strong_count(&shared), 3);
+    drop(first);
+    assert_eq!(rt; (shared.total_charge(), shared.pinned_charge()), (3, 3));
+    drop(second);
+    assert_eq!(rt; shared.total_charge(), 0);
+    assert_eq!(rt; Arc::strong_count(&shared), 1);
+}
+
+// Each shard numbers its entries by itself, so each of these has the stamp 0 in its own.
+#[test]
+fn each_owned_handle_gives_its_pin_back_at_its_own_shard(rt: HostRuntime) {
+    let shared = keeps_nothing(rt.alloc(), &rt).expect(&rt, "memory");
+    let zero = LruCache::get_or_init_owned(&shared, &0, 3, |_| 5).expect(&rt, "memory");
+    let one = LruCache::get_or_init_owned(&shared, &1, 3, |_| 6).expect(&rt, "memory");
+    let two = LruCache::get_or_init_owned(&shared, &2, 3, |_| 7).expect(&rt, "memory");
+    drop(one);
+    assert_eq!(rt;
+        [0, 1, 2].map(|key| shared.contains(&key)),
+        [true, false, true]
+    );
+    drop(two);
+    assert_eq!(rt;
+        [0, 1, 2].map(|key| shared.contains(&key)),
+        [true, false, false]
+    );
+    drop(zero);
+    assert!(rt; shared.is_empty());
+}
+
+#[test]
+fn an_owned_init_may_fail(rt: HostRuntime) {
+    let shared = keeps_nothing(rt.alloc(), &rt).expect(&rt, "memory");
+    let failed = LruCache::get_or_try_init_owned(&shared, &1, 3, |_| Err::<u64, u64>(9));
+    assert!(rt; matches!(&failed, Err(GetError::Init(9))));
+    assert_eq!(rt; shared.total_charge(), 0);
+    let made = LruCache::get_or_try_init_owned(&shared, &1, 3, |_| Ok::<u64, u64>(4)).ok();
+    assert_eq!(rt; made.map(|handle| *handle), Some(4));
+    assert_eq!(rt; Arc::strong_count(&shared), 1);
+}
+
+// A handle whose cache has no other owner.
+fn alone<R: Wait + Clone + Drop>(
+    alloc: Global,
+    rt: R,
+) -> Option<OwnedHandle<u64, u64, R, ByOwnNumber>> {
+    let cache = keeps_nothing(alloc, rt).ok()?;
+    LruCache::get_or_init_owned(&cache, &1, 3, |_| 5).ok()
+}
+
+#[test]
+fn an_owned_handle_keeps_its_cache_alive(rt: HostRuntime) {
+    let handle = alone(rt.alloc(), &rt).expect(&rt, "memory");
+    assert_eq!(rt; *handle, 5);
+    let text = format!(in rt.alloc(); "{handle:?}").expect(&rt, "memory");
+    assert_eq!(rt; text.as_str(), "5");
+}
+
+// What a handle reads, and lets go.
+fn read_last<R: Wait + Drop>(handle: OwnedHandle<u64, u64, R, ByOwnNumber>) -> u64 {
+    *handle
+}
+
+#[test]
+fn an_owned_handle_ends_on_another_thread(rt: HostRuntime) {
+    let own = rt.clone().expect(&rt, "memory");
+    let handle = alone(rt.alloc(), own).expect(&rt, "memory");
+    let reader = thread::spawn(&rt, move || read_last(handle)).expect(&rt, "a thread");
+    assert_eq!(rt; reader.join(&rt), 5);
+}
+
+#[test]
+fn owners_of_a_value_share_its_handle(rt: HostRuntime) {
+    let shared = keeps_nothing(rt.alloc(), &rt).expect(&rt, "memory");
+    let handle = LruCache::get_or_init_owned(&shared, &1, 3, |_| 5).expect(&rt, "memory");
+    let first = Arc::new(rt.alloc(), handle).expect(&rt, "memory");
+    let second = Arc::try_clone(&first).expect(&rt, "memory");
+    drop(first);
+    assert_eq!(rt; shared.total_charge(), 3);
+    drop(second);
+    assert_eq!(rt; shared.total_charge(), 0);
+}
+
+// Each call counts as the one that it is named after, at the shard of its key.
+#[test]
+fn owned_calls_are_counted(rt: HostRuntime) {
+    let shared = keeps_nothing(rt.alloc(), &rt).expect(&rt, "memory");
+    assert!(rt; matches!(LruCache::get_owned(&shared, &1), Ok(None)));
+    drop(LruCache::get_or_try_init_owned(&shared, &1, 3, |_| Err::<u64, u64>(9)));
+    let handle = LruCache::get_or_init_owned(&shared, &1, 3, |_| 5).expect(&rt, "memory");
+    drop(LruCache::get_or_try_init_owned(&shared, &1, 7, |_| Ok::<u64, u64>(6)));
+    drop(LruCache::get_owned(&shared, &1));
+    let held = shared.counts();
+    assert_eq!(rt; (held.hits, held.misses, held.refusals), (2, 3, 0));
+    assert_eq!(rt; (held.makings, held.failures), (2, 1));
+    assert_eq!(rt; (held.insertions, held.evictions, held.removals), (2, 0, 1));
+    drop(handle);
+    assert_eq!(rt; (shared.counts().evictions, shared.counts().evicted_charge), (1, 3));
+}

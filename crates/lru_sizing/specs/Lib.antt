@@ -1,0 +1,9 @@
+-- The definitions that the contracts of sizing cite.
+pub mod ReuseWeights
+pub mod HitsByWeight
+pub mod SumTrees
+pub mod Marks
+pub mod RefusedTraces
+pub mod Curves
+pub mod Estimates
+pub mod Replays

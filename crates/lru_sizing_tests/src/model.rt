@@ -1,0 +1,124 @@
+//! Plain models to compare with: a list of the resident keys, and sums by definition. And the
+//! comparison of a trace with them at given capacities.
+
+use lru_sizing::curve::Curve;
+use lru_sizing::refusal::Refusal;
+use lru_sizing::replay::{has_charges, replay};
+use lru_sizing::reuse_weights::reuse_weights;
+use std::alloc::{AllocError, Global};
+
+/// Whether each use of a trace hits at a capacity, by a list of resident keys with their charges,
+/// the one used last at its end.
+pub fn hits_of_a_list(
+    alloc: Global,
+    trace: &[(u64, u64)],
+    capacity: u64,
+) -> Result<Vec<bool>, AllocError> {
+    let mut resident: Vec<(u64, u64)> = Vec::new(alloc);
+    let mut hits = Vec::new(alloc);
+    for used in trace {
+        let before = resident.len();
+        resident.retain(|other| other.0 != used.0);
+        hits.push(resident.len() < before)?;
+        resident.push(*used)?;
+        shrink(&mut resident, capacity);
+    }
+    Ok(hits)
+}
+
+// Drops the oldest while the charges pass the capacity.
+fn shrink(resident: &mut Vec<(u64, u64)>, capacity: u64) {
+    let mut sum = 0u64;
+    let mut kept = 0usize;
+    for (_, charge) in resident.iter().rev() {
+        sum = sum.saturating_add(*charge);
+        if sum > capacity {
+            break;
+        }
+        kept = kept.saturating_add(1);
+    }
+    let gone = resident.len().saturating_sub(kept);
+    for _ in 0..gone {
+        if !resident.is_empty() {
+            resident.remove(0);
+        }
+    }
+}
+
+/// The reuse weight of the use at a place, by its definition.
+pub fn weight_by_definition(
+    alloc: Global,
+    trace: &[(u64, u64)],
+    place: usize,
+) -> Result<Option<u64>, AllocError> {
+    let mut since: Vec<u64> = Vec::new(alloc);
+    let mut sum = 0u64;
+    let Some((key, own)) = trace.get(place) else {
+        return Ok(None);
+    };
+    for (other, charge) in trace.iter().take(place).rev() {
+        if other == key {
+            return Ok(Some(sum.saturating_add(*own)));
+        }
+        if !since.contains(other) {
+            since.push(*other)?;
+            sum = sum.saturating_add(*charge);
+        }
+    }
+    Ok(None)
+}
+
+/// At which of these capacities a trace is answered differently by the reuse weights, the curve,
+/// the replay and the list of resident keys, if at any.
+pub fn first_difference(
+    alloc: Global,
+    trace: &[(u64, u64)],
+    capacities: &[u64],
+) -> Result<Option<u64>, Refusal> {
+    let weights = reuse_weights(alloc, trace)?;
+    if weights.len() != trace.len() || !has_charges(trace) {
+        return Ok(Some(0));
+    }
+    let curve = Curve::new(alloc, trace, &weights)?;
+    for capacity in capacities {
+        let hits = hits_of_a_list(alloc, trace, *capacity)?;
+        let told = told_hits(alloc, &weights, *capacity)?;
+        let run = replay(alloc, trace, *capacity)?;
+        if told != hits || run != hits || !is_told(&curve, trace, &hits, *capacity) {
+            return Ok(Some(*capacity));
+        }
+    }
+    Ok(None)
+}
+
+// Whether each use hits, as the reuse weights tell it.
+fn told_hits(
+    alloc: Global,
+    weights: &[Option<u64>],
+    capacity: u64,
+) -> Result<Vec<bool>, AllocError> {
+    weights
+        .iter()
+        .map(|weight| matches!(weight, Some(weight) if *weight <= capacity))
+        .collect(alloc)
+}
+
+// Whether a curve tells of a capacity what these hits come to.
+fn is_told(curve: &Curve, trace: &[(u64, u64)], hits: &[bool], capacity: u64) -> bool {
+    let mut count = 0usize;
+    let mut made = 0u128;
+    for ((_, charge), hit) in trace.iter().zip(hits) {
+        if *hit {
+            count = count.saturating_add(1);
+        } else {
+            made = made.saturating_add(u128::from(*charge));
+        }
+    }
+    let least = curve.least_capacity(count);
+    let is_least = matches!(least, Some(least) if least <= capacity && curve.hits(least) >= count);
+    let is_counted = curve.hits(capacity) == count
+        && curve.misses(capacity) == trace.len().saturating_sub(count)
+        && curve.charge_made(capacity) == made
+        && curve.most_hits() >= count;
+    is_least && is_counted
+}

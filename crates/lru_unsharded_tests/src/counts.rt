@@ -1,0 +1,453 @@
+//! Counts of what calls did: each kind of call, that they add up, and what a reset answers, also
+//! while other threads use the cache.
+
+use crate::makings::{Meeting, comes_second, fails_first, makes_first, takes_over};
+use concurrent_lru::unsharded::{Counts, GetError, LruCache};
+use std::alloc::Global;
+use std::sync::Wait;
+use std::test::Fail;
+use std::thread;
+use std::thread::Threads;
+
+// Whether the counts of a cache that no other thread uses add up to its entries and its total.
+fn adds_up<R: Wait>(cache: &LruCache<u64, u64, R>) -> bool {
+    let counts = cache.counts();
+    let entries = (cache.len() as u64)
+        .wrapping_add(counts.evictions)
+        .wrapping_add(counts.removals);
+    let charge = u128::from(cache.total_charge())
+        .wrapping_add(counts.evicted_charge)
+        .wrapping_add(counts.removed_charge);
+    entries == counts.entries_before.wrapping_add(counts.insertions)
+        && charge == counts.charge_before.wrapping_add(counts.inserted_charge)
+}
+
+// A call of one thread.
+#[derive(Clone, Copy, Debug)]
+enum Call {
+    // `get`, whose handle is let go at once.
+    Get(u64),
+    // `read`.
+    Read(u64),
+    // `get_or_init` at a charge, whose handle is let go at once.
+    Make(u64, u64),
+    // `get_or_try_init` at a charge, whose `init` fails.
+    Fail(u64, u64),
+    // `insert` at a charge, whose handle is let go at once.
+    Insert(u64, u64),
+    // `contains`, and each call that asks for a number.
+    Look(u64),
+    AdviceEvict(u64),
+    Invalidate(u64),
+    SetCapacity(u64),
+    Prune,
+    Reserve(usize),
+}
+
+// Makes a call. Whatever it answers is told by the counts.
+fn make_call<R: Wait>(cache: &LruCache<u64, u64, R>, call: Call) {
+    match call {
+        Call::Get(key) => {
+            let _ = cache.get(key);
+        }
+        Call::Read(key) => {
+            let _ = cache.read(&key, |value| *value);
+        }
+        Call::Make(key, charge) => {
+            let _ = cache.get_or_init(key, charge.max(1), |key| *key);
+        }
+        Call::Fail(key, charge) => {
+            let _ = cache.get_or_try_init(key, charge.max(1), |_| -> Result<u64, u8> { Err(9) });
+        }
+        Call::Insert(key, charge) => {
+            let _ = cache.insert(&key, charge.max(1), key);
+        }
+        Call::Look(key) => look(cache, key),
+        Call::AdviceEvict(key) => cache.advice_evict(key),
+        Call::Invalidate(key) => cache.invalidate(&key),
+        Call::SetCapacity(capacity) => cache.set_capacity(capacity),
+        Call::Prune => cache.prune(),
+        Call::Reserve(entries) => {
+            let _ = cache.reserve(entries);
+        }
+    }
+}
+
+// Makes each call that only looks.
+fn look<R: Wait>(cache: &LruCache<u64, u64, R>, key: u64) {
+    let _ = (cache.contains(&key), cache.len(), cache.is_empty());
+    let _ = (cache.total_charge(), cache.pinned_charge(), cache.capacity());
+}
+
+// Hits, misses, refusals, makings, failures, insertions, evictions and removals.
+fn numbers(counts: &Counts) -> [u64; 8] {
+    [
+        counts.hits,
+        counts.misses,
+        counts.refusals,
+        counts.makings,
+        counts.failures,
+        counts.insertions,
+        counts.evictions,
+        counts.removals,
+    ]
+}
+
+// Makes calls in order. Fails at the first after which the counts have other numbers, or do not add
+// up.
+fn counts_each<R: Wait>(
+    cache: &LruCache<u64, u64, R>,
+    calls: &[(Call, [u64; 8])],
+) -> Result<(), Fail> {
+    for (call, wanted) in calls {
+        make_call(cache, *call);
+        let counts = cache.counts();
+        if numbers(&counts) != *wanted || counts.waits != 0 || !adds_up(cache) {
+            return Err(Fail::new(format_args!("after {call:?}: {counts}\n  wanted: {wanted:?}")));
+        }
+    }
+    Ok(())
+}
+
+// Calls in order on a cache of capacity 6, and after each its numbers.
+const CALLS: [(Call, [u64; 8]); 21] = [
+    (Call::Get(1), [0, 1, 0, 0, 0, 0, 0, 0]),
+    (Call::Read(1), [0, 2, 0, 0, 0, 0, 0, 0]),
+    (Call::Make(1, 2), [0, 3, 0, 1, 0, 1, 0, 0]),
+    (Call::Make(1, 3), [1, 3, 0, 1, 0, 1, 0, 0]),
+    (Call::Get(1), [2, 3, 0, 1, 0, 1, 0, 0]),
+    (Call::Read(1), [3, 3, 0, 1, 0, 1, 0, 0]),
+    (Call::Fail(1, 4), [4, 3, 0, 1, 0, 1, 0, 0]),
+    (Call::Look(1), [4, 3, 0, 1, 0, 1, 0, 0]),
+    (Call::Look(2), [4, 3, 0, 1, 0, 1, 0, 0]),
+    (Call::Reserve(3), [4, 3, 0, 1, 0, 1, 0, 0]),
+    // What is refused is no call that asked for a value.
+    (Call::Reserve(usize::MAX), [4, 3, 0, 1, 0, 1, 0, 0]),
+    (Call::Fail(2, 3), [4, 4, 0, 2, 1, 2, 0, 1]),
+    (Call::Make(3, 2), [4, 5, 0, 3, 1, 3, 0, 1]),
+    (Call::Make(4, 2), [4, 6, 0, 4, 1, 4, 0, 1]),
+    (Call::Make(5, u64::MAX), [4, 6, 1, 4, 1, 4, 0, 1]),
+    // Two entries leave at once.
+    (Call::Make(6, 4), [4, 7, 1, 5, 1, 5, 2, 1]),
+    (Call::AdviceEvict(4), [4, 7, 1, 5, 1, 5, 3, 1]),
+    (Call::SetCapacity(3), [4, 7, 1, 5, 1, 5, 4, 1]),
+    (Call::Prune, [4, 7, 1, 5, 1, 5, 4, 1]),
+    (Call::Make(7, 2), [4, 8, 1, 6, 1, 6, 4, 1]),
+    (Call::Invalidate(7), [4, 8, 1, 6, 1, 6, 5, 1]),
+];
+
+#[test]
+fn each_call_counts_what_it_answers(rt: HostRuntime) -> Result<(), Fail> {
+    let cache: LruCache<u64, u64, &HostRuntime> = LruCache::new(rt.alloc(), &rt, 6);
+    counts_each(&cache, &CALLS)?;
+    let counts = cache.counts();
+    assert_eq!(rt; counts.inserted_charge, 15);
+    assert_eq!(rt; counts.evicted_charge, 12);
+    assert_eq!(rt; counts.removed_charge, 3);
+    Ok(())
+}
+
+// Values that are put in, on a cache of capacity 6: none of these asks for a value or makes one.
+const PUT_IN: [(Call, [u64; 8]); 10] = [
+    (Call::Insert(1, 2), [0, 0, 0, 0, 0, 1, 0, 0]),
+    (Call::Get(1), [1, 0, 0, 0, 0, 1, 0, 0]),
+    // It replaces an idle entry, which is evicted.
+    (Call::Insert(1, 3), [1, 0, 0, 0, 0, 2, 1, 0]),
+    (Call::Insert(2, u64::MAX), [1, 0, 1, 0, 0, 2, 1, 0]),
+    // Another is evicted for it.
+    (Call::Insert(2, 4), [1, 0, 1, 0, 0, 3, 2, 0]),
+    (Call::Insert(3, 2), [1, 0, 1, 0, 0, 4, 2, 0]),
+    (Call::Insert(3, u64::MAX), [1, 0, 2, 0, 0, 4, 2, 0]),
+    (Call::Make(3, 9), [2, 0, 2, 0, 0, 4, 2, 0]),
+    (Call::Prune, [2, 0, 2, 0, 0, 4, 4, 0]),
+    // It is evicted as its handle is let go.
+    (Call::Insert(4, 7), [2, 0, 2, 0, 0, 5, 5, 0]),
+];
+
+#[test]
+fn a_value_that_is_put_in_is_inserted_alone(rt: HostRuntime) -> Result<(), Fail> {
+    let cache: LruCache<u64, u64, &HostRuntime> = LruCache::new(rt.alloc(), &rt, 6);
+    counts_each(&cache, &PUT_IN)?;
+    let counts = cache.counts();
+    assert_eq!(rt; (counts.inserted_charge, counts.evicted_charge), (18, 18));
+    Ok(())
+}
+
+#[test]
+fn a_held_value_that_is_replaced_is_evicted_once(rt: HostRuntime) {
+    let cache: LruCache<u64, u64, &HostRuntime> = LruCache::new(rt.alloc(), &rt, 100);
+    let old = cache.insert(&1, 3, 10).expect(&rt, "memory");
+    let new = cache.insert(&1, 5, 11).expect(&rt, "memory");
+    let held = cache.counts();
+    assert_eq!(rt; (held.insertions, held.inserted_charge, held.evictions), (2, 8, 0));
+    drop(old);
+    let replaced = cache.counts();
+    assert_eq!(rt; (replaced.evictions, replaced.evicted_charge), (1, 3));
+    drop(new);
+    assert_eq!(rt; cache.counts(), replaced);
+    assert!(rt; adds_up(&cache));
+}
+
+#[test]
+fn a_cache_that_is_printed_counts_nothing(rt: HostRuntime) {
+    let cache: LruCache<u64, u64, &HostRuntime> = LruCache::new(rt.alloc(), &rt, 100);
+    drop(cache.get_or_init(1, 1, |key| *key));
+    let counts = cache.counts();
+    let text = format!(in rt.alloc(); "{cache:?}").expect(&rt, "memory");
+    assert_eq!(rt; text.as_str(), "{1: 1}");
+    assert_eq!(rt; cache.counts(), counts);
+}
+
+#[test]
+fn a_prune_counts_each_entry_that_it_evicts(rt: HostRuntime) {
+    let cache: LruCache<u64, u64, &HostRuntime> = LruCache::new(rt.alloc(), &rt, 100);
+    for key in 1..=5 {
+        make_call(&cache, Call::Make(key, key));
+    }
+    let held = cache.get_or_init(9, 7, |key| *key).expect(&rt, "memory");
+    cache.prune();
+    let counts = cache.counts();
+    assert_eq!(rt; (counts.evictions, counts.evicted_charge), (5, 15));
+    assert!(rt; adds_up(&cache));
+    // The drop of the last handle settles the cache: here it evicts the entry itself.
+    cache.set_capacity(0);
+    drop(held);
+    let counts = cache.counts();
+    assert_eq!(rt; (counts.evictions, counts.evicted_charge), (6, 22));
+    assert!(rt; adds_up(&cache));
+}
+
+// An idle entry is evicted at once, and a held one as its last handle is let go.
+#[test]
+fn an_invalidated_entry_is_evicted_once(rt: HostRuntime) {
+    let cache: LruCache<u64, u64, &HostRuntime> = LruCache::new(rt.alloc(), &rt, 100);
+    make_call(&cache, Call::Make(1, 3));
+    cache.invalidate(&1);
+    let idle = cache.counts();
+    assert_eq!(rt; (idle.evictions, idle.evicted_charge), (1, 3));
+    let held = cache.get_or_init(2, 5, |key| *key).expect(&rt, "memory");
+    let again = cache.find(&2).expect(&rt, "a pin");
+    cache.invalidate(&2);
+    assert_eq!(rt; cache.counts().evictions, 1);
+    assert!(rt; adds_up(&cache));
+    // A new entry of the key, beside the one that is held.
+    make_call(&cache, Call::Make(2, 7));
+    drop(held);
+    assert_eq!(rt; cache.counts().evictions, 1);
+    drop(again);
+    cache.invalidate(&9);
+    let counts = cache.counts();
+    assert_eq!(rt; (counts.insertions, counts.inserted_charge), (3, 15));
+    assert_eq!(rt; (counts.evictions, counts.evicted_charge), (2, 8));
+    assert_eq!(rt; (cache.len(), cache.total_charge()), (1, 7));
+    assert!(rt; adds_up(&cache));
+}
+
+#[test]
+fn a_reset_answers_what_was_counted(rt: HostRuntime) {
+    let cache: LruCache<u64, u64, &HostRuntime> = LruCache::new(rt.alloc(), &rt, 100);
+    assert_eq!(rt; cache.counts(), Counts::default());
+    assert_eq!(rt; cache.reset_counts(), Counts::default());
+    for key in [1, 2, 1] {
+        make_call(&cache, Call::Make(key, 10));
+    }
+    let counts = cache.counts();
+    assert_eq!(rt; (counts.hits, counts.misses, counts.insertions), (1, 2, 2));
+    assert_eq!(rt; cache.reset_counts(), counts);
+    // The entries that are there are those before.
+    let anew = cache.counts();
+    assert_eq!(rt; (anew.hits, anew.misses, anew.insertions), (0, 0, 0));
+    assert_eq!(rt; (anew.entries_before, anew.charge_before), (2, 20));
+    assert!(rt; adds_up(&cache));
+    cache.advice_evict(1);
+    assert_eq!(rt; (cache.counts().evictions, cache.counts().evicted_charge), (1, 10));
+    assert!(rt; adds_up(&cache));
+}
+
+#[test]
+fn counts_are_told_in_one_line(rt: HostRuntime) -> Result<(), Fail> {
+    let alloc = rt.alloc();
+    let cache: LruCache<u64, u64, &HostRuntime> = LruCache::new(alloc, &rt, 5);
+    for key in [1, 2, 2] {
+        make_call(&cache, Call::Make(key, 3));
+    }
+    let counts = cache.reset_counts();
+    assert_eq!(rt;
+        format!(in alloc; "{counts}")?.as_str(),
+        "hits 1, misses 2, waits 0, refusals 0, makings 2, failures 0, inserted 2 of charge 6, evicted 1 of charge 3, removed 0 of charge 0, before 0 of charge 0"
+    );
+    let anew = cache.counts();
+    assert_eq!(rt;
+        format!(in alloc; "{anew}")?.as_str(),
+        "hits 0, misses 0, waits 0, refusals 0, makings 0, failures 0, inserted 0 of charge 0, evicted 0 of charge 0, removed 0 of charge 0, before 1 of charge 3"
+    );
+    Ok(())
+}
+
+#[test]
+fn the_hit_ratio_is_of_hits_and_misses(rt: HostRuntime) {
+    let none = Counts::default();
+    assert_eq!(rt; none.hit_ratio(), None);
+    let some = Counts {
+        hits: 3,
+        misses: 1,
+        waits: 9,
+        refusals: 9,
+        ..none
+    };
+    assert_eq!(rt; some.hit_ratio(), Some(0.75));
+    let more = Counts { hits: u64::MAX, ..some };
+    assert_eq!(rt; more.saturating_add(some).hits, u64::MAX);
+    assert_eq!(rt; more.saturating_add(some).misses, 2);
+    assert_eq!(rt; more.hit_ratio(), Some(1.0));
+}
+
+// How often the two meet again, at most, where the second came too late to wait.
+const MEETINGS: u32 = 50;
+
+// The counts after two callers asked for one value, the second while the first made it; none where
+// the second came too late.
+fn counts_of_meeting<R: Wait + Threads + Clone + Drop + Send + Sync>(
+    rt: &R,
+    alloc: Global,
+) -> Option<Counts> {
+    let cache: LruCache<u64, u64, R> = LruCache::new(alloc, rt.clone().ok()?, 10);
+    let meeting = Meeting::new();
+    let made = thread::join(
+        rt,
+        || makes_first(&cache, &meeting),
+        || comes_second(&cache, &meeting),
+    );
+    let counts = cache.counts();
+    match made {
+        (Some(5), Some(5)) if counts.hits == 0 => Some(counts),
+        _ => None,
+    }
+}
+
+#[test]
+fn a_caller_that_waits_is_counted(rt: HostRuntime) {
+    let mut counts = counts_of_meeting(&rt, rt.alloc());
+    for _ in 0..MEETINGS {
+        if counts.is_none() {
+            counts = counts_of_meeting(&rt, rt.alloc());
+        }
+    }
+    let counts = counts.expect(&rt, "the second never waited");
+    assert_eq!(rt; (counts.hits, counts.misses, counts.waits), (0, 1, 1));
+    assert_eq!(rt; (counts.makings, counts.failures, counts.insertions), (1, 0, 1));
+}
+
+// The counts after the first caller failed and the second, which waited, made the value; none where
+// the second came too late.
+fn counts_of_failure<R: Wait + Threads + Clone + Drop + Send + Sync>(
+    rt: &R,
+    alloc: Global,
+) -> Option<Counts> {
+    let cache: LruCache<u64, u64, R> = LruCache::new(alloc, rt.clone().ok()?, 10);
+    let meeting = Meeting::new();
+    let made = thread::join(
+        rt,
+        || fails_first(&cache, &meeting),
+        || takes_over(&cache, &meeting),
+    );
+    let counts = cache.counts();
+    match made {
+        (true, Some(5)) if counts.waits > 0 => Some(counts),
+        _ => None,
+    }
+}
+
+// The entry stays for the caller that waits, so it is neither removed nor inserted again.
+#[test]
+fn a_making_that_is_taken_over_is_counted(rt: HostRuntime) {
+    let mut counts = counts_of_failure(&rt, rt.alloc());
+    for _ in 0..MEETINGS {
+        if counts.is_none() {
+            counts = counts_of_failure(&rt, rt.alloc());
+        }
+    }
+    let counts = counts.expect(&rt, "the second never waited");
+    assert_eq!(rt; (counts.hits, counts.misses, counts.waits), (0, 1, 1));
+    assert_eq!(rt; (counts.makings, counts.failures), (2, 1));
+    assert_eq!(rt; (counts.insertions, counts.removals), (1, 0));
+}
+
+// Whether each of some calls of one thread is answered.
+fn works<R: Wait>(cache: &LruCache<u64, u64, R>, seed: u64) -> bool {
+    for turn in 0..1_000u64 {
+        let key = turn.wrapping_mul(seed.wrapping_add(7)) % 20;
+        let made = cache.get_or_try_init(key, 1, |key| -> Result<u64, u64> {
+            if *key == 13 { Err(*key) } else { Ok(*key) }
+        });
+        match made {
+            Ok(_) => {}
+            Err(GetError::Init(13)) => {}
+            Err(_) => return false,
+        }
+    }
+    true
+}
+
+#[test]
+fn four_threads_counts_add_up(rt: HostRuntime) -> Result<(), Fail> {
+    let cache: LruCache<u64, u64, &HostRuntime> = LruCache::new(rt.alloc(), &rt, 8);
+    let answered = thread::map_indices(&rt, rt.alloc(), 4, &|seed| works(&cache, seed as u64))?;
+    assert_eq!(rt; answered.as_slice(), [true; 4].as_slice());
+    assert!(rt; adds_up(&cache));
+    let counts = cache.counts();
+    let asked = counts
+        .hits
+        .wrapping_add(counts.misses)
+        .wrapping_add(counts.waits);
+    assert_eq!(rt; asked, 4_000);
+    assert_eq!(rt; counts.refusals, 0);
+    Ok(())
+}
+
+// How often one thread resets the counts, and how often each of three others asks for a value.
+const RESETS: u32 = 2_000;
+
+const ASKS: u32 = 20_000;
+
+// The calls that hit, missed or waited.
+fn asked_in(counts: &Counts) -> u64 {
+    counts
+        .hits
+        .wrapping_add(counts.misses)
+        .wrapping_add(counts.waits)
+}
+
+// The calls that some resets tell of.
+fn resets_often<R: Wait>(cache: &LruCache<u64, u64, R>) -> u64 {
+    let mut asked: u64 = 0;
+    for _ in 0..RESETS {
+        asked = asked.wrapping_add(asked_in(&cache.reset_counts()));
+        thread::yield_now();
+    }
+    asked
+}
+
+// Asks for a value. Answers how many calls it was told of, which are none.
+fn asks_often<R: Wait>(cache: &LruCache<u64, u64, R>) -> u64 {
+    for _ in 0..ASKS {
+        let _ = cache.read(&1, |value| *value);
+    }
+    0
+}
+
+// No call is missed between two resets, and none is counted twice.
+#[test]
+fn each_call_is_counted_in_one_reset(rt: HostRuntime) -> Result<(), Fail> {
+    let cache: LruCache<u64, u64, &HostRuntime> = LruCache::new(rt.alloc(), &rt, 8);
+    let told = thread::map_indices(&rt, rt.alloc(), 4, &|index| match index {
+        0 => resets_often(&cache),
+        _ => asks_often(&cache),
+    })?;
+    let mut asked = asked_in(&cache.counts());
+    for part in told.as_slice() {
+        asked = asked.wrapping_add(*part);
+    }
+    assert_eq!(rt; asked, 60_000);
+    Ok(())
+}
