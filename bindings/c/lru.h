@@ -149,8 +149,7 @@ lru_code lru_bytes_new_with_limits(uint64_t capacity, uint64_t first_stamp, uint
  * values are the caller's to delete, and their stamps mean nothing from then on.  Entries that
  * are still being made have no value and are not told.  `cache` is closed and can be opened anew.
  *
- * Where no entry is held this takes the time of freeing what is there.  Else each stamp up to the
- * last one that is held is looked for once.
+ * The idle entries come first, oldest first; what was held follows in no particular order.
  *
  * Asks for no memory.  LRU_DONE; LRU_CLOSED; LRU_NOT_EMPTY. */
 lru_code lru_bytes_free(lru_bytes *cache, lru_bytes_evicted *left);

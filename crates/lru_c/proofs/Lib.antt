@@ -3,7 +3,6 @@ pub mod Inserted
 pub mod IntoChain
 pub mod BytesCopies
 pub mod ChainCodes
-pub mod Freed
 pub mod Opened
 pub mod BytesCacheAsBox
 pub mod BytesChainAsBox

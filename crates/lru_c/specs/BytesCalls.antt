@@ -2,6 +2,7 @@
 use Rattle.std.specs.Prelude.{◌≡◌, ◌==◌, ◌<◌, ◌++◌, ◌⊎◌, ℕ, Bool, nat_eq, length, drop, List, [], Option, Some, None, MatchBool, MatchOption}
 use Rattle.concurrent_lru.specs.Cache.{Cache, Idle, HasKeyAt, LacksStamp}
 use Rattle.concurrent_lru.specs.Request.{Request}
+use Rattle.concurrent_lru.specs.TakeAll.{TakesAll}
 use Rattle.concurrent_lru.specs.Request as ask
 use Rattle.lru_c.specs.Codes as code
 use Rattle.lru_c.specs.Told as tells
@@ -88,10 +89,10 @@ CopiesKey cache stamp t before after =
 abbrev pub KeyOf : Option BytesCache → ℕ → LruTold → List ℕ → List ℕ → Option BytesCache → Type 0
 KeyOf old stamp t before after new = OnOpen old new (λ o n. CopiesKey o.state.cache stamp t before after × (n.state.cache ≡ o.state.cache)) ((t ≡ bare code.closed) × (after ≡ before))
 
--- A freed cache told this code and these two chains: what was idle, oldest first, and what was held.
-abbrev pub Frees : Option BytesCache → ℕ → Entries → Entries → Type 0
-Frees old c idle held = MatchOption old ((c ≡ code.closed) × (idle ≡ []) × (held ≡ [])) (λ o. (c ≡ code.done) × (idle ≡ o.state.cache.idle))
+-- A freed cache told this code, and all that was in it and had a value was taken out.
+abbrev pub Frees : Option BytesCache → ℕ → Entries → Type 0
+Frees old c out = MatchOption old ((c ≡ code.closed) × (out ≡ [])) (λ o. (c ≡ code.done) × TakesAll o.state.cache out)
 
 -- A call that frees the cache into a chain.
 abbrev pub FreesInto : Option BytesChain → Option BytesChain → ℕ → Option BytesCache → Option BytesCache → Type 0
-FreesInto before after c old new = IntoChain (entries_of before) (entries_of after) c old new (λ out. (new ≡ None) × ((idle : Entries) × (held : Entries) × Frees old c idle held × (out ≡ idle ++ held)))
+FreesInto before after c old new = IntoChain (entries_of before) (entries_of after) c old new (λ out. (new ≡ None) × Frees old c out)

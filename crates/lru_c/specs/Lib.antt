@@ -4,7 +4,6 @@ pub mod Told
 pub mod Inserts
 pub mod Handles
 pub mod Chains
-pub mod Freed
 pub mod Opened
 pub mod BytesCacheOwned
 pub mod BytesChainOwned

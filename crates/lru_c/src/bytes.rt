@@ -76,7 +76,7 @@ pub extern "C" fn lru_bytes_new_with_limits(
 }
 
 /// Frees a cache, and puts each entry that has a value into a chain: what was idle, oldest first,
-/// and then what was held. The handle is not open then.
+/// and then what was held, in no particular order. The handle is not open then.
 ///
 /// `CLOSED` where the cache or the chain is not open, and `NOT_EMPTY` where the chain has entries.
 #[unsafe(no_mangle)]
@@ -87,9 +87,9 @@ pub extern "C" fn lru_bytes_free(cache: &mut LruBytes, left: &mut LruBytesEvicte
     if filled != code::DONE {
         return filled;
     }
-    let (code, taken) = replace_with(cache, (), calls::free);
-    replace_with(left, taken, chain_calls::put);
-    code
+    let (answer, taken) = replace_with(cache, (), calls::free);
+    replace_with(left, (Evicted::none(), taken), chain_calls::put);
+    answer
 }
 
 /// Asks for the value of a key and pins its entry, which is made where there is none. What the

@@ -8,6 +8,5 @@ mod chains;
 pub mod code;
 pub mod parts;
 mod steps;
-mod take_all;
 pub mod told;
 pub mod words;

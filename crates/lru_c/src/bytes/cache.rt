@@ -16,8 +16,6 @@ pub struct BytesCache {
     pub alloc: Global,
     /// The cache.
     pub state: State<Vec<u8>, u64>,
-    /// The stamp that the first entry got; no entry has a lower one.
-    pub first_stamp: u64,
     /// The key that was asked last. It grows as longer keys are asked.
     pub key: Vec<u8>,
 }

@@ -10,7 +10,6 @@ ghost use Rattle.lru_c.specs.BytesCalls.{Asks, AsksByKey, AsksWithMemory, Begins
 
 use crate::code;
 use crate::steps;
-use crate::take_all::take_all;
 use crate::told::LruTold;
 use crate::bytes::cache::BytesCache;
 use crate::bytes::cache_handle::LruBytes;
@@ -31,7 +30,6 @@ pub(crate) fn make(
     let cache = BytesCache {
         alloc,
         state: State::with_limits(alloc, capacity, first_stamp, most_pins),
-        first_stamp,
         key: Vec::new(alloc),
     };
     Ok(LruBytes::of(Box::new(alloc, cache)?))
@@ -222,20 +220,19 @@ pub(crate) fn reserve(handle: LruBytes, entries: usize) -> (LruBytes, u32)
     }
 }
 
-// Takes each entry out and frees the cache: what was idle, and then what was held.
-pub(crate) fn free(handle: LruBytes, _nothing: ()) -> (LruBytes, (u32, (Gone, Gone)))
+// Takes each entry out and frees the cache.
+pub(crate) fn free(handle: LruBytes, _nothing: ()) -> (LruBytes, (u32, Gone))
     ensures closed { result.0.cache.held ≡ None }
-    ensures taken { Frees handle.cache.held result.1.0 result.1.1.0 result.1.1.1 }
+    ensures taken { Frees handle.cache.held result.1.0 result.1.1 }
 {
     match handle.opened() {
         Ok(mut cache) => {
-            let first_stamp = cache.first_stamp;
-            let taken = take_all(&mut cache.state, first_stamp);
+            let taken = cache.state.take_all();
             let alloc = cache.alloc;
             drop(cache);
-            (LruBytes::closed(alloc), (code::DONE, (taken.idle, taken.held)))
+            (LruBytes::closed(alloc), (code::DONE, taken))
         }
-        Err(handle) => (handle, (code::CLOSED, (Evicted::none(), Evicted::none()))),
+        Err(handle) => (handle, (code::CLOSED, Evicted::none())),
     }
 }
 

@@ -15,8 +15,6 @@ pub struct WordsCache {
     pub alloc: Global,
     /// The cache.
     pub state: State<Words, u64>,
-    /// The stamp that the first entry got; no entry has a lower one.
-    pub first_stamp: u64,
 }
 
 impl WordsCache {

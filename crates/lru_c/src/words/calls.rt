@@ -10,7 +10,6 @@ ghost use Rattle.lru_c.specs.WordsCalls.{Asks, AsksWithMemory, Begins, Contains,
 
 use crate::code;
 use crate::steps;
-use crate::take_all::take_all;
 use crate::told::LruTold;
 use crate::words::cache::WordsCache;
 use crate::words::cache_handle::LruWords;
@@ -32,7 +31,6 @@ pub(crate) fn make(
     let cache = WordsCache {
         alloc,
         state: State::with_limits(alloc, capacity, first_stamp, most_pins),
-        first_stamp,
     };
     Ok(LruWords::of(Box::new(alloc, cache)?))
 }
@@ -222,20 +220,19 @@ pub(crate) fn reserve(handle: LruWords, entries: usize) -> (LruWords, u32)
     }
 }
 
-// Takes each entry out and frees the cache: what was idle, and then what was held.
-pub(crate) fn free(handle: LruWords, _nothing: ()) -> (LruWords, (u32, (Gone, Gone)))
+// Takes each entry out and frees the cache.
+pub(crate) fn free(handle: LruWords, _nothing: ()) -> (LruWords, (u32, Gone))
     ensures closed { result.0.cache.held ≡ None }
-    ensures taken { Frees handle.cache.held result.1.0 result.1.1.0 result.1.1.1 }
+    ensures taken { Frees handle.cache.held result.1.0 result.1.1 }
 {
     match handle.opened() {
         Ok(mut cache) => {
-            let first_stamp = cache.first_stamp;
-            let taken = take_all(&mut cache.state, first_stamp);
+            let taken = cache.state.take_all();
             let alloc = cache.alloc;
             drop(cache);
-            (LruWords::closed(alloc), (code::DONE, (taken.idle, taken.held)))
+            (LruWords::closed(alloc), (code::DONE, taken))
         }
-        Err(handle) => (handle, (code::CLOSED, (Evicted::none(), Evicted::none()))),
+        Err(handle) => (handle, (code::CLOSED, Evicted::none())),
     }
 }
 
