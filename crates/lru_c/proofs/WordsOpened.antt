@@ -1,6 +1,6 @@
 -- What a step did with what an open handle leads to, as what a call did with the handle.
-use Rattle.std.proofs.Common.{◌≡◌, ℕ, List, sym, subst, ◌==◌}
-use Rattle.std.specs.Prelude.{Option, Some, MatchBool, ◌⊎◌}
+use Rattle.std.proofs.Common.{◌≡◌, ℕ, List, inl, inr, sym, subst, ◌==◌}
+use Rattle.std.specs.Prelude.{Option, Some, None, MatchBool, ◌⊎◌}
 use Rattle.concurrent_lru.specs.Cache.{Cache}
 use Rattle.concurrent_lru.specs.Request as ask
 use Rattle.concurrent_lru.specs.Request.{Request}
@@ -50,3 +50,13 @@ module _ {old new : Option WordsCache} {x y : WordsCache} (o : old ≡ Some x) (
   pub asks_with_memory : (r : Request Words ℕ) (t : LruTold) (gone : Entries) → tells.AsksWithMemory words_eq a.state.cache r t gone y.state.cache → AsksWithMemory old r t gone new
   asks_with_memory r t gone h =
       on_open old new x y (λ p q. tells.AsksWithMemory words_eq p.state.cache r t gone q.state.cache) _ o n (subst (λ p. tells.AsksWithMemory words_eq p.state.cache r t gone y.state.cache) is h)
+
+-- where no key is told, it does not matter which one is named
+pub any_key : (old new : Option WordsCache) (stamp c : ℕ) (k l : Words) → (c ≡ code.done → ⊥) → KeyOf old stamp c k new → KeyOf old stamp c l new
+any_key None None stamp c k l none h = h
+any_key (Some o) (Some n) stamp c k l none h = (elim h.0 [
+  | inl p ↦ absurd (none p.0)
+  | inr q ↦ inr q
+], h.1)
+any_key None (Some n) stamp c k l none h = h
+any_key (Some o) None stamp c k l none h = h

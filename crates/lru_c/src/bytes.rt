@@ -1,6 +1,6 @@
 //! Caches whose keys are bytes, for C.
 ghost use Rattle.std.specs.Prelude.{◌≡◌, ◌==◌, [], false, is_some, true, None, Some, MatchBool, MatchOption};
-ghost use Rattle.concurrent_lru.specs.Cache.{count_of, empty_cache, most_pins_by_default};
+ghost use Rattle.concurrent_lru.specs.Cache.{count_of, empty_cache, most_pins_by_default, sum_of};
 ghost use Rattle.concurrent_lru.specs.Request as ask;
 ghost use Rattle.lru_c.specs.Chains.{chain_code, entries_in, IntoChain, TellsFirst};
 ghost use Rattle.lru_c.specs.Codes as codes;
@@ -293,7 +293,7 @@ pub extern "C" fn lru_bytes_reserve(cache: &mut LruBytes, entries: usize) -> u32
 /// The sum of the charges of all entries.
 #[unsafe(no_mangle)]
 pub extern "C" fn lru_bytes_total(cache: &mut LruBytes) -> LruTold
-    ensures { Asks cache.old.cache.held ask.total result [] cache.new.cache.held }
+    ensures { Numbers cache.old.cache.held sum_of result cache.new.cache.held }
 {
     replace_with(cache, (), calls::total)
 }

@@ -1,7 +1,7 @@
 //! The steps of a cache of words, for keys of any type: each as the core takes it, told as C is told.
 ghost use Rattle.std.specs.Prelude.{◌≡◌, ◌<◌, ◌==◌, ◌⊎◌, [], MatchBool};
 ghost use Rattle.std.specs.Arc.{arc_value};
-ghost use Rattle.concurrent_lru.specs.Cache.{count_of};
+ghost use Rattle.concurrent_lru.specs.Cache.{count_of, sum_of};
 ghost use Rattle.concurrent_lru.specs.Request as ask;
 ghost use Rattle.lru_c.specs.Codes as codes;
 ghost use Rattle.lru_c.specs.Inserts.{refusal_code, TellsInsert};
@@ -216,7 +216,7 @@ pub(crate) fn set_capacity<K: Hash + Eq + Clone>(
 }
 
 pub(crate) fn total<K: Hash + Eq + Clone>(state: &State<K, u64>) -> LruTold
-    ensures { Asks K.eq state.now.cache ask.total result [] state.now.cache }
+    ensures { result ≡ told codes.number 0 (sum_of state.now.cache) }
 {
     LruTold::of(code::NUMBER, 0, state.total())
 }

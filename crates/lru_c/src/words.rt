@@ -1,6 +1,6 @@
 //! Caches whose keys are two words, for C.
-ghost use Rattle.std.specs.Prelude.{◌≡◌, ◌==◌, [], false, is_some, true, None, Some, MatchBool, MatchOption};
-ghost use Rattle.concurrent_lru.specs.Cache.{count_of, empty_cache, most_pins_by_default};
+ghost use Rattle.std.specs.Prelude.{◌≡◌, ◌==◌, ⊤, [], false, is_some, true, None, Some, MatchBool, MatchOption};
+ghost use Rattle.concurrent_lru.specs.Cache.{count_of, empty_cache, most_pins_by_default, sum_of};
 ghost use Rattle.concurrent_lru.specs.Request as ask;
 ghost use Rattle.lru_c.specs.Chains.{chain_code, entries_in, IntoChain, TellsFirst};
 ghost use Rattle.lru_c.specs.Codes as codes;
@@ -299,7 +299,7 @@ pub extern "C" fn lru_words_reserve(cache: &mut LruWords, entries: usize) -> u32
 /// The sum of the charges of all entries.
 #[unsafe(no_mangle)]
 pub extern "C" fn lru_words_total(cache: &mut LruWords) -> LruTold
-    ensures { Asks cache.old.cache.held ask.total result [] cache.new.cache.held }
+    ensures { Numbers cache.old.cache.held sum_of result cache.new.cache.held }
 {
     replace_with(cache, (), calls::total)
 }
@@ -328,7 +328,8 @@ pub extern "C" fn lru_words_key_of(
     first: &mut u64,
     second: &mut u64,
 ) -> u32
-    ensures { MatchBool (result == codes.done) (KeyOf cache.old.cache.held stamp result (record { first = first.new; second = second.new }) cache.new.cache.held) ((first.new ≡ first.old) × (second.new ≡ second.old)) }
+    ensures told { KeyOf cache.old.cache.held stamp result (record { first = first.new; second = second.new }) cache.new.cache.held }
+    ensures kept { MatchBool (result == codes.done) ⊤ ((first.new ≡ first.old) × (second.new ≡ second.old)) }
 {
     let (code, key) = replace_with(cache, stamp, calls::key_of);
     if code == code::DONE {

@@ -1,6 +1,6 @@
 //! The calls on a cache behind a handle, which is handed in and handed back.
 ghost use Rattle.std.specs.Prelude.{◌≡◌, ◌<◌, ◌==◌, [], None, Some, IfOk, MatchBool, MatchOption};
-ghost use Rattle.concurrent_lru.specs.Cache.{count_of, empty_cache};
+ghost use Rattle.concurrent_lru.specs.Cache.{count_of, empty_cache, sum_of};
 ghost use Rattle.concurrent_lru.specs.Request as ask;
 ghost use Rattle.lru_c.specs.Codes as codes;
 ghost use Rattle.lru_c.specs.Handles.{OnOpen};
@@ -173,7 +173,7 @@ pub(crate) fn set_capacity(handle: LruBytes, capacity: u64) -> (LruBytes, (u32, 
 }
 
 pub(crate) fn total(handle: LruBytes, _nothing: ()) -> (LruBytes, LruTold)
-    ensures { Asks handle.cache.held ask.total result.1 [] result.0.cache.held }
+    ensures { Numbers handle.cache.held sum_of result.1 result.0.cache.held }
 {
     match handle.opened() {
         Ok(cache) => {

@@ -1,9 +1,7 @@
-use Rattle.std.proofs.Common.{[], subst}
-use Rattle.lru_c.specs.Told as tells
-use Rattle.lru_c.specs.WordsCalls.{words_eq}
-use Rattle.concurrent_lru.specs.Request as ask
-use Rattle.lru_c.proofs.WordsOpened.{asks}
+use Rattle.std.proofs.Common.{refl}
+use Rattle.concurrent_lru.specs.Cache.{sum_of}
+use Rattle.lru_c.proofs.WordsOpened.{numbers}
 use Rattle.lru_c.proofs.words.calls.total.Goals as goal
 
 pub returns-in-Ok : goal.returns-in-Ok
-returns-in-Ok c = asks c.in-Ok.ensures c.of.ensures c.deref.result.now c.deref.ensures ask.total c.total-answer.result [] (subst (λ p. tells.Asks words_eq c.deref.result.now.state.cache ask.total c.total-answer.result [] p.state.cache) c.deref.ensures c.total-answer.ensures)
+returns-in-Ok c = numbers c.in-Ok.ensures c.of.ensures c.deref.result.now c.deref.ensures sum_of c.total-answer.result c.total-answer.ensures refl
