@@ -16,7 +16,7 @@ abbrev pub bare : ℕ → LruTold
 bare c = told c 0 0
 
 module _ {K : Type 0} where
-  -- The outcome that is told, where no key was removed: what was put into a chain goes with it.
+  -- The outcome that is told, where no key was removed: what was put into a chain goes with it. Any other code reads as a sum, and no step that is told so has that outcome.
   abbrev pub outcome_told : LruTold → List (Idle K ℕ) → Outcome K ℕ
   outcome_told t gone =
       cond (t.code == code.make) (accepted (say.make t.stamp) gone) (cond (t.code == code.wait) (accepted (say.wait t.stamp) gone) (

@@ -377,7 +377,7 @@ pub extern "C" fn lru_words_evicted_free(chain: &mut LruWordsEvicted) -> u32
 #[unsafe(no_mangle)]
 pub extern "C" fn lru_words_evicted_pop(chain: &mut LruWordsEvicted, out: &mut LruGone) -> bool
     ensures stays { is_some chain.new.chain.held ≡ is_some chain.old.chain.held }
-    ensures first { MatchBool result (TellsFirst (entries_in (entries_of chain.old.chain.held)) out.new (entries_in (entries_of chain.new.chain.held))) ((entries_in (entries_of chain.old.chain.held) ≡ []) × (entries_in (entries_of chain.new.chain.held) ≡ [])) }
+    ensures first { MatchBool result (TellsFirst (entries_in (entries_of chain.old.chain.held)) out.new (entries_in (entries_of chain.new.chain.held))) ((entries_in (entries_of chain.old.chain.held) ≡ []) × (entries_in (entries_of chain.new.chain.held) ≡ []) × (out.new ≡ out.old)) }
 {
     match replace_with(chain, (), chain_calls::pop) {
         Some(gone) => {
