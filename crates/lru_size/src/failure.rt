@@ -80,6 +80,9 @@ impl Failure {
 
     /// The failure of words that were not parsed, or that ask for the help.
     pub fn of_usage(alloc: Global, error: &Error) -> Failure {
+        if matches!(error.kind(), clap::error::ErrorKind::OutOfMemory) {
+            return Failure::Memory;
+        }
         let Ok(text) = format!(in alloc; "{error}") else {
             return Failure::Memory;
         };
