@@ -1,4 +1,7 @@
+pub mod Asked
 pub mod ByKey
+pub mod Charges
+pub mod Handles
 pub mod Inserted
 pub mod IntoChain
 pub mod BytesCopies

@@ -1,4 +1,4 @@
--- The calls of C on caches whose keys are two bytes.
+-- The calls of C on caches whose keys are bytes.
 use Rattle.std.specs.Prelude.{◌≡◌, ◌==◌, ◌<◌, ◌++◌, ◌⊎◌, ℕ, Bool, nat_eq, length, drop, List, [], Option, Some, None, MatchBool, MatchOption}
 use Rattle.concurrent_lru.specs.Cache.{Cache, Idle, HasKeyAt, LacksStamp}
 use Rattle.concurrent_lru.specs.Request.{Request}
@@ -31,7 +31,7 @@ Entries = List (Idle Key ℕ)
 -- what is in a chain, where it is open
 abbrev pub entries_of : Option BytesChain → Option Entries
 entries_of None = None
-entries_of (Some c) = Some (c.first ++ c.then)
+entries_of (Some c) = Some (c.first ++ c.rest)
 
 -- A begin by a key of these bytes, on a cache.
 abbrev pub BeginsByKey : Cache Key ℕ → List ℕ → ℕ → LruTold → Entries → Cache Key ℕ → Type 0

@@ -3,16 +3,9 @@ use Rattle.std.specs.Prelude.{◌≡◌, ◌⊎◌, ◌==◌, ℕ, Bool, List, [
 use Rattle.concurrent_lru.specs.Cache.{Cache, Idle, IsLawful}
 use Rattle.concurrent_lru.specs.Inserts.{Replaces, RefusesToReplace}
 use Rattle.concurrent_lru.specs.declared.list.Refusal.{Refusal}
-use Rattle.concurrent_lru.specs.declared.list.Refusal.TheVariants.{Memory, Overflow, Stale}
 use Rattle.lru_c.specs.Codes as code
-use Rattle.lru_c.specs.Told.{bare, told}
+use Rattle.lru_c.specs.Told.{bare, refusal_code, told}
 use Rattle.lru_c.specs.declared.told.LruTold.{LruTold}
-
--- the code of a refusal of the core
-abbrev pub refusal_code : Refusal → ℕ
-refusal_code Overflow = code.overflow
-refusal_code Stale = code.stale
-refusal_code Memory = code.memory
 
 module _ {K : Type 0} where
   -- nothing changed, nothing was replaced and nothing evicted

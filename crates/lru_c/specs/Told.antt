@@ -1,10 +1,17 @@
 -- What a call tells C, as an outcome of the abstract cache. E is the equality of keys.
-use Rattle.std.specs.Prelude.{◌≡◌, ℕ, Bool, cond, ◌==◌, List, [], MatchBool, ⊤}
+use Rattle.std.specs.Prelude.{◌≡◌, ℕ, Bool, cond, ◌==◌, List, [], Option, Some, None, MatchBool, ⊤}
+use Rattle.std.specs.declared.sync.Arc.{Arc}
+use Rattle.std.specs.declared.alloc.Global.{Global}
 use Rattle.concurrent_lru.specs.Cache.{Cache, Idle, IsLawful}
 use Rattle.concurrent_lru.specs.Request.{Request}
 use Rattle.concurrent_lru.specs.Reply as say
 use Rattle.concurrent_lru.specs.Runs.{Outcome, accepted, refused, Stands}
+use Rattle.concurrent_lru.specs.declared.list.Refusal.{Refusal}
 use Rattle.concurrent_lru.specs.declared.list.Refusal.TheVariants.{Memory, Overflow, Stale}
+use Rattle.concurrent_lru.specs.declared.step.Begun.{Begun}
+use Rattle.concurrent_lru.specs.declared.step.Begun.TheVariants as begun
+use Rattle.concurrent_lru.specs.declared.step.Failed.{Failed}
+use Rattle.concurrent_lru.specs.declared.step.Failed.TheVariants as failed
 use Rattle.lru_c.specs.Codes as code
 use Rattle.lru_c.specs.declared.told.LruTold.{LruTold}
 
@@ -15,7 +22,28 @@ told c stamp value = record { stamp = stamp; value = value; code = c }
 abbrev pub bare : ℕ → LruTold
 bare c = told c 0 0
 
+-- the code of a refusal of the core
+abbrev pub refusal_code : Refusal → ℕ
+refusal_code Overflow = code.overflow
+refusal_code Stale = code.stale
+refusal_code Memory = code.memory
+
+-- what is told of an entry that was begun or polled, and of one that was found or not
+abbrev pub begun_told : Begun ℕ → LruTold
+begun_told (begun.Make s) = told code.make s 0
+begun_told (begun.Wait s) = told code.wait s 0
+begun_told (begun.Hit s a) = told code.hit s a.value
+
+abbrev pub found_told : Option (ℕ × Arc ℕ Global) → LruTold
+found_told None = bare code.missed
+found_told (Some r) = told code.hit r.0 r.1.value
+
 module _ {K : Type 0} where
+  -- the code of a making that was given up
+  abbrev pub failed_code : Failed K → ℕ
+  failed_code failed.Left = code.left
+  failed_code (failed.Removed k) = code.removed
+
   -- The outcome that is told, where no key was removed: what was put into a chain goes with it. Any other code reads as a sum, and no step that is told so has that outcome.
   abbrev pub outcome_told : LruTold → List (Idle K ℕ) → Outcome K ℕ
   outcome_told t gone =

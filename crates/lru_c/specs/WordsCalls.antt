@@ -26,7 +26,7 @@ Entries = List (Idle Words ℕ)
 -- what is in a chain, where it is open
 abbrev pub entries_of : Option WordsChain → Option Entries
 entries_of None = None
-entries_of (Some c) = Some (c.first ++ c.then)
+entries_of (Some c) = Some (c.first ++ c.rest)
 
 -- The call took one step of the cache behind a handle, and told its outcome; or told that the handle is not open.
 abbrev pub Asks : Option WordsCache → Request Words ℕ → LruTold → Entries → Option WordsCache → Type 0

@@ -17,13 +17,13 @@ fn told<K>(gone: &Gone<K, u64>) -> LruGone
 }
 
 // Whether an open chain of these two parts takes more.
-pub(crate) fn is_filled<K: Drop>(first: &Evicted<K, u64>, then: &Evicted<K, u64>) -> u32
-    ensures { result ≡ chain_code (Some (first.now ++ then.now)) }
+pub(crate) fn is_filled<K: Drop>(first: &Evicted<K, u64>, rest: &Evicted<K, u64>) -> u32
+    ensures { result ≡ chain_code (Some (first.now ++ rest.now)) }
 {
     if !first.is_empty() {
         return code::NOT_EMPTY;
     }
-    if !then.is_empty() {
+    if !rest.is_empty() {
         return code::NOT_EMPTY;
     }
     code::DONE
@@ -32,13 +32,13 @@ pub(crate) fn is_filled<K: Drop>(first: &Evicted<K, u64>, then: &Evicted<K, u64>
 // Takes the oldest entry out of a chain of these two parts.
 pub(crate) fn pop<K: Drop>(
     first: &mut Evicted<K, u64>,
-    then: &mut Evicted<K, u64>,
+    rest: &mut Evicted<K, u64>,
 ) -> Option<LruGone>
-    ensures { MatchOption result ((first.old ++ then.old ≡ []) × (first.new ++ then.new ≡ [])) (λ gone. TellsFirst (first.old ++ then.old) gone (first.new ++ then.new)) }
+    ensures { MatchOption result ((first.old ++ rest.old ≡ []) × (first.new ++ rest.new ≡ [])) (λ gone. TellsFirst (first.old ++ rest.old) gone (first.new ++ rest.new)) }
 {
     match first.pop() {
         Some(gone) => Some(told(&gone)),
-        None => match then.pop() {
+        None => match rest.pop() {
             Some(gone) => Some(told(&gone)),
             None => None,
         },

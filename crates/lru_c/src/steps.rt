@@ -4,9 +4,9 @@ ghost use Rattle.std.specs.Arc.{arc_value};
 ghost use Rattle.concurrent_lru.specs.Cache.{count_of, sum_of};
 ghost use Rattle.concurrent_lru.specs.Request as ask;
 ghost use Rattle.lru_c.specs.Codes as codes;
-ghost use Rattle.lru_c.specs.Inserts.{refusal_code, TellsInsert};
+ghost use Rattle.lru_c.specs.Inserts.{TellsInsert};
 ghost use Rattle.lru_c.specs.Opened.{TellsReady};
-ghost use Rattle.lru_c.specs.Told.{bare, told, Asks, AsksWithMemory, IsSame};
+ghost use Rattle.lru_c.specs.Told.{bare, begun_told, failed_code, found_told, refusal_code, told, Asks, AsksWithMemory, IsSame};
 
 use crate::code;
 use crate::told::LruTold;
@@ -37,14 +37,18 @@ pub(crate) fn begin_charged<K: Hash + Eq + Clone>(
     ensures { Asks K.eq state.old.cache (ask.begin key.now charge) result.0 result.1 state.new.cache }
 {
     match state.begin(key, charge) {
-        Ok((begun, gone)) => match begun {
-            Begun::Make(stamp) => (LruTold::of(code::MAKE, stamp, 0), gone),
-            Begun::Wait(stamp) => (LruTold::of(code::WAIT, stamp, 0), gone),
-            Begun::Hit(stamp, value) => (LruTold::of(code::HIT, stamp, *value), gone),
-        },
-        Err(Refusal::Overflow) => (LruTold::bare(code::OVERFLOW), Evicted::none()),
-        Err(Refusal::Stale) => (LruTold::bare(code::STALE), Evicted::none()),
-        Err(Refusal::Memory) => (LruTold::bare(code::MEMORY), Evicted::none()),
+        Ok((begun, gone)) => (told_of_begun(begun), gone),
+        Err(refusal) => (LruTold::bare(code_of(refusal)), Evicted::none()),
+    }
+}
+
+fn told_of_begun(begun: Begun<u64>) -> LruTold
+    ensures { result ≡ begun_told begun }
+{
+    match begun {
+        Begun::Make(stamp) => LruTold::of(code::MAKE, stamp, 0),
+        Begun::Wait(stamp) => LruTold::of(code::WAIT, stamp, 0),
+        Begun::Hit(stamp, value) => LruTold::of(code::HIT, stamp, *value),
     }
 }
 
@@ -52,12 +56,8 @@ pub(crate) fn poll<K: Hash + Eq + Clone>(state: &mut State<K, u64>, stamp: u64) 
     ensures { Asks K.eq state.old.cache (ask.poll stamp) result [] state.new.cache }
 {
     match state.poll(stamp) {
-        Ok(Begun::Make(stamp)) => LruTold::of(code::MAKE, stamp, 0),
-        Ok(Begun::Wait(stamp)) => LruTold::of(code::WAIT, stamp, 0),
-        Ok(Begun::Hit(stamp, value)) => LruTold::of(code::HIT, stamp, *value),
-        Err(Refusal::Overflow) => LruTold::bare(code::OVERFLOW),
-        Err(Refusal::Stale) => LruTold::bare(code::STALE),
-        Err(Refusal::Memory) => LruTold::bare(code::MEMORY),
+        Ok(begun) => told_of_begun(begun),
+        Err(refusal) => LruTold::bare(code_of(refusal)),
     }
 }
 
@@ -92,11 +92,17 @@ pub(crate) fn fail<K: Hash + Eq + Clone>(state: &mut State<K, u64>, stamp: u64) 
     ensures { Asks K.eq state.old.cache (ask.fail stamp) (bare result) [] state.new.cache }
 {
     match state.fail(stamp) {
-        Ok(Failed::Left) => code::LEFT,
-        Ok(Failed::Removed(_key)) => code::REMOVED,
-        Err(Refusal::Overflow) => code::OVERFLOW,
-        Err(Refusal::Stale) => code::STALE,
-        Err(Refusal::Memory) => code::MEMORY,
+        Ok(failed) => code_of_failed(failed),
+        Err(refusal) => code_of(refusal),
+    }
+}
+
+fn code_of_failed<K: Drop>(failed: Failed<K>) -> u32
+    ensures { result ≡ failed_code failed }
+{
+    match failed {
+        Failed::Left => code::LEFT,
+        Failed::Removed(_key) => code::REMOVED,
     }
 }
 
@@ -104,11 +110,17 @@ pub(crate) fn get<K: Hash + Eq + Clone>(state: &mut State<K, u64>, key: &K) -> L
     ensures { Asks K.eq state.old.cache (ask.get key.now) result [] state.new.cache }
 {
     match state.get(key) {
-        Ok(Some((stamp, value))) => LruTold::of(code::HIT, stamp, *value),
-        Ok(None) => LruTold::bare(code::MISSED),
-        Err(Refusal::Overflow) => LruTold::bare(code::OVERFLOW),
-        Err(Refusal::Stale) => LruTold::bare(code::STALE),
-        Err(Refusal::Memory) => LruTold::bare(code::MEMORY),
+        Ok(found) => told_of_found(found),
+        Err(refusal) => LruTold::bare(code_of(refusal)),
+    }
+}
+
+fn told_of_found(found: Option<(u64, Arc<u64>)>) -> LruTold
+    ensures { result ≡ found_told found }
+{
+    match found {
+        Some((stamp, value)) => LruTold::of(code::HIT, stamp, *value),
+        None => LruTold::bare(code::MISSED),
     }
 }
 
@@ -120,9 +132,7 @@ pub(crate) fn release<K: Hash + Eq + Clone>(
 {
     match state.release(stamp) {
         Ok(gone) => (code::DONE, gone),
-        Err(Refusal::Overflow) => (code::OVERFLOW, Evicted::none()),
-        Err(Refusal::Stale) => (code::STALE, Evicted::none()),
-        Err(Refusal::Memory) => (code::MEMORY, Evicted::none()),
+        Err(refusal) => (code_of(refusal), Evicted::none()),
     }
 }
 

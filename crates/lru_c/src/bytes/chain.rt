@@ -9,7 +9,7 @@ pub struct BytesChain {
     /// What is popped first.
     pub first: Evicted<Vec<u8>, u64>,
     /// What is popped after it.
-    pub then: Evicted<Vec<u8>, u64>,
+    pub rest: Evicted<Vec<u8>, u64>,
 }
 
 // The entries may go to another thread, and so may the chain.

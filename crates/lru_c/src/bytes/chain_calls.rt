@@ -17,7 +17,7 @@ pub(crate) fn make(alloc: Global) -> Result<LruBytesEvicted, AllocError>
 {
     let chain = BytesChain {
         first: Evicted::none(),
-        then: Evicted::none(),
+        rest: Evicted::none(),
     };
     Ok(LruBytesEvicted::of(Box::new(alloc, chain)?))
 }
@@ -33,7 +33,7 @@ pub(crate) fn is_filled(
 {
     match handle.opened() {
         Ok(chain) => {
-            let code = chains::is_filled(&chain.first, &chain.then);
+            let code = chains::is_filled(&chain.first, &chain.rest);
             (LruBytesEvicted::of(chain), code)
         }
         Err(handle) => (handle, code::CLOSED),
@@ -51,7 +51,7 @@ pub(crate) fn put(
     match handle.opened() {
         Ok(mut chain) => {
             chain.first = taken.0;
-            chain.then = taken.1;
+            chain.rest = taken.1;
             (LruBytesEvicted::of(chain), ())
         }
         Err(_) => unreachable!(),
@@ -86,7 +86,7 @@ pub(crate) fn free(handle: LruBytesEvicted, _nothing: ()) -> (LruBytesEvicted, (
 }
 
 fn take_first(chain: &mut BytesChain) -> Option<LruGone>
-    ensures { MatchOption result ((chain.old.first ++ chain.old.then ≡ []) × (chain.new.first ++ chain.new.then ≡ [])) (λ gone. TellsFirst (chain.old.first ++ chain.old.then) gone (chain.new.first ++ chain.new.then)) }
+    ensures { MatchOption result ((chain.old.first ++ chain.old.rest ≡ []) × (chain.new.first ++ chain.new.rest ≡ [])) (λ gone. TellsFirst (chain.old.first ++ chain.old.rest) gone (chain.new.first ++ chain.new.rest)) }
 {
-    chains::pop(&mut chain.first, &mut chain.then)
+    chains::pop(&mut chain.first, &mut chain.rest)
 }

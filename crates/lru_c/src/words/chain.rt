@@ -10,7 +10,7 @@ pub struct WordsChain {
     /// What is popped first.
     pub first: Evicted<Words, u64>,
     /// What is popped after it.
-    pub then: Evicted<Words, u64>,
+    pub rest: Evicted<Words, u64>,
 }
 
 // The entries may go to another thread, and so may the chain.

@@ -18,7 +18,7 @@ pub(crate) fn make(alloc: Global) -> Result<LruWordsEvicted, AllocError>
 {
     let chain = WordsChain {
         first: Evicted::none(),
-        then: Evicted::none(),
+        rest: Evicted::none(),
     };
     Ok(LruWordsEvicted::of(Box::new(alloc, chain)?))
 }
@@ -34,7 +34,7 @@ pub(crate) fn is_filled(
 {
     match handle.opened() {
         Ok(chain) => {
-            let code = chains::is_filled(&chain.first, &chain.then);
+            let code = chains::is_filled(&chain.first, &chain.rest);
             (LruWordsEvicted::of(chain), code)
         }
         Err(handle) => (handle, code::CLOSED),
@@ -52,7 +52,7 @@ pub(crate) fn put(
     match handle.opened() {
         Ok(mut chain) => {
             chain.first = taken.0;
-            chain.then = taken.1;
+            chain.rest = taken.1;
             (LruWordsEvicted::of(chain), ())
         }
         Err(_) => unreachable!(),
@@ -87,7 +87,7 @@ pub(crate) fn free(handle: LruWordsEvicted, _nothing: ()) -> (LruWordsEvicted, (
 }
 
 fn take_first(chain: &mut WordsChain) -> Option<LruGone>
-    ensures { MatchOption result ((chain.old.first ++ chain.old.then ≡ []) × (chain.new.first ++ chain.new.then ≡ [])) (λ gone. TellsFirst (chain.old.first ++ chain.old.then) gone (chain.new.first ++ chain.new.then)) }
+    ensures { MatchOption result ((chain.old.first ++ chain.old.rest ≡ []) × (chain.new.first ++ chain.new.rest ≡ [])) (λ gone. TellsFirst (chain.old.first ++ chain.old.rest) gone (chain.new.first ++ chain.new.rest)) }
 {
-    chains::pop(&mut chain.first, &mut chain.then)
+    chains::pop(&mut chain.first, &mut chain.rest)
 }
