@@ -54,9 +54,12 @@ module _ {old new : Option WordsCache} {x y : WordsCache} (o : old ≡ Some x) (
 -- where no key is told, it does not matter which one is named
 pub any_key : (old new : Option WordsCache) (stamp c : ℕ) (k l : Words) → (c ≡ code.done → ⊥) → KeyOf old stamp c k new → KeyOf old stamp c l new
 any_key None None stamp c k l none h = h
-any_key (Some o) (Some n) stamp c k l none h = (elim h.0 [
-  | inl p ↦ absurd (none p.0)
-  | inr q ↦ inr q
-], h.1)
+any_key (Some o) (Some n) stamp c k l none h = (
+  elim h.0 [
+    | inl p ↦ absurd (none p.0)
+    | inr q ↦ inr q
+  ],
+  h.1,
+)
 any_key None (Some n) stamp c k l none h = h
 any_key (Some o) None stamp c k l none h = h

@@ -17,10 +17,10 @@ pub mod chain_at;
 mod chain_calls;
 pub mod chain_handle;
 
-use crate::code;
-use crate::told::{LruGone, LruTold};
 use crate::bytes::cache_handle::LruBytes;
 use crate::bytes::chain_handle::LruBytesEvicted;
+use crate::code;
+use crate::told::{LruGone, LruTold};
 use concurrent_lru::lru_core::Evicted;
 use core::mem::replace_with;
 use std::alloc::Global;
@@ -249,10 +249,7 @@ pub extern "C" fn lru_bytes_insert_nonnull(
 
 /// Evicts each idle entry into a chain, oldest first.
 #[unsafe(no_mangle)]
-pub extern "C" fn lru_bytes_prune(
-    cache: &mut LruBytes,
-    gone: &mut LruBytesEvicted,
-) -> u32
+pub extern "C" fn lru_bytes_prune(cache: &mut LruBytes, gone: &mut LruBytesEvicted) -> u32
     ensures { IntoChain (entries_of gone.old.chain.held) (entries_of gone.new.chain.held) result cache.old.cache.held cache.new.cache.held (λ out. Asks cache.old.cache.held ask.prune (bare result) out cache.new.cache.held) }
 {
     let filled = replace_with(gone, (), chain_calls::is_filled);

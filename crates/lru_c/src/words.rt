@@ -248,17 +248,18 @@ pub extern "C" fn lru_words_insert(
     if filled != code::DONE {
         return LruTold::bare(filled);
     }
-    let (answer, taken) = replace_with(cache, (Words { first, second }, charge, value), calls::insert);
+    let (answer, taken) = replace_with(
+        cache,
+        (Words { first, second }, charge, value),
+        calls::insert,
+    );
     replace_with(gone, taken, chain_calls::put);
     answer
 }
 
 /// Evicts each idle entry into a chain, oldest first.
 #[unsafe(no_mangle)]
-pub extern "C" fn lru_words_prune(
-    cache: &mut LruWords,
-    gone: &mut LruWordsEvicted,
-) -> u32
+pub extern "C" fn lru_words_prune(cache: &mut LruWords, gone: &mut LruWordsEvicted) -> u32
     ensures { IntoChain (entries_of gone.old.chain.held) (entries_of gone.new.chain.held) result cache.old.cache.held cache.new.cache.held (λ out. Asks cache.old.cache.held ask.prune (bare result) out cache.new.cache.held) }
 {
     let filled = replace_with(gone, (), chain_calls::is_filled);

@@ -3,9 +3,8 @@
 ghost use Rattle.std.specs.Prelude.{◌≡◌, [], true};
 ghost use Rattle.concurrent_lru.specs.Request as ask;
 
-use crate::code;
-use crate::steps;
 use crate::told::LruTold;
+use crate::{code, steps};
 use concurrent_lru::lru_core::{Evicted, State};
 use std::alloc::Global;
 

@@ -3,8 +3,8 @@ ghost use Rattle.std.specs.Prelude.{◌≡◌, Option, Some, None, is_some, true
 ghost use Rattle.lru_c.specs.BytesCacheOwned.{bytes_cache_owns, bytes_cache_coded};
 ghost use Rattle.lru_c.specs.declared.bytes.cache.BytesCache.{BytesCache as Held};
 
-use crate::parts::Parts;
 use crate::bytes::cache::BytesCache;
+use crate::parts::Parts;
 use std::alloc::Global;
 use std::marker::{Model, Send};
 

@@ -8,11 +8,10 @@ ghost use Rattle.lru_c.specs.Opened.{TellsKey, TellsReady};
 ghost use Rattle.lru_c.specs.Told.{bare, told};
 ghost use Rattle.lru_c.specs.BytesCalls.{Asks, AsksByKey, AsksWithMemory, Begins, Contains, CopiesKey, Frees, Inserts, Numbers, Reserves};
 
-use crate::code;
-use crate::steps;
-use crate::told::LruTold;
 use crate::bytes::cache::BytesCache;
 use crate::bytes::cache_handle::LruBytes;
+use crate::told::LruTold;
+use crate::{code, steps};
 use concurrent_lru::lru_core::{Evicted, State};
 use std::alloc::{AllocError, Global};
 

@@ -3,8 +3,8 @@ ghost use Rattle.std.specs.Prelude.{◌≡◌, Option, Some, None, is_some, true
 ghost use Rattle.lru_c.specs.BytesChainOwned.{bytes_chain_owns, bytes_chain_coded};
 ghost use Rattle.lru_c.specs.declared.bytes.chain.BytesChain.{BytesChain as Held};
 
-use crate::parts::Parts;
 use crate::bytes::chain::BytesChain;
+use crate::parts::Parts;
 use std::alloc::Global;
 use std::marker::{Model, Send};
 

@@ -4,11 +4,10 @@ ghost use Rattle.lru_c.specs.Chains.{chain_code, entries_in, TellsFirst};
 ghost use Rattle.lru_c.specs.Codes as codes;
 ghost use Rattle.lru_c.specs.BytesCalls.{entries_of};
 
-use crate::chains;
-use crate::code;
-use crate::told::LruGone;
 use crate::bytes::chain::BytesChain;
 use crate::bytes::chain_handle::LruBytesEvicted;
+use crate::told::LruGone;
+use crate::{chains, code};
 use concurrent_lru::lru_core::Evicted;
 use std::alloc::{AllocError, Global};
 
@@ -23,10 +22,7 @@ pub(crate) fn make(alloc: Global) -> Result<LruBytesEvicted, AllocError>
 }
 
 // Whether a chain takes more.
-pub(crate) fn is_filled(
-    handle: LruBytesEvicted,
-    _nothing: (),
-) -> (LruBytesEvicted, u32)
+pub(crate) fn is_filled(handle: LruBytesEvicted, _nothing: ()) -> (LruBytesEvicted, u32)
     ensures same { result.0.chain.held ≡ handle.chain.held }
     ensures code { result.1 ≡ chain_code (entries_of handle.chain.held) }
     ensures stays { result.1 ≡ codes.done → is_some handle.chain.held ≡ true }

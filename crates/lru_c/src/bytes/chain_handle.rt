@@ -1,8 +1,8 @@
 //! The handle of a chain, as C holds it.
 ghost use Rattle.std.specs.Prelude.{◌≡◌, Some, None, is_some, MatchResult};
 
-use crate::bytes::chain_at::BytesChainAt;
 use crate::bytes::chain::BytesChain;
+use crate::bytes::chain_at::BytesChainAt;
 use std::alloc::Global;
 
 /// A chain as C holds it: a pointer, and whether it is open, which a call can test. All zeros is a

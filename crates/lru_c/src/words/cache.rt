@@ -1,10 +1,9 @@
 //! What the handle of a cache leads to.
 ghost use Rattle.std.specs.Prelude.{◌≡◌};
 
-use crate::code;
-use crate::steps;
 use crate::told::LruTold;
 use crate::words::key::Words;
+use crate::{code, steps};
 use concurrent_lru::lru_core::{Evicted, State};
 use std::alloc::Global;
 

@@ -1,8 +1,8 @@
 //! The handle of a cache, as C holds it.
 ghost use Rattle.std.specs.Prelude.{◌≡◌, Some, None, is_some, MatchResult};
 
-use crate::words::cache_at::WordsCacheAt;
 use crate::words::cache::WordsCache;
+use crate::words::cache_at::WordsCacheAt;
 use std::alloc::Global;
 
 /// A cache as C holds it: a pointer, and whether it is open, which a call can test. All zeros is a

@@ -8,12 +8,11 @@ ghost use Rattle.lru_c.specs.Opened.{TellsKey, TellsReady};
 ghost use Rattle.lru_c.specs.Told.{bare, told};
 ghost use Rattle.lru_c.specs.WordsCalls.{Asks, AsksWithMemory, Begins, Contains, Frees, Inserts, KeyOf, Numbers, Reserves};
 
-use crate::code;
-use crate::steps;
 use crate::told::LruTold;
 use crate::words::cache::WordsCache;
 use crate::words::cache_handle::LruWords;
 use crate::words::key::Words;
+use crate::{code, steps};
 use concurrent_lru::lru_core::{Evicted, State};
 use std::alloc::{AllocError, Global};
 

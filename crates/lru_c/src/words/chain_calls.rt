@@ -4,12 +4,11 @@ ghost use Rattle.lru_c.specs.Chains.{chain_code, entries_in, TellsFirst};
 ghost use Rattle.lru_c.specs.Codes as codes;
 ghost use Rattle.lru_c.specs.WordsCalls.{entries_of};
 
-use crate::chains;
-use crate::code;
 use crate::told::LruGone;
 use crate::words::chain::WordsChain;
 use crate::words::chain_handle::LruWordsEvicted;
 use crate::words::key::Words;
+use crate::{chains, code};
 use concurrent_lru::lru_core::Evicted;
 use std::alloc::{AllocError, Global};
 
@@ -24,10 +23,7 @@ pub(crate) fn make(alloc: Global) -> Result<LruWordsEvicted, AllocError>
 }
 
 // Whether a chain takes more.
-pub(crate) fn is_filled(
-    handle: LruWordsEvicted,
-    _nothing: (),
-) -> (LruWordsEvicted, u32)
+pub(crate) fn is_filled(handle: LruWordsEvicted, _nothing: ()) -> (LruWordsEvicted, u32)
     ensures same { result.0.chain.held ≡ handle.chain.held }
     ensures code { result.1 ≡ chain_code (entries_of handle.chain.held) }
     ensures stays { result.1 ≡ codes.done → is_some handle.chain.held ≡ true }

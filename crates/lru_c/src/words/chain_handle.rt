@@ -1,8 +1,8 @@
 //! The handle of a chain, as C holds it.
 ghost use Rattle.std.specs.Prelude.{◌≡◌, Some, None, is_some, MatchResult};
 
-use crate::words::chain_at::WordsChainAt;
 use crate::words::chain::WordsChain;
+use crate::words::chain_at::WordsChainAt;
 use std::alloc::Global;
 
 /// A chain as C holds it: a pointer, and whether it is open, which a call can test. All zeros is a
