@@ -1,15 +1,18 @@
 -- What a step did with what an open handle leads to, as what a call did with the handle.
-use Rattle.std.proofs.Common.{◌≡◌, ℕ, List, sym, subst}
-use Rattle.std.specs.Prelude.{Option, Some, ◌⊎◌}
+use Rattle.std.proofs.Common.{◌≡◌, ℕ, List, sym, subst, [], ◌++◌, refl}
+use Rattle.std.specs.Prelude.{Option, Some, ◌⊎◌, None}
 use Rattle.concurrent_lru.specs.Cache.{Cache}
 use Rattle.concurrent_lru.specs.Request.{Request}
+use Rattle.lru_c.specs.Chains.{chain_code, entries_in, Pops}
 use Rattle.lru_c.specs.Codes as code
 use Rattle.lru_c.specs.Inserts.{TellsInsertOf}
 use Rattle.lru_c.specs.Told as tells
 use Rattle.lru_c.specs.Told.{told}
-use Rattle.lru_c.specs.BytesCalls.{bytes_eq, Entries, Key, Asks, AsksByKey, AsksWithMemory, Begins, BeginsByKey, Contains, ContainsBytes, Inserts, Numbers, Reserves}
+use Rattle.lru_c.specs.BytesCalls.{entries_of, bytes_eq, Entries, Key, Asks, AsksByKey, AsksWithMemory, Begins, BeginsByKey, Contains, ContainsBytes, Inserts, Numbers, Reserves}
+use Rattle.lru_c.specs.declared.told.LruGone.{LruGone}
 use Rattle.lru_c.specs.declared.told.LruTold.{LruTold}
 use Rattle.lru_c.specs.declared.bytes.cache.BytesCache.{BytesCache}
+use Rattle.lru_c.specs.declared.bytes.chain.BytesChain.{BytesChain}
 use Rattle.lru_c.proofs.Opened.{on_open}
 
 module _ {old new : Option BytesCache} {x y : BytesCache} (o : old ≡ Some x) (n : new ≡ Some y) (a : BytesCache) (is : a ≡ x) where
@@ -47,3 +50,15 @@ module _ {old new : Option BytesCache} {x y : BytesCache} (o : old ≡ Some x) (
   pub reserves : (c : ℕ) → (c ≡ code.done) ⊎ (c ≡ code.memory) → y.state.cache ≡ a.state.cache → Reserves old c new
   reserves c h same =
       on_open old new x y (λ p q. ((c ≡ code.done) ⊎ (c ≡ code.memory)) × (q.state.cache ≡ p.state.cache)) _ o n (h, subst (λ p. y.state.cache ≡ p.state.cache) is same)
+
+-- what a method did with what an open handle leads to, as what a call did with the handle of a chain
+pub chain_code_of : (held : Option BytesChain) (x a : BytesChain) (c : ℕ) → held ≡ Some x → a ≡ x → c ≡ chain_code (Some (a.first ++ a.rest)) → c ≡ chain_code (entries_of held)
+chain_code_of held x a c h is same = subst (λ o. c ≡ chain_code (entries_of o)) (sym h) (subst (λ (z : BytesChain). c ≡ chain_code (Some (z.first ++ z.rest))) is same)
+
+pub pops : (old new : Option BytesChain) (x a y : BytesChain) (g : Option LruGone) → old ≡ Some x → a ≡ x → new ≡ Some y → Pops (a.first ++ a.rest) g (y.first ++ y.rest) → Pops (entries_in (entries_of old)) g (entries_in (entries_of new))
+pops old new x a y g o is n h =
+    subst (λ p. Pops (entries_in (entries_of p)) g (entries_in (entries_of new))) (sym o)
+    (subst (λ p. Pops (x.first ++ x.rest) g (entries_in (entries_of p))) (sym n) (subst (λ (z : BytesChain). Pops (z.first ++ z.rest) g (y.first ++ y.rest)) is h))
+
+pub pops_none : (old new : Option BytesChain) → old ≡ None → new ≡ None → Pops (entries_in (entries_of old)) None (entries_in (entries_of new))
+pops_none old new o n = subst (λ p. Pops (entries_in (entries_of p)) None (entries_in (entries_of new))) (sym o) (subst (λ p. Pops [] None (entries_in (entries_of p))) (sym n) (refl, refl))

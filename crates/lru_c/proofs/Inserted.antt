@@ -8,7 +8,7 @@ use Rattle.lru_c.specs.Codes as code
 use Rattle.lru_c.specs.Inserts.{IsUntouched, TellsInsert, TellsInsertOf}
 use Rattle.lru_c.specs.Told.{bare, refusal_code, told}
 use Rattle.lru_c.specs.declared.told.LruTold.{LruTold}
-use Rattle.lru_c.proofs.Charges.{where_charged, where_free}
+use Rattle.lru_c.proofs.Cases.{where_is, where_is_not}
 
 module _ {K : Type 0} (E : K → K → Bool) where
   module _ (old new : Cache K ℕ) (key : K) (charge v : ℕ) (t : LruTold) (replaced evicted : List (Idle K ℕ)) where
@@ -27,11 +27,11 @@ module _ {K : Type 0} (E : K → K → Bool) where
 
   module _ (IsKey : K → Type 0) (old new : Cache K ℕ) (charge v : ℕ) (t : LruTold) (replaced evicted : List (Idle K ℕ)) where
     pub insert_of : (mid : Cache K ℕ) (key : K) → (charge ≡ 0 → ⊥) → mid ≡ old → IsKey key → TellsInsert E mid key charge v t replaced evicted new → TellsInsertOf E IsKey old charge v t replaced evicted new
-    insert_of mid key charged same is h = where_charged charge _ _ charged (inr (key, is, subst (λ (c : Cache K ℕ). TellsInsert E c key charge v t replaced evicted new) same h))
+    insert_of mid key charged same is h = where_is_not charge 0 _ _ charged (inr (key, is, subst (λ (c : Cache K ℕ). TellsInsert E c key charge v t replaced evicted new) same h))
 
     -- no room for the key
     pub insert_without_key : (charge ≡ 0 → ⊥) → (t ≡ bare code.memory) × (replaced ≡ []) × (evicted ≡ []) → new ≡ old → TellsInsertOf E IsKey old charge v t replaced evicted new
-    insert_without_key charged refused same = where_charged charge _ _ charged (inl (refused.0, (same, refused.1, refused.2)))
+    insert_without_key charged refused same = where_is_not charge 0 _ _ charged (inl (refused.0, (same, refused.1, refused.2)))
 
     pub insert_without_charge : charge ≡ 0 → (t ≡ bare code.no_charge) × (replaced ≡ []) × (evicted ≡ []) → new ≡ old → TellsInsertOf E IsKey old charge v t replaced evicted new
-    insert_without_charge free refused same = where_free charge _ _ free (refused.0, (same, refused.1, refused.2))
+    insert_without_charge free refused same = where_is charge 0 _ _ free (refused.0, (same, refused.1, refused.2))

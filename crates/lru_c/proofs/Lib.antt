@@ -1,12 +1,13 @@
 pub mod Asked
 pub mod ByKey
-pub mod Charges
+pub mod Cases
 pub mod Handles
 pub mod Inserted
 pub mod IntoChain
 pub mod BytesCopies
 pub mod ChainCodes
 pub mod Opened
+pub mod Opens
 pub mod BytesCacheAsBox
 pub mod BytesChainAsBox
 pub mod BytesOpened

@@ -1,18 +1,21 @@
 -- What a step did with what an open handle leads to, as what a call did with the handle.
-use Rattle.std.proofs.Common.{◌≡◌, ℕ, List, inl, inr, sym, subst, ◌==◌}
+use Rattle.std.proofs.Common.{◌≡◌, ℕ, List, inl, inr, sym, subst, ◌==◌, [], ◌++◌, refl}
 use Rattle.std.specs.Prelude.{Option, Some, None, MatchBool, ◌⊎◌}
 use Rattle.concurrent_lru.specs.Cache.{Cache}
 use Rattle.concurrent_lru.specs.Request as ask
 use Rattle.concurrent_lru.specs.Request.{Request}
+use Rattle.lru_c.specs.Chains.{chain_code, entries_in, Pops}
 use Rattle.lru_c.specs.Codes as code
 use Rattle.lru_c.specs.Inserts.{TellsInsertOf}
 use Rattle.lru_c.specs.Opened.{TellsKey, TellsReady}
 use Rattle.lru_c.specs.Told as tells
 use Rattle.lru_c.specs.Told.{bare, told, IsSame}
-use Rattle.lru_c.specs.WordsCalls.{words_eq, Entries, Asks, AsksWithMemory, Begins, Contains, Inserts, KeyOf, Numbers, Reserves}
+use Rattle.lru_c.specs.WordsCalls.{entries_of, words_eq, Entries, Asks, AsksWithMemory, Begins, Contains, Inserts, KeyOf, Numbers, Reserves}
+use Rattle.lru_c.specs.declared.told.LruGone.{LruGone}
 use Rattle.lru_c.specs.declared.told.LruTold.{LruTold}
 use Rattle.lru_c.specs.declared.words.key.Words.{Words}
 use Rattle.lru_c.specs.declared.words.cache.WordsCache.{WordsCache}
+use Rattle.lru_c.specs.declared.words.chain.WordsChain.{WordsChain}
 use Rattle.lru_c.proofs.Opened.{on_open}
 
 module _ {old new : Option WordsCache} {x y : WordsCache} (o : old ≡ Some x) (n : new ≡ Some y) (a : WordsCache) (is : a ≡ x) where
@@ -63,3 +66,15 @@ any_key (Some o) (Some n) stamp c k l none h = (
 )
 any_key None (Some n) stamp c k l none h = h
 any_key (Some o) None stamp c k l none h = h
+
+-- what a method did with what an open handle leads to, as what a call did with the handle of a chain
+pub chain_code_of : (held : Option WordsChain) (x a : WordsChain) (c : ℕ) → held ≡ Some x → a ≡ x → c ≡ chain_code (Some (a.first ++ a.rest)) → c ≡ chain_code (entries_of held)
+chain_code_of held x a c h is same = subst (λ o. c ≡ chain_code (entries_of o)) (sym h) (subst (λ (z : WordsChain). c ≡ chain_code (Some (z.first ++ z.rest))) is same)
+
+pub pops : (old new : Option WordsChain) (x a y : WordsChain) (g : Option LruGone) → old ≡ Some x → a ≡ x → new ≡ Some y → Pops (a.first ++ a.rest) g (y.first ++ y.rest) → Pops (entries_in (entries_of old)) g (entries_in (entries_of new))
+pops old new x a y g o is n h =
+    subst (λ p. Pops (entries_in (entries_of p)) g (entries_in (entries_of new))) (sym o)
+    (subst (λ p. Pops (x.first ++ x.rest) g (entries_in (entries_of p))) (sym n) (subst (λ (z : WordsChain). Pops (z.first ++ z.rest) g (y.first ++ y.rest)) is h))
+
+pub pops_none : (old new : Option WordsChain) → old ≡ None → new ≡ None → Pops (entries_in (entries_of old)) None (entries_in (entries_of new))
+pops_none old new o n = subst (λ p. Pops (entries_in (entries_of p)) None (entries_in (entries_of new))) (sym o) (subst (λ p. Pops [] None (entries_in (entries_of p))) (sym n) (refl, refl))

@@ -21,6 +21,10 @@ module _ {K : Type 0} where
   TellsFirst [] g rest = ⊥
   TellsFirst (x ∷ xs) g rest = (rest ≡ xs) × (g.stamp ≡ x.stamp) × (g.charge ≡ x.charge) × (g.value ≡ x.value)
 
+  -- the first entry was taken out and told, where there was one
+  abbrev pub Pops : List (Idle K ℕ) → Option LruGone → List (Idle K ℕ) → Type 0
+  Pops old told new = MatchOption told ((old ≡ []) × (new ≡ [])) (λ g. TellsFirst old g new)
+
 module _ {K A : Type 0} where
   -- A call that puts what it took out into a chain, told with the entries of the chain before and after it. Where the chain took more, the call did this with what is in the chain now; else it told why, and nothing changed.
   abbrev pub IntoChain : Option (List (Idle K ℕ)) → Option (List (Idle K ℕ)) → ℕ → A → A → (List (Idle K ℕ) → Type 0) → Type 0

@@ -361,9 +361,10 @@ pub extern "C" fn lru_bytes_evicted_free(chain: &mut LruBytesEvicted) -> u32
     ensures chain { MatchBool (result == codes.done) (chain.new.chain.held ≡ None) (chain.new.chain.held ≡ chain.old.chain.held) }
 {
     let filled = replace_with(chain, (), chain_calls::is_filled);
-    if filled == code::DONE {
-        replace_with(chain, (), chain_calls::free);
+    if filled != code::DONE {
+        return filled;
     }
+    replace_with(chain, (), chain_calls::free);
     filled
 }
 

@@ -1,6 +1,6 @@
 //! What is asked of a chain, for keys of any type.
-ghost use Rattle.std.specs.Prelude.{◌≡◌, ◌++◌, [], Some, MatchOption};
-ghost use Rattle.lru_c.specs.Chains.{chain_code, TellsFirst};
+ghost use Rattle.std.specs.Prelude.{◌≡◌, ◌++◌, Some};
+ghost use Rattle.lru_c.specs.Chains.{chain_code, Pops};
 
 use crate::code;
 use crate::told::LruGone;
@@ -34,7 +34,7 @@ pub(crate) fn pop<K: Drop>(
     first: &mut Evicted<K, u64>,
     rest: &mut Evicted<K, u64>,
 ) -> Option<LruGone>
-    ensures { MatchOption result ((first.old ++ rest.old ≡ []) × (first.new ++ rest.new ≡ [])) (λ gone. TellsFirst (first.old ++ rest.old) gone (first.new ++ rest.new)) }
+    ensures { Pops (first.old ++ rest.old) result (first.new ++ rest.new) }
 {
     match first.pop() {
         Some(gone) => Some(told(&gone)),

@@ -333,10 +333,11 @@ pub extern "C" fn lru_words_key_of(
     ensures kept { MatchBool (result == codes.done) ⊤ ((first.new ≡ first.old) × (second.new ≡ second.old)) }
 {
     let (code, key) = replace_with(cache, stamp, calls::key_of);
-    if code == code::DONE {
-        *first = key.first;
-        *second = key.second;
+    if code != code::DONE {
+        return code;
     }
+    *first = key.first;
+    *second = key.second;
     code
 }
 
@@ -368,9 +369,10 @@ pub extern "C" fn lru_words_evicted_free(chain: &mut LruWordsEvicted) -> u32
     ensures chain { MatchBool (result == codes.done) (chain.new.chain.held ≡ None) (chain.new.chain.held ≡ chain.old.chain.held) }
 {
     let filled = replace_with(chain, (), chain_calls::is_filled);
-    if filled == code::DONE {
-        replace_with(chain, (), chain_calls::free);
+    if filled != code::DONE {
+        return filled;
     }
+    replace_with(chain, (), chain_calls::free);
     filled
 }
 

@@ -1,18 +1,18 @@
 //! The calls on a chain behind a handle, which is handed in and handed back.
 ghost use Rattle.std.specs.Prelude.{◌≡◌, ◌++◌, [], None, Some, is_some, true, IfOk, MatchOption};
-ghost use Rattle.lru_c.specs.Chains.{chain_code, entries_in, TellsFirst};
+ghost use Rattle.lru_c.specs.Chains.{chain_code, entries_in, Pops};
 ghost use Rattle.lru_c.specs.Codes as codes;
 ghost use Rattle.lru_c.specs.BytesCalls.{entries_of};
 
 use crate::bytes::chain::BytesChain;
 use crate::bytes::chain_handle::LruBytesEvicted;
+use crate::code;
 use crate::told::LruGone;
-use crate::{chains, code};
 use concurrent_lru::lru_core::Evicted;
 use std::alloc::{AllocError, Global};
 
 pub(crate) fn make(alloc: Global) -> Result<LruBytesEvicted, AllocError>
-    ensures { IfOk result (λ h. entries_of h.chain.held ≡ Some []) }
+    ensures { IfOk result (λ h. MatchOption h.chain.held ⊥ (λ c. entries_in (entries_of (Some c)) ≡ [])) }
 {
     let chain = BytesChain {
         first: Evicted::none(),
@@ -25,11 +25,11 @@ pub(crate) fn make(alloc: Global) -> Result<LruBytesEvicted, AllocError>
 pub(crate) fn is_filled(handle: LruBytesEvicted, _nothing: ()) -> (LruBytesEvicted, u32)
     ensures same { result.0.chain.held ≡ handle.chain.held }
     ensures code { result.1 ≡ chain_code (entries_of handle.chain.held) }
-    ensures stays { result.1 ≡ codes.done → is_some handle.chain.held ≡ true }
+    ensures stays { result.1 ≡ codes.done → is_some result.0.chain.held ≡ true }
 {
     match handle.opened() {
         Ok(chain) => {
-            let code = chains::is_filled(&chain.first, &chain.rest);
+            let code = chain.is_filled();
             (LruBytesEvicted::of(chain), code)
         }
         Err(handle) => (handle, code::CLOSED),
@@ -46,8 +46,10 @@ pub(crate) fn put(
 {
     match handle.opened() {
         Ok(mut chain) => {
-            chain.first = taken.0;
-            chain.rest = taken.1;
+            *chain = BytesChain {
+                first: taken.0,
+                rest: taken.1,
+            };
             (LruBytesEvicted::of(chain), ())
         }
         Err(_) => unreachable!(),
@@ -56,11 +58,11 @@ pub(crate) fn put(
 
 pub(crate) fn pop(handle: LruBytesEvicted, _nothing: ()) -> (LruBytesEvicted, Option<LruGone>)
     ensures stays { is_some result.0.chain.held ≡ is_some handle.chain.held }
-    ensures first { MatchOption result.1 ((entries_in (entries_of handle.chain.held) ≡ []) × (entries_in (entries_of result.0.chain.held) ≡ [])) (λ gone. TellsFirst (entries_in (entries_of handle.chain.held)) gone (entries_in (entries_of result.0.chain.held))) }
+    ensures first { Pops (entries_in (entries_of handle.chain.held)) result.1 (entries_in (entries_of result.0.chain.held)) }
 {
     match handle.opened() {
         Ok(mut chain) => {
-            let gone = take_first(&mut chain);
+            let gone = chain.pop();
             (LruBytesEvicted::of(chain), gone)
         }
         Err(handle) => (handle, None),
@@ -79,10 +81,4 @@ pub(crate) fn free(handle: LruBytesEvicted, _nothing: ()) -> (LruBytesEvicted, (
         }
         Err(handle) => (handle, ()),
     }
-}
-
-fn take_first(chain: &mut BytesChain) -> Option<LruGone>
-    ensures { MatchOption result ((chain.old.first ++ chain.old.rest ≡ []) × (chain.new.first ++ chain.new.rest ≡ [])) (λ gone. TellsFirst (chain.old.first ++ chain.old.rest) gone (chain.new.first ++ chain.new.rest)) }
-{
-    chains::pop(&mut chain.first, &mut chain.rest)
 }

@@ -1,19 +1,19 @@
 //! The calls on a chain behind a handle, which is handed in and handed back.
 ghost use Rattle.std.specs.Prelude.{◌≡◌, ◌++◌, [], None, Some, is_some, true, IfOk, MatchOption};
-ghost use Rattle.lru_c.specs.Chains.{chain_code, entries_in, TellsFirst};
+ghost use Rattle.lru_c.specs.Chains.{chain_code, entries_in, Pops};
 ghost use Rattle.lru_c.specs.Codes as codes;
 ghost use Rattle.lru_c.specs.WordsCalls.{entries_of};
 
+use crate::code;
 use crate::told::LruGone;
 use crate::words::chain::WordsChain;
 use crate::words::chain_handle::LruWordsEvicted;
 use crate::words::key::Words;
-use crate::{chains, code};
 use concurrent_lru::lru_core::Evicted;
 use std::alloc::{AllocError, Global};
 
 pub(crate) fn make(alloc: Global) -> Result<LruWordsEvicted, AllocError>
-    ensures { IfOk result (λ h. entries_of h.chain.held ≡ Some []) }
+    ensures { IfOk result (λ h. MatchOption h.chain.held ⊥ (λ c. entries_in (entries_of (Some c)) ≡ [])) }
 {
     let chain = WordsChain {
         first: Evicted::none(),
@@ -26,11 +26,11 @@ pub(crate) fn make(alloc: Global) -> Result<LruWordsEvicted, AllocError>
 pub(crate) fn is_filled(handle: LruWordsEvicted, _nothing: ()) -> (LruWordsEvicted, u32)
     ensures same { result.0.chain.held ≡ handle.chain.held }
     ensures code { result.1 ≡ chain_code (entries_of handle.chain.held) }
-    ensures stays { result.1 ≡ codes.done → is_some handle.chain.held ≡ true }
+    ensures stays { result.1 ≡ codes.done → is_some result.0.chain.held ≡ true }
 {
     match handle.opened() {
         Ok(chain) => {
-            let code = chains::is_filled(&chain.first, &chain.rest);
+            let code = chain.is_filled();
             (LruWordsEvicted::of(chain), code)
         }
         Err(handle) => (handle, code::CLOSED),
@@ -47,8 +47,10 @@ pub(crate) fn put(
 {
     match handle.opened() {
         Ok(mut chain) => {
-            chain.first = taken.0;
-            chain.rest = taken.1;
+            *chain = WordsChain {
+                first: taken.0,
+                rest: taken.1,
+            };
             (LruWordsEvicted::of(chain), ())
         }
         Err(_) => unreachable!(),
@@ -57,11 +59,11 @@ pub(crate) fn put(
 
 pub(crate) fn pop(handle: LruWordsEvicted, _nothing: ()) -> (LruWordsEvicted, Option<LruGone>)
     ensures stays { is_some result.0.chain.held ≡ is_some handle.chain.held }
-    ensures first { MatchOption result.1 ((entries_in (entries_of handle.chain.held) ≡ []) × (entries_in (entries_of result.0.chain.held) ≡ [])) (λ gone. TellsFirst (entries_in (entries_of handle.chain.held)) gone (entries_in (entries_of result.0.chain.held))) }
+    ensures first { Pops (entries_in (entries_of handle.chain.held)) result.1 (entries_in (entries_of result.0.chain.held)) }
 {
     match handle.opened() {
         Ok(mut chain) => {
-            let gone = take_first(&mut chain);
+            let gone = chain.pop();
             (LruWordsEvicted::of(chain), gone)
         }
         Err(handle) => (handle, None),
@@ -80,10 +82,4 @@ pub(crate) fn free(handle: LruWordsEvicted, _nothing: ()) -> (LruWordsEvicted, (
         }
         Err(handle) => (handle, ()),
     }
-}
-
-fn take_first(chain: &mut WordsChain) -> Option<LruGone>
-    ensures { MatchOption result ((chain.old.first ++ chain.old.rest ≡ []) × (chain.new.first ++ chain.new.rest ≡ [])) (λ gone. TellsFirst (chain.old.first ++ chain.old.rest) gone (chain.new.first ++ chain.new.rest)) }
-{
-    chains::pop(&mut chain.first, &mut chain.rest)
 }
