@@ -4,13 +4,14 @@ use Rattle.std.specs.Prelude.{Option, Some, None, MatchBool, ◌⊎◌}
 use Rattle.concurrent_lru.specs.Cache.{Cache}
 use Rattle.concurrent_lru.specs.Request as ask
 use Rattle.concurrent_lru.specs.Request.{Request}
+use Rattle.concurrent_lru.specs.TakeAll.{TakesAll}
 use Rattle.lru_c.specs.Chains.{chain_code, entries_in, Pops}
 use Rattle.lru_c.specs.Codes as code
 use Rattle.lru_c.specs.Inserts.{TellsInsertOf}
 use Rattle.lru_c.specs.Opened.{TellsKey, TellsReady}
 use Rattle.lru_c.specs.Told as tells
 use Rattle.lru_c.specs.Told.{bare, told, IsSame}
-use Rattle.lru_c.specs.WordsCalls.{entries_of, words_eq, Entries, Asks, AsksWithMemory, Begins, Contains, Inserts, KeyOf, Numbers, Reserves}
+use Rattle.lru_c.specs.WordsCalls.{entries_of, words_eq, Entries, Asks, AsksWithMemory, Begins, Contains, Inserts, KeyOf, Numbers, Reserves, Frees}
 use Rattle.lru_c.specs.declared.told.LruGone.{LruGone}
 use Rattle.lru_c.specs.declared.told.LruTold.{LruTold}
 use Rattle.lru_c.specs.declared.words.key.Words.{Words}
@@ -78,3 +79,10 @@ pops old new x a y g o is n h =
 
 pub pops_none : (old new : Option WordsChain) → old ≡ None → new ≡ None → Pops (entries_in (entries_of old)) None (entries_in (entries_of new))
 pops_none old new o n = subst (λ p. Pops (entries_in (entries_of p)) None (entries_in (entries_of new))) (sym o) (subst (λ p. Pops [] None (entries_in (entries_of p))) (sym n) (refl, refl))
+
+-- a cache behind a handle that was freed
+pub frees : (old : Option WordsCache) (x a : WordsCache) (out : Entries) → old ≡ Some x → a ≡ x → TakesAll a.state.cache out → Frees old code.done out
+frees old x a out o is h = subst (λ p. Frees p code.done out) (sym o) (refl, subst (λ (z : WordsCache). TakesAll z.state.cache out) is h)
+
+pub frees_none : (old : Option WordsCache) (out : Entries) → old ≡ None → out ≡ [] → Frees old code.closed out
+frees_none old out o none = subst (λ p. Frees p code.closed out) (sym o) (refl, none)

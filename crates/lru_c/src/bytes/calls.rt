@@ -31,7 +31,8 @@ pub(crate) fn make(
         state: State::with_limits(alloc, capacity, first_stamp, most_pins),
         key: Vec::new(alloc),
     };
-    Ok(LruBytes::of(Box::new(alloc, cache)?))
+    let boxed = Box::new(alloc, cache)?;
+    Ok(LruBytes::of(boxed))
 }
 
 pub(crate) fn begin(handle: LruBytes, asked: (&[u8], u64)) -> (LruBytes, (LruTold, Gone))

@@ -18,7 +18,8 @@ pub(crate) fn make(alloc: Global) -> Result<LruBytesEvicted, AllocError>
         first: Evicted::none(),
         rest: Evicted::none(),
     };
-    Ok(LruBytesEvicted::of(Box::new(alloc, chain)?))
+    let boxed = Box::new(alloc, chain)?;
+    Ok(LruBytesEvicted::of(boxed))
 }
 
 // Whether a chain takes more.

@@ -31,7 +31,8 @@ pub(crate) fn make(
         alloc,
         state: State::with_limits(alloc, capacity, first_stamp, most_pins),
     };
-    Ok(LruWords::of(Box::new(alloc, cache)?))
+    let boxed = Box::new(alloc, cache)?;
+    Ok(LruWords::of(boxed))
 }
 
 pub(crate) fn begin(handle: LruWords, asked: (Words, u64)) -> (LruWords, (LruTold, Gone))

@@ -19,7 +19,8 @@ pub(crate) fn make(alloc: Global) -> Result<LruWordsEvicted, AllocError>
         first: Evicted::none(),
         rest: Evicted::none(),
     };
-    Ok(LruWordsEvicted::of(Box::new(alloc, chain)?))
+    let boxed = Box::new(alloc, chain)?;
+    Ok(LruWordsEvicted::of(boxed))
 }
 
 // Whether a chain takes more.
