@@ -1,6 +1,3 @@
-use Rattle.std.proofs.Common.{[]}
-use Rattle.concurrent_lru.specs.Request as ask
-use Rattle.lru_c.specs.Told.{bare}
 use Rattle.lru_c.proofs.BytesOpened.{begins}
 use Rattle.lru_c.proofs.Opened.{on_closed}
 use Rattle.lru_c.proofs.bytes.calls.begin.Goals as goal

@@ -1,6 +1,5 @@
 use Rattle.std.proofs.Common.{[], refl}
 use Rattle.concurrent_lru.specs.Request as ask
-use Rattle.lru_c.specs.Told.{bare}
 use Rattle.lru_c.proofs.BytesOpened.{asks}
 use Rattle.lru_c.proofs.Opened.{on_closed}
 use Rattle.lru_c.proofs.bytes.calls.poll.Goals as goal

@@ -1,4 +1,4 @@
-use Rattle.std.proofs.Common.{[], refl}
+use Rattle.std.proofs.Common.{refl}
 use Rattle.concurrent_lru.specs.Request as ask
 use Rattle.lru_c.specs.Told.{bare}
 use Rattle.lru_c.proofs.BytesOpened.{asks}

@@ -1,4 +1,4 @@
-use Rattle.std.proofs.Common.{◌≡◌, inr, ap, refl, subst}
+use Rattle.std.proofs.Common.{inr, refl, subst}
 use Rattle.lru_c.specs.BytesCalls.{bytes_eq}
 use Rattle.lru_c.specs.Opened.{TellsReady}
 use Rattle.lru_c.proofs.bytes.cache.BytesCache.contains.Goals as goal

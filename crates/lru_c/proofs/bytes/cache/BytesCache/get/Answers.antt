@@ -1,7 +1,6 @@
 use Rattle.std.proofs.Common.{[], ◌≡◌, ap, refl}
 use Rattle.concurrent_lru.specs.Request as ask
 use Rattle.lru_c.specs.BytesCalls.{bytes_eq}
-use Rattle.lru_c.specs.Told.{bare}
 use Rattle.lru_c.proofs.ByKey.{by_key}
 use Rattle.lru_c.proofs.bytes.cache.BytesCache.get.Goals as goal
 

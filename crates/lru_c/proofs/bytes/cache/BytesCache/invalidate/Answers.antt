@@ -1,4 +1,4 @@
-use Rattle.std.proofs.Common.{[], ◌≡◌, ap, refl}
+use Rattle.std.proofs.Common.{◌≡◌, ap, refl}
 use Rattle.concurrent_lru.specs.Request as ask
 use Rattle.lru_c.specs.BytesCalls.{bytes_eq}
 use Rattle.lru_c.specs.Told.{bare}
