@@ -56,7 +56,7 @@ impl<C: Cached<u64> + Reads> Asked for ByRead<C> {
 
 fn make<C: Cached<u64>>(cache: C, key: u64) -> Result<Found, Refusal> {
     let mut made = false;
-    let handle = cache.made(key, 1, |key| {
+    let handle = cache.get_or_init(key, 1, |key| {
         made = true;
         *key
     })?;

@@ -1,9 +1,9 @@
 //! The parts that the cache is made of, with no rule of a cache: a lock, a map from keys to places,
 //! a slab of boxed values. What these take alone is what no body of the cache does without.
 
-use crate::shared::Shared;
+use crate::shared::StressTarget;
 use concurrent_lru::lru_core::Refusal;
-use lru_support::calls::Call;
+use lru_support::calls::WorkerCall;
 use slab::Slab;
 use std::alloc::Global;
 use std::collections::HashMap;
@@ -145,8 +145,8 @@ impl<R: Wait + Drop> Parts<R> {
     }
 }
 
-impl<R: Wait + Drop> Shared for Parts<R> {
-    fn fetch(&self, call: &Call) -> Result<Option<u64>, Refusal> {
+impl<R: Wait + Drop> StressTarget for Parts<R> {
+    fn ask(&self, call: &WorkerCall) -> Result<Option<u64>, Refusal> {
         self.hit(call.key)
     }
 }
@@ -181,8 +181,8 @@ impl<R: Wait + Drop> PartsInShards<R> {
     }
 }
 
-impl<R: Wait + Drop> Shared for PartsInShards<R> {
-    fn fetch(&self, call: &Call) -> Result<Option<u64>, Refusal> {
+impl<R: Wait + Drop> StressTarget for PartsInShards<R> {
+    fn ask(&self, call: &WorkerCall) -> Result<Option<u64>, Refusal> {
         match self.shard(call.key) {
             Some(shard) => shard.hit(call.key),
             None => Ok(None),

@@ -4,18 +4,18 @@ ghost use Rattle.std.specs.Prelude.{◌<◌};
 use concurrent_lru::lru_core::Refusal;
 use concurrent_lru::unsharded::GetError;
 use lru_support::cached::Cached;
-use lru_support::calls::Call;
+use lru_support::calls::WorkerCall;
 
 /// A cache that workers share. The value of a key is the key. It has no associated type, since the
 /// checker covers no closure of a thread over one that has.
-pub trait Shared {
+pub trait StressTarget {
     /// The value of a call, whose handle is dropped at once; none where its making failed.
-    fn fetch(&self, call: &Call) -> Result<Option<u64>, Refusal>;
+    fn ask(&self, call: &WorkerCall) -> Result<Option<u64>, Refusal>;
 }
 
-impl<C: Cached<u64>> Shared for C {
-    fn fetch(&self, call: &Call) -> Result<Option<u64>, Refusal> {
-        match self.tried(call.key, call.charge, |_| make(call)) {
+impl<C: Cached<u64>> StressTarget for C {
+    fn ask(&self, call: &WorkerCall) -> Result<Option<u64>, Refusal> {
+        match self.get_or_try_init(call.key, call.charge, |_| make(call)) {
             Ok(handle) => Ok(Some(*C::value_of(&handle))),
             Err(GetError::Init(())) => Ok(None),
             Err(GetError::Memory) => Err(Refusal::Memory),
@@ -25,6 +25,6 @@ impl<C: Cached<u64>> Shared for C {
 }
 
 // What `init` answers: the key, or that it fails.
-fn make(call: &Call) -> Result<u64, ()> {
+fn make(call: &WorkerCall) -> Result<u64, ()> {
     if call.fails { Err(()) } else { Ok(call.key) }
 }

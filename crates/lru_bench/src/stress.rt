@@ -1,6 +1,6 @@
 //! The stress workload: workers that share a cache, each with calls of its own.
 
-use crate::shared::Shared;
+use crate::shared::StressTarget;
 use concurrent_lru::lru_core::Refusal;
 use lru_support::calls::Calls;
 use std::sync::Wait;
@@ -18,7 +18,7 @@ pub const KEYS: u64 = 100;
 /// whose making would not fail. It is the same on every schedule.
 ///
 /// `Memory` where a thread could not be started, or a call was refused.
-pub fn stress<R: Threads + Wait + Sync, C: Shared + Sync>(
+pub fn stress<R: Threads + Wait + Sync, C: StressTarget + Sync>(
     rt: &R,
     cache: &C,
     threads: u32,
@@ -45,12 +45,12 @@ pub fn stress<R: Threads + Wait + Sync, C: Shared + Sync>(
 
 // One worker's calls, and the sum of what it read. Where a making would fail, whether a value is
 // read depends on the others, so it is not counted.
-fn work<C: Shared>(cache: &C, worker: u32, calls: u32) -> Result<u64, Refusal> {
+fn work<C: StressTarget>(cache: &C, worker: u32, calls: u32) -> Result<u64, Refusal> {
     let mut drawn = Calls::of_worker(SEED, u64::from(worker));
     let mut sum: u64 = 0;
     for _ in 0..calls {
         let call = drawn.draw(KEYS);
-        let read = cache.fetch(&call)?;
+        let read = cache.ask(&call)?;
         if let Some(value) = read
             && !call.fails
         {

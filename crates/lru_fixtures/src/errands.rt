@@ -134,12 +134,12 @@ pub fn serve<C: Cached<Sent>>(cache: C, errands: &Errands, number: u64) {
         return;
     }
     let next = number.saturating_add(1);
-    if let Ok(Some(handle)) = cache.found(next) {
+    if let Ok(Some(handle)) = cache.get(next) {
         errands.found.fetch_add(1, Ordering::SeqCst);
         drop(handle);
     }
-    cache.advise(next);
-    cache.clear();
+    cache.advice_evict(next);
+    cache.prune();
     raise(&errand.done);
 }
 
@@ -182,9 +182,9 @@ pub fn evicts<H: Drop, C: Cached<Sent, Handle = H>>(
         _ => None,
     };
     evict_with(cache, cause, kept, last);
-    let before = cache.total();
-    cache.clear();
-    let after = cache.total();
+    let before = cache.total_charge();
+    cache.prune();
+    let after = cache.total_charge();
     errands.close();
     (before, after)
 }

@@ -133,10 +133,10 @@ pub fn evict_with<V: Drop, H: Drop, C: Cached<V, Handle = H>>(
         }
         Cause::Failure => drop(try_make_value(cache, 5, 1, None, &mut ran)),
         Cause::Release => drop(handle),
-        Cause::Advice => cache.advise(1),
-        Cause::Invalidation => cache.take_back(1),
-        Cause::Prune => cache.clear(),
-        Cause::Capacity => cache.resize(0),
+        Cause::Advice => cache.advice_evict(1),
+        Cause::Invalidation => cache.invalidate(1),
+        Cause::Prune => cache.prune(),
+        Cause::Capacity => cache.set_capacity(0),
     }
 }
 
@@ -145,7 +145,7 @@ pub fn total_meanwhile<C: Cached<Slow>>(cache: C, gate: &Gate) -> Option<u128> {
     if !meets(&gate.dropping) {
         return None;
     }
-    let total = cache.total();
+    let total = cache.total_charge();
     raise(&gate.entered);
     Some(total)
 }

@@ -18,7 +18,7 @@ pub fn meets_in_making<C: Cached<u64>>(
     other: &AtomicU64,
 ) -> bool {
     let mut met = false;
-    let made = cache.made(key, 1, |key| {
+    let made = cache.get_or_init(key, 1, |key| {
         raise(mine);
         met = meets(other);
         *key

@@ -1,12 +1,12 @@
 //! A cache of one lock or in shards, as the workers of the stress run use it.
 ghost use Rattle.std.specs.Prelude.{◌<◌};
 
-use crate::counted::{Book, Counted, Unmade};
+use crate::counted::{Book, CountedValue, Unmade};
 use concurrent_lru::lru_core::Refusal;
 use concurrent_lru::unsharded::GetError;
 use concurrent_lru::{sharded, unsharded};
 use lru_support::cached::Cached;
-use lru_support::calls::Call;
+use lru_support::calls::WorkerCall;
 use std::hash::{BuildHasherDefault, FoldHasher};
 use std::sync::Arc;
 
@@ -14,10 +14,10 @@ use std::sync::Arc;
 pub type KeyHasher = BuildHasherDefault<FoldHasher>;
 
 /// The cache of one lock.
-pub type Cache<R> = unsharded::LruCache<u64, Counted, R>;
+pub type Cache<R> = unsharded::LruCache<u64, CountedValue, R>;
 
 /// The cache in shards.
-pub type Shards<R> = sharded::LruCache<u64, Counted, R, KeyHasher>;
+pub type Shards<R> = sharded::LruCache<u64, CountedValue, R, KeyHasher>;
 
 /// How a worker asks.
 #[derive(Drop)]
@@ -45,7 +45,7 @@ pub struct Answer {
 
 impl Answer {
     // Of a call that began at this moment, whose own `init` may have run.
-    fn of(value: &Counted, call: &Call, began: u64, ran: bool, total: u128) -> Answer {
+    fn of(value: &CountedValue, call: &WorkerCall, began: u64, ran: bool, total: u128) -> Answer {
         Answer {
             fits: value.key() == call.key,
             is_hit: !ran,
@@ -59,37 +59,41 @@ impl Answer {
 /// a thread over one that has.
 pub trait Shared {
     /// Asks for a value, and drops its handle at once.
-    fn fetch(&self, call: &Call, manner: &Manner) -> Result<Answer, Unmade>;
+    fn ask(&self, call: &WorkerCall, manner: &Manner) -> Result<Answer, Unmade>;
 
     /// `prune`.
-    fn prune_all(&self);
+    fn prune(&self);
 
     /// `total_charge`.
-    fn charged(&self) -> u128;
+    fn total_charge(&self) -> u128;
 }
 
-impl<C: Cached<Counted>> Shared for C {
-    fn fetch(&self, call: &Call, manner: &Manner) -> Result<Answer, Unmade> {
+impl<C: Cached<CountedValue>> Shared for C {
+    fn ask(&self, call: &WorkerCall, manner: &Manner) -> Result<Answer, Unmade> {
         let began = manner.book.now();
         let mut ran = false;
-        match self.tried(call.key, call.charge, |_| {
+        match self.get_or_try_init(call.key, call.charge, |_| {
             ran = true;
-            Counted::make(&manner.book, call, manner.yields)
+            CountedValue::make(&manner.book, call, manner.yields)
         }) {
             Ok(handle) => {
-                let total = if manner.looks { self.total() } else { 0 };
+                let total = if manner.looks {
+                    Cached::total_charge(*self)
+                } else {
+                    0
+                };
                 Ok(Answer::of(C::value_of(&handle), call, began, ran, total))
             }
             Err(error) => Err(unmade(error)),
         }
     }
 
-    fn prune_all(&self) {
-        self.clear();
+    fn prune(&self) {
+        Cached::prune(*self);
     }
 
-    fn charged(&self) -> u128 {
-        self.total()
+    fn total_charge(&self) -> u128 {
+        Cached::total_charge(*self)
     }
 }
 

@@ -6,7 +6,7 @@ use crate::plan::Plan;
 use crate::shared::{Answer, Manner, Shared};
 use crate::start::Start;
 use concurrent_lru::lru_core::Refusal;
-use lru_support::calls::{Call, Calls};
+use lru_support::calls::{Calls, WorkerCall};
 use std::alloc::Global;
 use std::sync::Arc;
 use std::thread;
@@ -31,7 +31,7 @@ impl Notes {
         }
     }
 
-    fn note(&mut self, call: &Call, answer: Result<Answer, Unmade>) {
+    fn note(&mut self, call: &WorkerCall, answer: Result<Answer, Unmade>) {
         match answer {
             Ok(answer) => self.note_value(answer),
             Err(Unmade::Failed) if call.fails => {}
@@ -128,7 +128,7 @@ fn work<C: Shared>(cache: &C, plan: &Plan, worker: usize, manner: &Manner, start
     let mut calls = Calls::of_worker(plan.seed, worker as u64);
     for number in 0..plan.calls {
         let call = calls.draw(plan.keys);
-        notes.note(&call, cache.fetch(&call, manner));
+        notes.note(&call, cache.ask(&call, manner));
         if number % 1_000 == 999 {
             thread::yield_now();
         }
@@ -138,11 +138,11 @@ fn work<C: Shared>(cache: &C, plan: &Plan, worker: usize, manner: &Manner, start
 
 // What is checked of a cache that no worker uses any more.
 fn check<C: Shared>(cache: &C, book: &Book, allowed: u128) -> Result<(), Trouble> {
-    if cache.charged() > allowed {
+    if cache.total_charge() > allowed {
         return Err(Trouble::Failed(Check::Total));
     }
-    cache.prune_all();
-    if cache.charged() != 0 {
+    cache.prune();
+    if cache.total_charge() != 0 {
         return Err(Trouble::Failed(Check::Prune));
     }
     if book.dropped() != book.made() {

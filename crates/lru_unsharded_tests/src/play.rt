@@ -2,7 +2,7 @@
 
 use concurrent_lru::unsharded::LruCache;
 use lru_fixtures::tables::answers_as_told;
-use lru_fixtures::threaded::{Call, Player};
+use lru_fixtures::threaded::{Player, ThreadedCall};
 use lru_support::drops::{DropLog, Logged};
 use std::alloc::Global;
 use std::sync::Wait;
@@ -13,7 +13,7 @@ pub(crate) fn plays<R: Wait + Clone + Drop>(
     rt: &R,
     alloc: Global,
     capacity: u64,
-    table: &[(Call, &str)],
+    table: &[(ThreadedCall, &str)],
 ) -> Result<(), Fail> {
     let log = DropLog::new(alloc, rt)?;
     let cache: LruCache<u64, Logged<R>, R> = LruCache::new(alloc, rt.clone()?, capacity);

@@ -1,7 +1,7 @@
 //! Long runs of calls that seeds decide, each answered as a model answers it.
 
 use crate::tables::{Answers, text_of};
-use crate::threaded::calls::{Call, Then};
+use crate::threaded::calls::{Then, ThreadedCall};
 use rand_core::{Rng, SeedableRng};
 use rand_xoshiro::Xoshiro256PlusPlus;
 use std::alloc::{AllocError, Global};
@@ -12,7 +12,7 @@ const CALLS: u64 = 2_000;
 
 // The next call, whose value would be its number. The numbers of 16 keys differ in their high
 // half alone, in their low half alone, or in both.
-fn draw(generator: &mut Xoshiro256PlusPlus, number: u64) -> Call {
+fn draw(generator: &mut Xoshiro256PlusPlus, number: u64) -> ThreadedCall {
     let kind = generator.next_u64() % 34;
     let key = generator.next_u64() % 4 * 4_294_967_296 + generator.next_u64() % 4;
     let charge = 1 + generator.next_u64() % 9;
@@ -24,26 +24,26 @@ fn draw(generator: &mut Xoshiro256PlusPlus, number: u64) -> Call {
         Then::AtOnce
     };
     match kind {
-        0..5 => Call::Get(key, then),
-        5..10 => Call::Init(key, charge, number, then),
-        10..14 => Call::TryInit(key, charge, number, then),
-        14..17 => Call::Fail(key, charge, then),
-        17..20 => Call::LetGo(slot % 4),
-        20..22 => Call::AdviceEvict(key),
-        22 => Call::Prune,
-        23 => Call::SetCapacity(limit),
-        24 => Call::Reserve(limit as usize),
-        25..27 => Call::Invalidate(key),
-        27..30 => Call::Insert(key, charge, number, then),
-        30..33 => Call::Read(key),
-        _ => Call::Total,
+        0..5 => ThreadedCall::Get(key, then),
+        5..10 => ThreadedCall::Init(key, charge, number, then),
+        10..14 => ThreadedCall::TryInit(key, charge, number, then),
+        14..17 => ThreadedCall::Fail(key, charge, then),
+        17..20 => ThreadedCall::LetGo(slot % 4),
+        20..22 => ThreadedCall::AdviceEvict(key),
+        22 => ThreadedCall::Prune,
+        23 => ThreadedCall::SetCapacity(limit),
+        24 => ThreadedCall::Reserve(limit as usize),
+        25..27 => ThreadedCall::Invalidate(key),
+        27..30 => ThreadedCall::Insert(key, charge, number, then),
+        30..33 => ThreadedCall::Read(key),
+        _ => ThreadedCall::Total,
     }
 }
 
 /// Makes the calls that a seed decides, of a cache and of its model. Fails at the first call where
 /// their answers differ, or the entries that the text of the cache shows in each shard: the
 /// failure tells the seed, the call, what was answered and what was wanted.
-pub fn agree<C: Answers<Call>, M: Answers<Call>>(
+pub fn agree<C: Answers<ThreadedCall>, M: Answers<ThreadedCall>>(
     alloc: Global,
     seed: u64,
     cache: &mut C,
@@ -62,11 +62,11 @@ pub fn agree<C: Answers<Call>, M: Answers<Call>>(
 }
 
 // Makes one call of both. Answers what they answered, or what they show after it, where it differs.
-fn difference<C: Answers<Call>, M: Answers<Call>>(
+fn difference<C: Answers<ThreadedCall>, M: Answers<ThreadedCall>>(
     alloc: Global,
     cache: &mut C,
     model: &mut M,
-    call: Call,
+    call: ThreadedCall,
 ) -> Result<Option<(String, String)>, AllocError> {
     let answers = (cache.answer(alloc, call)?, model.answer(alloc, call)?);
     if answers.0.as_str() != answers.1.as_str() {
@@ -74,7 +74,7 @@ fn difference<C: Answers<Call>, M: Answers<Call>>(
     }
     let shown = (
         entries_shown(alloc, cache)?,
-        model.answer(alloc, Call::Show)?,
+        model.answer(alloc, ThreadedCall::Show)?,
     );
     if shown.0.as_str() != shown.1.as_str() {
         return Ok(Some(shown));
@@ -83,8 +83,11 @@ fn difference<C: Answers<Call>, M: Answers<Call>>(
 }
 
 // The entries that the text of a cache shows, as the text of a list of shards, keys and values.
-fn entries_shown<C: Answers<Call>>(alloc: Global, cache: &mut C) -> Result<String, AllocError> {
-    let text = cache.answer(alloc, Call::Show)?;
+fn entries_shown<C: Answers<ThreadedCall>>(
+    alloc: Global,
+    cache: &mut C,
+) -> Result<String, AllocError> {
+    let text = cache.answer(alloc, ThreadedCall::Show)?;
     text_of(alloc, &entries_of(alloc, text.as_str())?)
 }
 
