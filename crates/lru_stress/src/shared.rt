@@ -62,10 +62,10 @@ pub trait Shared {
     fn ask(&self, call: &WorkerCall, manner: &Manner) -> Result<Answer, Unmade>;
 
     /// `prune`.
-    fn prune(&self);
+    fn prune_all(&self);
 
     /// `total_charge`.
-    fn total_charge(&self) -> u128;
+    fn charged(&self) -> u128;
 }
 
 impl<C: Cached<CountedValue>> Shared for C {
@@ -77,23 +77,19 @@ impl<C: Cached<CountedValue>> Shared for C {
             CountedValue::make(&manner.book, call, manner.yields)
         }) {
             Ok(handle) => {
-                let total = if manner.looks {
-                    Cached::total_charge(*self)
-                } else {
-                    0
-                };
+                let total = if manner.looks { self.total_charge() } else { 0 };
                 Ok(Answer::of(C::value_of(&handle), call, began, ran, total))
             }
             Err(error) => Err(unmade(error)),
         }
     }
 
-    fn prune(&self) {
-        Cached::prune(*self);
+    fn prune_all(&self) {
+        self.prune();
     }
 
-    fn total_charge(&self) -> u128 {
-        Cached::total_charge(*self)
+    fn charged(&self) -> u128 {
+        self.total_charge()
     }
 }
 

@@ -138,11 +138,11 @@ fn work<C: Shared>(cache: &C, plan: &Plan, worker: usize, manner: &Manner, start
 
 // What is checked of a cache that no worker uses any more.
 fn check<C: Shared>(cache: &C, book: &Book, allowed: u128) -> Result<(), Trouble> {
-    if cache.total_charge() > allowed {
+    if cache.charged() > allowed {
         return Err(Trouble::Failed(Check::Total));
     }
-    cache.prune();
-    if cache.total_charge() != 0 {
+    cache.prune_all();
+    if cache.charged() != 0 {
         return Err(Trouble::Failed(Check::Prune));
     }
     if book.dropped() != book.made() {
