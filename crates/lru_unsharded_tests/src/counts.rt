@@ -1,8 +1,10 @@
 //! Counts of what calls did: each kind of call, that they add up, and what a reset answers, also
 //! while other threads use the cache.
 
-use crate::makings::{Meeting, comes_second, fails_first, makes_first, takes_over};
+use crate::makings::{fails_first, takes_over};
 use concurrent_lru::unsharded::{Counts, GetError, LruCache};
+use lru_fixtures::makings::{Meeting, values_of_two};
+use lru_fixtures::workers::asked_between_resets;
 use std::alloc::Global;
 use std::sync::Wait;
 use std::test::Fail;
@@ -76,7 +78,11 @@ fn make_call<R: Wait>(cache: &LruCache<u64, u64, R>, call: Call) {
 // Makes each call that only looks.
 fn look<R: Wait>(cache: &LruCache<u64, u64, R>, key: u64) {
     let _ = (cache.contains(&key), cache.len(), cache.is_empty());
-    let _ = (cache.total_charge(), cache.pinned_charge(), cache.capacity());
+    let _ = (
+        cache.total_charge(),
+        cache.pinned_charge(),
+        cache.capacity(),
+    );
 }
 
 // Hits, misses, refusals, makings, failures, insertions, evictions and removals.
@@ -179,7 +185,10 @@ fn a_held_value_that_is_replaced_is_evicted_once(rt: HostRuntime) {
     let old = cache.insert(&1, 3, 10).expect(&rt, "memory");
     let new = cache.insert(&1, 5, 11).expect(&rt, "memory");
     let held = cache.counts();
-    assert_eq!(rt; (held.insertions, held.inserted_charge, held.evictions), (2, 8, 0));
+    assert_eq!(rt;
+        (held.insertions, held.inserted_charge, held.evictions),
+        (2, 8, 0)
+    );
     drop(old);
     let replaced = cache.counts();
     assert_eq!(rt; (replaced.evictions, replaced.evicted_charge), (1, 3));
@@ -260,7 +269,10 @@ fn a_reset_answers_what_was_counted(rt: HostRuntime) {
     assert_eq!(rt; (anew.entries_before, anew.charge_before), (2, 20));
     assert!(rt; adds_up(&cache));
     cache.advice_evict(1);
-    assert_eq!(rt; (cache.counts().evictions, cache.counts().evicted_charge), (1, 10));
+    assert_eq!(rt;
+        (cache.counts().evictions, cache.counts().evicted_charge),
+        (1, 10)
+    );
     assert!(rt; adds_up(&cache));
 }
 
@@ -296,7 +308,10 @@ fn the_hit_ratio_is_of_hits_and_misses(rt: HostRuntime) {
         ..none
     };
     assert_eq!(rt; some.hit_ratio(), Some(0.75));
-    let more = Counts { hits: u64::MAX, ..some };
+    let more = Counts {
+        hits: u64::MAX,
+        ..some
+    };
     assert_eq!(rt; more.saturating_add(some).hits, u64::MAX);
     assert_eq!(rt; more.saturating_add(some).misses, 2);
     assert_eq!(rt; more.hit_ratio(), Some(1.0));
@@ -312,12 +327,7 @@ fn counts_of_meeting<R: Wait + Threads + Clone + Drop + Send + Sync>(
     alloc: Global,
 ) -> Option<Counts> {
     let cache: LruCache<u64, u64, R> = LruCache::new(alloc, rt.clone().ok()?, 10);
-    let meeting = Meeting::new();
-    let made = thread::join(
-        rt,
-        || makes_first(&cache, &meeting),
-        || comes_second(&cache, &meeting),
-    );
+    let made = values_of_two(rt, &&cache);
     let counts = cache.counts();
     match made {
         (Some(5), Some(5)) if counts.hits == 0 => Some(counts),
@@ -335,7 +345,10 @@ fn a_caller_that_waits_is_counted(rt: HostRuntime) {
     }
     let counts = counts.expect(&rt, "the second never waited");
     assert_eq!(rt; (counts.hits, counts.misses, counts.waits), (0, 1, 1));
-    assert_eq!(rt; (counts.makings, counts.failures, counts.insertions), (1, 0, 1));
+    assert_eq!(rt;
+        (counts.makings, counts.failures, counts.insertions),
+        (1, 0, 1)
+    );
 }
 
 // The counts after the first caller failed and the second, which waited, made the value; none where
@@ -405,49 +418,10 @@ fn four_threads_counts_add_up(rt: HostRuntime) -> Result<(), Fail> {
     Ok(())
 }
 
-// How often one thread resets the counts, and how often each of three others asks for a value.
-const RESETS: u32 = 2_000;
-
-const ASKS: u32 = 20_000;
-
-// The calls that hit, missed or waited.
-fn asked_in(counts: &Counts) -> u64 {
-    counts
-        .hits
-        .wrapping_add(counts.misses)
-        .wrapping_add(counts.waits)
-}
-
-// The calls that some resets tell of.
-fn resets_often<R: Wait>(cache: &LruCache<u64, u64, R>) -> u64 {
-    let mut asked: u64 = 0;
-    for _ in 0..RESETS {
-        asked = asked.wrapping_add(asked_in(&cache.reset_counts()));
-        thread::yield_now();
-    }
-    asked
-}
-
-// Asks for a value. Answers how many calls it was told of, which are none.
-fn asks_often<R: Wait>(cache: &LruCache<u64, u64, R>) -> u64 {
-    for _ in 0..ASKS {
-        let _ = cache.read(&1, |value| *value);
-    }
-    0
-}
-
 // No call is missed between two resets, and none is counted twice.
 #[test]
 fn each_call_is_counted_in_one_reset(rt: HostRuntime) -> Result<(), Fail> {
     let cache: LruCache<u64, u64, &HostRuntime> = LruCache::new(rt.alloc(), &rt, 8);
-    let told = thread::map_indices(&rt, rt.alloc(), 4, &|index| match index {
-        0 => resets_often(&cache),
-        _ => asks_often(&cache),
-    })?;
-    let mut asked = asked_in(&cache.counts());
-    for part in told.as_slice() {
-        asked = asked.wrapping_add(*part);
-    }
-    assert_eq!(rt; asked, 60_000);
+    assert_eq!(rt; asked_between_resets(&rt, rt.alloc(), &&cache)?, 60_000);
     Ok(())
 }

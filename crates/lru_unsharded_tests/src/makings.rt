@@ -1,86 +1,20 @@
 //! Two callers of one value: the second waits, takes over, or finds what the first made.
 
 use concurrent_lru::unsharded::{GetError, LruCache};
+use lru_fixtures::makings::{Meeting, value_beside_total, values_of_two};
 use lru_support::flags::{meets, pause, raise};
 use std::alloc::Global;
 use std::sync::Wait;
-use std::sync::atomic::AtomicU64;
 use std::thread;
 use std::thread::Threads;
-
-/// Where two callers of a value are: the first makes it, and the second comes.
-#[derive(Drop)]
-pub struct Meeting {
-    pub started: AtomicU64,
-    pub coming: AtomicU64,
-}
-
-impl Meeting {
-    /// Neither is there yet.
-    pub(crate) fn new() -> Meeting {
-        Meeting {
-            started: AtomicU64::new(0),
-            coming: AtomicU64::new(0),
-        }
-    }
-}
-
-/// The value of key 1, made as 5 while the other caller comes.
-pub(crate) fn makes_first<R: Wait>(cache: &LruCache<u64, u64, R>, meeting: &Meeting) -> Option<u64> {
-    let mut met = false;
-    let made = cache.get_or_init(1, 3, |_| {
-        raise(&meeting.started);
-        met = meets(&meeting.coming);
-        pause();
-        5
-    });
-    match made {
-        Ok(handle) if met => Some(*handle.value()),
-        _ => None,
-    }
-}
-
-/// The value of key 1, asked for while it is made; none where this caller made it anew.
-pub(crate) fn comes_second<R: Wait>(
-    cache: &LruCache<u64, u64, R>,
-    meeting: &Meeting,
-) -> Option<u64> {
-    if !meets(&meeting.started) {
-        return None;
-    }
-    raise(&meeting.coming);
-    let mut ran = false;
-    let made = cache.get_or_init(1, 7, |_| {
-        ran = true;
-        6
-    });
-    match made {
-        Ok(handle) if !ran => Some(*handle.value()),
-        _ => None,
-    }
-}
-
-/// The value of key 1, where it is ready.
-pub(crate) fn found<R: Wait>(cache: &LruCache<u64, u64, R>) -> Option<u64> {
-    match cache.get(1) {
-        Ok(Some(handle)) => Some(*handle.value()),
-        _ => None,
-    }
-}
 
 #[test]
 fn one_value_for_two_callers(rt: HostRuntime) {
     let own = rt.clone().expect(&rt, "memory");
     let cache: LruCache<u64, u64, HostRuntime> = LruCache::new(rt.alloc(), own, 10);
-    let meeting = Meeting::new();
-    let values = thread::join(
-        &rt,
-        || makes_first(&cache, &meeting),
-        || comes_second(&cache, &meeting),
-    );
-    assert_eq!(rt; values, (Some(5), Some(5)));
-    let (third, total) = thread::join(&rt, || found(&cache), || cache.total_charge());
-    assert_eq!(rt; (third, total), (Some(5), 3));
+    assert_eq!(rt; values_of_two(&rt, &&cache), (Some(5), Some(5)));
+    // The charge is the maker's.
+    assert_eq!(rt; value_beside_total(&rt, &&cache), (Some(5), 3));
 }
 
 /// Fails to make key 1 once the other caller comes, and says whether it did.

@@ -88,5 +88,8 @@ fn owned_calls_are_counted(rt: HostRuntime) {
     assert_eq!(rt; (held.makings, held.failures), (2, 1));
     assert_eq!(rt; (held.insertions, held.evictions, held.removals), (2, 0, 1));
     drop(handle);
-    assert_eq!(rt; (shared.counts().evictions, shared.counts().evicted_charge), (1, 3));
+    assert_eq!(rt;
+        (shared.counts().evictions, shared.counts().evicted_charge),
+        (1, 3)
+    );
 }
