@@ -89,7 +89,11 @@ fn pinned_charges_are_summed(rt: HostRuntime) -> Result<(), test::Fail> {
     let mut state: State<u64, u64> = State::new(alloc, 9);
     for (call, total, pinned) in PINNED {
         let _answer = state.answer(alloc, call)?;
-        assert_eq!(rt; (state.total(), state.pinned_charge()), (total, pinned), "after {call:?}");
+        assert_eq!(rt;
+            (state.total(), state.pinned_charge()),
+            (total, pinned),
+            "after {call:?}"
+        );
     }
     Ok(())
 }
