@@ -9,6 +9,7 @@ pub mod makes;
 pub mod makings;
 pub mod marks;
 pub mod meetings;
+pub mod owners;
 pub mod rows;
 pub mod tables;
 pub mod threaded;
