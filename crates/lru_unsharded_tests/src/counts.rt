@@ -1,9 +1,9 @@
 //! Counts of what calls did: each kind of call, that they add up, and what a reset answers, also
 //! while other threads use the cache.
 
-use crate::makings::{fails_first, takes_over};
+use crate::makings::{MEETINGS, one_fails_and_one_makes};
 use concurrent_lru::unsharded::{Counts, GetError, LruCache};
-use lru_fixtures::makings::{Meeting, values_of_two};
+use lru_fixtures::makings::values_of_two;
 use lru_fixtures::workers::asked_between_resets;
 use std::alloc::Global;
 use std::sync::Wait;
@@ -317,9 +317,6 @@ fn the_hit_ratio_is_of_hits_and_misses(rt: HostRuntime) {
     assert_eq!(rt; more.hit_ratio(), Some(1.0));
 }
 
-// How often the two meet again, at most, where the second came too late to wait.
-const MEETINGS: u32 = 50;
-
 // The counts after two callers asked for one value, the second while the first made it; none where
 // the second came too late.
 fn counts_of_meeting<R: Wait + Threads + Clone + Drop + Send + Sync>(
@@ -358,17 +355,9 @@ fn counts_of_failure<R: Wait + Threads + Clone + Drop + Send + Sync>(
     alloc: Global,
 ) -> Option<Counts> {
     let cache: LruCache<u64, u64, R> = LruCache::new(alloc, rt.clone().ok()?, 10);
-    let meeting = Meeting::new();
-    let made = thread::join(
-        rt,
-        || fails_first(&cache, &meeting),
-        || takes_over(&cache, &meeting),
-    );
+    let ended = one_fails_and_one_makes(rt, &cache);
     let counts = cache.counts();
-    match made {
-        (true, Some(5)) if counts.waits > 0 => Some(counts),
-        _ => None,
-    }
+    (ended && counts.waits > 0).then_some(counts)
 }
 
 // The entry stays for the caller that waits, so it is neither removed nor inserted again.
