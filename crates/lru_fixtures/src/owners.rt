@@ -146,6 +146,14 @@ pub struct TwoHandles {
     pub both_dropped: (u128, usize),
 }
 
+/// What `drops_two_handles` sees of a cache that keeps nothing idle and has one owner besides.
+pub const DROPPED_IN_TURN: TwoHandles = TwoHandles {
+    values: (5, 5),
+    owners: 3,
+    one_dropped: (3, 3),
+    both_dropped: (0, 1),
+};
+
 /// Makes key 1 as 5, at the charge 3, in an empty cache, and finds it; then drops the two handles,
 /// one after the other. None where a call answers otherwise.
 pub fn drops_two_handles<C: Owners>(cache: &C) -> Option<TwoHandles> {

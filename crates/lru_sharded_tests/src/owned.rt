@@ -2,7 +2,7 @@
 //! own shard.
 
 use concurrent_lru::sharded::{LruCache, OwnedHandle, Refusal};
-use lru_fixtures::owners::{TwoHandles, counts_of_calls, drops_two_handles, fails_once};
+use lru_fixtures::owners::{DROPPED_IN_TURN, counts_of_calls, drops_two_handles, fails_once};
 use lru_support::hashers::ByOwnNumber;
 use std::alloc::Global;
 use std::sync::{Arc, Wait};
@@ -19,13 +19,7 @@ fn keeps_nothing<R: Wait + Clone + Drop>(alloc: Global, rt: R) -> Result<Arc<Cac
 #[test]
 fn an_entry_stays_until_its_owned_handles_are_dropped(rt: HostRuntime) {
     let shared = keeps_nothing(rt.alloc(), &rt).expect(&rt, "memory");
-    let wanted = TwoHandles {
-        values: (5, 5),
-        owners: 3,
-        one_dropped: (3, 3),
-        both_dropped: (0, 1),
-    };
-    assert_eq!(rt; drops_two_handles(&shared), Some(wanted));
+    assert_eq!(rt; drops_two_handles(&shared), Some(DROPPED_IN_TURN));
 }
 
 // Each shard numbers its entries by itself, so each of these has the stamp 0 in its own.

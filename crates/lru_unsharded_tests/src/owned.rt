@@ -1,7 +1,7 @@
 //! Handles are read as their values, and owned ones keep their cache alive.
 
 use concurrent_lru::unsharded::{LruCache, OwnedHandle};
-use lru_fixtures::owners::{TwoHandles, counts_of_calls, drops_two_handles, fails_once};
+use lru_fixtures::owners::{DROPPED_IN_TURN, counts_of_calls, drops_two_handles, fails_once};
 use std::alloc::Global;
 use std::sync::{Arc, Wait};
 use std::thread;
@@ -21,13 +21,7 @@ fn keeps_nothing<R: Wait + Drop>(alloc: Global, rt: R) -> Option<Arc<LruCache<u6
 #[test]
 fn an_entry_stays_until_its_owned_handles_are_dropped(rt: HostRuntime) {
     let shared = keeps_nothing(rt.alloc(), &rt).expect(&rt, "memory");
-    let wanted = TwoHandles {
-        values: (5, 5),
-        owners: 3,
-        one_dropped: (3, 3),
-        both_dropped: (0, 1),
-    };
-    assert_eq!(rt; drops_two_handles(&shared), Some(wanted));
+    assert_eq!(rt; drops_two_handles(&shared), Some(DROPPED_IN_TURN));
 }
 
 #[test]
