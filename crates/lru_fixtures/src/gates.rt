@@ -120,7 +120,10 @@ impl<C: Cached<Slow>> Drops for C {
         };
         let kept = match cause {
             Cause::Release => Some(handle),
-            _ => None,
+            _ => {
+                drop(handle);
+                None
+            }
         };
         let second = match cause {
             Cause::Begin => Slow::at(gate).ok(),
