@@ -3,7 +3,7 @@ use Rattle.std.specs.Prelude.{◌≡◌, ℕ, Option, Some, None}
 use Rattle.std.specs.Borrow.{Fml, RattleType, MutBor, Lends}
 use Rattle.slab.specs.Slab.{get}
 use denote.RawPtr.{Ptr}
-use Rattle.concurrent_lru.specs.Cells.{cell_at, ptr_in, key_at}
+use Rattle.concurrent_lru.specs.Cells.{cell_at, ptr_in, slot_at}
 use Rattle.concurrent_lru.specs.CellLends.{with_value}
 use Rattle.concurrent_lru.specs.Relinks.{NodeCell, place_of}
 use Rattle.concurrent_lru.specs.declared.list.memory.At.{At}
@@ -18,17 +18,17 @@ ptr_of None = None
 ptr_of (Some at) = Some at.ptr
 
 module _ {K V : Type 0} where
-  -- the own key of a node that is there
+  -- the own slot of a node that is there
   abbrev pub place_in : Option (NodeCell K V) → Option ℕ
   place_in None = None
   place_in (Some c) = Some (place_of c.value)
 
-  -- each pointer is that of the node under its key, no two are the same, and each node has its own
-  -- key
+  -- each pointer is that of the node in its slot, no two are the same, and each node has its own
+  -- slot
   pub record IsTied (s : Slots K V) : Type 0 where
-    pub pointers : (key : ℕ) → ptr_in (cell_at s.memory.cells key) ≡ ptr_of (get s.pointers key)
-    pub apart : (key : ℕ) (p : Ptr) → ptr_in (cell_at s.memory.cells key) ≡ Some p → key_at s.memory.cells p ≡ Some key
-    pub placed : (key place : ℕ) → place_in (cell_at s.memory.cells key) ≡ Some place → place ≡ key
+    pub pointers : (slot : ℕ) → ptr_in (cell_at s.memory.cells slot) ≡ ptr_of (get s.pointers slot)
+    pub apart : (slot : ℕ) (p : Ptr) → ptr_in (cell_at s.memory.cells slot) ≡ Some p → slot_at s.memory.cells p ≡ Some slot
+    pub placed : (slot place : ℕ) → place_in (cell_at s.memory.cells slot) ≡ Some place → place ≡ slot
 
   -- the slots with this node at a pointer
   abbrev pub with_node : Slots K V → Ptr → Node K V → Slots K V

@@ -4,16 +4,16 @@ use denote.RawPtr.{Ptr}
 use Rattle.slab.specs.Slab.{slab_len}
 use Rattle.concurrent_lru.specs.Order.{Link, link, IsOrder, order}
 use Rattle.concurrent_lru.specs.Slots.{map_of_slots}
-use Rattle.concurrent_lru.specs.Cells.{cell_at, key_at}
+use Rattle.concurrent_lru.specs.Cells.{cell_at, slot_at}
 use Rattle.concurrent_lru.specs.NodeTable.{NodeTable, Entry, entry_of, chain_of}
-use Rattle.concurrent_lru.specs.Relinks.{NodeCell, NodeCells, before_link, after_link, key_in, before_at, after_at}
+use Rattle.concurrent_lru.specs.Relinks.{NodeCell, NodeCells, before_link, after_link, slot_in, before_at, after_at}
 use Rattle.concurrent_lru.specs.SlotPointers.{IsTied}
 use Rattle.concurrent_lru.specs.declared.list.slots.Slots.{Slots}
 
 module _ {K V : Type 0} where
   abbrev pub link_of : NodeCells K V → Option (NodeCell K V) → Option Link
   link_of cs None = None
-  link_of cs (Some c) = Some (link (key_in cs (before_link c.value)) (key_in cs (after_link c.value)))
+  link_of cs (Some c) = Some (link (slot_in cs (before_link c.value)) (slot_in cs (after_link c.value)))
 
   abbrev pub entry_in : Option (NodeCell K V) → Option (Entry K V)
   entry_in None = None
@@ -31,7 +31,7 @@ module _ {K V : Type 0} where
   -- the link leads to a node
   abbrev pub IsGood : NodeCells K V → Option Ptr → Type 0
   IsGood cs None = Unit {0}
-  IsGood cs (Some p) = IsSome (key_at cs p)
+  IsGood cs (Some p) = IsSome (slot_at cs p)
 
   abbrev pub IsGoodAt : NodeCells K V → ℕ → Type 0
   IsGoodAt cs k = IsGood cs (before_at cs k) × IsGood cs (after_at cs k)
@@ -47,7 +47,7 @@ module _ {K V : Type 0} where
 
   pub record IsNodeTable (s : Slots K V) (oldest : Option ℕ) (newest : Option Ptr) : Type 0 where
     pub tied : IsTied s
-    pub ordered : IsOrder (link_at s.memory.cells) oldest (key_in s.memory.cells newest) (idle_places s.memory.cells oldest)
+    pub ordered : IsOrder (link_at s.memory.cells) oldest (slot_in s.memory.cells newest) (idle_places s.memory.cells oldest)
     pub good : AreGood s.memory.cells (idle_places s.memory.cells oldest)
     pub last_good : IsGood s.memory.cells newest
     pub ends : (k : ℕ) → IsEnd (cell_at s.memory.cells k)

@@ -6,7 +6,7 @@ ghost use Rattle.std.specs.Fn.{FnOnceReturnsAt, FnOnceTakesAt};
 ghost use Rattle.std.specs.Sync.Mutex.{mutex_guard_value};
 ghost use Rattle.concurrent_lru.specs.Cache.{sum_of, IsLawful};
 ghost use Rattle.concurrent_lru.specs.CountedCalls.{AddUp};
-ghost use Rattle.concurrent_lru.specs.Doors.{IsAwake, IsMetFor};
+ghost use Rattle.concurrent_lru.specs.Doors.{IsAwake, IsLookupFor};
 ghost use Rattle.concurrent_lru.specs.Keys.{CopiesAreEqual};
 ghost use Rattle.concurrent_lru.specs.Pins.{IsHandleFor, made_key, made_charge, awaited_key, awaited_charge};
 ghost use Rattle.concurrent_lru.specs.Ready.{ValuesFit};
@@ -15,7 +15,8 @@ use crate::counts::Counts;
 use crate::fit::Fit;
 use crate::handle::CacheHandle;
 use crate::locked::{
-    Advised, Entered, Invalidated, Locked, Making, Pin, Polled, Pruned, Reserved, Resized, Waiting,
+    Advised, Entered, HeldPin, Invalidated, Locked, Making, Polled, Pruned, Reserved, Resized,
+    Waiting,
 };
 use crate::lru_core::Refusal;
 use std::alloc::Global;
@@ -23,11 +24,11 @@ use std::hash::Hash;
 use std::sync::{Arc, Condvar, Mutex, MutexGuard, Wait};
 use std::{fmt, hint};
 
-// How often a call looks at a lock that another has before it sleeps: after 64, 128 .. 4,096
-// pauses, each of some tens of nanoseconds. A look takes the lock's line of memory from the call
+// How often a call tries a lock that another has before it sleeps: after 64, 128 .. 4,096
+// pauses, each of some tens of nanoseconds. A try takes the lock's line of memory from the call
 // that has it, so the first pause is as long as several calls, and those that wait leave the lock
 // to one that makes many in a row.
-const LOOKS: u32 = 7;
+const SPINS: u32 = 7;
 
 const FIRST_PAUSES: u32 = 64;
 
@@ -40,7 +41,7 @@ pub struct Door<K: Hash + Eq + Clone, V, R: Wait, F: Fit<K, V>> {
 }
 
 /// A debt: the lock is got. Each call takes it, so there is one call for each lock.
-pub struct Inside<'a, K: Hash + Eq + Clone, V, R: Wait, F: Fit<K, V>> {
+pub struct Guard<'a, K: Hash + Eq + Clone, V, R: Wait, F: Fit<K, V>> {
     door: &'a Door<K, V, R, F>,
     guard: MutexGuard<'a, Locked<K, V, F>>,
 }
@@ -54,17 +55,17 @@ pub struct Maker<'a, K: Hash + Eq + Clone, V, R: Wait, F: Fit<K, V>> {
 
 /// A debt: a pin in an entry whose value another caller makes, and the lock, which the wait alone
 /// lets go, so that no wake is missed.
-pub struct Asleep<'a, K: Hash + Eq + Clone, V, R: Wait, F: Fit<K, V>> {
-    inside: Inside<'a, K, V, R, F>,
+pub struct WaitGuard<'a, K: Hash + Eq + Clone, V, R: Wait, F: Fit<K, V>> {
+    guard: Guard<'a, K, V, R, F>,
     waiting: Waiting<K, V, F>,
 }
 
-/// What a begin says, and each wake after it.
-pub enum Met<'a, K: Hash + Eq + Clone, V, R: Wait, F: Fit<K, V>> {
+/// What a begin finds, and each wake after it.
+pub enum Lookup<'a, K: Hash + Eq + Clone, V, R: Wait, F: Fit<K, V>> {
     /// The caller is to make the value.
     Make(Maker<'a, K, V, R, F>),
     /// Another caller is making it.
-    Wait(Asleep<'a, K, V, R, F>),
+    Wait(WaitGuard<'a, K, V, R, F>),
     /// The value is there.
     Hit(CacheHandle<'a, K, V, R, F>),
 }
@@ -88,7 +89,7 @@ impl<K: Hash + Eq + Clone + Drop, V: Drop, R: Wait, F: Fit<K, V>> Door<K, V, R, 
 
     /// Gets the lock. All calls get it here, so the clauses hold of every state that they meet.
     #[inline(always)]
-    pub fn enter(&self) -> Inside<'_, K, V, R, F>
+    pub fn lock(&self) -> Guard<'_, K, V, R, F>
         ensures lawful { IsLawful K.eq (mutex_guard_value result.guard).cache }
         ensures settled { (mutex_guard_value result.guard).cache.capacity < sum_of (mutex_guard_value result.guard).cache → (mutex_guard_value result.guard).cache.idle ≡ [] }
         ensures kept { ValuesFit F.fits (mutex_guard_value result.guard).cache }
@@ -96,18 +97,18 @@ impl<K: Hash + Eq + Clone + Drop, V: Drop, R: Wait, F: Fit<K, V>> Door<K, V, R, 
     {
         let guard = match self.locked.try_lock() {
             Some(guard) => guard,
-            None => self.contend(),
+            None => self.lock_slow(),
         };
         guard.show();
-        Inside { door: self, guard }
+        Guard { door: self, guard }
     }
 
     // Gets the lock where another call has it. Calls are shorter than a sleep and its wake, so this
-    // looks for a while, less and less often, before it sleeps.
+    // tries for a while, less and less often, before it sleeps.
     #[cold]
-    fn contend(&self) -> MutexGuard<'_, Locked<K, V, F>> {
-        for look in 0..LOOKS {
-            pause(FIRST_PAUSES << look);
+    fn lock_slow(&self) -> MutexGuard<'_, Locked<K, V, F>> {
+        for spin in 0..SPINS {
+            pause(FIRST_PAUSES << spin);
             if let Some(guard) = self.locked.try_lock() {
                 return guard;
             }
@@ -123,7 +124,7 @@ fn pause(turns: u32) {
     }
 }
 
-impl<'a, K: Hash + Eq + Clone + Drop, V: Drop, R: Wait, F: Fit<K, V>> Inside<'a, K, V, R, F> {
+impl<'a, K: Hash + Eq + Clone + Drop, V: Drop, R: Wait, F: Fit<K, V>> Guard<'a, K, V, R, F> {
     /// `Locked::reserve`.
     pub fn reserve(self, entries: usize) -> Result<Reserved, Refusal>
         ensures err { IfErr result (λ e. e ≡ Refusal.Memory) }
@@ -164,28 +165,28 @@ impl<'a, K: Hash + Eq + Clone + Drop, V: Drop, R: Wait, F: Fit<K, V>> Inside<'a,
 
     /// `Locked::begin`. What it evicted is dropped without the lock.
     #[inline(always)]
-    pub fn begin(self, key: &K, charge: u64) -> Result<Met<'a, K, V, R, F>, Refusal>
+    pub fn begin(self, key: &K, charge: u64) -> Result<Lookup<'a, K, V, R, F>, Refusal>
         requires charged { 0 < charge }
-        ensures met { IfOk result (λ met. IsMetFor F.fits met key.now charge) }
+        ensures lookup { IfOk result (λ lookup. IsLookupFor F.fits lookup key.now charge) }
         ensures never_stale { IfErr result (λ e. e ≢ Refusal.Stale) }
     {
         let Self { door, mut guard } = self;
         match guard.begin(key, charge)? {
             Entered::Make(making, evicted) => {
                 drop(evicted.open(guard));
-                Ok(Met::Make(Maker { door, making }))
+                Ok(Lookup::Make(Maker { door, making }))
             }
             Entered::Wait(waiting) => {
-                let inside = Inside { door, guard };
-                Ok(Met::Wait(Asleep { inside, waiting }))
+                let guard = Guard { door, guard };
+                Ok(Lookup::Wait(WaitGuard { guard, waiting }))
             }
-            Entered::Hit(pin) => Ok(Met::Hit(CacheHandle::new(door, pin))),
+            Entered::Hit(pin) => Ok(Lookup::Hit(CacheHandle::new(door, pin))),
         }
     }
 
     /// `Locked::release`. The pin's Arc, and then what was evicted, are dropped without the lock.
     #[inline(always)]
-    pub fn release(self, pin: Pin<K, V, F>) {
+    pub fn release(self, pin: HeldPin<K, V, F>) {
         let Self { door: _, mut guard } = self;
         let released = guard.release(pin);
         // Where it is refused as `Stale`, there is no pin to give back and nothing was evicted.
@@ -317,7 +318,7 @@ impl<'a, K: Hash + Eq + Clone + Drop, V: Drop, R: Wait, F: Fit<K, V>> Maker<'a, 
         ensures value { result.value ≡ arc_value stored }
     {
         let Self { door, making } = self;
-        let Inside { door: _, mut guard } = door.enter();
+        let Guard { door: _, mut guard } = door.lock();
         let (pin, back, readers) = guard.ready(making, key, stored, read);
         readers.wake(&door.woken);
         // Where the Arc comes back, no entry takes the value, and the handle reads the other Arc.
@@ -330,7 +331,7 @@ impl<'a, K: Hash + Eq + Clone + Drop, V: Drop, R: Wait, F: Fit<K, V>> Maker<'a, 
         requires { made_key self.making ≡ key.now }
     {
         let Self { door, making } = self;
-        let Inside { door: _, mut guard } = door.enter();
+        let Guard { door: _, mut guard } = door.lock();
         let (failed, heirs) = guard.fail(making, key);
         heirs.wake(&door.woken);
         // Where it is refused as `Stale`, there is no making to give up.
@@ -338,36 +339,36 @@ impl<'a, K: Hash + Eq + Clone + Drop, V: Drop, R: Wait, F: Fit<K, V>> Maker<'a, 
     }
 }
 
-impl<'a, K: Hash + Eq + Clone + Drop, V: Drop, R: Wait, F: Fit<K, V>> Asleep<'a, K, V, R, F> {
+impl<'a, K: Hash + Eq + Clone + Drop, V: Drop, R: Wait, F: Fit<K, V>> WaitGuard<'a, K, V, R, F> {
     /// Waits to be woken, and then `Locked::poll`. None where there is no pin, since the entry of
     /// its stamp is not the key's.
     ///
     /// `Memory` where the value is there and its copy is refused: then the pin is given back.
-    pub fn wait(self, key: &K) -> Result<Option<Met<'a, K, V, R, F>>, Refusal>
+    pub fn wait(self, key: &K) -> Result<Option<Lookup<'a, K, V, R, F>>, Refusal>
         requires asked { awaited_key self.waiting ≡ key.now }
         requires awake { IsAwake self }
-        ensures met { IfOk result (λ woken. IfSome woken (λ met. IsMetFor F.fits met key.now (awaited_charge self.entry.waiting))) }
+        ensures lookup { IfOk result (λ woken. IfSome woken (λ lookup. IsLookupFor F.fits lookup key.now (awaited_charge self.entry.waiting))) }
         ensures refused { IfErr result (λ e. e ≡ Refusal.Memory) }
     {
         let Self {
-            inside: Inside { door, guard },
+            guard: Guard { door, guard },
             waiting,
         } = self;
         let (mut guard, woken) = waiting.sleep(&door.rt, &door.woken, guard);
         match guard.poll(woken, key) {
-            Polled::Make(making) => Ok(Some(Met::Make(Maker { door, making }))),
+            Polled::Make(making) => Ok(Some(Lookup::Make(Maker { door, making }))),
             Polled::Wait(waiting) => {
-                let inside = Inside { door, guard };
-                Ok(Some(Met::Wait(Asleep { inside, waiting })))
+                let guard = Guard { door, guard };
+                Ok(Some(Lookup::Wait(WaitGuard { guard, waiting })))
             }
-            Polled::Hit(pin) => Ok(Some(Met::Hit(CacheHandle::new(door, pin)))),
+            Polled::Hit(pin) => Ok(Some(Lookup::Hit(CacheHandle::new(door, pin)))),
             Polled::Refused(unread) => {
                 let given_up = guard.give_up(unread);
                 // Where it is refused as `Stale`, there is no pin to give back.
                 drop(given_up.open(guard));
                 Err(Refusal::Memory)
             }
-            Polled::Stray => Ok(None),
+            Polled::NoPin => Ok(None),
         }
     }
 }
@@ -379,7 +380,7 @@ impl<
     V: Drop + fmt::Debug,
     R: Wait,
     F: Fit<K, V>,
-> Inside<'a, K, V, R, F> {
+> Guard<'a, K, V, R, F> {
     /// Writes the ready entries.
     pub fn print<W: fmt::Write>(self, f: &mut fmt::Formatter<W>) -> fmt::Result {
         let Self { door: _, guard } = self;

@@ -25,7 +25,7 @@ mod pins;
 mod sealed;
 
 pub use self::done::{Advised, Invalidated, Pruned, Reserved, Resized};
-pub use self::pins::{Entered, Making, Pin, Polled, Unread, Waiting, Woken};
+pub use self::pins::{Entered, HeldPin, Making, Polled, Unread, Waiting, Woken};
 pub use self::sealed::{Sealed, Waiters};
 use crate::counted::CountedState;
 use crate::counts::Counts;
@@ -128,7 +128,7 @@ impl<K: Hash + Eq + Clone + Drop, V: Drop, F: Fit<K, V>> Locked<K, V, F> {
         ensures hit { IfOk result (λ e. IfEntered e (F.fits key.now)) }
         ensures never_stale { IfErr result (λ e. e ≢ Refusal.Stale) }
     {
-        let (begun, evicted) = self.begun(key, charge)?;
+        let (begun, evicted) = self.begin_core(key, charge)?;
         let place = self.state.near();
         match begun {
             Begun::Make(stamp) => {
@@ -142,14 +142,14 @@ impl<K: Hash + Eq + Clone + Drop, V: Drop, F: Fit<K, V>> Locked<K, V, F> {
             }
             Begun::Hit(stamp, value) => {
                 prove!(evicted.is_empty());
-                Ok(Entered::Hit(Pin::of(stamp, place, key, Some(charge), value)))
+                Ok(Entered::Hit(HeldPin::of(stamp, place, key, Some(charge), value)))
             }
         }
     }
 
     // The core's `begin`, with its own answer.
     #[inline(always)]
-    fn begun(&mut self, key: &K, charge: u64) -> Result<(Begun<V>, Evicted<K, V>), Refusal>
+    fn begin_core(&mut self, key: &K, charge: u64) -> Result<(Begun<V>, Evicted<K, V>), Refusal>
         requires charged { 0 < charge }
         ensures step { Stands K.eq self.old.cache (ask.begin key.now charge) (outcome_of_begin result) self.new.cache }
         ensures counted { self.new.counts ≡ counted self.old.cache (ask.begin key.now charge) (outcome_of_begin result) self.old.counts }
@@ -161,7 +161,7 @@ impl<K: Hash + Eq + Clone + Drop, V: Drop, F: Fit<K, V>> Locked<K, V, F> {
 
     /// The core's `get`. The value found fits the key.
     #[inline(always)]
-    pub fn get(&mut self, key: &K) -> Result<Option<Pin<K, V, F>>, Refusal>
+    pub fn get(&mut self, key: &K) -> Result<Option<HeldPin<K, V, F>>, Refusal>
         ensures step { Stands K.eq self.old.cache (ask.get key.now) (outcome_of_locked_get result) self.new.cache }
         ensures counted { self.new.counts ≡ counted self.old.cache (ask.get key.now) (outcome_of_locked_get result) self.old.counts }
         ensures asked { IfOk result (λ found. IfSome found (λ p. (p.key ≡ key.now) × (p.charge ≡ None))) }
@@ -172,7 +172,7 @@ impl<K: Hash + Eq + Clone + Drop, V: Drop, F: Fit<K, V>> Locked<K, V, F> {
             None => Ok(None),
             Some((stamp, value)) => {
                 let place = self.state.near();
-                Ok(Some(Pin::of(stamp, place, key, None, value)))
+                Ok(Some(HeldPin::of(stamp, place, key, None, value)))
             }
         }
     }
@@ -222,7 +222,7 @@ impl<K: Hash + Eq + Clone + Drop, V: Drop, F: Fit<K, V>> Locked<K, V, F> {
         requires asked { woken_key woken ≡ key.now }
         ensures step { HasEqualKeyAt K.eq self.old.cache (woken_stamp woken) key.now → Stands K.eq self.old.cache (ask.poll (woken_stamp woken)) (outcome_of_locked_poll result) self.new.cache }
         ensures counted { self.new.counts ≡ counted self.old.cache (ask.poll (woken_stamp woken)) (outcome_of_locked_poll result) self.old.counts }
-        ensures stray { (HasEqualKeyAt K.eq self.old.cache (woken_stamp woken) key.now → ⊥) → (result ≡ Polled.Stray) × (self.new ≡ self.old) }
+        ensures no_entry { (HasEqualKeyAt K.eq self.old.cache (woken_stamp woken) key.now → ⊥) → (result ≡ Polled.NoPin) × (self.new ≡ self.old) }
         ensures asked { AsksOnPoll result key.now (woken_charge woken) self.new }
         ensures hit { IfPolled result (F.fits key.now) }
     {
@@ -232,23 +232,23 @@ impl<K: Hash + Eq + Clone + Drop, V: Drop, F: Fit<K, V>> Locked<K, V, F> {
             asked: _,
             charge,
         } = woken;
-        match self.polled(stamp, place, key) {
+        match self.poll_core(stamp, place, key) {
             Ok(Begun::Make(own)) => Polled::Make(Making::of(own, place, key, charge)),
             Ok(Begun::Wait(own)) => Polled::Wait(Waiting::of(own, place, key, charge, self)),
             Ok(Begun::Hit(own, value)) => {
-                Polled::Hit(Pin::of(own, place, key, Some(charge), value))
+                Polled::Hit(HeldPin::of(own, place, key, Some(charge), value))
             }
             Err(Refusal::Memory) => Polled::Refused(Unread { stamp, place }),
             // A poll never overflows: this is `Stale`, and there is no pin to give back.
-            Err(_) => Polled::Stray,
+            Err(_) => Polled::NoPin,
         }
     }
 
     // The core's `poll`, where the stamp's entry has the key, with its own answer.
-    fn polled(&mut self, stamp: u64, place: Place, key: &K) -> Result<Begun<V>, Refusal>
+    fn poll_core(&mut self, stamp: u64, place: Place, key: &K) -> Result<Begun<V>, Refusal>
         ensures step { HasEqualKeyAt K.eq self.old.cache stamp key.now → Stands K.eq self.old.cache (ask.poll stamp) (outcome_of_poll result) self.new.cache }
         ensures counted { self.new.counts ≡ counted self.old.cache (ask.poll stamp) (outcome_of_poll result) self.old.counts }
-        ensures stray { (HasEqualKeyAt K.eq self.old.cache stamp key.now → ⊥) → (result ≡ Err Refusal.Stale) × (self.new ≡ self.old) }
+        ensures no_entry { (HasEqualKeyAt K.eq self.old.cache stamp key.now → ⊥) → (result ≡ Err Refusal.Stale) × (self.new ≡ self.old) }
         ensures hit { IfOk result (λ b. IfHit b (F.fits key.now)) }
     {
         self.look_near(place);
@@ -270,13 +270,13 @@ impl<K: Hash + Eq + Clone + Drop, V: Drop, F: Fit<K, V>> Locked<K, V, F> {
         key: &K,
         stored: Arc<V>,
         read: Arc<V>,
-    ) -> (Pin<K, V, F>, Sealed<Result<(), Arc<V>>>, Waiters)
+    ) -> (HeldPin<K, V, F>, Sealed<Result<(), Arc<V>>>, Waiters)
         requires asked { made_key making ≡ key.now }
         requires fits { F.fits key.now (arc_value stored) }
         requires same { arc_value read ≡ arc_value stored }
         ensures step { HasEqualKeyAt K.eq self.old.cache (made_stamp making) key.now → Stands K.eq self.old.cache (ask.ready (made_stamp making) (arc_value stored)) (outcome_of_ready result.1) self.new.cache }
         ensures counts { self.new.counts ≡ self.old.counts }
-        ensures stray { (HasEqualKeyAt K.eq self.old.cache (made_stamp making) key.now → ⊥) → (result.1 ≡ Err stored) × (self.new ≡ self.old) }
+        ensures no_entry { (HasEqualKeyAt K.eq self.old.cache (made_stamp making) key.now → ⊥) → (result.1 ≡ Err stored) × (self.new ≡ self.old) }
         ensures back { IfErr result.1 (λ a. arc_value a ≡ arc_value stored) }
         ensures pin { result.0 ≡ record { stamp = made_stamp making; key = key.now; charge = Some (made_charge making); value = arc_value stored } }
         ensures quiet { IsFalse result.2 → HasNoOtherPin self.old.cache (made_stamp making) }
@@ -287,7 +287,7 @@ impl<K: Hash + Eq + Clone + Drop, V: Drop, F: Fit<K, V>> Locked<K, V, F> {
             asked: _,
             charge,
         } = making;
-        let pin = Pin::of(stamp, place, key, Some(charge), read);
+        let pin = HeldPin::of(stamp, place, key, Some(charge), read);
         self.look_near(place);
         let (back, shared) = self.state.ready_keyed(stamp, key, stored);
         (pin, Sealed::of(back), Waiters::of(shared))
@@ -305,7 +305,7 @@ impl<K: Hash + Eq + Clone + Drop, V: Drop, F: Fit<K, V>> Locked<K, V, F> {
         requires asked { made_key making ≡ key.now }
         ensures step { HasEqualKeyAt K.eq self.old.cache (made_stamp making) key.now → Stands K.eq self.old.cache (ask.fail (made_stamp making)) (outcome_of_fail result.0) self.new.cache }
         ensures counted { self.new.counts ≡ counted self.old.cache (ask.fail (made_stamp making)) (outcome_of_fail result.0) self.old.counts }
-        ensures stray { (HasEqualKeyAt K.eq self.old.cache (made_stamp making) key.now → ⊥) → (result.0 ≡ Err Refusal.Stale) × (self.new ≡ self.old) }
+        ensures no_entry { (HasEqualKeyAt K.eq self.old.cache (made_stamp making) key.now → ⊥) → (result.0 ≡ Err Refusal.Stale) × (self.new ≡ self.old) }
         ensures quiet { IsFalse result.1 → HasNoOtherPin self.old.cache (made_stamp making) }
     {
         let Making {
@@ -327,12 +327,15 @@ impl<K: Hash + Eq + Clone + Drop, V: Drop, F: Fit<K, V>> Locked<K, V, F> {
     ///
     /// `Stale` where no held and ready entry has the stamp.
     #[inline(always)]
-    pub fn release(&mut self, pin: Pin<K, V, F>) -> Sealed<(Arc<V>, Result<Evicted<K, V>, Refusal>)>
+    pub fn release(
+        &mut self,
+        pin: HeldPin<K, V, F>,
+    ) -> Sealed<(Arc<V>, Result<Evicted<K, V>, Refusal>)>
         ensures step { Stands K.eq self.old.cache (ask.release pin.stamp) (outcome_of_release result.1) self.new.cache }
         ensures counted { self.new.counts ≡ counted self.old.cache (ask.release pin.stamp) (outcome_of_release result.1) self.old.counts }
         ensures value { arc_value result.0 ≡ pin.value }
     {
-        let Pin {
+        let HeldPin {
             stamp,
             place,
             asked: _,
@@ -385,7 +388,7 @@ impl<K: Hash + Eq + Clone + Drop, V: Drop, F: Fit<K, V>> Locked<K, V, F> {
         stored: Arc<V>,
         read: Arc<V>,
     ) -> Result<
-        (Pin<K, V, F>, Sealed<(Evicted<K, V>, Evicted<K, V>)>),
+        (HeldPin<K, V, F>, Sealed<(Evicted<K, V>, Evicted<K, V>)>),
         (Refusal, Sealed<(Arc<V>, Arc<V>)>),
     >
         requires charged { 0 < charge }
@@ -407,7 +410,7 @@ impl<K: Hash + Eq + Clone + Drop, V: Drop, F: Fit<K, V>> Locked<K, V, F> {
             replaced,
             evicted,
         } = inserted;
-        let pin = Pin::of(stamp, self.state.near(), key, Some(charge), read);
+        let pin = HeldPin::of(stamp, self.state.near(), key, Some(charge), read);
         Ok((pin, Sealed::of((replaced, evicted))))
     }
 

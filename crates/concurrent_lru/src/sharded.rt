@@ -347,7 +347,7 @@ impl<K: Hash + Eq + Clone + Drop, V: Drop, R: Wait, S: BuildHasher, F: Fit<K, V>
 
     /// `advice_evict` by a reference to the key.
     pub fn advise(&self, key: &K) {
-        let _: Advised<K> = self.routes.of(key).advised(key);
+        let _: Advised<K> = self.routes.of(key).advise_inner(key);
     }
 
     /// Takes the value of a key back, at the key's shard, as in the cache of one lock: whoever asks
@@ -355,7 +355,7 @@ impl<K: Hash + Eq + Clone + Drop, V: Drop, R: Wait, S: BuildHasher, F: Fit<K, V>
     /// old one. An entry that nobody holds is evicted; one that is held stays, for its holders
     /// alone, and is evicted when its last handle is dropped. Copies no key and takes no memory.
     pub fn invalidate(&self, key: &K) {
-        let _: Invalidated<K> = self.routes.of(key).invalidated(key);
+        let _: Invalidated<K> = self.routes.of(key).invalidate_inner(key);
     }
 
     /// Puts a value in and answers its handle, whatever the key has, at the key's shard, as in the

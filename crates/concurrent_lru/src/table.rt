@@ -12,15 +12,15 @@ ghost use Rattle.concurrent_lru.specs.NodeTable.{Entry, entry_of, chain_of, phas
 ghost use Rattle.concurrent_lru.specs.Representation.{as_idle, held_entry, GetsEntry};
 ghost use Rattle.concurrent_lru.specs.Entries.{cache_of, charges_of, ContainsEntry, ContainsNoStamp, ContainsNoKey, IsPlaceOfKey, ContainsPlace, ContainsIdleAt, ContainsHeldAt, ContainsFoundAt, GetsAt, LacksMakingAt, IsReadyAt, ReadiesAt, Rewrites, RevivesAt, RestsAt, AddsOverHeld, AddsOverIdle, pins_at, value_at, held_with_pins, new_held};
 ghost use Rattle.concurrent_lru.specs.Reads.{RenewsAt};
-ghost use Rattle.concurrent_lru.specs.Stamps.{keeps_map, mapped_place, HasRoomFor};
+ghost use Rattle.concurrent_lru.specs.PlaceByStamp.{keeps_map, mapped_place, HasRoomFor};
 ghost use Rattle.concurrent_lru.specs.Steps.{without, held_in_phase, held_detached};
 ghost use Rattle.concurrent_lru.specs.TakeAll.{TakesHeld, TakesHeldAt};
 
-mod stamps;
+mod place_by_stamp;
 
-use crate::eviction::{Evicted, reversed};
+use crate::eviction::{Evicted, reverse};
 use crate::list::{Node, Nodes, Phase, Place, Refusal};
-use crate::table::stamps::Stamps;
+use crate::table::place_by_stamp::PlaceByStamp;
 use std::alloc::Global;
 use std::collections::HashMap;
 use std::fmt;
@@ -34,7 +34,7 @@ use std::sync::Arc;
 pub struct Table<K: Hash + Eq + Clone, V> {
     nodes: Nodes<K, V>,
     by_key: HashMap<K, Place>,
-    by_stamp: Stamps,
+    by_stamp: PlaceByStamp,
     total: u64,
     // The idle entries' part of the total.
     idle_charge: u64,
@@ -67,7 +67,7 @@ impl<K: Hash + Eq + Clone, V: Drop> Table<K, V> {
         ensures stamps { result.stamps ≡ map.empty }
         ensures work { result.work ≡ 0 }
     {
-        Table::found_by(alloc, Stamps::Mapped(HashMap::new(alloc)))
+        Table::empty(alloc, PlaceByStamp::Mapped(HashMap::new(alloc)))
     }
 
     // No entries, and no map by stamp: an entry comes and goes with one write less, and a look by
@@ -80,11 +80,11 @@ impl<K: Hash + Eq + Clone, V: Drop> Table<K, V> {
         ensures stamps { result.stamps ≡ map.empty }
         ensures work { result.work ≡ 0 }
     {
-        Table::found_by(alloc, Stamps::Unmapped)
+        Table::empty(alloc, PlaceByStamp::Unmapped)
     }
 
-    // No entries; where some come, their stamps are found by this.
-    fn found_by(alloc: Global, by_stamp: Stamps) -> Table<K, V>
+    // No entries; where some come, this finds them by their stamps.
+    fn empty(alloc: Global, by_stamp: PlaceByStamp) -> Table<K, V>
         requires copies { CopiesAreEqual K.is_clone K.eq }
         requires unmapped { (s : ℕ) → mapped_place by_stamp s ≡ None }
         ensures idle { result.idle ≡ [] }
@@ -311,12 +311,12 @@ impl<K: Hash + Eq + Clone, V: Drop> Table<K, V> {
             return self.revive(place);
         }
         let value = node.share_value()?;
-        self.hold(place, pins + 1);
+        self.set_pins(place, pins + 1);
         Ok(value)
     }
 
     /// Writes the number of pins of a held entry, which stays held. Takes no memory.
-    pub fn hold(&mut self, place: Place, pins: u32)
+    pub fn set_pins(&mut self, place: Place, pins: u32)
         requires held { ContainsHeldAt self.old place }
         requires some { 0 < pins }
         ensures { Rewrites (held_with_pins pins) self.old place self.new }
@@ -509,7 +509,7 @@ impl<K: Hash + Eq + Clone, V: Drop> Table<K, V> {
                 }
             }
         }
-        reversed(newest_first)
+        reverse(newest_first)
     }
 }
 
@@ -517,7 +517,7 @@ impl<K: Hash + Eq + Clone, V: Drop> Table<K, V> {
 fn make_room<K: Hash + Eq + Drop, V: Drop>(
     nodes: &mut Nodes<K, V>,
     by_key: &mut HashMap<K, Place>,
-    by_stamp: &mut Stamps,
+    by_stamp: &mut PlaceByStamp,
     more: usize,
 ) -> Result<(), Refusal>
     ensures ok { OnOk result ((more ≤ nodes.new.spare) × (more ≤ spare by_key.new) × HasRoomFor by_stamp.new more) }
@@ -540,7 +540,7 @@ fn make_room<K: Hash + Eq + Drop, V: Drop>(
 fn put<K: Hash + Eq + Drop, V: Drop>(
     nodes: &mut Nodes<K, V>,
     by_key: &mut HashMap<K, Place>,
-    by_stamp: &mut Stamps,
+    by_stamp: &mut PlaceByStamp,
     total: &mut u64,
     node: Box<Node<K, V>>,
     kept: K,
@@ -587,7 +587,7 @@ fn forget_key<K: Hash + Eq + Drop, V: Drop>(
 fn take_away<K: Hash + Eq + Drop, V: Drop>(
     nodes: &mut Nodes<K, V>,
     by_key: &mut HashMap<K, Place>,
-    by_stamp: &mut Stamps,
+    by_stamp: &mut PlaceByStamp,
     total: &mut u64,
     place: Place,
 ) -> Box<Node<K, V>>

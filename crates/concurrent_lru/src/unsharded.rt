@@ -9,11 +9,11 @@ ghost use Rattle.concurrent_lru.specs.Pins.{IsHandleFor, made_key, made_charge, 
 ghost use Rattle.concurrent_lru.specs.ThreadedCalls.{IsTurnFor, IfInit};
 
 pub use crate::counts::Counts;
-use crate::door::{Asleep, Door, Maker, Met};
+use crate::door::{Door, Lookup, Maker, WaitGuard};
 pub use crate::fit::{Anything, Fit};
 pub use crate::get_error::GetError;
 pub use crate::handle::CacheHandle;
-use crate::locked::{Advised, Invalidated, Pin, Pruned, Reserved, Resized};
+use crate::locked::{Advised, HeldPin, Invalidated, Pruned, Reserved, Resized};
 pub use crate::lru_core::Refusal;
 pub use crate::owned::OwnedHandle;
 use std::alloc::Global;
@@ -63,7 +63,7 @@ impl<K: Hash + Eq + Clone + Drop, V: Drop, R: Wait, F: Fit<K, V>> LruCache<K, V,
     pub fn reserve(&self, entries: usize) -> Result<(), Refusal>
         ensures { IfErr result (λ e. e ≡ Refusal.Memory) }
     {
-        let _: Reserved = self.reserved(entries)?;
+        let _: Reserved = self.reserve_inner(entries)?;
         Ok(())
     }
 
@@ -92,7 +92,7 @@ impl<K: Hash + Eq + Clone + Drop, V: Drop, R: Wait, F: Fit<K, V>> LruCache<K, V,
         ensures fits { IfOk result (λ found. IfSome found (λ h. F.fits key.now h.value)) }
         ensures never_stale { IfErr result (λ e. e ≢ Refusal.Stale) }
     {
-        self.door.enter().get(key)
+        self.door.lock().get(key)
     }
 
     /// Reads the key's value, where it is ready, and answers what `reader` answers of it. None
@@ -114,7 +114,7 @@ impl<K: Hash + Eq + Clone + Drop, V: Drop, R: Wait, F: Fit<K, V>> LruCache<K, V,
         ensures fits { IfOk result (λ found. IfSome found (λ t. (v : V) × F.fits key.now v × FnOnceReturnsAt G.FnOnce reader v t)) }
         ensures refused { IfErr result (λ e. e ≡ Refusal.Overflow) }
     {
-        self.door.enter().read(key, reader)
+        self.door.lock().read(key, reader)
     }
 
     /// A handle of the key's value, which `init` makes where the key has no entry, or where the
@@ -248,7 +248,7 @@ impl<K: Hash + Eq + Clone + Drop, V: Drop, R: Wait, F: Fit<K, V>> LruCache<K, V,
 
     /// `advice_evict` by a reference to the key.
     pub fn advise(&self, key: &K) {
-        let _: Advised<K> = self.advised(key);
+        let _: Advised<K> = self.advise_inner(key);
     }
 
     /// Takes the value of a key back: whoever asks for the key after this call gets a value that is
@@ -263,7 +263,7 @@ impl<K: Hash + Eq + Clone + Drop, V: Drop, R: Wait, F: Fit<K, V>> LruCache<K, V,
     ///
     /// The original crate has no such call; this one is this project's own.
     pub fn invalidate(&self, key: &K) {
-        let _: Invalidated<K> = self.invalidated(key);
+        let _: Invalidated<K> = self.invalidate_inner(key);
     }
 
     /// Puts a value in and answers its handle, whatever the key has: an `invalidate`, and a making
@@ -295,42 +295,42 @@ impl<K: Hash + Eq + Clone + Drop, V: Drop, R: Wait, F: Fit<K, V>> LruCache<K, V,
     {
         let stored = Arc::new(self.alloc, value)?;
         let read = Arc::try_clone(&stored)?;
-        self.door.enter().insert(key, charge, stored, read)
+        self.door.lock().insert(key, charge, stored, read)
     }
 
     /// Evicts every idle entry, oldest first. Takes no memory.
     pub fn prune(&self) {
-        let _: Pruned = self.pruned();
+        let _: Pruned = self.prune_inner();
     }
 
     /// Sets the capacity, and the cache settles to it at once: idle entries are evicted, oldest
     /// first, while the total is above it. Takes no memory.
     pub fn set_capacity(&self, capacity: u64) {
-        let _: Resized = self.resized(capacity);
+        let _: Resized = self.set_capacity_inner(capacity);
     }
 
     /// The greatest total of charges that idle entries are kept for. Takes no memory.
     pub fn capacity(&self) -> u64 {
-        self.door.enter().capacity()
+        self.door.lock().capacity()
     }
 
     /// The sum of the charges of all entries, those still being made included, and those that are
     /// held after they were invalidated. Takes no memory.
     pub fn total_charge(&self) -> u64 {
-        self.door.enter().total()
+        self.door.lock().total()
     }
 
     /// The sum of the charges of the entries that are held, those still being made included, and
     /// those that are held after they were invalidated: the rest of `total_charge` is idle. No
     /// entry is visited. Takes no memory.
     pub fn pinned_charge(&self) -> u64 {
-        self.door.enter().pinned_charge()
+        self.door.lock().pinned_charge()
     }
 
     /// The number of entries, idle or held, those still being made included, and those that are
     /// held after they were invalidated. No entry is visited. Takes no memory.
     pub fn len(&self) -> usize {
-        self.door.enter().len()
+        self.door.lock().len()
     }
 
     /// Whether there is no entry. Takes no memory.
@@ -342,7 +342,7 @@ impl<K: Hash + Eq + Clone + Drop, V: Drop, R: Wait, F: Fit<K, V>> LruCache<K, V,
     /// not count. Pins nothing, so the value may be evicted before the next call. Is no use of the
     /// entry, which keeps its place in the order of eviction. Takes no memory.
     pub fn contains(&self, key: &K) -> bool {
-        self.door.enter().contains(key)
+        self.door.lock().contains(key)
     }
 
     /// What the calls of this cache did since it was made, or since `reset_counts`, as the lock was
@@ -351,7 +351,7 @@ impl<K: Hash + Eq + Clone + Drop, V: Drop, R: Wait, F: Fit<K, V>> LruCache<K, V,
         ensures entries { result.evictions + result.removals ≤ result.entries_before + result.insertions }
         ensures charge { result.evicted_charge + result.removed_charge ≤ result.charge_before + result.inserted_charge }
     {
-        self.door.enter().counts()
+        self.door.lock().counts()
     }
 
     /// What `counts` answers; all counts are 0 afterwards, and the counting begins anew at the
@@ -361,42 +361,42 @@ impl<K: Hash + Eq + Clone + Drop, V: Drop, R: Wait, F: Fit<K, V>> LruCache<K, V,
         ensures entries { result.evictions + result.removals ≤ result.entries_before + result.insertions }
         ensures charge { result.evicted_charge + result.removed_charge ≤ result.charge_before + result.inserted_charge }
     {
-        self.door.enter().reset_counts()
+        self.door.lock().reset_counts()
     }
 
-    // The calls above, each with what was asked under the lock.
-    pub(crate) fn reserved(&self, entries: usize) -> Result<Reserved, Refusal>
+    // The calls above, each with the witness that it was made under the lock.
+    pub(crate) fn reserve_inner(&self, entries: usize) -> Result<Reserved, Refusal>
         ensures err { IfErr result (λ e. e ≡ Refusal.Memory) }
         ensures done { IfOk result (λ reserved. reserved ≡ entries) }
     {
-        self.door.enter().reserve(entries)
+        self.door.lock().reserve(entries)
     }
 
-    pub(crate) fn advised(&self, key: &K) -> Advised<K>
+    pub(crate) fn advise_inner(&self, key: &K) -> Advised<K>
         ensures { result ≡ key.now }
     {
-        self.door.enter().advice_evict(key)
+        self.door.lock().advice_evict(key)
     }
 
-    pub(crate) fn invalidated(&self, key: &K) -> Invalidated<K>
+    pub(crate) fn invalidate_inner(&self, key: &K) -> Invalidated<K>
         ensures { result ≡ key.now }
     {
-        self.door.enter().invalidate(key)
+        self.door.lock().invalidate(key)
     }
 
-    pub(crate) fn pruned(&self) -> Pruned {
-        self.door.enter().prune()
+    pub(crate) fn prune_inner(&self) -> Pruned {
+        self.door.lock().prune()
     }
 
-    pub(crate) fn resized(&self, capacity: u64) -> Resized
+    pub(crate) fn set_capacity_inner(&self, capacity: u64) -> Resized
         ensures { result ≡ capacity }
     {
-        self.door.enter().set_capacity(capacity)
+        self.door.lock().set_capacity(capacity)
     }
 
     // How a handle that keeps the cache alive gives its pin back.
-    pub(crate) fn release(&self, pin: Pin<K, V, F>) {
-        self.door.enter().release(pin);
+    pub(crate) fn release(&self, pin: HeldPin<K, V, F>) {
+        self.door.lock().release(pin);
     }
 
     // Begins, and waits while another caller makes the value.
@@ -406,56 +406,56 @@ impl<K: Hash + Eq + Clone + Drop, V: Drop, R: Wait, F: Fit<K, V>> LruCache<K, V,
         ensures turn { IfOk result (λ turn. IsTurnFor F.fits turn key.now charge) }
         ensures never_stale { IfErr result (λ e. e ≢ Refusal.Stale) }
     {
-        match self.door.enter().begin(key, charge)? {
-            Met::Make(maker) => Ok(Turn::Make(maker)),
-            Met::Hit(handle) => Ok(Turn::Ready(handle)),
-            Met::Wait(asleep) => self.wait_for(asleep, key, charge),
+        match self.door.lock().begin(key, charge)? {
+            Lookup::Make(maker) => Ok(Turn::Make(maker)),
+            Lookup::Hit(handle) => Ok(Turn::Ready(handle)),
+            Lookup::Wait(guard) => self.wait_for(guard, key, charge),
         }
     }
 
-    // `awaited`, apart from `start`, so that what a wait needs in memory is made where one waits:
+    // `wait_slow`, apart from `start`, so that what a wait needs in memory is made where one waits:
     // beside the call of a hit it would be made for each hit too.
     #[inline(always)]
     fn wait_for<'a>(
         &'a self,
-        asleep: Asleep<'a, K, V, R, F>,
+        guard: WaitGuard<'a, K, V, R, F>,
         key: &K,
         charge: u64,
     ) -> Result<Turn<'a, K, V, R, F>, Refusal>
         requires charged { 0 < charge }
-        requires asked { awaited_key asleep.waiting ≡ key.now }
-        requires charge { awaited_charge asleep.waiting ≡ charge }
-        requires awake { IsAwake asleep }
+        requires asked { awaited_key guard.waiting ≡ key.now }
+        requires charge { awaited_charge guard.waiting ≡ charge }
+        requires awake { IsAwake guard }
         ensures turn { IfOk result (λ turn. IsTurnFor F.fits turn key.now charge) }
         ensures never_stale { IfErr result (λ e. e ≢ Refusal.Stale) }
     {
-        Ok(self.awaited(asleep, key, charge)?)
+        Ok(self.wait_slow(guard, key, charge)?)
     }
 
     // Waits while another caller makes the value. A waiter whose pin turns out to be none begins
     // anew.
     #[cold]
-    fn awaited<'a>(
+    fn wait_slow<'a>(
         &'a self,
-        asleep: Asleep<'a, K, V, R, F>,
+        guard: WaitGuard<'a, K, V, R, F>,
         key: &K,
         charge: u64,
     ) -> Result<Turn<'a, K, V, R, F>, Refusal>
         requires charged { 0 < charge }
-        requires asked { awaited_key asleep.waiting ≡ key.now }
-        requires charge { awaited_charge asleep.waiting ≡ charge }
-        requires awake { IsAwake asleep }
+        requires asked { awaited_key guard.waiting ≡ key.now }
+        requires charge { awaited_charge guard.waiting ≡ charge }
+        requires awake { IsAwake guard }
         ensures turn { IfOk result (λ turn. IsTurnFor F.fits turn key.now charge) }
         ensures never_stale { IfErr result (λ e. e ≢ Refusal.Stale) }
     {
-        let mut met = Met::Wait(asleep);
+        let mut lookup = Lookup::Wait(guard);
         for _ in self.door.rt().forever() {
-            met = match met {
-                Met::Make(maker) => return Ok(Turn::Make(maker)),
-                Met::Hit(handle) => return Ok(Turn::Ready(handle)),
-                Met::Wait(asleep) => match asleep.wait(key)? {
+            lookup = match lookup {
+                Lookup::Make(maker) => return Ok(Turn::Make(maker)),
+                Lookup::Hit(handle) => return Ok(Turn::Ready(handle)),
+                Lookup::Wait(guard) => match guard.wait(key)? {
                     Some(woken) => woken,
-                    None => self.door.enter().begin(key, charge)?,
+                    None => self.door.lock().begin(key, charge)?,
                 },
             };
         }
@@ -505,6 +505,6 @@ impl<
     F: Fit<K, V>,
 > fmt::Debug for LruCache<K, V, R, F> {
     fn fmt<W: fmt::Write>(&self, f: &mut fmt::Formatter<W>) -> fmt::Result {
-        self.door.enter().print(f)
+        self.door.lock().print(f)
     }
 }

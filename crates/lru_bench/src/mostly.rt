@@ -45,7 +45,7 @@ pub struct ByRead<C> {
 
 impl<C: Cached<u64>> Asked for ByRead<C> {
     fn ask(&self, key: u64) -> Result<Found, Refusal> {
-        match self.cache.seen(key, |value| *value)? {
+        match self.cache.read(key, |value| *value)? {
             Some(value) => Ok(Found { value, hit: true }),
             None => make(self.cache, key),
         }
@@ -54,7 +54,7 @@ impl<C: Cached<u64>> Asked for ByRead<C> {
 
 fn make<C: Cached<u64>>(cache: C, key: u64) -> Result<Found, Refusal> {
     let mut made = false;
-    let handle = cache.made(key, 1, |key| {
+    let handle = cache.get_or_init(key, 1, |key| {
         made = true;
         *key
     })?;

@@ -3,7 +3,7 @@
 
 use concurrent_lru::lru_core::Refusal;
 use lru_stress::workers::{Answer, Shared, Unmade};
-use lru_support::calls::Call;
+use lru_support::calls::WorkerCall;
 use slab::Slab;
 use std::alloc::Global;
 use std::collections::HashMap;
@@ -155,7 +155,7 @@ fn answer(found: Result<Option<u64>, Refusal>) -> Result<Answer, Unmade> {
 }
 
 impl<R: Wait + Drop> Shared for Parts<R> {
-    fn fetch(&self, call: &Call) -> Result<Answer, Unmade> {
+    fn ask(&self, call: &WorkerCall) -> Result<Answer, Unmade> {
         answer(self.hit(call.key))
     }
 }
@@ -191,9 +191,9 @@ impl<R: Wait + Drop> PartsInShards<R> {
 }
 
 impl<R: Wait + Drop> Shared for PartsInShards<R> {
-    fn fetch(&self, call: &Call) -> Result<Answer, Unmade> {
+    fn ask(&self, call: &WorkerCall) -> Result<Answer, Unmade> {
         match self.shard(call.key) {
-            Some(shard) => shard.fetch(call),
+            Some(shard) => shard.ask(call),
             None => Err(Unmade::Failed),
         }
     }

@@ -7,7 +7,7 @@ use lru_stress::outcome::Trouble;
 use lru_stress::plan::Plan;
 use lru_stress::workers::{Answer, Shared, Unmade, share};
 use lru_support::cached::Cached;
-use lru_support::calls::Call;
+use lru_support::calls::WorkerCall;
 use std::alloc::Global;
 use std::thread::Threads;
 
@@ -22,8 +22,11 @@ pub struct Keyed<C> {
 }
 
 impl<C: Cached<u64>> Shared for Keyed<C> {
-    fn fetch(&self, call: &Call) -> Result<Answer, Unmade> {
-        match self.cache.tried(call.key, call.charge, |_| make(call)) {
+    fn ask(&self, call: &WorkerCall) -> Result<Answer, Unmade> {
+        match self
+            .cache
+            .get_or_try_init(call.key, call.charge, |_| make(call))
+        {
             Ok(handle) => Ok(Answer::of_key(*C::value_of(&handle))),
             Err(GetError::Init(unmade)) => Err(unmade),
             Err(GetError::Memory) => Err(Unmade::Refused(Refusal::Memory)),
@@ -33,7 +36,7 @@ impl<C: Cached<u64>> Shared for Keyed<C> {
 }
 
 // What `init` answers: the key, or that it fails.
-fn make(call: &Call) -> Result<u64, Unmade> {
+fn make(call: &WorkerCall) -> Result<u64, Unmade> {
     if call.fails {
         Err(Unmade::Failed)
     } else {

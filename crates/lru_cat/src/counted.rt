@@ -5,15 +5,15 @@ use std::sync::atomic::{AtomicU64, Ordering};
 
 /// A reader of blocks, and how many were asked of it.
 #[derive(Drop)]
-pub struct Counted<B> {
+pub struct CountedBlocks<B> {
     blocks: B,
     asked: AtomicU64,
 }
 
-impl<B: Blocks> Counted<B> {
+impl<B: Blocks> CountedBlocks<B> {
     /// A reader that nothing was asked of.
-    pub fn new(blocks: B) -> Counted<B> {
-        Counted {
+    pub fn new(blocks: B) -> CountedBlocks<B> {
+        CountedBlocks {
             blocks,
             asked: AtomicU64::new(0),
         }
@@ -25,7 +25,7 @@ impl<B: Blocks> Counted<B> {
     }
 }
 
-impl<B: Blocks> Blocks for Counted<B> {
+impl<B: Blocks> Blocks for CountedBlocks<B> {
     type Fault = B::Fault;
 
     ghost is_block = { λ counted number bytes. B.is_block counted.blocks number bytes };

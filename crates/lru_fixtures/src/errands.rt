@@ -147,12 +147,12 @@ impl<C: Cached<Sent>> Sends for C {
             return;
         }
         let next = number.saturating_add(1);
-        if let Ok(Some(handle)) = self.found(next) {
+        if let Ok(Some(handle)) = self.get(next) {
             errands.found.fetch_add(1, Ordering::SeqCst);
             drop(handle);
         }
-        self.advise(next);
-        self.clear();
+        self.advice_evict(next);
+        self.prune();
         raise(&errand.done);
     }
 
@@ -163,9 +163,9 @@ impl<C: Cached<Sent>> Sends for C {
             _ => None,
         };
         evict_with(*self, cause, kept, last);
-        let before = self.total();
-        self.clear();
-        let after = self.total();
+        let before = self.total_charge();
+        self.prune();
+        let after = self.total_charge();
         errands.close();
         (before, after)
     }

@@ -136,7 +136,7 @@ impl<C: Cached<Slow>> Drops for C {
         if !meets(&gate.dropping) {
             return None;
         }
-        let total = self.total();
+        let total = self.total_charge();
         raise(&gate.entered);
         Some(total)
     }
@@ -159,10 +159,10 @@ pub fn evict_with<V: Drop, C: Cached<V>>(
         }
         Cause::Failure => drop(try_make_value(cache, 5, 1, None, &mut ran)),
         Cause::Release => drop(handle),
-        Cause::Advice => cache.advise(1),
-        Cause::Invalidation => cache.take_back(1),
-        Cause::Prune => cache.clear(),
-        Cause::Capacity => cache.resize(0),
+        Cause::Advice => cache.advice_evict(1),
+        Cause::Invalidation => cache.invalidate(1),
+        Cause::Prune => cache.prune(),
+        Cause::Capacity => cache.set_capacity(0),
     }
 }
 

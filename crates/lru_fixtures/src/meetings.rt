@@ -20,7 +20,7 @@ pub trait Makes {
 impl<C: Cached<u64>> Makes for C {
     fn meet_in_making(&self, key: u64, mine: &AtomicU64, other: &AtomicU64) -> bool {
         let mut met = false;
-        let made = self.made(key, 1, |key| {
+        let made = self.get_or_init(key, 1, |key| {
             raise(mine);
             met = meets(other);
             *key
@@ -125,7 +125,7 @@ pub fn text_while_read<
 >(rt: &T, alloc: Global, cache: C) -> Option<(String, u64)> {
     let print = Arc::new(alloc, Print::new()).ok()?;
     let shown = Shown::new(&print, 7).ok()?;
-    let handle = cache.made(1, 1, move |_| shown).ok()?;
+    let handle = cache.get_or_init(1, 1, move |_| shown).ok()?;
     let (text, number) = text_and_number(rt, alloc, cache, &handle, &*print);
     match (text, number) {
         (Some(text), Some(number)) if is_raised(&print.met) => Some((text, number)),

@@ -30,9 +30,9 @@ pub fn stays_right<C: Cached<u64>>(cache: C) -> bool {
 }
 
 fn is_right<C: Cached<u64>>(cache: C, key: u64) -> bool {
-    let value = match cache.seen(key, |value| *value) {
+    let value = match cache.read(key, |value| *value) {
         Ok(Some(value)) => Some(value),
-        Ok(None) => match cache.made(key, 1, |key| key.wrapping_mul(10)) {
+        Ok(None) => match cache.get_or_init(key, 1, |key| key.wrapping_mul(10)) {
             Ok(handle) => Some(*C::value_of(&handle)),
             Err(_) => None,
         },
@@ -72,7 +72,7 @@ impl<C: Cached<u64>> Counting for C {
 
     fn ask_often(&self) -> u64 {
         for key in 0..ASKS {
-            let _ = self.seen(key, |value| *value);
+            let _ = self.read(key, |value| *value);
         }
         0
     }

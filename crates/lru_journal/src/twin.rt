@@ -16,7 +16,7 @@ use crate::door::Door;
 use crate::journal::Journal;
 use crate::pin::{Pin, Started, pin_of};
 use crate::record::Told;
-use crate::tally::{Gives, Identity, OnePart, Opening, Takes, Tally};
+use crate::tally::{Identity, Merge, OnePart, Opening, Tally, WholeTally};
 use concurrent_lru::lru_core::{Failed, Refusal};
 use std::alloc::Global;
 use std::hash::Hash;
@@ -53,7 +53,7 @@ impl<
             cell,
             mut first,
         } = opening;
-        let pass = cell.split_pass::<Gives>(&mut first);
+        let pass = cell.split_pass::<WholeTally>(&mut first);
         let desk = Desk {
             journal: Journal::new(alloc, capacity),
             keeper: first,
@@ -83,7 +83,7 @@ impl<
         ensures parts { tally.new.parts ≡ tally.old.parts }
         ensures never_stale { IfErr result (λ e. e ≢ Refusal.Stale) }
     {
-        let (begun, evicted) = self.door.enter().call(tally, step::Begin { key, charge })?;
+        let (begun, evicted) = self.door.lock().call(tally, step::Begin { key, charge })?;
         drop(evicted);
         Ok(Started::of(begun))
     }
@@ -96,7 +96,7 @@ impl<
         ensures parts { tally.new.parts ≡ tally.old.parts }
         ensures never_overflow { IfErr result (λ e. e ≢ Refusal.Overflow) }
     {
-        let begun = self.door.enter().call(tally, step::Poll { stamp })?;
+        let begun = self.door.lock().call(tally, step::Poll { stamp })?;
         Ok(Started::of(begun))
     }
 
@@ -114,7 +114,7 @@ impl<
         ensures never_overflow { IfErr result (λ e. e.0 ≢ Refusal.Overflow) }
         ensures back { IfErr result (λ e. arc_value e.1 ≡ arc_value value) }
     {
-        self.door.enter().call(tally, step::Ready { stamp, value })
+        self.door.lock().call(tally, step::Ready { stamp, value })
     }
 
     /// Gives a making up, and the pin with it.
@@ -125,7 +125,7 @@ impl<
         ensures parts { tally.new.parts ≡ tally.old.parts }
         ensures never_overflow { IfErr result (λ e. e ≢ Refusal.Overflow) }
     {
-        self.door.enter().call(tally, step::Fail { stamp })
+        self.door.lock().call(tally, step::Fail { stamp })
     }
 
     /// The value of a key that is ready, pinned once more.
@@ -136,7 +136,7 @@ impl<
         ensures parts { tally.new.parts ≡ tally.old.parts }
         ensures never_stale { IfErr result (λ e. e ≢ Refusal.Stale) }
     {
-        let found = self.door.enter().call(tally, step::Get { key })?;
+        let found = self.door.lock().call(tally, step::Get { key })?;
         Ok(pin_of(found))
     }
 
@@ -166,7 +166,7 @@ impl<
         ensures answered { IfOk result (λ found. IfSome found (λ r. (v : V) × FnOnceReturnsAt G.FnOnce reader v r.1)) }
         ensures never_stale { IfErr result (λ e. e ≢ Refusal.Stale) }
     {
-        self.door.enter().read(tally, key, reader)
+        self.door.lock().read(tally, key, reader)
     }
 
     /// Gives a pin back. A refusal hands it back to the caller.
@@ -179,7 +179,7 @@ impl<
         ensures back { IfErr result (λ e. e.1 ≡ pin) }
     {
         let stamp = pin.stamp();
-        match self.door.enter().call(tally, step::Release { stamp }) {
+        match self.door.lock().call(tally, step::Release { stamp }) {
             Ok(evicted) => {
                 drop(evicted);
                 Ok(())
@@ -194,7 +194,7 @@ impl<
         ensures parts { tally.new.parts ≡ tally.old.parts }
         ensures memory { IfErr result (λ e. e ≡ Refusal.Memory) }
     {
-        let evicted = self.door.enter().call(tally, step::AdviceEvict { key })?;
+        let evicted = self.door.lock().call(tally, step::AdviceEvict { key })?;
         drop(evicted);
         Ok(())
     }
@@ -209,7 +209,7 @@ impl<
         ensures parts { tally.new.parts ≡ tally.old.parts }
         ensures memory { IfErr result (λ e. e ≡ Refusal.Memory) }
     {
-        let evicted = self.door.enter().call(tally, step::Invalidate { key })?;
+        let evicted = self.door.lock().call(tally, step::Invalidate { key })?;
         drop(evicted);
         Ok(())
     }
@@ -220,7 +220,7 @@ impl<
         ensures parts { tally.new.parts ≡ tally.old.parts }
         ensures memory { IfErr result (λ e. e ≡ Refusal.Memory) }
     {
-        let evicted = self.door.enter().call(tally, step::Prune)?;
+        let evicted = self.door.lock().call(tally, step::Prune)?;
         drop(evicted);
         Ok(())
     }
@@ -236,7 +236,7 @@ impl<
     {
         let evicted = self
             .door
-            .enter()
+            .lock()
             .call(tally, step::SetCapacity { capacity })?;
         drop(evicted);
         Ok(())
@@ -248,7 +248,7 @@ impl<
         ensures parts { tally.new.parts ≡ tally.old.parts }
         ensures memory { IfErr result (λ e. e ≡ Refusal.Memory) }
     {
-        self.door.enter().call(tally, step::Total)
+        self.door.lock().call(tally, step::Total)
     }
 
     /// The journal, for whoever has the whole tally. Its records are one legal history from the
@@ -288,7 +288,7 @@ impl<K: Hash + Eq + Clone, I: Identity> Tally<K, I> {
     {
         let Tally { mut pass, twin: _ } = other;
         let cell = cache.door.cell();
-        let given = cell.split_pass::<Gives>(&mut pass);
-        cell.join_pass::<Takes>(&mut self.pass, given);
+        let given = cell.split_pass::<WholeTally>(&mut pass);
+        cell.join_pass::<Merge>(&mut self.pass, given);
     }
 }

@@ -112,7 +112,10 @@ fn reads_and_finds_are_counted(rt: HostRuntime) -> Result<(), Fail> {
     // Each block that the reader was asked for is a making; a read that finds no page is none.
     assert!(rt; reader.was_asked([1, 2, 9, 3].as_slice()));
     assert_eq!(rt; (counts.makings, counts.failures), (4, 1));
-    assert_eq!(rt; (counts.insertions, counts.evictions, counts.removals), (4, 1, 1));
+    assert_eq!(rt;
+        (counts.insertions, counts.evictions, counts.removals),
+        (4, 1, 1)
+    );
     assert_eq!(rt; pages.reset_counts(), counts);
     assert_eq!(rt; pages.counts().hits, 0);
     assert_eq!(rt; pages.counts().entries_before, pages.total_charge());

@@ -4,7 +4,7 @@ use crate::outcome::{Check, Trouble};
 use crate::plan::{KEYS, Plan};
 use crate::start::Start;
 use concurrent_lru::lru_core::Refusal;
-use lru_support::calls::{Call, Calls};
+use lru_support::calls::{Calls, WorkerCall};
 use std::alloc::Global;
 use std::thread;
 use std::thread::Threads;
@@ -47,7 +47,7 @@ pub enum Unmade {
 /// thread over one that has.
 pub trait Shared {
     /// Asks for a value, and drops its handle at once.
-    fn fetch(&self, call: &Call) -> Result<Answer, Unmade>;
+    fn ask(&self, call: &WorkerCall) -> Result<Answer, Unmade>;
 }
 
 /// What workers note of their calls' answers.
@@ -76,7 +76,7 @@ impl Notes {
         }
     }
 
-    fn note(&mut self, call: &Call, answer: Result<Answer, Unmade>) {
+    fn note(&mut self, call: &WorkerCall, answer: Result<Answer, Unmade>) {
         match answer {
             Ok(answer) => self.note_value(call, answer),
             Err(Unmade::Failed) if call.fails => {}
@@ -85,7 +85,7 @@ impl Notes {
         }
     }
 
-    fn note_value(&mut self, call: &Call, answer: Answer) {
+    fn note_value(&mut self, call: &WorkerCall, answer: Answer) {
         if answer.key != call.key {
             self.note_failed();
         }
@@ -151,7 +151,7 @@ fn work<C: Shared>(cache: &C, plan: &Plan, worker: usize, start: &Start) -> Note
     let mut calls = Calls::of_worker(plan.seed, worker as u64);
     for number in 0..plan.calls {
         let call = calls.draw(KEYS);
-        notes.note(&call, cache.fetch(&call));
+        notes.note(&call, cache.ask(&call));
         if plan.rests && number % 1_000 == 999 {
             thread::yield_now();
         }

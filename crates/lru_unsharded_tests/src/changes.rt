@@ -3,9 +3,9 @@
 use concurrent_lru::unsharded::LruCache;
 use lru_fixtures::makings::{Meeting, comes_second, value_found};
 use lru_fixtures::tables::answers_as_told;
-use lru_fixtures::threaded::Call::{Init, LetGo, Total};
 use lru_fixtures::threaded::Then::{AtOnce, Keep};
-use lru_fixtures::threaded::{Call, Player};
+use lru_fixtures::threaded::ThreadedCall::{Init, LetGo, Total};
+use lru_fixtures::threaded::{Player, ThreadedCall};
 use lru_support::drops::{DropLog, Logged};
 use lru_support::flags::{meets, pause, raise};
 use std::alloc::Global;
@@ -16,12 +16,12 @@ use std::test::Fail;
 use std::thread;
 use std::thread::Threads;
 
-const HELD: [(Call, &str); 2] = [
+const HELD: [(ThreadedCall, &str); 2] = [
     (Init(1, 3, 1, AtOnce), "Made(1, 1)"),
     (Init(2, 2, 2, Keep(0)), "Made(2, 2)"),
 ];
 
-const LET_GO: [(Call, &str); 3] = [
+const LET_GO: [(ThreadedCall, &str); 3] = [
     (Total, "Number(2), drops [1]"),
     (LetGo(0), "Done, drops [2]"),
     (Total, "Number(0)"),

@@ -1,4 +1,4 @@
--- Nodes whose links change: what stays, and the order with a key appended.
+-- Nodes whose links change: what stays, and the order with a slot appended.
 use Rattle.std.proofs.Common.{IsSome, is_some, ◌≡◌, ◌≢◌, ℕ, zero, suc, ◌<◌, List, [], ◌∷◌, ◌++◌, map, length, get_or, true, false, Option, Some, None, refl, sym, ap, ◌∙◌, subst, arith, inl, inr, eqb, ◌||◌}
 use Rattle.std.specs.List.{AllByRecursion, IsDistinct, list_any}
 use Rattle.std.proofs.lemmas.Bool.{cases_eq, eq-eqb, ne_eqb, true≢false}
@@ -6,13 +6,13 @@ use Rattle.std.proofs.lemmas.Map.Steps.{length-le_from_distinct_below}
 use denote.RawPtr.{Ptr}
 use Rattle.slab.specs.Slab.{get}
 use Rattle.concurrent_lru.specs.declared.list.slots.Slots.{Slots}
-use Rattle.concurrent_lru.specs.Cells.{cell_at, ptr_in, key_at, AtKey}
+use Rattle.concurrent_lru.specs.Cells.{cell_at, ptr_in, slot_at, AtSlot}
 use Rattle.concurrent_lru.specs.SlotPointers.{IsTied, ptr_of, place_in}
 use Rattle.concurrent_lru.specs.Order.{Link, link, last_or, Absent, Distinct, Linked, IsOrder, order}
 use Rattle.concurrent_lru.specs.Slots.{map_of_slots}
-use Rattle.concurrent_lru.specs.Relinks.{NodeCell, NodeCells, Relinks, key_in, before_link, after_link, before_in, after_in, before_at, after_at}
+use Rattle.concurrent_lru.specs.Relinks.{NodeCell, NodeCells, Relinks, slot_in, before_link, after_link, before_in, after_in, before_at, after_at}
 use Rattle.concurrent_lru.specs.SlotTable.{link_of, link_at, entry_in, idle_places, IsGood, IsGoodAt, AreGood, IsEnd, IsNodeTable}
-use Rattle.concurrent_lru.proofs.Memory.CellKeys.{keys_kept}
+use Rattle.concurrent_lru.proofs.Memory.CellSlots.{slots_kept}
 use Rattle.concurrent_lru.proofs.Lists.SlotsAsMaps.{made_same}
 use Rattle.concurrent_lru.proofs.Order.Links.{order_read, order_push, first_of}
 
@@ -77,19 +77,19 @@ module _ {K V : Type 0} where
   }
 
   -- each link leads where it led
-  pub link_kept : (cs ds : NodeCells K V) → Quiet cs ds → (w : Option Ptr) → key_in ds w ≡ key_in cs w
+  pub link_kept : (cs ds : NodeCells K V) → Quiet cs ds → (w : Option Ptr) → slot_in ds w ≡ slot_in cs w
   link_kept cs ds u None = refl
-  link_kept cs ds u (Some p) = keys_kept cs ds u.pointers p
+  link_kept cs ds u (Some p) = slots_kept cs ds u.pointers p
 
   pub tied_kept : (s t : Slots K V) → t.pointers ≡ s.pointers → Quiet s.memory.cells t.memory.cells → IsTied s → IsTied t
   tied_kept s t same u tied = record {
     pointers = λ q. u.pointers q ∙ tied.pointers q ∙ ap (λ l. ptr_of (get l q)) (sym same);
-    apart = λ q p e. keys_kept s.memory.cells t.memory.cells u.pointers p ∙ tied.apart q p (sym (u.pointers q) ∙ e);
+    apart = λ q p e. slots_kept s.memory.cells t.memory.cells u.pointers p ∙ tied.apart q p (sym (u.pointers q) ∙ e);
     placed = λ q place e. tied.placed q place (sym (u.places q) ∙ e);
   }
 
   -- the links of a cell lead to the same keys
-  pub links_same : (cs ds : NodeCells K V) (x : Option (NodeCell K V)) → key_in ds (before_in x) ≡ key_in cs (before_in x) → key_in ds (after_in x) ≡ key_in cs (after_in x) → link_of ds x ≡ link_of cs x
+  pub links_same : (cs ds : NodeCells K V) (x : Option (NodeCell K V)) → slot_in ds (before_in x) ≡ slot_in cs (before_in x) → slot_in ds (after_in x) ≡ slot_in cs (after_in x) → link_of ds x ≡ link_of cs x
   links_same cs ds None e f = refl
   links_same cs ds (Some c) e f = λ i. Some (link (e i) (f i))
 
@@ -114,8 +114,8 @@ module _ {K V : Type 0} where
       ];
     }
 
-    pub link_there : link_at ds k ≡ Some (link (key_in cs b) (key_in cs a))
-    link_there = ap (link_of ds) r.now ∙ (λ i. Some (link (key_in ds (r.node.before i)) (key_in ds (r.node.after i)))) ∙ (λ i. Some (link (link_kept cs ds quiet b i) (link_kept cs ds quiet a i)))
+    pub link_there : link_at ds k ≡ Some (link (slot_in cs b) (slot_in cs a))
+    link_there = ap (link_of ds) r.now ∙ (λ i. Some (link (slot_in ds (r.node.before i)) (slot_in ds (r.node.after i)))) ∙ (λ i. Some (link (link_kept cs ds quiet b i) (link_kept cs ds quiet a i)))
 
     pub link_else : (q : ℕ) → q ≢ k → link_at ds q ≡ link_at cs q
     link_else q ne = ap (link_of ds) (r.others q ne) ∙ links_same cs ds (cell_at cs q) (link_kept cs ds quiet (before_at cs q)) (link_kept cs ds quiet (after_at cs q))
@@ -134,7 +134,7 @@ module _ {K V : Type 0} where
 
   pub good_kept : (cs ds : NodeCells K V) → Quiet cs ds → (w : Option Ptr) → IsGood cs w → IsGood ds w
   good_kept cs ds u None g = tt
-  good_kept cs ds u (Some p) g = subst IsSome (sym (keys_kept cs ds u.pointers p)) g
+  good_kept cs ds u (Some p) g = subst IsSome (sym (slots_kept cs ds u.pointers p)) g
 
   pub are_good : (cs ds : NodeCells K V) (k : ℕ) → ((q : ℕ) → q ≢ k → IsGoodAt cs q → IsGoodAt ds q) → (ks : List ℕ) → Absent k ks → AreGood cs ks → AreGood ds ks
   are_good cs ds k h [] a g = tt
@@ -147,24 +147,24 @@ module _ {K V : Type 0} where
   pub entries_kept : (cs ds : NodeCells K V) → Quiet cs ds → map_of_slots (map entry_in ds) ≡ map_of_slots (map entry_in cs)
   entries_kept cs ds u = made_same (map entry_in cs) (map entry_in ds) (λ q. get_or-map_option entry_in refl ds q ∙ u.entries q ∙ sym (get_or-map_option entry_in refl cs q))
 
-  pub link_told_at : (cs : NodeCells K V) (k : ℕ) (l : Link) → link_at cs k ≡ Some l → (key_in cs (before_at cs k) ≡ l.before) × (key_in cs (after_at cs k) ≡ l.after)
+  pub link_told_at : (cs : NodeCells K V) (k : ℕ) (l : Link) → link_at cs k ≡ Some l → (slot_in cs (before_at cs k) ≡ l.before) × (slot_in cs (after_at cs k) ≡ l.after)
   link_told_at cs k l e = told (cell_at cs k) l e
     where
-      told : (x : Option (NodeCell K V)) (l : Link) → link_of cs x ≡ Some l → (key_in cs (before_in x) ≡ l.before) × (key_in cs (after_in x) ≡ l.after)
+      told : (x : Option (NodeCell K V)) (l : Link) → link_of cs x ≡ Some l → (slot_in cs (before_in x) ≡ l.before) × (slot_in cs (after_in x) ≡ l.after)
       told None l e = cc
-      told (Some c) l e = let same : link (key_in cs (before_link c.value)) (key_in cs (after_link c.value)) ≡ l = cc in (ap (λ (m : Link). m.before) same, ap (λ (m : Link). m.after) same)
+      told (Some c) l e = let same : link (slot_in cs (before_link c.value)) (slot_in cs (after_link c.value)) ≡ l = cc in (ap (λ (m : Link). m.before) same, ap (λ (m : Link). m.after) same)
 
-  -- what is known once a key was linked in as the newest
+  -- what is known once a slot was linked in as the newest
   pub record Pushed (cs ds : NodeCells K V) (o : Option ℕ) (ks : List ℕ) (own : ℕ) : Type 0 where
     pub quiet : Quiet cs ds
     pub ordered : IsOrder (link_at ds) o (Some own) (ks ++ own ∷ [])
     pub good : AreGood ds (ks ++ own ∷ [])
 
-  -- p is the pointer of the key own
-  table_pushed : (s t : Slots K V) (o q : Option ℕ) (n : Option Ptr) (own : ℕ) (p : Ptr) → IsNodeTable s o n → t.pointers ≡ s.pointers → key_at s.memory.cells p ≡ Some own → Pushed s.memory.cells t.memory.cells q (idle_places s.memory.cells o) own → IsNodeTable t q (Some p)
+  -- p is the pointer of the slot own
+  table_pushed : (s t : Slots K V) (o q : Option ℕ) (n : Option Ptr) (own : ℕ) (p : Ptr) → IsNodeTable s o n → t.pointers ≡ s.pointers → slot_at s.memory.cells p ≡ Some own → Pushed s.memory.cells t.memory.cells q (idle_places s.memory.cells o) own → IsNodeTable t q (Some p)
   table_pushed s t o q n own p kept same at u =
       let e = read t.memory.cells q (Some own) (idle_places s.memory.cells o ++ own ∷ []) u.ordered in
-      let there : key_at t.memory.cells p ≡ Some own = keys_kept s.memory.cells t.memory.cells u.quiet.pointers p ∙ at in
+      let there : slot_at t.memory.cells p ≡ Some own = slots_kept s.memory.cells t.memory.cells u.quiet.pointers p ∙ at in
       record {
         tied = tied_kept s t same u.quiet kept.tied;
         ordered = subst (λ w. IsOrder (link_at t.memory.cells) q w (idle_places t.memory.cells q)) (sym there) (subst (IsOrder (link_at t.memory.cells) q (Some own)) (sym e) u.ordered);
@@ -173,8 +173,8 @@ module _ {K V : Type 0} where
         ends = λ k. u.quiet.ends k (kept.ends k);
       }
 
-  module _ (cs cs1 : NodeCells K V) (o : Option ℕ) (n : Option Ptr) (ks : List ℕ) (own : ℕ) (p : Ptr) (at : key_at cs p ≡ Some own)
-      (i : IsOrder (link_at cs) o (key_in cs n) ks) (g : AreGood cs ks) (gn : IsGood cs n) (out : Absent own ks) (r : Relinks cs cs1 own n None) where
+  module _ (cs cs1 : NodeCells K V) (o : Option ℕ) (n : Option Ptr) (ks : List ℕ) (own : ℕ) (p : Ptr) (at : slot_at cs p ≡ Some own)
+      (i : IsOrder (link_at cs) o (slot_in cs n) ks) (g : AreGood cs ks) (gn : IsGood cs n) (out : Absent own ks) (r : Relinks cs cs1 own n None) where
     q1 : Quiet cs cs1
     q1 = quiet cs cs1 own n None r
 
@@ -189,8 +189,8 @@ module _ {K V : Type 0} where
     pushed_first : n ≡ None → Pushed cs cs1 (Some own) ks own
     pushed_first e = record {
       quiet = q1;
-      ordered = subst (λ v. IsOrder (link_at cs1) v (Some own) (ks ++ own ∷ [])) (ap (first_of (link_at cs) (link_at cs1) o (key_in cs n) own) (ap (key_in cs) e))
-          (order_push (link_at cs) (link_at cs1) o (key_in cs n) own ks i out (link_there cs cs1 own n None r) (λ m b a s was. absurd (none_some m (sym (ap (key_in cs) e) ∙ s))) (λ q ne no. link_else cs cs1 own n None r q ne));
+      ordered = subst (λ v. IsOrder (link_at cs1) v (Some own) (ks ++ own ∷ [])) (ap (first_of (link_at cs) (link_at cs1) o (slot_in cs n) own) (ap (slot_in cs) e))
+          (order_push (link_at cs) (link_at cs1) o (slot_in cs n) own ks i out (link_there cs cs1 own n None r) (λ m b a s was. absurd (none_some m (sym (ap (slot_in cs) e) ∙ s))) (λ q ne no. link_else cs cs1 own n None r q ne));
       good = good_push cs1 ks own (are_good cs cs1 own stays1 ks out g) good1;
     }
       where
@@ -201,8 +201,8 @@ module _ {K V : Type 0} where
     not_last b [] m a f e = f e
     not_last b (q ∷ qs) m a f e = not_last (Some q) qs m a.1 (λ is e'. let same : q ≡ m = cc in a.0 (e' ∙ sym same)) e
 
-    -- after the newest, whose key is m
-    module _ (cs2 : NodeCells K V) (m : ℕ) (some : key_in cs n ≡ Some m) (r2 : Relinks cs1 cs2 m (before_at cs1 m) (Some p)) where
+    -- after the newest, whose slot is m
+    module _ (cs2 : NodeCells K V) (m : ℕ) (some : slot_in cs n ≡ Some m) (r2 : Relinks cs1 cs2 m (before_at cs1 m) (Some p)) where
       apart : own ≢ m
       apart = not_last None ks m out (λ e. cc) (sym i.last ∙ some)
 
@@ -233,14 +233,14 @@ module _ {K V : Type 0} where
       pushed_after : Pushed cs cs2 o ks own
       pushed_after = record {
         quiet = q2;
-        ordered = subst (λ v. IsOrder (link_at cs2) v (Some own) (ks ++ own ∷ [])) (ap (first_of (link_at cs) (link_at cs2) o (key_in cs n) own) some)
-            (order_push (link_at cs) (link_at cs2) o (key_in cs n) own ks i out
+        ordered = subst (λ v. IsOrder (link_at cs2) v (Some own) (ks ++ own ∷ [])) (ap (first_of (link_at cs) (link_at cs2) o (slot_in cs n) own) some)
+            (order_push (link_at cs) (link_at cs2) o (slot_in cs n) own ks i out
             (link_else cs1 cs2 m (before_at cs1 m) (Some p) r2 own apart ∙ link_there cs cs1 own n None r)
             (λ l b a s was.
             let at_last : Some l ≡ Some m = sym s ∙ some in let is : l ≡ m = cc in
             ap (link_at cs2) is ∙ link_there cs1 cs2 m (before_at cs1 m) (Some p) r2
             ∙ (λ j. Some (link
-            ((link_kept cs cs1 q1 (before_at cs1 m) ∙ ap (key_in cs) (before_else cs cs1 own n None r m (λ e. apart (sym e))) ∙ (link_told_at cs m (link b a) (sym (ap (link_at cs) is) ∙ was)).0) j)
+            ((link_kept cs cs1 q1 (before_at cs1 m) ∙ ap (slot_in cs) (before_else cs cs1 own n None r m (λ e. apart (sym e))) ∙ (link_told_at cs m (link b a) (sym (ap (link_at cs) is) ∙ was)).0) j)
             ((link_kept cs cs1 q1 (Some p) ∙ at) j))))
             (λ q ne no. link_else cs1 cs2 m (before_at cs1 m) (Some p) r2 q (λ e. no (some ∙ ap Some (sym e))) ∙ link_else cs cs1 own n None r q ne));
         good = good_push cs2 ks own (are_good cs cs2 own stays2 ks out g) good2;
@@ -250,42 +250,42 @@ module _ {K V : Type 0} where
   some_cell None h = cc
   some_cell (Some c) h = (c, refl)
 
-  -- a key appended to the order, with p as its pointer
+  -- a slot appended to the order, with p as its pointer
   pub record IsAppended (s t : Slots K V) (o q : Option ℕ) (k : ℕ) (p : Ptr) : Type 0 where
     pub table : IsNodeTable t q (Some p)
     pub nodes : map_of_slots (map entry_in t.memory.cells) ≡ map_of_slots (map entry_in s.memory.cells)
     pub idle : idle_places t.memory.cells q ≡ idle_places s.memory.cells o ++ k ∷ []
 
-  appended : (s t : Slots K V) (o q : Option ℕ) (n : Option Ptr) (k : ℕ) (p : Ptr) → IsNodeTable s o n → t.pointers ≡ s.pointers → key_at s.memory.cells p ≡ Some k → Pushed s.memory.cells t.memory.cells q (idle_places s.memory.cells o) k → IsAppended s t o q k p
+  appended : (s t : Slots K V) (o q : Option ℕ) (n : Option Ptr) (k : ℕ) (p : Ptr) → IsNodeTable s o n → t.pointers ≡ s.pointers → slot_at s.memory.cells p ≡ Some k → Pushed s.memory.cells t.memory.cells q (idle_places s.memory.cells o) k → IsAppended s t o q k p
   appended s t o q n k p kept same at u = record { table = table_pushed s t o q n k p kept same at u; nodes = entries_kept s.memory.cells t.memory.cells u.quiet; idle = read t.memory.cells q (Some k) (idle_places s.memory.cells o ++ k ∷ []) u.ordered }
 
   -- a look changes no node
   pub table_looked : (s t : Slots K V) (o : Option ℕ) (n : Option Ptr) → t ≡ record s { looks = t.looks } → IsTied t → IsNodeTable s o n → IsNodeTable t o n
   table_looked s t o n rest tied kept = subst (λ u. IsTied u → IsNodeTable u o n) (sym rest) (λ u. record { tied = u; ordered = kept.ordered; good = kept.good; last_good = kept.last_good; ends = kept.ends }) tied
 
-  -- what holds of the cells before a look, by the key of the pointer
-  pub told_at : (F : NodeCells K V → ℕ → Type 0) (looked cs : NodeCells K V) (p : Ptr) (k : ℕ) → looked ≡ cs → key_at cs p ≡ Some k → AtKey looked p (F looked) → F cs k
+  -- what holds of the cells before a look, by the slot of the pointer
+  pub told_at : (F : NodeCells K V → ℕ → Type 0) (looked cs : NodeCells K V) (p : Ptr) (k : ℕ) → looked ≡ cs → slot_at cs p ≡ Some k → AtSlot looked p (F looked) → F cs k
   told_at F looked cs p k e at x =
-      let y : AtKey cs p (F cs) = subst (λ l. AtKey l p (F l)) e x in
+      let y : AtSlot cs p (F cs) = subst (λ l. AtSlot l p (F l)) e x in
       let both : Some y.0 ≡ Some k = sym y.1 ∙ at in let is : y.0 ≡ k = cc in subst (F cs) is y.2
 
-  module _ (s : Slots K V) (o : Option ℕ) (n : Option Ptr) (k : ℕ) (p : Ptr) (looked : NodeCells K V) (kept : IsNodeTable s o n) (at : key_at s.memory.cells p ≡ Some k) (e : looked ≡ s.memory.cells) where
-    -- the newest is there once the key is linked to it
-    pub last_held : (cs : NodeCells K V) (last : Ptr) → AtKey looked p (λ j. Relinks looked cs j n None) → n ≡ Some last → IsSome (key_at cs last)
+  module _ (s : Slots K V) (o : Option ℕ) (n : Option Ptr) (k : ℕ) (p : Ptr) (looked : NodeCells K V) (kept : IsNodeTable s o n) (at : slot_at s.memory.cells p ≡ Some k) (e : looked ≡ s.memory.cells) where
+    -- the newest is there once the slot is linked to it
+    pub last_held : (cs : NodeCells K V) (last : Ptr) → AtSlot looked p (λ j. Relinks looked cs j n None) → n ≡ Some last → IsSome (slot_at cs last)
     last_held cs last x is =
         let r : Relinks s.memory.cells cs k n None = told_at (λ l j. Relinks l cs j n None) looked s.memory.cells p k e at x in
         good_kept s.memory.cells cs (quiet s.memory.cells cs k n None r) (Some last) (subst (IsGood s.memory.cells) is kept.last_good)
 
     -- to an empty one, and after the newest
-    pub appended_first : (t : Slots K V) → t.pointers ≡ s.pointers → list_any (eqb k) (idle_places s.memory.cells o) ≡ false → AtKey looked p (λ j. Relinks looked t.memory.cells j n None) → n ≡ None → IsAppended s t o (Some k) k p
+    pub appended_first : (t : Slots K V) → t.pointers ≡ s.pointers → list_any (eqb k) (idle_places s.memory.cells o) ≡ false → AtSlot looked p (λ j. Relinks looked t.memory.cells j n None) → n ≡ None → IsAppended s t o (Some k) k p
     appended_first t same held x none =
         let r : Relinks s.memory.cells t.memory.cells k n None = told_at (λ l j. Relinks l t.memory.cells j n None) looked s.memory.cells p k e at x in
         appended s t o (Some k) n k p kept same at (pushed_first s.memory.cells t.memory.cells o n (idle_places s.memory.cells o) k p at kept.ordered kept.good kept.last_good (absent_from k (idle_places s.memory.cells o) held) r none)
 
-    pub appended_after : (t : Slots K V) (cs : NodeCells K V) (last : Ptr) → t.pointers ≡ s.pointers → list_any (eqb k) (idle_places s.memory.cells o) ≡ false → AtKey looked p (λ j. Relinks looked cs j n None) → n ≡ Some last
-        → AtKey cs last (λ j. Relinks cs t.memory.cells j (before_at cs j) (Some p)) → IsAppended s t o o k p
+    pub appended_after : (t : Slots K V) (cs : NodeCells K V) (last : Ptr) → t.pointers ≡ s.pointers → list_any (eqb k) (idle_places s.memory.cells o) ≡ false → AtSlot looked p (λ j. Relinks looked cs j n None) → n ≡ Some last
+        → AtSlot cs last (λ j. Relinks cs t.memory.cells j (before_at cs j) (Some p)) → IsAppended s t o o k p
     appended_after t cs last same held x is after =
         let r : Relinks s.memory.cells cs k n None = told_at (λ l j. Relinks l cs j n None) looked s.memory.cells p k e at x in
-        let newest : key_in s.memory.cells n ≡ Some after.0 = ap (key_in s.memory.cells) is ∙ sym (link_kept s.memory.cells cs (quiet s.memory.cells cs k n None r) (Some last)) ∙ after.1 in
+        let newest : slot_in s.memory.cells n ≡ Some after.0 = ap (slot_in s.memory.cells) is ∙ sym (link_kept s.memory.cells cs (quiet s.memory.cells cs k n None r) (Some last)) ∙ after.1 in
         appended s t o o n k p kept same at
         (pushed_after s.memory.cells cs o n (idle_places s.memory.cells o) k p at kept.ordered kept.good kept.last_good (absent_from k (idle_places s.memory.cells o) held) r t.memory.cells after.0 newest after.2)

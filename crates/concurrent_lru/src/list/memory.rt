@@ -1,9 +1,9 @@
 //! Boxed values turned into raw pointers, and the one owner of what these point to.
-//! The owner takes no bytes: contracts alone see which value lies where, and under which key.
+//! The owner takes no bytes: contracts alone see which value lies where, and in which slot.
 ghost use Rattle.std.specs.Prelude.{◌≡◌, ◌<◌, List as Seq, [], None, Some, IsSome, Option as Maybe};
 ghost use Rattle.std.specs.Mem.{type_size};
 ghost use Rattle.std.specs.Borrow.{sem};
-ghost use Rattle.concurrent_lru.specs.Cells.{Cell, cell, cell_at, key_at, put_at, HoldsBy, AtFirst, AreApart};
+ghost use Rattle.concurrent_lru.specs.Cells.{Cell, cell, cell_at, slot_at, put_at, HoldsBy, AtFirst, AreApart};
 ghost use Rattle.concurrent_lru.specs.CellOwnership.{cells_own, cells_lent};
 
 use std::alloc::{AllocError, Allocator};
@@ -33,7 +33,7 @@ unsafe impl<T> Send for At<T> {}
 
 unsafe impl<T> Sync for At<T> {}
 
-// The owner of the values that the pointers reach, each under a key.
+// The owner of the values that the pointers reach, each in a slot.
 pub(super) struct Memory<T, A: Allocator> {
     mark: PhantomData<*mut (T, A)>,
     ghost cells: { Seq (Maybe (Cell T A)) },
@@ -59,21 +59,21 @@ impl<T, A: Allocator> Memory<T, A> {
         Memory { mark: PhantomData }
     }
 
-    // Takes a box over, under a key that is free.
-    pub(super) fn put(&mut self, value: Box<T, A>, key: usize) -> (At<T>, A)
+    // Takes a box over, in a slot that is free.
+    pub(super) fn put(&mut self, value: Box<T, A>, slot: usize) -> (At<T>, A)
     where
         T: Drop,
-        requires { cell_at self.old.cells key ≡ None }
-        ensures { self.new.cells ≡ put_at key (Some (cell result.0.ptr result.1 value.value)) self.old.cells }
+        requires { cell_at self.old.cells slot ≡ None }
+        ensures { self.new.cells ≡ put_at slot (Some (cell result.0.ptr result.1 value.value)) self.old.cells }
     {
-        let _ = key;
+        let _ = slot;
         let (ptr, alloc) = Box::into_raw_with_allocator(value);
         (At { ptr }, alloc)
     }
 
     // The value that lies there.
     pub(super) fn get(&self, at: At<T>) -> &T
-        requires { IsSome (key_at self.now.cells at.ptr) }
+        requires { IsSome (slot_at self.now.cells at.ptr) }
         ensures { AtFirst self.now.cells at.ptr (λ _ c. result.now ≡ c.value) }
     {
         unsafe { &*at.ptr }
@@ -81,20 +81,20 @@ impl<T, A: Allocator> Memory<T, A> {
 
     // Lends the value that lies there for writing.
     pub(super) fn lend(&mut self, at: At<T>) -> &mut T
-        requires { IsSome (key_at self.old.cells at.ptr) }
+        requires { IsSome (slot_at self.old.cells at.ptr) }
         ensures* writes_back { sem 𝓛 (lends_value T.row A.row A.Allocator self.entry at.ptr result) }
         ensures value { AtFirst self.old.cells at.ptr (λ _ c. result.now ≡ c.value) }
     {
         unsafe { &mut *at.ptr }
     }
 
-    // Gives the value under a key back in its box.
-    pub(super) fn take(&mut self, at: At<T>, key: usize, alloc: A) -> Box<T, A>
-        requires { HoldsBy self.old.cells key at.ptr alloc }
-        ensures value { (c : Cell T A) → cell_at self.old.cells key ≡ Some c → result.value ≡ c.value }
-        ensures cells { self.new.cells ≡ put_at key None self.old.cells }
+    // Gives the value in a slot back in its box.
+    pub(super) fn take(&mut self, at: At<T>, slot: usize, alloc: A) -> Box<T, A>
+        requires { HoldsBy self.old.cells slot at.ptr alloc }
+        ensures value { (c : Cell T A) → cell_at self.old.cells slot ≡ Some c → result.value ≡ c.value }
+        ensures cells { self.new.cells ≡ put_at slot None self.old.cells }
     {
-        let _ = key;
+        let _ = slot;
         unsafe { Box::from_raw(alloc, at.ptr) }
     }
 

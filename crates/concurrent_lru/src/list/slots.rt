@@ -1,9 +1,9 @@
-//! The nodes under their keys: a slab of pointers alone, and the memory that these reach.
+//! The nodes in their slots: a slab of pointers alone, and the memory that these reach.
 //! A node is had for writing by a look, which is counted, or by a link that a node carries.
 ghost use Rattle.std.specs.Prelude.{◌≡◌, ◌≢◌, ℕ, ◌+◌, ◌≤◌, [], Some, None, IsSome, IsTrue, IsFalse, OnOk};
 ghost use Rattle.std.specs.Borrow.{sem};
 ghost use Rattle.slab.specs.Slab.{HasRoomFor, slab_len};
-ghost use Rattle.concurrent_lru.specs.Cells.{Cell, cell_at, key_at, AtFirst};
+ghost use Rattle.concurrent_lru.specs.Cells.{Cell, cell_at, slot_at, AtFirst};
 ghost use Rattle.concurrent_lru.specs.NodeTable.{entry_of, chain_of};
 ghost use Rattle.concurrent_lru.specs.SlotTable.{entry_in, IsEnd};
 
@@ -47,7 +47,7 @@ impl<K: Drop, V: Drop> Slots<K, V> {
         self.pointers.reserve(more)
     }
 
-    // Keeps a node under a key that was free, and tells the key.
+    // Keeps a node in a slot that was free, and tells the slot.
     pub(super) fn insert(&mut self, mut node: Box<Node<K, V>>) -> usize
         requires tied { IsTied self.old }
         requires room { HasRoomFor self.old.pointers 1 }
@@ -60,40 +60,40 @@ impl<K: Drop, V: Drop> Slots<K, V> {
         ensures len { slab_len self.new.pointers ≡ slab_len self.old.pointers + 1 }
         ensures capacity { self.new.pointers.capacity ≡ self.old.pointers.capacity }
     {
-        let key = self.pointers.vacant_key();
-        node.place_at(key);
-        let (at, _) = self.memory.put(node, key);
+        let slot = self.pointers.vacant_key();
+        node.place_at(slot);
+        let (at, _) = self.memory.put(node, slot);
         self.memory.apart();
         self.pointers.insert_reserved(at)
     }
 
-    // Gives the node under a key back; a look, as a write is.
-    pub(super) fn take(&mut self, key: usize) -> Box<Node<K, V>>
+    // Gives the node in a slot back; a look, as a write is.
+    pub(super) fn take(&mut self, slot: usize) -> Box<Node<K, V>>
         requires tied { IsTied self.old }
-        requires present { IsSome (cell_at self.old.memory.cells key) }
+        requires present { IsSome (cell_at self.old.memory.cells slot) }
         ensures tied { IsTied self.new }
-        ensures value { (c : Cell (Node K V) Global) → cell_at self.old.memory.cells key ≡ Some c → result.value ≡ c.value }
-        ensures vacant { cell_at self.new.memory.cells key ≡ None }
-        ensures others { (k : _) → k ≢ key → cell_at self.new.memory.cells k ≡ cell_at self.old.memory.cells k }
+        ensures value { (c : Cell (Node K V) Global) → cell_at self.old.memory.cells slot ≡ Some c → result.value ≡ c.value }
+        ensures vacant { cell_at self.new.memory.cells slot ≡ None }
+        ensures others { (k : _) → k ≢ slot → cell_at self.new.memory.cells k ≡ cell_at self.old.memory.cells k }
         ensures len { slab_len self.new.pointers + 1 ≡ slab_len self.old.pointers }
         ensures capacity { self.new.pointers.capacity ≡ self.old.pointers.capacity }
         ensures room { HasRoomFor self.new.pointers 1 }
         ensures looks { self.new.looks.count ≡ self.old.looks.count + 1 }
     {
-        let at = self.pointers.remove(key);
+        let at = self.pointers.remove(slot);
         self.looks.tick();
-        let node = self.memory.take(at, key, self.alloc);
+        let node = self.memory.take(at, slot, self.alloc);
         self.memory.apart();
         node
     }
 
-    // The node under a key, for reading.
-    pub(super) fn node(&self, key: usize) -> &Node<K, V>
+    // The node in a slot, for reading.
+    pub(super) fn node(&self, slot: usize) -> &Node<K, V>
         requires tied { IsTied self.now }
-        requires present { IsSome (cell_at self.now.memory.cells key) }
-        ensures { (c : Cell (Node K V) Global) → cell_at self.now.memory.cells key ≡ Some c → result.now ≡ c.value }
+        requires present { IsSome (cell_at self.now.memory.cells slot) }
+        ensures { (c : Cell (Node K V) Global) → cell_at self.now.memory.cells slot ≡ Some c → result.now ≡ c.value }
     {
-        self.memory.get(self.pointers[key])
+        self.memory.get(self.pointers[slot])
     }
 
     // How many nodes there are.
@@ -103,39 +103,39 @@ impl<K: Drop, V: Drop> Slots<K, V> {
         self.pointers.len()
     }
 
-    // Whether there is a node under a key, which may be any.
-    pub(super) fn contains(&self, key: usize) -> bool
+    // Whether there is a node in a slot, which may be any.
+    pub(super) fn contains(&self, slot: usize) -> bool
         requires { IsTied self.now }
-        ensures yes { IsTrue result → IsSome (cell_at self.now.memory.cells key) }
-        ensures no { IsFalse result → cell_at self.now.memory.cells key ≡ None }
+        ensures yes { IsTrue result → IsSome (cell_at self.now.memory.cells slot) }
+        ensures no { IsFalse result → cell_at self.now.memory.cells slot ≡ None }
     {
-        self.pointers.contains(key)
+        self.pointers.contains(slot)
     }
 
-    // All nodes are under keys below this one.
-    pub(super) fn end_of_keys(&self) -> usize
+    // All nodes are in slots below this one.
+    pub(super) fn end_of_slots(&self) -> usize
         requires { IsTied self.now }
-        ensures { (key : ℕ) → result ≤ key → cell_at self.now.memory.cells key ≡ None }
+        ensures { (slot : ℕ) → result ≤ slot → cell_at self.now.memory.cells slot ≡ None }
     {
         self.pointers.capacity()
     }
 
-    // The way to the node under a key, for writing.
-    pub(super) fn look(&mut self, key: usize) -> *mut Node<K, V>
+    // The way to the node in a slot, for writing.
+    pub(super) fn look(&mut self, slot: usize) -> *mut Node<K, V>
         requires tied { IsTied self.old }
-        requires present { IsSome (cell_at self.old.memory.cells key) }
+        requires present { IsSome (cell_at self.old.memory.cells slot) }
         ensures tied { IsTied self.new }
-        ensures link { key_at self.old.memory.cells result ≡ Some key }
+        ensures link { slot_at self.old.memory.cells result ≡ Some slot }
         ensures rest { self.new ≡ record self.old { looks = self.new.looks } }
         ensures looks { self.new.looks.count ≡ self.old.looks.count + 1 }
     {
         self.looks.tick();
-        self.pointers[key].ptr
+        self.pointers[slot].ptr
     }
 
     // The node that a link leads to, for reading.
     pub(super) fn follow(&self, link: *mut Node<K, V>) -> &Node<K, V>
-        requires { IsSome (key_at self.now.memory.cells link) }
+        requires { IsSome (slot_at self.now.memory.cells link) }
         ensures { AtFirst self.now.memory.cells link (λ _ c. result.now ≡ c.value) }
     {
         self.memory.get(At { ptr: link })
@@ -143,7 +143,7 @@ impl<K: Drop, V: Drop> Slots<K, V> {
 
     // And for writing.
     pub(super) fn follow_mut(&mut self, link: *mut Node<K, V>) -> &mut Node<K, V>
-        requires { IsSome (key_at self.old.memory.cells link) }
+        requires { IsSome (slot_at self.old.memory.cells link) }
         ensures* writes_back { sem 𝓛 (lends_node K.row V.row self.entry link result) }
         ensures value { AtFirst self.old.memory.cells link (λ _ c. result.now ≡ c.value) }
     {
@@ -154,9 +154,9 @@ impl<K: Drop, V: Drop> Slots<K, V> {
     pub(super) fn end(mut self)
         requires { IsTied self }
     {
-        for key in 0..self.pointers.capacity() {
-            if self.pointers.contains(key) {
-                let _node = self.take(key);
+        for slot in 0..self.pointers.capacity() {
+            if self.pointers.contains(slot) {
+                let _node = self.take(slot);
             }
         }
         let Slots {

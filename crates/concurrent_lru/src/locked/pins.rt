@@ -122,7 +122,7 @@ pub struct Unread {
 ///
 /// Clauses see the stamp of the entry, the key and the charge that were asked, and the value, which
 /// fits that key by the mark F.
-pub struct Pin<K: Hash + Eq + Clone, V, F: Fit<K, V>> {
+pub struct HeldPin<K: Hash + Eq + Clone, V, F: Fit<K, V>> {
     pub(super) stamp: u64,
     pub(super) place: Place,
     pub(super) asked: Snapshot<K>,
@@ -131,7 +131,7 @@ pub struct Pin<K: Hash + Eq + Clone, V, F: Fit<K, V>> {
     pub(super) mark: PhantomData<F>,
 }
 
-impl<K: Hash + Eq + Clone, V, F: Fit<K, V>> Model for Pin<K, V, F> {
+impl<K: Hash + Eq + Clone, V, F: Fit<K, V>> Model for HeldPin<K, V, F> {
     ghost use Rattle.std.specs.Arc.{arc_value};
     ghost use Rattle.concurrent_lru.specs.Pins.{PinOf};
 
@@ -142,13 +142,13 @@ impl<K: Hash + Eq + Clone, V, F: Fit<K, V>> Model for Pin<K, V, F> {
     ghost invariant = { λ p. F.fits p.asked.value (arc_value p.value) };
 }
 
-impl<K: Hash + Eq + Clone, V, F: Fit<K, V>> Pin<K, V, F> {
+impl<K: Hash + Eq + Clone, V, F: Fit<K, V>> HeldPin<K, V, F> {
     // A pin in the stamp's entry. A get asks no charge.
     pub(super) fn of(stamp: u64, place: Place, key: &K, charge: Option<u64>, value: Arc<V>) -> Self
         requires { F.fits key.now (arc_value value) }
         ensures { result ≡ record { stamp = stamp; key = key.now; charge = charge; value = arc_value value } }
     {
-        Pin {
+        HeldPin {
             stamp,
             place,
             asked: Snapshot::of(key),
@@ -174,7 +174,7 @@ pub enum Entered<K: Hash + Eq + Clone, V, F: Fit<K, V>> {
     /// Another caller is making it; ask again by `poll`.
     Wait(Waiting<K, V, F>),
     /// The value is there.
-    Hit(Pin<K, V, F>),
+    Hit(HeldPin<K, V, F>),
 }
 
 /// What `poll` says.
@@ -184,9 +184,9 @@ pub enum Polled<K: Hash + Eq + Clone, V, F: Fit<K, V>> {
     /// Another caller is making it; ask again by `poll`.
     Wait(Waiting<K, V, F>),
     /// The value is there.
-    Hit(Pin<K, V, F>),
+    Hit(HeldPin<K, V, F>),
     /// The value is there, and its copy is refused.
     Refused(Unread),
     /// No held entry has the stamp and the key: there is no pin.
-    Stray,
+    NoPin,
 }

@@ -2,7 +2,7 @@
 ghost use Rattle.std.specs.Prelude.{◌<◌};
 
 use crate::tables::{Answers, answers_as_told, text_of};
-use crate::threaded::calls::{Call, Said, Then};
+use crate::threaded::calls::{Said, Then, ThreadedCall};
 use crate::threaded::making::{NoHandle, make_value, try_make_value};
 use lru_support::cached::Cached;
 use lru_support::drops::{DropLog, Logged};
@@ -37,24 +37,24 @@ impl<'l, R: Wait + Clone + Drop, C: Cached<Logged<R>>> Player<'l, R, C> {
     }
 
     /// Makes a call. `AllocError` where memory for a value is refused; then no call was made.
-    pub fn take(&mut self, call: Call) -> Result<Said, AllocError> {
+    pub fn take(&mut self, call: ThreadedCall) -> Result<Said, AllocError> {
         match call {
-            Call::Init(key, charge, number, then) => {
+            ThreadedCall::Init(key, charge, number, then) => {
                 let value = self.log.value(number)?;
                 Ok(self.init(key, charge, value, then))
             }
-            Call::TryInit(key, charge, number, then) => {
+            ThreadedCall::TryInit(key, charge, number, then) => {
                 let value = self.log.value(number)?;
                 Ok(self.try_init(key, charge, Some(value), then))
             }
-            Call::Fail(key, charge, then) => Ok(self.try_init(key, charge, None, then)),
-            Call::Insert(key, charge, number, then) => {
+            ThreadedCall::Fail(key, charge, then) => Ok(self.try_init(key, charge, None, then)),
+            ThreadedCall::Insert(key, charge, number, then) => {
                 let value = self.log.value(number)?;
-                Ok(self.put_in(key, charge, value, then))
+                Ok(self.insert(key, charge, value, then))
             }
-            Call::Get(key, then) => Ok(self.get(key, then)),
-            Call::Read(key) => Ok(self.read(key)),
-            Call::LetGo(slot) => {
+            ThreadedCall::Get(key, then) => Ok(self.get(key, then)),
+            ThreadedCall::Read(key) => Ok(self.read(key)),
+            ThreadedCall::LetGo(slot) => {
                 self.put(slot, None);
                 Ok(Said::Done)
             }
@@ -81,7 +81,7 @@ impl<'l, R: Wait + Clone + Drop, C: Cached<Logged<R>>> Player<'l, R, C> {
     }
 
     fn get(&mut self, key: u64, then: Then) -> Said {
-        match self.cache.found(key) {
+        match self.cache.get(key) {
             Ok(Some(handle)) => Said::Found(self.keep(handle, then)),
             Ok(None) => Said::Absent,
             Err(refusal) => Said::Refused(refusal),
@@ -89,18 +89,18 @@ impl<'l, R: Wait + Clone + Drop, C: Cached<Logged<R>>> Player<'l, R, C> {
     }
 
     fn read(&self, key: u64) -> Said {
-        match self.cache.seen(key, |value| value.number()) {
+        match self.cache.read(key, |value| value.number()) {
             Ok(Some(number)) => Said::Read(number),
             Ok(None) => Said::Absent,
             Err(refusal) => Said::Refused(refusal),
         }
     }
 
-    fn put_in(&mut self, key: u64, charge: u64, value: Logged<R>, then: Then) -> Said {
+    fn insert(&mut self, key: u64, charge: u64, value: Logged<R>, then: Then) -> Said {
         if charge == 0 {
             return Said::Uncharged;
         }
-        match self.cache.put(key, charge, value) {
+        match self.cache.insert(key, charge, value) {
             Ok(handle) => Said::Put(self.keep(handle, then)),
             Err(refusal) => Said::Refused(refusal),
         }
@@ -147,35 +147,35 @@ pub fn play<R: Wait + Clone + Drop, C: Cached<Logged<R>> + fmt::Debug>(
     alloc: Global,
     cache: C,
     log: &DropLog<R>,
-    table: &[(Call, &str)],
+    table: &[(ThreadedCall, &str)],
 ) -> Result<(), Fail> {
     let mut player = Player::new(alloc, cache, log)?;
     answers_as_told(alloc, &mut player, table)
 }
 
 // Makes a call that gives no handle.
-fn asked<V, C: Cached<V>>(cache: C, call: Call) -> Said {
+fn asked<V, C: Cached<V>>(cache: C, call: ThreadedCall) -> Said {
     match call {
-        Call::AdviceEvict(key) => cache.advise(key),
-        Call::Invalidate(key) => cache.take_back(key),
-        Call::Prune => cache.clear(),
-        Call::SetCapacity(capacity) => cache.resize(capacity),
-        Call::Reserve(entries) => {
-            if let Err(refusal) = cache.make_room(entries) {
+        ThreadedCall::AdviceEvict(key) => cache.advice_evict(key),
+        ThreadedCall::Invalidate(key) => cache.invalidate(key),
+        ThreadedCall::Prune => cache.prune(),
+        ThreadedCall::SetCapacity(capacity) => cache.set_capacity(capacity),
+        ThreadedCall::Reserve(entries) => {
+            if let Err(refusal) = cache.reserve(entries) {
                 return Said::Refused(refusal);
             }
         }
-        Call::Capacity => return Said::Number(cache.limit()),
-        _ => return Said::Number(cache.total()),
+        ThreadedCall::Capacity => return Said::Number(cache.capacity()),
+        _ => return Said::Number(cache.total_charge()),
     }
     Said::Done
 }
 
 // The text of what was said, and then of the values that were dropped, if any were.
-impl<'l, R: Wait + Clone + Drop, C: Cached<Logged<R>> + fmt::Debug> Answers<Call>
+impl<'l, R: Wait + Clone + Drop, C: Cached<Logged<R>> + fmt::Debug> Answers<ThreadedCall>
     for Player<'l, R, C> {
-    fn answer(&mut self, alloc: Global, call: Call) -> Result<String, AllocError> {
-        if let Call::Show = call {
+    fn answer(&mut self, alloc: Global, call: ThreadedCall) -> Result<String, AllocError> {
+        if let ThreadedCall::Show = call {
             return text_of(alloc, &self.cache);
         }
         let said = self.take(call)?;

@@ -9,7 +9,7 @@ use std::hash::Hash;
 use std::sync::Arc;
 
 /// A step of the journal.
-pub trait Call<K: Hash + Eq + Clone, V> {
+pub trait Step<K: Hash + Eq + Clone, V> {
     /// What an accepted step answers.
     type Answer;
 
@@ -22,8 +22,8 @@ pub trait Call<K: Hash + Eq + Clone, V> {
 
     ghost may_refuse: { Self → Self.Refused → Type 0 };
 
-    /// Takes the step.
-    fn take(self, journal: &mut Journal<K, V>) -> Result<Self::Answer, Self::Refused>
+    /// Takes the step, as one call of the journal.
+    fn apply(self, journal: &mut Journal<K, V>) -> Result<Self::Answer, Self::Refused>
         ensures recorded { IsRecorded journal.old (is_record self) result journal.new }
         ensures refusal { IfErr result (may_refuse self) };
 }
@@ -36,7 +36,7 @@ pub struct Begin<'a, K> {
     ghost charged: { 0 < charge },
 }
 
-impl<'a, K: Hash + Eq + Clone, V: Drop> Call<K, V> for Begin<'a, K> {
+impl<'a, K: Hash + Eq + Clone, V: Drop> Step<K, V> for Begin<'a, K> {
     type Answer = (Begun<V>, Evicted<K, V>);
 
     type Refused = Refusal;
@@ -51,7 +51,7 @@ impl<'a, K: Hash + Eq + Clone, V: Drop> Call<K, V> for Begin<'a, K> {
 
     ghost may_refuse = { λ s e. e ≢ Stale };
 
-    fn take(self, journal: &mut Journal<K, V>) -> Result<(Begun<V>, Evicted<K, V>), Refusal> {
+    fn apply(self, journal: &mut Journal<K, V>) -> Result<(Begun<V>, Evicted<K, V>), Refusal> {
         journal.begin(self.key, self.charge)
     }
 }
@@ -62,7 +62,7 @@ pub struct Poll {
     pub(crate) stamp: u64,
 }
 
-impl<K: Hash + Eq + Clone, V: Drop> Call<K, V> for Poll {
+impl<K: Hash + Eq + Clone, V: Drop> Step<K, V> for Poll {
     type Answer = Begun<V>;
 
     type Refused = Refusal;
@@ -77,7 +77,7 @@ impl<K: Hash + Eq + Clone, V: Drop> Call<K, V> for Poll {
 
     ghost may_refuse = { λ s e. e ≢ Overflow };
 
-    fn take(self, journal: &mut Journal<K, V>) -> Result<Begun<V>, Refusal> {
+    fn apply(self, journal: &mut Journal<K, V>) -> Result<Begun<V>, Refusal> {
         journal.poll(self.stamp)
     }
 }
@@ -89,7 +89,7 @@ pub struct Ready<V> {
     pub(crate) value: Arc<V>,
 }
 
-impl<K: Hash + Eq + Clone, V: Drop> Call<K, V> for Ready<V> {
+impl<K: Hash + Eq + Clone, V: Drop> Step<K, V> for Ready<V> {
     type Answer = ();
 
     type Refused = (Refusal, Arc<V>);
@@ -105,7 +105,7 @@ impl<K: Hash + Eq + Clone, V: Drop> Call<K, V> for Ready<V> {
 
     ghost may_refuse = { λ s e. (e.0 ≢ Overflow) × (arc_value e.1 ≡ arc_value s.value) };
 
-    fn take(self, journal: &mut Journal<K, V>) -> Result<(), (Refusal, Arc<V>)> {
+    fn apply(self, journal: &mut Journal<K, V>) -> Result<(), (Refusal, Arc<V>)> {
         journal.ready(self.stamp, self.value)
     }
 }
@@ -116,7 +116,7 @@ pub struct Fail {
     pub(crate) stamp: u64,
 }
 
-impl<K: Hash + Eq + Clone, V: Drop> Call<K, V> for Fail {
+impl<K: Hash + Eq + Clone, V: Drop> Step<K, V> for Fail {
     type Answer = Failed<K>;
 
     type Refused = Refusal;
@@ -131,7 +131,7 @@ impl<K: Hash + Eq + Clone, V: Drop> Call<K, V> for Fail {
 
     ghost may_refuse = { λ s e. e ≢ Overflow };
 
-    fn take(self, journal: &mut Journal<K, V>) -> Result<Failed<K>, Refusal> {
+    fn apply(self, journal: &mut Journal<K, V>) -> Result<Failed<K>, Refusal> {
         journal.fail(self.stamp)
     }
 }
@@ -142,7 +142,7 @@ pub struct Get<'a, K> {
     pub(crate) key: &'a K,
 }
 
-impl<'a, K: Hash + Eq + Clone, V: Drop> Call<K, V> for Get<'a, K> {
+impl<'a, K: Hash + Eq + Clone, V: Drop> Step<K, V> for Get<'a, K> {
     type Answer = Option<(u64, Arc<V>)>;
 
     type Refused = Refusal;
@@ -157,7 +157,7 @@ impl<'a, K: Hash + Eq + Clone, V: Drop> Call<K, V> for Get<'a, K> {
 
     ghost may_refuse = { λ s e. e ≢ Stale };
 
-    fn take(self, journal: &mut Journal<K, V>) -> Result<Option<(u64, Arc<V>)>, Refusal> {
+    fn apply(self, journal: &mut Journal<K, V>) -> Result<Option<(u64, Arc<V>)>, Refusal> {
         journal.get(self.key)
     }
 }
@@ -168,7 +168,7 @@ pub struct Release {
     pub(crate) stamp: u64,
 }
 
-impl<K: Hash + Eq + Clone, V: Drop> Call<K, V> for Release {
+impl<K: Hash + Eq + Clone, V: Drop> Step<K, V> for Release {
     type Answer = Evicted<K, V>;
 
     type Refused = Refusal;
@@ -183,7 +183,7 @@ impl<K: Hash + Eq + Clone, V: Drop> Call<K, V> for Release {
 
     ghost may_refuse = { λ s e. e ≢ Overflow };
 
-    fn take(self, journal: &mut Journal<K, V>) -> Result<Evicted<K, V>, Refusal> {
+    fn apply(self, journal: &mut Journal<K, V>) -> Result<Evicted<K, V>, Refusal> {
         journal.release(self.stamp)
     }
 }
@@ -194,7 +194,7 @@ pub struct AdviceEvict<'a, K> {
     pub(crate) key: &'a K,
 }
 
-impl<'a, K: Hash + Eq + Clone, V: Drop> Call<K, V> for AdviceEvict<'a, K> {
+impl<'a, K: Hash + Eq + Clone, V: Drop> Step<K, V> for AdviceEvict<'a, K> {
     type Answer = Evicted<K, V>;
 
     type Refused = Refusal;
@@ -210,7 +210,7 @@ impl<'a, K: Hash + Eq + Clone, V: Drop> Call<K, V> for AdviceEvict<'a, K> {
 
     ghost may_refuse = { λ s e. e ≡ Memory };
 
-    fn take(self, journal: &mut Journal<K, V>) -> Result<Evicted<K, V>, Refusal> {
+    fn apply(self, journal: &mut Journal<K, V>) -> Result<Evicted<K, V>, Refusal> {
         journal.advice_evict(self.key)
     }
 }
@@ -221,7 +221,7 @@ pub struct Invalidate<'a, K> {
     pub(crate) key: &'a K,
 }
 
-impl<'a, K: Hash + Eq + Clone, V: Drop> Call<K, V> for Invalidate<'a, K> {
+impl<'a, K: Hash + Eq + Clone, V: Drop> Step<K, V> for Invalidate<'a, K> {
     type Answer = Evicted<K, V>;
 
     type Refused = Refusal;
@@ -237,7 +237,7 @@ impl<'a, K: Hash + Eq + Clone, V: Drop> Call<K, V> for Invalidate<'a, K> {
 
     ghost may_refuse = { λ s e. e ≡ Memory };
 
-    fn take(self, journal: &mut Journal<K, V>) -> Result<Evicted<K, V>, Refusal> {
+    fn apply(self, journal: &mut Journal<K, V>) -> Result<Evicted<K, V>, Refusal> {
         journal.invalidate(self.key)
     }
 }
@@ -246,7 +246,7 @@ impl<'a, K: Hash + Eq + Clone, V: Drop> Call<K, V> for Invalidate<'a, K> {
 #[derive(Drop)]
 pub struct Prune;
 
-impl<K: Hash + Eq + Clone, V: Drop> Call<K, V> for Prune {
+impl<K: Hash + Eq + Clone, V: Drop> Step<K, V> for Prune {
     type Answer = Evicted<K, V>;
 
     type Refused = Refusal;
@@ -261,7 +261,7 @@ impl<K: Hash + Eq + Clone, V: Drop> Call<K, V> for Prune {
 
     ghost may_refuse = { λ s e. e ≡ Memory };
 
-    fn take(self, journal: &mut Journal<K, V>) -> Result<Evicted<K, V>, Refusal> {
+    fn apply(self, journal: &mut Journal<K, V>) -> Result<Evicted<K, V>, Refusal> {
         journal.prune()
     }
 }
@@ -272,7 +272,7 @@ pub struct SetCapacity {
     pub(crate) capacity: u64,
 }
 
-impl<K: Hash + Eq + Clone, V: Drop> Call<K, V> for SetCapacity {
+impl<K: Hash + Eq + Clone, V: Drop> Step<K, V> for SetCapacity {
     type Answer = Evicted<K, V>;
 
     type Refused = Refusal;
@@ -287,7 +287,7 @@ impl<K: Hash + Eq + Clone, V: Drop> Call<K, V> for SetCapacity {
 
     ghost may_refuse = { λ s e. e ≡ Memory };
 
-    fn take(self, journal: &mut Journal<K, V>) -> Result<Evicted<K, V>, Refusal> {
+    fn apply(self, journal: &mut Journal<K, V>) -> Result<Evicted<K, V>, Refusal> {
         journal.set_capacity(self.capacity)
     }
 }
@@ -296,7 +296,7 @@ impl<K: Hash + Eq + Clone, V: Drop> Call<K, V> for SetCapacity {
 #[derive(Drop)]
 pub struct Total;
 
-impl<K: Hash + Eq + Clone, V: Drop> Call<K, V> for Total {
+impl<K: Hash + Eq + Clone, V: Drop> Step<K, V> for Total {
     type Answer = u64;
 
     type Refused = Refusal;
@@ -311,7 +311,7 @@ impl<K: Hash + Eq + Clone, V: Drop> Call<K, V> for Total {
 
     ghost may_refuse = { λ s e. e ≡ Memory };
 
-    fn take(self, journal: &mut Journal<K, V>) -> Result<u64, Refusal> {
+    fn apply(self, journal: &mut Journal<K, V>) -> Result<u64, Refusal> {
         journal.total()
     }
 }

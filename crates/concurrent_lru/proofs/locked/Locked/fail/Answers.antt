@@ -12,5 +12,5 @@ invariant_of-self g c = record {
 pub returns-then-not-has_key-clause-step : goal.returns-then-not-has_key-clause-step
 returns-then-not-has_key-clause-step g c = λ at. absurd (c.has_key.ensures.no c.if-not-has_key.true (subst (λ s. HasEqualKeyAt g.K.PartialEq.eq s.cache c.args.making.stamp c.args.key.now) (sym c.look_near.ensures) at))
 
-pub returns-clause-stray : goal.returns-clause-stray
-returns-clause-stray g c = λ none. absurd (none (subst (λ s. HasEqualKeyAt g.K.PartialEq.eq s.cache c.args.making.stamp c.args.key.now) c.look_near.ensures (c.has_key.ensures.yes c.if-not-has_key.false)))
+pub returns-clause-no_entry : goal.returns-clause-no_entry
+returns-clause-no_entry g c = λ none. absurd (none (subst (λ s. HasEqualKeyAt g.K.PartialEq.eq s.cache c.args.making.stamp c.args.key.now) c.look_near.ensures (c.has_key.ensures.yes c.if-not-has_key.false)))

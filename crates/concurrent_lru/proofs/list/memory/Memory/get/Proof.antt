@@ -39,9 +39,9 @@ use Rattle.std.specs.Prelude.{Some, IsSome}
 use Rattle.std_alloc.proofs.VecSteps.Shapes.{after}
 use Rattle.std_alloc.proofs.RcSteps.{word, word-Good}
 use Rattle.std_alloc.proofs.BoxSteps.Form.{Bx, args, R, X}
-use Rattle.concurrent_lru.specs.Cells.{cell_at, key_at, AtFirst}
+use Rattle.concurrent_lru.specs.Cells.{cell_at, slot_at, AtFirst}
 use Rattle.concurrent_lru.proofs.Memory.Walks.{Mr, Ar, One, word_had, cell_seen}
-use Rattle.concurrent_lru.proofs.Memory.CellKeys.{key_of_held, value_at_key}
+use Rattle.concurrent_lru.proofs.Memory.CellSlots.{slot_of_held, value_at_slot}
 use Rattle.concurrent_lru.specs.contracts.list.memory.Memory.get.Key.{name as #self}
 use Rattle.concurrent_lru.proofs.list.memory.Memory.get.Statement as stated
 use Rattle.concurrent_lru.proofs.list.memory.Memory.get.Code as code
@@ -57,7 +57,7 @@ module _ (E : Bx) where
   stayed = (stay_dropped (RefOf (0 ∷ []) tt (plain (λ _. Mr E)) (λ _. tt)) yes, (stay_dropped (plain (λ _. Ar E)) no, tt))
 
   abbrev Asks : (Mr E).Denot → (Ar E).Denot → Type 0
-  Asks d at = IsSome (key_at d.cells at.ptr)
+  Asks d at = IsSome (slot_at d.cells at.ptr)
 
   abbrev Gives0 : (Mr E).Denot → (Ar E).Denot → Bor (X E) → Type 0
   Gives0 d at r = AtFirst d.cells at.ptr (λ _ c. r.now ≡ c.value)
@@ -88,7 +88,7 @@ module _ (E : Bx) {M : Type 1} {𝓤 : Ura M} (𝓛 : Logic 𝓤) (C : Calls �
 
   walk : Asks E d at → ent 𝓤 (⋆ 𝓛 Had) (WpFn 𝓤 H C Λ (function E) (vptr rb ro ∷ word at.ptr ∷ []) Post)
   walk asked =
-      let held = key_of_held d.cells at.ptr asked in let key = held.0 in let there = value_at_key d.cells at.ptr key held.1 in let c : One E = there.0 in
+      let held = slot_of_held d.cells at.ptr asked in let key = held.0 in let there = value_at_slot d.cells at.ptr key held.1 in let c : One E = there.0 in
       qed 𝓛 Had ∵ enter ! C Λ (function E) (vptr rb ro ∷ word at.ptr ∷ []) _ $ alloc_all ! (λ l. pass_all ! refl ((tt, tt), (word-Good [] at.ptr, tt)) $
       let En : Env 𝓤 H = env (function E).locals l in
       unhide ! $ fsplit ! $ drop ! $

@@ -40,10 +40,10 @@ use Rattle.std.specs.Prelude.{Option, None, Some, IsSome}
 use Rattle.std_alloc.proofs.VecSteps.Shapes.{after}
 use Rattle.std_alloc.proofs.RcSteps.{word, word-Good}
 use Rattle.std_alloc.proofs.BoxSteps.Form.{Bx, args, R, X}
-use Rattle.concurrent_lru.specs.Cells.{cell, cell_at, put_at, key_at, AtFirst}
+use Rattle.concurrent_lru.specs.Cells.{cell, cell_at, put_at, slot_at, AtFirst}
 use Rattle.concurrent_lru.specs.CellLends.{with_value}
 use Rattle.concurrent_lru.proofs.Memory.Walks.{Mr, Ar, Mark, One, Owns, All, word_had, cell_out, cell_in}
-use Rattle.concurrent_lru.proofs.Memory.CellKeys.{key_of_held, value_at_key, put_same, put_twice, write_is_put}
+use Rattle.concurrent_lru.proofs.Memory.CellSlots.{slot_of_held, value_at_slot, put_same, put_twice, write_is_put}
 use Rattle.concurrent_lru.specs.contracts.list.memory.Memory.lend.Key.{name as #self}
 use Rattle.concurrent_lru.proofs.list.memory.Memory.lend.Statement as stated
 use Rattle.concurrent_lru.proofs.list.memory.Memory.lend.Code as code
@@ -59,7 +59,7 @@ module _ (E : Bx) where
   stayed = (stay_dropped (mut_ref_to (0 ∷ []) tt (plain (λ _. Mr E))) no, (stay_dropped (plain (λ _. Ar E)) no, tt))
 
   abbrev Asks : (Mr E).Denot → (Ar E).Denot → Type 0
-  Asks d at = IsSome (key_at d.cells at.ptr)
+  Asks d at = IsSome (slot_at d.cells at.ptr)
 
   abbrev Gives0 : (Mr E).Denot → (Ar E).Denot → MutBor (X E) → Type 0
   Gives0 d at r = AtFirst d.cells at.ptr (λ _ c. r.now ≡ c.value)
@@ -87,7 +87,7 @@ module _ (E : Bx) {M : Type 1} {𝓤 : Ura M} (𝓛 : Logic 𝓤) (C : Calls �
     abbrev Rest : ℕ → Fml
     Rest key = fsep (E.al.g.dealloc_token c.alloc (bare (lone (R E).mir)) c.at) (fsep (All E (put_at key None d.cells)) (fsep ((Mark E).own_val (tt, tt) vs) (mem_cell_at full_share (Mr E).mir vs rb ro)))
 
-    back : (key : ℕ) → key_at d.cells at.ptr ≡ Some key → cell_at d.cells key ≡ Some c → c.at ≡ block_ptr b o
+    back : (key : ℕ) → slot_at d.cells at.ptr ≡ Some key → cell_at d.cells key ≡ Some c → c.at ≡ block_ptr b o
         → (w : X E) → ent 𝓤 (sep 𝓤 (sem 𝓛 ((mem (R E)).own_at w b o)) (sem 𝓛 (Rest key))) (sem 𝓛 ((mem (Mr E)).own_at (new w) rb ro))
     unfolding part_of
     back key holds is e w =
@@ -112,7 +112,7 @@ module _ (E : Bx) {M : Type 1} {𝓤 : Ura M} (𝓛 : Logic 𝓤) (C : Calls �
 
   walk : Asks E d at → ent 𝓤 (⋆ 𝓛 Had) (WpFn 𝓤 H C Λ (function E) (vptr rb ro ∷ word at.ptr ∷ []) Post)
   walk asked =
-      let held = key_of_held d.cells at.ptr asked in let key = held.0 in let there = value_at_key d.cells at.ptr key held.1 in let c : One E = there.0 in
+      let held = slot_of_held d.cells at.ptr asked in let key = held.0 in let there = value_at_slot d.cells at.ptr key held.1 in let c : One E = there.0 in
       let code = (Mr E).coded.code d in
       qed 𝓛 Had ∵ enter ! C Λ (function E) (vptr rb ro ∷ word at.ptr ∷ []) _ $ alloc_all ! (λ l. pass_all ! refl ((tt, tt), (word-Good [] at.ptr, tt)) $
       let En : Env 𝓤 H = env (function E).locals l in

@@ -1,0 +1,67 @@
+//! Where the node with a stamp is: by a map of places, or with no map by a look at every node.
+//! Which of the two is said once, where a table is made.
+ghost use Rattle.std.specs.Prelude.{◌≡◌, ℕ, Bool, true, false, Some, None, OnOk, MatchOption, cond, nat_eq};
+ghost use Rattle.concurrent_lru.specs.NodeTable.{HasStampAt, IsNewStamp};
+ghost use Rattle.concurrent_lru.specs.PlaceByStamp.{keeps_map, mapped_place, HasRoomFor};
+
+use crate::list::{Nodes, Place};
+use std::alloc::AllocError;
+use std::collections::HashMap;
+
+// The places of nodes by their stamps.
+#[derive(Drop)]
+pub(super) enum PlaceByStamp {
+    // A look takes the same time however many nodes there are; an insert and a removal write.
+    Mapped(HashMap<u64, Place>),
+    // A look visits every node; an insert and a removal write nothing.
+    Unmapped,
+}
+
+impl PlaceByStamp {
+    // Makes room for so many more inserts.
+    pub(super) fn reserve(&mut self, more: usize) -> Result<(), AllocError>
+        ensures room { OnOk result (HasRoomFor self.new more) }
+        ensures keeps { keeps_map self.new ≡ keeps_map self.old }
+        ensures places { (s : ℕ) → mapped_place self.new s ≡ mapped_place self.old s }
+    {
+        match self {
+            PlaceByStamp::Mapped(places) => places.reserve(more),
+            PlaceByStamp::Unmapped => Ok(()),
+        }
+    }
+
+    // Tells the place of a new node, for which there is room.
+    pub(super) fn insert(&mut self, stamp: u64, place: Place)
+        requires { HasRoomFor self.old 1 }
+        ensures keeps { keeps_map self.new ≡ keeps_map self.old }
+        ensures places { keeps_map self.old ≡ true → (s : ℕ) → mapped_place self.new s ≡ cond (nat_eq stamp s) (Some place) (mapped_place self.old s) }
+    {
+        if let PlaceByStamp::Mapped(places) = self {
+            // Not refused, since there is room; no node had the stamp before.
+            let _before = places.insert(stamp, place);
+        }
+    }
+
+    // Forgets the place of a node that was taken.
+    pub(super) fn remove(&mut self, stamp: u64)
+        ensures keeps { keeps_map self.new ≡ keeps_map self.old }
+        ensures places { keeps_map self.old ≡ true → (s : ℕ) → mapped_place self.new s ≡ cond (nat_eq stamp s) None (mapped_place self.old s) }
+        ensures room { HasRoomFor self.old 1 → HasRoomFor self.new 1 }
+    {
+        if let PlaceByStamp::Mapped(places) = self {
+            let _place = places.remove(&stamp);
+        }
+    }
+
+    // The place that the map has for the stamp, or else that of a node which has it.
+    #[inline(never)]
+    pub(super) fn find<K: Drop, V: Drop>(&self, nodes: &Nodes<K, V>, stamp: u64) -> Option<Place>
+        ensures mapped { keeps_map self.now ≡ true → result ≡ mapped_place self.now stamp }
+        ensures seen { keeps_map self.now ≡ false → MatchOption result (IsNewStamp nodes.now stamp) (λ p. HasStampAt nodes.now p stamp) }
+    {
+        match self {
+            PlaceByStamp::Mapped(places) => places.get(&stamp).copied(),
+            PlaceByStamp::Unmapped => nodes.find_stamp(stamp),
+        }
+    }
+}

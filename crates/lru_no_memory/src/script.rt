@@ -1,0 +1,79 @@
+//! A script: a cache, and what is asked of it.
+
+use crate::shards::ShardCall;
+use crate::state::Limits;
+use crate::told::Told;
+use crate::{journal, list, meeting, shards, state, threaded, twin};
+use concurrent_lru::lru_core::Refusal;
+use lru_fixtures::tables::Call;
+use lru_fixtures::threaded::ThreadedCall;
+use std::alloc::Global;
+use std::io::Write;
+use std::sync::Wait;
+use std::thread::Threads;
+
+/// A script. Its cache is empty at first.
+#[derive(Clone, Copy)]
+pub enum Script {
+    /// Calls of a cache without a lock, of a capacity.
+    State(u64, &'static [Call<&'static str>]),
+    /// Calls of a cache without a lock, of these limits.
+    Limited(Limits, &'static [Call<&'static str>]),
+    /// A list of steps of a cache without a lock.
+    List,
+    /// A list of steps of shards.
+    ShardList,
+    /// Calls of so many shards of a capacity.
+    Shards(u64, usize, &'static [ShardCall]),
+    /// Calls of a journal of a capacity.
+    Journal(u64, &'static [Call<&'static str>]),
+    /// Calls of a twin of a capacity: those of one caller, and then those of another.
+    Twin(u64, &'static [Call<&'static str>], &'static [Call<&'static str>]),
+    /// Calls of a cache of one lock and a capacity.
+    Unsharded(u64, &'static [ThreadedCall]),
+    /// Calls of a cache of a capacity in so many shards.
+    Sharded(u64, usize, &'static [ThreadedCall]),
+    /// An entry that takes the room of two, on a cache of one lock.
+    OverTwo,
+    /// Two threads that ask for one key.
+    Meeting,
+}
+
+impl Script {
+    /// Runs the script and tells the answers.
+    ///
+    /// `Memory` where a request of the script's own is refused, or a call twice.
+    pub fn run<R: Threads + Wait + Sync + Send, O: Write, E: Write>(
+        self,
+        rt: &R,
+        alloc: Global,
+        told: &mut Told<'_, O, E>,
+    ) -> Result<(), Refusal> {
+        match self {
+            Script::State(capacity, calls) => {
+                state::play(alloc, Limits::of(capacity), calls, told)
+            }
+            Script::Limited(limits, calls) => state::play(alloc, limits, calls, told),
+            Script::List => list::play(alloc, told),
+            Script::ShardList => list::play_shards(alloc, told),
+            Script::Shards(capacity, number, calls) => {
+                shards::play(alloc, capacity, number, calls, told)
+            }
+            Script::Journal(capacity, calls) => journal::play(alloc, capacity, calls, told),
+            Script::Twin(capacity, first, second) => {
+                twin::play(rt, alloc, capacity, first, second, told)
+            }
+            Script::Unsharded(capacity, calls) => {
+                threaded::play_unsharded(rt, alloc, capacity, calls, told)
+            }
+            Script::Sharded(capacity, number, calls) => {
+                threaded::play_sharded(rt, alloc, capacity, number, calls, told)
+            }
+            Script::OverTwo => threaded::play_over_two(rt, alloc, told),
+            Script::Meeting => {
+                meeting::play(rt, alloc, told);
+                Ok(())
+            }
+        }
+    }
+}
