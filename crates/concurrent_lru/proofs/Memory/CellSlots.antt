@@ -86,7 +86,7 @@ module _ {T A : Type 0} where
       some None h = cc
       some (Some slot) h = (slot, refl)
 
-  -- a write through the pointer is one under its slot
+  -- a write through the pointer is one in its slot
   pub write_is_put : (cells : List (Option (Cell T A))) (p : Ptr) (w : T) (slot : ℕ) (c : Cell T A) → slot_at cells p ≡ Some slot → cell_at cells slot ≡ Some c → write_to p w cells ≡ put_at slot (Some (cell c.at c.alloc w)) cells
   write_is_put [] p w slot c e is = cc
   write_is_put (None ∷ cells) p w slot c e is =
@@ -119,7 +119,7 @@ module _ {T A : Type 0} where
   first_of_apart (Some c ∷ cells) a (suc slot) p e =
       ap (λ b. cond b (Some 0) (next_slot (slot_at cells p))) (apart_at c cells slot p a.0 e) ∙ ap next_slot (first_of_apart cells a.1 slot p e)
 
-  -- cells whose values lie where they lay have their keys
+  -- cells whose values lie where they lay have their slots
   no_slot : (cells : List (Option (Cell T A))) (p : Ptr) → ((slot : ℕ) → ptr_in (cell_at cells slot) ≡ None) → slot_at cells p ≡ None
   no_slot [] p h = refl
   no_slot (None ∷ cells) p h = ap next_slot (no_slot cells p (λ slot. h (suc slot)))

@@ -1,8 +1,8 @@
 use Rattle.std.proofs.Common.{◌≡◌, ℕ, [], ◌∷◌, ◌++◌, get_or, ap, sym, ◌∙◌, rules}
 use Rattle.std.proofs.lemmas.List.Sorted.{IsNonDecreasingBy-from_sort_by_key}
 use Rattle.lru_sizing.proofs.Curves.{reused_first, reused_again}
-use Rattle.lru_sizing.proofs.curve.reused.Goals as goal
-use Rattle.lru_sizing.proofs.curve.reused.Goals.{in-Some+in_ok-push, in_default}
+use Rattle.lru_sizing.proofs.curve.reuses.Goals as goal
+use Rattle.lru_sizing.proofs.curve.reuses.Goals.{in-Some+in_ok-push, in_default}
 
 pub loop-place-preserved : goal.loop-place-preserved
 loop-place-preserved g c =

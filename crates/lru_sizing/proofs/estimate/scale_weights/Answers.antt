@@ -1,7 +1,7 @@
 use Rattle.std.proofs.Common.{◌≡◌, ℕ, [], ◌∷◌, ◌++◌, length, map, get_or, take, None, rules, sym, ap, ◌∙◌, arith}
 use Rattle.lru_sizing.specs.Estimates.{scaled_weight, scaled}
 use Rattle.lru_sizing.proofs.Estimates.{mapped, scaled_long, scaled_more, scaled_all}
-use Rattle.lru_sizing.proofs.estimate.scaled.Goals as goal
+use Rattle.lru_sizing.proofs.estimate.scale_weights.Goals as goal
 
 pub loop-place-preserved : goal.loop-place-preserved
 loop-place-preserved g c =
