@@ -128,8 +128,8 @@ impl Drop for Sent {
     }
 }
 
-/// A cache whose values have errands. It has no associated type, since the checker covers no closure
-/// of a thread over one that has.
+/// A cache whose values have errands. It has no associated type, since the checker covers no
+/// closure of a thread over one that has.
 pub trait Sends {
     /// Waits for the errand of a value, and does it: gets the next value, evicts it by advice, and
     /// prunes.
@@ -225,8 +225,8 @@ pub struct Outcome {
 }
 
 /// What evicts, the capacity that it needs, and what comes of it, where a prune and a smaller
-/// capacity have this outcome. Where the first value alone is evicted, its errand evicts the second,
-/// and so on, so the drops end last first.
+/// capacity have this outcome. Where the first value alone is evicted, its errand evicts the
+/// second, and so on, so the drops end last first.
 pub fn causes(cleared: Outcome) -> [(Cause, u64, Outcome); 6] {
     let one_by_one = Outcome {
         totals: (0, 0),

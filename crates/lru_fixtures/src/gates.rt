@@ -101,8 +101,8 @@ pub const CAUSES: [(Cause, u64, u128); 7] = [
 /// A cache whose values drop slowly. It has no associated type, since the checker covers no closure
 /// of a thread over one that has.
 pub trait Drops {
-    /// Makes a value of key 1 with the charge 1 in a cache that keeps no other beside it, and evicts
-    /// it. No value is dropped where it could not be made.
+    /// Makes a value of key 1 with the charge 1 in a cache that keeps no other beside it, and
+    /// evicts it. No value is dropped where it could not be made.
     fn evict(&self, gate: &Arc<Gate>, cause: Cause);
 
     /// The total while a value is dropped; none where no value was.

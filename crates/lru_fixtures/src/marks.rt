@@ -1,5 +1,5 @@
-//! Marks of caches: which value fits which key. And the caches that threads share, with a mark, asked
-//! alike.
+//! Marks of caches: which value fits which key. And the caches that threads share, with a mark,
+//! asked alike.
 ghost use Rattle.std.specs.Prelude.{◌≡◌, ◌*◌, ◌<◌, IfSome};
 ghost use Rattle.std.proofs.Common.{rules};
 

@@ -90,8 +90,8 @@ impl fmt::Debug for Shown {
     }
 }
 
-// The text of a cache, and the number of a handle's value as another thread reads it meanwhile; none
-// where memory for the text is refused, and where no value is printed.
+// The text of a cache, and the number of a handle's value as another thread reads it meanwhile;
+// none where memory for the text is refused, and where no value is printed.
 fn text_and_number<T: Threads, H: Drop + Sync, C: Cached<Shown, Handle = H> + fmt::Debug + Sync>(
     rt: &T,
     alloc: Global,

@@ -1,5 +1,5 @@
-//! What each of some workers does at one cache: it reads keys of which the cache keeps too few, resets
-//! the counts, or is counted.
+//! What each of some workers does at one cache: it reads keys of which the cache keeps too few,
+//! resets the counts, or is counted.
 ghost use Rattle.std.specs.Prelude.{◌<◌};
 
 use concurrent_lru::counts::Counts;
@@ -16,8 +16,8 @@ const ROUNDS: u32 = 100;
 /// The capacity, of one lock or of two shards, at which workers meet evictions all the time.
 pub const CAPACITY: u64 = 8;
 
-/// Asks each of the 20 keys 100 times, and says whether each value, read where it is ready and asked
-/// for otherwise, is ten times the key.
+/// Asks each of the 20 keys 100 times, and says whether each value, read where it is ready and
+/// asked for otherwise, is ten times the key.
 pub fn stays_right<C: Cached<u64>>(cache: C) -> bool {
     for _ in 0..ROUNDS {
         for key in 0..KEYS {
@@ -46,8 +46,8 @@ const RESETS: u32 = 2_000;
 
 const ASKS: u64 = 20_000;
 
-/// A cache as workers ask it that count calls. It has no associated type, since the checker covers no
-/// closure of a thread over one that has.
+/// A cache as workers ask it that count calls. It has no associated type, since the checker covers
+/// no closure of a thread over one that has.
 pub trait Counting {
     /// Resets the counts 2,000 times, and answers of how many calls the resets told.
     fn reset_often(&self) -> u64;

@@ -9,8 +9,8 @@ use std::alloc::Global;
 use std::io::Write;
 use std::sync::Arc;
 
-/// The limits of a new cache: its capacity, its first stamp, the most pins of an entry (none count as
-/// 1), and for how many entries it makes room first.
+/// The limits of a new cache: its capacity, its first stamp, the most pins of an entry (none count
+/// as 1), and for how many entries it makes room first.
 #[derive(Clone, Copy)]
 pub struct Limits {
     pub capacity: u64,

@@ -1,5 +1,5 @@
-//! Calls of a cache that threads share, as one thread makes them, and what they tell of a value. Each
-//! handle is dropped at once, whatever the call says of it, and a charge of 0 counts as 1.
+//! Calls of a cache that threads share, as one thread makes them, and what they tell of a value.
+//! Each handle is dropped at once, whatever the call says of it, and a charge of 0 counts as 1.
 ghost use Rattle.std.specs.Prelude.{◌<◌};
 
 use crate::asked::{Asked, NO_SUCH_CALL, play};

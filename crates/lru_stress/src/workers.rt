@@ -43,8 +43,8 @@ pub enum Unmade {
     Refused(Refusal),
 }
 
-/// A cache as its workers ask it. It has no associated type, since the checker covers no closure of a
-/// thread over one that has.
+/// A cache as its workers ask it. It has no associated type, since the checker covers no closure of
+/// a thread over one that has.
 pub trait Shared {
     /// Asks for a value, and drops its handle at once.
     fn ask(&self, call: &WorkerCall) -> Result<Answer, Unmade>;
