@@ -234,7 +234,8 @@ module _ {K : Type 0} (trace : List (K × ℕ)) (weights : List (Option ℕ)) (p
       ∙ reused-push_some (take place charges_of) (take place weights) (get_or charges_of place 0) w parts_long
       ∙ ap (λ c. reused (take place charges_of) (take place weights) ++ (w, c) ∷ []) (get_or-map (λ (v : K × ℕ). v.1) trace place u 0 (omega (arith, same, more)))
 
--- What a curve is built of: the pairs before i are taken, and left is the charge of all uses but those.
+-- What a curve is built of: the pairs before i are taken, and left is the charge of all uses but
+-- those.
 pub record IsBuilt (total : ℕ) (ps : List (ℕ × ℕ)) (i left : ℕ) (weights made : List ℕ) : Type 0 where
   pub weights_are : weights ≡ pair_weights (take i ps)
   pub made_long : length made ≡ i + 1

@@ -1,4 +1,5 @@
--- At every moment of a plain run a key is idle exactly where a use of it would have a reuse weight of at most the capacity.
+-- At every moment of a plain run a key is idle exactly where a use of it would have a reuse weight
+-- of at most the capacity.
 use Rattle.std.proofs.Common.{◌≡◌, ℕ, ◌+◌, ◌<◌, ◌≤◌, ◌↔◌, inl, inr, Bool, true, false, cond, List, [], ◌∷◌, ◌++◌, length, map, Some, None, refl, sym, ap, ◌∙◌, subst, arith, leb, ◌||◌, ◌==◌}
 use Rattle.std.specs.Cmp.{IsEquivalence}
 use Rattle.std.specs.FinMap as finmap

@@ -1,10 +1,11 @@
--- A curve as contracts see it: how many uses hit at each capacity, and the charge that is made for the others.
+-- A curve as contracts see it: how many uses hit at each capacity, and the charge that is made for
+-- the others.
 use Rattle.std.specs.Prelude.{◌≡◌, ℕ, ◌+◌, ◌<◌, ◌≤◌, cond, List, [], ◌∷◌, length, count_by, sum_by, nat_le, slice_index, zip, Option, Some, None, refl}
 use Rattle.std.specs.Coded.{Coded, code_by, coded×, coded_ℕ, coded_list}
 use Rattle.lru_sizing.specs.HitsByWeight.{fits, hits_at}
 
--- How many uses there are; in order of size, the reuse weights of those that have one; and for each number of hits, from 0 on, the
--- charge that is made where so many uses hit.
+-- How many uses there are; in order of size, the reuse weights of those that have one; and for each
+-- number of hits, from 0 on, the charge that is made where so many uses hit.
 pub record StepCurve : Type 0 where
   pub uses : ℕ
   pub weights : List ℕ
@@ -34,7 +35,8 @@ pub record IsStepCurve (uses : ℕ) (weights made : List ℕ) : Type 0 where
   pub some_hit : length weights ≤ uses
   pub each_made : length made ≡ length weights + 1
 
--- the sum of the charges of the uses that don't fit, each with its reuse weight: what is made at this capacity
+-- the sum of the charges of the uses that don't fit, each with its reuse weight: what is made at
+-- this capacity
 abbrev pub charge_made_at : ℕ → List ℕ → List (Option ℕ) → ℕ
 charge_made_at capacity charges weights = sum_by (λ u. cond (fits capacity u.1) 0 u.0) (zip charges weights)
 

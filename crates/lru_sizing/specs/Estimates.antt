@@ -9,8 +9,8 @@ use Rattle.lru_sizing.specs.ReuseWeights.{reuse_weights}
 abbrev pub is_sampled : ℕ → List (List ℕ) → Bool
 is_sampled one_in input = sip.finish (fold sip.write sip.initial input) % one_in == 0
 
--- An estimate as contracts see it: of how many keys one is sampled, how many uses there are in all, and the curve of the sampled uses at
--- their scaled reuse weights.
+-- An estimate as contracts see it: of how many keys one is sampled, how many uses there are in all,
+-- and the curve of the sampled uses at their scaled reuse weights.
 pub record EstimatedCurve : Type 0 where
   pub one_in : ℕ
   pub uses : ℕ
@@ -33,8 +33,8 @@ estimated_hits capacity e = e.uses - estimated_misses capacity e
 abbrev pub estimated_charge_made : ℕ → EstimatedCurve → ℕ
 estimated_charge_made capacity e = min (charge_made_in capacity e.sampled * e.one_in) (2 ^ 128 - 1)
 
--- what a reuse weight among the sampled uses stands for: the charges of the other keys count so many times, the own charge once; a u64
--- holds no more
+-- what a reuse weight among the sampled uses stands for: the charges of the other keys count so
+-- many times, the own charge once; a u64 holds no more
 abbrev pub scaled_weight : ℕ → ℕ → ℕ → ℕ
 scaled_weight one_in own weight = min ((weight - own) * one_in + own) (2 ^ 64 - 1)
 
@@ -42,7 +42,8 @@ scaled_weight one_in own weight = min ((weight - own) * one_in + own) (2 ^ 64 - 
 abbrev pub scaled : ℕ → List ℕ → List (Option ℕ) → List (Option ℕ)
 scaled one_in charges weights = map (λ u. option_map (λ w. scaled_weight one_in u.0 w) u.1) (zip charges weights)
 
--- the estimate from these sampled uses, where one key in so many is sampled and there are so many uses in all
+-- the estimate from these sampled uses, where one key in so many is sampled and there are so many
+-- uses in all
 pub record IsEstimateOf {K : Type 0} (E : K → K → Bool) (one_in : ℕ) (sampled : List (K × ℕ)) (uses : ℕ) (estimate : EstimatedCurve) : Type 0 where
   pub rate : estimate.one_in ≡ one_in
   pub all : estimate.uses ≡ uses

@@ -6,7 +6,8 @@ use Rattle.concurrent_lru.specs.Runs.{Outcome, Run}
 use Rattle.concurrent_lru.specs.Uses.{IsPlain, begins, HaveNoGet}
 use Rattle.lru_sizing.specs.HitsByWeight.{begun_hits}
 
--- Steps with their outcomes that lead from one cache to another: a plain run whose begins are these uses, and were answered so.
+-- Steps with their outcomes that lead from one cache to another: a plain run whose begins are these
+-- uses, and were answered so.
 pub record IsReplay {K V : Type 0} (E : K → K → Bool) (old : Cache K V) (trace : List (K × ℕ)) (hits : List Bool) (new : Cache K V) : Type 0 where
   pub steps : List (Request K V × Outcome K V)
   pub run : Run E old (map (λ e. e.0) steps) (map (λ e. e.1) steps) new
