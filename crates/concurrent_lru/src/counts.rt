@@ -22,7 +22,7 @@ pub struct Counts {
     pub misses: u64,
     /// Calls that found the value being made by another caller, and waited for it.
     pub waits: u64,
-    /// Calls that asked for a value and were refused it with `Memory` or `Overflow`.
+    /// Calls that asked for a value, or inserted one, and were refused with `Memory` or `Overflow`.
     pub refusals: u64,
     /// Makings begun: how often a caller was asked to make a value.
     pub makings: u64,
