@@ -8,6 +8,7 @@ mod lines;
 mod options;
 mod picture;
 mod program;
+mod progress;
 mod scale;
 mod sizes;
 mod table;

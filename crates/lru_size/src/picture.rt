@@ -87,7 +87,7 @@ impl<'a> Picture<'a> {
             self.top.max(1),
         ));
         let part = u128::from(hits).saturating_mul(height * 100) / whole.max(1);
-        BOTTOM.saturating_sub(part as u64)
+        BOTTOM.saturating_sub(u64::try_from(part).unwrap_or(u64::MAX))
     }
 
     fn write_title<O: Write>(&self, out: &mut O) -> io::Result<()> {
@@ -105,8 +105,8 @@ impl<'a> Picture<'a> {
     // The axis of hit ratios, with a line at each fifth.
     fn write_ratios<O: Write>(&self, out: &mut O) -> io::Result<()> {
         for fifth in 0..=5u64 {
-            let y = BOTTOM - (BOTTOM - TOP) / 5 * fifth.min(5);
-            let percent = self.top / 5 * fifth.min(5);
+            let y = BOTTOM.saturating_sub(((BOTTOM - TOP) / 5).saturating_mul(fifth));
+            let percent = (self.top / 5).saturating_mul(fifth);
             writeln!(
                 out,
                 r#"<path class="grid" d="M{LEFT} {y}H{RIGHT}"/><text class="text" x="720" y="{}" text-anchor="end">{percent}%</text>"#,

@@ -5,6 +5,7 @@ use crate::failure::Failure;
 use crate::lines::Lines;
 use crate::options::Options;
 use crate::picture::Picture;
+use crate::progress::Progress;
 use crate::sizes::Sizes;
 use crate::table;
 use crate::trace::Trace;
@@ -49,8 +50,9 @@ pub fn program<F: Files<File = File>, I: BufRead + Drop, O: Write, E: Write>(
         err,
         is_watched,
     } = streams;
-    let watcher = if is_watched { Some(&mut *err) } else { None };
-    match run(alloc, files, words, input, out, watcher) {
+    let mut progress = Progress::new(err, is_watched);
+    let ended = run(alloc, files, words, input, out, &mut progress);
+    match ended {
         Ok(()) => 0,
         Err(Failure::Help(text)) => match out
             .write_all(text.as_bytes())
@@ -69,11 +71,11 @@ fn run<F: Files<File = File>, I: BufRead + Drop, O: Write, E: Write>(
     words: &[String],
     input: I,
     out: &mut O,
-    watcher: Option<&mut E>,
+    progress: &mut Progress<'_, E>,
 ) -> Result<(), Failure> {
     let options = Options::of_words(alloc, words)?;
     let sample = Sample::one_in(options.sample.unwrap_or(1));
-    let trace = Trace::read(alloc, sample, &mut Lines::new(alloc, input), watcher)?;
+    let trace = Trace::read(alloc, sample, &mut Lines::new(alloc, input), progress)?;
     writeln!(out, "{} uses of {} keys", trace.lines, trace.keys())?;
     let sizes = match options.sample {
         Some(_) => estimated(alloc, sample, &trace)?,

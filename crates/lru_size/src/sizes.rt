@@ -60,7 +60,8 @@ impl Sizes {
 
     /// The least capacity that gives this many of 100 parts of the greatest hit ratio.
     pub fn knee(&self, percent: u64) -> u64 {
-        let parts = u128::from(self.most_hits()) * u128::from(percent);
-        self.least_capacity(parts.div_ceil(100) as u64).unwrap_or(0)
+        let parts = u128::from(self.most_hits()).saturating_mul(u128::from(percent));
+        let hits = u64::try_from(parts.div_ceil(100)).unwrap_or(u64::MAX);
+        self.least_capacity(hits).unwrap_or(0)
     }
 }

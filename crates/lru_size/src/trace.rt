@@ -1,16 +1,15 @@
 //! The trace that the lines are: each key as a number, in the order of first uses.
 ghost use Rattle.std.specs.Prelude.{◌<◌};
 ghost use Rattle.std.specs.List.{AllByRecursion};
+ghost use Rattle.std.proofs.Props.{props};
 
 use crate::failure::Failure;
 use crate::lines::{Lines, Use};
+use crate::progress::Progress;
 use lru_sizing::estimate::Sample;
 use std::alloc::Global;
 use std::collections::HashMap;
 use std::io::{BufRead, Write};
-
-// After so many lines, their number is told to whoever watches.
-const STRIDE: u64 = 1 << 20;
 
 /// The uses of the sampled keys, and how many uses there are in all.
 #[derive(Drop)]
@@ -22,7 +21,7 @@ pub struct Trace {
     pub uses: Vec<(u64, u64)>,
     /// How many lines there are.
     pub lines: u64,
-    ghost charged: { AllByRecursion (λ u. 0 < u.1) uses.items },
+    ghost charged: { AllByRecursion (λ u. 0 < u.1) uses.items } by { Prim.hlevel props },
 }
 
 // What is known of a key.
@@ -42,7 +41,7 @@ impl Trace {
         alloc: Global,
         sample: Sample,
         lines: &mut Lines<I>,
-        watcher: Option<&mut E>,
+        progress: &mut Progress<'_, E>,
     ) -> Result<Trace, Failure> {
         let mut trace = Trace {
             alloc,
@@ -51,18 +50,12 @@ impl Trace {
             uses: Vec::new(alloc),
             lines: 0,
         };
-        let mut watcher = watcher;
         for _ in 0..u64::MAX {
             if !lines.advance()? {
                 break;
             }
             trace.add(lines.number(), lines.used()?)?;
-            if trace.lines % STRIDE == 0 {
-                if let Some(err) = &mut watcher {
-                    // Whoever watches may have gone; the trace is read all the same.
-                    let _told = write!(err, "{} lines read\r", trace.lines);
-                }
-            }
+            progress.show(trace.lines);
         }
         Ok(trace)
     }
