@@ -1,121 +1,117 @@
-//! Why the program ends early.
-//! Each failure has its lines on standard error, and its status.
+//! Why the program fails.
 
-use clap::Error;
 use lru_sizing::refusal::Refusal;
 use std::alloc::{AllocError, AllocFailed, Global};
 use std::io::{ErrorKind, Write};
 use std::{fmt, io};
 
-/// What was expected of a line.
+/// What was expected of a line of the trace.
 #[derive(Clone, Copy, Debug, PartialEq, Eq)]
 pub enum Expected {
-    /// Text.
-    Text,
-    /// A key, with a charge behind it or not.
+    /// A line of UTF-8.
+    Utf8,
+    /// A key, with or without a charge.
     Use,
     /// A charge.
     Charge,
-    /// Nothing behind the charge.
+    /// The end of the line.
     End,
 }
 
-impl Expected {
-    fn text(self) -> &'static str {
-        match self {
-            Expected::Text => "UTF-8",
+impl fmt::Display for Expected {
+    fn fmt<W: fmt::Write>(&self, f: &mut fmt::Formatter<W>) -> fmt::Result {
+        f.write_str(match self {
+            Expected::Utf8 => "UTF-8",
             Expected::Use => "KEY [CHARGE]",
             Expected::Charge => "a charge from 1 to 18446744073709551615",
             Expected::End => "nothing after the charge",
-        }
+        })
     }
 }
 
-/// Why the program does not end with status 0. Lines are counted from 1.
+/// Why the program fails. Lines are counted from 1.
 #[derive(Debug, Drop)]
 pub enum Failure {
-    /// The words ask for the help, which is this text.
-    Help(String),
-    /// The words are not the program's, as this text says.
+    /// The arguments are invalid, as this message from their parser explains.
     Usage(String),
-    /// A word is not UTF-8.
-    NotText,
-    /// There is no memory.
-    Memory,
-    /// The line is no use: what was expected, and the word that stands there instead, where one
-    /// does.
-    Line(u64, Expected, Option<String>),
-    /// The key has one charge on one line, and another on a later one.
-    TwoCharges(String, u64, u64),
-    /// With this line the charges of the keys sum to more than `u64::MAX`.
-    Overflow(u64),
-    /// The charges of the sampled keys sum to more than `u64::MAX`.
+    /// An argument is not UTF-8.
+    NotUtf8,
+    /// Memory ran out.
+    OutOfMemory,
+    /// A line of the trace is not a use.
+    Line {
+        line: u64,
+        expected: Expected,
+        found: Option<String>,
+    },
+    /// Two lines of the trace give the same key different charges.
+    TwoCharges {
+        first: u64,
+        second: u64,
+    },
+    /// The charges of the keys up to this line add up to more than `u64::MAX`.
+    Overflow {
+        line: u64,
+    },
+    /// The charges of the sampled keys add up to more than `u64::MAX`.
     SampleOverflow,
-    /// At this line, the replay and the reuse weight differ.
-    Differs(u64),
-    /// A read of standard input failed, with the system's error.
+    /// The use on this line did not hit or miss in the replay as the curve predicts.
+    Mismatch {
+        line: u64,
+    },
+    /// Standard input could not be read.
     Read(io::Error),
-    /// A write to standard output failed, with the system's error.
+    /// Standard output could not be written.
     Write(io::Error),
-    /// The file of this path was not written, with the system's error.
-    File(String, io::Error),
+    /// A file could not be written.
+    File {
+        path: String,
+        error: io::Error,
+    },
 }
 
 impl Failure {
-    /// The failure of reading the words with this error.
-    pub fn of_words(error: &io::Error) -> Failure {
+    /// Converts an error from reading the arguments.
+    pub fn from_args_error(error: &io::Error) -> Failure {
         match error.kind() {
-            ErrorKind::OutOfMemory => Failure::Memory,
-            _ => Failure::NotText,
+            ErrorKind::OutOfMemory => Failure::OutOfMemory,
+            _ => Failure::NotUtf8,
         }
     }
 
-    /// The failure of a read with this error.
-    pub fn of_reading(error: &io::Error) -> Failure {
+    /// Converts an error from reading standard input.
+    pub fn from_read_error(error: &io::Error) -> Failure {
         match error.kind() {
-            ErrorKind::OutOfMemory => Failure::Memory,
+            ErrorKind::OutOfMemory => Failure::OutOfMemory,
             _ => Failure::Read(*error),
         }
     }
 
-    /// The failure of words that were not parsed, or that ask for the help.
-    pub fn of_usage(alloc: Global, error: &Error) -> Failure {
-        if matches!(error.kind(), clap::error::ErrorKind::OutOfMemory) {
-            return Failure::Memory;
-        }
-        let Ok(text) = format!(in alloc; "{error}") else {
-            return Failure::Memory;
-        };
-        if error.use_stderr() {
-            Failure::Usage(text)
-        } else {
-            Failure::Help(text)
-        }
-    }
-
-    /// The failure of writing the file of a path with this error.
-    pub fn of_file(alloc: Global, path: &str, error: io::Error) -> Failure {
+    /// Converts an error from writing the file at `path`.
+    pub fn from_file_error(alloc: Global, path: &str, error: io::Error) -> Failure {
         match String::from_str(alloc, path) {
-            Ok(path) => Failure::File(path, error),
-            Err(_) => Failure::Memory,
+            Ok(path) => Failure::File { path, error },
+            Err(_) => Failure::OutOfMemory,
         }
     }
 
-    /// Writes the failure to `err`, and answers the status to end with: 2 for wrong words and for
-    /// a line that is no use or has a second charge, else 1.
+    /// Writes a message to `err`, and returns the exit status of the program.
+    ///
+    /// The status is 2 if the arguments or a line of the trace are to blame, and otherwise 1. It is
+    /// also 1 if the message cannot be written.
     pub fn report<E: Write>(self, err: &mut E) -> u8 {
-        let status = self.status();
-        match write!(err, "{self}") {
-            Ok(()) => status,
+        match writeln!(err, "lru_size: {self}") {
+            Ok(()) => self.status(),
             Err(_) => 1,
         }
     }
 
     fn status(&self) -> u8 {
         match self {
-            Failure::Help(_) => 0,
-            Failure::Usage(_) | Failure::NotText => 2,
-            Failure::Line(_, _, _) | Failure::TwoCharges(_, _, _) => 2,
+            Failure::Usage(_)
+            | Failure::NotUtf8
+            | Failure::Line { .. }
+            | Failure::TwoCharges { .. } => 2,
             _ => 1,
         }
     }
@@ -124,72 +120,84 @@ impl Failure {
 impl fmt::Display for Failure {
     fn fmt<W: fmt::Write>(&self, f: &mut fmt::Formatter<W>) -> fmt::Result {
         match self {
-            Failure::Help(text) | Failure::Usage(text) => f.write_str(text.as_str()),
-            Failure::NotText => writeln!(f, "lru_size: an argument is not valid UTF-8"),
-            Failure::Memory => writeln!(f, "lru_size: there is no memory"),
-            Failure::Line(line, expected, None) => {
-                writeln!(f, "line {line}: expected {}", expected.text())
+            Failure::Usage(text) => f.write_str(message_of(text.as_str())),
+            Failure::NotUtf8 => write!(f, "an argument is not valid UTF-8"),
+            Failure::OutOfMemory => write!(f, "out of memory"),
+            Failure::Line {
+                line,
+                expected,
+                found: None,
+            } => write!(f, "line {line}: expected {expected}"),
+            Failure::Line {
+                line,
+                expected,
+                found: Some(word),
+            } => write!(f, "line {line}: expected {expected}, found {word:?}"),
+            Failure::TwoCharges { first, second } => {
+                write!(f, "lines {first} and {second}: one key with two charges")
             }
-            Failure::Line(line, expected, Some(word)) => {
-                writeln!(f, "line {line}: expected {}, not {word:?}", expected.text())
+            Failure::Overflow { line } => write!(
+                f,
+                "line {line}: the charges of the keys add up to more than {}",
+                u64::MAX
+            ),
+            Failure::SampleOverflow => write!(
+                f,
+                "the charges of the sampled keys add up to more than {}",
+                u64::MAX
+            ),
+            Failure::Mismatch { line } => {
+                write!(f, "line {line}: the replay contradicts the curve")
             }
-            Failure::TwoCharges(key, first, second) => {
-                writeln!(
-                    f,
-                    "lines {first} and {second}: two charges of the key {key:?}"
-                )
-            }
-            Failure::Overflow(line) => {
-                writeln!(
-                    f,
-                    "line {line}: the charges of the keys pass 18446744073709551615"
-                )
-            }
-            Failure::SampleOverflow => {
-                writeln!(
-                    f,
-                    "the charges of the sampled keys pass 18446744073709551615"
-                )
-            }
-            Failure::Differs(line) => {
-                writeln!(f, "line {line}: the replay and the reuse weight differ")
-            }
-            Failure::Read(error) => writeln!(f, "lru_size: cannot read standard input: {error}"),
-            Failure::Write(error) => writeln!(f, "lru_size: cannot write standard output: {error}"),
-            Failure::File(path, error) => writeln!(f, "lru_size: cannot write {path:?}: {error}"),
+            Failure::Read(error) => write!(f, "cannot read standard input: {error}"),
+            Failure::Write(error) => write!(f, "cannot write standard output: {error}"),
+            Failure::File { path, error } => write!(f, "cannot write {path:?}: {error}"),
         }
     }
+}
+
+// The message of the arguments' parser, which begins with `error: ` and ends with a newline.
+fn message_of(text: &str) -> &str {
+    let text = text.trim_end();
+    text.strip_prefix("error: ").unwrap_or(text)
+}
+
+// A refusal counts the uses of the trace from 0, and there is one on each line.
+fn line_of(place: usize) -> u64 {
+    (place as u64).saturating_add(1)
 }
 
 impl From<Refusal> for Failure {
     fn from(refusal: Refusal) -> Failure {
         match refusal {
-            Refusal::Memory => Failure::Memory,
-            Refusal::Overflow(place) => Failure::Overflow((place as u64).saturating_add(1)),
-            // Never met: two charges of one key are refused as their lines are read.
-            Refusal::TwoCharges(_, second) => {
-                Failure::Line((second as u64).saturating_add(1), Expected::Charge, None)
-            }
+            Refusal::Memory => Failure::OutOfMemory,
+            Refusal::Overflow(place) => Failure::Overflow {
+                line: line_of(place),
+            },
+            Refusal::TwoCharges(first, second) => Failure::TwoCharges {
+                first: line_of(first),
+                second: line_of(second),
+            },
         }
     }
 }
 
 impl From<AllocError> for Failure {
     fn from(_: AllocError) -> Failure {
-        Failure::Memory
+        Failure::OutOfMemory
     }
 }
 
 impl<T: Drop> From<AllocFailed<T>> for Failure {
     fn from(_: AllocFailed<T>) -> Failure {
-        Failure::Memory
+        Failure::OutOfMemory
     }
 }
 
 impl From<io::Error> for Failure {
     fn from(error: io::Error) -> Failure {
         match error.kind() {
-            ErrorKind::OutOfMemory => Failure::Memory,
+            ErrorKind::OutOfMemory => Failure::OutOfMemory,
             _ => Failure::Write(error),
         }
     }

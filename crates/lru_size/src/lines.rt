@@ -1,5 +1,4 @@
-//! The lines of the input, read one at a time as uses.
-//! A line takes as much memory as the longest one so far.
+//! The lines of a trace.
 ghost use Rattle.std.specs.Prelude.{◌<◌};
 
 use crate::failure::{Expected, Failure};
@@ -11,12 +10,14 @@ use std::io::BufRead;
 pub struct Use<'a> {
     /// The key.
     pub key: &'a str,
-    /// Its charge.
+    /// The charge of the key, at least 1.
     pub charge: u64,
     ghost charged: { 0 < charge },
 }
 
-/// A reader of uses, a line each.
+/// A reader of a trace, one line at a time.
+///
+/// It takes as much memory as the longest line so far.
 #[derive(Drop)]
 pub struct Lines<I> {
     alloc: Global,
@@ -26,7 +27,7 @@ pub struct Lines<I> {
 }
 
 impl<I: BufRead> Lines<I> {
-    /// The lines of an input. Reads nothing yet.
+    /// Creates a reader of `input`, before its first line.
     pub fn new(alloc: Global, input: I) -> Lines<I> {
         Lines {
             alloc,
@@ -36,12 +37,16 @@ impl<I: BufRead> Lines<I> {
         }
     }
 
-    /// The number of the line that was read last, from 1; 0 where none was.
+    /// Returns the number of the current line. The first line has the number 1.
     pub fn number(&self) -> u64 {
         self.number
     }
 
-    /// Reads the next line, and says whether there is one. `Read` or `Memory` where that fails.
+    /// Reads the next line, which becomes the current one. Returns `false` at the end of the input.
+    ///
+    /// # Errors
+    ///
+    /// `Read` if the input cannot be read, and `OutOfMemory` if memory runs out.
     pub fn advance(&mut self) -> Result<bool, Failure> {
         self.line.clear();
         match self.input.read_until(b'\n', &mut self.line) {
@@ -50,48 +55,60 @@ impl<I: BufRead> Lines<I> {
                 self.number = self.number.saturating_add(1);
                 Ok(true)
             }
-            Err(error) => Err(Failure::of_reading(&error)),
+            Err(error) => Err(Failure::from_read_error(&error)),
         }
     }
 
-    /// The use on the line that was read last. `Line` where it is none.
-    pub fn used(&self) -> Result<Use<'_>, Failure> {
+    /// Parses the current line: a key, and its charge unless that is 1.
+    ///
+    /// # Errors
+    ///
+    /// `Line` if the line is not a use, and `OutOfMemory` if memory runs out.
+    pub fn parse(&self) -> Result<Use<'_>, Failure> {
         let Ok(text) = str::from_utf8(&self.line) else {
-            return Err(self.wrong(Expected::Text, None));
+            return Err(self.error(Expected::Utf8, None));
         };
         let mut words = text.split_ascii_whitespace();
         let Some(key) = words.next() else {
-            return Err(self.wrong(Expected::Use, None));
+            return Err(self.error(Expected::Use, None));
         };
         let charge = match words.next() {
-            Some(word) => self.charge(word)?,
+            Some(word) => self.parse_charge(word)?,
             None => 1,
         };
         if let Some(word) = words.next() {
-            return Err(self.wrong(Expected::End, Some(word)));
+            return Err(self.error(Expected::End, Some(word)));
         }
         if charge == 0 {
-            return Err(self.wrong(Expected::Charge, Some("0")));
+            return Err(self.error(Expected::Charge, Some("0")));
         }
         Ok(Use { key, charge })
     }
 
-    // The charge that a word writes. A sign is no digit, though `parse` takes one.
-    fn charge(&self, word: &str) -> Result<u64, Failure> {
+    // `str::parse` accepts a leading `+`, which a charge may not have.
+    fn parse_charge(&self, word: &str) -> Result<u64, Failure> {
         match word.parse() {
             Ok(charge) if !word.starts_with('+') => Ok(charge),
-            _ => Err(self.wrong(Expected::Charge, Some(word))),
+            _ => Err(self.error(Expected::Charge, Some(word))),
         }
     }
 
-    // The failure of the line, in which this word stands where something else was expected.
-    fn wrong(&self, expected: Expected, found: Option<&str>) -> Failure {
+    // The error that the current line has `found` where something else was expected.
+    fn error(&self, expected: Expected, found: Option<&str>) -> Failure {
         let Some(found) = found else {
-            return Failure::Line(self.number, expected, None);
+            return Failure::Line {
+                line: self.number,
+                expected,
+                found: None,
+            };
         };
         match String::from_str(self.alloc, found) {
-            Ok(found) => Failure::Line(self.number, expected, Some(found)),
-            Err(_) => Failure::Memory,
+            Ok(found) => Failure::Line {
+                line: self.number,
+                expected,
+                found: Some(found),
+            },
+            Err(_) => Failure::OutOfMemory,
         }
     }
 }

@@ -1,16 +1,18 @@
-//! Sizes a cache: reads a trace of uses, a line each, and prints how many of them hit at each
-//! capacity. All but the words and the streams of the system stands in `program`.
+//! Prints how many uses of a trace hit a cache, at any capacity of the cache.
+//!
+//! The trace is read from standard input, and the arguments are those of `options`. Everything but
+//! the access to the process is done by `program`, so that tests run it in memory.
 #![tactic(auto)]
 
-mod curve_file;
+mod csv;
 mod failure;
+mod hit_curve;
 mod lines;
 mod options;
-mod picture;
+mod plot;
 mod program;
 mod progress;
 mod scale;
-mod sizes;
 mod table;
 mod trace;
 
@@ -23,24 +25,24 @@ use std::process::ExitCode;
 
 fn main(rt: HostRuntime) -> ExitCode {
     let alloc = rt.alloc();
-    let streams = BufReader::new(alloc, rt.reader()).and_then(|input| Ok((
+    let buffers = BufReader::new(alloc, rt.reader()).and_then(|input| Ok((
         input,
         BufWriter::new(alloc, rt.stdout())?,
     )));
-    let status = match (words::after_name(&rt), streams) {
-        (Ok(words), Ok((input, mut out))) => {
-            let mut err = rt.stderr();
-            let is_watched = err.as_fd().is_terminal();
+    let mut err = rt.stderr();
+    let status = match (words::after_name(&rt), buffers) {
+        (Ok(args), Ok((input, mut out))) => {
+            let err_is_terminal = err.as_fd().is_terminal();
             let streams = Streams {
                 input,
                 out: &mut out,
                 err: &mut err,
-                is_watched,
+                err_is_terminal,
             };
-            program(alloc, &rt, &words, streams)
+            program(alloc, &rt, &args, streams)
         }
-        (Err(error), _) => Failure::of_words(&error).report(&mut rt.stderr()),
-        (_, Err(error)) => Failure::of_reading(&error).report(&mut rt.stderr()),
+        (Err(error), _) => Failure::from_args_error(&error).report(&mut err),
+        (_, Err(error)) => Failure::from_read_error(&error).report(&mut err),
     };
     ExitCode::from(status)
 }

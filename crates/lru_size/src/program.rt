@@ -1,13 +1,13 @@
-//! What the program does with its words and its input.
-//! It reads and writes what is handed in, so that tests run it over memory.
-use crate::curve_file::write_curve;
+//! The program, over streams and files that the caller provides.
+
+use crate::csv::write_csv;
 use crate::failure::Failure;
+use crate::hit_curve::HitCurve;
 use crate::lines::Lines;
-use crate::options::Options;
-use crate::picture::Picture;
+use crate::options::{Options, Request};
+use crate::plot::Plot;
 use crate::progress::Progress;
-use crate::sizes::Sizes;
-use crate::table;
+use crate::table::write_table;
 use crate::trace::Trace;
 use lru_sizing::curve::Curve;
 use lru_sizing::estimate::{Estimate, Sample};
@@ -18,49 +18,44 @@ use std::alloc::Global;
 use std::fs::{self, File, Files};
 use std::io::{BufRead, Write};
 
-/// What the program reads and writes beside files.
+/// The streams of a run.
 #[derive(Drop)]
 pub struct Streams<'a, I, O, E> {
     /// The trace.
     pub input: I,
-    /// The table.
+    /// Where the results go.
     pub out: &'a mut O,
-    /// Why it failed, and how far it is.
+    /// Where error messages go.
     pub err: &'a mut E,
-    /// Whether somebody watches `err`, so that how far it is should be told there.
-    pub is_watched: bool,
+    /// Whether `err` is a terminal. If it is, it also shows how many lines have been read.
+    pub err_is_terminal: bool,
 }
 
-/// Runs the program on the words after its name and answers the status to end with.
+/// Runs the program with the arguments after its name, and returns its exit status.
 ///
-/// The trace is read to its end; then the table and the knees go to `out`, and the picture and the
-/// numbers of the curve to the files that the words name: status 0. Words that are not the
-/// program's, a line that is no use and a key with two charges, of which both lines are named, end
-/// with status 2 and say so on `err`. Where a read or a write fails, memory is refused, the charges
-/// of the keys pass the end of their sum, or a replay differs, the status is 1.
+/// The trace is read to its end. The table then goes to `out`, and the plot and the CSV file go
+/// where the arguments say.
+///
+/// The exit status is 0 on success. It is 2 if the arguments are invalid, if a line of the trace is
+/// not a use, or if a key has two charges. It is 1 if reading or writing fails, if memory runs out,
+/// if the charges of the keys add up to more than `u64::MAX`, or if a replay contradicts the curve.
+/// On failure, a message that starts with the program's name goes to `err`.
 pub fn program<F: Files<File = File>, I: BufRead + Drop, O: Write, E: Write>(
     alloc: Global,
     files: &F,
-    words: &[String],
+    args: &[String],
     streams: Streams<'_, I, O, E>,
 ) -> u8 {
     let Streams {
         input,
         out,
         err,
-        is_watched,
+        err_is_terminal,
     } = streams;
-    let mut progress = Progress::new(err, is_watched);
-    let ended = run(alloc, files, words, input, out, &mut progress);
+    let mut progress = Progress::new(err, err_is_terminal);
+    let ended = run(alloc, files, args, input, out, &mut progress);
     match ended {
         Ok(()) => 0,
-        Err(Failure::Help(text)) => match out
-            .write_all(text.as_bytes())
-            .and_then(|()| out.flush())
-        {
-            Ok(()) => 0,
-            Err(error) => Failure::from(error).report(err),
-        },
         Err(failure) => failure.report(err),
     }
 }
@@ -68,96 +63,107 @@ pub fn program<F: Files<File = File>, I: BufRead + Drop, O: Write, E: Write>(
 fn run<F: Files<File = File>, I: BufRead + Drop, O: Write, E: Write>(
     alloc: Global,
     files: &F,
-    words: &[String],
+    args: &[String],
     input: I,
     out: &mut O,
     progress: &mut Progress<'_, E>,
 ) -> Result<(), Failure> {
-    let options = Options::of_words(alloc, words)?;
-    let sample = Sample::one_in(options.sample.unwrap_or(1));
-    let trace = Trace::read(alloc, sample, &mut Lines::new(alloc, input), progress)?;
-    writeln!(out, "{} uses of {} keys", trace.lines, trace.keys())?;
-    let sizes = match options.sample {
-        Some(_) => estimated(alloc, sample, &trace)?,
-        None => exact(alloc, &trace, options.check, out)?,
-    };
-    let rows = table::rows(alloc, &sizes, &options.capacities)?;
-    table::print(&sizes, &rows, out)?;
+    match Request::parse(alloc, args)? {
+        Request::Help(text) => out.write_all(text.as_bytes())?,
+        Request::Size(options) => {
+            let sample = Sample::one_in(options.sample.unwrap_or(1));
+            let trace = Trace::read(alloc, sample, &mut Lines::new(alloc, input), progress)?;
+            let curve = size(alloc, &options, &trace, out)?;
+            write_table(alloc, &curve, &options.capacities, out)?;
+            out.flush()?;
+            write_files(alloc, files, &options, &curve, out)?;
+        }
+    }
     out.flush()?;
-    write_files(alloc, files, &options, &sizes, out)
+    Ok(())
 }
 
-// The curve that a sample of the keys tells.
-fn estimated(alloc: Global, sample: Sample, trace: &Trace) -> Result<Sizes, Failure> {
-    match Estimate::new(alloc, sample, &trace.uses, trace.lines) {
-        Ok(estimate) => Ok(Sizes::Estimated(estimate)),
-        // Its place is one among the sampled uses, and tells no line.
+// Computes the curve, after the lines about the trace have gone to `out`.
+fn size<O: Write>(
+    alloc: Global,
+    options: &Options<'_>,
+    trace: &Trace,
+    out: &mut O,
+) -> Result<HitCurve, Failure> {
+    if options.sample.is_some() {
+        writeln!(
+            out,
+            "{} uses, {} keys in the sample",
+            trace.total_uses,
+            trace.keys()
+        )?;
+        return estimate(alloc, trace);
+    }
+    writeln!(out, "{} uses of {} keys", trace.total_uses, trace.keys())?;
+    let weights = reuse_weights(alloc, &trace.uses)?;
+    if let Some(capacity) = options.check {
+        check(alloc, trace, &weights, capacity)?;
+        writeln!(
+            out,
+            "{} uses replayed at capacity {capacity}: 0 differences",
+            trace.total_uses
+        )?;
+    }
+    Ok(HitCurve::Exact(Curve::new(alloc, &trace.uses, &weights)?))
+}
+
+// Estimates the curve from the sampled uses.
+fn estimate(alloc: Global, trace: &Trace) -> Result<HitCurve, Failure> {
+    match Estimate::new(alloc, trace.sample, &trace.uses, trace.total_uses) {
+        Ok(estimate) => Ok(HitCurve::Estimated(estimate)),
+        // The place is one among the sampled uses, and not a line.
         Err(Refusal::Overflow(_)) => Err(Failure::SampleOverflow),
         Err(refusal) => Err(Failure::from(refusal)),
     }
 }
 
-// The curve of all keys. Where a capacity is to be checked, the trace is replayed at it, and how
-// it went goes to `out`.
-fn exact<O: Write>(
-    alloc: Global,
-    trace: &Trace,
-    check: Option<u64>,
-    out: &mut O,
-) -> Result<Sizes, Failure> {
-    let weights = reuse_weights(alloc, &trace.uses)?;
-    if let Some(capacity) = check {
-        compare(alloc, trace, &weights, capacity, out)?;
-    }
-    let curve = Curve::new(alloc, &trace.uses, &weights)?;
-    Ok(Sizes::Exact(curve))
-}
-
-// Replays a trace at a capacity, and compares each answer with the reuse weight of the use.
-fn compare<O: Write>(
+// Replays the trace at a capacity. `Mismatch` if a use does not hit or miss as its reuse weight
+// says.
+fn check(
     alloc: Global,
     trace: &Trace,
     weights: &[Option<u64>],
     capacity: u64,
-    out: &mut O,
 ) -> Result<(), Failure> {
     let hits = replay(alloc, &trace.uses, capacity)?;
     for (place, (hit, weight)) in hits.iter().zip(weights).enumerate() {
         let fits = matches!(weight, Some(weight) if *weight <= capacity);
         if *hit != fits {
-            return Err(Failure::Differs((place as u64).saturating_add(1)));
+            return Err(Failure::Mismatch {
+                line: (place as u64).saturating_add(1),
+            });
         }
     }
-    writeln!(
-        out,
-        "0 differences between {} uses replayed at capacity {capacity} and their reuse weights",
-        hits.len()
-    )?;
     Ok(())
 }
 
-// Writes the files that the words name.
+// Writes the files that the options name.
 fn write_files<F: Files<File = File>, O: Write>(
     alloc: Global,
     files: &F,
     options: &Options<'_>,
-    sizes: &Sizes,
+    curve: &HitCurve,
     out: &mut O,
 ) -> Result<(), Failure> {
     if let Some(path) = options.svg {
-        let mut picture = Vec::new(alloc);
-        Picture::new(sizes).write(&mut picture)?;
-        write_file(alloc, files, path, &picture, out)?;
+        let mut svg = Vec::new(alloc);
+        Plot::new(curve).write_svg(&mut svg)?;
+        write_file(alloc, files, path, &svg, out)?;
     }
     if let Some(path) = options.csv {
-        let mut numbers = Vec::new(alloc);
-        write_curve(alloc, sizes, &mut numbers)?;
-        write_file(alloc, files, path, &numbers, out)?;
+        let mut csv = Vec::new(alloc);
+        write_csv(alloc, curve, &mut csv)?;
+        write_file(alloc, files, path, &csv, out)?;
     }
     Ok(())
 }
 
-// Writes a file; `out` in its place where its path is `-`.
+// Writes a file, or `out` if the path is `-`.
 fn write_file<F: Files<File = File>, O: Write>(
     alloc: Global,
     files: &F,
@@ -167,12 +173,11 @@ fn write_file<F: Files<File = File>, O: Write>(
 ) -> Result<(), Failure> {
     if path == "-" {
         out.write_all(bytes)?;
-        out.flush()?;
         return Ok(());
     }
     match fs::write(files, path, bytes) {
         Ok(()) => Ok(()),
-        Err(error) => Err(Failure::of_file(alloc, path, error)),
+        Err(error) => Err(Failure::from_file_error(alloc, path, error)),
     }
 }
 

@@ -1,4 +1,4 @@
-//! The trace that the lines are: each key as a number, in the order of first uses.
+//! The trace, with the keys as numbers.
 ghost use Rattle.std.specs.Prelude.{◌<◌};
 ghost use Rattle.std.specs.List.{AllByRecursion};
 ghost use Rattle.std.proofs.Props.{props};
@@ -11,32 +11,36 @@ use std::alloc::Global;
 use std::collections::HashMap;
 use std::io::{BufRead, Write};
 
-/// The uses of the sampled keys, and how many uses there are in all.
+/// A trace, or the part of it that is about the keys of a sample.
 #[derive(Drop)]
 pub struct Trace {
     alloc: Global,
-    sample: Sample,
-    keys: HashMap<String, Known>,
-    /// The uses, each as the number of its key and its charge.
+    /// Which keys are sampled.
+    pub sample: Sample,
+    keys: HashMap<String, FirstUse>,
+    /// The uses of the sampled keys, in order. Each is the number of the key and its charge, which
+    /// is at least 1. Keys are numbered from 0 in the order of their first uses.
     pub uses: Vec<(u64, u64)>,
-    /// How many lines there are.
-    pub lines: u64,
+    /// The number of uses of all keys, whether sampled or not.
+    pub total_uses: u64,
     ghost charged: { AllByRecursion (λ u. 0 < u.1) uses.items } by { Prim.hlevel props },
 }
 
-// What is known of a key.
+// The first use of a key: the number that the key gets, its charge and the line.
 #[derive(Clone, Copy)]
-struct Known {
+struct FirstUse {
     number: u64,
     charge: u64,
     line: u64,
 }
 
 impl Trace {
-    /// Reads a trace to its end. `err` is told how far it is, where somebody watches it.
+    /// Reads a trace to its end, and keeps the uses of the sampled keys.
     ///
-    /// `Line` where a line is no use, `TwoCharges` where a sampled key has a second charge, and
-    /// `Read` or `Memory` where that fails.
+    /// # Errors
+    ///
+    /// `Line` if a line is not a use, `TwoCharges` if a sampled key has two charges, `Read` if
+    /// the input cannot be read, and `OutOfMemory` if memory runs out.
     pub fn read<I: BufRead, E: Write>(
         alloc: Global,
         sample: Sample,
@@ -48,26 +52,27 @@ impl Trace {
             sample,
             keys: HashMap::new(alloc),
             uses: Vec::new(alloc),
-            lines: 0,
+            total_uses: 0,
         };
+        // No input has more lines.
         for _ in 0..u64::MAX {
             if !lines.advance()? {
                 break;
             }
-            trace.add(lines.number(), lines.used()?)?;
-            progress.show(trace.lines);
+            trace.add(lines.number(), lines.parse()?)?;
+            progress.update(trace.total_uses);
         }
         Ok(trace)
     }
 
-    /// How many keys were sampled.
+    /// Returns the number of sampled keys.
     pub fn keys(&self) -> usize {
         self.keys.len()
     }
 
-    // The use on a line.
+    // Adds the use on a line.
     fn add(&mut self, line: u64, used: Use<'_>) -> Result<(), Failure> {
-        self.lines = line;
+        self.total_uses = line;
         if !self.sample.takes(&used.key) {
             return Ok(());
         }
@@ -76,23 +81,25 @@ impl Trace {
         Ok(())
     }
 
-    // The number of a key, which is made where it is new.
+    // The number of the key that is used on a line.
     fn number(&mut self, line: u64, used: Use<'_>) -> Result<u64, Failure> {
-        if let Some(known) = self.keys.get(used.key) {
-            if known.charge != used.charge {
-                let key = String::from_str(self.alloc, used.key)?;
-                return Err(Failure::TwoCharges(key, known.line, line));
+        if let Some(first) = self.keys.get(used.key) {
+            if first.charge != used.charge {
+                return Err(Failure::TwoCharges {
+                    first: first.line,
+                    second: line,
+                });
             }
-            return Ok(known.number);
+            return Ok(first.number);
         }
         let number = self.keys.len() as u64;
-        let known = Known {
+        let first = FirstUse {
             number,
             charge: used.charge,
             line,
         };
         self.keys
-            .insert(String::from_str(self.alloc, used.key)?, known)?;
+            .insert(String::from_str(self.alloc, used.key)?, first)?;
         Ok(number)
     }
 }

@@ -1,198 +1,290 @@
-//! The program over memory: what it writes where, and its status.
+//! Runs of the program in memory.
 
 use super::{Streams, program};
 use lru_support::words::words;
 use lru_support::writer::Limited;
 use std::alloc::Global;
-use std::env;
 use std::fs::{self, File, Files};
+use std::io::{BufRead, BufReader, ErrorKind, Read};
 use std::rt::Env;
 use std::test::Fail;
+use std::{env, io};
 
 // The trace of docs/PROMISES.md.
-const TRACE: &str = "a 2\nb 3\na 2\nc 2\nb 3\nd 7\nc 2\n";
+const TRACE: &[u8] = b"a 2\nb 3\na 2\nc 2\nb 3\nd 7\nc 2\n";
 
-// What a run wrote, and how it ended.
+const KNEES: &str = "\
+greatest hit ratio 42.85% from capacity 12 on
+50% of it from capacity 7 on
+80% of it from capacity 12 on
+90% of it from capacity 12 on
+95% of it from capacity 12 on
+";
+
+const UNREAD: &str = "lru_size: cannot read standard input: broken pipe\n";
+
+const UNWRITTEN: &str = "lru_size: cannot write standard output: broken pipe\n";
+
+// More bytes than any test writes.
+const ROOM: usize = 99_999;
+
+// A reader of some bytes that fails after the last.
 #[derive(Drop)]
-struct Ended {
-    status: u8,
-    out: String,
-    err: String,
+struct Broken<'a>(&'a [u8]);
+
+impl<'a> Read for Broken<'a> {
+    fn read(&mut self, buf: &mut [u8]) -> io::Result<usize> {
+        if self.0.is_empty() {
+            return Err(io::Error::from(ErrorKind::BrokenPipe));
+        }
+        self.0.read(buf)
+    }
 }
 
-fn run<F: Files<File = File>>(
+// The exit status of a run, and what it wrote.
+#[derive(Drop)]
+struct Output {
+    status: u8,
+    out: Limited,
+    err: Limited,
+}
+
+impl Output {
+    fn out(&self) -> Result<&str, Fail> {
+        Ok(str::from_utf8(self.out.bytes())?)
+    }
+
+    fn err(&self) -> Result<&str, Fail> {
+        Ok(str::from_utf8(self.err.bytes())?)
+    }
+}
+
+// Runs the program with a standard output that takes `room` bytes.
+fn run<F: Files<File = File>, I: BufRead + Drop>(
     alloc: Global,
     files: &F,
-    given: &[&str],
-    input: &str,
-    is_watched: bool,
-) -> Result<Ended, Fail> {
-    let (mut out, mut err) = (Vec::new(alloc), Vec::new(alloc));
+    args: &[&str],
+    input: I,
+    room: usize,
+) -> Result<Output, Fail> {
+    let (mut out, mut err) = (Limited::new(alloc, room), Limited::new(alloc, ROOM));
     let streams = Streams {
-        input: input.as_bytes(),
+        input,
         out: &mut out,
         err: &mut err,
-        is_watched,
+        err_is_terminal: false,
     };
-    let status = program(alloc, files, &words(alloc, given)?, streams);
-    Ok(Ended {
-        status,
-        out: String::from_str(alloc, str::from_utf8(&out)?)?,
-        err: String::from_str(alloc, str::from_utf8(&err)?)?,
-    })
+    let status = program(alloc, files, &words(alloc, args)?, streams);
+    Ok(Output { status, out, err })
 }
 
 #[test]
-fn prints_a_table_and_knees(rt: HostRuntime) -> Result<(), Fail> {
-    let ended = run(rt.alloc(), &rt, &["--capacities", "5,7"], TRACE, false)?;
-    assert_eq!(rt; ended.err.as_str(), "");
-    assert_eq!(rt; ended.status, 0);
-    let wanted = "7 uses of 4 keys\n\
+fn prints_the_given_capacities(rt: HostRuntime) -> Result<(), Fail> {
+    let output = run(rt.alloc(), &rt, &["--capacities", "5,7"], TRACE, ROOM)?;
+    assert_eq!(rt; output.err()?, "");
+    assert_eq!(rt; output.status, 0);
+    let table = "7 uses of 4 keys\n\
         \x20           capacity                 hits hit ratio          charge made\n\
         \x20                  5                    1    14.28%                   19\n\
-        \x20                  7                    2    28.57%                   16\n\
-        greatest hit ratio 42.85%, from capacity 12 on\n\
-        50 of 100 of it from capacity 7 on\n\
-        80 of 100 of it from capacity 12 on\n\
-        90 of 100 of it from capacity 12 on\n\
-        95 of 100 of it from capacity 12 on\n";
-    assert_eq!(rt; ended.out.as_str(), wanted);
+        \x20                  7                    2    28.57%                   16\n";
+    assert_eq!(rt; output.out()?.strip_prefix(table), Some(KNEES));
     Ok(())
 }
 
 #[test]
-fn spreads_capacities(rt: HostRuntime) -> Result<(), Fail> {
-    let ended = run(rt.alloc(), &rt, &[], TRACE, false)?;
-    assert_eq!(rt; ended.status, 0);
-    // A line for the trace, ten for the rows and their names, five for the knees.
-    assert_eq!(rt; ended.out.as_str().lines().count(), 17);
-    let none = run(rt.alloc(), &rt, &[], "", false)?;
-    assert_eq!(rt; none.status, 0);
-    assert!(rt; none.out.as_str().ends_with("no use hits at any capacity\n"));
+fn prints_ten_capacities_by_default(rt: HostRuntime) -> Result<(), Fail> {
+    let output = run(rt.alloc(), &rt, &[], TRACE, ROOM)?;
+    assert_eq!(rt; output.status, 0);
+    // A line about the trace, the header, ten rows and five lines of knees.
+    assert_eq!(rt; output.out()?.lines().count(), 17);
+    let empty: &[u8] = b"";
+    let output = run(rt.alloc(), &rt, &[], empty, ROOM)?;
+    assert_eq!(rt; output.status, 0);
+    assert!(rt; output.out()?.starts_with("0 uses of 0 keys\n"));
+    assert!(rt; output.out()?.ends_with("\nno use hits at any capacity\n"));
     Ok(())
 }
 
 #[test]
-fn replays_at_a_capacity(rt: HostRuntime) -> Result<(), Fail> {
-    let ended = run(rt.alloc(), &rt, &["--check", "7"], TRACE, false)?;
-    assert_eq!(rt; ended.status, 0);
-    let wanted = "0 differences between 7 uses replayed at capacity 7 and their reuse weights";
-    assert_eq!(rt; ended.out.as_str().lines().nth(1), Some(wanted));
+fn reads_lines_in_any_layout(rt: HostRuntime) -> Result<(), Fail> {
+    let input: &[u8] = b"a 2\r\n  b\t3 \na 2\nc  2\nb 3\nd 7\nc 2";
+    let output = run(rt.alloc(), &rt, &[], input, ROOM)?;
+    assert_eq!(rt; output.status, 0);
+    let usual = run(rt.alloc(), &rt, &[], TRACE, ROOM)?;
+    assert_eq!(rt; output.out()?, usual.out()?);
     Ok(())
 }
 
 #[test]
-fn samples_all_keys_in_one(rt: HostRuntime) -> Result<(), Fail> {
-    let exact = run(rt.alloc(), &rt, &[], TRACE, false)?;
-    let sampled = run(rt.alloc(), &rt, &["--sample", "1"], TRACE, false)?;
-    assert_eq!(rt; sampled.status, 0);
-    assert_eq!(rt; sampled.out.as_str(), exact.out.as_str());
+fn replays_the_trace(rt: HostRuntime) -> Result<(), Fail> {
+    let output = run(rt.alloc(), &rt, &["--check", "7"], TRACE, ROOM)?;
+    assert_eq!(rt; output.status, 0);
+    assert_eq!(rt;
+        output.out()?.lines().nth(1),
+        Some("7 uses replayed at capacity 7: 0 differences")
+    );
     Ok(())
 }
 
 #[test]
-fn names_a_bad_line(rt: HostRuntime) -> Result<(), Fail> {
-    let cases = [
-        ("a\n\nb\n", "line 2: expected KEY [CHARGE]\n"),
+fn estimates_from_all_keys(rt: HostRuntime) -> Result<(), Fail> {
+    let exact = run(rt.alloc(), &rt, &[], TRACE, ROOM)?;
+    let estimate = run(rt.alloc(), &rt, &["--sample", "1"], TRACE, ROOM)?;
+    assert_eq!(rt; estimate.status, 0);
+    let table = exact.out()?.strip_prefix("7 uses of 4 keys\n");
+    assert!(rt; table.is_some());
+    assert_eq!(rt;
+        estimate
+            .out()?
+            .strip_prefix("7 uses, 4 keys in the sample\n"),
+        table
+    );
+    Ok(())
+}
+
+#[test]
+fn rejects_invalid_lines(rt: HostRuntime) -> Result<(), Fail> {
+    let charge = "expected a charge from 1 to 18446744073709551615, found";
+    let alloc = rt.alloc();
+    let cases: [(&[u8], String); 8] = [
         (
-            "a 1\nb x\n",
-            "line 2: expected a charge from 1 to 18446744073709551615, not \"x\"\n",
+            b"a\n\nb\n",
+            format!(in alloc; "line 2: expected KEY [CHARGE]")?,
+        ),
+        (b"a\n\xff\n", format!(in alloc; "line 2: expected UTF-8")?),
+        (b"a 1\nb x\n", format!(in alloc; "line 2: {charge} \"x\"")?),
+        (b"a 0\n", format!(in alloc; "line 1: {charge} \"0\"")?),
+        (b"a +3\n", format!(in alloc; "line 1: {charge} \"+3\"")?),
+        (
+            b"a 18446744073709551616\n",
+            format!(in alloc; "line 1: {charge} \"18446744073709551616\"")?,
         ),
         (
-            "a 0\n",
-            "line 1: expected a charge from 1 to 18446744073709551615, not \"0\"\n",
+            b"a 1 2\n",
+            format!(in alloc; "line 1: expected nothing after the charge, found \"2\"")?,
         ),
         (
-            "a +3\n",
-            "line 1: expected a charge from 1 to 18446744073709551615, not \"+3\"\n",
-        ),
-        (
-            "a 18446744073709551616\n",
-            "line 1: expected a charge from 1 to 18446744073709551615, not \"18446744073709551616\"\n",
-        ),
-        (
-            "a 1 2\n",
-            "line 1: expected nothing after the charge, not \"2\"\n",
-        ),
-        (
-            "a\nb\na 2\n",
-            "lines 1 and 3: two charges of the key \"a\"\n",
+            b"a\nb\na 2\n",
+            format!(in alloc; "lines 1 and 3: one key with two charges")?,
         ),
     ];
-    for (input, wanted) in cases {
-        let ended = run(rt.alloc(), &rt, &[], input, false)?;
-        assert_eq!(rt; ended.status, 2, "at {input:?}");
-        assert_eq!(rt; ended.err.as_str(), wanted, "at {input:?}");
-        assert_eq!(rt; ended.out.as_str(), "", "at {input:?}");
+    for (input, message) in &cases {
+        let output = run(alloc, &rt, &[], *input, ROOM)?;
+        assert_eq!(rt; output.status, 2, "at {message}");
+        let wanted = format!(in alloc; "lru_size: {message}\n")?;
+        assert_eq!(rt; output.err()?, wanted.as_str());
+        assert_eq!(rt; output.out()?, "", "at {message}");
     }
     Ok(())
 }
 
 #[test]
-fn names_the_line_where_a_sum_ends(rt: HostRuntime) -> Result<(), Fail> {
-    let input = "a 18446744073709551615\na 18446744073709551615\nb\n";
-    let ended = run(rt.alloc(), &rt, &[], input, false)?;
-    assert_eq!(rt; ended.status, 1);
-    let wanted = "line 3: the charges of the keys pass 18446744073709551615\n";
-    assert_eq!(rt; ended.err.as_str(), wanted);
+fn rejects_charges_that_overflow(rt: HostRuntime) -> Result<(), Fail> {
+    let input: &[u8] = b"a 18446744073709551615\na 18446744073709551615\nb\n";
+    let cases: [(&[&str], &str); 2] = [
+        (
+            &[],
+            "lru_size: line 3: the charges of the keys add up to more than 18446744073709551615\n",
+        ),
+        (
+            &["--sample", "1"],
+            "lru_size: the charges of the sampled keys add up to more than 18446744073709551615\n",
+        ),
+    ];
+    for (args, message) in cases {
+        let output = run(rt.alloc(), &rt, args, input, ROOM)?;
+        assert_eq!(rt; output.status, 1, "at {args:?}");
+        assert_eq!(rt; output.err()?, message);
+    }
     Ok(())
 }
 
 #[test]
-fn tells_its_usage(rt: HostRuntime) -> Result<(), Fail> {
-    let wrong: [&[&str]; 6] = [
+fn rejects_invalid_arguments(rt: HostRuntime) -> Result<(), Fail> {
+    let invalid: [&[&str]; 7] = [
         &["trace"],
+        &["--size"],
         &["--capacities", "many"],
         &["--check", "-1"],
         &["--sample", "0"],
         &["--svg"],
         &["--check", "1", "--sample", "2"],
     ];
-    for given in wrong {
-        let ended = run(rt.alloc(), &rt, given, TRACE, false)?;
-        assert_eq!(rt; ended.status, 2, "at {given:?}");
-        assert!(rt; ended.err.as_str().starts_with("error: "), "at {given:?}");
-        assert_eq!(rt; ended.out.as_str(), "", "at {given:?}");
+    for args in invalid {
+        let output = run(rt.alloc(), &rt, args, TRACE, ROOM)?;
+        assert_eq!(rt; output.status, 2, "at {args:?}");
+        assert_eq!(rt; output.out()?, "", "at {args:?}");
+        let err = output.err()?;
+        assert!(rt; err.starts_with("lru_size: "), "at {args:?}");
+        assert!(rt;
+            err.ends_with("\n\nFor more information, try '--help'.\n"),
+            "at {args:?}"
+        );
     }
-    let help = run(rt.alloc(), &rt, &["--help"], TRACE, false)?;
-    assert_eq!(rt; help.status, 0);
-    assert!(rt; help.out.as_str().contains("--capacities"));
     Ok(())
 }
 
 #[test]
-fn tells_when_nothing_can_be_written(rt: HostRuntime) -> Result<(), Fail> {
-    let alloc = rt.alloc();
-    let (mut out, mut err) = (Limited::new(alloc, 20), Vec::new(alloc));
-    let streams = Streams {
-        input: TRACE.as_bytes(),
-        out: &mut out,
-        err: &mut err,
-        is_watched: false,
-    };
-    assert_eq!(rt; program(alloc, &rt, &words(alloc, &[])?, streams), 1);
-    assert!(rt; str::from_utf8(&err)?.starts_with("lru_size: cannot write standard output: "));
-    let ended = run(alloc, &rt, &["--svg", "/no/such/folder/x"], TRACE, false)?;
-    assert_eq!(rt; ended.status, 1);
-    assert!(rt;
-        ended
-            .err
-            .as_str()
-            .starts_with("lru_size: cannot write \"/no/such/folder/x\": ")
-    );
+fn prints_its_help(rt: HostRuntime) -> Result<(), Fail> {
+    let output = run(rt.alloc(), &rt, &["--help"], TRACE, ROOM)?;
+    assert_eq!(rt; output.status, 0);
+    assert_eq!(rt; output.err()?, "");
+    assert!(rt; output.out()?.contains("\n\nUsage: lru_size [OPTIONS]\n\n"));
+    assert!(rt; output.out()?.contains("--capacities"));
     Ok(())
 }
 
-// The text of a file that a run writes.
+#[test]
+fn fails_if_the_input_cannot_be_read(rt: HostRuntime) -> Result<(), Fail> {
+    let input = BufReader::new(rt.alloc(), Broken(b"a 2\nb"))?;
+    let output = run(rt.alloc(), &rt, &[], input, ROOM)?;
+    assert_eq!(rt; output.status, 1);
+    assert_eq!(rt; output.err()?, UNREAD);
+    assert_eq!(rt; output.out()?, "");
+    Ok(())
+}
+
+#[test]
+fn fails_if_the_output_cannot_be_written(rt: HostRuntime) -> Result<(), Fail> {
+    let args = ["--capacities", "5", "--csv", "-"];
+    let whole = run(rt.alloc(), &rt, &args, TRACE, ROOM)?;
+    assert_eq!(rt; whole.status, 0);
+    for room in 0..whole.out()?.len() {
+        let output = run(rt.alloc(), &rt, &args, TRACE, room)?;
+        assert_eq!(rt; output.status, 1, "at {room} bytes");
+        assert_eq!(rt; output.err()?, UNWRITTEN, "at {room} bytes");
+        assert_eq!(rt;
+            Some(output.out.bytes()),
+            whole.out.bytes().get(..room),
+            "at {room} bytes"
+        );
+    }
+    Ok(())
+}
+
+#[test]
+fn fails_if_a_file_cannot_be_written(rt: HostRuntime) -> Result<(), Fail> {
+    let output = run(rt.alloc(), &rt, &["--svg", "/no/such/dir/x"], TRACE, ROOM)?;
+    assert_eq!(rt; output.status, 1);
+    assert!(rt;
+        output
+            .err()?
+            .starts_with("lru_size: cannot write \"/no/such/dir/x\": ")
+    );
+    assert!(rt; output.out()?.ends_with(KNEES));
+    Ok(())
+}
+
+// The content of the file that a run with this option writes.
 fn written<F: Files<File = File> + Env + AllocGlobal>(
     rt: &F,
-    word: &str,
+    option: &str,
     name: &str,
 ) -> Result<String, Fail> {
     let path = env::temp_dir(rt)?.join(rt.alloc(), name)?;
-    let ended = run(rt.alloc(), rt, &[word, path.as_str()], TRACE, false)?;
-    if ended.status != 0 {
-        return Err(Fail::from("the file is written"));
+    let output = run(rt.alloc(), rt, &[option, path.as_str()], TRACE, ROOM)?;
+    if output.status != 0 {
+        return Err(Fail::from("the file was not written"));
     }
     let text = fs::read_to_string(rt, path.as_path())?;
     fs::remove_file(rt, path.as_path())?;
@@ -200,19 +292,18 @@ fn written<F: Files<File = File> + Env + AllocGlobal>(
 }
 
 #[test]
-fn writes_a_picture_and_numbers(rt: HostRuntime) -> Result<(), Fail> {
-    let picture = written(&rt, "--svg", "lru_size_tests_picture")?;
-    assert!(rt; picture.as_str().starts_with("<svg "));
-    assert!(rt; picture.as_str().ends_with("</svg>\n"));
-    assert!(rt; picture.as_str().contains(">7: 28.57%</text>"));
-    let numbers = written(&rt, "--csv", "lru_size_tests_numbers")?;
+fn writes_files(rt: HostRuntime) -> Result<(), Fail> {
+    let svg = written(&rt, "--svg", "lru_size_tests.svg")?;
+    assert!(rt; svg.as_str().starts_with("<svg "));
+    assert!(rt; svg.as_str().contains(">7: 28.57%</text>"));
+    assert!(rt; svg.as_str().ends_with("</svg>\n"));
+    let csv = written(&rt, "--csv", "lru_size_tests.csv")?;
     assert!(rt;
-        numbers
-            .as_str()
+        csv.as_str()
             .starts_with("capacity,uses,hits,charge_made\n1,7,0,21\n")
     );
-    assert!(rt; numbers.as_str().ends_with("\n12,7,3,14\n"));
-    let both = run(rt.alloc(), &rt, &["--csv", "-"], TRACE, false)?;
-    assert!(rt; both.out.as_str().ends_with(numbers.as_str()));
+    assert!(rt; csv.as_str().ends_with("\n12,7,3,14\n"));
+    let output = run(rt.alloc(), &rt, &["--csv", "-"], TRACE, ROOM)?;
+    assert!(rt; output.out()?.ends_with(csv.as_str()));
     Ok(())
 }
