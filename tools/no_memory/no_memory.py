@@ -5,8 +5,8 @@ answer. Each of its scripts is run here with its first request refused, then wit
 no further request. A run passes if it prints what it prints with ample memory. A run that ends with status 1 and `refused 1`,
 after printing a beginning of that, met the refusal in a request of the script's own, and passes too. Anything else fails:
 another text, a fault, a run that does not end. The program `lru_rows` is run in the same way, with its rows and with its
-stress workload, of whose requests some are refused. Last, a word that names no script must get the usage line and status 2,
-and a run that cannot write must end with status 1.
+stress workload, of whose requests some are refused, and so is `lru_size`, on its own input; it says `out of memory`. Last, a
+word that names no script must get the usage line and status 2, and a run that cannot write must end with status 1.
 
 The file `expected` keeps the table of which calls were refused, by script and number of the request. A call that makes a
 request more or fewer changes the table, such as one that grows a table for which room was to be made; that is a failure.
@@ -32,6 +32,8 @@ HERE = pathlib.Path(__file__).resolve().parent
 EXPECTED = HERE / "expected"
 # which of two threads makes a request, and in which call, is up to the schedule
 UNTOLD = ["unsharded-two-threads"]
+# what a program says where a request of its own is refused, unless it says `refused 1`
+OWN = {"lru_size": "lru_size: out of memory\n"}
 # what refuse.c writes where it refuses
 MARK = b"this request is refused\n"
 
@@ -39,7 +41,7 @@ MARK = b"this request is refused\n"
 @dataclasses.dataclass
 class Tries:
     """What came of the runs of one program: the calls that were made again, by the request that was refused; how many runs
-    ended with `refused 1`; how many went on as if nothing was refused, as where a text does not shrink; and what failed."""
+    said so and ended; how many went on as if nothing was refused, as where a text does not shrink; and what failed."""
 
     name: str
     calls: list = dataclasses.field(default_factory=list)
@@ -52,13 +54,15 @@ class Tries:
         return len(self.calls) + self.own + self.unmet + len(self.failed)
 
 
-def built(name, word):
-    """The program, as `rt ci` or `rt run` left it; where it is older than what it may be made of, `rt run` makes it."""
+def built(name, *words, path=os.devnull):
+    """The program, as `rt ci` or `rt run` left it; where it is older than what it may be made of, `rt run` makes it, with these
+    words and this input."""
     folder = pathlib.Path("crates") / name
     program = folder / "out" / name
     sources = max(it.stat().st_mtime for part in ("src", "specs", "proofs") for it in pathlib.Path("crates").glob(f"*/{part}/**/*"))
     if not program.exists() or program.stat().st_mtime < sources:
-        ran = subprocess.run(["rt", "run", "--", word], cwd=folder, capture_output=True, text=True)
+        with open(path, encoding="utf-8") as given:
+            ran = subprocess.run(["rt", "run", "--", *words], cwd=folder, stdin=given, capture_output=True, text=True)
         if ran.returncode or not program.exists():
             sys.exit(f"{name} was not built:\n{ran.stdout}{ran.stderr}")
     return str(program.absolute())
@@ -74,25 +78,27 @@ def library(folder):
     return str(made)
 
 
-def run(program, words, refuse="", number=0):
-    """How the program ended, with this request refused, if any: its status, and what it wrote on its two streams."""
+def run(program, words, refuse="", number=0, path=os.devnull):
+    """How the program ended on an input, with this request refused, if any: its status, and what it wrote on its two streams."""
     env = {"LD_PRELOAD": refuse, "REFUSED_REQUEST": str(number)} if number else {}
     try:
-        ran = subprocess.run([program, *words], env=env, capture_output=True, stdin=subprocess.DEVNULL, timeout=SECONDS)
+        with open(path, "rb") as given:
+            ran = subprocess.run([program, *words], env=env, capture_output=True, stdin=given, timeout=SECONDS)
     except subprocess.TimeoutExpired as late:
         return "no end", late.stdout or b"", MARK
     return ran.returncode, ran.stdout, ran.stderr
 
 
-def try_each(program, words, refuse, numbers=None):
+def try_each(program, words, refuse, numbers=None, path=os.devnull):
     """Refuses each request of the program in turn, or those with these numbers, until a run makes no such request."""
-    tries = Tries(" ".join([pathlib.Path(program).name, *words]))
-    status, ample, said = run(program, words)
+    name = pathlib.Path(program).name
+    tries = Tries(" ".join([name, *words]))
+    status, ample, said = run(program, words, path=path)
     if status or said or not ample:
         tries.failed.append(f"with ample memory: status {status}, {said!r}")
         return tries
     for number in numbers or itertools.count(1):
-        status, out, said = run(program, words, refuse, number)
+        status, out, said = run(program, words, refuse, number, path)
         if MARK not in said:
             return tries
         said = said.replace(MARK, b"").decode()
@@ -101,7 +107,7 @@ def try_each(program, words, refuse, numbers=None):
             tries.calls.append((number, again[0]))
         elif status == 0 and out == ample and not said:
             tries.unmet += 1
-        elif status == 1 and ample.startswith(out) and said == "refused 1\n":
+        elif status == 1 and ample.startswith(out) and said == OWN.get(name, "refused 1\n"):
             tries.own += 1
         else:
             tries.failed.append(f"request {number}: status {status}, {said!r}, and printed\n{out.decode()}")
@@ -156,20 +162,23 @@ def differences(found):
 
 
 def main():
-    words = argparse.ArgumentParser(description="Refuses each request for memory of the scripts and the rows in turn.")
+    words = argparse.ArgumentParser(description="Refuses each request for memory of the scripts, the rows and `lru_size` in turn.")
     words.add_argument("--jobs", type=int, default=os.cpu_count(), help="how many programs run at once")
     words.add_argument("--write", action="store_true", help="keep the table of the calls that were refused")
     asked = words.parse_args()
     os.chdir(HERE.parent.parent)
     scripted, rows = built("lru_refusals", "state-hits"), built("lru_rows", "rows")
+    # the words and the input with which the gate runs it
+    sizing, trace = pathlib.Path("crates/lru_size/args").read_text(encoding="utf-8").split(), "crates/lru_size/stdin"
+    size = built("lru_size", *sizing, path=trace)
     _, out, _ = run(scripted, [])
     scripts = re.findall(r"^script (.*)$", out.decode(), re.MULTILINE)
     # the stress workload makes some 400,000 requests: the first ones are refused, and then some far between
     some = [*range(1, 21), *(100 * 2**power for power in range(13))]
-    runs = [(rows, ["stress", "1"], some), (rows, ["rows"], None), *((scripted, [name], None) for name in scripts)]
+    runs = [(rows, ["stress", "1"], some), (rows, ["rows"]), (size, sizing, None, trace), *((scripted, [name]) for name in scripts)]
     with tempfile.TemporaryDirectory() as folder, concurrent.futures.ThreadPoolExecutor(asked.jobs) as pool:
         refuse = library(folder)
-        every = list(pool.map(lambda it: try_each(it[0], it[1], refuse, it[2]), runs))
+        every = list(pool.map(lambda it: try_each(it[0], it[1], refuse, *it[2:]), runs))
     for tries in every:
         for it in tries.failed:
             print(f"{tries.name}: {it}")
@@ -189,8 +198,8 @@ def main():
     count = lambda field: sum(getattr(it, field) for it in every)
     calls, failed = sum(len(it.calls) for it in every), sum(len(it.failed) for it in every)
     print(
-        f"no memory: {len(scripts)} scripts, the rows and the stress, {count('refused')} requests refused: {calls} calls answered Memory and were "
-        f"made again, {count('own')} runs ended with 'refused 1', {count('unmet')} went on without; {failed} failed"
+        f"no memory: {len(scripts)} scripts, the rows, the stress and lru_size, {count('refused')} requests refused: {calls} calls answered "
+        f"Memory and were made again, {count('own')} runs said so and ended with status 1, {count('unmet')} went on without; {failed} failed"
     )
     return 1 if failed or changed or wrong or quiet or not scripts or not calls else 0
 

@@ -1,0 +1,48 @@
+//! Prints how many uses of a trace hit a cache, at any capacity of the cache.
+//!
+//! The trace is read from standard input, and the arguments are those of `options`. Everything but
+//! the access to the process is done by `program`, so that tests run it in memory.
+#![tactic(auto)]
+
+mod csv;
+mod failure;
+mod hit_curve;
+mod lines;
+mod options;
+mod plot;
+mod program;
+mod progress;
+mod scale;
+mod table;
+mod trace;
+
+use failure::Failure;
+use lru_support::words;
+use program::{Streams, program};
+use std::io::{self, BufReader, BufWriter, IsTerminal};
+use std::os::fd::AsFd;
+use std::process::ExitCode;
+
+fn main(rt: HostRuntime) -> ExitCode {
+    let alloc = rt.alloc();
+    let buffers = BufReader::new(alloc, rt.reader()).and_then(|input| Ok((
+        input,
+        BufWriter::new(alloc, rt.stdout())?,
+    )));
+    let mut err = rt.stderr();
+    let status = match (words::after_name(&rt), buffers) {
+        (Ok(args), Ok((input, mut out))) => {
+            let err_is_terminal = err.as_fd().is_terminal();
+            let streams = Streams {
+                input,
+                out: &mut out,
+                err: &mut err,
+                err_is_terminal,
+            };
+            program(alloc, &rt, &args, streams)
+        }
+        (Err(error), _) => Failure::from_args_error(&error).report(&mut err),
+        (_, Err(error)) => Failure::from_read_error(&error).report(&mut err),
+    };
+    ExitCode::from(status)
+}

@@ -1,0 +1,137 @@
+//! The command line.
+
+use crate::failure::Failure;
+use clap::error::ErrorKind;
+use clap::{Arg, ArgAction, ArgMatches, Command, Error, value_parser};
+use std::alloc::{AllocError, Global};
+
+/// What the arguments ask for.
+#[derive(Drop)]
+pub enum Request<'a> {
+    /// The help text, which is given here.
+    Help(String),
+    /// A hit curve.
+    Size(Options<'a>),
+}
+
+/// The options of a run.
+#[derive(Drop)]
+pub struct Options<'a> {
+    /// The capacities of the table's rows, in order. If empty, evenly spaced capacities are used.
+    pub capacities: Vec<u64>,
+    /// The path to write the plot to; `-` is standard output.
+    pub svg: Option<&'a str>,
+    /// The path to write the CSV file to; `-` is standard output.
+    pub csv: Option<&'a str>,
+    /// The capacity to replay the trace at.
+    pub check: Option<u64>,
+    /// If `Some(n)`, the curve is estimated from about one key in `n`.
+    pub sample: Option<u64>,
+}
+
+impl<'a> Request<'a> {
+    /// Parses the arguments after the program's name.
+    ///
+    /// # Errors
+    ///
+    /// `Usage` if the arguments are invalid, and `OutOfMemory` if memory runs out.
+    pub fn parse(alloc: Global, args: &'a [String]) -> Result<Request<'a>, Failure> {
+        match command(alloc)?.try_get_matches_from(args) {
+            Ok(matches) => Ok(Request::Size(Options::from_matches(alloc, &matches)?)),
+            Err(error) => Request::from_error(alloc, &error),
+        }
+    }
+
+    // The parser reports a request for the help as an error too.
+    fn from_error(alloc: Global, error: &Error) -> Result<Request<'a>, Failure> {
+        if matches!(error.kind(), ErrorKind::OutOfMemory) {
+            return Err(Failure::OutOfMemory);
+        }
+        let text = format!(in alloc; "{error}")?;
+        if error.use_stderr() {
+            Err(Failure::Usage(text))
+        } else {
+            Ok(Request::Help(text))
+        }
+    }
+}
+
+impl<'a> Options<'a> {
+    fn from_matches(alloc: Global, matches: &ArgMatches<'a>) -> Result<Options<'a>, AllocError> {
+        let mut capacities = Vec::new(alloc);
+        if let Some(values) = matches.get_many::<u64>("capacities") {
+            for capacity in values {
+                // Always `Ok`, since the argument's parser has accepted the value.
+                if let Ok(capacity) = capacity {
+                    capacities.push(capacity)?;
+                }
+            }
+        }
+        Ok(Options {
+            capacities,
+            svg: matches.get_str("svg"),
+            csv: matches.get_str("csv"),
+            check: matches.get_one::<u64>("check"),
+            sample: matches.get_one::<u64>("sample"),
+        })
+    }
+}
+
+fn command<'a>(alloc: Global) -> Result<Command<'a>, AllocError> {
+    Command::new(alloc, "lru_size")
+        .about(
+            "Reads a trace from standard input, a line KEY [CHARGE] for each use, and prints how \
+            many uses hit at each capacity.",
+        )
+        .no_binary_name(true)
+        .arg(capacities(alloc))?
+        .arg(file(
+            alloc,
+            "svg",
+            "Write the curve to FILE as an SVG image (- is standard output)",
+        ))?
+        .arg(file(
+            alloc,
+            "csv",
+            "Write the curve to FILE as CSV (- is standard output)",
+        ))?
+        .arg(check(alloc))?
+        .arg(sample(alloc)?)
+}
+
+fn capacities<'a>(alloc: Global) -> Arg<'a> {
+    Arg::new(alloc, "capacities")
+        .long("capacities")
+        .value_name("CAPACITY,..")
+        .help("Print the hits at these capacities, instead of ten evenly spaced ones")
+        .action(ArgAction::Append)
+        .value_delimiter(',')
+        .value_parser(value_parser!(u64))
+}
+
+fn file<'a>(alloc: Global, name: &'a str, help: &'a str) -> Arg<'a> {
+    Arg::new(alloc, name)
+        .long(name)
+        .value_name("FILE")
+        .help(help)
+        .action(ArgAction::Set)
+}
+
+fn check<'a>(alloc: Global) -> Arg<'a> {
+    Arg::new(alloc, "check")
+        .long("check")
+        .value_name("CAPACITY")
+        .help("Replay the trace in a cache of this capacity, and compare the hits with the curve")
+        .action(ArgAction::Set)
+        .value_parser(value_parser!(u64))
+}
+
+fn sample<'a>(alloc: Global) -> Result<Arg<'a>, AllocError> {
+    Arg::new(alloc, "sample")
+        .long("sample")
+        .value_name("N")
+        .help("Estimate the curve from about one key in N")
+        .action(ArgAction::Set)
+        .value_parser(value_parser!(u64).range(1..))
+        .conflicts_with("check")
+}

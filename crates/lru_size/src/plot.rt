@@ -1,0 +1,237 @@
+//! The curve as an SVG image that is legible on light and on dark pages.
+//! Lengths are in tenths of a pixel, so that they are integers.
+
+use crate::hit_curve::HitCurve;
+use crate::scale::{Percentage, mul_div, round_step};
+use crate::table::KNEES;
+use std::io;
+use std::io::Write;
+
+// The edges of the area between the axes.
+const LEFT: u64 = 800;
+
+const RIGHT: u64 = 6_300;
+
+const TOP: u64 = 700;
+
+const BOTTOM: u64 = 3_700;
+
+const WIDTH: u64 = RIGHT - LEFT;
+
+const HEIGHT: u64 = BOTTOM - TOP;
+
+// The number of points of the curve, one for each pixel of its width.
+const POINTS: u64 = 550;
+
+// The number of spaces between the lines of the grid.
+const GRID: u64 = 5;
+
+const HEAD: &str =
+    "<svg xmlns='http://www.w3.org/2000/svg' viewBox='0 0 8000 4400' width='800' height='440'
+font-family='sans-serif' font-size='130'>
+<style>
+.page { fill: #ffffff }
+.text { fill: #1f2328 }
+.label { fill: #1f2328; stroke: #ffffff; stroke-width: 40; paint-order: stroke }
+.axis { stroke: #59636e; stroke-width: 12; fill: none }
+.grid { stroke: #d1d9e0; stroke-width: 8 }
+.curve { stroke: #0969da; stroke-width: 24; fill: none; stroke-linejoin: round }
+.mark { fill: #cf222e }
+@media (prefers-color-scheme: dark) {
+.page { fill: #0d1117 }
+.text { fill: #e6edf3 }
+.label { fill: #e6edf3; stroke: #0d1117 }
+.axis { stroke: #9198a1 }
+.grid { stroke: #30363d }
+.curve { stroke: #4493f8 }
+.mark { fill: #ff7b72 }
+}
+</style>
+<rect class='page' width='8000' height='4400'/>
+";
+
+/// A plot of a curve: the hit ratio over the capacity.
+#[derive(Drop)]
+pub struct Plot<'a> {
+    curve: &'a HitCurve,
+    // The capacity at the right edge, at least 1.
+    max_capacity: u64,
+    // The hit ratio at the top edge, in percent.
+    max_percent: u64,
+}
+
+impl<'a> Plot<'a> {
+    /// Creates a plot of `curve`, up to the least capacity with the greatest hit ratio.
+    pub fn new(curve: &'a HitCurve) -> Plot<'a> {
+        Plot {
+            curve,
+            max_capacity: curve.full_capacity().max(1),
+            max_percent: max_percent(curve.most_hits(), curve.uses()),
+        }
+    }
+
+    /// Writes the plot as an SVG image.
+    ///
+    /// # Errors
+    ///
+    /// The error of `out`.
+    pub fn write_svg<O: Write>(&self, out: &mut O) -> io::Result<()> {
+        out.write_all(HEAD.as_bytes())?;
+        self.write_titles(out)?;
+        self.write_grid(out)?;
+        self.write_axes(out)?;
+        self.write_curve(out)?;
+        self.write_knees(out)?;
+        writeln!(out, "</svg>")
+    }
+
+    // The x coordinate of a capacity.
+    fn x(&self, capacity: u64) -> u64 {
+        let capacity = capacity.min(self.max_capacity);
+        LEFT.saturating_add(mul_div(capacity, WIDTH, self.max_capacity))
+    }
+
+    // The y coordinate of a number of hits. The y axis points down.
+    fn y(&self, hits: u64) -> u64 {
+        let height = u128::from(HEIGHT * 100).saturating_mul(u128::from(hits));
+        let whole = u128::from(self.curve.uses()).saturating_mul(u128::from(self.max_percent));
+        BOTTOM.saturating_sub(u64::try_from(height / whole.max(1)).unwrap_or(u64::MAX))
+    }
+
+    fn write_titles<O: Write>(&self, out: &mut O) -> io::Result<()> {
+        let note = match self.curve {
+            HitCurve::Exact(_) => "",
+            HitCurve::Estimated(_) => ", estimated from a sample of the keys",
+        };
+        writeln!(
+            out,
+            "<text class='text' x='{LEFT}' y='350' font-size='180'>\
+                Hit ratio by capacity, {} uses{note}</text>",
+            self.curve.uses()
+        )?;
+        writeln!(
+            out,
+            "<text class='text' x='{LEFT}' y='600'>\
+                the marks are at 50%, 80%, 90% and 95% of the greatest hit ratio</text>"
+        )
+    }
+
+    // The lines of the grid, each with its hit ratio.
+    fn write_grid<O: Write>(&self, out: &mut O) -> io::Result<()> {
+        for line in 0..=GRID {
+            let y = BOTTOM.saturating_sub(mul_div(HEIGHT, line, GRID));
+            writeln!(
+                out,
+                "<path class='grid' d='M{LEFT} {y}H{RIGHT}'/>\
+                <text class='text' x='720' y='{}' text-anchor='end'>{}%</text>",
+                y.saturating_add(45),
+                mul_div(self.max_percent, line, GRID)
+            )?;
+        }
+        Ok(())
+    }
+
+    // The two axes, and a tick at each round capacity.
+    fn write_axes<O: Write>(&self, out: &mut O) -> io::Result<()> {
+        let step = round_step(self.max_capacity);
+        for number in 0..=6u64 {
+            let capacity = step.saturating_mul(number);
+            if capacity <= self.max_capacity {
+                self.write_tick(capacity, out)?;
+            }
+        }
+        writeln!(
+            out,
+            "<path class='axis' d='M{LEFT} {TOP}V{BOTTOM}H{RIGHT}'/>\
+                <text class='text' x='{LEFT}' y='4250'>capacity, in units of charge</text>"
+        )
+    }
+
+    fn write_tick<O: Write>(&self, capacity: u64, out: &mut O) -> io::Result<()> {
+        let x = self.x(capacity);
+        writeln!(
+            out,
+            "<path class='axis' d='M{x} {BOTTOM}v60'/>\
+                <text class='text' x='{x}' y='3960' text-anchor='middle'>{capacity}</text>"
+        )
+    }
+
+    // The curve, a step at each point where more uses hit than at the one before.
+    fn write_curve<O: Write>(&self, out: &mut O) -> io::Result<()> {
+        let mut previous = self.y(self.curve.hits(0));
+        write!(out, "<path class='curve' d='M{LEFT} {previous}")?;
+        for point in 1..=POINTS {
+            let capacity = mul_div(self.max_capacity, point, POINTS);
+            let y = self.y(self.curve.hits(capacity));
+            if y != previous {
+                write!(out, "H{}V{y}", self.x(capacity))?;
+                previous = y;
+            }
+        }
+        writeln!(out, "H{RIGHT}'/>")
+    }
+
+    // A mark at each knee, once if several are at one capacity. The labels are below the curve and
+    // above it in turn, so that neighbors do not overlap.
+    fn write_knees<O: Write>(&self, out: &mut O) -> io::Result<()> {
+        if self.curve.most_hits() == 0 {
+            return Ok(());
+        }
+        let mut side = Side::Below;
+        let mut previous = None;
+        for percent in KNEES {
+            let capacity = self.curve.knee(percent);
+            if previous != Some(capacity) {
+                self.write_knee(capacity, side, out)?;
+                side = side.opposite();
+            }
+            previous = Some(capacity);
+        }
+        Ok(())
+    }
+
+    fn write_knee<O: Write>(&self, capacity: u64, side: Side, out: &mut O) -> io::Result<()> {
+        let hits = self.curve.hits(capacity);
+        let (x, y) = (self.x(capacity), self.y(hits));
+        writeln!(out, "<circle class='mark' cx='{x}' cy='{y}' r='45'/>")?;
+        let ratio = Percentage {
+            part: hits,
+            whole: self.curve.uses(),
+        };
+        let (x, y, anchor) = match side {
+            Side::Below => (x.saturating_add(80), y.saturating_add(150), "start"),
+            Side::Above => (x.saturating_sub(60), y.saturating_sub(70), "end"),
+        };
+        writeln!(
+            out,
+            "<text class='label' x='{x}' y='{y}' text-anchor='{anchor}'>{capacity}: {ratio}</text>"
+        )
+    }
+}
+
+// The side of the curve that a label is on: below it and to the right, or above it and to the left.
+#[derive(Clone, Copy)]
+enum Side {
+    Below,
+    Above,
+}
+
+impl Side {
+    fn opposite(self) -> Side {
+        match self {
+            Side::Below => Side::Above,
+            Side::Above => Side::Below,
+        }
+    }
+}
+
+// The least of some round percentages that `hits` of `uses` do not exceed.
+fn max_percent(hits: u64, uses: u64) -> u64 {
+    let hits = u128::from(hits).saturating_mul(100);
+    for percent in [5u64, 10, 20, 50] {
+        if hits <= u128::from(uses).saturating_mul(u128::from(percent)) {
+            return percent;
+        }
+    }
+    100
+}

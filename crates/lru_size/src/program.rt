@@ -1,0 +1,185 @@
+//! The program, over streams and files that the caller provides.
+
+use crate::csv::write_csv;
+use crate::failure::Failure;
+use crate::hit_curve::HitCurve;
+use crate::lines::Lines;
+use crate::options::{Options, Request};
+use crate::plot::Plot;
+use crate::progress::Progress;
+use crate::table::write_table;
+use crate::trace::Trace;
+use lru_sizing::curve::Curve;
+use lru_sizing::estimate::{Estimate, Sample};
+use lru_sizing::refusal::Refusal;
+use lru_sizing::replay::replay;
+use lru_sizing::reuse_weights::reuse_weights;
+use std::alloc::Global;
+use std::fs::{self, File, Files};
+use std::io::{BufRead, Write};
+
+/// The streams of a run.
+#[derive(Drop)]
+pub struct Streams<'a, I, O, E> {
+    /// The trace.
+    pub input: I,
+    /// Where the results go.
+    pub out: &'a mut O,
+    /// Where error messages go.
+    pub err: &'a mut E,
+    /// Whether `err` is a terminal. If it is, it also shows how many lines have been read.
+    pub err_is_terminal: bool,
+}
+
+/// Runs the program with the arguments after its name, and returns its exit status.
+///
+/// The trace is read to its end. The table then goes to `out`, and the plot and the CSV file go
+/// where the arguments say.
+///
+/// The exit status is 0 on success. It is 2 if the arguments are invalid, if a line of the trace is
+/// not a use, or if a key has two charges. It is 1 if reading or writing fails, if memory runs out,
+/// if the charges of the keys add up to more than `u64::MAX`, or if a replay contradicts the curve.
+/// On failure, a message that starts with the program's name goes to `err`.
+pub fn program<F: Files<File = File>, I: BufRead + Drop, O: Write, E: Write>(
+    alloc: Global,
+    files: &F,
+    args: &[String],
+    streams: Streams<'_, I, O, E>,
+) -> u8 {
+    let Streams {
+        input,
+        out,
+        err,
+        err_is_terminal,
+    } = streams;
+    let mut progress = Progress::new(err, err_is_terminal);
+    let ended = run(alloc, files, args, input, out, &mut progress);
+    match ended {
+        Ok(()) => 0,
+        Err(failure) => failure.report(err),
+    }
+}
+
+fn run<F: Files<File = File>, I: BufRead + Drop, O: Write, E: Write>(
+    alloc: Global,
+    files: &F,
+    args: &[String],
+    input: I,
+    out: &mut O,
+    progress: &mut Progress<'_, E>,
+) -> Result<(), Failure> {
+    match Request::parse(alloc, args)? {
+        Request::Help(text) => out.write_all(text.as_bytes())?,
+        Request::Size(options) => {
+            let sample = Sample::one_in(options.sample.unwrap_or(1));
+            let trace = Trace::read(alloc, sample, &mut Lines::new(alloc, input), progress)?;
+            let curve = size(alloc, &options, &trace, out)?;
+            write_table(alloc, &curve, &options.capacities, out)?;
+            out.flush()?;
+            write_files(alloc, files, &options, &curve, out)?;
+        }
+    }
+    out.flush()?;
+    Ok(())
+}
+
+// Computes the curve, after the lines about the trace have gone to `out`.
+fn size<O: Write>(
+    alloc: Global,
+    options: &Options<'_>,
+    trace: &Trace,
+    out: &mut O,
+) -> Result<HitCurve, Failure> {
+    if options.sample.is_some() {
+        writeln!(
+            out,
+            "{} uses, {} keys in the sample",
+            trace.total_uses,
+            trace.keys()
+        )?;
+        return estimate(alloc, trace);
+    }
+    writeln!(out, "{} uses of {} keys", trace.total_uses, trace.keys())?;
+    let weights = reuse_weights(alloc, &trace.uses)?;
+    if let Some(capacity) = options.check {
+        check(alloc, trace, &weights, capacity)?;
+        writeln!(
+            out,
+            "{} uses replayed at capacity {capacity}: 0 differences",
+            trace.total_uses
+        )?;
+    }
+    Ok(HitCurve::Exact(Curve::new(alloc, &trace.uses, &weights)?))
+}
+
+// Estimates the curve from the sampled uses.
+fn estimate(alloc: Global, trace: &Trace) -> Result<HitCurve, Failure> {
+    match Estimate::new(alloc, trace.sample, &trace.uses, trace.total_uses) {
+        Ok(estimate) => Ok(HitCurve::Estimated(estimate)),
+        // The place is one among the sampled uses, and not a line.
+        Err(Refusal::Overflow(_)) => Err(Failure::SampleOverflow),
+        Err(refusal) => Err(Failure::from(refusal)),
+    }
+}
+
+// Replays the trace at a capacity. `Mismatch` if a use does not hit or miss as its reuse weight
+// says.
+fn check(
+    alloc: Global,
+    trace: &Trace,
+    weights: &[Option<u64>],
+    capacity: u64,
+) -> Result<(), Failure> {
+    let hits = replay(alloc, &trace.uses, capacity)?;
+    for (place, (hit, weight)) in hits.iter().zip(weights).enumerate() {
+        let fits = matches!(weight, Some(weight) if *weight <= capacity);
+        if *hit != fits {
+            return Err(Failure::Mismatch {
+                line: (place as u64).saturating_add(1),
+            });
+        }
+    }
+    Ok(())
+}
+
+// Writes the files that the options name.
+fn write_files<F: Files<File = File>, O: Write>(
+    alloc: Global,
+    files: &F,
+    options: &Options<'_>,
+    curve: &HitCurve,
+    out: &mut O,
+) -> Result<(), Failure> {
+    if let Some(path) = options.svg {
+        let mut svg = Vec::new(alloc);
+        Plot::new(curve).write_svg(&mut svg)?;
+        write_file(alloc, files, path, &svg, out)?;
+    }
+    if let Some(path) = options.csv {
+        let mut csv = Vec::new(alloc);
+        write_csv(alloc, curve, &mut csv)?;
+        write_file(alloc, files, path, &csv, out)?;
+    }
+    Ok(())
+}
+
+// Writes a file, or `out` if the path is `-`.
+fn write_file<F: Files<File = File>, O: Write>(
+    alloc: Global,
+    files: &F,
+    path: &str,
+    bytes: &[u8],
+    out: &mut O,
+) -> Result<(), Failure> {
+    if path == "-" {
+        out.write_all(bytes)?;
+        return Ok(());
+    }
+    match fs::write(files, path, bytes) {
+        Ok(()) => Ok(()),
+        Err(error) => Err(Failure::from_file_error(alloc, path, error)),
+    }
+}
+
+#[cfg(test)]
+mod tests;
