@@ -1,7 +1,7 @@
 //! The curve as CSV, for other programs.
 
 use crate::hit_curve::HitCurve;
-use crate::table::{Row, spaced};
+use crate::table::{Row, evenly_spaced};
 use std::alloc::Global;
 use std::io;
 use std::io::Write;
@@ -16,7 +16,7 @@ const ROWS: u64 = 1_000;
 /// The error of `out`, or one of the kind `OutOfMemory` if memory runs out.
 pub fn write_csv<O: Write>(alloc: Global, curve: &HitCurve, out: &mut O) -> io::Result<()> {
     writeln!(out, "capacity,uses,hits,charge_made")?;
-    for capacity in &spaced(alloc, curve, ROWS)? {
+    for capacity in &evenly_spaced(alloc, curve, ROWS)? {
         write_row(Row::new(curve, *capacity), curve.uses(), out)?;
     }
     Ok(())

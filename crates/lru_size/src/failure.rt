@@ -38,7 +38,7 @@ pub enum Failure {
     NotUtf8,
     /// Memory ran out.
     OutOfMemory,
-    /// A line of the trace is not a use.
+    /// A line of the trace is not a use: it has the word `found` where something else was expected.
     Line {
         line: u64,
         expected: Expected,

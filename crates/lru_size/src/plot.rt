@@ -23,9 +23,10 @@ const HEIGHT: u64 = BOTTOM - TOP;
 // The number of points of the curve, one for each pixel of its width.
 const POINTS: u64 = 550;
 
-// The number of spaces between the lines of the grid.
-const GRID: u64 = 5;
+// The number of rows of the grid.
+const GRID_ROWS: u64 = 5;
 
+// The start of the image: its size, its colors and its background.
 const HEAD: &str =
     "<svg xmlns='http://www.w3.org/2000/svg' viewBox='0 0 8000 4400' width='800' height='440'
 font-family='sans-serif' font-size='130'>
@@ -118,14 +119,14 @@ impl<'a> Plot<'a> {
 
     // The lines of the grid, each with its hit ratio.
     fn write_grid<O: Write>(&self, out: &mut O) -> io::Result<()> {
-        for line in 0..=GRID {
-            let y = BOTTOM.saturating_sub(mul_div(HEIGHT, line, GRID));
+        for line in 0..=GRID_ROWS {
+            let y = BOTTOM.saturating_sub(mul_div(HEIGHT, line, GRID_ROWS));
             writeln!(
                 out,
                 "<path class='grid' d='M{LEFT} {y}H{RIGHT}'/>\
                 <text class='text' x='720' y='{}' text-anchor='end'>{}%</text>",
                 y.saturating_add(45),
-                mul_div(self.max_percent, line, GRID)
+                mul_div(self.max_percent, line, GRID_ROWS)
             )?;
         }
         Ok(())

@@ -27,7 +27,7 @@ pub struct Streams<'a, I, O, E> {
     pub out: &'a mut O,
     /// Where error messages go.
     pub err: &'a mut E,
-    /// Whether `err` is a terminal. If it is, it also shows how many lines have been read.
+    /// Whether `err` is a terminal, which then shows how many lines have been read so far.
     pub err_is_terminal: bool,
 }
 
@@ -83,7 +83,7 @@ fn run<F: Files<File = File>, I: BufRead + Drop, O: Write, E: Write>(
     Ok(())
 }
 
-// Computes the curve, after the lines about the trace have gone to `out`.
+// Writes the lines about the trace to `out`, and computes the curve.
 fn size<O: Write>(
     alloc: Global,
     options: &Options<'_>,
@@ -116,14 +116,14 @@ fn size<O: Write>(
 fn estimate(alloc: Global, trace: &Trace) -> Result<HitCurve, Failure> {
     match Estimate::new(alloc, trace.sample, &trace.uses, trace.total_uses) {
         Ok(estimate) => Ok(HitCurve::Estimated(estimate)),
-        // The place is one among the sampled uses, and not a line.
+        // The place is one among the sampled uses, and so not a line.
         Err(Refusal::Overflow(_)) => Err(Failure::SampleOverflow),
         Err(refusal) => Err(Failure::from(refusal)),
     }
 }
 
-// Replays the trace at a capacity. `Mismatch` if a use does not hit or miss as its reuse weight
-// says.
+// Replays the trace at a capacity. Fails with `Mismatch` at the first use that does not hit or miss
+// as its reuse weight says.
 fn check(
     alloc: Global,
     trace: &Trace,

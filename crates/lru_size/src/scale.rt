@@ -26,7 +26,7 @@ pub struct Percentage {
 }
 
 impl Percentage {
-    /// Returns the part in basis points, hundredths of a percent, rounded down.
+    /// Returns the part in basis points (hundredths of a percent) of the whole, rounded down.
     pub fn basis_points(self) -> u64 {
         mul_div(self.part, 10_000, self.whole)
     }

@@ -41,7 +41,7 @@ impl Row {
 /// # Errors
 ///
 /// `AllocError` if memory runs out.
-pub fn spaced(alloc: Global, curve: &HitCurve, count: u64) -> Result<Vec<u64>, AllocError> {
+pub fn evenly_spaced(alloc: Global, curve: &HitCurve, count: u64) -> Result<Vec<u64>, AllocError> {
     let full = curve.full_capacity();
     let mut capacities = Vec::new(alloc);
     let mut previous = 0;
@@ -68,7 +68,7 @@ pub fn write_table<O: Write>(
     out: &mut O,
 ) -> Result<(), Failure> {
     if capacities.is_empty() {
-        write_rows(curve, &spaced(alloc, curve, ROWS)?, out)?;
+        write_rows(curve, &evenly_spaced(alloc, curve, ROWS)?, out)?;
     } else {
         write_rows(curve, capacities, out)?;
     }

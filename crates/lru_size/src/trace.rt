@@ -11,15 +11,15 @@ use std::alloc::Global;
 use std::collections::HashMap;
 use std::io::{BufRead, Write};
 
-/// A trace, or the part of it that is about the keys of a sample.
+/// The uses of the sampled keys of a trace.
 #[derive(Drop)]
 pub struct Trace {
     alloc: Global,
     /// Which keys are sampled.
     pub sample: Sample,
     keys: HashMap<String, FirstUse>,
-    /// The uses of the sampled keys, in order. Each is the number of the key and its charge, which
-    /// is at least 1. Keys are numbered from 0 in the order of their first uses.
+    /// The uses in order: for each the number of its key, and its charge, which is at least 1. The
+    /// keys are numbered from 0 in the order of their first uses.
     pub uses: Vec<(u64, u64)>,
     /// The number of uses of all keys, whether sampled or not.
     pub total_uses: u64,
@@ -54,7 +54,7 @@ impl Trace {
             uses: Vec::new(alloc),
             total_uses: 0,
         };
-        // No input has more lines.
+        // The loop needs a bound, and no input has so many lines.
         for _ in 0..u64::MAX {
             if !lines.advance()? {
                 break;
