@@ -1,0 +1,14 @@
+use Rattle.std.proofs.Common.{◌++◌, ◌∙◌, Some, ap, refl}
+use Rattle.lru_c.specs.BytesCalls.{entries_of}
+use Rattle.lru_c.proofs.IntoChain.{puts, refuses}
+use Rattle.lru_c.proofs.bytes.lru_bytes_free.Goals as goal
+
+pub returns-then-filled-ne-DONE : goal.returns-then-filled-ne-DONE
+returns-then-filled-ne-DONE c =
+    refuses (entries_of c.args.left.now.chain.held) (entries_of c.replace_with-filled.new.dest.chain.held) c.replace_with-filled.result c.replace_with-filled.result c.args.cache.now.cache.held c.args.cache.now.cache.held _
+    c.replace_with-filled.ensures.1.0 c.if-filled-ne-DONE.true refl (ap entries_of c.replace_with-filled.ensures.0) refl
+
+pub returns : goal.returns
+returns c =
+    puts (entries_of c.args.left.now.chain.held) (entries_of c.replace_with.new.dest.chain.held) c.replace_with-answer.result.0 c.replace_with-filled.result c.args.cache.now.cache.held c.replace_with-answer.new.dest.cache.held _ c.replace_with-filled.ensures.1.0
+    c.replace_with-answer.result.1 c.if-filled-ne-DONE.false (c.replace_with.ensures ∙ ap (λ xs. Some (xs ++ c.replace_with-answer.result.1)) c.none.ensures) c.replace_with-answer.ensures

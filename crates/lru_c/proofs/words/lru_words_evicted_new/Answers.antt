@@ -1,0 +1,11 @@
+use Rattle.lru_c.proofs.Opens.{has_no_memory, is_new, was_open}
+use Rattle.lru_c.proofs.words.lru_words_evicted_new.Goals as goal
+
+pub returns-then-out : goal.returns-then-out
+returns-then-out c = was_open c.args.out.now.is_open c.args.out.now.chain.held _ c.if-out.true
+
+pub returns-in-Ok : goal.returns-in-Ok
+returns-in-Ok c = is_new c.args.out.now.is_open c.args.out.now.chain.held _ c.in-Ok.chain.chain.held c.if-out.false c.in-Ok.ensures
+
+pub returns-in-Err : goal.returns-in-Err
+returns-in-Err c = has_no_memory c.args.out.now.is_open c.args.out.now.chain.held _ c.if-out.false
