@@ -6,6 +6,7 @@ pub mod Inserted
 pub mod IntoChain
 pub mod BytesCopies
 pub mod ChainCodes
+pub mod EvictedSent
 pub mod Opened
 pub mod Opens
 pub mod BytesCacheAsBox
