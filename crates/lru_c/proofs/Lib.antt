@@ -1,7 +1,6 @@
 pub mod Asked
 pub mod ByKey
 pub mod Cases
-pub mod Handles
 pub mod Inserted
 pub mod IntoChain
 pub mod BytesCopies
