@@ -1,4 +1,4 @@
--- `into_parts` moves two fields, and what a live handle owns goes with them.
+-- `into_parts` moves two fields, and what the pointer owns goes with them.
 use Rattle.std.specs.Prelude.{Option, Some, None, IsSome}
 use lib.Dec.{T}
 use mathlib.Core.Path.{refl, sym, subst}
