@@ -1,4 +1,5 @@
-use Rattle.lru_c.proofs.Opens.{has_no_memory, is_new, was_open}
+use Rattle.std.proofs.Common.{refl}
+use Rattle.lru_c.proofs.Opens.{is_new, was_open}
 use Rattle.lru_c.proofs.bytes.lru_bytes_evicted_new.Goals as goal
 
 pub returns-then-out : goal.returns-then-out
@@ -8,4 +9,4 @@ pub returns-in-Ok : goal.returns-in-Ok
 returns-in-Ok c = is_new c.args.out.now.is_open c.args.out.now.chain.held _ c.in-Ok.chain.chain.held c.if-out.false c.in-Ok.ensures
 
 pub returns-in-Err : goal.returns-in-Err
-returns-in-Err c = has_no_memory c.args.out.now.is_open c.args.out.now.chain.held _ c.if-out.false
+returns-in-Err c = rw c.if-out.false refl

@@ -10,5 +10,5 @@ returns-then-filled-ne-DONE c =
 
 pub returns : goal.returns
 returns c =
-    puts (entries_of c.args.gone.now.chain.held) (entries_of c.replace_with.new.dest.chain.held) c.replace_with-answer.result.0.code c.replace_with-filled.result c.args.cache.now.cache.held c.replace_with-answer.new.dest.cache.held _ c.replace_with-filled.ensures.1.0
-    (c.replace_with-answer.result.1.0 ++ c.replace_with-answer.result.1.1) c.if-filled-ne-DONE.false c.replace_with.ensures (c.replace_with-answer.result.1.0, c.replace_with-answer.result.1.1, refl, c.replace_with-answer.ensures)
+    puts (entries_of c.args.gone.now.chain.held) (entries_of c.replace_with.new.dest.chain.held) c.replace_with-taken.result.0.code c.replace_with-filled.result c.args.cache.now.cache.held c.replace_with-taken.new.dest.cache.held _ c.replace_with-filled.ensures.1.0
+    (c.replace_with-taken.result.1.0 ++ c.replace_with-taken.result.1.1) c.if-filled-ne-DONE.false c.replace_with.ensures (c.replace_with-taken.result.1.0, c.replace_with-taken.result.1.1, refl, c.replace_with-taken.ensures)
