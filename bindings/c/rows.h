@@ -1,0 +1,529 @@
+/* Worked rows: each shows one rule of the cache at work.  This file is included once for each
+ * family of keys, with
+ *
+ *     FAMILY(name)    the family's call or type of that name, as lru_bytes_get
+ *     TYPE            the type of its caches, as lru_bytes
+ *     KEY(k)          the arguments that pass the number k as a key
+ *
+ * The value of a key is the key itself, where a row does not say otherwise. */
+
+typedef struct FAMILY(stage) {
+    TYPE cache;
+    FAMILY(evicted) gone;
+    uint64_t left[64]; /* the values that were evicted so far */
+    size_t length;
+} FAMILY(stage);
+
+static void FAMILY(open_with_limits)(FAMILY(stage) *s, uint64_t capacity, uint64_t first_stamp,
+                                     uint32_t most_pins) {
+    memset(s, 0, sizeof *s);
+    CHECK(FAMILY(new_with_limits)(capacity, first_stamp, most_pins, &s->cache), LRU_DONE);
+    CHECK(FAMILY(evicted_new)(&s->gone), LRU_DONE);
+}
+
+static void FAMILY(open)(FAMILY(stage) *s, uint64_t capacity) {
+    memset(s, 0, sizeof *s);
+    CHECK(FAMILY(new)(capacity, &s->cache), LRU_DONE);
+    CHECK(FAMILY(evicted_new)(&s->gone), LRU_DONE);
+}
+
+/* Pops what a call evicted, and answers how much it was. */
+static size_t FAMILY(note)(FAMILY(stage) *s) {
+    lru_gone gone;
+    size_t before = s->length;
+    while (FAMILY(evicted_pop)(&s->gone, &gone)) {
+        if (s->length < sizeof s->left / sizeof s->left[0])
+            s->left[s->length] = gone.value;
+        s->length++;
+    }
+    return s->length - before;
+}
+
+static lru_told FAMILY(ask)(FAMILY(stage) *s, uint64_t k, uint64_t charge) {
+    lru_told told = FAMILY(begin)(&s->cache, KEY(k), charge, &s->gone);
+    FAMILY(note)(s);
+    return told;
+}
+
+/* Pins the entry of a key, whose value is made where it is not there, and answers its stamp. */
+static uint64_t FAMILY(hold)(FAMILY(stage) *s, uint64_t k, uint64_t charge) {
+    lru_told told = FAMILY(ask)(s, k, charge);
+    if (told.code == LRU_MAKE)
+        CHECK(FAMILY(ready)(&s->cache, told.stamp, k), LRU_DONE);
+    else
+        CHECK(told.code, LRU_HIT);
+    return told.stamp;
+}
+
+/* Gives a pin back, and answers how many entries that evicted. */
+static size_t FAMILY(let_go)(FAMILY(stage) *s, uint64_t stamp) {
+    CHECK(FAMILY(release)(&s->cache, stamp, &s->gone), LRU_DONE);
+    return FAMILY(note)(s);
+}
+
+static void FAMILY(make)(FAMILY(stage) *s, uint64_t k, uint64_t charge) {
+    FAMILY(let_go)(s, FAMILY(hold)(s, k, charge));
+}
+
+/* Whether a key is found; the pin is given back. */
+static bool FAMILY(finds)(FAMILY(stage) *s, uint64_t k, uint64_t value) {
+    lru_told told = FAMILY(get)(&s->cache, KEY(k));
+    if (told.code != LRU_HIT) {
+        CHECK(told.code, LRU_MISSED);
+        CHECK(FAMILY(contains)(&s->cache, KEY(k)), LRU_MISSED);
+        return false;
+    }
+    CHECK(told.value, value);
+    CHECK(FAMILY(contains)(&s->cache, KEY(k)), LRU_DONE);
+    FAMILY(let_go)(s, told.stamp);
+    return true;
+}
+
+static uint64_t FAMILY(total_of)(FAMILY(stage) *s) {
+    lru_told told = FAMILY(total)(&s->cache);
+    CHECK(told.code, LRU_NUMBER);
+    return told.value;
+}
+
+/* Evicts all idle entries, and answers how many they were. */
+static size_t FAMILY(prune_all)(FAMILY(stage) *s) {
+    s->length = 0;
+    CHECK(FAMILY(prune)(&s->cache, &s->gone), LRU_DONE);
+    return FAMILY(note)(s);
+}
+
+static void FAMILY(close)(FAMILY(stage) *s) {
+    CHECK(FAMILY(free)(&s->cache, &s->gone), LRU_DONE);
+    FAMILY(note)(s);
+    CHECK(FAMILY(evicted_free)(&s->gone), LRU_DONE);
+}
+
+#define EVICTED(s, ...)                                                                           \
+    do {                                                                                          \
+        const uint64_t wanted[] = {__VA_ARGS__};                                                  \
+        check_list(__FILE__, __LINE__, (s)->left, (s)->length, wanted,                            \
+                   sizeof wanted / sizeof wanted[0]);                                             \
+    } while (0)
+
+/* Rows 1 and 2: a present key keeps its value; after an eviction it is made anew. */
+static void FAMILY(row_1_2)(void) {
+    FAMILY(stage) s;
+    lru_told told;
+
+    FAMILY(open)(&s, 10);
+    FAMILY(make)(&s, 1, 1);
+    FAMILY(make)(&s, 2, 1);
+    CHECK(FAMILY(finds)(&s, 1, 1), true);
+    FAMILY(close)(&s);
+
+    FAMILY(open)(&s, 5);
+    FAMILY(make)(&s, 1, 3);
+    FAMILY(make)(&s, 2, 3);
+    EVICTED(&s, 1);
+    told = FAMILY(ask)(&s, 1, 3);
+    CHECK(told.code, LRU_MAKE);
+    CHECK(FAMILY(ready)(&s.cache, told.stamp, 3), LRU_DONE);
+    FAMILY(let_go)(&s, told.stamp);
+    CHECK(FAMILY(finds)(&s, 1, 3), true);
+    FAMILY(close)(&s);
+}
+
+/* Row 3: an advice evicts an idle entry, and does nothing to one that is pinned. */
+static void FAMILY(row_3)(void) {
+    FAMILY(stage) s;
+    uint64_t stamp;
+
+    FAMILY(open)(&s, 5);
+    stamp = FAMILY(hold)(&s, 1, 3);
+    CHECK(FAMILY(advice_evict)(&s.cache, KEY(1), &s.gone), LRU_DONE);
+    CHECK(FAMILY(note)(&s), 0);
+    CHECK(FAMILY(finds)(&s, 1, 1), true);
+    FAMILY(let_go)(&s, stamp);
+    CHECK(FAMILY(advice_evict)(&s.cache, KEY(1), &s.gone), LRU_DONE);
+    CHECK(FAMILY(note)(&s), 1);
+    EVICTED(&s, 1);
+    CHECK(FAMILY(finds)(&s, 1, 1), false);
+    CHECK(FAMILY(advice_evict)(&s.cache, KEY(7), &s.gone), LRU_DONE);
+    CHECK(FAMILY(note)(&s), 0);
+    FAMILY(close)(&s);
+}
+
+/* Row 4: a third entry in a cache for two evicts the first. */
+static void FAMILY(row_4)(void) {
+    FAMILY(stage) s;
+
+    FAMILY(open)(&s, 2);
+    FAMILY(make)(&s, 1, 1);
+    FAMILY(make)(&s, 2, 1);
+    FAMILY(make)(&s, 3, 1);
+    EVICTED(&s, 1);
+    FAMILY(close)(&s);
+}
+
+/* Row 5: a pinned entry stays, whatever comes, and leaves as the newest once it is released. */
+static void FAMILY(row_5)(void) {
+    FAMILY(stage) s;
+    uint64_t four;
+
+    FAMILY(open)(&s, 2);
+    FAMILY(make)(&s, 1, 1);
+    FAMILY(make)(&s, 2, 1);
+    FAMILY(make)(&s, 3, 1);
+    EVICTED(&s, 1);
+    four = FAMILY(hold)(&s, 4, 1);
+    EVICTED(&s, 1, 2);
+    FAMILY(make)(&s, 5, 1);
+    FAMILY(make)(&s, 6, 1);
+    EVICTED(&s, 1, 2, 3, 5);
+    CHECK(FAMILY(let_go)(&s, four), 0);
+    EVICTED(&s, 1, 2, 3, 5);
+    FAMILY(make)(&s, 7, 1);
+    FAMILY(make)(&s, 8, 1);
+    EVICTED(&s, 1, 2, 3, 5, 6, 4);
+    FAMILY(close)(&s);
+}
+
+/* Row 6: a making that fails leaves no entry, and the next one may succeed. */
+static void FAMILY(row_6)(void) {
+    FAMILY(stage) s;
+    lru_told told;
+
+    FAMILY(open)(&s, 10);
+    FAMILY(make)(&s, 1, 1);
+    CHECK(FAMILY(finds)(&s, 1, 1), true);
+    FAMILY(make)(&s, 2, 1);
+    CHECK(FAMILY(finds)(&s, 2, 2), true);
+    told = FAMILY(ask)(&s, 3, 1);
+    CHECK(told.code, LRU_MAKE);
+    CHECK(FAMILY(fail)(&s.cache, told.stamp), LRU_REMOVED);
+    CHECK(FAMILY(finds)(&s, 3, 3), false);
+    FAMILY(make)(&s, 3, 1);
+    CHECK(FAMILY(finds)(&s, 3, 3), true);
+    FAMILY(close)(&s);
+}
+
+/* Row 8: the charge counts from the begin, so a making that fails has evicted others. */
+static void FAMILY(row_8)(void) {
+    FAMILY(stage) s;
+    lru_told told;
+
+    FAMILY(open)(&s, 2);
+    FAMILY(make)(&s, 1, 1);
+    FAMILY(make)(&s, 2, 1);
+    told = FAMILY(ask)(&s, 3, 2);
+    EVICTED(&s, 1, 2);
+    CHECK(FAMILY(fail)(&s.cache, told.stamp), LRU_REMOVED);
+    CHECK(FAMILY(finds)(&s, 1, 1), false);
+    CHECK(FAMILY(finds)(&s, 2, 2), false);
+    CHECK(FAMILY(total_of)(&s), 0);
+    FAMILY(close)(&s);
+}
+
+/* Row 9: an entry larger than the capacity lives while it is pinned. */
+static void FAMILY(row_9)(void) {
+    FAMILY(stage) s;
+    uint64_t stamp;
+
+    FAMILY(open)(&s, 5);
+    stamp = FAMILY(hold)(&s, 1, 9);
+    CHECK(FAMILY(total_of)(&s), 9);
+    CHECK(FAMILY(let_go)(&s, stamp), 1);
+    CHECK(FAMILY(finds)(&s, 1, 1), false);
+    CHECK(FAMILY(total_of)(&s), 0);
+    FAMILY(close)(&s);
+}
+
+/* Row 10: a present entry keeps the charge that it was made with. */
+static void FAMILY(row_10)(void) {
+    FAMILY(stage) s;
+
+    FAMILY(open)(&s, 10);
+    FAMILY(make)(&s, 1, 3);
+    FAMILY(make)(&s, 1, 7);
+    CHECK(FAMILY(total_of)(&s), 3);
+    FAMILY(close)(&s);
+}
+
+/* Row 11: of two entries that were pinned at once, the one released first leaves first. */
+static void FAMILY(row_11)(void) {
+    FAMILY(stage) s;
+    uint64_t one, two;
+
+    FAMILY(open)(&s, 2);
+    one = FAMILY(hold)(&s, 1, 1);
+    two = FAMILY(hold)(&s, 2, 1);
+    FAMILY(let_go)(&s, two);
+    FAMILY(let_go)(&s, one);
+    FAMILY(make)(&s, 3, 1);
+    EVICTED(&s, 2);
+    FAMILY(close)(&s);
+}
+
+/* Row 12: what stays is the longest list of newest entries whose charges fit. */
+static void FAMILY(row_12)(void) {
+    FAMILY(stage) s;
+
+    FAMILY(open)(&s, 5);
+    FAMILY(make)(&s, 1, 3);
+    FAMILY(make)(&s, 2, 2);
+    FAMILY(make)(&s, 3, 4);
+    CHECK(FAMILY(prune_all)(&s), 1);
+    EVICTED(&s, 3);
+    FAMILY(close)(&s);
+
+    FAMILY(open)(&s, 9);
+    FAMILY(make)(&s, 1, 3);
+    FAMILY(make)(&s, 2, 2);
+    FAMILY(make)(&s, 3, 4);
+    CHECK(FAMILY(prune_all)(&s), 3);
+    EVICTED(&s, 1, 2, 3);
+    FAMILY(close)(&s);
+}
+
+/* Row 13: a look-up makes an entry the newest, where it is still there to be found. */
+static void FAMILY(row_13)(void) {
+    FAMILY(stage) s;
+
+    FAMILY(open)(&s, 3);
+    FAMILY(make)(&s, 1, 2);
+    FAMILY(make)(&s, 2, 2);
+    CHECK(FAMILY(finds)(&s, 1, 1), false);
+    FAMILY(make)(&s, 3, 1);
+    FAMILY(prune_all)(&s);
+    EVICTED(&s, 2, 3);
+    FAMILY(close)(&s);
+
+    FAMILY(open)(&s, 4);
+    FAMILY(make)(&s, 1, 2);
+    FAMILY(make)(&s, 2, 2);
+    CHECK(FAMILY(finds)(&s, 1, 1), true);
+    FAMILY(make)(&s, 3, 1);
+    FAMILY(prune_all)(&s);
+    EVICTED(&s, 1, 3);
+    FAMILY(close)(&s);
+}
+
+/* Row 15: a charge that would take the total past its end is refused before anything is evicted. */
+static void FAMILY(row_15)(void) {
+    FAMILY(stage) s;
+
+    FAMILY(open)(&s, UINT64_MAX);
+    FAMILY(make)(&s, 1, UINT64_MAX);
+    CHECK(FAMILY(ask)(&s, 2, 1).code, LRU_OVERFLOW);
+    CHECK(s.length, 0);
+    CHECK(FAMILY(finds)(&s, 1, 1), true);
+    CHECK(FAMILY(total_of)(&s), UINT64_MAX);
+    FAMILY(close)(&s);
+}
+
+/* Row 16: a maker that fails leaves the making to the next that asks; old stamps are stale. */
+static void FAMILY(row_16)(void) {
+    FAMILY(stage) s;
+    lru_told told;
+
+    FAMILY(open)(&s, 10);
+    told = FAMILY(ask)(&s, 1, 3);
+    CHECK(told.code, LRU_MAKE);
+    CHECK(told.stamp, 0);
+    CHECK(FAMILY(finds)(&s, 1, 1), false);
+    told = FAMILY(ask)(&s, 1, 7);
+    CHECK(told.code, LRU_WAIT);
+    CHECK(told.stamp, 0);
+    told = FAMILY(poll)(&s.cache, 0);
+    CHECK(told.code, LRU_WAIT);
+    CHECK(FAMILY(fail)(&s.cache, 0), LRU_LEFT);
+    told = FAMILY(poll)(&s.cache, 0);
+    CHECK(told.code, LRU_MAKE);
+    CHECK(told.stamp, 0);
+    CHECK(FAMILY(ready)(&s.cache, 0, 77), LRU_DONE);
+    CHECK(FAMILY(ready)(&s.cache, 0, 78), LRU_STALE);
+    told = FAMILY(poll)(&s.cache, 0);
+    CHECK(told.code, LRU_HIT);
+    CHECK(told.value, 77);
+    CHECK(FAMILY(total_of)(&s), 3);
+    CHECK(FAMILY(let_go)(&s, 0), 0);
+    CHECK(FAMILY(release)(&s.cache, 0, &s.gone), LRU_STALE);
+    CHECK(FAMILY(note)(&s), 0);
+    CHECK(FAMILY(fail)(&s.cache, 0), LRU_STALE);
+    CHECK(FAMILY(poll)(&s.cache, 0).code, LRU_STALE);
+    CHECK(FAMILY(finds)(&s, 1, 77), true);
+    FAMILY(close)(&s);
+}
+
+/* Row 17: at capacity 0 an entry leaves with its release. */
+static void FAMILY(row_17)(void) {
+    FAMILY(stage) s;
+
+    FAMILY(open)(&s, 0);
+    FAMILY(make)(&s, 1, 1);
+    EVICTED(&s, 1);
+    CHECK(FAMILY(finds)(&s, 1, 1), false);
+    FAMILY(close)(&s);
+}
+
+/* Row 18: the last stamp is never given, and an entry takes no more pins than it may have. */
+static void FAMILY(row_18)(void) {
+    FAMILY(stage) s;
+
+    FAMILY(open_with_limits)(&s, 10, UINT64_MAX, 5);
+    CHECK(FAMILY(ask)(&s, 1, 1).code, LRU_OVERFLOW);
+    FAMILY(close)(&s);
+
+    FAMILY(open_with_limits)(&s, 10, 0, 1);
+    FAMILY(hold)(&s, 1, 1);
+    CHECK(FAMILY(get)(&s.cache, KEY(1)).code, LRU_OVERFLOW);
+    CHECK(FAMILY(ask)(&s, 1, 1).code, LRU_OVERFLOW);
+    CHECK(FAMILY(let_go)(&s, 0), 0);
+    CHECK(FAMILY(finds)(&s, 1, 1), true);
+    FAMILY(close)(&s);
+}
+
+/* Row 19: a smaller capacity evicts the oldest at once; a larger one brings none of them back. */
+static void FAMILY(row_19)(void) {
+    FAMILY(stage) s;
+
+    FAMILY(open)(&s, 9);
+    FAMILY(make)(&s, 1, 3);
+    FAMILY(make)(&s, 2, 2);
+    FAMILY(make)(&s, 3, 4);
+    CHECK(FAMILY(set_capacity)(&s.cache, 5, &s.gone), LRU_DONE);
+    FAMILY(note)(&s);
+    EVICTED(&s, 1, 2);
+    CHECK(FAMILY(capacity)(&s.cache).value, 5);
+    CHECK(FAMILY(set_capacity)(&s.cache, 9, &s.gone), LRU_DONE);
+    CHECK(FAMILY(note)(&s), 0);
+    CHECK(FAMILY(finds)(&s, 1, 1), false);
+    CHECK(FAMILY(prune_all)(&s), 1);
+    EVICTED(&s, 3);
+    FAMILY(close)(&s);
+}
+
+/* What a free hands out: idle entries, oldest first, then those that are held, each once. */
+static void FAMILY(frees)(void) {
+    FAMILY(stage) s;
+    uint64_t k;
+
+    FAMILY(open_with_limits)(&s, 100, 1000000, 3);
+    for (k = 1; k <= 6; k++)
+        FAMILY(make)(&s, k, 1);
+    FAMILY(hold)(&s, 2, 1);               /* held by one pin */
+    FAMILY(hold)(&s, 5, 1);               /* held by three */
+    FAMILY(hold)(&s, 5, 1);
+    FAMILY(hold)(&s, 5, 1);
+    CHECK(FAMILY(ask)(&s, 7, 1).code, LRU_MAKE); /* still being made */
+    CHECK(FAMILY(ask)(&s, 7, 1).code, LRU_WAIT);
+    CHECK(FAMILY(ask)(&s, 8, 1).code, LRU_MAKE); /* left by its maker, while another waits */
+    CHECK(FAMILY(ask)(&s, 8, 1).code, LRU_WAIT);
+    CHECK(FAMILY(fail)(&s.cache, 1000007), LRU_LEFT);
+    CHECK(FAMILY(len)(&s.cache).value, 8);
+    CHECK(FAMILY(free)(&s.cache, &s.gone), LRU_DONE);
+    FAMILY(note)(&s);
+    EVICTED(&s, 1, 3, 4, 6, 2, 5);
+    CHECK(FAMILY(evicted_free)(&s.gone), LRU_DONE);
+
+    /* the handle can be opened anew */
+    CHECK(FAMILY(new)(1, &s.cache), LRU_DONE);
+    CHECK(FAMILY(evicted_new)(&s.gone), LRU_DONE);
+    CHECK(FAMILY(len)(&s.cache).value, 0);
+    FAMILY(close)(&s);
+}
+
+/* A code for each misuse that is cheap to test; nothing changes. */
+static void FAMILY(misuse)(void) {
+    FAMILY(stage) s;
+    TYPE closed = {0};
+    FAMILY(evicted) shut = {0};
+    lru_gone gone = {0, 0, 0};
+    uint64_t stamp;
+
+    FAMILY(open)(&s, 2);
+
+    /* a cache that is not open */
+    CHECK(FAMILY(begin)(&closed, KEY(1), 1, &s.gone).code, LRU_CLOSED);
+    CHECK(FAMILY(poll)(&closed, 0).code, LRU_CLOSED);
+    CHECK(FAMILY(ready)(&closed, 0, 1), LRU_CLOSED);
+    CHECK(FAMILY(fail)(&closed, 0), LRU_CLOSED);
+    CHECK(FAMILY(get)(&closed, KEY(1)).code, LRU_CLOSED);
+    CHECK(FAMILY(contains)(&closed, KEY(1)), LRU_CLOSED);
+    CHECK(FAMILY(release)(&closed, 0, &s.gone), LRU_CLOSED);
+    CHECK(FAMILY(advice_evict)(&closed, KEY(1), &s.gone), LRU_CLOSED);
+    CHECK(FAMILY(prune)(&closed, &s.gone), LRU_CLOSED);
+    CHECK(FAMILY(set_capacity)(&closed, 1, &s.gone), LRU_CLOSED);
+    CHECK(FAMILY(reserve)(&closed, 1), LRU_CLOSED);
+    CHECK(FAMILY(total)(&closed).code, LRU_CLOSED);
+    CHECK(FAMILY(capacity)(&closed).code, LRU_CLOSED);
+    CHECK(FAMILY(len)(&closed).code, LRU_CLOSED);
+    CHECK(FAMILY(free)(&closed, &s.gone), LRU_CLOSED);
+    CHECK(FAMILY(evicted_is_empty)(&s.gone), true);
+
+    /* a chain that is not open */
+    CHECK(FAMILY(begin)(&s.cache, KEY(1), 1, &shut).code, LRU_CLOSED);
+    CHECK(FAMILY(release)(&s.cache, 0, &shut), LRU_CLOSED);
+    CHECK(FAMILY(advice_evict)(&s.cache, KEY(1), &shut), LRU_CLOSED);
+    CHECK(FAMILY(prune)(&s.cache, &shut), LRU_CLOSED);
+    CHECK(FAMILY(set_capacity)(&s.cache, 1, &shut), LRU_CLOSED);
+    CHECK(FAMILY(free)(&s.cache, &shut), LRU_CLOSED);
+    CHECK(FAMILY(evicted_free)(&shut), LRU_CLOSED);
+    CHECK(FAMILY(evicted_pop)(&shut, &gone), false);
+    CHECK(FAMILY(evicted_is_empty)(&shut), true);
+
+    /* handles that are open already */
+    CHECK(FAMILY(new)(1, &s.cache), LRU_OPEN);
+    CHECK(FAMILY(new_with_limits)(1, 0, 1, &s.cache), LRU_OPEN);
+    CHECK(FAMILY(evicted_new)(&s.gone), LRU_OPEN);
+
+    /* numbers that are 0 */
+    CHECK(FAMILY(new_with_limits)(1, 0, 0, &closed), LRU_NO_PINS);
+    CHECK(FAMILY(begin)(&s.cache, KEY(1), 0, &s.gone).code, LRU_NO_CHARGE);
+    CHECK(FAMILY(len)(&s.cache).value, 0);
+
+    /* a chain that still holds entries */
+    FAMILY(make)(&s, 1, 1);
+    stamp = FAMILY(hold)(&s, 2, 1);
+    CHECK(FAMILY(advice_evict)(&s.cache, KEY(1), &s.gone), LRU_DONE);
+    CHECK(FAMILY(evicted_is_empty)(&s.gone), false);
+    CHECK(FAMILY(begin)(&s.cache, KEY(3), 1, &s.gone).code, LRU_NOT_EMPTY);
+    CHECK(FAMILY(release)(&s.cache, stamp, &s.gone), LRU_NOT_EMPTY);
+    CHECK(FAMILY(advice_evict)(&s.cache, KEY(2), &s.gone), LRU_NOT_EMPTY);
+    CHECK(FAMILY(prune)(&s.cache, &s.gone), LRU_NOT_EMPTY);
+    CHECK(FAMILY(set_capacity)(&s.cache, 0, &s.gone), LRU_NOT_EMPTY);
+    CHECK(FAMILY(free)(&s.cache, &s.gone), LRU_NOT_EMPTY);
+    CHECK(FAMILY(evicted_free)(&s.gone), LRU_NOT_EMPTY);
+    CHECK(FAMILY(len)(&s.cache).value, 1);
+    CHECK(FAMILY(capacity)(&s.cache).value, 2);
+    CHECK(FAMILY(evicted_pop)(&s.gone, &gone), true);
+    CHECK(gone.stamp, 0);
+    CHECK(gone.charge, 1);
+    CHECK(gone.value, 1);
+    CHECK(FAMILY(evicted_pop)(&s.gone, &gone), false);
+    CHECK(gone.value, 1);
+    FAMILY(let_go)(&s, stamp);
+
+    /* twice */
+    FAMILY(close)(&s);
+    CHECK(FAMILY(free)(&s.cache, &s.gone), LRU_CLOSED);
+    CHECK(FAMILY(evicted_free)(&s.gone), LRU_CLOSED);
+}
+
+static void FAMILY(rows)(void) {
+    FAMILY(row_1_2)();
+    FAMILY(row_3)();
+    FAMILY(row_4)();
+    FAMILY(row_5)();
+    FAMILY(row_6)();
+    FAMILY(row_8)();
+    FAMILY(row_9)();
+    FAMILY(row_10)();
+    FAMILY(row_11)();
+    FAMILY(row_12)();
+    FAMILY(row_13)();
+    FAMILY(row_15)();
+    FAMILY(row_16)();
+    FAMILY(row_17)();
+    FAMILY(row_18)();
+    FAMILY(row_19)();
+    FAMILY(frees)();
+    FAMILY(misuse)();
+}
+
+#undef EVICTED

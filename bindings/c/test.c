@@ -1,0 +1,160 @@
+/* Tests of the library from C: the worked rows that need no thread, what a free hands out, and a
+ * code for each misuse that a call can test.  Prints each failure; the status tells whether there
+ * was any. */
+#include "lru.h"
+
+#include <inttypes.h>
+#include <stdio.h>
+#include <string.h>
+
+static int failures;
+
+static void check(const char *file, int line, uint64_t got, uint64_t wanted) {
+    if (got != wanted) {
+        fprintf(stderr, "%s:%d: got %" PRIu64 ", wanted %" PRIu64 "\n", file, line, got, wanted);
+        failures++;
+    }
+}
+
+#define CHECK(got, wanted) check(__FILE__, __LINE__, (uint64_t)(got), (uint64_t)(wanted))
+
+static void check_list(const char *file, int line, const uint64_t *got, size_t length,
+                       const uint64_t *wanted, size_t wanted_length) {
+    size_t i;
+
+    check(file, line, length, wanted_length);
+    for (i = 0; i < length && i < wanted_length; i++)
+        check(file, line, got[i], wanted[i]);
+}
+
+/* A number as a key of its eight bytes. */
+static const void *bytes_of(uint64_t k) {
+    static uint64_t kept[2]; /* two keys may be passed in one expression */
+    static int last;
+
+    last = !last;
+    kept[last] = k;
+    return &kept[last];
+}
+
+#define FAMILY(name) lru_bytes_##name
+#define TYPE lru_bytes
+#define KEY(k) bytes_of(k), sizeof(uint64_t)
+#include "rows.h"
+#undef FAMILY
+#undef TYPE
+#undef KEY
+
+#define FAMILY(name) lru_words_##name
+#define TYPE lru_words
+#define KEY(k) (k), ~(uint64_t)(k)
+#include "rows.h"
+#undef FAMILY
+#undef TYPE
+#undef KEY
+
+/* Keys of bytes: of any length, also none; null is the empty key where the length is 0. */
+static void keys_of_bytes(void) {
+    lru_bytes cache = {0};
+    lru_bytes_evicted gone = {0};
+    lru_gone left;
+    lru_told told;
+    char key[8];
+
+    CHECK(lru_bytes_new(10, &cache), LRU_DONE);
+    CHECK(lru_bytes_evicted_new(&gone), LRU_DONE);
+
+    CHECK(lru_bytes_begin(&cache, NULL, 1, 1, &gone).code, LRU_NULL_KEY);
+    CHECK(lru_bytes_get(&cache, NULL, 1).code, LRU_NULL_KEY);
+    CHECK(lru_bytes_contains(&cache, NULL, 1), LRU_NULL_KEY);
+    CHECK(lru_bytes_advice_evict(&cache, NULL, 1, &gone), LRU_NULL_KEY);
+    CHECK(lru_bytes_len(&cache).value, 0);
+
+    told = lru_bytes_begin(&cache, NULL, 0, 1, &gone);
+    CHECK(told.code, LRU_MAKE);
+    CHECK(lru_bytes_ready(&cache, told.stamp, 100), LRU_DONE);
+    CHECK(lru_bytes_get(&cache, "", 0).value, 100);
+
+    /* the key is copied: its bytes may change */
+    memcpy(key, "abc", 4);
+    told = lru_bytes_begin(&cache, key, 3, 1, &gone);
+    CHECK(told.code, LRU_MAKE);
+    memcpy(key, "xyz", 4);
+    CHECK(lru_bytes_ready(&cache, told.stamp, 200), LRU_DONE);
+    CHECK(lru_bytes_get(&cache, "abc", 3).value, 200);
+    CHECK(lru_bytes_get(&cache, "abc\0", 4).code, LRU_MISSED);
+    CHECK(lru_bytes_get(&cache, "ab", 2).code, LRU_MISSED);
+
+    told = lru_bytes_key_of(&cache, told.stamp, key, sizeof key);
+    CHECK(told.code, LRU_NUMBER);
+    CHECK(told.value, 3);
+    CHECK(memcmp(key, "abc", 3), 0);
+    memcpy(key, "xyz", 4);
+    told = lru_bytes_key_of(&cache, 1, key, 2);
+    CHECK(told.code, LRU_NO_ROOM);
+    CHECK(told.value, 3);
+    CHECK(memcmp(key, "xyz", 3), 0);
+    CHECK(lru_bytes_key_of(&cache, 1, NULL, 0).code, LRU_NO_ROOM);
+    told = lru_bytes_key_of(&cache, 0, NULL, 0);
+    CHECK(told.code, LRU_NUMBER);
+    CHECK(told.value, 0);
+    CHECK(lru_bytes_key_of(&cache, 2, key, sizeof key).code, LRU_STALE);
+
+    CHECK(lru_bytes_reserve(&cache, 1000), LRU_DONE);
+    CHECK(lru_bytes_free(&cache, &gone), LRU_DONE);
+    CHECK(lru_bytes_evicted_pop(&gone, &left), true);
+    CHECK(left.value, 100);
+    CHECK(lru_bytes_evicted_pop(&gone, &left), true);
+    CHECK(left.value, 200);
+    CHECK(lru_bytes_evicted_free(&gone), LRU_DONE);
+    CHECK(lru_bytes_key_of(&cache, 0, key, sizeof key).code, LRU_CLOSED);
+}
+
+/* Keys of two words: both count. */
+static void keys_of_words(void) {
+    lru_words cache = {0};
+    lru_words_evicted gone = {0};
+    lru_told told;
+    uint64_t first = 7, second = 8;
+
+    CHECK(lru_words_new(10, &cache), LRU_DONE);
+    CHECK(lru_words_evicted_new(&gone), LRU_DONE);
+    told = lru_words_begin(&cache, 1, 2, 1, &gone);
+    CHECK(told.code, LRU_MAKE);
+    CHECK(lru_words_ready(&cache, told.stamp, 100), LRU_DONE);
+    CHECK(lru_words_get(&cache, 2, 1).code, LRU_MISSED);
+    CHECK(lru_words_get(&cache, 1, 1).code, LRU_MISSED);
+    CHECK(lru_words_get(&cache, 2, 2).code, LRU_MISSED);
+    CHECK(lru_words_get(&cache, 1, 2).value, 100);
+    CHECK(lru_words_key_of(&cache, 1, &first, &second), LRU_STALE);
+    CHECK(first, 7);
+    CHECK(second, 8);
+    CHECK(lru_words_key_of(&cache, told.stamp, &first, &second), LRU_DONE);
+    CHECK(first, 1);
+    CHECK(second, 2);
+    CHECK(lru_words_reserve(&cache, 1000), LRU_DONE);
+    CHECK(lru_words_reserve(&cache, SIZE_MAX), LRU_MEMORY);
+    CHECK(lru_words_len(&cache).value, 1);
+    CHECK(lru_words_free(&cache, &gone), LRU_DONE);
+    CHECK(lru_words_evicted_free(&gone), LRU_NOT_EMPTY);
+    while (!lru_words_evicted_is_empty(&gone)) {
+        lru_gone left;
+        CHECK(lru_words_evicted_pop(&gone, &left), true);
+        CHECK(left.value, 100);
+    }
+    CHECK(lru_words_evicted_free(&gone), LRU_DONE);
+    CHECK(lru_words_key_of(&cache, 0, &first, &second), LRU_CLOSED);
+}
+
+int main(void) {
+    lru_bytes_rows();
+    lru_words_rows();
+    keys_of_bytes();
+    keys_of_words();
+    if (failures > 0) {
+        fprintf(stderr, "%d failed\n", failures);
+        return 1;
+    }
+    puts("all passed");
+    return 0;
+}

@@ -1,0 +1,16 @@
+pub mod Asked
+pub mod ByKey
+pub mod Cases
+pub mod Inserted
+pub mod IntoChain
+pub mod BytesCopies
+pub mod ChainCodes
+pub mod EvictedSent
+pub mod Opened
+pub mod Opens
+pub mod BytesCacheAsBox
+pub mod BytesChainAsBox
+pub mod BytesOpened
+pub mod WordsCacheAsBox
+pub mod WordsChainAsBox
+pub mod WordsOpened

@@ -1,0 +1,76 @@
+-- What a step did with what an open handle leads to, as what a call did with the handle.
+use Rattle.std.proofs.Common.{◌≡◌, ℕ, List, inl, inr, sym, subst, ◌==◌, [], ◌++◌, refl}
+use Rattle.std.specs.Prelude.{Option, Some, None, MatchBool, ◌⊎◌}
+use Rattle.concurrent_lru.specs.Cache.{Cache}
+use Rattle.concurrent_lru.specs.Request as ask
+use Rattle.concurrent_lru.specs.Request.{Request}
+use Rattle.concurrent_lru.specs.TakeAll.{TakesAll}
+use Rattle.lru_c.specs.Chains.{chain_code, entries_in, Pops}
+use Rattle.lru_c.specs.Codes as code
+use Rattle.lru_c.specs.Inserts.{TellsInsertOf}
+use Rattle.lru_c.specs.Opened.{TellsKey, TellsReady}
+use Rattle.lru_c.specs.Told as tells
+use Rattle.lru_c.specs.Told.{bare, told, IsSame}
+use Rattle.lru_c.specs.WordsCalls.{entries_of, words_eq, Entries, Asks, AsksWithMemory, Begins, Contains, Inserts, KeyOf, Numbers, Reserves, Frees}
+use Rattle.lru_c.specs.declared.told.LruGone.{LruGone}
+use Rattle.lru_c.specs.declared.told.LruTold.{LruTold}
+use Rattle.lru_c.specs.declared.words.key.Words.{Words}
+use Rattle.lru_c.specs.declared.words.cache.WordsCache.{WordsCache}
+use Rattle.lru_c.specs.declared.words.chain.WordsChain.{WordsChain}
+use Rattle.lru_c.proofs.Opened.{on_open}
+
+module _ {old new : Option WordsCache} {x y : WordsCache} (o : old ≡ Some x) (n : new ≡ Some y) (a : WordsCache) (is : a ≡ x) where
+  pub asks : (r : Request Words ℕ) (t : LruTold) (gone : Entries) → tells.Asks words_eq a.state.cache r t gone y.state.cache → Asks old r t gone new
+  asks r t gone h =
+      on_open old new x y (λ p q. tells.Asks words_eq p.state.cache r t gone q.state.cache) _ o n (subst (λ p. tells.Asks words_eq p.state.cache r t gone y.state.cache) is h)
+
+  abbrev BeginStep : Words → ℕ → LruTold → Entries → WordsCache → WordsCache → Type 0
+  BeginStep key charge t gone p q =
+      MatchBool (charge == 0) ((t ≡ bare code.no_charge) × IsSame p.state.cache gone q.state.cache) (tells.Asks words_eq p.state.cache (ask.begin key charge) t gone q.state.cache)
+
+  pub begins : (key : Words) (charge : ℕ) (t : LruTold) (gone : Entries) → BeginStep key charge t gone a y → Begins old key charge t gone new
+  begins key charge t gone h = on_open old new x y (BeginStep key charge t gone) _ o n (subst (λ p. BeginStep key charge t gone p y) is h)
+
+  pub contains : (key : Words) (c : ℕ) → TellsReady words_eq a.state.cache key c → y.state.cache ≡ x.state.cache → Contains old key c new
+  contains key c h same = on_open old new x y (λ p q. TellsReady words_eq p.state.cache key c × (q.state.cache ≡ p.state.cache)) _ o n (subst (λ p. TellsReady words_eq p.state.cache key c) is h, same)
+
+  pub key_of : (stamp c : ℕ) (key : Words) → TellsKey a.state.cache stamp c key → y.state.cache ≡ x.state.cache → KeyOf old stamp c key new
+  key_of stamp c key h same = on_open old new x y (λ p q. TellsKey p.state.cache stamp c key × (q.state.cache ≡ p.state.cache)) _ o n (subst (λ p. TellsKey p.state.cache stamp c key) is h, same)
+
+  pub inserts : (key : Words) (charge v : ℕ) (t : LruTold) (replaced evicted : Entries) → TellsInsertOf words_eq (λ k. k ≡ key) a.state.cache charge v t replaced evicted y.state.cache → Inserts old key charge v t replaced evicted new
+  inserts key charge v t replaced evicted h =
+      on_open old new x y (λ p q. TellsInsertOf words_eq (λ k. k ≡ key) p.state.cache charge v t replaced evicted q.state.cache) _ o n
+      (subst (λ p. TellsInsertOf words_eq (λ k. k ≡ key) p.state.cache charge v t replaced evicted y.state.cache) is h)
+
+  pub numbers : (number : Cache Words ℕ → ℕ) (t : LruTold) → t ≡ told code.number 0 (number a.state.cache) → y.state.cache ≡ x.state.cache → Numbers old number t new
+  numbers number t h same =
+      on_open old new x y (λ p q. (t ≡ told code.number 0 (number p.state.cache)) × (q.state.cache ≡ p.state.cache)) _ o n
+      (subst (λ p. t ≡ told code.number 0 (number p.state.cache)) is h, same)
+
+  pub reserves : (c : ℕ) → (c ≡ code.done) ⊎ (c ≡ code.memory) → y.state.cache ≡ a.state.cache → Reserves old c new
+  reserves c h same =
+      on_open old new x y (λ p q. ((c ≡ code.done) ⊎ (c ≡ code.memory)) × (q.state.cache ≡ p.state.cache)) _ o n (h, subst (λ p. y.state.cache ≡ p.state.cache) is same)
+
+  pub asks_with_memory : (r : Request Words ℕ) (t : LruTold) (gone : Entries) → tells.AsksWithMemory words_eq a.state.cache r t gone y.state.cache → AsksWithMemory old r t gone new
+  asks_with_memory r t gone h =
+      on_open old new x y (λ p q. tells.AsksWithMemory words_eq p.state.cache r t gone q.state.cache) _ o n (subst (λ p. tells.AsksWithMemory words_eq p.state.cache r t gone y.state.cache) is h)
+
+-- where no key is told, it does not matter which one is named
+pub any_key : (old new : Option WordsCache) (stamp c : ℕ) (k l : Words) → (c ≡ code.done → ⊥) → KeyOf old stamp c k new → KeyOf old stamp c l new
+any_key None None stamp c k l none h = h
+any_key (Some o) (Some n) stamp c k l none h = (
+  elim h.0 [
+    | inl p ↦ absurd (none p.0)
+    | inr q ↦ inr q
+  ],
+  h.1,
+)
+any_key None (Some n) stamp c k l none h = h
+any_key (Some o) None stamp c k l none h = h
+
+-- a cache behind a handle that was freed
+pub frees : (old : Option WordsCache) (x a : WordsCache) (out : Entries) → old ≡ Some x → a ≡ x → TakesAll a.state.cache out → Frees old code.done out
+frees old x a out o is h = subst (λ p. Frees p code.done out) (sym o) (refl, subst (λ (z : WordsCache). TakesAll z.state.cache out) is h)
+
+pub frees_none : (old : Option WordsCache) (out : Entries) → old ≡ None → out ≡ [] → Frees old code.closed out
+frees_none old out o none = subst (λ p. Frees p code.closed out) (sym o) (refl, none)

@@ -1,0 +1,14 @@
+use Rattle.std.proofs.Common.{ap}
+use Rattle.std.specs.Arc.{arc_value}
+use Rattle.lru_c.proofs.Inserted.{tells_stamp, tells_refusal}
+use Rattle.lru_c.proofs.steps.insert_shared.Goals as goal
+
+pub returns-in-Ok : goal.returns-in-Ok
+returns-in-Ok g c =
+    tells_stamp g.K.PartialEq.eq c.args.state.now.cache c.insert.new.self.cache c.args.key.now c.args.charge (arc_value c.args.shared) c.of.result c.in-Ok.inserted.replaced c.in-Ok.inserted.evicted c.in-Ok.inserted.stamp c.of.ensures c.in-Ok.ensures.step
+    c.in-Ok.ensures.lawful
+
+pub returns-in-Err : goal.returns-in-Err
+returns-in-Err g c =
+    tells_refusal g.K.PartialEq.eq c.args.state.now.cache c.insert.new.self.cache c.args.key.now c.args.charge (arc_value c.args.shared) c.refused.result.0 c.refused.result.1.0 c.refused.result.1.1 c.in-Err.refusal c.code_of.result c.code_of.ensures c.refused.ensures
+    c.in-Err.ensures.step (ap (λ s. s.cache) c.in-Err.ensures.same)

@@ -1,0 +1,53 @@
+-- The codes that C is told, by the names of the header.
+use Rattle.std.specs.Prelude.{ℕ}
+
+abbrev pub make : ℕ
+make = 0
+
+abbrev pub wait : ℕ
+wait = 1
+
+abbrev pub hit : ℕ
+hit = 2
+
+abbrev pub done : ℕ
+done = 3
+
+abbrev pub left : ℕ
+left = 4
+
+abbrev pub removed : ℕ
+removed = 5
+
+abbrev pub missed : ℕ
+missed = 6
+
+abbrev pub overflow : ℕ
+overflow = 7
+
+abbrev pub stale : ℕ
+stale = 8
+
+abbrev pub memory : ℕ
+memory = 9
+
+abbrev pub number : ℕ
+number = 10
+
+abbrev pub no_charge : ℕ
+no_charge = 11
+
+abbrev pub no_pins : ℕ
+no_pins = 12
+
+abbrev pub closed : ℕ
+closed = 14
+
+abbrev pub opened : ℕ
+opened = 15
+
+abbrev pub not_empty : ℕ
+not_empty = 16
+
+abbrev pub no_room : ℕ
+no_room = 17

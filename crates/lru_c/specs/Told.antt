@@ -1,0 +1,81 @@
+-- What a call tells C, as an outcome of the abstract cache. E is the equality of keys.
+use Rattle.std.specs.Prelude.{◌≡◌, ℕ, Bool, cond, ◌==◌, List, [], Option, Some, None, MatchBool, ⊤}
+use Rattle.std.specs.declared.sync.Arc.{Arc}
+use Rattle.std.specs.declared.alloc.Global.{Global}
+use Rattle.concurrent_lru.specs.Cache.{Cache, Idle, IsLawful}
+use Rattle.concurrent_lru.specs.Request.{Request}
+use Rattle.concurrent_lru.specs.Reply as say
+use Rattle.concurrent_lru.specs.Runs.{Outcome, accepted, refused, Stands}
+use Rattle.concurrent_lru.specs.declared.list.Refusal.{Refusal}
+use Rattle.concurrent_lru.specs.declared.list.Refusal.TheVariants.{Memory, Overflow, Stale}
+use Rattle.concurrent_lru.specs.declared.step.Begun.{Begun}
+use Rattle.concurrent_lru.specs.declared.step.Begun.TheVariants as begun
+use Rattle.concurrent_lru.specs.declared.step.Failed.{Failed}
+use Rattle.concurrent_lru.specs.declared.step.Failed.TheVariants as failed
+use Rattle.lru_c.specs.Codes as code
+use Rattle.lru_c.specs.declared.told.LruTold.{LruTold}
+
+-- these three are told; a code is told alone
+abbrev pub told : ℕ → ℕ → ℕ → LruTold
+told c stamp value = record { stamp = stamp; value = value; code = c }
+
+abbrev pub bare : ℕ → LruTold
+bare c = told c 0 0
+
+-- the code of a refusal of the core
+abbrev pub refusal_code : Refusal → ℕ
+refusal_code Overflow = code.overflow
+refusal_code Stale = code.stale
+refusal_code Memory = code.memory
+
+-- what is told of an entry that was begun or polled, and of one that was found or not
+abbrev pub begun_told : Begun ℕ → LruTold
+begun_told (begun.Make s) = told code.make s 0
+begun_told (begun.Wait s) = told code.wait s 0
+begun_told (begun.Hit s a) = told code.hit s a.value
+
+abbrev pub found_told : Option (ℕ × Arc ℕ Global) → LruTold
+found_told None = bare code.missed
+found_told (Some r) = told code.hit r.0 r.1.value
+
+module _ {K : Type 0} where
+  -- the code of a making that was given up
+  abbrev pub failed_code : Failed K → ℕ
+  failed_code failed.Left = code.left
+  failed_code (failed.Removed k) = code.removed
+
+  -- The outcome that is told, where no key was removed: what was put into a chain goes with it. Any other code reads as a sum, and no step that is told so has that outcome.
+  abbrev pub outcome_told : LruTold → List (Idle K ℕ) → Outcome K ℕ
+  outcome_told t gone =
+      cond (t.code == code.make) (accepted (say.make t.stamp) gone) (cond (t.code == code.wait) (accepted (say.wait t.stamp) gone) (
+      cond (t.code == code.hit) (accepted (say.hit t.stamp t.value) gone) (cond (t.code == code.done) (accepted say.done gone) (
+      cond (t.code == code.left) (accepted say.left gone) (cond (t.code == code.missed) (accepted say.missed gone) (
+      cond (t.code == code.overflow) (refused Overflow) (cond (t.code == code.stale) (refused Stale) (
+      cond (t.code == code.memory) (refused Memory) (accepted (say.sum t.value) gone)))))))))
+
+  -- a refusal puts nothing into a chain
+  abbrev pub IsQuiet : Outcome K ℕ → List (Idle K ℕ) → Type 0
+  IsQuiet (accepted reply out) gone = ⊤
+  IsQuiet (refused e) gone = gone ≡ []
+
+  -- nothing changed, and nothing was put into a chain
+  abbrev pub IsSame : Cache K ℕ → List (Idle K ℕ) → Cache K ℕ → Type 0
+  IsSame old gone new = (new ≡ old) × (gone ≡ [])
+
+  module _ (E : K → K → Bool) where
+    -- The call took one step of the cache, and told its outcome. A key that was removed is not told.
+    abbrev pub Tells : Cache K ℕ → Request K ℕ → LruTold → List (Idle K ℕ) → Cache K ℕ → Type 0
+    Tells old r t gone new =
+        MatchBool (t.code == code.removed) ((k : K) × Stands E old r (accepted (say.removed k) gone) new) (Stands E old r (outcome_told t gone) new)
+
+    -- The same; a refusal put nothing into a chain, and the cache that is left is lawful.
+    abbrev pub Asks : Cache K ℕ → Request K ℕ → LruTold → List (Idle K ℕ) → Cache K ℕ → Type 0
+    Asks old r t gone new = Tells old r t gone new × IsQuiet (outcome_told t gone) gone × IsLawful E new
+
+    -- The same of a call that first asks for memory of its own: where that is refused nothing changed.
+    abbrev pub AsksWithMemory : Cache K ℕ → Request K ℕ → LruTold → List (Idle K ℕ) → Cache K ℕ → Type 0
+    AsksWithMemory old r t gone new = MatchBool (t.code == code.memory) (IsSame old gone new) (Asks old r t gone new)
+
+    -- The same of a call that first makes a key of these bytes, or the like: it is of a key for which this holds.
+    abbrev pub AsksOf : (K → Type 0) → Cache K ℕ → (K → Request K ℕ) → LruTold → List (Idle K ℕ) → Cache K ℕ → Type 0
+    AsksOf IsKey old r t gone new = MatchBool (t.code == code.memory) (IsSame old gone new) ((key : K) × IsKey key × Asks old (r key) t gone new)

@@ -1,0 +1,32 @@
+//! What the handle of a chain leads to.
+ghost use Rattle.std.specs.Prelude.{◌≡◌, ◌++◌, Some};
+ghost use Rattle.lru_c.specs.Chains.{chain_code, Pops};
+
+use crate::chains;
+use crate::told::LruGone;
+use concurrent_lru::lru_core::Evicted;
+
+/// What a call took out of a cache, oldest first: these, and then those.
+#[derive(Drop)]
+pub struct BytesChain {
+    /// What is popped first.
+    pub first: Evicted<Vec<u8>, u64>,
+    /// What is popped after it.
+    pub rest: Evicted<Vec<u8>, u64>,
+}
+
+impl BytesChain {
+    // Whether it takes more.
+    pub(crate) fn is_filled(&self) -> u32
+        ensures { result ≡ chain_code (Some (self.now.first ++ self.now.rest)) }
+    {
+        chains::is_filled(&self.first, &self.rest)
+    }
+
+    // Takes the oldest entry out.
+    pub(crate) fn pop(&mut self) -> Option<LruGone>
+        ensures { Pops (self.old.first ++ self.old.rest) result (self.new.first ++ self.new.rest) }
+    {
+        chains::pop(&mut self.first, &mut self.rest)
+    }
+}

@@ -1,0 +1,36 @@
+//! The codes that C is told, as the header lists them.
+
+/// Pinned; the caller makes the value.
+pub const MAKE: u32 = 0;
+/// Pinned; another makes the value.
+pub const WAIT: u32 = 1;
+/// Pinned; the value is told.
+pub const HIT: u32 = 2;
+/// Done.
+pub const DONE: u32 = 3;
+/// A making was given up, and others wait.
+pub const LEFT: u32 = 4;
+/// A making was given up, and its entry is gone.
+pub const REMOVED: u32 = 5;
+/// No ready entry has the key.
+pub const MISSED: u32 = 6;
+/// Refused: a number is at its end.
+pub const OVERFLOW: u32 = 7;
+/// Refused: no entry that the call is for has the stamp.
+pub const STALE: u32 = 8;
+/// Refused: the allocator gave no memory.
+pub const MEMORY: u32 = 9;
+/// The number that was asked for is told.
+pub const NUMBER: u32 = 10;
+/// Refused: a charge of 0.
+pub const NO_CHARGE: u32 = 11;
+/// Refused: a limit of 0 pins.
+pub const NO_PINS: u32 = 12;
+/// Refused: a handle that is not open.
+pub const CLOSED: u32 = 14;
+/// Refused: a handle that is open already.
+pub const OPEN: u32 = 15;
+/// Refused: a chain that still holds entries.
+pub const NOT_EMPTY: u32 = 16;
+/// Refused: a buffer that is too small.
+pub const NO_ROOM: u32 = 17;

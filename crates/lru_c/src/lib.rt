@@ -1,0 +1,12 @@
+//! The cache for one owner, for programs in C and in other languages that call C.
+//! C holds handles to caches and to chains of evicted entries, and has a lock of its own round
+//! each call.
+#![tactic(auto)]
+
+pub mod bytes;
+mod chains;
+pub mod code;
+pub mod parts;
+mod steps;
+pub mod told;
+pub mod words;
