@@ -1,0 +1,134 @@
+/* The script of no_memory.c for one family of functions. It is included once for each, with
+ *
+ *   FAMILY       lru_bytes or lru_words
+ *   NAME(call)   the name of a function of the family
+ *   KEY(n)       the key of a number, as arguments
+ *   RUN          the name of the function that is defined here
+ */
+
+/* The total charge and the number of entries, which a refused call must not change. */
+static uint64_t NAME(weighed)(FAMILY *cache) {
+    return NAME(total)(cache).value * 1000 + NAME(len)(cache).value;
+}
+
+/* Deletes what was evicted. */
+static void NAME(take)(NAME(evicted) * gone) {
+    lru_gone entry;
+    while (NAME(evicted_pop)(gone, &entry)) delete_object(entry.value, "evicted");
+    if (!NAME(evicted_is_empty)(gone)) wrong("a chain that was popped is not empty");
+}
+
+static lru_told NAME(ask)(FAMILY *cache, NAME(evicted) * gone, unsigned n, uint64_t charge) {
+    uint64_t before = NAME(weighed)(cache);
+    lru_told told = NAME(begin)(cache, KEY(n), charge, gone);
+    if (refused(told.code, "begin")) {
+        if (!NAME(evicted_is_empty)(gone) || NAME(weighed)(cache) != before)
+            wrong("a refused begin changed something");
+        told = NAME(begin)(cache, KEY(n), charge, gone);
+    }
+    NAME(take)(gone);
+    say("begin", told);
+    return told;
+}
+
+static lru_told NAME(find)(FAMILY *cache, unsigned n) {
+    uint64_t before = NAME(weighed)(cache);
+    lru_told told = NAME(get)(cache, KEY(n));
+    if (refused(told.code, "get")) {
+        if (NAME(weighed)(cache) != before) wrong("a refused get changed something");
+        told = NAME(get)(cache, KEY(n));
+    }
+    say("get", told);
+    return told;
+}
+
+static void NAME(give)(FAMILY *cache, uint64_t stamp) {
+    uint64_t before = NAME(weighed)(cache), value = new_object();
+    lru_code code = NAME(ready)(cache, stamp, value);
+    if (refused(code, "ready")) {
+        if (NAME(weighed)(cache) != before) wrong("a refused ready changed something");
+        code = NAME(ready)(cache, stamp, value);
+    }
+    say_code("ready", code);
+}
+
+static void NAME(let_go)(FAMILY *cache, NAME(evicted) * gone, uint64_t stamp) {
+    say_code("release", NAME(release)(cache, stamp, gone));
+    NAME(take)(gone);
+}
+
+/* Makes the entry of a key if there is none, and releases it. */
+static void NAME(use)(FAMILY *cache, NAME(evicted) * gone, unsigned n, uint64_t charge) {
+    lru_told told = NAME(ask)(cache, gone, n, charge);
+    if (told.code == LRU_MAKE) NAME(give)(cache, told.stamp);
+    NAME(let_go)(cache, gone, told.stamp);
+}
+
+static void NAME(evict)(FAMILY *cache, NAME(evicted) * gone, unsigned n) {
+    lru_code code = NAME(advice_evict)(cache, KEY(n), gone);
+    if (refused(code, "advice_evict")) code = NAME(advice_evict)(cache, KEY(n), gone);
+    say_code("advice_evict", code);
+    NAME(take)(gone);
+}
+
+static void NAME(open)(FAMILY *cache) {
+    lru_code code = NAME(new)(20, cache);
+    if (refused(code, "new")) code = NAME(new)(20, cache);
+    say_code("new", code);
+}
+
+static void RUN(void) {
+    FAMILY cache = {0};
+    NAME(evicted) gone = {0};
+    lru_told held, waited;
+    lru_code code = NAME(evicted_new)(&gone);
+    if (refused(code, "evicted_new")) code = NAME(evicted_new)(&gone);
+    say_code("evicted_new", code);
+    NAME(open)(&cache);
+
+    /* Entries are made and evicted while one is held. */
+    held = NAME(ask)(&cache, &gone, 0, 3);
+    NAME(give)(&cache, held.stamp);
+    for (unsigned n = 1; n < 40; n++) NAME(use)(&cache, &gone, n, 1 + n % 3);
+    for (unsigned n = 30; n < 40; n++) NAME(use)(&cache, &gone, n, 1);
+
+    /* Making a value fails, once while nobody waits and once while somebody does. */
+    waited = NAME(ask)(&cache, &gone, 50, 2);
+    say_code("fail", NAME(fail)(&cache, waited.stamp));
+    waited = NAME(ask)(&cache, &gone, 50, 2);
+    NAME(ask)(&cache, &gone, 50, 9);
+    say_code("fail", NAME(fail)(&cache, waited.stamp));
+    say("poll", NAME(poll)(&cache, waited.stamp));
+    NAME(give)(&cache, waited.stamp);
+    say("poll", NAME(poll)(&cache, waited.stamp));
+    NAME(let_go)(&cache, &gone, waited.stamp);
+
+    /* Hits, misses and advice_evict. */
+    waited = NAME(find)(&cache, 50);
+    NAME(evict)(&cache, &gone, 50);
+    NAME(let_go)(&cache, &gone, waited.stamp);
+    NAME(evict)(&cache, &gone, 50);
+    NAME(find)(&cache, 50);
+    NAME(find)(&cache, 99);
+
+    /* reserve, a smaller capacity, prune. */
+    code = NAME(reserve)(&cache, 100);
+    if (refused(code, "reserve")) code = NAME(reserve)(&cache, 100);
+    say_code("reserve", code);
+    say_code("set_capacity", NAME(set_capacity)(&cache, 8, &gone));
+    NAME(take)(&gone);
+    say_code("prune", NAME(prune)(&cache, &gone));
+    NAME(take)(&gone);
+
+    /* Free with one entry held, one idle and one being made; then open again. */
+    NAME(use)(&cache, &gone, 60, 1);
+    NAME(ask)(&cache, &gone, 61, 1);
+    say("total", NAME(total)(&cache));
+    say_code("free", NAME(free)(&cache, &gone));
+    NAME(take)(&gone);
+    NAME(open)(&cache);
+    NAME(use)(&cache, &gone, 1, 1);
+    say_code("free", NAME(free)(&cache, &gone));
+    NAME(take)(&gone);
+    say_code("evicted_free", NAME(evicted_free)(&gone));
+}
