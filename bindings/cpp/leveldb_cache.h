@@ -7,23 +7,24 @@
 // stores them as two words, which is faster. LevelDBCache caches keys of any length.
 //
 // Like LevelDB's own cache it has 16 shards, each with a mutex, and both choose the same shard for
-// a key. It differs from LevelDB's own cache in these points:
+// a key. As long as the entries that are pinned at one time fit into the capacity of their shard,
+// and none is erased or replaced while it is pinned, both caches hold the same entries. Otherwise
+// they differ in these points:
 //
 //  - Release evicts too. LevelDB's cache evicts only in Insert, so a shard whose pinned entries
 //    exceeded its capacity stays above it until the next Insert. Here a shard is above its capacity
 //    only while all of its entries are pinned. In particular, an entry larger than its shard's
 //    capacity is evicted at its last Release.
-//  - Insert of a key that is present. If the old entry is not pinned, the new one replaces it, as
-//    in LevelDB. If it is pinned, it can no longer be found, but the library has no call that
-//    removes a pinned entry: it keeps its charge, and its place under the key, until its last
-//    Release. Until then Insert returns a new entry that is not cached: Lookup does not find it, it
-//    has no charge, and its last Release deletes it.
-//  - Erase of a pinned entry. The key is no longer found, as in LevelDB, but the entry keeps its
-//    charge until its last Release, and until then Insert of the key does not cache, as above.
+//  - Erase of a pinned entry, and Insert over one. The key finds the old entry no more, as in
+//    LevelDB, but the old entry keeps its charge until its last Release, as its memory is still in
+//    use. In LevelDB's cache it has no charge from then on.
+//  - With a capacity of 0 LevelDB's cache never finds an entry. Here an entry is found while it is
+//    pinned.
 //  - A charge of 0 counts as 1.
 //  - If there is no memory to cache an entry, or the total charge would overflow, Insert returns an
-//    entry that is not cached. LevelDB's cache ends the process if an allocation fails; this one
-//    does so only if there is no memory for the entry itself.
+//    entry that is not cached: Lookup does not find it, and its last Release deletes it. LevelDB's
+//    cache ends the process if an allocation fails; this one does so only if there is no memory for
+//    the entry itself.
 //  - Deleters run without the mutex, so they may be slow and may call the cache. LevelDB's cache
 //    runs them with the mutex held.
 //  - The destructor deletes entries that are still pinned. LevelDB's asserts that there are none.
@@ -38,7 +39,6 @@
 #include <cstdint>
 #include <cstdlib>
 #include <cstring>
-#include <deque>
 #include <mutex>
 #include <new>
 #include <string_view>
@@ -54,22 +54,16 @@ namespace lru {
 template <class Key>
 class BasicLevelDBCache : public leveldb::Cache {
  public:
-  // The cache may be used only if ok().
-  explicit BasicLevelDBCache(std::size_t capacity) {
-    const std::size_t share = capacity / kShards + (capacity % kShards != 0);
-    for (std::size_t i = 0; i < kShards; i++) shards_.emplace_back(share);
+  // A cache with the given capacity, or null if there is no memory for it.
+  static BasicLevelDBCache* New(std::size_t capacity) {
+    auto* cache = new (std::nothrow) BasicLevelDBCache;
+    if (cache == nullptr || cache->Open(capacity)) return cache;
+    delete cache;
+    return nullptr;
   }
 
   BasicLevelDBCache(const BasicLevelDBCache&) = delete;
   BasicLevelDBCache& operator=(const BasicLevelDBCache&) = delete;
-
-  // Whether the constructor could allocate the memory.
-  bool ok() const {
-    for (const Shard& shard : shards_) {
-      if (!shard.core.is_open()) return false;
-    }
-    return true;
-  }
 
   Handle* Insert(const leveldb::Slice& key, void* value, std::size_t charge,
                  void (*deleter)(const leveldb::Slice& key, void* value)) override {
@@ -79,32 +73,21 @@ class BasicLevelDBCache : public leveldb::Cache {
     Shard& shard = ShardOf(key);
     Evicted evicted;
     const std::lock_guard<std::mutex> lock(shard.mutex);
-    lru_told told = shard.core.begin(Stored(key), weight, &evicted);
-    if (told.code == LRU_HIT) {
-      shard.Forget(key, told, &evicted);
-      told = shard.core.begin(Stored(key), weight, &evicted);
-      // The old entry is still pinned: this one is not cached.
-      if (told.code == LRU_HIT) shard.core.release(told.stamp, &evicted);
-    }
-    if (told.code == LRU_MAKE) {
-      entry->stamp = told.stamp;
-      entry->cached = shard.core.ready(told.stamp, entry) == LRU_DONE;
-      if (!entry->cached) shard.core.fail(told.stamp);
-    }
+    const lru_told told = shard.core.insert(Stored(key), weight, entry, &evicted);
+    entry->stamp = told.stamp;
+    entry->cached = told.code == LRU_DONE;
+    // Where the new entry is refused, the old one must not be found either.
+    if (!entry->cached) shard.core.invalidate(Stored(key), &evicted);
     return reinterpret_cast<Handle*>(entry);
   }
 
   Handle* Lookup(const leveldb::Slice& key) override {
     if (!CanStore(key)) return nullptr;
     Shard& shard = ShardOf(key);
-    Evicted evicted;
     const std::lock_guard<std::mutex> lock(shard.mutex);
     const lru_told told = shard.core.get(Stored(key));
     if (told.code != LRU_HIT) return nullptr;
-    Entry* entry = Core::node_of(told.value);
-    if (!entry->erased) return reinterpret_cast<Handle*>(entry);
-    shard.core.release(told.stamp, &evicted);
-    return nullptr;
+    return reinterpret_cast<Handle*>(Core::node_of(told.value));
   }
 
   void Release(Handle* handle) override {
@@ -117,9 +100,6 @@ class BasicLevelDBCache : public leveldb::Cache {
     Evicted evicted;
     const std::lock_guard<std::mutex> lock(shard.mutex);
     shard.core.release(entry->stamp, &evicted);
-    // Whatever was evicted is deleted at the end of this function, so `entry` is still valid. An
-    // erased entry that is idle now leaves at once.
-    if (entry->erased) shard.core.advice_evict(Stored(entry->key()), &evicted);
   }
 
   void* Value(Handle* handle) override { return reinterpret_cast<Entry*>(handle)->value; }
@@ -129,8 +109,8 @@ class BasicLevelDBCache : public leveldb::Cache {
     Shard& shard = ShardOf(key);
     Evicted evicted;
     const std::lock_guard<std::mutex> lock(shard.mutex);
-    const lru_told told = shard.core.get(Stored(key));
-    if (told.code == LRU_HIT) shard.Forget(key, told, &evicted);
+    // This is refused only if the key is longer than any before, and then it has no entry.
+    shard.core.invalidate(Stored(key), &evicted);
   }
 
   std::uint64_t NewId() override { return ++last_id_; }
@@ -163,7 +143,6 @@ class BasicLevelDBCache : public leveldb::Cache {
     std::uint64_t stamp = 0;
     std::size_t length;
     bool cached = false;
-    bool erased = false;  // no longer found; guarded by the shard's mutex
 
     static Entry* New(const leveldb::Slice& key, void* value,
                       void (*deleter)(const leveldb::Slice&, void*)) {
@@ -194,18 +173,20 @@ class BasicLevelDBCache : public leveldb::Cache {
   using Evicted = detail::Evicted<Entry>;
 
   struct alignas(64) Shard {
-    explicit Shard(std::size_t capacity) : core(capacity) {}
-
-    // Releases an entry that was found, and makes sure that it is not found again.
-    void Forget(const leveldb::Slice& key, const lru_told& found, Evicted* evicted) {
-      Core::node_of(found.value)->erased = true;
-      core.release(found.stamp, evicted);
-      core.advice_evict(Stored(key), evicted);
-    }
-
     mutable std::mutex mutex;
     Core core;
   };
+
+  BasicLevelDBCache() = default;
+
+  // False if there is no memory.
+  bool Open(std::size_t capacity) {
+    const std::size_t share = capacity / kShards + (capacity % kShards != 0);
+    for (Shard& shard : shards_) {
+      if (!shard.core.open(share)) return false;
+    }
+    return true;
+  }
 
   // A key of LevelDB as the library stores it, if it can.
   static bool CanStore(const leveldb::Slice& key) {
@@ -245,33 +226,19 @@ class BasicLevelDBCache : public leveldb::Cache {
 
   Shard& ShardOf(const leveldb::Slice& key) { return shards_[Hash(key) >> 28]; }
 
-  std::deque<Shard> shards_;
+  Shard shards_[kShards];
   std::atomic<std::uint64_t> last_id_{0};
 };
 
 using LevelDBCache = BasicLevelDBCache<std::string_view>;
 using LevelDBBlockCache = BasicLevelDBCache<Words>;
 
-namespace detail {
-
-template <class Cache>
-leveldb::Cache* NewIfOk(std::size_t capacity) {
-  auto* cache = new Cache(capacity);
-  if (cache->ok()) return cache;
-  delete cache;
-  return nullptr;
-}
-
-}  // namespace detail
-
 // A cache with the given capacity, or null if there is no memory for it. The caller deletes it
 // after the last database that uses it.
-inline leveldb::Cache* NewLevelDBCache(std::size_t capacity) {
-  return detail::NewIfOk<LevelDBCache>(capacity);
-}
+inline leveldb::Cache* NewLevelDBCache(std::size_t capacity) { return LevelDBCache::New(capacity); }
 
 inline leveldb::Cache* NewLevelDBBlockCache(std::size_t capacity) {
-  return detail::NewIfOk<LevelDBBlockCache>(capacity);
+  return LevelDBBlockCache::New(capacity);
 }
 
 }  // namespace lru

@@ -59,8 +59,11 @@ namespace detail {
 // A value of a Cache, on the heap.
 template <class Value>
 struct Node {
+  // The value that `init` returns is made in place, so it need not be movable.
   template <class Init, class Key>
   Node(Init&& init, Key key) : value(std::invoke(std::forward<Init>(init), key)) {}
+  template <class V>
+  explicit Node(V&& v) : value(std::forward<V>(v)) {}
 
   Value value;
   Node* next = nullptr;
@@ -152,8 +155,8 @@ class Cache {
 
   // An empty cache. It evicts idle values while the total of all charges is above `capacity`.
   // Throws OutOfMemory.
-  explicit Cache(std::uint64_t capacity) : core_(capacity) {
-    if (!core_.is_open()) throw OutOfMemory();
+  explicit Cache(std::uint64_t capacity) {
+    if (!core_.open(capacity)) throw OutOfMemory();
   }
 
   // Deletes all values. There must be no handle left: it would dangle.
@@ -193,6 +196,34 @@ class Cache {
     if (told.code == LRU_HIT) return handle(told);
     Making making(this, told.stamp);
     return making.end(std::make_unique<Node>(std::forward<Init>(init), key));
+  }
+
+  // Makes `value` the key's value, whatever the key had, and returns a handle of it. Handles of the
+  // old value keep it, and it counts against the capacity, until the last of them is released;
+  // those who wait for a value that is being made still get that one. Does not wait.
+  //
+  // Throws ZeroCharge, Overflow and OutOfMemory. The key keeps its old value then, and the new one
+  // is deleted.
+  template <class V>
+  Handle insert(Key key, std::uint64_t charge, V&& value) {
+    auto node = std::make_unique<Node>(std::forward<V>(value));
+    Evicted evicted;
+    std::unique_lock<std::mutex> lock(mutex_);
+    const lru_told told = core_.insert(key, charge, node.get(), &evicted);
+    lock.unlock();
+    if (told.code != LRU_DONE) detail::throw_refusal(told.code);
+    return Handle(this, told.stamp, &node.release()->value);
+  }
+
+  // Takes the key's value away: the next caller that asks for the key makes a new one. Handles of
+  // the old value keep it, as with `insert`. Throws OutOfMemory if the key is longer than any
+  // before and there is no memory for a copy.
+  void invalidate(Key key) {
+    Evicted evicted;
+    std::unique_lock<std::mutex> lock(mutex_);
+    const lru_code code = core_.invalidate(key, &evicted);
+    lock.unlock();
+    if (code != LRU_DONE) detail::throw_refusal(code);
   }
 
   // Evicts the key's value if it is idle. If it is pinned, nothing happens, now or later. Throws
@@ -328,6 +359,11 @@ class ShardedCache {
   Handle get_or_init(Key key, std::uint64_t charge, Init&& init) {
     return shard(key).get_or_init(key, charge, std::forward<Init>(init));
   }
+  template <class V>
+  Handle insert(Key key, std::uint64_t charge, V&& value) {
+    return shard(key).insert(key, charge, std::forward<V>(value));
+  }
+  void invalidate(Key key) { shard(key).invalidate(key); }
   void advice_evict(Key key) { shard(key).advice_evict(key); }
 
   // Evicts every idle value, one shard after another.

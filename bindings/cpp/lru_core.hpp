@@ -69,6 +69,13 @@ struct Calls<std::string_view> {
   static lru_code advice_evict(Cache* cache, std::string_view key, Chain* gone) {
     return lru_bytes_advice_evict(cache, key.data(), key.size(), gone);
   }
+  static lru_code invalidate(Cache* cache, std::string_view key, Chain* gone) {
+    return lru_bytes_invalidate(cache, key.data(), key.size(), gone);
+  }
+  static lru_told insert(Cache* cache, std::string_view key, std::uint64_t charge,
+                         std::uint64_t value, Chain* gone) {
+    return lru_bytes_insert(cache, key.data(), key.size(), charge, value, gone);
+  }
 };
 
 template <>
@@ -98,6 +105,13 @@ struct Calls<Words> {
   }
   static lru_code advice_evict(Cache* cache, Words key, Chain* gone) {
     return lru_words_advice_evict(cache, key.first, key.second, gone);
+  }
+  static lru_code invalidate(Cache* cache, Words key, Chain* gone) {
+    return lru_words_invalidate(cache, key.first, key.second, gone);
+  }
+  static lru_told insert(Cache* cache, Words key, std::uint64_t charge, std::uint64_t value,
+                         Chain* gone) {
+    return lru_words_insert(cache, key.first, key.second, charge, value, gone);
   }
 };
 
@@ -132,12 +146,9 @@ class Evicted {
 template <class Node, class Key>
 class Core {
  public:
-  // The core may be used only if is_open().
-  explicit Core(std::uint64_t capacity) noexcept {
-    is_open_ = Calls::make_chain(&chain_) == LRU_DONE && Calls::make(capacity, &cache_) == LRU_DONE;
-  }
+  Core() = default;
 
-  // Deletes all nodes that are left.
+  // Deletes all nodes that are left. Calls on handles that are not open do nothing.
   ~Core() {
     Evicted<Node> rest;
     Calls::free(&cache_, &chain_);
@@ -148,8 +159,11 @@ class Core {
   Core(const Core&) = delete;
   Core& operator=(const Core&) = delete;
 
-  // Whether the constructor could allocate the memory.
-  bool is_open() const noexcept { return is_open_; }
+  // Opens the cache. Comes before all other members, and only once. False if there is no memory for
+  // it: then only the destructor may follow.
+  [[nodiscard]] bool open(std::uint64_t capacity) noexcept {
+    return Calls::make_chain(&chain_) == LRU_DONE && Calls::make(capacity, &cache_) == LRU_DONE;
+  }
 
   lru_told begin(Key key, std::uint64_t charge, Evicted<Node>* evicted) noexcept {
     const lru_told told = Calls::begin(&cache_, key, charge, &chain_);
@@ -157,6 +171,7 @@ class Core {
     return told;
   }
   lru_told poll(std::uint64_t stamp) noexcept { return Calls::poll(&cache_, stamp); }
+  // After LRU_DONE the node is the core's; else it is still the caller's.
   lru_code ready(std::uint64_t stamp, Node* node) noexcept {
     return Calls::ready(&cache_, stamp, word_of(node));
   }
@@ -171,6 +186,17 @@ class Core {
     const lru_code code = Calls::advice_evict(&cache_, key, &chain_);
     take_evicted(evicted);
     return code;
+  }
+  lru_code invalidate(Key key, Evicted<Node>* evicted) noexcept {
+    const lru_code code = Calls::invalidate(&cache_, key, &chain_);
+    take_evicted(evicted);
+    return code;
+  }
+  // After LRU_DONE the node is the core's; else it is still the caller's.
+  lru_told insert(Key key, std::uint64_t charge, Node* node, Evicted<Node>* evicted) noexcept {
+    const lru_told told = Calls::insert(&cache_, key, charge, word_of(node), &chain_);
+    take_evicted(evicted);
+    return told;
   }
   void prune(Evicted<Node>* evicted) noexcept {
     Calls::prune(&cache_, &chain_);
@@ -195,7 +221,7 @@ class Core {
     return static_cast<std::uint64_t>(reinterpret_cast<std::uintptr_t>(node));
   }
 
-  // Empties the chain. The next function of lru.h requires that.
+  // Empties the chain, as the next call needs it empty.
   void take_evicted(Evicted<Node>* evicted) noexcept {
     lru_gone gone;
     while (Calls::pop(&chain_, &gone)) evicted->add(node_of(gone.value));
@@ -204,7 +230,6 @@ class Core {
   // Mutable because total and capacity take a pointer that is not const.
   mutable typename Calls::Cache cache_ = {};
   typename Calls::Chain chain_ = {};
-  bool is_open_ = false;
 };
 
 }  // namespace detail

@@ -58,7 +58,7 @@ static void say(const char *call, lru_told told) {
 }
 
 /* Keys of bytes have different lengths, so that some are longer than all before. */
-static char key_bytes[100];
+static char key_bytes[1200];
 
 #define FAMILY lru_bytes
 #define NAME(call) lru_bytes_##call

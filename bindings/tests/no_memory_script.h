@@ -71,6 +71,38 @@ static void NAME(evict)(FAMILY *cache, NAME(evicted) * gone, unsigned n) {
     NAME(take)(gone);
 }
 
+static void NAME(take_away)(FAMILY *cache, NAME(evicted) * gone, unsigned n) {
+    uint64_t before = NAME(weighed)(cache);
+    lru_code code = NAME(invalidate)(cache, KEY(n), gone);
+    if (refused(code, "invalidate")) {
+        if (!NAME(evicted_is_empty)(gone) || NAME(weighed)(cache) != before)
+            wrong("a refused invalidate changed something");
+        code = NAME(invalidate)(cache, KEY(n), gone);
+    }
+    say_code("invalidate", code);
+    NAME(take)(gone);
+}
+
+static void NAME(look)(FAMILY *cache, unsigned n) {
+    lru_code code = NAME(contains)(cache, KEY(n));
+    if (refused(code, "contains")) code = NAME(contains)(cache, KEY(n));
+    say_code("contains", code);
+}
+
+/* Puts a value in, and answers the stamp of its entry. */
+static uint64_t NAME(put)(FAMILY *cache, NAME(evicted) * gone, unsigned n, uint64_t charge) {
+    uint64_t before = NAME(weighed)(cache), value = new_object();
+    lru_told told = NAME(insert)(cache, KEY(n), charge, value, gone);
+    if (refused(told.code, "insert")) {
+        if (!NAME(evicted_is_empty)(gone) || NAME(weighed)(cache) != before)
+            wrong("a refused insert changed something");
+        told = NAME(insert)(cache, KEY(n), charge, value, gone);
+    }
+    say("insert", told);
+    NAME(take)(gone);
+    return told.stamp;
+}
+
 static void NAME(open)(FAMILY *cache) {
     lru_code code = NAME(new)(20, cache);
     if (refused(code, "new")) code = NAME(new)(20, cache);
@@ -109,7 +141,25 @@ static void RUN(void) {
     NAME(let_go)(&cache, &gone, waited.stamp);
     NAME(evict)(&cache, &gone, 50);
     NAME(find)(&cache, 50);
-    NAME(find)(&cache, 99);
+    NAME(find)(&cache, 80);
+
+    /* Inserts over nothing, over an entry that is held and over one that is idle; an invalidate of
+     * one that is held. Some keys are longer than all before. */
+    held = NAME(find)(&cache, 0);
+    for (unsigned n = 130; n < 150; n++) {
+        uint64_t first = NAME(put)(&cache, &gone, n, 2), second = NAME(put)(&cache, &gone, n, 3);
+        NAME(let_go)(&cache, &gone, first);
+        NAME(let_go)(&cache, &gone, second);
+        NAME(let_go)(&cache, &gone, NAME(put)(&cache, &gone, n, 1 + n % 4));
+    }
+    NAME(take_away)(&cache, &gone, 0);
+    NAME(let_go)(&cache, &gone, held.stamp);
+    NAME(take_away)(&cache, &gone, 149);
+    NAME(look)(&cache, 149);
+    NAME(look)(&cache, 148);
+    NAME(take_away)(&cache, &gone, 300);
+    NAME(look)(&cache, 600);
+    NAME(evict)(&cache, &gone, 1200);
 
     /* reserve, a smaller capacity, prune. */
     code = NAME(reserve)(&cache, 100);

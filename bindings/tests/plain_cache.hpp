@@ -96,9 +96,12 @@ class PlainCache {
     if (found == entries_.end()) return LRU_STALE;
     Entry& entry = found->second;
     if (entry.pins == 0 || entry.phase != Phase::kReady) return LRU_STALE;
-    if (--entry.pins == 0) {
+    if (--entry.pins > 0) return LRU_DONE;
+    if (is_found(stamp)) {
       idle_.push_back(stamp);
       settle(capacity_, gone);
+    } else {
+      evict(stamp, gone);
     }
     return LRU_DONE;
   }
@@ -107,6 +110,33 @@ class PlainCache {
     const auto found = stamps_.find(key);
     if (found != stamps_.end() && entries_.at(found->second).pins == 0) evict(found->second, gone);
     return LRU_DONE;
+  }
+
+  lru_code invalidate(const Key& key, std::vector<lru_gone>* gone) {
+    const auto found = stamps_.find(key);
+    if (found == stamps_.end()) return LRU_DONE;
+    const std::uint64_t stamp = found->second;
+    if (entries_.at(stamp).pins == 0) {
+      evict(stamp, gone);
+    } else {
+      stamps_.erase(found);
+    }
+    return LRU_DONE;
+  }
+
+  // An invalidate, a begin and a ready; or nothing, if the begin would be refused.
+  lru_told insert(const Key& key, std::uint64_t charge, std::uint64_t value,
+                  std::vector<lru_gone>* gone) {
+    if (charge == 0) return told(LRU_NO_CHARGE);
+    const auto found = stamps_.find(key);
+    std::uint64_t others = total();
+    if (found != stamps_.end() && entries_.at(found->second).pins == 0)
+      others -= entries_.at(found->second).charge;
+    if (charge > UINT64_MAX - others || next_ == UINT64_MAX) return told(LRU_OVERFLOW);
+    invalidate(key, gone);
+    const std::uint64_t stamp = make(key, charge, gone).stamp;
+    ready(stamp, value);
+    return told(LRU_DONE, stamp);
   }
 
   lru_code prune(std::vector<lru_gone>* gone) {
@@ -195,8 +225,14 @@ class PlainCache {
     remove(stamp);
   }
 
+  // Whether the key of an entry finds it. It does not after an invalidate.
+  bool is_found(std::uint64_t stamp) const {
+    const auto found = stamps_.find(entries_.at(stamp).key);
+    return found != stamps_.end() && found->second == stamp;
+  }
+
   void remove(std::uint64_t stamp) {
-    stamps_.erase(entries_.at(stamp).key);
+    if (is_found(stamp)) stamps_.erase(entries_.at(stamp).key);
     entries_.erase(stamp);
   }
 
@@ -204,7 +240,7 @@ class PlainCache {
   std::uint64_t next_;
   std::uint32_t most_pins_;
   std::map<std::uint64_t, Entry> entries_;
-  std::map<Key, std::uint64_t> stamps_;
+  std::map<Key, std::uint64_t> stamps_;  // of the entries that their keys find
   std::list<std::uint64_t> idle_;  // the stamps of idle entries, least recently released first
 };
 

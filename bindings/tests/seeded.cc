@@ -68,6 +68,13 @@ struct Pairs : lru::detail::Calls<lru::Words> {
   static lru_code advice_evict(Cache* cache, const Key& key, Chain* gone) {
     return Calls::advice_evict(cache, words(key), gone);
   }
+  static lru_code invalidate(Cache* cache, const Key& key, Chain* gone) {
+    return Calls::invalidate(cache, words(key), gone);
+  }
+  static lru_told insert(Cache* cache, const Key& key, std::uint64_t charge, std::uint64_t value,
+                         Chain* gone) {
+    return Calls::insert(cache, words(key), charge, value, gone);
+  }
   static lru_code contains(Cache* cache, const Key& key) {
     return lru_words_contains(cache, key.first, key.second);
   }
@@ -131,7 +138,6 @@ class Run {
   }
 
   void pinned(const lru_told& told) {
-    if (told.code > LRU_HIT) return;
     pins_.push_back(told.stamp);
     latest_ = std::max(latest_, told.stamp);
   }
@@ -143,17 +149,19 @@ class Run {
 
   // Makes one random call on both caches. False if the answers differ.
   bool call() {
-    const std::uint64_t kind = random_.below(28);
+    const std::uint64_t kind = random_.below(32);
     if (kind < 6) return begin();
-    if (kind < 7) return poll();
-    if (kind < 12) return ready();
-    if (kind < 13) return fail();
-    if (kind < 15) return get();
-    if (kind < 24) return release();
-    if (kind < 25) return advice_evict();
-    if (kind < 26) return set_capacity();
+    if (kind < 8) return insert();
+    if (kind < 9) return poll();
+    if (kind < 14) return ready();
+    if (kind < 15) return fail();
+    if (kind < 17) return get();
+    if (kind < 27) return release();
+    if (kind < 28) return advice_evict();
+    if (kind < 29) return invalidate();
+    if (kind < 30) return set_capacity();
     // Rarely, as a prune leaves little for other calls to evict.
-    if (kind < 27) return random_.below(4) != 0 || prune();
+    if (kind < 31) return random_.below(4) != 0 || prune();
     return reserve();
   }
 
@@ -162,8 +170,19 @@ class Run {
     const Key key = any_key();
     const std::uint64_t charge = random_.below(5);
     const lru_told told = Family::begin(&cache_, key, charge, &chain_);
-    pinned(told);
+    if (told.code <= LRU_HIT) pinned(told);
     return told == plain_.begin(key, charge, &gone_) && evicted();
+  }
+
+  // Now and then with a charge that is too much beside others.
+  bool insert() {
+    call_ = "insert";
+    const Key key = any_key();
+    const std::uint64_t charge = random_.below(8) == 0 ? UINT64_MAX : random_.below(5);
+    const std::uint64_t value = random_.below(UINT64_MAX);
+    const lru_told told = Family::insert(&cache_, key, charge, value, &chain_);
+    if (told.code == LRU_DONE) pinned(told);
+    return told == plain_.insert(key, charge, value, &gone_) && evicted();
   }
 
   bool poll() {
@@ -191,7 +210,7 @@ class Run {
     call_ = "get";
     const Key key = any_key();
     const lru_told told = Family::get(&cache_, key);
-    pinned(told);
+    if (told.code == LRU_HIT) pinned(told);
     return told == plain_.get(key);
   }
 
@@ -208,6 +227,13 @@ class Run {
     const Key key = any_key();
     const lru_code code = Family::advice_evict(&cache_, key, &chain_);
     return code == plain_.advice_evict(key, &gone_) && evicted();
+  }
+
+  bool invalidate() {
+    call_ = "invalidate";
+    const Key key = any_key();
+    const lru_code code = Family::invalidate(&cache_, key, &chain_);
+    return code == plain_.invalidate(key, &gone_) && evicted();
   }
 
   bool set_capacity() {
