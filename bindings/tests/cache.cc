@@ -145,6 +145,78 @@ void refusals_are_exceptions() {
   CHECK(no_shards);
 }
 
+// Records that it was deleted, and calls the cache.
+struct Calling {
+  using Cache = lru::Cache<Calling, lru::Words>;
+
+  Calling(Cache* c, std::vector<int>* d, int n) : cache(c), deleted(d), number(n) {}
+  // What was moved from is not recorded.
+  Calling(Calling&& from) noexcept
+      : cache(from.cache), deleted(std::exchange(from.deleted, nullptr)), number(from.number) {}
+  ~Calling() {
+    if (deleted == nullptr) return;
+    deleted->push_back(number);
+    if (cache != nullptr) cache->prune();
+  }
+
+  Calling(const Calling&) = delete;
+  Calling& operator=(const Calling&) = delete;
+
+  Cache* cache;
+  std::vector<int>* deleted;
+  int number;
+};
+
+void an_insert_replaces_whatever_is_there() {
+  std::vector<int> deleted;
+  {
+    Calling::Cache cache(10);
+    const auto insert = [&](int number) {
+      return cache.insert(key(1), 2, Calling(nullptr, &deleted, number));
+    };
+    insert(1);
+    CHECK(cache.get(key(1))->number == 1 && cache.total_charge() == 2);
+    auto held = insert(2);
+    CHECK((deleted == std::vector<int>{1}));
+    const auto fresh = insert(3);
+    CHECK(held->number == 2 && fresh->number == 3 && cache.get(key(1))->number == 3);
+    CHECK(cache.total_charge() == 4);
+    held.reset();
+    CHECK((deleted == std::vector<int>{1, 2}) && cache.total_charge() == 2);
+  }
+  CHECK((deleted == std::vector<int>{1, 2, 3}));
+
+  // A refused insert leaves the key its value.
+  lru::Cache<std::unique_ptr<int>> owners(10);
+  const auto one = owners.insert("a", 1, std::make_unique<int>(1));
+  bool zero = false, overflow = false;
+  try {
+    owners.insert("a", 0, std::make_unique<int>(2));
+  } catch (const lru::ZeroCharge&) {
+    zero = true;
+  }
+  try {
+    owners.insert("a", UINT64_MAX, std::make_unique<int>(3));
+  } catch (const lru::Overflow&) {
+    overflow = true;
+  }
+  CHECK(zero && overflow && **owners.get("a") == 1 && owners.total_charge() == 1);
+}
+
+void an_invalidate_takes_a_value_away() {
+  Numbers cache(10);
+  cache.invalidate(key(1));
+  cache.insert(key(1), 3, 1);
+  cache.invalidate(key(1));
+  CHECK(!cache.get(key(1)) && cache.total_charge() == 0);
+  auto held = cache.insert(key(1), 3, 1);
+  cache.invalidate(key(1));
+  CHECK(!cache.get(key(1)) && *held == 1 && cache.total_charge() == 3);
+  CHECK(*cache.get_or_init(key(1), 4, returns(2)) == 2 && cache.total_charge() == 7);
+  held.reset();
+  CHECK(*cache.get(key(1)) == 2 && cache.total_charge() == 4);
+}
+
 // A barrier for two threads.
 class Meeting {
  public:
@@ -161,6 +233,27 @@ class Meeting {
   std::condition_variable changed_;
   int arrived_ = 0;
 };
+
+void a_making_that_is_invalidated_is_not_waited_for() {
+  Numbers cache(10);
+  Meeting meeting;
+  std::thread making([&] {
+    const auto handle = cache.get_or_init(key(1), 1, [&](lru::Words) {
+      meeting.meet();
+      meeting.meet();
+      return 1;
+    });
+    CHECK(*handle == 1);
+  });
+  meeting.meet();
+  cache.invalidate(key(1));
+  // The value that is being made is no longer the key's, so this one does not wait for it.
+  CHECK(*cache.get_or_init(key(1), 2, returns(2)) == 2);
+  CHECK(cache.total_charge() == 3);
+  meeting.meet();
+  making.join();
+  CHECK(*cache.get(key(1)) == 2 && cache.total_charge() == 2);
+}
 
 void others_wait_for_one_making() {
   Numbers cache(10);
@@ -221,24 +314,6 @@ void other_keys_are_served_while_a_value_is_made() {
   meeting.meet();
   making.join();
 }
-
-// Records that it was deleted, and calls the cache.
-struct Calling {
-  using Cache = lru::Cache<Calling, lru::Words>;
-
-  Calling(Cache* c, std::vector<int>* d, int n) : cache(c), deleted(d), number(n) {}
-  ~Calling() {
-    deleted->push_back(number);
-    if (cache != nullptr) cache->prune();
-  }
-
-  Calling(const Calling&) = delete;
-  Calling& operator=(const Calling&) = delete;
-
-  Cache* cache;
-  std::vector<int>* deleted;
-  int number;
-};
 
 void a_destructor_may_call_the_cache() {
   std::vector<int> deleted;
@@ -315,6 +390,9 @@ void shards_have_equal_shares() {
     texts.get_or_init(text, 1, [](std::string_view k) { return std::string(k); });
   }
   CHECK(texts.total_charge() == 3 && *texts.get("two") == "two");
+  CHECK(*texts.insert("two", 2, "2") == "2" && texts.total_charge() == 4);
+  texts.invalidate("one");
+  CHECK(!texts.get("one") && *texts.get("two") == "2" && texts.total_charge() == 3);
 }
 
 void values_may_be_move_only_or_neither() {
@@ -336,6 +414,9 @@ int main() {
   handles_move();
   an_init_that_throws_leaves_nothing();
   refusals_are_exceptions();
+  an_insert_replaces_whatever_is_there();
+  an_invalidate_takes_a_value_away();
+  a_making_that_is_invalidated_is_not_waited_for();
   others_wait_for_one_making();
   one_that_waits_takes_a_failed_making_over();
   other_keys_are_served_while_a_value_is_made();
@@ -344,6 +425,6 @@ int main() {
   a_capacity_is_set_at_any_time();
   shards_have_equal_shares();
   values_may_be_move_only_or_neither();
-  std::printf("lru.hpp: 15 tests, %d checks failed\n", failed_checks);
+  std::printf("lru.hpp: 18 tests, %d checks failed\n", failed_checks);
   return failed_checks == 0 ? 0 : 1;
 }

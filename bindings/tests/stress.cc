@@ -9,6 +9,7 @@
 #include <string>
 #include <string_view>
 #include <thread>
+#include <utility>
 #include <vector>
 
 #include "lru.hpp"
@@ -37,7 +38,13 @@ class Object {
  public:
   Object(std::uint64_t key, Deletions* deletions)
       : key_(key), number_(deletions->made++), deletions_(deletions) {}
-  ~Object() { deletions_->of[number_]++; }
+  Object(Object&& from) noexcept
+      : key_(from.key_),
+        number_(from.number_),
+        deletions_(std::exchange(from.deletions_, nullptr)) {}
+  ~Object() {
+    if (deletions_ != nullptr) deletions_->of[number_]++;
+  }
 
   Object(const Object&) = delete;
   Object& operator=(const Object&) = delete;
@@ -47,7 +54,7 @@ class Object {
  private:
   std::uint64_t key_;
   std::uint64_t number_;
-  Deletions* deletions_;
+  Deletions* deletions_;  // null after it was moved from
 };
 
 struct Failed {};
@@ -105,8 +112,16 @@ std::uint64_t calls(Cache& cache, std::uint64_t seed, Deletions* deletions) {
         cache.set_capacity(kCapacity / 2 + random.below(kCapacity));
         break;
       case 3:
+        cache.invalidate(key.key());
+        break;
       case 4:
       case 5:
+        held[slot] = cache.insert(key.key(), 1 + random.below(4), Object(n, deletions));
+        keys[slot] = n;
+        break;
+      case 6:
+      case 7:
+      case 8:
         held[slot] = cache.get(key.key());
         keys[slot] = n;
         break;
