@@ -2,7 +2,9 @@
 // too; where it differs, as its header says; and threads, with each object deleted exactly once.
 #include "leveldb_cache.h"
 
+#include <algorithm>
 #include <atomic>
+#include <cstddef>
 #include <cstdint>
 #include <cstdio>
 #include <cstring>
@@ -139,28 +141,47 @@ void ReplacesWhatIsHeld(NewCache new_cache) {
   const Tested cache = new_cache(1000);
   Handle* old = cache.Insert("a", "1");
   Handle* fresh = cache.Insert("a", "2");
-  CHECK(cache.ValueOf(old) == "1" && cache.ValueOf(fresh) == "2");
-  CHECK(cache.Get("a") != "1");
+  CHECK(cache.ValueOf(old) == "1" && cache.ValueOf(fresh) == "2" && cache.Get("a") == "2");
   cache->Release(old);
-  CHECK(cache.Deleted() == "a=1 " && cache.Get("a") != "1");
+  CHECK(cache.Deleted() == "a=1 " && cache.Get("a") == "2" && cache->TotalCharge() == 1);
   cache->Release(fresh);
+  CHECK(cache.Deleted().empty() && cache.Get("a") == "2");
 }
 
 // Tests for this cache only.
 
-void KeepsNoSecondEntryOfAKey(NewCache new_cache) {
+void ChargesWhatIsHeld(NewCache new_cache) {
   const Tested cache = new_cache(1000);
   Handle* old = cache.Insert("a", "1", 3);
   Handle* fresh = cache.Insert("a", "2", 4);
-  CHECK(cache.Get("a") == "none" && cache->TotalCharge() == 3);
-  cache->Release(fresh);
-  CHECK(cache.Deleted() == "a=2 ");
+  CHECK(cache->TotalCharge() == 7);
+  cache.Erase("a");
+  CHECK(cache.Get("a") == "none" && cache->TotalCharge() == 7);
+  cache->Release(old);
+  CHECK(cache.Deleted() == "a=1 " && cache->TotalCharge() == 4);
   cache.Put("a", "3", 5);
-  CHECK(cache.Deleted() == "a=3 " && cache->TotalCharge() == 3);
+  cache->Release(fresh);
+  CHECK(cache.Deleted() == "a=2 " && cache.Get("a") == "3" && cache->TotalCharge() == 5);
+}
+
+void FindsWhatIsHeldAtCapacity0(NewCache new_cache) {
+  const Tested cache = new_cache(0);
+  Handle* held = cache.Insert("a", "1");
+  CHECK(cache.Get("a") == "1");
+  cache->Release(held);
+  CHECK(cache.Get("a") == "none" && cache.Deleted() == "a=1 ");
+}
+
+// An entry that is refused is not cached, and replaces the old one all the same.
+void ReplacesWhereItIsRefused(NewCache new_cache) {
+  const Tested cache = new_cache(1000);
+  Handle* old = cache.Insert("a", "1");
+  Handle* fresh = cache.Insert("a", "2", SIZE_MAX);
+  CHECK(cache.ValueOf(fresh) == "2" && cache.Get("a") == "none");
+  cache->Release(fresh);
+  CHECK(cache.Deleted() == "a=2 " && cache.ValueOf(old) == "1");
   cache->Release(old);
   CHECK(cache.Deleted() == "a=1 " && cache->TotalCharge() == 0);
-  cache.Put("a", "4", 5);
-  CHECK(cache.Get("a") == "4" && cache->TotalCharge() == 5);
 }
 
 void EvictsAtReleases(NewCache new_cache) {
@@ -221,9 +242,98 @@ void Common(NewCache new_cache) {
 }
 
 void Differences(NewCache new_cache) {
-  for (const auto test :
-       {KeepsNoSecondEntryOfAKey, EvictsAtReleases, DeletesWhatIsLeft, DeletersMayCall}) {
+  for (const auto test : {ChargesWhatIsHeld, FindsWhatIsHeldAtCapacity0, ReplacesWhereItIsRefused,
+                          EvictsAtReleases, DeletesWhatIsLeft, DeletersMayCall}) {
     test(new_cache);
+    Tested::Deleted();
+  }
+}
+
+// Random calls on LevelDB's own cache and on another one, whose answers and deletions must be the
+// same. What is pinned at one time fits into a shard, and is not erased or replaced, so the
+// differences do not show.
+class SameAsOwn {
+ public:
+  explicit SameAsOwn(NewCache new_cache) : caches_{Own(kCapacity), new_cache(kCapacity)} {}
+
+  void Run(std::uint64_t seed) {
+    random_ = seed;
+    for (int call = 0; call < 20000; call++) {
+      Call();
+      CHECK(caches_[0]->TotalCharge() == caches_[1]->TotalCharge());
+    }
+    for (auto& [name, handles] : held_) Release(handles);
+    CHECK(deleted_ > 1000);
+  }
+
+ private:
+  static constexpr std::size_t kCapacity = 16 * 12;
+  using Pair = std::pair<Handle*, Handle*>;
+
+  std::uint64_t Below(std::uint64_t end) {
+    random_ = random_ * 6364136223846793005u + 1442695040888963407u;
+    return (random_ >> 33) % end;
+  }
+
+  // Whether both caches have deleted the same, and how much.
+  template <class Calls>
+  void Same(Calls calls) {
+    std::string deleted[2];
+    for (int i : {0, 1}) {
+      calls(i);
+      deleted[i] = Tested::Deleted();
+    }
+    CHECK(deleted[0] == deleted[1]);
+    deleted_ += !deleted[0].empty();
+  }
+
+  void Release(Pair handles) {
+    Same([&](int i) { caches_[i]->Release(i == 0 ? handles.first : handles.second); });
+  }
+
+  // At most 4 entries of charge 3 at most are pinned.
+  void Hold(const std::string& name, Pair handles) {
+    CHECK(caches_[0].ValueOf(handles.first) == caches_[1].ValueOf(handles.second));
+    held_.emplace_back(name, handles);
+    if (held_.size() < 4) return;
+    Release(held_[0].second);
+    held_.erase(held_.begin());
+  }
+
+  void Call() {
+    // All of one length, so that padded keys lie in the shards of the others.
+    const std::string name = "key of 16 " + std::to_string(100000 + Below(150));
+    const bool is_held = std::any_of(held_.begin(), held_.end(),
+                                     [&](const auto& held) { return held.first == name; });
+    Pair handles;
+    const std::uint64_t kind = Below(100);
+    if (kind == 0) {
+      Same([&](int i) { caches_[i]->Prune(); });
+    } else if (kind < 10 && !is_held) {
+      Same([&](int i) { caches_[i].Erase(name); });
+    } else if (kind < 50 && !is_held) {
+      const std::size_t charge = 1 + Below(3);
+      const std::string value = std::to_string(random_);
+      Same([&](int i) {
+        (i == 0 ? handles.first : handles.second) = caches_[i].Insert(name, value, charge);
+      });
+      Hold(name, handles);
+    } else {
+      Same([&](int i) { (i == 0 ? handles.first : handles.second) = caches_[i].Lookup(name); });
+      CHECK((handles.first == nullptr) == (handles.second == nullptr));
+      if (handles.first != nullptr && handles.second != nullptr) Hold(name, handles);
+    }
+  }
+
+  Tested caches_[2];
+  std::vector<std::pair<std::string, Pair>> held_;
+  std::uint64_t random_ = 0;
+  int deleted_ = 0;
+};
+
+void EqualsOwn(NewCache new_cache) {
+  for (std::uint64_t seed = 1; seed <= 3; seed++) {
+    SameAsOwn(new_cache).Run(seed);
     Tested::Deleted();
   }
 }
@@ -302,6 +412,7 @@ int main() {
   for (const NewCache new_cache : {Any, Blocks}) {
     Common(new_cache);
     Differences(new_cache);
+    EqualsOwn(new_cache);
     Threads(new_cache, 4);
     Threads(new_cache, kThreads);
   }
