@@ -46,6 +46,22 @@ pub(crate) mod sealed {
             key: Self::Written<'_>,
             gone: *mut Handle,
         ) -> u32;
+
+        /// # Safety
+        ///
+        /// As for [`Stamped`].
+        unsafe fn invalidate(cache: *mut Handle, key: Self::Written<'_>, gone: *mut Handle) -> u32;
+
+        /// # Safety
+        ///
+        /// As for [`Stamped`].
+        unsafe fn insert(
+            cache: *mut Handle,
+            key: Self::Written<'_>,
+            charge: u64,
+            value: u64,
+            gone: *mut Handle,
+        ) -> Told;
     }
 
     /// The functions of `lru.h` that take no key, for one form of keys.
@@ -141,6 +157,20 @@ unsafe extern "C" {
         length: usize,
         gone: *mut Handle,
     ) -> u32;
+    fn lru_bytes_invalidate_nonnull(
+        cache: *mut Handle,
+        key: *const u8,
+        length: usize,
+        gone: *mut Handle,
+    ) -> u32;
+    fn lru_bytes_insert_nonnull(
+        cache: *mut Handle,
+        key: *const u8,
+        length: usize,
+        charge: u64,
+        value: u64,
+        gone: *mut Handle,
+    ) -> Told;
 }
 
 impl sealed::Calls for Bytes {
@@ -163,6 +193,22 @@ impl sealed::Calls for Bytes {
         // SAFETY: as in `begin`.
         unsafe { lru_bytes_advice_evict_nonnull(cache, key.as_ptr(), key.len(), gone) }
     }
+
+    unsafe fn invalidate(cache: *mut Handle, key: &[u8], gone: *mut Handle) -> u32 {
+        // SAFETY: as in `begin`.
+        unsafe { lru_bytes_invalidate_nonnull(cache, key.as_ptr(), key.len(), gone) }
+    }
+
+    unsafe fn insert(
+        cache: *mut Handle,
+        key: &[u8],
+        charge: u64,
+        value: u64,
+        gone: *mut Handle,
+    ) -> Told {
+        // SAFETY: as in `begin`.
+        unsafe { lru_bytes_insert_nonnull(cache, key.as_ptr(), key.len(), charge, value, gone) }
+    }
 }
 
 /// The form of keys that are written as two words.
@@ -184,6 +230,15 @@ unsafe extern "C" {
         second: u64,
         gone: *mut Handle,
     ) -> u32;
+    fn lru_words_invalidate(cache: *mut Handle, first: u64, second: u64, gone: *mut Handle) -> u32;
+    fn lru_words_insert(
+        cache: *mut Handle,
+        first: u64,
+        second: u64,
+        charge: u64,
+        value: u64,
+        gone: *mut Handle,
+    ) -> Told;
 }
 
 impl sealed::Calls for Words {
@@ -213,5 +268,21 @@ impl sealed::Calls for Words {
     ) -> u32 {
         // SAFETY: as in `begin`.
         unsafe { lru_words_advice_evict(cache, first, second, gone) }
+    }
+
+    unsafe fn invalidate(cache: *mut Handle, [first, second]: [u64; 2], gone: *mut Handle) -> u32 {
+        // SAFETY: as in `begin`.
+        unsafe { lru_words_invalidate(cache, first, second, gone) }
+    }
+
+    unsafe fn insert(
+        cache: *mut Handle,
+        [first, second]: [u64; 2],
+        charge: u64,
+        value: u64,
+        gone: *mut Handle,
+    ) -> Told {
+        // SAFETY: as in `begin`.
+        unsafe { lru_words_insert(cache, first, second, charge, value, gone) }
     }
 }

@@ -10,9 +10,9 @@
 //! - [`unsharded::LruCache`] has one lock,
 //! - [`sharded::LruCache`] has one for each shard.
 //!
-//! It differs from that crate in three points: a key must be one that can be written as bytes or as
+//! It differs from that crate in these points: a key must be one that can be written as bytes or as
 //! two words ([`key::Key`]), and is passed by reference; calls return a [`Refusal`] if the cache
-//! cannot serve them; and the capacity can be read and set.
+//! cannot serve them; the capacity can be read and set; and there are `insert` and `invalidate`.
 //!
 //! # Examples
 //!

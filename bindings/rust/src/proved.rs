@@ -22,7 +22,7 @@ pub(crate) enum Begun<V> {
 }
 
 /// A cache of the library for keys of one form, with values in boxes. The library stores the
-/// address of a box, which the core owns from `ready` until the entry is evicted.
+/// address of a box, which the core owns from `ready` or `insert` until the entry is evicted.
 ///
 /// A stamp names an entry that the caller has a pin of. The value stays until the pin is given back
 /// by `release` or `fail`.
@@ -132,6 +132,40 @@ impl<F: Form, V> Core<F, V> {
         done(code)
     }
 
+    /// Detaches the entry of a key, so that the key does not find it. It is evicted if it has no
+    /// pin, and else with its last release.
+    pub(crate) fn invalidate(
+        &mut self,
+        key: F::Written<'_>,
+        evicted: &mut Evicted<V>,
+    ) -> Result<(), Refusal> {
+        // SAFETY: both handles were opened for this form, and this core has the only copies.
+        let code = unsafe { F::invalidate(&mut self.cache, key, &mut self.chain) };
+        self.take_evicted(evicted);
+        done(code)
+    }
+
+    /// Detaches the entry of a key as `invalidate` does, and makes one with this value, of which the
+    /// caller has a pin. If it is refused, returns the value, and nothing has changed.
+    pub(crate) fn insert(
+        &mut self,
+        key: F::Written<'_>,
+        charge: u64,
+        value: Box<V>,
+        evicted: &mut Evicted<V>,
+    ) -> Result<(u64, NonNull<V>), (Refusal, Box<V>)> {
+        let word = word_of(Box::into_raw(value));
+        // SAFETY: both handles were opened for this form, and this core has the only copies.
+        let told = unsafe { F::insert(&mut self.cache, key, charge, word, &mut self.chain) };
+        self.take_evicted(evicted);
+        if told.code == ffi::DONE {
+            return Ok((told.stamp, value_of(word)));
+        }
+        // SAFETY: the pointer is that of the box above, and the library has not stored it.
+        let value = unsafe { Box::from_raw(value_of(word).as_ptr()) };
+        Err((refusal(told.code), value))
+    }
+
     /// Evicts every entry without a pin.
     pub(crate) fn prune(&mut self, evicted: &mut Evicted<V>) {
         // SAFETY: both handles were opened for this form, and this core has the only copies.
@@ -179,7 +213,7 @@ impl<F: Form, V> Core<F, V> {
         // SAFETY: the chain was opened for this form, and this core has the only copy.
         while unsafe { (Self::CALLS.pop)(&mut self.chain, &mut gone) } {
             let value = value_of(gone.value).as_ptr();
-            // SAFETY: the word is the address of a box that `ready` stored. The library tells each
+            // SAFETY: the word is the address of a box that `ready` or `insert` stored. The library tells each
             // word once, and only when its entry has no pin.
             evicted.push(unsafe { Box::from_raw(value) });
         }

@@ -155,6 +155,40 @@ impl<K: Key + ?Sized, V, S: BuildHasher> LruCache<K, V, S> {
         Ok(CacheHandle(handle))
     }
 
+    /// Makes `value` the key's value, whatever the key had, and returns a handle of it. Handles of
+    /// the old value keep it.
+    ///
+    /// # Errors
+    ///
+    /// As [`unsharded::LruCache::insert`].
+    pub fn insert<Q>(
+        &self,
+        key: &Q,
+        charge: u64,
+        value: V,
+    ) -> Result<CacheHandle<'_, K, V>, Refusal>
+    where
+        K: Borrow<Q>,
+        Q: Key<Form = K::Form> + Hash + ?Sized,
+    {
+        let handle = self.shard(key).insert(key, charge, value)?;
+        Ok(CacheHandle(handle))
+    }
+
+    /// Takes the key's value away: the next caller that asks for the key makes a new one. Handles
+    /// of the old value keep it.
+    ///
+    /// # Errors
+    ///
+    /// As [`unsharded::LruCache::invalidate`].
+    pub fn invalidate<Q>(&self, key: &Q) -> Result<(), Refusal>
+    where
+        K: Borrow<Q>,
+        Q: Key<Form = K::Form> + Hash + ?Sized,
+    {
+        self.shard(key).invalidate(key)
+    }
+
     /// Evicts the key's value if it is idle. If it is pinned, nothing happens, now or later.
     ///
     /// # Errors

@@ -170,6 +170,71 @@ impl<K: Key + ?Sized, V> LruCache<K, V> {
         }
     }
 
+    /// Makes `value` the key's value, whatever the key had, and returns a handle of it. Does not
+    /// wait.
+    ///
+    /// Handles of the old value keep it, and it counts against the capacity, until the last of them
+    /// is dropped. Callers that wait for a value that is being made still get that one.
+    ///
+    /// # Errors
+    ///
+    /// [`Refusal::ZeroCharge`] if `charge` is 0, [`Refusal::Overflow`] and [`Refusal::Memory`]. The
+    /// key keeps its old value then, and the new one is dropped.
+    ///
+    /// # Examples
+    ///
+    /// ```
+    /// use concurrent_lru_proved::unsharded::LruCache;
+    ///
+    /// # fn main() -> Result<(), concurrent_lru_proved::Refusal> {
+    /// let cache = LruCache::<String, u32>::new(10)?;
+    /// let old = cache.insert("key", 1, 5)?;
+    /// let new = cache.insert("key", 1, 6)?;
+    /// assert_eq!((*old, *new), (5, 6));
+    /// assert_eq!(cache.get("key")?.as_deref(), Some(&6));
+    /// # Ok(())
+    /// # }
+    /// ```
+    pub fn insert<Q>(
+        &self,
+        key: &Q,
+        charge: u64,
+        value: V,
+    ) -> Result<CacheHandle<'_, K, V>, Refusal>
+    where
+        K: Borrow<Q>,
+        Q: Key<Form = K::Form> + ?Sized,
+    {
+        let written = key.written();
+        let value = Box::new(value);
+        let mut evicted = Evicted::new();
+        // The guard is dropped at the end of this statement, before what the call returned.
+        let inserted = self
+            .lock()
+            .core
+            .insert(written, charge, value, &mut evicted);
+        match inserted {
+            Ok((stamp, value)) => Ok(self.handle(stamp, value)),
+            Err((refusal, _value)) => Err(refusal),
+        }
+    }
+
+    /// Takes the key's value away: the next caller that asks for the key makes a new one. Handles
+    /// of the old value keep it, as with [`insert`](Self::insert).
+    ///
+    /// # Errors
+    ///
+    /// [`Refusal::Memory`] if the key is longer than any before and there is no memory for a copy.
+    pub fn invalidate<Q>(&self, key: &Q) -> Result<(), Refusal>
+    where
+        K: Borrow<Q>,
+        Q: Key<Form = K::Form> + ?Sized,
+    {
+        let written = key.written();
+        let mut evicted = Evicted::new();
+        self.lock().core.invalidate(written, &mut evicted)
+    }
+
     /// Evicts the key's value if it is idle. If it is pinned, nothing happens, now or later.
     ///
     /// # Errors

@@ -74,6 +74,14 @@ fn calls_reach_the_shard_of_their_key() -> Result<(), GetError<()>> {
         assert!(cache.get(key.as_str())?.is_none());
     }
     assert_eq!(cache.total_charge(), 0);
+    for number in 0..100usize {
+        let key = format!("key {number}");
+        assert_eq!(*cache.insert(key.as_str(), 1, number)?, number);
+        assert_eq!(cache.get(key.as_str())?.as_deref(), Some(&number));
+        cache.invalidate(key.as_str())?;
+        assert!(cache.get(key.as_str())?.is_none());
+    }
+    assert_eq!(cache.total_charge(), 0);
     let failed = cache.get_or_try_init("none", 1, |_| Err(())).err();
     assert_eq!(failed, Some(GetError::Init(())));
     Ok(())
@@ -140,14 +148,19 @@ fn stress() -> Result<(), Refusal> {
                     let key = random % 100;
                     let charge = 1 + (random >> 20) % 4;
                     let fails = (random >> 40) % 10 >= 8;
-                    let answer = cache.get_or_try_init(&key, charge, |_| {
-                        if fails {
-                            return Err(());
-                        }
+                    let value = || {
                         made.fetch_add(charge, Ordering::Relaxed);
-                        Ok(Counted { charge, dropped })
-                    });
-                    assert!(fails || answer.is_ok());
+                        Counted { charge, dropped }
+                    };
+                    match (random >> 56) % 16 {
+                        0 => assert!(cache.invalidate(&key).is_ok()),
+                        1 => assert!(cache.insert(&key, charge, value()).is_ok()),
+                        _ => {
+                            let made = |_: &u64| if fails { Err(()) } else { Ok(value()) };
+                            let answer = cache.get_or_try_init(&key, charge, made);
+                            assert!(fails || answer.is_ok());
+                        }
+                    }
                     if key % 10 == 0 {
                         thread::yield_now();
                     }

@@ -274,6 +274,81 @@ fn refusals_have_names_and_change_nothing() -> Result<(), Refusal> {
 }
 
 #[test]
+fn an_insert_replaces_whatever_is_there() -> Result<(), Refusal> {
+    let recording = Recording::new()?;
+    let put = |key: u32, number, charge| {
+        let dropped = recording.dropped.clone();
+        recording
+            .cache
+            .insert(&key, charge, Recorded { number, dropped })
+    };
+    put(1, 10, 1)?;
+    let held = put(1, 11, 1)?;
+    assert_eq!(recording.dropped(), [10]);
+    let fresh = put(1, 12, 1)?;
+    assert_eq!((held.number, fresh.number), (11, 12));
+    assert_eq!(recording.cache.get(&1)?.map(|value| value.number), Some(12));
+    assert_eq!(recording.cache.total_charge(), 2);
+    drop(held);
+    assert_eq!(recording.dropped(), [10, 11]);
+    assert_eq!(recording.cache.total_charge(), 1);
+    // Refused inserts leave the key its value.
+    assert_eq!(put(1, 13, 0).err(), Some(Refusal::ZeroCharge));
+    assert_eq!(put(1, 14, u64::MAX).err(), Some(Refusal::Overflow));
+    assert_eq!(recording.dropped(), [10, 11, 13, 14]);
+    drop(fresh);
+    assert_eq!(recording.cache.get(&1)?.map(|value| value.number), Some(12));
+    // This one evicts what is idle.
+    drop(put(2, 20, 2)?);
+    assert_eq!(recording.dropped(), [10, 11, 13, 14, 12]);
+    Ok(())
+}
+
+#[test]
+fn an_invalidate_takes_a_value_away() -> Result<(), Refusal> {
+    let cache = LruCache::<String, u32>::new(10)?;
+    cache.invalidate("a")?;
+    cache.insert("a", 3, 1)?;
+    cache.invalidate("a")?;
+    assert!(cache.get("a")?.is_none());
+    assert_eq!(cache.total_charge(), 0);
+    let held = cache.insert("a", 3, 1)?;
+    cache.invalidate("a")?;
+    assert!(cache.get("a")?.is_none());
+    assert_eq!((*held, cache.total_charge()), (1, 3));
+    assert_eq!(*cache.get_or_init("a", 4, |_| 2)?, 2);
+    assert_eq!(cache.total_charge(), 7);
+    drop(held);
+    assert_eq!(cache.get("a")?.as_deref(), Some(&2));
+    assert_eq!(cache.total_charge(), 4);
+    Ok(())
+}
+
+#[test]
+fn a_making_that_is_invalidated_is_not_waited_for() -> Result<(), Refusal> {
+    let cache = LruCache::<u32, u32>::new(10)?;
+    let making = Barrier::new(2);
+    thread::scope(|scope| {
+        let making_first = scope.spawn(|| {
+            let handle = cache.get_or_init(&1, 1, |_| {
+                making.wait();
+                making.wait();
+                1
+            });
+            handle.map(|value| *value)
+        });
+        making.wait();
+        assert_eq!(cache.invalidate(&1), Ok(()));
+        assert_eq!(cache.get_or_init(&1, 1, |_| 2).as_deref(), Ok(&2));
+        making.wait();
+        assert_eq!(making_first.join().unwrap(), Ok(1));
+    });
+    assert_eq!(cache.get(&1)?.as_deref(), Some(&2));
+    assert_eq!(cache.total_charge(), 1);
+    Ok(())
+}
+
+#[test]
 fn a_dropped_cache_drops_its_values() -> Result<(), Refusal> {
     let recording = Recording::new()?;
     let dropped = recording.dropped.clone();
@@ -388,14 +463,19 @@ fn stress() -> Result<(), Refusal> {
                     let key = (random >> 33) % 100;
                     let charge = 1 + (random >> 40) % 4;
                     let fails = (random >> 50) % 10 >= 8;
-                    let answer = cache.get_or_try_init(&key, charge, |_| {
-                        if fails {
-                            return Err(());
-                        }
+                    let value = || {
                         made.fetch_add(charge, Ordering::Relaxed);
-                        Ok(Counted { charge, dropped })
-                    });
-                    assert!(fails || answer.is_ok());
+                        Counted { charge, dropped }
+                    };
+                    match (random >> 56) % 16 {
+                        0 => assert!(cache.invalidate(&key).is_ok()),
+                        1 => assert!(cache.insert(&key, charge, value()).is_ok()),
+                        _ => {
+                            let made = |_: &u64| if fails { Err(()) } else { Ok(value()) };
+                            let answer = cache.get_or_try_init(&key, charge, made);
+                            assert!(fails || answer.is_ok());
+                        }
+                    }
                     if key % 10 == 0 {
                         thread::yield_now();
                     }
