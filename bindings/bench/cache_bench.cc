@@ -1,12 +1,13 @@
 // Measures a hit with its release and a miss with an eviction, for this cache and for LevelDB's:
-// one thread, keys of 16 bytes, a mutex around the calls of each. Prints nanoseconds of processor
-// time per operation, the least and the median of all rounds, and their ratios to LevelDB's.
+// one thread, keys of 16 bytes, a std::mutex around the calls of each. Prints nanoseconds of
+// processor time per operation, the least of all rounds, and its ratio to LevelDB's.
 //
 //   cache_bench [ROUNDS [CALLS]]
 //
-// The caches take turns in each round. A hit looks up a key that is present and releases it. A miss
-// looks up a key that is absent, makes its entry, which evicts the oldest idle one, and releases
-// it: Lookup, Insert and Release of a LevelDB cache; begin, ready and release of this one.
+// The caches take turns in each round, so that all meet the same load of the machine. A hit looks
+// up a key that is present and releases it. A miss looks up a key that is absent, makes its entry,
+// which evicts the oldest idle one, and releases it: Lookup, Insert and Release of a LevelDB cache;
+// begin, ready and release of this one.
 #include <time.h>
 
 #include <algorithm>
@@ -192,15 +193,9 @@ double Least(const std::vector<double>& times) {
   return *std::min_element(times.begin(), times.end());
 }
 
-double Median(std::vector<double> times) {
-  std::sort(times.begin(), times.end());
-  return times[times.size() / 2];
-}
-
 void Print(const char* what, const std::vector<double>& times,
            const std::vector<double>& level_dbs) {
-  std::printf("  %s least %6.1f (%.2f) median %6.1f (%.2f)", what, Least(times),
-              Least(times) / Least(level_dbs), Median(times), Median(times) / Median(level_dbs));
+  std::printf("   %s %7.1f (%.2f)", what, Least(times), Least(times) / Least(level_dbs));
 }
 
 }  // namespace
@@ -235,12 +230,12 @@ int main(int argc, char** argv) {
       Measure(std::make_unique<LevelDBs>(lru::NewLevelDBCache(capacity)), entries, calls,
               &times[6]);
     }
-    std::printf("%llu entries, nanoseconds of processor time a call (ratio to LevelDB's)\n",
-                static_cast<unsigned long long>(entries));
+    std::printf("%llu entries: nanoseconds, the least of %d rounds (ratio to LevelDB's)\n",
+                static_cast<unsigned long long>(entries), rounds);
     for (std::size_t i = 0; i < kCaches; i++) {
       std::printf("  %-20s", names[i]);
-      Print("hit: ", times[i].hits, times[0].hits);
-      Print("miss:", times[i].misses, times[0].misses);
+      Print("hit", times[i].hits, times[0].hits);
+      Print("miss", times[i].misses, times[0].misses);
       std::printf("\n");
     }
   }

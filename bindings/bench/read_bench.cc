@@ -2,9 +2,8 @@
 //
 //   read_bench FOLDER [PAIRS [READS]]     creates the database in FOLDER if it does not exist
 //
-// For each capacity and number of threads, the two caches take turns: own, this, own, and so on.
-// Each run with this cache is compared with the mean of the runs before and after it. Prints the
-// processor time per read, and the median and the quartiles of the ratios.
+// For each capacity and number of threads, the two caches take turns. Prints the processor time per
+// read, the least of all runs of each cache, and the ratio of the two.
 #include <sys/stat.h>
 #include <time.h>
 
@@ -110,19 +109,14 @@ double Measure(const std::string& path, leveldb::Cache* new_cache, std::size_t t
 
 void Compare(const std::string& path, std::size_t capacity, std::size_t threads, std::size_t pairs,
              std::uint64_t reads) {
-  std::vector<double> own, proved, ratios;
-  own.push_back(Measure(path, leveldb::NewLRUCache(capacity), threads, reads));
+  double own = 1e9, proved = 1e9;
   for (std::size_t pair = 0; pair < pairs; pair++) {
-    proved.push_back(Measure(path, lru::NewLevelDBBlockCache(capacity), threads, reads));
-    own.push_back(Measure(path, leveldb::NewLRUCache(capacity), threads, reads));
-    ratios.push_back(proved[pair] / ((own[pair] + own[pair + 1]) / 2));
+    own = std::min(own, Measure(path, leveldb::NewLRUCache(capacity), threads, reads));
+    proved = std::min(proved, Measure(path, lru::NewLevelDBBlockCache(capacity), threads, reads));
   }
-  std::sort(ratios.begin(), ratios.end());
-  std::printf("%2zu MiB, %zu thread%s: own %.2f us, this %.2f us, ratio %.2f (%.2f, %.2f)\n",
-              capacity >> 20, threads, threads == 1 ? " " : "s",
-              *std::min_element(own.begin(), own.end()) * 1e6,
-              *std::min_element(proved.begin(), proved.end()) * 1e6, ratios[pairs / 2],
-              ratios[pairs / 4], ratios[pairs - 1 - pairs / 4]);
+  std::printf("%2zu MiB, %zu thread%s: LevelDB's own %.2f us, this %.2f us, ratio %.2f\n",
+              capacity >> 20, threads, threads == 1 ? " " : "s", own * 1e6, proved * 1e6,
+              proved / own);
 }
 
 }  // namespace
