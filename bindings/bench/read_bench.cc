@@ -131,8 +131,8 @@ int main(int argc, char** argv) {
   const std::string path = argv[1];
   struct stat found;
   if (stat(path.c_str(), &found) != 0) Fill(path);
-  for (const std::size_t mebibytes : {2, 8, 64}) {
-    for (const std::size_t threads : {1, 4}) {
+  for (const std::size_t mebibytes : {2u, 8u, 64u}) {
+    for (const std::size_t threads : {1u, 4u}) {
       Compare(path, mebibytes << 20, threads, pairs, reads);
     }
   }

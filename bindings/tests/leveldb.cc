@@ -171,7 +171,7 @@ int main(int argc, char** argv) {
   Fill(path);
   bool good = true;
   std::string hits;
-  for (const std::size_t kibibytes : {256, 1024, 8192}) {
+  for (const std::size_t kibibytes : {256u, 1024u, 8192u}) {
     const std::size_t capacity = kibibytes << 10;
     const Outcome own = Read(path, leveldb::NewLRUCache(capacity));
     const Outcome blocks = Read(path, lru::NewLevelDBBlockCache(capacity));
