@@ -14,11 +14,8 @@ use std::thread;
 
 use concurrent_lru_proved::unsharded::LruCache;
 
-/// Open files by their paths.
-type Files = LruCache<String, File>;
-
 /// Returns the first bytes of a file, which is opened if it is not open yet.
-fn head(files: &Files, path: &str) -> Result<Vec<u8>, Box<dyn Error>> {
+fn head(files: &LruCache<String, File>, path: &str) -> Result<Vec<u8>, Box<dyn Error>> {
     let file = files.get_or_try_init(path, 1, |path| File::open(path))?;
     let mut head = [0; 16];
     // The handle keeps the file open, whatever other threads do.
@@ -28,7 +25,7 @@ fn head(files: &Files, path: &str) -> Result<Vec<u8>, Box<dyn Error>> {
 
 fn main() -> Result<(), Box<dyn Error>> {
     let paths: Vec<String> = env::args().skip(1).collect();
-    let files = Files::new(32)?;
+    let files = LruCache::new(32)?;
     thread::scope(|scope| {
         for _ in 0..4 {
             scope.spawn(|| {
@@ -43,7 +40,5 @@ fn main() -> Result<(), Box<dyn Error>> {
         println!("{path}: {}", head(&files, path)?.escape_ascii());
     }
     println!("{} files are open", files.total_charge());
-    files.prune();
-    println!("{} files are open after a prune", files.total_charge());
     Ok(())
 }
