@@ -123,7 +123,7 @@ class Run {
   }
 
  private:
-  static constexpr std::uint64_t kCapacity = 10;
+  static constexpr std::uint64_t kCapacity = 16;
   static constexpr std::uint64_t kFirstStamp = 3;
   static constexpr std::uint32_t kMostPins = 3;
 
@@ -147,21 +147,22 @@ class Run {
     if (pin != pins_.end()) pins_.erase(pin);
   }
 
-  // Makes one random call on both caches. False if the answers differ.
+  // Makes one random call on both caches. False if the answers differ. There are so many releases
+  // that about half of the time some entries are idle.
   bool call() {
-    const std::uint64_t kind = random_.below(32);
-    if (kind < 6) return begin();
-    if (kind < 8) return insert();
-    if (kind < 9) return poll();
-    if (kind < 14) return ready();
-    if (kind < 15) return fail();
-    if (kind < 17) return get();
-    if (kind < 27) return release();
-    if (kind < 28) return advice_evict();
-    if (kind < 29) return invalidate();
-    if (kind < 30) return set_capacity();
+    const std::uint64_t kind = random_.below(48);
+    if (kind < 7) return begin();
+    if (kind < 10) return insert();
+    if (kind < 11) return poll();
+    if (kind < 17) return ready();
+    if (kind < 18) return fail();
+    if (kind < 20) return get();
+    if (kind < 43) return release();
+    if (kind < 44) return advice_evict();
+    if (kind < 45) return invalidate();
+    if (kind < 46) return set_capacity();
     // Rarely, as a prune leaves little for other calls to evict.
-    if (kind < 31) return random_.below(4) != 0 || prune();
+    if (kind < 47) return random_.below(4) != 0 || prune();
     return reserve();
   }
 
@@ -174,11 +175,12 @@ class Run {
     return told == plain_.begin(key, charge, &gone_) && evicted();
   }
 
-  // Now and then with a charge that is too much beside others.
+  // Now and then with a charge that is almost the largest, which may be too much beside others.
   bool insert() {
     call_ = "insert";
     const Key key = any_key();
-    const std::uint64_t charge = random_.below(8) == 0 ? UINT64_MAX : random_.below(5);
+    const std::uint64_t charge =
+        random_.below(8) == 0 ? UINT64_MAX - random_.below(2 * kCapacity) : random_.below(5);
     const std::uint64_t value = random_.below(UINT64_MAX);
     const lru_told told = Family::insert(&cache_, key, charge, value, &chain_);
     if (told.code == LRU_DONE) pinned(told);
@@ -238,7 +240,7 @@ class Run {
 
   bool set_capacity() {
     call_ = "set_capacity";
-    const std::uint64_t capacity = random_.below(16);
+    const std::uint64_t capacity = random_.below(2 * kCapacity);
     const lru_code code = Family::set_capacity(&cache_, capacity, &chain_);
     return code == plain_.set_capacity(capacity, &gone_) && evicted();
   }
