@@ -8,8 +8,8 @@
 //
 // Like LevelDB's own cache it has 16 shards, each with a mutex, and both choose the same shard for
 // a key. As long as the entries that are pinned at one time fit into the capacity of their shard,
-// and none is erased or replaced while it is pinned, both caches hold the same entries. Otherwise
-// they differ in these points:
+// and none is erased or replaced while it is pinned, both caches hold the same entries. The
+// differences:
 //
 //  - Release evicts too. LevelDB's cache evicts only in Insert, so a shard whose pinned entries
 //    exceeded its capacity stays above it until the next Insert. Here a shard is above its capacity

@@ -187,9 +187,9 @@ class Cache {
   // `charge` is what the value counts for against the capacity, in units of the caller's choice; it
   // must be above 0. If the value exists already or is being made, its charge does not change.
   //
-  // Throws ZeroCharge, Overflow and OutOfMemory before `init` runs, and nothing changes. Also
-  // throws std::bad_alloc after `init` has run, if there is no memory to keep the value; the value
-  // is deleted then, as if `init` had failed.
+  // Throws ZeroCharge, Overflow and OutOfMemory before `init` runs, and nothing changes. If there
+  // is no memory for the value, or to keep it once it is made, std::bad_alloc is thrown as if by
+  // `init`, and a value that was made is deleted.
   template <class Init>
   Handle get_or_init(Key key, std::uint64_t charge, Init&& init) {
     const lru_told told = begin(key, charge);
@@ -202,8 +202,8 @@ class Cache {
   // old value keep it, and it counts against the capacity, until the last of them is released;
   // those who wait for a value that is being made still get that one. Does not wait.
   //
-  // Throws ZeroCharge, Overflow and OutOfMemory. The key keeps its old value then, and the new one
-  // is deleted.
+  // Throws ZeroCharge, Overflow and std::bad_alloc. The key keeps its old value then, and the new
+  // one is deleted.
   template <class V>
   Handle insert(Key key, std::uint64_t charge, V&& value) {
     auto node = std::make_unique<Node>(std::forward<V>(value));
@@ -346,7 +346,7 @@ class ShardedCache {
  public:
   using Handle = lru::Handle<Value, Key>;
 
-  // An empty cache. Throws OutOfMemory, and std::invalid_argument if `shards` is 0.
+  // An empty cache. Throws std::bad_alloc, and std::invalid_argument if `shards` is 0.
   explicit ShardedCache(std::uint64_t capacity, std::size_t shards = 16, Hash hash = Hash())
       : hash_(std::move(hash)) {
     if (shards == 0) throw std::invalid_argument("lru: the number of shards is 0");
