@@ -2,10 +2,10 @@
 // std::bad_alloc is repeated, so the answers are those of a run with ample memory, whichever
 // request was refused.
 //
-// As many objects must be deleted as were made, and an insert that throws must leave the charges
-// that it found. Prints the answers, and to standard error the call that was refused. Exits with 1
-// if something is wrong. tests/no_memory runs this with the first request refused, then with the
-// second, and so on.
+// Each object must be deleted once, and an insert that throws must leave the charges that it found.
+// Prints the answers, and to standard error the call that was refused. Exits with 1 if something is
+// wrong. tests/no_memory runs this with the first request refused, then with the second, and so on.
+#include <cstddef>
 #include <cstdint>
 #include <cstdio>
 #include <memory>
@@ -19,19 +19,24 @@
 namespace {
 
 int failed = 0;
-int alive = 0;
 
 void wrong(const char* what) {
   std::fprintf(stderr, "wrong: %s\n", what);
   failed = 1;
 }
 
-// Counts the objects that are alive.
+// How often each object was deleted.
+int deletions[1000];
+std::size_t made = 0;
+
 class Object {
  public:
-  explicit Object(std::uint64_t number) : number_(number) { alive++; }
-  Object(Object&& from) noexcept : number_(std::exchange(from.number_, 0)) { alive++; }
-  ~Object() { alive--; }
+  explicit Object(std::uint64_t number) : number_(number), deletions_(&deletions[made++]) {}
+  Object(Object&& from) noexcept
+      : number_(from.number_), deletions_(std::exchange(from.deletions_, nullptr)) {}
+  ~Object() {
+    if (deletions_ != nullptr) ++*deletions_;
+  }
 
   Object(const Object&) = delete;
   Object& operator=(const Object&) = delete;
@@ -40,6 +45,7 @@ class Object {
 
  private:
   std::uint64_t number_;
+  int* deletions_;  // null after it was moved from
 };
 
 // The answer of a call, which is repeated if it throws.
@@ -134,7 +140,9 @@ template <class Keys>
 void run() {
   Script<Keys, lru::Cache<Object, typename Keys::Key>>().run();
   Script<Keys, lru::ShardedCache<Object, typename Keys::Key>>().run();
-  if (alive != 0) wrong("not as many objects were deleted as were made");
+  for (std::size_t i = 0; i < made; i++) {
+    if (deletions[i] != 1) wrong("an object was not deleted exactly once");
+  }
 }
 
 }  // namespace
