@@ -2,6 +2,7 @@
  *
  *   FAMILY       lru_bytes or lru_words
  *   NAME(call)   the name of a function of the family
+ *   CALL(call)   the same as text, where a call may be refused
  *   KEY(n)       the key of a number, as arguments
  *   RUN          the name of the function that is defined here
  */
@@ -21,7 +22,7 @@ static void NAME(take)(NAME(evicted) * gone) {
 static lru_told NAME(ask)(FAMILY *cache, NAME(evicted) * gone, unsigned n, uint64_t charge) {
     uint64_t before = NAME(weighed)(cache);
     lru_told told = NAME(begin)(cache, KEY(n), charge, gone);
-    if (refused(told.code, "begin")) {
+    if (refused(told.code, CALL("begin"))) {
         if (!NAME(evicted_is_empty)(gone) || NAME(weighed)(cache) != before)
             wrong("a refused begin changed something");
         told = NAME(begin)(cache, KEY(n), charge, gone);
@@ -34,7 +35,7 @@ static lru_told NAME(ask)(FAMILY *cache, NAME(evicted) * gone, unsigned n, uint6
 static lru_told NAME(find)(FAMILY *cache, unsigned n) {
     uint64_t before = NAME(weighed)(cache);
     lru_told told = NAME(get)(cache, KEY(n));
-    if (refused(told.code, "get")) {
+    if (refused(told.code, CALL("get"))) {
         if (NAME(weighed)(cache) != before) wrong("a refused get changed something");
         told = NAME(get)(cache, KEY(n));
     }
@@ -45,7 +46,7 @@ static lru_told NAME(find)(FAMILY *cache, unsigned n) {
 static void NAME(give)(FAMILY *cache, uint64_t stamp) {
     uint64_t before = NAME(weighed)(cache), value = new_object();
     lru_code code = NAME(ready)(cache, stamp, value);
-    if (refused(code, "ready")) {
+    if (refused(code, CALL("ready"))) {
         if (NAME(weighed)(cache) != before) wrong("a refused ready changed something");
         code = NAME(ready)(cache, stamp, value);
     }
@@ -66,7 +67,7 @@ static void NAME(use)(FAMILY *cache, NAME(evicted) * gone, unsigned n, uint64_t 
 
 static void NAME(evict)(FAMILY *cache, NAME(evicted) * gone, unsigned n) {
     lru_code code = NAME(advice_evict)(cache, KEY(n), gone);
-    if (refused(code, "advice_evict")) code = NAME(advice_evict)(cache, KEY(n), gone);
+    if (refused(code, CALL("advice_evict"))) code = NAME(advice_evict)(cache, KEY(n), gone);
     say_code("advice_evict", code);
     NAME(take)(gone);
 }
@@ -74,7 +75,7 @@ static void NAME(evict)(FAMILY *cache, NAME(evicted) * gone, unsigned n) {
 static void NAME(take_away)(FAMILY *cache, NAME(evicted) * gone, unsigned n) {
     uint64_t before = NAME(weighed)(cache);
     lru_code code = NAME(invalidate)(cache, KEY(n), gone);
-    if (refused(code, "invalidate")) {
+    if (refused(code, CALL("invalidate"))) {
         if (!NAME(evicted_is_empty)(gone) || NAME(weighed)(cache) != before)
             wrong("a refused invalidate changed something");
         code = NAME(invalidate)(cache, KEY(n), gone);
@@ -85,7 +86,7 @@ static void NAME(take_away)(FAMILY *cache, NAME(evicted) * gone, unsigned n) {
 
 static void NAME(look)(FAMILY *cache, unsigned n) {
     lru_code code = NAME(contains)(cache, KEY(n));
-    if (refused(code, "contains")) code = NAME(contains)(cache, KEY(n));
+    if (refused(code, CALL("contains"))) code = NAME(contains)(cache, KEY(n));
     say_code("contains", code);
 }
 
@@ -93,7 +94,7 @@ static void NAME(look)(FAMILY *cache, unsigned n) {
 static uint64_t NAME(put)(FAMILY *cache, NAME(evicted) * gone, unsigned n, uint64_t charge) {
     uint64_t before = NAME(weighed)(cache), value = new_object();
     lru_told told = NAME(insert)(cache, KEY(n), charge, value, gone);
-    if (refused(told.code, "insert")) {
+    if (refused(told.code, CALL("insert"))) {
         if (!NAME(evicted_is_empty)(gone) || NAME(weighed)(cache) != before)
             wrong("a refused insert changed something");
         told = NAME(insert)(cache, KEY(n), charge, value, gone);
@@ -105,7 +106,7 @@ static uint64_t NAME(put)(FAMILY *cache, NAME(evicted) * gone, unsigned n, uint6
 
 static void NAME(open)(FAMILY *cache) {
     lru_code code = NAME(new)(20, cache);
-    if (refused(code, "new")) code = NAME(new)(20, cache);
+    if (refused(code, CALL("new"))) code = NAME(new)(20, cache);
     say_code("new", code);
 }
 
@@ -114,7 +115,7 @@ static void RUN(void) {
     NAME(evicted) gone = {0};
     lru_told held, waited;
     lru_code code = NAME(evicted_new)(&gone);
-    if (refused(code, "evicted_new")) code = NAME(evicted_new)(&gone);
+    if (refused(code, CALL("evicted_new"))) code = NAME(evicted_new)(&gone);
     say_code("evicted_new", code);
     NAME(open)(&cache);
 
@@ -163,7 +164,7 @@ static void RUN(void) {
 
     /* reserve, a smaller capacity, prune. */
     code = NAME(reserve)(&cache, 100);
-    if (refused(code, "reserve")) code = NAME(reserve)(&cache, 100);
+    if (refused(code, CALL("reserve"))) code = NAME(reserve)(&cache, 100);
     say_code("reserve", code);
     say_code("set_capacity", NAME(set_capacity)(&cache, 8, &gone));
     NAME(take)(&gone);
