@@ -12,7 +12,7 @@
 #include <vector>
 
 #include "lru.h"
-#include "lru.hpp"
+#include "lru_core.hpp"
 #include "plain_cache.hpp"
 
 // In the namespace of their types, so that std's algorithms find them.
