@@ -398,6 +398,127 @@ static void FAMILY(row_19)(void) {
     FAMILY(close)(&s);
 }
 
+/* An invalidate: the key finds its entry no more, whoever holds it still has it. */
+static void FAMILY(invalidates)(void) {
+    FAMILY(stage) s;
+    uint64_t first, second;
+
+    /* an idle entry leaves at once */
+    FAMILY(open)(&s, 10);
+    FAMILY(make)(&s, 1, 3);
+    CHECK(FAMILY(invalidate)(&s.cache, KEY(1), &s.gone), LRU_DONE);
+    CHECK(FAMILY(note)(&s), 1);
+    EVICTED(&s, 1);
+    CHECK(FAMILY(invalidate)(&s.cache, KEY(1), &s.gone), LRU_DONE);
+    CHECK(FAMILY(note)(&s), 0);
+    CHECK(FAMILY(total_of)(&s), 0);
+
+    /* a held one leaves with its last release, and has its charge until then */
+    first = FAMILY(hold)(&s, 2, 3);
+    CHECK(FAMILY(hold)(&s, 2, 3), first);
+    CHECK(FAMILY(invalidate)(&s.cache, KEY(2), &s.gone), LRU_DONE);
+    CHECK(FAMILY(note)(&s), 0);
+    CHECK(FAMILY(finds)(&s, 2, 2), false);
+    CHECK(FAMILY(poll)(&s.cache, first).value, 2);
+    second = FAMILY(hold)(&s, 2, 4);
+    CHECK(second != first, true);
+    CHECK(FAMILY(total_of)(&s), 7);
+    CHECK(FAMILY(len)(&s.cache).value, 2);
+    CHECK(FAMILY(let_go)(&s, first), 0);
+    CHECK(FAMILY(let_go)(&s, first), 1);
+    EVICTED(&s, 1, 2);
+    CHECK(FAMILY(release)(&s.cache, first, &s.gone), LRU_STALE);
+    CHECK(FAMILY(let_go)(&s, second), 0);
+    CHECK(FAMILY(finds)(&s, 2, 2), true);
+    CHECK(FAMILY(total_of)(&s), 4);
+    FAMILY(close)(&s);
+}
+
+/* An invalidate of an entry that is being made: those who wait get its value, and a later begin
+ * makes a new one. */
+static void FAMILY(invalidates_a_making)(void) {
+    FAMILY(stage) s;
+    uint64_t first, second;
+    lru_told told;
+
+    FAMILY(open)(&s, 10);
+    first = FAMILY(ask)(&s, 1, 3).stamp;
+    CHECK(FAMILY(ask)(&s, 1, 3).code, LRU_WAIT);
+    CHECK(FAMILY(invalidate)(&s.cache, KEY(1), &s.gone), LRU_DONE);
+    told = FAMILY(ask)(&s, 1, 3);
+    CHECK(told.code, LRU_MAKE);
+    second = told.stamp;
+    CHECK(second != first, true);
+    CHECK(FAMILY(ready)(&s.cache, first, 10), LRU_DONE);
+    CHECK(FAMILY(poll)(&s.cache, first).value, 10);
+    CHECK(FAMILY(ready)(&s.cache, second, 20), LRU_DONE);
+    CHECK(FAMILY(finds)(&s, 1, 20), true);
+    CHECK(FAMILY(let_go)(&s, first), 0);
+    CHECK(FAMILY(let_go)(&s, first), 1);
+    EVICTED(&s, 10);
+    CHECK(FAMILY(let_go)(&s, second), 0);
+
+    /* a making that fails */
+    told = FAMILY(ask)(&s, 2, 3);
+    CHECK(FAMILY(invalidate)(&s.cache, KEY(2), &s.gone), LRU_DONE);
+    CHECK(FAMILY(fail)(&s.cache, told.stamp), LRU_REMOVED);
+    CHECK(FAMILY(total_of)(&s), 3);
+    FAMILY(close)(&s);
+}
+
+/* The stamp of an entry that was put in with a value. */
+static uint64_t FAMILY(put)(FAMILY(stage) *s, uint64_t k, uint64_t charge, uint64_t value) {
+    lru_told told = FAMILY(insert)(&s->cache, KEY(k), charge, value, &s->gone);
+    CHECK(told.code, LRU_DONE);
+    CHECK(told.value, 0);
+    FAMILY(note)(s);
+    return told.stamp;
+}
+
+/* An insert: replaces the entry of the key, whoever holds it, and then evicts. */
+static void FAMILY(inserts)(void) {
+    FAMILY(stage) s;
+    uint64_t first, second;
+
+    FAMILY(open)(&s, 4);
+    first = FAMILY(put)(&s, 1, 1, 10);
+    CHECK(FAMILY(finds)(&s, 1, 10), true);
+    CHECK(FAMILY(let_go)(&s, first), 0);
+    FAMILY(make)(&s, 2, 1);
+    FAMILY(make)(&s, 3, 1);
+
+    /* over an idle entry: that one comes first, and what the charge evicts is the oldest */
+    second = FAMILY(put)(&s, 3, 3, 30);
+    EVICTED(&s, 3, 10);
+    CHECK(FAMILY(finds)(&s, 3, 30), true);
+    CHECK(FAMILY(total_of)(&s), 4);
+
+    /* over a held one, whose holder keeps it */
+    first = FAMILY(put)(&s, 3, 1, 31);
+    EVICTED(&s, 3, 10, 2);
+    CHECK(FAMILY(finds)(&s, 3, 31), true);
+    CHECK(FAMILY(poll)(&s.cache, second).value, 30);
+    CHECK(FAMILY(total_of)(&s), 4);
+    CHECK(FAMILY(let_go)(&s, second), 1);
+    EVICTED(&s, 3, 10, 2, 30);
+    CHECK(FAMILY(let_go)(&s, first), 0);
+    CHECK(FAMILY(finds)(&s, 3, 31), true);
+
+    /* refused: the key keeps its entry */
+    CHECK(FAMILY(insert)(&s.cache, KEY(3), 0, 32, &s.gone).code, LRU_NO_CHARGE);
+    first = FAMILY(hold)(&s, 3, 1);
+    CHECK(FAMILY(insert)(&s.cache, KEY(3), UINT64_MAX, 32, &s.gone).code, LRU_OVERFLOW);
+    CHECK(FAMILY(finds)(&s, 3, 31), true);
+    CHECK(FAMILY(let_go)(&s, first), 0);
+    CHECK(FAMILY(note)(&s), 0);
+
+    /* the charge of an idle entry of the key does not count */
+    first = FAMILY(put)(&s, 3, UINT64_MAX, 33);
+    EVICTED(&s, 3, 10, 2, 30, 31);
+    CHECK(FAMILY(let_go)(&s, first), 1);
+    FAMILY(close)(&s);
+}
+
 /* What a free hands out: idle entries, oldest first, then those that are held, each once. */
 static void FAMILY(frees)(void) {
     FAMILY(stage) s;
@@ -415,10 +536,15 @@ static void FAMILY(frees)(void) {
     CHECK(FAMILY(ask)(&s, 8, 1).code, LRU_MAKE); /* left by its maker, while another waits */
     CHECK(FAMILY(ask)(&s, 8, 1).code, LRU_WAIT);
     CHECK(FAMILY(fail)(&s.cache, 1000007), LRU_LEFT);
-    CHECK(FAMILY(len)(&s.cache).value, 8);
+    CHECK(FAMILY(ask)(&s, 9, 1).code, LRU_MAKE); /* detached, with a value and without */
+    CHECK(FAMILY(invalidate)(&s.cache, KEY(9), &s.gone), LRU_DONE);
+    FAMILY(hold)(&s, 9, 1);
+    CHECK(FAMILY(invalidate)(&s.cache, KEY(9), &s.gone), LRU_DONE);
+    CHECK(FAMILY(len)(&s.cache).value, 10);
     CHECK(FAMILY(free)(&s.cache, &s.gone), LRU_DONE);
-    FAMILY(note)(&s);
-    EVICTED(&s, 1, 3, 4, 6, 2, 5);
+    CHECK(FAMILY(note)(&s), 7);
+    sort(s.left + 4, 3); /* what was held comes in no particular order */
+    EVICTED(&s, 1, 3, 4, 6, 2, 5, 9);
     CHECK(FAMILY(evicted_free)(&s.gone), LRU_DONE);
 
     /* the handle can be opened anew */
@@ -447,6 +573,8 @@ static void FAMILY(misuse)(void) {
     CHECK(FAMILY(contains)(&closed, KEY(1)), LRU_CLOSED);
     CHECK(FAMILY(release)(&closed, 0, &s.gone), LRU_CLOSED);
     CHECK(FAMILY(advice_evict)(&closed, KEY(1), &s.gone), LRU_CLOSED);
+    CHECK(FAMILY(invalidate)(&closed, KEY(1), &s.gone), LRU_CLOSED);
+    CHECK(FAMILY(insert)(&closed, KEY(1), 1, 1, &s.gone).code, LRU_CLOSED);
     CHECK(FAMILY(prune)(&closed, &s.gone), LRU_CLOSED);
     CHECK(FAMILY(set_capacity)(&closed, 1, &s.gone), LRU_CLOSED);
     CHECK(FAMILY(reserve)(&closed, 1), LRU_CLOSED);
@@ -460,6 +588,8 @@ static void FAMILY(misuse)(void) {
     CHECK(FAMILY(begin)(&s.cache, KEY(1), 1, &shut).code, LRU_CLOSED);
     CHECK(FAMILY(release)(&s.cache, 0, &shut), LRU_CLOSED);
     CHECK(FAMILY(advice_evict)(&s.cache, KEY(1), &shut), LRU_CLOSED);
+    CHECK(FAMILY(invalidate)(&s.cache, KEY(1), &shut), LRU_CLOSED);
+    CHECK(FAMILY(insert)(&s.cache, KEY(1), 1, 1, &shut).code, LRU_CLOSED);
     CHECK(FAMILY(prune)(&s.cache, &shut), LRU_CLOSED);
     CHECK(FAMILY(set_capacity)(&s.cache, 1, &shut), LRU_CLOSED);
     CHECK(FAMILY(free)(&s.cache, &shut), LRU_CLOSED);
@@ -485,6 +615,8 @@ static void FAMILY(misuse)(void) {
     CHECK(FAMILY(begin)(&s.cache, KEY(3), 1, &s.gone).code, LRU_NOT_EMPTY);
     CHECK(FAMILY(release)(&s.cache, stamp, &s.gone), LRU_NOT_EMPTY);
     CHECK(FAMILY(advice_evict)(&s.cache, KEY(2), &s.gone), LRU_NOT_EMPTY);
+    CHECK(FAMILY(invalidate)(&s.cache, KEY(2), &s.gone), LRU_NOT_EMPTY);
+    CHECK(FAMILY(insert)(&s.cache, KEY(2), 1, 1, &s.gone).code, LRU_NOT_EMPTY);
     CHECK(FAMILY(prune)(&s.cache, &s.gone), LRU_NOT_EMPTY);
     CHECK(FAMILY(set_capacity)(&s.cache, 0, &s.gone), LRU_NOT_EMPTY);
     CHECK(FAMILY(free)(&s.cache, &s.gone), LRU_NOT_EMPTY);
@@ -522,6 +654,9 @@ static void FAMILY(rows)(void) {
     FAMILY(row_17)();
     FAMILY(row_18)();
     FAMILY(row_19)();
+    FAMILY(invalidates)();
+    FAMILY(invalidates_a_making)();
+    FAMILY(inserts)();
     FAMILY(frees)();
     FAMILY(misuse)();
 }

@@ -5,6 +5,7 @@
 
 #include <inttypes.h>
 #include <stdio.h>
+#include <stdlib.h>
 #include <string.h>
 
 static int failures;
@@ -25,6 +26,16 @@ static void check_list(const char *file, int line, const uint64_t *got, size_t l
     check(file, line, length, wanted_length);
     for (i = 0; i < length && i < wanted_length; i++)
         check(file, line, got[i], wanted[i]);
+}
+
+static int by_value(const void *one, const void *other) {
+    uint64_t a = *(const uint64_t *)one, b = *(const uint64_t *)other;
+
+    return (a > b) - (a < b);
+}
+
+static void sort(uint64_t *numbers, size_t length) {
+    qsort(numbers, length, sizeof *numbers, by_value);
 }
 
 /* A number as a key of its eight bytes. */
@@ -68,6 +79,8 @@ static void keys_of_bytes(void) {
     CHECK(lru_bytes_get(&cache, NULL, 1).code, LRU_NULL_KEY);
     CHECK(lru_bytes_contains(&cache, NULL, 1), LRU_NULL_KEY);
     CHECK(lru_bytes_advice_evict(&cache, NULL, 1, &gone), LRU_NULL_KEY);
+    CHECK(lru_bytes_invalidate(&cache, NULL, 1, &gone), LRU_NULL_KEY);
+    CHECK(lru_bytes_insert(&cache, NULL, 1, 1, 1, &gone).code, LRU_NULL_KEY);
     CHECK(lru_bytes_len(&cache).value, 0);
 
     told = lru_bytes_begin(&cache, NULL, 0, 1, &gone);

@@ -1,0 +1,246 @@
+// A leveldb::Cache built on the proved library of lru.h, to be used like leveldb::NewLRUCache:
+//
+//   leveldb::Options options;
+//   options.block_cache = lru::NewLevelDBBlockCache(8 << 20);
+//
+// LevelDB's block cache has keys of 16 bytes, and LevelDBBlockCache caches only such keys: it
+// stores them as two words, which is faster. LevelDBCache caches keys of any length.
+//
+// Like LevelDB's own cache it has 16 shards, each with a mutex, and both choose the same shard for
+// a key. As long as the entries that are pinned at one time fit into the capacity of their shard,
+// and none is erased or replaced while it is pinned, both caches hold the same entries. The
+// differences:
+//
+//  - Release evicts too. LevelDB's cache evicts only in Insert, so a shard whose pinned entries
+//    exceeded its capacity stays above it until the next Insert. Here a shard is above its capacity
+//    only while all of its entries are pinned. In particular, an entry larger than its shard's
+//    capacity is evicted at its last Release.
+//  - Erase of a pinned entry, and Insert over one. The key finds the old entry no more, as in
+//    LevelDB, but the old entry keeps its charge until its last Release, as its memory is still in
+//    use. In LevelDB's cache it has no charge from then on.
+//  - With a capacity of 0 LevelDB's cache never finds an entry. Here an entry is found while it is
+//    pinned.
+//  - A charge of 0 counts as 1.
+//  - If there is no memory to cache an entry, or the total charge would overflow, Insert returns an
+//    entry that is not cached: Lookup does not find it, and its last Release deletes it. LevelDB's
+//    cache ends the process if an allocation fails; this one does so only if there is no memory for
+//    the entry itself.
+//  - Deleters run without the mutex, so they may be slow and may call the cache. LevelDB's cache
+//    runs them with the mutex held.
+//  - The destructor deletes entries that are still pinned. LevelDB's asserts that there are none.
+//
+// Nothing here throws, and the header compiles with -fno-exceptions. If LevelDB was built without
+// run-time type information, compile the file that includes this header with -fno-rtti.
+#ifndef LRU_LEVELDB_CACHE_H
+#define LRU_LEVELDB_CACHE_H
+
+#include <atomic>
+#include <cstddef>
+#include <cstdint>
+#include <cstdlib>
+#include <cstring>
+#include <mutex>
+#include <new>
+#include <string_view>
+#include <type_traits>
+
+#include "leveldb/cache.h"
+#include "leveldb/slice.h"
+#include "lru_core.hpp"
+
+namespace lru {
+
+// `Key` is how the library stores keys: std::string_view or Words.
+template <class Key>
+class BasicLevelDBCache : public leveldb::Cache {
+ public:
+  // A cache with the given capacity, or null if there is no memory for it.
+  static BasicLevelDBCache* New(std::size_t capacity) {
+    auto* cache = new (std::nothrow) BasicLevelDBCache;
+    if (cache == nullptr || cache->Open(capacity)) return cache;
+    delete cache;
+    return nullptr;
+  }
+
+  BasicLevelDBCache(const BasicLevelDBCache&) = delete;
+  BasicLevelDBCache& operator=(const BasicLevelDBCache&) = delete;
+
+  Handle* Insert(const leveldb::Slice& key, void* value, std::size_t charge,
+                 void (*deleter)(const leveldb::Slice& key, void* value)) override {
+    Entry* entry = Entry::New(key, value, deleter);
+    if (!CanStore(key)) return reinterpret_cast<Handle*>(entry);
+    const std::uint64_t weight = charge == 0 ? 1 : charge;
+    Shard& shard = ShardOf(key);
+    Evicted evicted;
+    const std::lock_guard<std::mutex> lock(shard.mutex);
+    const lru_told told = shard.core.insert(Stored(key), weight, entry, &evicted);
+    entry->stamp = told.stamp;
+    entry->cached = told.code == LRU_DONE;
+    // Where the new entry is refused, the old one must not be found either.
+    if (!entry->cached) shard.core.invalidate(Stored(key), &evicted);
+    return reinterpret_cast<Handle*>(entry);
+  }
+
+  Handle* Lookup(const leveldb::Slice& key) override {
+    if (!CanStore(key)) return nullptr;
+    Shard& shard = ShardOf(key);
+    const std::lock_guard<std::mutex> lock(shard.mutex);
+    const lru_told told = shard.core.get(Stored(key));
+    if (told.code != LRU_HIT) return nullptr;
+    return reinterpret_cast<Handle*>(Core::node_of(told.value));
+  }
+
+  void Release(Handle* handle) override {
+    Entry* entry = reinterpret_cast<Entry*>(handle);
+    if (!entry->cached) {
+      delete entry;
+      return;
+    }
+    Shard& shard = ShardOf(entry->key());
+    Evicted evicted;
+    const std::lock_guard<std::mutex> lock(shard.mutex);
+    shard.core.release(entry->stamp, &evicted);
+  }
+
+  void* Value(Handle* handle) override { return reinterpret_cast<Entry*>(handle)->value; }
+
+  void Erase(const leveldb::Slice& key) override {
+    if (!CanStore(key)) return;
+    Shard& shard = ShardOf(key);
+    Evicted evicted;
+    const std::lock_guard<std::mutex> lock(shard.mutex);
+    // This is refused only if the key is longer than any before, and then it has no entry.
+    shard.core.invalidate(Stored(key), &evicted);
+  }
+
+  std::uint64_t NewId() override { return ++last_id_; }
+
+  void Prune() override {
+    for (Shard& shard : shards_) {
+      Evicted evicted;
+      const std::lock_guard<std::mutex> lock(shard.mutex);
+      shard.core.prune(&evicted);
+    }
+  }
+
+  std::size_t TotalCharge() const override {
+    std::size_t total = 0;
+    for (const Shard& shard : shards_) {
+      const std::lock_guard<std::mutex> lock(shard.mutex);
+      total += static_cast<std::size_t>(shard.core.total());
+    }
+    return total;
+  }
+
+ private:
+  static constexpr std::size_t kShards = 16;
+
+  // An entry, followed by the bytes of its key.
+  struct Entry {
+    void* value;
+    void (*deleter)(const leveldb::Slice&, void*);
+    Entry* next = nullptr;
+    std::uint64_t stamp = 0;
+    std::size_t length;
+    bool cached = false;
+
+    static Entry* New(const leveldb::Slice& key, void* value,
+                      void (*deleter)(const leveldb::Slice&, void*)) {
+      void* at = std::malloc(sizeof(Entry) + key.size());
+      // Insert has no way to report this.
+      if (at == nullptr) std::abort();
+      return ::new (at) Entry(key, value, deleter);
+    }
+
+    ~Entry() { deleter(key(), value); }
+    static void operator delete(void* at) { std::free(at); }
+
+    leveldb::Slice key() const {
+      return leveldb::Slice(reinterpret_cast<const char*>(this + 1), length);
+    }
+
+   private:
+    Entry(const leveldb::Slice& k, void* v, void (*d)(const leveldb::Slice&, void*))
+        : value(v), deleter(d), length(k.size()) {
+      char* const after = reinterpret_cast<char*>(this + 1);
+      std::memcpy(after, k.data(), k.size());
+    }
+  };
+
+  using Core = detail::Core<Entry, Key>;
+  // Always declared before the mutex is locked: it is destroyed, and deleters run, after the mutex
+  // is unlocked.
+  using Evicted = detail::Evicted<Entry>;
+
+  struct alignas(64) Shard {
+    mutable std::mutex mutex;
+    Core core;
+  };
+
+  BasicLevelDBCache() = default;
+
+  // False if there is no memory.
+  bool Open(std::size_t capacity) {
+    const std::size_t share = capacity / kShards + (capacity % kShards != 0);
+    for (Shard& shard : shards_) {
+      if (!shard.core.open(share)) return false;
+    }
+    return true;
+  }
+
+  // A key of LevelDB as the library stores it, if it can.
+  static bool CanStore(const leveldb::Slice& key) {
+    return !std::is_same_v<Key, Words> || key.size() == sizeof(Words);
+  }
+  static Key Stored(const leveldb::Slice& key) {
+    if constexpr (std::is_same_v<Key, Words>) {
+      Words words;
+      std::memcpy(&words, key.data(), sizeof words);
+      return words;
+    } else {
+      return Key(key.data(), key.size());
+    }
+  }
+
+  // The hash function of LevelDB's own cache, so that both choose the same shards.
+  static std::uint32_t Hash(const leveldb::Slice& key) {
+    constexpr std::uint32_t kFactor = 0xc6a4a793;
+    const auto* at = reinterpret_cast<const std::uint8_t*>(key.data());
+    const std::uint8_t* const end = at + key.size();
+    std::uint32_t hash = static_cast<std::uint32_t>(key.size()) * kFactor;
+    for (; end - at >= 4; at += 4) {
+      hash = (hash + Word(at, 4)) * kFactor;
+      hash ^= hash >> 16;
+    }
+    if (at == end) return hash;
+    hash = (hash + Word(at, static_cast<std::size_t>(end - at))) * kFactor;
+    return hash ^ hash >> 24;
+  }
+
+  // Up to four bytes as a number, the lowest byte first.
+  static std::uint32_t Word(const std::uint8_t* at, std::size_t length) {
+    std::uint32_t word = 0;
+    for (std::size_t i = 0; i < length; i++) word |= static_cast<std::uint32_t>(at[i]) << (8 * i);
+    return word;
+  }
+
+  Shard& ShardOf(const leveldb::Slice& key) { return shards_[Hash(key) >> 28]; }
+
+  Shard shards_[kShards];
+  std::atomic<std::uint64_t> last_id_{0};
+};
+
+using LevelDBCache = BasicLevelDBCache<std::string_view>;
+using LevelDBBlockCache = BasicLevelDBCache<Words>;
+
+// A cache with the given capacity, or null if there is no memory for it. The caller deletes it
+// after the last database that uses it.
+inline leveldb::Cache* NewLevelDBCache(std::size_t capacity) { return LevelDBCache::New(capacity); }
+
+inline leveldb::Cache* NewLevelDBBlockCache(std::size_t capacity) {
+  return LevelDBBlockCache::New(capacity);
+}
+
+}  // namespace lru
+
+#endif

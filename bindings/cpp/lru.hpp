@@ -1,0 +1,419 @@
+// A cache of heavy values that threads share, built on the proved library of lru.h.
+//
+//   lru::Cache<Page> cache(1000);
+//   auto page = cache.get_or_init("a key", 1, [](std::string_view key) { return Page(key); });
+//   use(*page);  // pinned: the value stays while the handle lives
+//
+// A handle pins its value: a pinned value is neither evicted nor deleted. A value without a handle
+// is idle. While the total of all charges is above the capacity, idle values are evicted, the least
+// recently released first.
+//
+// The library is proved: which value is found, which ones are evicted, and in which order. This
+// header adds the locks and the values. It is ordinary C++, tested with the sanitizers.
+//
+// Requires C++17, the archive liblru.a, and threads (-pthread).
+#ifndef LRU_HPP
+#define LRU_HPP
+
+#include <cassert>
+#include <condition_variable>
+#include <cstddef>
+#include <cstdint>
+#include <deque>
+#include <functional>
+#include <memory>
+#include <mutex>
+#include <new>
+#include <stdexcept>
+#include <string_view>
+#include <utility>
+
+#include "lru_core.hpp"
+
+namespace lru {
+
+// The cache could not allocate memory. No entry was added, and the call can be repeated.
+class OutOfMemory : public std::bad_alloc {
+ public:
+  const char* what() const noexcept override { return "lru: out of memory"; }
+};
+
+// The total of all charges would exceed 2^64 - 1, a value would get more than 2^32 - 1 handles, or
+// 2^64 - 1 values have been made. Nothing changed.
+class Overflow : public std::overflow_error {
+ public:
+  Overflow() : std::overflow_error("lru: a number would overflow") {}
+};
+
+// The charge was 0. Nothing changed.
+class ZeroCharge : public std::invalid_argument {
+ public:
+  ZeroCharge() : std::invalid_argument("lru: the charge is 0") {}
+};
+
+template <class Value, class Key = std::string_view>
+class Cache;
+
+namespace detail {
+
+// A value of a Cache, on the heap.
+template <class Value>
+struct Node {
+  // The value that `init` returns is made in place, so it need not be movable.
+  template <class Init, class Key>
+  Node(Init&& init, Key key) : value(std::invoke(std::forward<Init>(init), key)) {}
+  template <class V>
+  explicit Node(V&& v) : value(std::forward<V>(v)) {}
+
+  Value value;
+  Node* next = nullptr;
+};
+
+// Throws the exception for a refusal.
+[[noreturn]] inline void throw_refusal(lru_code code) {
+  switch (code) {
+    case LRU_MEMORY:
+      throw OutOfMemory();
+    case LRU_OVERFLOW:
+      throw Overflow();
+    case LRU_NO_CHARGE:
+      throw ZeroCharge();
+    default:
+      throw std::logic_error("lru: the library refused a call that cannot be wrong");
+  }
+}
+
+}  // namespace detail
+
+// A pinned value: it is neither evicted nor deleted while the handle lives. A handle is moved, not
+// copied. It is empty after it was moved from or reset, and `get` returns an empty one on a miss.
+//
+// A handle may be used and destroyed on any thread, by one thread at a time. All handles of a value
+// refer to the same object, on whatever threads they are: a value that is changed needs a lock of
+// its own, and a Cache<const Value> gives access for reading only. A handle must not outlive its
+// cache.
+template <class Value, class Key = std::string_view>
+class Handle {
+ public:
+  Handle() = default;
+  ~Handle() { reset(); }
+
+  Handle(Handle&& other) noexcept
+      : cache_(std::exchange(other.cache_, nullptr)), stamp_(other.stamp_), value_(other.value_) {}
+  Handle& operator=(Handle&& other) noexcept {
+    Handle(std::move(other)).swap(*this);
+    return *this;
+  }
+  Handle(const Handle&) = delete;
+  Handle& operator=(const Handle&) = delete;
+
+  // Whether the handle has a value.
+  explicit operator bool() const noexcept { return cache_ != nullptr; }
+
+  // The value. The handle must not be empty, except for get(), which returns null then.
+  Value& operator*() const noexcept { return *get(); }
+  Value* operator->() const noexcept { return get(); }
+  Value* get() const noexcept { return cache_ == nullptr ? nullptr : value_; }
+
+  // Releases the value; the handle is empty then. Without its last handle the value is idle, and
+  // evicted at once if the total is above the capacity.
+  void reset() noexcept {
+    if (cache_ != nullptr) std::exchange(cache_, nullptr)->release(stamp_);
+  }
+
+  void swap(Handle& other) noexcept {
+    std::swap(cache_, other.cache_);
+    std::swap(stamp_, other.stamp_);
+    std::swap(value_, other.value_);
+  }
+  friend void swap(Handle& one, Handle& other) noexcept { one.swap(other); }
+
+ private:
+  friend class Cache<Value, Key>;
+
+  Handle(Cache<Value, Key>* cache, std::uint64_t stamp, Value* value)
+      : cache_(cache), stamp_(stamp), value_(value) {}
+
+  Cache<Value, Key>* cache_ = nullptr;
+  std::uint64_t stamp_ = 0;
+  Value* value_ = nullptr;
+};
+
+// A cache behind one lock.
+//
+// Keys are byte strings (std::string_view; the cache copies the bytes for each entry that it makes)
+// or lru::Words. All members may be called from any thread at any time, except the constructor and
+// the destructor.
+//
+// No lock is held while `init` makes a value or a value is deleted. So both may take long, and may
+// call the cache. But `init` must not ask for the key whose value it makes, and must not wait for
+// another thread that does: it would wait for itself. Destructors of values must not throw.
+template <class Value, class Key>
+class Cache {
+ public:
+  using Handle = lru::Handle<Value, Key>;
+
+  // An empty cache. It evicts idle values while the total of all charges is above `capacity`.
+  // Throws OutOfMemory.
+  explicit Cache(std::uint64_t capacity) {
+    if (!core_.open(capacity)) throw OutOfMemory();
+  }
+
+  // Deletes all values. There must be no handle left: it would dangle.
+  ~Cache() = default;
+
+  Cache(const Cache&) = delete;
+  Cache& operator=(const Cache&) = delete;
+
+  // A handle of the key's value, or an empty one if there is no value or it is still being made.
+  // Does not wait. Throws Overflow if the value has 2^32 - 1 handles, and OutOfMemory if the key is
+  // longer than any before and there is no memory for a copy.
+  Handle get(Key key) {
+    std::unique_lock<std::mutex> lock(mutex_);
+    const lru_told told = core_.get(key);
+    lock.unlock();
+    if (told.code == LRU_MISSED) return Handle();
+    if (told.code != LRU_HIT) detail::throw_refusal(told.code);
+    return handle(told);
+  }
+
+  // A handle of the key's value. If there is none, `init(key)` makes it.
+  //
+  // Only one caller at a time makes a key's value; the others wait for it. If `init` throws, the
+  // exception leaves this call and the cache keeps no entry. If others are waiting, one of them
+  // makes the value instead, with its own `init`. Values are evicted before `init` runs, and stay
+  // evicted if it fails.
+  //
+  // `charge` is what the value counts for against the capacity, in units of the caller's choice; it
+  // must be above 0. If the value exists already or is being made, its charge does not change.
+  //
+  // Throws ZeroCharge, Overflow and OutOfMemory before `init` runs, and nothing changes. If there
+  // is no memory for the value, or to keep it once it is made, std::bad_alloc is thrown as if by
+  // `init`, and a value that was made is deleted.
+  template <class Init>
+  Handle get_or_init(Key key, std::uint64_t charge, Init&& init) {
+    const lru_told told = begin(key, charge);
+    if (told.code == LRU_HIT) return handle(told);
+    Making making(this, told.stamp);
+    return making.end(std::make_unique<Node>(std::forward<Init>(init), key));
+  }
+
+  // Makes `value` the key's value, whatever the key had, and returns a handle of it. Handles of the
+  // old value keep it, and it counts against the capacity, until the last of them is released;
+  // those who wait for a value that is being made still get that one. Does not wait.
+  //
+  // Throws ZeroCharge, Overflow and std::bad_alloc. The key keeps its old value then, and the new
+  // one is deleted.
+  template <class V>
+  Handle insert(Key key, std::uint64_t charge, V&& value) {
+    auto node = std::make_unique<Node>(std::forward<V>(value));
+    Evicted evicted;
+    std::unique_lock<std::mutex> lock(mutex_);
+    const lru_told told = core_.insert(key, charge, node.get(), &evicted);
+    lock.unlock();
+    if (told.code != LRU_DONE) detail::throw_refusal(told.code);
+    return Handle(this, told.stamp, &node.release()->value);
+  }
+
+  // Takes the key's value away: the next caller that asks for the key makes a new one. Handles of
+  // the old value keep it, as with `insert`. Throws OutOfMemory if the key is longer than any
+  // before and there is no memory for a copy.
+  void invalidate(Key key) {
+    Evicted evicted;
+    std::unique_lock<std::mutex> lock(mutex_);
+    const lru_code code = core_.invalidate(key, &evicted);
+    lock.unlock();
+    if (code != LRU_DONE) detail::throw_refusal(code);
+  }
+
+  // Evicts the key's value if it is idle. If it is pinned, nothing happens, now or later. Throws
+  // OutOfMemory if the key is longer than any before and there is no memory for a copy.
+  void advice_evict(Key key) {
+    Evicted evicted;
+    std::unique_lock<std::mutex> lock(mutex_);
+    const lru_code code = core_.advice_evict(key, &evicted);
+    lock.unlock();
+    if (code != LRU_DONE) detail::throw_refusal(code);
+  }
+
+  // Evicts every idle value.
+  void prune() {
+    Evicted evicted;
+    const std::lock_guard<std::mutex> lock(mutex_);
+    core_.prune(&evicted);
+  }
+
+  // The total of the charges of all values, including those that are being made.
+  std::uint64_t total_charge() const {
+    const std::lock_guard<std::mutex> lock(mutex_);
+    return core_.total();
+  }
+
+  // The capacity.
+  std::uint64_t capacity() const {
+    const std::lock_guard<std::mutex> lock(mutex_);
+    return core_.capacity();
+  }
+
+  // Sets the capacity. Idle values that exceed it are evicted at once.
+  void set_capacity(std::uint64_t capacity) {
+    Evicted evicted;
+    const std::lock_guard<std::mutex> lock(mutex_);
+    core_.set_capacity(capacity, &evicted);
+  }
+
+ private:
+  friend Handle;
+  using Node = detail::Node<Value>;
+  // Always declared before the lock is taken: it is destroyed, and the values with it, after the
+  // lock is released.
+  using Evicted = detail::Evicted<Node>;
+
+  // The duty to make a value. If it is destroyed before `end`, making the value has failed.
+  class Making {
+   public:
+    Making(Cache* cache, std::uint64_t stamp) : cache_(cache), stamp_(stamp) {}
+    ~Making() {
+      if (cache_ != nullptr) cache_->fail(stamp_);
+    }
+
+    Making(const Making&) = delete;
+    Making& operator=(const Making&) = delete;
+
+    Handle end(std::unique_ptr<Node> node) {
+      cache_->ready(stamp_, node.get());
+      return Handle(std::exchange(cache_, nullptr), stamp_, &node.release()->value);
+    }
+
+   private:
+    Cache* cache_;
+    std::uint64_t stamp_;
+  };
+
+  Handle handle(const lru_told& told) {
+    return Handle(this, told.stamp, &core_.node_of(told.value)->value);
+  }
+
+  // Finds the key's value, or waits until another caller has made it: LRU_HIT. Or begins to make
+  // it: LRU_MAKE.
+  lru_told begin(Key key, std::uint64_t charge) {
+    Evicted evicted;
+    std::unique_lock<std::mutex> lock(mutex_);
+    lru_told told = core_.begin(key, charge, &evicted);
+    while (told.code == LRU_WAIT) {
+      ended_.wait(lock);
+      told = core_.poll(told.stamp);
+    }
+    lock.unlock();
+    if (told.code != LRU_HIT && told.code != LRU_MAKE) detail::throw_refusal(told.code);
+    return told;
+  }
+
+  // Gives the node to the core. Throws OutOfMemory, and then the node is still the caller's.
+  void ready(std::uint64_t stamp, Node* node) {
+    std::unique_lock<std::mutex> lock(mutex_);
+    const lru_code code = core_.ready(stamp, node);
+    lock.unlock();
+    if (code != LRU_DONE) detail::throw_refusal(code);
+    ended_.notify_all();
+  }
+
+  void fail(std::uint64_t stamp) noexcept {
+    std::unique_lock<std::mutex> lock(mutex_);
+    [[maybe_unused]] const lru_code code = core_.fail(stamp);
+    lock.unlock();
+    assert(code == LRU_LEFT || code == LRU_REMOVED);
+    ended_.notify_all();
+  }
+
+  void release(std::uint64_t stamp) noexcept {
+    Evicted evicted;
+    const std::lock_guard<std::mutex> lock(mutex_);
+    [[maybe_unused]] const lru_code code = core_.release(stamp, &evicted);
+    assert(code == LRU_DONE);
+  }
+
+  mutable std::mutex mutex_;
+  std::condition_variable ended_;  // notified when a caller has made a value, or has failed
+  detail::Core<Node, Key> core_;
+};
+
+// A cache of several shards, each a Cache with its own lock and an equal share of the capacity,
+// rounded up. `Hash` chooses the shard of a key. Threads contend less, but a value is evicted when
+// its own shard is full.
+template <class Value, class Key = std::string_view, class Hash = std::hash<Key>>
+class ShardedCache {
+ public:
+  using Handle = lru::Handle<Value, Key>;
+
+  // An empty cache. Throws std::bad_alloc, and std::invalid_argument if `shards` is 0.
+  explicit ShardedCache(std::uint64_t capacity, std::size_t shards = 16, Hash hash = Hash())
+      : hash_(std::move(hash)) {
+    if (shards == 0) throw std::invalid_argument("lru: the number of shards is 0");
+    for (std::size_t i = 0; i < shards; i++) shards_.emplace_back(share(capacity, shards));
+  }
+
+  // As for Cache.
+  Handle get(Key key) { return shard(key).get(key); }
+  template <class Init>
+  Handle get_or_init(Key key, std::uint64_t charge, Init&& init) {
+    return shard(key).get_or_init(key, charge, std::forward<Init>(init));
+  }
+  template <class V>
+  Handle insert(Key key, std::uint64_t charge, V&& value) {
+    return shard(key).insert(key, charge, std::forward<V>(value));
+  }
+  void invalidate(Key key) { shard(key).invalidate(key); }
+  void advice_evict(Key key) { shard(key).advice_evict(key); }
+
+  // Evicts every idle value, one shard after another.
+  void prune() {
+    for (Shard& shard : shards_) shard.prune();
+  }
+
+  // The total of the charges of all values, or 2^64 - 1 if it is more. The shards are read one
+  // after another, so while other threads call the cache it is no snapshot.
+  std::uint64_t total_charge() const {
+    return sum([](const Shard& shard) { return shard.total_charge(); });
+  }
+
+  // The total of the capacities of all shards, or 2^64 - 1 if it is more. Rounding may make it
+  // more than the capacity that was set.
+  std::uint64_t capacity() const {
+    return sum([](const Shard& shard) { return shard.capacity(); });
+  }
+
+  // Sets the capacity, of which each shard gets an equal share, rounded up.
+  void set_capacity(std::uint64_t capacity) {
+    for (Shard& shard : shards_) shard.set_capacity(share(capacity, shards_.size()));
+  }
+
+ private:
+  // Shards do not share cache lines, so that threads at different shards do not slow each other.
+  struct alignas(64) Shard : Cache<Value, Key> {
+    using Cache<Value, Key>::Cache;
+  };
+
+  static std::uint64_t share(std::uint64_t capacity, std::uint64_t shards) {
+    return capacity / shards + (capacity % shards != 0);
+  }
+
+  template <class Number>
+  std::uint64_t sum(Number number) const {
+    std::uint64_t sum = 0;
+    for (const Shard& shard : shards_) {
+      const std::uint64_t more = number(shard);
+      sum = more > UINT64_MAX - sum ? UINT64_MAX : sum + more;
+    }
+    return sum;
+  }
+
+  Shard& shard(const Key& key) { return shards_[hash_(key) % shards_.size()]; }
+
+  std::deque<Shard> shards_;
+  Hash hash_;
+};
+
+}  // namespace lru
+
+#endif

@@ -1,0 +1,238 @@
+// The library of lru.h as C++ classes without a lock. lru.hpp and leveldb_cache.h are built on
+// them. Nothing here throws, and the header compiles with -fno-exceptions and -fno-rtti.
+#ifndef LRU_CORE_HPP
+#define LRU_CORE_HPP
+
+#include <cstddef>
+#include <cstdint>
+#include <functional>
+#include <string_view>
+#include <utility>
+
+#include "lru.h"
+
+namespace lru {
+
+// A key of two words, such as the number of a file and an offset in it.
+struct Words {
+  std::uint64_t first;
+  std::uint64_t second;
+
+  friend bool operator==(Words a, Words b) { return a.first == b.first && a.second == b.second; }
+  friend bool operator!=(Words a, Words b) { return !(a == b); }
+};
+
+}  // namespace lru
+
+template <>
+struct std::hash<lru::Words> {
+  std::size_t operator()(lru::Words key) const noexcept {
+    // Both words affect all bits, so that neighbouring blocks of a file lie in different shards.
+    const std::uint64_t mixed =
+        (key.first * 0x9e3779b97f4a7c15u ^ key.second) * 0xbf58476d1ce4e5b9u;
+    return static_cast<std::size_t>(mixed ^ mixed >> 32);
+  }
+};
+
+namespace lru {
+namespace detail {
+
+// The functions of lru.h, for each kind of key.
+template <class Key>
+struct Calls;
+
+template <>
+struct Calls<std::string_view> {
+  using Cache = lru_bytes;
+  using Chain = lru_bytes_evicted;
+
+  static constexpr auto make = lru_bytes_new;
+  static constexpr auto free = lru_bytes_free;
+  static constexpr auto poll = lru_bytes_poll;
+  static constexpr auto ready = lru_bytes_ready;
+  static constexpr auto fail = lru_bytes_fail;
+  static constexpr auto release = lru_bytes_release;
+  static constexpr auto prune = lru_bytes_prune;
+  static constexpr auto set_capacity = lru_bytes_set_capacity;
+  static constexpr auto total = lru_bytes_total;
+  static constexpr auto capacity = lru_bytes_capacity;
+  static constexpr auto make_chain = lru_bytes_evicted_new;
+  static constexpr auto free_chain = lru_bytes_evicted_free;
+  static constexpr auto pop = lru_bytes_evicted_pop;
+
+  static lru_told begin(Cache* cache, std::string_view key, std::uint64_t charge, Chain* gone) {
+    return lru_bytes_begin(cache, key.data(), key.size(), charge, gone);
+  }
+  static lru_told get(Cache* cache, std::string_view key) {
+    return lru_bytes_get(cache, key.data(), key.size());
+  }
+  static lru_code advice_evict(Cache* cache, std::string_view key, Chain* gone) {
+    return lru_bytes_advice_evict(cache, key.data(), key.size(), gone);
+  }
+  static lru_code invalidate(Cache* cache, std::string_view key, Chain* gone) {
+    return lru_bytes_invalidate(cache, key.data(), key.size(), gone);
+  }
+  static lru_told insert(Cache* cache, std::string_view key, std::uint64_t charge,
+                         std::uint64_t value, Chain* gone) {
+    return lru_bytes_insert(cache, key.data(), key.size(), charge, value, gone);
+  }
+};
+
+template <>
+struct Calls<Words> {
+  using Cache = lru_words;
+  using Chain = lru_words_evicted;
+
+  static constexpr auto make = lru_words_new;
+  static constexpr auto free = lru_words_free;
+  static constexpr auto poll = lru_words_poll;
+  static constexpr auto ready = lru_words_ready;
+  static constexpr auto fail = lru_words_fail;
+  static constexpr auto release = lru_words_release;
+  static constexpr auto prune = lru_words_prune;
+  static constexpr auto set_capacity = lru_words_set_capacity;
+  static constexpr auto total = lru_words_total;
+  static constexpr auto capacity = lru_words_capacity;
+  static constexpr auto make_chain = lru_words_evicted_new;
+  static constexpr auto free_chain = lru_words_evicted_free;
+  static constexpr auto pop = lru_words_evicted_pop;
+
+  static lru_told begin(Cache* cache, Words key, std::uint64_t charge, Chain* gone) {
+    return lru_words_begin(cache, key.first, key.second, charge, gone);
+  }
+  static lru_told get(Cache* cache, Words key) {
+    return lru_words_get(cache, key.first, key.second);
+  }
+  static lru_code advice_evict(Cache* cache, Words key, Chain* gone) {
+    return lru_words_advice_evict(cache, key.first, key.second, gone);
+  }
+  static lru_code invalidate(Cache* cache, Words key, Chain* gone) {
+    return lru_words_invalidate(cache, key.first, key.second, gone);
+  }
+  static lru_told insert(Cache* cache, Words key, std::uint64_t charge, std::uint64_t value,
+                         Chain* gone) {
+    return lru_words_insert(cache, key.first, key.second, charge, value, gone);
+  }
+};
+
+// Nodes that were evicted, oldest first. The destructor deletes them. It must run without the lock:
+// the destructor of a value may take long, and may call the cache.
+template <class Node>
+class Evicted {
+ public:
+  Evicted() = default;
+  ~Evicted() {
+    while (first_ != nullptr) delete std::exchange(first_, first_->next);
+  }
+
+  Evicted(const Evicted&) = delete;
+  Evicted& operator=(const Evicted&) = delete;
+
+  void add(Node* node) noexcept {
+    (last_ == nullptr ? first_ : last_->next) = node;
+    last_ = node;
+  }
+
+ private:
+  Node* first_ = nullptr;
+  Node* last_ = nullptr;
+};
+
+// A cache of lru.h with its own chain of evicted entries. The caller holds a lock during each call.
+//
+// The value that the library stores is the address of a Node, which has a member `Node* next` for
+// the list of evicted nodes. Each member calls the function of lru.h with its name, and moves what
+// that evicted to `evicted`.
+template <class Node, class Key>
+class Core {
+ public:
+  Core() = default;
+
+  // Deletes all nodes that are left. Calls on handles that are not open do nothing.
+  ~Core() {
+    Evicted<Node> rest;
+    Calls::free(&cache_, &chain_);
+    take_evicted(&rest);
+    Calls::free_chain(&chain_);
+  }
+
+  Core(const Core&) = delete;
+  Core& operator=(const Core&) = delete;
+
+  // Opens the cache. Comes before all other members, and only once. False if there is no memory for
+  // it: then only the destructor may follow.
+  [[nodiscard]] bool open(std::uint64_t capacity) noexcept {
+    return Calls::make_chain(&chain_) == LRU_DONE && Calls::make(capacity, &cache_) == LRU_DONE;
+  }
+
+  lru_told begin(Key key, std::uint64_t charge, Evicted<Node>* evicted) noexcept {
+    const lru_told told = Calls::begin(&cache_, key, charge, &chain_);
+    if (told.code == LRU_MAKE) take_evicted(evicted);
+    return told;
+  }
+  lru_told poll(std::uint64_t stamp) noexcept { return Calls::poll(&cache_, stamp); }
+  // After LRU_DONE the node is the core's; else it is still the caller's.
+  lru_code ready(std::uint64_t stamp, Node* node) noexcept {
+    return Calls::ready(&cache_, stamp, word_of(node));
+  }
+  lru_code fail(std::uint64_t stamp) noexcept { return Calls::fail(&cache_, stamp); }
+  lru_told get(Key key) noexcept { return Calls::get(&cache_, key); }
+  lru_code release(std::uint64_t stamp, Evicted<Node>* evicted) noexcept {
+    const lru_code code = Calls::release(&cache_, stamp, &chain_);
+    take_evicted(evicted);
+    return code;
+  }
+  lru_code advice_evict(Key key, Evicted<Node>* evicted) noexcept {
+    const lru_code code = Calls::advice_evict(&cache_, key, &chain_);
+    take_evicted(evicted);
+    return code;
+  }
+  lru_code invalidate(Key key, Evicted<Node>* evicted) noexcept {
+    const lru_code code = Calls::invalidate(&cache_, key, &chain_);
+    take_evicted(evicted);
+    return code;
+  }
+  // After LRU_DONE the node is the core's; else it is still the caller's.
+  lru_told insert(Key key, std::uint64_t charge, Node* node, Evicted<Node>* evicted) noexcept {
+    const lru_told told = Calls::insert(&cache_, key, charge, word_of(node), &chain_);
+    take_evicted(evicted);
+    return told;
+  }
+  void prune(Evicted<Node>* evicted) noexcept {
+    Calls::prune(&cache_, &chain_);
+    take_evicted(evicted);
+  }
+  void set_capacity(std::uint64_t capacity, Evicted<Node>* evicted) noexcept {
+    Calls::set_capacity(&cache_, capacity, &chain_);
+    take_evicted(evicted);
+  }
+  std::uint64_t total() const noexcept { return Calls::total(&cache_).value; }
+  std::uint64_t capacity() const noexcept { return Calls::capacity(&cache_).value; }
+
+  // The node of a value that the library told.
+  static Node* node_of(std::uint64_t value) noexcept {
+    return reinterpret_cast<Node*>(static_cast<std::uintptr_t>(value));
+  }
+
+ private:
+  using Calls = detail::Calls<Key>;
+
+  static std::uint64_t word_of(Node* node) noexcept {
+    return static_cast<std::uint64_t>(reinterpret_cast<std::uintptr_t>(node));
+  }
+
+  // Empties the chain, as the next call needs it empty.
+  void take_evicted(Evicted<Node>* evicted) noexcept {
+    lru_gone gone;
+    while (Calls::pop(&chain_, &gone)) evicted->add(node_of(gone.value));
+  }
+
+  // Mutable because total and capacity take a pointer that is not const.
+  mutable typename Calls::Cache cache_ = {};
+  typename Calls::Chain chain_ = {};
+};
+
+}  // namespace detail
+}  // namespace lru
+
+#endif

@@ -1,0 +1,62 @@
+//! The reasons why a call fails.
+
+use std::error::Error;
+use std::fmt;
+
+/// The reason why the cache refused a call. The cache did not change.
+#[derive(Debug, Clone, Copy, PartialEq, Eq, Hash)]
+#[non_exhaustive]
+pub enum Refusal {
+    /// The cache could not allocate memory. The call can be repeated.
+    Memory,
+    /// A number would overflow: the total of all charges would exceed `u64::MAX`, a value would get
+    /// more than `u32::MAX` handles, or `u64::MAX` values have been made.
+    Overflow,
+    /// The charge was 0.
+    ZeroCharge,
+}
+
+impl fmt::Display for Refusal {
+    fn fmt(&self, f: &mut fmt::Formatter<'_>) -> fmt::Result {
+        f.write_str(match self {
+            Refusal::Memory => "the cache could not allocate memory",
+            Refusal::Overflow => "a number of the cache would overflow",
+            Refusal::ZeroCharge => "the charge is 0",
+        })
+    }
+}
+
+impl Error for Refusal {}
+
+/// The reason why `get_or_try_init` returns no handle.
+#[derive(Debug, Clone, Copy, PartialEq, Eq, Hash)]
+pub enum GetError<E> {
+    /// `init` failed with this error. The cache keeps no entry.
+    Init(E),
+    /// The cache refused the call.
+    Refused(Refusal),
+}
+
+impl<E> From<Refusal> for GetError<E> {
+    fn from(refusal: Refusal) -> Self {
+        GetError::Refused(refusal)
+    }
+}
+
+impl<E> fmt::Display for GetError<E> {
+    fn fmt(&self, f: &mut fmt::Formatter<'_>) -> fmt::Result {
+        match self {
+            GetError::Init(_) => f.write_str("the value could not be made"),
+            GetError::Refused(refusal) => refusal.fmt(f),
+        }
+    }
+}
+
+impl<E: Error + 'static> Error for GetError<E> {
+    fn source(&self) -> Option<&(dyn Error + 'static)> {
+        match self {
+            GetError::Init(error) => Some(error),
+            GetError::Refused(_) => None,
+        }
+    }
+}

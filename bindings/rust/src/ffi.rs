@@ -1,0 +1,49 @@
+//! The types and codes of `bindings/c/lru.h`, under their names there without `lru_`.
+
+use std::ffi::c_void;
+use std::ptr;
+
+/// `lru_bytes`, `lru_words`, `lru_bytes_evicted` and `lru_words_evicted`: a cache, or a chain of
+/// evicted entries.
+#[repr(C)]
+pub struct Handle {
+    at: *mut c_void,
+    open: bool,
+}
+
+impl Handle {
+    /// A handle that is not open.
+    pub const CLOSED: Handle = Handle {
+        at: ptr::null_mut(),
+        open: false,
+    };
+}
+
+/// `lru_told`: the answer of a function.
+#[repr(C)]
+#[derive(Debug, Clone, Copy)]
+pub struct Told {
+    pub stamp: u64,
+    pub value: u64,
+    pub code: u32,
+}
+
+/// `lru_gone`: an evicted entry.
+#[repr(C)]
+#[derive(Debug, Clone, Copy)]
+pub struct Gone {
+    pub stamp: u64,
+    pub charge: u64,
+    pub value: u64,
+}
+
+pub const MAKE: u32 = 0;
+pub const WAIT: u32 = 1;
+pub const HIT: u32 = 2;
+pub const DONE: u32 = 3;
+pub const LEFT: u32 = 4;
+pub const REMOVED: u32 = 5;
+pub const MISSED: u32 = 6;
+pub const OVERFLOW: u32 = 7;
+pub const MEMORY: u32 = 9;
+pub const NO_CHARGE: u32 = 11;

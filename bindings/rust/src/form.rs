@@ -1,0 +1,288 @@
+//! The two forms of keys, and the functions of the library for each.
+
+use crate::ffi::{Gone, Handle, Told};
+
+/// The form that a key is written in: [`Bytes`] or [`Words`].
+///
+/// This trait is sealed, as the library has functions for these two forms.
+pub trait Form: sealed::Calls {}
+
+impl<F: sealed::Calls> Form for F {}
+
+/// A key as it is written: `&[u8]` for [`Bytes`], `[u64; 2]` for [`Words`].
+pub type Written<'a, F> = <F as sealed::Calls>::Written<'a>;
+
+pub(crate) mod sealed {
+    use super::{Gone, Handle, Told};
+
+    /// The functions of `lru.h` for one form of keys.
+    pub trait Calls: 'static {
+        /// A key of this form.
+        type Written<'a>: Copy;
+
+        /// The functions that take no key.
+        const STAMPED: Stamped;
+
+        /// # Safety
+        ///
+        /// As for [`Stamped`].
+        unsafe fn begin(
+            cache: *mut Handle,
+            key: Self::Written<'_>,
+            charge: u64,
+            gone: *mut Handle,
+        ) -> Told;
+
+        /// # Safety
+        ///
+        /// As for [`Stamped`].
+        unsafe fn get(cache: *mut Handle, key: Self::Written<'_>) -> Told;
+
+        /// # Safety
+        ///
+        /// As for [`Stamped`].
+        unsafe fn advice_evict(
+            cache: *mut Handle,
+            key: Self::Written<'_>,
+            gone: *mut Handle,
+        ) -> u32;
+
+        /// # Safety
+        ///
+        /// As for [`Stamped`].
+        unsafe fn invalidate(cache: *mut Handle, key: Self::Written<'_>, gone: *mut Handle) -> u32;
+
+        /// # Safety
+        ///
+        /// As for [`Stamped`].
+        unsafe fn insert(
+            cache: *mut Handle,
+            key: Self::Written<'_>,
+            charge: u64,
+            value: u64,
+            gone: *mut Handle,
+        ) -> Told;
+    }
+
+    /// The functions of `lru.h` that take no key, for one form of keys.
+    ///
+    /// # Safety
+    ///
+    /// `cache` must point to a cache and `gone` to a chain that are closed, or were opened by `new`
+    /// and `new_chain` of the same `Stamped`. They must be the only copies of these handles, and
+    /// nothing else may use them during the call.
+    pub struct Stamped {
+        pub new: unsafe extern "C" fn(capacity: u64, out: *mut Handle) -> u32,
+        pub free: unsafe extern "C" fn(cache: *mut Handle, left: *mut Handle) -> u32,
+        pub poll: unsafe extern "C" fn(cache: *mut Handle, stamp: u64) -> Told,
+        pub ready: unsafe extern "C" fn(cache: *mut Handle, stamp: u64, value: u64) -> u32,
+        pub fail: unsafe extern "C" fn(cache: *mut Handle, stamp: u64) -> u32,
+        pub release: unsafe extern "C" fn(cache: *mut Handle, stamp: u64, gone: *mut Handle) -> u32,
+        pub prune: unsafe extern "C" fn(cache: *mut Handle, gone: *mut Handle) -> u32,
+        pub set_capacity:
+            unsafe extern "C" fn(cache: *mut Handle, capacity: u64, gone: *mut Handle) -> u32,
+        pub total: unsafe extern "C" fn(cache: *mut Handle) -> Told,
+        pub capacity: unsafe extern "C" fn(cache: *mut Handle) -> Told,
+        pub new_chain: unsafe extern "C" fn(out: *mut Handle) -> u32,
+        pub free_chain: unsafe extern "C" fn(chain: *mut Handle) -> u32,
+        pub pop: unsafe extern "C" fn(chain: *mut Handle, out: *mut Gone) -> bool,
+    }
+}
+
+/// Declares the functions with a prefix that take no key, and makes a `Stamped` of them.
+macro_rules! stamped {
+    ($prefix:literal) => {{
+        unsafe extern "C" {
+            #[link_name = concat!($prefix, "_new")]
+            fn new(capacity: u64, out: *mut Handle) -> u32;
+            #[link_name = concat!($prefix, "_free")]
+            fn free(cache: *mut Handle, left: *mut Handle) -> u32;
+            #[link_name = concat!($prefix, "_poll")]
+            fn poll(cache: *mut Handle, stamp: u64) -> Told;
+            #[link_name = concat!($prefix, "_ready")]
+            fn ready(cache: *mut Handle, stamp: u64, value: u64) -> u32;
+            #[link_name = concat!($prefix, "_fail")]
+            fn fail(cache: *mut Handle, stamp: u64) -> u32;
+            #[link_name = concat!($prefix, "_release")]
+            fn release(cache: *mut Handle, stamp: u64, gone: *mut Handle) -> u32;
+            #[link_name = concat!($prefix, "_prune")]
+            fn prune(cache: *mut Handle, gone: *mut Handle) -> u32;
+            #[link_name = concat!($prefix, "_set_capacity")]
+            fn set_capacity(cache: *mut Handle, capacity: u64, gone: *mut Handle) -> u32;
+            #[link_name = concat!($prefix, "_total")]
+            fn total(cache: *mut Handle) -> Told;
+            #[link_name = concat!($prefix, "_capacity")]
+            fn capacity(cache: *mut Handle) -> Told;
+            #[link_name = concat!($prefix, "_evicted_new")]
+            fn new_chain(out: *mut Handle) -> u32;
+            #[link_name = concat!($prefix, "_evicted_free")]
+            fn free_chain(chain: *mut Handle) -> u32;
+            #[link_name = concat!($prefix, "_evicted_pop")]
+            fn pop(chain: *mut Handle, out: *mut Gone) -> bool;
+        }
+        sealed::Stamped {
+            new,
+            free,
+            poll,
+            ready,
+            fail,
+            release,
+            prune,
+            set_capacity,
+            total,
+            capacity,
+            new_chain,
+            free_chain,
+            pop,
+        }
+    }};
+}
+
+/// The form of keys that are written as bytes.
+#[derive(Debug)]
+pub enum Bytes {}
+
+unsafe extern "C" {
+    fn lru_bytes_begin_nonnull(
+        cache: *mut Handle,
+        key: *const u8,
+        length: usize,
+        charge: u64,
+        gone: *mut Handle,
+    ) -> Told;
+    fn lru_bytes_get_nonnull(cache: *mut Handle, key: *const u8, length: usize) -> Told;
+    fn lru_bytes_advice_evict_nonnull(
+        cache: *mut Handle,
+        key: *const u8,
+        length: usize,
+        gone: *mut Handle,
+    ) -> u32;
+    fn lru_bytes_invalidate_nonnull(
+        cache: *mut Handle,
+        key: *const u8,
+        length: usize,
+        gone: *mut Handle,
+    ) -> u32;
+    fn lru_bytes_insert_nonnull(
+        cache: *mut Handle,
+        key: *const u8,
+        length: usize,
+        charge: u64,
+        value: u64,
+        gone: *mut Handle,
+    ) -> Told;
+}
+
+impl sealed::Calls for Bytes {
+    type Written<'a> = &'a [u8];
+
+    const STAMPED: sealed::Stamped = stamped!("lru_bytes");
+
+    unsafe fn begin(cache: *mut Handle, key: &[u8], charge: u64, gone: *mut Handle) -> Told {
+        // SAFETY: the pointer of a slice is not null and points to its bytes, of which there are
+        // fewer than 2^63. The caller guarantees the rest.
+        unsafe { lru_bytes_begin_nonnull(cache, key.as_ptr(), key.len(), charge, gone) }
+    }
+
+    unsafe fn get(cache: *mut Handle, key: &[u8]) -> Told {
+        // SAFETY: as in `begin`.
+        unsafe { lru_bytes_get_nonnull(cache, key.as_ptr(), key.len()) }
+    }
+
+    unsafe fn advice_evict(cache: *mut Handle, key: &[u8], gone: *mut Handle) -> u32 {
+        // SAFETY: as in `begin`.
+        unsafe { lru_bytes_advice_evict_nonnull(cache, key.as_ptr(), key.len(), gone) }
+    }
+
+    unsafe fn invalidate(cache: *mut Handle, key: &[u8], gone: *mut Handle) -> u32 {
+        // SAFETY: as in `begin`.
+        unsafe { lru_bytes_invalidate_nonnull(cache, key.as_ptr(), key.len(), gone) }
+    }
+
+    unsafe fn insert(
+        cache: *mut Handle,
+        key: &[u8],
+        charge: u64,
+        value: u64,
+        gone: *mut Handle,
+    ) -> Told {
+        // SAFETY: as in `begin`.
+        unsafe { lru_bytes_insert_nonnull(cache, key.as_ptr(), key.len(), charge, value, gone) }
+    }
+}
+
+/// The form of keys that are written as two words.
+#[derive(Debug)]
+pub enum Words {}
+
+unsafe extern "C" {
+    fn lru_words_begin(
+        cache: *mut Handle,
+        first: u64,
+        second: u64,
+        charge: u64,
+        gone: *mut Handle,
+    ) -> Told;
+    fn lru_words_get(cache: *mut Handle, first: u64, second: u64) -> Told;
+    fn lru_words_advice_evict(
+        cache: *mut Handle,
+        first: u64,
+        second: u64,
+        gone: *mut Handle,
+    ) -> u32;
+    fn lru_words_invalidate(cache: *mut Handle, first: u64, second: u64, gone: *mut Handle) -> u32;
+    fn lru_words_insert(
+        cache: *mut Handle,
+        first: u64,
+        second: u64,
+        charge: u64,
+        value: u64,
+        gone: *mut Handle,
+    ) -> Told;
+}
+
+impl sealed::Calls for Words {
+    type Written<'a> = [u64; 2];
+
+    const STAMPED: sealed::Stamped = stamped!("lru_words");
+
+    unsafe fn begin(
+        cache: *mut Handle,
+        [first, second]: [u64; 2],
+        charge: u64,
+        gone: *mut Handle,
+    ) -> Told {
+        // SAFETY: the caller guarantees what the function requires.
+        unsafe { lru_words_begin(cache, first, second, charge, gone) }
+    }
+
+    unsafe fn get(cache: *mut Handle, [first, second]: [u64; 2]) -> Told {
+        // SAFETY: as in `begin`.
+        unsafe { lru_words_get(cache, first, second) }
+    }
+
+    unsafe fn advice_evict(
+        cache: *mut Handle,
+        [first, second]: [u64; 2],
+        gone: *mut Handle,
+    ) -> u32 {
+        // SAFETY: as in `begin`.
+        unsafe { lru_words_advice_evict(cache, first, second, gone) }
+    }
+
+    unsafe fn invalidate(cache: *mut Handle, [first, second]: [u64; 2], gone: *mut Handle) -> u32 {
+        // SAFETY: as in `begin`.
+        unsafe { lru_words_invalidate(cache, first, second, gone) }
+    }
+
+    unsafe fn insert(
+        cache: *mut Handle,
+        [first, second]: [u64; 2],
+        charge: u64,
+        value: u64,
+        gone: *mut Handle,
+    ) -> Told {
+        // SAFETY: as in `begin`.
+        unsafe { lru_words_insert(cache, first, second, charge, value, gone) }
+    }
+}

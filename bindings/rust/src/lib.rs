@@ -1,0 +1,49 @@
+//! A concurrent LRU cache for heavy values, such as open files or pages, with a proved core.
+//!
+//! The core is a static library. It is proved to follow the rules of the cache: which value is
+//! found, which ones are evicted, and in which order. This crate adds the locks and the values. It
+//! is ordinary Rust: a [`Mutex`](std::sync::Mutex) guards each core, and callers wait at a
+//! [`Condvar`](std::sync::Condvar) while another one makes their value.
+//!
+//! The names are those of the crate `concurrent_lru` 0.2.0:
+//!
+//! - [`unsharded::LruCache`] has one lock,
+//! - [`sharded::LruCache`] has one for each shard.
+//!
+//! It differs from that crate in these points: a key must be one that can be written as bytes or as
+//! two words ([`key::Key`]), and is passed by reference; calls return a [`Refusal`] if the cache
+//! cannot serve them; the capacity can be read and set; and there are `insert` and `invalidate`.
+//!
+//! # Examples
+//!
+//! ```no_run
+//! use concurrent_lru_proved::sharded::LruCache;
+//! use std::fs::File;
+//!
+//! # fn main() -> Result<(), Box<dyn std::error::Error>> {
+//! let files = LruCache::<String, File>::new(10)?;
+//! let hosts = files.get_or_try_init("/etc/hosts", 1, |path| File::open(path))?;
+//! println!("{} bytes", hosts.metadata()?.len());
+//! drop(hosts); // idle, but still open
+//! assert!(files.get("/etc/hosts")?.is_some());
+//! files.prune(); // closes it
+//! assert!(files.get("/etc/hosts")?.is_none());
+//! # Ok(())
+//! # }
+//! ```
+//!
+//! # Building
+//!
+//! The build script looks for the archive of the core, `liblru.a`, in the folder that the
+//! environment variable `LRU_LIB_DIR` names, or else in `bindings/c/build` of this repository,
+//! where `make -C bindings/c` puts it.
+
+mod error;
+mod ffi;
+mod form;
+pub mod key;
+mod proved;
+pub mod sharded;
+pub mod unsharded;
+
+pub use error::{GetError, Refusal};

@@ -1,0 +1,266 @@
+//! The library behind a safe interface, for one owner.
+
+use std::marker::PhantomData;
+use std::ptr::{self, NonNull};
+
+use crate::error::Refusal;
+use crate::ffi::{self, Gone, Handle, Told};
+use crate::form::Form;
+use crate::form::sealed::Stamped;
+
+/// Evicted values, oldest first. They must be dropped after the lock is released.
+pub(crate) type Evicted<V> = Vec<Box<V>>;
+
+/// The answer to a caller that asks for a key. The caller has a pin of the entry.
+pub(crate) enum Begun<V> {
+    /// The caller makes the value, and then calls `ready` or `fail` with this stamp.
+    Make(u64),
+    /// Another caller makes the value. Ask again by `poll` with this stamp.
+    Wait(u64),
+    /// The value, and the stamp of its entry.
+    Hit(u64, NonNull<V>),
+}
+
+/// A cache of the library for keys of one form, with values in boxes. The library stores the
+/// address of a box, which the core owns from `ready` or `insert` until the entry is evicted.
+///
+/// A stamp names an entry that the caller has a pin of. The value stays until the pin is given back
+/// by `release` or `fail`.
+pub(crate) struct Core<F: Form, V> {
+    cache: Handle,
+    /// Where the library puts evicted entries. Empty between calls.
+    chain: Handle,
+    form: PhantomData<fn() -> F>,
+    values: PhantomData<Box<V>>,
+}
+
+// SAFETY: a handle of the library may move to another thread. Otherwise a core owns values only.
+unsafe impl<F: Form, V: Send> Send for Core<F, V> {}
+
+impl<F: Form, V> Core<F, V> {
+    const CALLS: Stamped = F::STAMPED;
+
+    /// An empty cache.
+    pub(crate) fn new(capacity: u64) -> Result<Self, Refusal> {
+        let mut core = Core {
+            cache: Handle::CLOSED,
+            chain: Handle::CLOSED,
+            form: PhantomData,
+            values: PhantomData,
+        };
+        // SAFETY: the chain is closed, and there is no other copy of it.
+        let code = unsafe { (Self::CALLS.new_chain)(&mut core.chain) };
+        done(code)?;
+        // SAFETY: the cache is closed, and there is no other copy of it.
+        let code = unsafe { (Self::CALLS.new)(capacity, &mut core.cache) };
+        done(code)?;
+        Ok(core)
+    }
+
+    /// Finds the entry of a key or makes one, and pins it.
+    pub(crate) fn begin(
+        &mut self,
+        key: F::Written<'_>,
+        charge: u64,
+        evicted: &mut Evicted<V>,
+    ) -> Result<Begun<V>, Refusal> {
+        // SAFETY: both handles were opened for this form, and this core has the only copies.
+        let told = unsafe { F::begin(&mut self.cache, key, charge, &mut self.chain) };
+        self.take_evicted(evicted);
+        Self::begun(told)
+    }
+
+    /// Asks again for a value that another caller makes.
+    pub(crate) fn poll(&mut self, stamp: u64) -> Result<Begun<V>, Refusal> {
+        // SAFETY: the cache was opened for this form, and this core has the only copy.
+        let told = unsafe { (Self::CALLS.poll)(&mut self.cache, stamp) };
+        Self::begun(told)
+    }
+
+    /// Stores the value that the caller was asked to make. If there is no memory for that, returns
+    /// the value, and the caller is still the one to make it.
+    pub(crate) fn ready(&mut self, stamp: u64, value: Box<V>) -> Result<NonNull<V>, Box<V>> {
+        // Every handle of this value gets the same pointer, made from this word.
+        let word = word_of(Box::into_raw(value));
+        // SAFETY: the cache was opened for this form, and this core has the only copy.
+        let code = unsafe { (Self::CALLS.ready)(&mut self.cache, stamp, word) };
+        if code == ffi::DONE {
+            return Ok(value_of(word));
+        }
+        // SAFETY: the pointer is that of the box above, and the library has not stored it.
+        Err(unsafe { Box::from_raw(value_of(word).as_ptr()) })
+    }
+
+    /// Tells that the caller could not make the value, and gives its pin back.
+    pub(crate) fn fail(&mut self, stamp: u64) {
+        // SAFETY: the cache was opened for this form, and this core has the only copy.
+        let code = unsafe { (Self::CALLS.fail)(&mut self.cache, stamp) };
+        debug_assert!(matches!(code, ffi::LEFT | ffi::REMOVED));
+    }
+
+    /// Finds the value of a key and pins its entry.
+    pub(crate) fn get(
+        &mut self,
+        key: F::Written<'_>,
+    ) -> Result<Option<(u64, NonNull<V>)>, Refusal> {
+        // SAFETY: the cache was opened for this form, and this core has the only copy.
+        let told = unsafe { F::get(&mut self.cache, key) };
+        match told.code {
+            ffi::HIT => Ok(Some((told.stamp, value_of(told.value)))),
+            ffi::MISSED => Ok(None),
+            code => Err(refusal(code)),
+        }
+    }
+
+    /// Gives back a pin of an entry that has a value.
+    pub(crate) fn release(&mut self, stamp: u64, evicted: &mut Evicted<V>) {
+        // SAFETY: both handles were opened for this form, and this core has the only copies.
+        let code = unsafe { (Self::CALLS.release)(&mut self.cache, stamp, &mut self.chain) };
+        debug_assert_eq!(code, ffi::DONE);
+        self.take_evicted(evicted);
+    }
+
+    /// Evicts the entry of a key if it has no pin.
+    pub(crate) fn advice_evict(
+        &mut self,
+        key: F::Written<'_>,
+        evicted: &mut Evicted<V>,
+    ) -> Result<(), Refusal> {
+        // SAFETY: both handles were opened for this form, and this core has the only copies.
+        let code = unsafe { F::advice_evict(&mut self.cache, key, &mut self.chain) };
+        self.take_evicted(evicted);
+        done(code)
+    }
+
+    /// Detaches the entry of a key, so that the key does not find it. It is evicted if it has no
+    /// pin, and else with its last release.
+    pub(crate) fn invalidate(
+        &mut self,
+        key: F::Written<'_>,
+        evicted: &mut Evicted<V>,
+    ) -> Result<(), Refusal> {
+        // SAFETY: both handles were opened for this form, and this core has the only copies.
+        let code = unsafe { F::invalidate(&mut self.cache, key, &mut self.chain) };
+        self.take_evicted(evicted);
+        done(code)
+    }
+
+    /// Detaches the entry of a key as `invalidate` does, and makes one with this value, of which the
+    /// caller has a pin. If it is refused, returns the value, and nothing has changed.
+    pub(crate) fn insert(
+        &mut self,
+        key: F::Written<'_>,
+        charge: u64,
+        value: Box<V>,
+        evicted: &mut Evicted<V>,
+    ) -> Result<(u64, NonNull<V>), (Refusal, Box<V>)> {
+        let word = word_of(Box::into_raw(value));
+        // SAFETY: both handles were opened for this form, and this core has the only copies.
+        let told = unsafe { F::insert(&mut self.cache, key, charge, word, &mut self.chain) };
+        self.take_evicted(evicted);
+        if told.code == ffi::DONE {
+            return Ok((told.stamp, value_of(word)));
+        }
+        // SAFETY: the pointer is that of the box above, and the library has not stored it.
+        let value = unsafe { Box::from_raw(value_of(word).as_ptr()) };
+        Err((refusal(told.code), value))
+    }
+
+    /// Evicts every entry without a pin.
+    pub(crate) fn prune(&mut self, evicted: &mut Evicted<V>) {
+        // SAFETY: both handles were opened for this form, and this core has the only copies.
+        unsafe { (Self::CALLS.prune)(&mut self.cache, &mut self.chain) };
+        self.take_evicted(evicted);
+    }
+
+    /// Sets the capacity, and evicts entries without a pin while the total is above it.
+    pub(crate) fn set_capacity(&mut self, capacity: u64, evicted: &mut Evicted<V>) {
+        // SAFETY: both handles were opened for this form, and this core has the only copies.
+        unsafe { (Self::CALLS.set_capacity)(&mut self.cache, capacity, &mut self.chain) };
+        self.take_evicted(evicted);
+    }
+
+    /// The total of the charges of all entries.
+    pub(crate) fn total(&mut self) -> u64 {
+        // SAFETY: the cache was opened for this form, and this core has the only copy.
+        let told = unsafe { (Self::CALLS.total)(&mut self.cache) };
+        told.value
+    }
+
+    /// The capacity.
+    pub(crate) fn capacity(&mut self) -> u64 {
+        // SAFETY: the cache was opened for this form, and this core has the only copy.
+        let told = unsafe { (Self::CALLS.capacity)(&mut self.cache) };
+        told.value
+    }
+
+    fn begun(told: Told) -> Result<Begun<V>, Refusal> {
+        match told.code {
+            ffi::MAKE => Ok(Begun::Make(told.stamp)),
+            ffi::WAIT => Ok(Begun::Wait(told.stamp)),
+            ffi::HIT => Ok(Begun::Hit(told.stamp, value_of(told.value))),
+            code => Err(refusal(code)),
+        }
+    }
+
+    /// Moves the values of evicted entries out of the chain.
+    fn take_evicted(&mut self, evicted: &mut Evicted<V>) {
+        let mut gone = Gone {
+            stamp: 0,
+            charge: 0,
+            value: 0,
+        };
+        // SAFETY: the chain was opened for this form, and this core has the only copy.
+        while unsafe { (Self::CALLS.pop)(&mut self.chain, &mut gone) } {
+            let value = value_of(gone.value).as_ptr();
+            // SAFETY: the word is the address of a box that `ready` or `insert` stored. The library tells each
+            // word once, and only when its entry has no pin.
+            evicted.push(unsafe { Box::from_raw(value) });
+        }
+    }
+}
+
+impl<F: Form, V> Drop for Core<F, V> {
+    fn drop(&mut self) {
+        // SAFETY: both handles were opened for this form or are closed, and this core has the only
+        // copies.
+        unsafe { (Self::CALLS.free)(&mut self.cache, &mut self.chain) };
+        // Handles borrow the cache that owns this core, so there is none left. A pin that is left
+        // is one whose handle was forgotten.
+        let mut left = Evicted::new();
+        self.take_evicted(&mut left);
+        // SAFETY: as above.
+        unsafe { (Self::CALLS.free_chain)(&mut self.chain) };
+    }
+}
+
+/// The word that the library stores for a value.
+fn word_of<V>(value: *mut V) -> u64 {
+    value.expose_provenance() as u64
+}
+
+/// The value of a word that `word_of` made.
+fn value_of<V>(word: u64) -> NonNull<V> {
+    let at = ptr::with_exposed_provenance_mut(word as usize);
+    // SAFETY: the word is the address of a box, which is not null.
+    unsafe { NonNull::new_unchecked(at) }
+}
+
+fn done(code: u32) -> Result<(), Refusal> {
+    match code {
+        ffi::DONE => Ok(()),
+        code => Err(refusal(code)),
+    }
+}
+
+/// The refusal of a code.
+fn refusal(code: u32) -> Refusal {
+    match code {
+        ffi::OVERFLOW => Refusal::Overflow,
+        ffi::MEMORY => Refusal::Memory,
+        ffi::NO_CHARGE => Refusal::ZeroCharge,
+        // No other code is possible: both handles are open, the chain is empty, and the stamps are
+        // those of pinned entries.
+        _ => unreachable!("the library answered code {code}"),
+    }
+}

@@ -1,0 +1,245 @@
+//! A cache of several shards, each behind its own lock.
+
+use std::borrow::Borrow;
+use std::fmt;
+use std::hash::{BuildHasher, Hash, RandomState};
+use std::num::NonZeroUsize;
+use std::ops::Deref;
+
+use crate::error::{GetError, Refusal};
+use crate::key::Key;
+use crate::unsharded;
+
+/// The number of shards that [`LruCache::new`] makes.
+const SHARDS: NonZeroUsize = NonZeroUsize::new(16).unwrap();
+
+/// A cache of heavy values that threads share, in several shards.
+///
+/// Each shard is an [`unsharded::LruCache`] with its own lock and an equal share of the capacity,
+/// rounded up. The hasher chooses the shard of a key. Threads contend less, but a value is evicted
+/// when its own shard is full.
+///
+/// # Examples
+///
+/// ```
+/// use concurrent_lru_proved::sharded::LruCache;
+///
+/// # fn main() -> Result<(), concurrent_lru_proved::Refusal> {
+/// let cache = LruCache::<u64, String>::new(1000)?;
+/// let handle = cache.get_or_init(&7, 1, |key| key.to_string())?;
+/// assert_eq!(*handle, "7");
+/// # Ok(())
+/// # }
+/// ```
+pub struct LruCache<K: Key + ?Sized, V, S = RandomState> {
+    shards: Box<[unsharded::LruCache<K, V>]>,
+    hasher: S,
+}
+
+impl<K: Key + ?Sized, V> LruCache<K, V> {
+    /// Creates an empty cache of 16 shards.
+    ///
+    /// # Errors
+    ///
+    /// [`Refusal::Memory`].
+    pub fn new(capacity: u64) -> Result<Self, Refusal> {
+        LruCache::with_shards_hasher(capacity, SHARDS, RandomState::new())
+    }
+}
+
+impl<K: Key + ?Sized, V, S> LruCache<K, V, S> {
+    /// Creates an empty cache with the given number of shards and hasher.
+    ///
+    /// # Errors
+    ///
+    /// [`Refusal::Memory`].
+    pub fn with_shards_hasher(
+        capacity: u64,
+        shards: NonZeroUsize,
+        hasher: S,
+    ) -> Result<Self, Refusal> {
+        let share = share(capacity, shards.get());
+        let shards: Result<_, Refusal> = (0..shards.get())
+            .map(|_| unsharded::LruCache::new(share))
+            .collect();
+        Ok(LruCache {
+            shards: shards?,
+            hasher,
+        })
+    }
+
+    /// Evicts every idle value, one shard after another.
+    pub fn prune(&self) {
+        for shard in &self.shards {
+            shard.prune();
+        }
+    }
+
+    /// The total of the charges of all values, including those that are being made. The shards are
+    /// read one after another, so while other threads call the cache it is no snapshot.
+    pub fn total_charge(&self) -> u128 {
+        let totals = self.shards.iter().map(|shard| shard.total_charge());
+        totals.map(u128::from).sum()
+    }
+
+    /// The total of the capacities of all shards. Rounding may make it more than the capacity that
+    /// was set.
+    pub fn capacity(&self) -> u128 {
+        let capacities = self.shards.iter().map(|shard| shard.capacity());
+        capacities.map(u128::from).sum()
+    }
+
+    /// Sets the capacity, of which each shard gets an equal share, rounded up. Idle values that
+    /// exceed it are evicted at once.
+    pub fn set_capacity(&self, capacity: u64) {
+        let share = share(capacity, self.shards.len());
+        for shard in &self.shards {
+            shard.set_capacity(share);
+        }
+    }
+}
+
+impl<K: Key + ?Sized, V, S: BuildHasher> LruCache<K, V, S> {
+    /// Returns a handle of the key's value, or `None` if there is no value or it is still being
+    /// made. Does not wait.
+    ///
+    /// # Errors
+    ///
+    /// As [`unsharded::LruCache::get`].
+    pub fn get<Q>(&self, key: &Q) -> Result<Option<CacheHandle<'_, K, V>>, Refusal>
+    where
+        K: Borrow<Q>,
+        Q: Key<Form = K::Form> + Hash + ?Sized,
+    {
+        let found = self.shard(key).get(key)?;
+        Ok(found.map(CacheHandle))
+    }
+
+    /// Returns a handle of the key's value. If there is none, `init` makes it, while other callers
+    /// that ask for the key wait.
+    ///
+    /// # Errors
+    ///
+    /// As [`unsharded::LruCache::get_or_init`].
+    pub fn get_or_init<Q>(
+        &self,
+        key: &Q,
+        charge: u64,
+        init: impl FnOnce(&Q) -> V,
+    ) -> Result<CacheHandle<'_, K, V>, Refusal>
+    where
+        K: Borrow<Q>,
+        Q: Key<Form = K::Form> + Hash + ?Sized,
+    {
+        let handle = self.shard(key).get_or_init(key, charge, init)?;
+        Ok(CacheHandle(handle))
+    }
+
+    /// Returns a handle of the key's value. If there is none, `init` makes it, while other callers
+    /// that ask for the key wait; if it fails, one of them makes the value.
+    ///
+    /// # Errors
+    ///
+    /// As [`unsharded::LruCache::get_or_try_init`].
+    pub fn get_or_try_init<Q, E>(
+        &self,
+        key: &Q,
+        charge: u64,
+        init: impl FnOnce(&Q) -> Result<V, E>,
+    ) -> Result<CacheHandle<'_, K, V>, GetError<E>>
+    where
+        K: Borrow<Q>,
+        Q: Key<Form = K::Form> + Hash + ?Sized,
+    {
+        let handle = self.shard(key).get_or_try_init(key, charge, init)?;
+        Ok(CacheHandle(handle))
+    }
+
+    /// Makes `value` the key's value, whatever the key had, and returns a handle of it. Handles of
+    /// the old value keep it.
+    ///
+    /// # Errors
+    ///
+    /// As [`unsharded::LruCache::insert`].
+    pub fn insert<Q>(
+        &self,
+        key: &Q,
+        charge: u64,
+        value: V,
+    ) -> Result<CacheHandle<'_, K, V>, Refusal>
+    where
+        K: Borrow<Q>,
+        Q: Key<Form = K::Form> + Hash + ?Sized,
+    {
+        let handle = self.shard(key).insert(key, charge, value)?;
+        Ok(CacheHandle(handle))
+    }
+
+    /// Takes the key's value away: the next caller that asks for the key makes a new one. Handles
+    /// of the old value keep it.
+    ///
+    /// # Errors
+    ///
+    /// As [`unsharded::LruCache::invalidate`].
+    pub fn invalidate<Q>(&self, key: &Q) -> Result<(), Refusal>
+    where
+        K: Borrow<Q>,
+        Q: Key<Form = K::Form> + Hash + ?Sized,
+    {
+        self.shard(key).invalidate(key)
+    }
+
+    /// Evicts the key's value if it is idle. If it is pinned, nothing happens, now or later.
+    ///
+    /// # Errors
+    ///
+    /// As [`unsharded::LruCache::advice_evict`].
+    pub fn advice_evict<Q>(&self, key: &Q) -> Result<(), Refusal>
+    where
+        K: Borrow<Q>,
+        Q: Key<Form = K::Form> + Hash + ?Sized,
+    {
+        self.shard(key).advice_evict(key)
+    }
+
+    fn shard<Q: Hash + ?Sized>(&self, key: &Q) -> &unsharded::LruCache<K, V> {
+        let number = self.hasher.hash_one(key) % self.shards.len() as u64;
+        // The remainder is less than the number of shards, so it fits.
+        &self.shards[number as usize]
+    }
+}
+
+/// The capacity of each shard.
+fn share(capacity: u64, shards: usize) -> u64 {
+    capacity.div_ceil(shards as u64)
+}
+
+impl<K: Key + ?Sized, V, S> fmt::Debug for LruCache<K, V, S> {
+    fn fmt(&self, f: &mut fmt::Formatter<'_>) -> fmt::Result {
+        f.debug_list().entries(&self.shards).finish()
+    }
+}
+
+/// A pinned value: it is not evicted while the handle lives.
+pub struct CacheHandle<'a, K: Key + ?Sized, V>(unsharded::CacheHandle<'a, K, V>);
+
+impl<K: Key + ?Sized, V> CacheHandle<'_, K, V> {
+    /// The value.
+    pub fn value(&self) -> &V {
+        self.0.value()
+    }
+}
+
+impl<K: Key + ?Sized, V> Deref for CacheHandle<'_, K, V> {
+    type Target = V;
+
+    fn deref(&self) -> &V {
+        self.value()
+    }
+}
+
+impl<K: Key + ?Sized, V: fmt::Debug> fmt::Debug for CacheHandle<'_, K, V> {
+    fn fmt(&self, f: &mut fmt::Formatter<'_>) -> fmt::Result {
+        self.0.fmt(f)
+    }
+}

@@ -1,0 +1,420 @@
+//! A cache behind one lock.
+
+use std::borrow::Borrow;
+use std::convert::Infallible;
+use std::fmt;
+use std::marker::PhantomData;
+use std::mem;
+use std::ops::Deref;
+use std::ptr::NonNull;
+use std::sync::{Condvar, Mutex, MutexGuard, PoisonError};
+
+use crate::error::{GetError, Refusal};
+use crate::form::{Form, Written};
+use crate::key::Key;
+use crate::proved::{Begun, Core, Evicted};
+
+/// A cache of heavy values that threads share, behind one lock.
+///
+/// A [`CacheHandle`] pins its value: a pinned value is not evicted. A value without a handle is
+/// idle. While the total of all charges is above the capacity, idle values are evicted, the least
+/// recently released first.
+///
+/// No lock is held while values are made or dropped. So `init` and `Drop` of a value may be slow,
+/// may panic, and may call the cache. But `init` must not ask for the key whose value it makes, and
+/// must not wait for another thread that does: it would wait for itself.
+///
+/// Keys are passed by reference, as in [`HashMap`](std::collections::HashMap): a cache with keys of
+/// type `String` takes a `&str`.
+///
+/// # Examples
+///
+/// ```
+/// use concurrent_lru_proved::unsharded::LruCache;
+///
+/// # fn main() -> Result<(), concurrent_lru_proved::Refusal> {
+/// let cache = LruCache::<String, usize>::new(10)?;
+/// let handle = cache.get_or_init("seven", 1, |key| key.len())?;
+/// assert_eq!(*handle, 5);
+/// # Ok(())
+/// # }
+/// ```
+///
+/// A cache can be shared between threads only if its values can be shared and sent:
+///
+/// ```compile_fail,E0277
+/// use concurrent_lru_proved::unsharded::LruCache;
+/// use std::cell::Cell;
+///
+/// fn share<T: Sync>(_: &T) {}
+///
+/// share(&LruCache::<u64, Cell<u64>>::new(10).unwrap());
+/// ```
+///
+/// ```compile_fail,E0277
+/// use concurrent_lru_proved::unsharded::LruCache;
+/// use std::sync::MutexGuard;
+///
+/// fn share<T: Sync>(_: &T) {}
+///
+/// share(&LruCache::<u64, MutexGuard<'static, u64>>::new(10).unwrap());
+/// ```
+pub struct LruCache<K: Key + ?Sized, V> {
+    shared: Mutex<Shared<K::Form, V>>,
+    /// Notified when a caller has made a value, or has failed to.
+    ended: Condvar,
+    keys: PhantomData<fn(&K)>,
+    // Threads that share a cache also share its values, through handles.
+    values: PhantomData<V>,
+}
+
+/// What the lock guards.
+struct Shared<F: Form, V> {
+    core: Core<F, V>,
+    /// The number of callers that wait for a value.
+    waiting: usize,
+}
+
+impl<K: Key + ?Sized, V> LruCache<K, V> {
+    /// Creates an empty cache. It evicts idle values while the total of all charges is above
+    /// `capacity`.
+    ///
+    /// # Errors
+    ///
+    /// [`Refusal::Memory`].
+    pub fn new(capacity: u64) -> Result<Self, Refusal> {
+        Ok(LruCache {
+            shared: Mutex::new(Shared {
+                core: Core::new(capacity)?,
+                waiting: 0,
+            }),
+            ended: Condvar::new(),
+            keys: PhantomData,
+            values: PhantomData,
+        })
+    }
+
+    /// Returns a handle of the key's value, or `None` if there is no value or it is still being
+    /// made. Does not wait.
+    ///
+    /// # Errors
+    ///
+    /// [`Refusal::Overflow`] if the value has `u32::MAX` handles. [`Refusal::Memory`] if the key is
+    /// longer than any before and there is no memory for a copy.
+    pub fn get<Q>(&self, key: &Q) -> Result<Option<CacheHandle<'_, K, V>>, Refusal>
+    where
+        K: Borrow<Q>,
+        Q: Key<Form = K::Form> + ?Sized,
+    {
+        let written = key.written();
+        let found = self.lock().core.get(written)?;
+        Ok(found.map(|(stamp, value)| self.handle(stamp, value)))
+    }
+
+    /// Returns a handle of the key's value. If there is none, `init` makes it.
+    ///
+    /// Only one caller at a time makes a key's value; the others wait for it. If `init` panics and
+    /// others are waiting, one of them makes the value, with its own `init`.
+    ///
+    /// `charge` is what the value counts for against the capacity, in units of the caller's choice.
+    /// If the value exists already or is being made, its charge does not change.
+    ///
+    /// # Errors
+    ///
+    /// [`Refusal::ZeroCharge`] if `charge` is 0, [`Refusal::Overflow`] and [`Refusal::Memory`]. In
+    /// these cases `init` does not run and nothing is evicted, with one exception: if there is no
+    /// memory to store the value that `init` has made, it is dropped as if `init` had failed.
+    pub fn get_or_init<Q>(
+        &self,
+        key: &Q,
+        charge: u64,
+        init: impl FnOnce(&Q) -> V,
+    ) -> Result<CacheHandle<'_, K, V>, Refusal>
+    where
+        K: Borrow<Q>,
+        Q: Key<Form = K::Form> + ?Sized,
+    {
+        self.get_or_try_init(key, charge, |key| Ok::<_, Infallible>(init(key)))
+            .map_err(|error| match error {
+                GetError::Init(never) => match never {},
+                GetError::Refused(refusal) => refusal,
+            })
+    }
+
+    /// Returns a handle of the key's value. If there is none, `init` makes it, or fails.
+    ///
+    /// This is [`get_or_init`](Self::get_or_init) for an `init` that may fail. The cache keeps no
+    /// entry then. If others are waiting, one of them makes the value, with its own `init`. Values
+    /// are evicted before `init` runs, and stay evicted if it fails.
+    ///
+    /// # Errors
+    ///
+    /// [`GetError::Init`] with the error of `init`, and [`GetError::Refused`] in the cases of
+    /// [`get_or_init`](Self::get_or_init).
+    pub fn get_or_try_init<Q, E>(
+        &self,
+        key: &Q,
+        charge: u64,
+        init: impl FnOnce(&Q) -> Result<V, E>,
+    ) -> Result<CacheHandle<'_, K, V>, GetError<E>>
+    where
+        K: Borrow<Q>,
+        Q: Key<Form = K::Form> + ?Sized,
+    {
+        match self.begin(key.written(), charge)? {
+            Asked::Found(handle) => Ok(handle),
+            Asked::Making(making) => {
+                let value = init(key).map_err(GetError::Init)?;
+                Ok(making.end(Box::new(value))?)
+            }
+        }
+    }
+
+    /// Makes `value` the key's value, whatever the key had, and returns a handle of it. Does not
+    /// wait.
+    ///
+    /// Handles of the old value keep it, and it counts against the capacity, until the last of them
+    /// is dropped. Callers that wait for a value that is being made still get that one.
+    ///
+    /// # Errors
+    ///
+    /// [`Refusal::ZeroCharge`] if `charge` is 0, [`Refusal::Overflow`] and [`Refusal::Memory`]. The
+    /// key keeps its old value then, and the new one is dropped.
+    ///
+    /// # Examples
+    ///
+    /// ```
+    /// use concurrent_lru_proved::unsharded::LruCache;
+    ///
+    /// # fn main() -> Result<(), concurrent_lru_proved::Refusal> {
+    /// let cache = LruCache::<String, u32>::new(10)?;
+    /// let old = cache.insert("key", 1, 5)?;
+    /// let new = cache.insert("key", 1, 6)?;
+    /// assert_eq!((*old, *new), (5, 6));
+    /// assert_eq!(cache.get("key")?.as_deref(), Some(&6));
+    /// # Ok(())
+    /// # }
+    /// ```
+    pub fn insert<Q>(
+        &self,
+        key: &Q,
+        charge: u64,
+        value: V,
+    ) -> Result<CacheHandle<'_, K, V>, Refusal>
+    where
+        K: Borrow<Q>,
+        Q: Key<Form = K::Form> + ?Sized,
+    {
+        let written = key.written();
+        let value = Box::new(value);
+        let mut evicted = Evicted::new();
+        // The guard is dropped at the end of this statement, before what the call returned.
+        let inserted = self
+            .lock()
+            .core
+            .insert(written, charge, value, &mut evicted);
+        match inserted {
+            Ok((stamp, value)) => Ok(self.handle(stamp, value)),
+            Err((refusal, _value)) => Err(refusal),
+        }
+    }
+
+    /// Takes the key's value away: the next caller that asks for the key makes a new one. Handles
+    /// of the old value keep it, as with [`insert`](Self::insert).
+    ///
+    /// # Errors
+    ///
+    /// [`Refusal::Memory`] if the key is longer than any before and there is no memory for a copy.
+    pub fn invalidate<Q>(&self, key: &Q) -> Result<(), Refusal>
+    where
+        K: Borrow<Q>,
+        Q: Key<Form = K::Form> + ?Sized,
+    {
+        let written = key.written();
+        let mut evicted = Evicted::new();
+        self.lock().core.invalidate(written, &mut evicted)
+    }
+
+    /// Evicts the key's value if it is idle. If it is pinned, nothing happens, now or later.
+    ///
+    /// # Errors
+    ///
+    /// [`Refusal::Memory`] if the key is longer than any before and there is no memory for a copy.
+    pub fn advice_evict<Q>(&self, key: &Q) -> Result<(), Refusal>
+    where
+        K: Borrow<Q>,
+        Q: Key<Form = K::Form> + ?Sized,
+    {
+        let written = key.written();
+        let mut evicted = Evicted::new();
+        self.lock().core.advice_evict(written, &mut evicted)
+    }
+
+    /// Evicts every idle value.
+    pub fn prune(&self) {
+        let mut evicted = Evicted::new();
+        self.lock().core.prune(&mut evicted);
+    }
+
+    /// The total of the charges of all values, including those that are being made.
+    pub fn total_charge(&self) -> u64 {
+        self.lock().core.total()
+    }
+
+    /// The capacity.
+    pub fn capacity(&self) -> u64 {
+        self.lock().core.capacity()
+    }
+
+    /// Sets the capacity. Idle values that exceed it are evicted at once.
+    pub fn set_capacity(&self, capacity: u64) {
+        let mut evicted = Evicted::new();
+        self.lock().core.set_capacity(capacity, &mut evicted);
+    }
+
+    /// Finds the key's value, waiting for it while another caller makes it, or begins to make it.
+    fn begin(
+        &self,
+        written: Written<'_, K::Form>,
+        charge: u64,
+    ) -> Result<Asked<'_, K, V>, Refusal> {
+        // Declared before the lock is taken, so that it is dropped after the lock is released.
+        let mut evicted = Evicted::new();
+        let mut shared = self.lock();
+        let mut begun = shared.core.begin(written, charge, &mut evicted)?;
+        loop {
+            match begun {
+                Begun::Hit(stamp, value) => return Ok(Asked::Found(self.handle(stamp, value))),
+                Begun::Make(stamp) => {
+                    return Ok(Asked::Making(Making { cache: self, stamp }));
+                }
+                Begun::Wait(stamp) => {
+                    shared.waiting += 1;
+                    shared = unpoisoned(self.ended.wait(shared));
+                    shared.waiting -= 1;
+                    begun = shared.core.poll(stamp)?;
+                }
+            }
+        }
+    }
+
+    fn handle(&self, stamp: u64, value: NonNull<V>) -> CacheHandle<'_, K, V> {
+        CacheHandle {
+            cache: self,
+            stamp,
+            value,
+        }
+    }
+
+    fn lock(&self) -> MutexGuard<'_, Shared<K::Form, V>> {
+        unpoisoned(self.shared.lock())
+    }
+
+    /// Releases the lock, and wakes the callers that wait for a value.
+    fn wake(&self, shared: MutexGuard<'_, Shared<K::Form, V>>) {
+        let waiting = shared.waiting;
+        drop(shared);
+        if waiting > 0 {
+            self.ended.notify_all();
+        }
+    }
+}
+
+/// No code of the user runs under the lock, so a poisoned one guards a sound cache.
+fn unpoisoned<T>(locked: Result<T, PoisonError<T>>) -> T {
+    locked.unwrap_or_else(PoisonError::into_inner)
+}
+
+impl<K: Key + ?Sized, V> fmt::Debug for LruCache<K, V> {
+    fn fmt(&self, f: &mut fmt::Formatter<'_>) -> fmt::Result {
+        f.debug_struct("LruCache")
+            .field("capacity", &self.capacity())
+            .field("total_charge", &self.total_charge())
+            .finish_non_exhaustive()
+    }
+}
+
+/// What a caller that asked for a key has got.
+enum Asked<'a, K: Key + ?Sized, V> {
+    Found(CacheHandle<'a, K, V>),
+    Making(Making<'a, K, V>),
+}
+
+/// The duty to make a value. If it is dropped before `end`, making the value has failed.
+struct Making<'a, K: Key + ?Sized, V> {
+    cache: &'a LruCache<K, V>,
+    stamp: u64,
+}
+
+impl<'a, K: Key + ?Sized, V> Making<'a, K, V> {
+    /// Stores the value. If there is no memory for that, making the value has failed.
+    fn end(self, value: Box<V>) -> Result<CacheHandle<'a, K, V>, Refusal> {
+        let mut shared = self.cache.lock();
+        match shared.core.ready(self.stamp, value) {
+            Ok(value) => {
+                let handle = self.cache.handle(self.stamp, value);
+                self.cache.wake(shared);
+                mem::forget(self);
+                Ok(handle)
+            }
+            Err(value) => {
+                drop(shared);
+                drop(value);
+                Err(Refusal::Memory)
+            }
+        }
+    }
+}
+
+impl<K: Key + ?Sized, V> Drop for Making<'_, K, V> {
+    fn drop(&mut self) {
+        let mut shared = self.cache.lock();
+        shared.core.fail(self.stamp);
+        self.cache.wake(shared);
+    }
+}
+
+/// A pinned value: it is not evicted while the handle lives.
+pub struct CacheHandle<'a, K: Key + ?Sized, V> {
+    cache: &'a LruCache<K, V>,
+    stamp: u64,
+    /// The value of the entry with this stamp. The handle has a pin of it.
+    value: NonNull<V>,
+}
+
+// SAFETY: a handle gives shared access to its value, and dropping it may drop values of the cache.
+// Both are sound on any thread if values are `Sync` and `Send`.
+unsafe impl<K: Key + ?Sized, V: Send + Sync> Send for CacheHandle<'_, K, V> {}
+
+// SAFETY: a shared handle gives shared access to its value only.
+unsafe impl<K: Key + ?Sized, V: Send + Sync> Sync for CacheHandle<'_, K, V> {}
+
+impl<K: Key + ?Sized, V> CacheHandle<'_, K, V> {
+    /// The value.
+    pub fn value(&self) -> &V {
+        // SAFETY: the handle has a pin of the entry, so the value is not dropped before the handle
+        // is. Nothing has mutable access to a value in the cache.
+        unsafe { self.value.as_ref() }
+    }
+}
+
+impl<K: Key + ?Sized, V> Deref for CacheHandle<'_, K, V> {
+    type Target = V;
+
+    fn deref(&self) -> &V {
+        self.value()
+    }
+}
+
+impl<K: Key + ?Sized, V: fmt::Debug> fmt::Debug for CacheHandle<'_, K, V> {
+    fn fmt(&self, f: &mut fmt::Formatter<'_>) -> fmt::Result {
+        f.debug_tuple("CacheHandle").field(self.value()).finish()
+    }
+}
+
+impl<K: Key + ?Sized, V> Drop for CacheHandle<'_, K, V> {
+    fn drop(&mut self) {
+        let mut evicted = Evicted::new();
+        self.cache.lock().core.release(self.stamp, &mut evicted);
+    }
+}

@@ -1,0 +1,184 @@
+//! Tests the cache of several shards.
+
+use std::hash::{BuildHasher, BuildHasherDefault, DefaultHasher, Hasher};
+use std::num::NonZeroUsize;
+use std::sync::atomic::{AtomicU64, Ordering};
+use std::thread;
+
+use concurrent_lru_proved::sharded::LruCache;
+use concurrent_lru_proved::{GetError, Refusal};
+
+/// The hash of a `u64` is the number itself.
+#[derive(Clone, Copy, Default)]
+struct Itself(u64);
+
+impl Hasher for Itself {
+    fn finish(&self) -> u64 {
+        self.0
+    }
+
+    fn write(&mut self, bytes: &[u8]) {
+        for byte in bytes {
+            self.0 = self.0 << 8 | u64::from(*byte);
+        }
+    }
+
+    fn write_u64(&mut self, number: u64) {
+        self.0 = number;
+    }
+}
+
+type ByItself = BuildHasherDefault<Itself>;
+
+fn by_itself(capacity: u64, shards: usize) -> Result<LruCache<u64, u64, ByItself>, Refusal> {
+    let shards = NonZeroUsize::new(shards).unwrap();
+    LruCache::with_shards_hasher(capacity, shards, ByItself::default())
+}
+
+#[test]
+fn each_shard_has_its_share_rounded_up() -> Result<(), Refusal> {
+    assert_eq!(by_itself(10, 3)?.capacity(), 12);
+    assert_eq!(by_itself(0, 3)?.capacity(), 0);
+    assert_eq!(by_itself(u64::MAX, 1)?.capacity(), u128::from(u64::MAX));
+    assert_eq!(by_itself(u64::MAX, 2)?.capacity(), 1 << 64);
+    assert_eq!(LruCache::<u64, u64>::new(1000)?.capacity(), 16 * 63);
+    Ok(())
+}
+
+#[test]
+fn an_entry_leaves_where_its_own_shard_is_full() -> Result<(), Refusal> {
+    let cache = by_itself(4, 2)?;
+    for key in [0, 1, 2, 3, 4] {
+        cache.get_or_init(&key, 1, |key| key * 10)?;
+    }
+    let is_there = |key| Ok::<_, Refusal>(cache.get(&key)?.as_deref() == Some(&(key * 10)));
+    assert!(!is_there(0)?);
+    assert!(is_there(1)? && is_there(2)? && is_there(3)? && is_there(4)?);
+    assert_eq!(cache.total_charge(), 4);
+    Ok(())
+}
+
+#[test]
+fn calls_reach_the_shard_of_their_key() -> Result<(), GetError<()>> {
+    let cache = LruCache::<String, usize>::new(1000)?;
+    for number in 0..100usize {
+        let key = format!("key {number}");
+        let handle = cache.get_or_try_init(key.as_str(), 1, |_| Ok::<_, ()>(number))?;
+        assert_eq!(handle.value(), &number);
+    }
+    assert_eq!(cache.total_charge(), 100);
+    for number in 0..100usize {
+        let key = format!("key {number}");
+        assert_eq!(cache.get(key.as_str())?.as_deref(), Some(&number));
+        cache.advice_evict(key.as_str())?;
+        assert!(cache.get(key.as_str())?.is_none());
+    }
+    assert_eq!(cache.total_charge(), 0);
+    for number in 0..100usize {
+        let key = format!("key {number}");
+        assert_eq!(*cache.insert(key.as_str(), 1, number)?, number);
+        assert_eq!(cache.get(key.as_str())?.as_deref(), Some(&number));
+        cache.invalidate(key.as_str())?;
+        assert!(cache.get(key.as_str())?.is_none());
+    }
+    assert_eq!(cache.total_charge(), 0);
+    let failed = cache.get_or_try_init("none", 1, |_| Err(())).err();
+    assert_eq!(failed, Some(GetError::Init(())));
+    Ok(())
+}
+
+#[test]
+fn prune_and_set_capacity_reach_every_shard() -> Result<(), Refusal> {
+    let cache = by_itself(100, 4)?;
+    let held = cache.get_or_init(&7, 1, |_| 0)?;
+    for key in 0..20 {
+        cache.get_or_init(&key, 1, |_| 1)?;
+    }
+    cache.set_capacity(8);
+    assert_eq!(cache.capacity(), 8);
+    assert_eq!(cache.total_charge(), 8);
+    assert_eq!(cache.get(&7)?.as_deref(), Some(&0));
+    cache.prune();
+    assert_eq!(cache.total_charge(), 1);
+    drop(held);
+    cache.prune();
+    assert_eq!(cache.total_charge(), 0);
+    Ok(())
+}
+
+#[test]
+fn totals_of_shards_never_wrap() -> Result<(), Refusal> {
+    let cache = by_itself(0, 2)?;
+    let zero = cache.get_or_init(&0, u64::MAX, |_| 0)?;
+    let one = cache.get_or_init(&1, u64::MAX, |_| 1)?;
+    assert_eq!(cache.total_charge(), 2 * u128::from(u64::MAX));
+    assert_eq!((*zero, *one), (0, 1));
+    assert_eq!(
+        cache.get_or_init(&2, 1, |_| 2).err(),
+        Some(Refusal::Overflow)
+    );
+    Ok(())
+}
+
+/// Adds its charge when it is dropped.
+struct Counted<'a> {
+    charge: u64,
+    dropped: &'a AtomicU64,
+}
+
+impl Drop for Counted<'_> {
+    fn drop(&mut self) {
+        self.dropped.fetch_add(self.charge, Ordering::Relaxed);
+    }
+}
+
+#[test]
+fn stress() -> Result<(), Refusal> {
+    const CAPACITY: u64 = 128;
+    let made = AtomicU64::new(0);
+    let dropped = AtomicU64::new(0);
+    let cache = LruCache::<u64, _>::new(CAPACITY)?;
+    thread::scope(|scope| {
+        for seed in 1..=8u64 {
+            let (cache, made, dropped) = (&cache, &made, &dropped);
+            scope.spawn(move || {
+                let numbers = BuildHasherDefault::<DefaultHasher>::default();
+                for call in 0..10_000u64 {
+                    let random = numbers.hash_one((seed, call));
+                    let key = random % 100;
+                    let charge = 1 + (random >> 20) % 4;
+                    let fails = (random >> 40) % 10 >= 8;
+                    let value = || {
+                        made.fetch_add(charge, Ordering::Relaxed);
+                        Counted { charge, dropped }
+                    };
+                    match (random >> 56) % 16 {
+                        0 => assert!(cache.invalidate(&key).is_ok()),
+                        1 => assert!(cache.insert(&key, charge, value()).is_ok()),
+                        _ => {
+                            let made = |_: &u64| if fails { Err(()) } else { Ok(value()) };
+                            let answer = cache.get_or_try_init(&key, charge, made);
+                            assert!(fails || answer.is_ok());
+                        }
+                    }
+                    if key % 10 == 0 {
+                        thread::yield_now();
+                    }
+                }
+            });
+        }
+    });
+    let kept = cache.total_charge();
+    assert!(kept <= u128::from(CAPACITY));
+    let so_far = dropped.load(Ordering::Relaxed);
+    assert_eq!(
+        u128::from(made.load(Ordering::Relaxed)),
+        kept + u128::from(so_far)
+    );
+    cache.prune();
+    assert_eq!(
+        made.load(Ordering::Relaxed),
+        dropped.load(Ordering::Relaxed)
+    );
+    Ok(())
+}

@@ -1,0 +1,560 @@
+//! Tests the cache behind one lock.
+
+use std::sync::atomic::{AtomicU64, Ordering};
+use std::sync::{Arc, Barrier, Mutex};
+use std::thread;
+use std::time::{Duration, Instant};
+
+use concurrent_lru_proved::unsharded::LruCache;
+use concurrent_lru_proved::{GetError, Refusal};
+
+#[test]
+fn a_present_value_is_not_made_again() -> Result<(), Refusal> {
+    let cache = LruCache::<u32, u32>::new(10)?;
+    assert_eq!(*cache.get_or_init(&1, 1, |_| 1)?, 1);
+    assert_eq!(*cache.get_or_init(&2, 1, |_| 2)?, 2);
+    assert_eq!(cache.get_or_init(&1, 1, |_| 3)?.value(), &1);
+    Ok(())
+}
+
+#[test]
+fn an_evicted_value_is_made_again() -> Result<(), Refusal> {
+    let cache = LruCache::<u32, u32>::new(5)?;
+    assert_eq!(*cache.get_or_init(&1, 3, |_| 1)?, 1);
+    assert_eq!(*cache.get_or_init(&2, 3, |_| 2)?, 2);
+    assert_eq!(*cache.get_or_init(&1, 3, |_| 3)?, 3);
+    Ok(())
+}
+
+#[test]
+fn advice_evict_takes_only_what_no_handle_has() -> Result<(), Refusal> {
+    let cache = LruCache::<u32, u32>::new(5)?;
+    let handle = cache.get_or_init(&1, 3, |_| 1)?;
+    cache.advice_evict(&1)?;
+    assert!(cache.get(&1)?.is_some());
+    drop(handle);
+    cache.advice_evict(&1)?;
+    assert!(cache.get(&1)?.is_none());
+    cache.advice_evict(&1)?;
+    assert_eq!(cache.total_charge(), 0);
+    Ok(())
+}
+
+/// Records its number when it is dropped.
+struct Recorded {
+    number: u32,
+    dropped: Arc<Mutex<Vec<u32>>>,
+}
+
+impl Drop for Recorded {
+    fn drop(&mut self) {
+        self.dropped.lock().unwrap().push(self.number);
+    }
+}
+
+/// A cache of capacity 2, and the values that were dropped.
+struct Recording {
+    cache: LruCache<u32, Recorded>,
+    dropped: Arc<Mutex<Vec<u32>>>,
+}
+
+impl Recording {
+    fn new() -> Result<Self, Refusal> {
+        Ok(Recording {
+            cache: LruCache::new(2)?,
+            dropped: Arc::default(),
+        })
+    }
+
+    fn make(
+        &self,
+        number: u32,
+    ) -> Result<concurrent_lru_proved::unsharded::CacheHandle<'_, u32, Recorded>, Refusal> {
+        self.cache.get_or_init(&number, 1, |&number| Recorded {
+            number,
+            dropped: self.dropped.clone(),
+        })
+    }
+
+    fn dropped(&self) -> Vec<u32> {
+        self.dropped.lock().unwrap().clone()
+    }
+}
+
+#[test]
+fn what_is_evicted_is_dropped_at_once() -> Result<(), Refusal> {
+    let recording = Recording::new()?;
+    for number in 1..=3 {
+        recording.make(number)?;
+    }
+    assert_eq!(recording.dropped(), [1]);
+    Ok(())
+}
+
+#[test]
+fn the_one_released_first_leaves_first() -> Result<(), Refusal> {
+    let recording = Recording::new()?;
+    for number in 1..=3 {
+        recording.make(number)?;
+    }
+    assert_eq!(recording.dropped(), [1]);
+    let pinned = recording.make(4)?;
+    assert_eq!(recording.dropped(), [1, 2]);
+    recording.make(5)?;
+    recording.make(6)?;
+    assert_eq!(recording.dropped(), [1, 2, 3, 5]);
+    drop(pinned);
+    assert_eq!(recording.dropped(), [1, 2, 3, 5]);
+    recording.make(7)?;
+    recording.make(8)?;
+    assert_eq!(recording.dropped(), [1, 2, 3, 5, 6, 4]);
+    Ok(())
+}
+
+#[test]
+fn a_failed_making_leaves_nothing() -> Result<(), GetError<()>> {
+    let cache = LruCache::<u32, u32>::new(10)?;
+    for key in [1, 2] {
+        cache.get_or_try_init(&key, 1, |&key| Ok::<_, ()>(key))?;
+        assert_eq!(cache.get(&key)?.as_deref(), Some(&key));
+    }
+    let failed = cache.get_or_try_init(&3, 1, |_| Err(())).err();
+    assert_eq!(failed, Some(GetError::Init(())));
+    assert!(cache.get(&3)?.is_none());
+    assert_eq!(cache.total_charge(), 2);
+    cache.get_or_try_init(&3, 1, |&key| Ok::<_, ()>(key))?;
+    assert_eq!(cache.get(&3)?.as_deref(), Some(&3));
+    Ok(())
+}
+
+#[test]
+fn a_panic_in_a_making_leaves_nothing() -> Result<(), Refusal> {
+    let cache = LruCache::<u32, u32>::new(10)?;
+    let caught = thread::scope(|scope| {
+        scope
+            .spawn(|| cache.get_or_init(&1, 1, |_| panic!("no value")).map(drop))
+            .join()
+    });
+    assert!(caught.is_err());
+    assert_eq!(cache.total_charge(), 0);
+    assert_eq!(*cache.get_or_init(&1, 1, |_| 7)?, 7);
+    Ok(())
+}
+
+/// Takes long to make and to drop.
+struct Slow;
+
+const LONG: Duration = Duration::from_millis(500);
+
+impl Slow {
+    fn new() -> Self {
+        thread::sleep(LONG);
+        Slow
+    }
+}
+
+impl Drop for Slow {
+    fn drop(&mut self) {
+        thread::sleep(LONG);
+    }
+}
+
+#[test]
+fn callers_of_one_key_wait_for_one_making() -> Result<(), Refusal> {
+    let cache = LruCache::<u32, _>::new(40)?;
+    let made = AtomicU64::new(0);
+    let start = Instant::now();
+    thread::scope(|scope| {
+        for _ in 0..20 {
+            scope.spawn(|| {
+                let handle = cache.get_or_init(&1, 10, |_| {
+                    made.fetch_add(1, Ordering::Relaxed);
+                    Slow::new()
+                });
+                assert!(handle.is_ok());
+            });
+        }
+    });
+    assert_eq!(made.into_inner(), 1);
+    assert!(start.elapsed() < LONG * 10);
+    Ok(())
+}
+
+#[test]
+fn other_keys_are_served_while_a_value_is_made_and_dropped() -> Result<(), Refusal> {
+    let cache = LruCache::<u32, Option<Slow>>::new(1)?;
+    cache.get_or_init(&1, 1, |_| None)?;
+    let making = Barrier::new(2);
+    thread::scope(|scope| {
+        scope.spawn(|| {
+            cache.get_or_init(&2, 1, |_| {
+                making.wait();
+                making.wait();
+                None
+            })
+        });
+        // The other thread cannot continue before these calls have returned.
+        making.wait();
+        assert!(cache.get(&2).is_ok_and(|handle| handle.is_none()));
+        assert!(cache.get_or_init(&3, 1, |_| None).is_ok());
+        making.wait();
+    });
+    Ok(())
+}
+
+#[test]
+fn one_that_waits_takes_a_failed_making_over() -> Result<(), Refusal> {
+    let cache = LruCache::<u32, u32>::new(10)?;
+    let making = Barrier::new(2);
+    thread::scope(|scope| {
+        let failing = scope.spawn(|| {
+            let failed = cache.get_or_try_init(&1, 1, |_| {
+                making.wait();
+                // Gives the other thread time to wait. If it comes later, it makes the value all
+                // the same.
+                thread::sleep(Duration::from_millis(50));
+                Err("no value")
+            });
+            failed.err()
+        });
+        making.wait();
+        let handle = cache.get_or_init(&1, 5, |_| 7);
+        assert_eq!(handle.as_deref(), Ok(&7));
+        assert_eq!(failing.join().unwrap(), Some(GetError::Init("no value")));
+    });
+    assert_eq!(cache.get(&1)?.as_deref(), Some(&7));
+    Ok(())
+}
+
+#[test]
+fn a_pinned_value_stays_above_the_capacity() -> Result<(), Refusal> {
+    let cache = LruCache::<u64, String>::new(1)?;
+    let large = cache.get_or_init(&1, 100, |key| format!("value {key}"))?;
+    let small = cache.get_or_init(&2, 1, |key| format!("value {key}"))?;
+    assert_eq!(cache.total_charge(), 101);
+    assert_eq!(
+        (large.value().as_str(), small.value().as_str()),
+        ("value 1", "value 2")
+    );
+    drop(large);
+    assert_eq!(cache.total_charge(), 1);
+    drop(small);
+    assert_eq!(cache.total_charge(), 1);
+    cache.prune();
+    assert_eq!(cache.total_charge(), 0);
+    Ok(())
+}
+
+#[test]
+fn a_capacity_is_set_at_any_time() -> Result<(), Refusal> {
+    let recording = Recording::new()?;
+    assert_eq!(recording.cache.capacity(), 2);
+    recording.cache.set_capacity(3);
+    for number in 1..=4 {
+        recording.make(number)?;
+    }
+    assert_eq!(recording.dropped(), [1]);
+    recording.cache.set_capacity(1);
+    assert_eq!(recording.dropped(), [1, 2, 3]);
+    assert_eq!(recording.cache.capacity(), 1);
+    Ok(())
+}
+
+#[test]
+fn refusals_have_names_and_change_nothing() -> Result<(), Refusal> {
+    let cache = LruCache::<u32, u32>::new(10)?;
+    cache.get_or_init(&1, 1, |_| 1)?;
+    let refused = cache.get_or_init(&2, 0, |_| 2).err();
+    assert_eq!(refused, Some(Refusal::ZeroCharge));
+    let refused = cache.get_or_init(&2, u64::MAX, |_| 2).err();
+    assert_eq!(refused, Some(Refusal::Overflow));
+    assert_eq!(cache.total_charge(), 1);
+    assert_eq!(cache.get(&1)?.as_deref(), Some(&1));
+    Ok(())
+}
+
+#[test]
+fn an_insert_replaces_whatever_is_there() -> Result<(), Refusal> {
+    let recording = Recording::new()?;
+    let put = |key: u32, number, charge| {
+        let dropped = recording.dropped.clone();
+        recording
+            .cache
+            .insert(&key, charge, Recorded { number, dropped })
+    };
+    put(1, 10, 1)?;
+    let held = put(1, 11, 1)?;
+    assert_eq!(recording.dropped(), [10]);
+    let fresh = put(1, 12, 1)?;
+    assert_eq!((held.number, fresh.number), (11, 12));
+    assert_eq!(recording.cache.get(&1)?.map(|value| value.number), Some(12));
+    assert_eq!(recording.cache.total_charge(), 2);
+    drop(held);
+    assert_eq!(recording.dropped(), [10, 11]);
+    assert_eq!(recording.cache.total_charge(), 1);
+    // Refused inserts leave the key its value.
+    assert_eq!(put(1, 13, 0).err(), Some(Refusal::ZeroCharge));
+    assert_eq!(put(1, 14, u64::MAX).err(), Some(Refusal::Overflow));
+    assert_eq!(recording.dropped(), [10, 11, 13, 14]);
+    drop(fresh);
+    assert_eq!(recording.cache.get(&1)?.map(|value| value.number), Some(12));
+    // This one evicts what is idle.
+    drop(put(2, 20, 2)?);
+    assert_eq!(recording.dropped(), [10, 11, 13, 14, 12]);
+    Ok(())
+}
+
+#[test]
+fn an_invalidate_takes_a_value_away() -> Result<(), Refusal> {
+    let cache = LruCache::<String, u32>::new(10)?;
+    cache.invalidate("a")?;
+    cache.insert("a", 3, 1)?;
+    cache.invalidate("a")?;
+    assert!(cache.get("a")?.is_none());
+    assert_eq!(cache.total_charge(), 0);
+    let held = cache.insert("a", 3, 1)?;
+    cache.invalidate("a")?;
+    assert!(cache.get("a")?.is_none());
+    assert_eq!((*held, cache.total_charge()), (1, 3));
+    assert_eq!(*cache.get_or_init("a", 4, |_| 2)?, 2);
+    assert_eq!(cache.total_charge(), 7);
+    drop(held);
+    assert_eq!(cache.get("a")?.as_deref(), Some(&2));
+    assert_eq!(cache.total_charge(), 4);
+    Ok(())
+}
+
+#[test]
+fn a_making_that_is_invalidated_is_not_waited_for() -> Result<(), Refusal> {
+    let cache = LruCache::<u32, u32>::new(10)?;
+    let making = Barrier::new(2);
+    thread::scope(|scope| {
+        let making_first = scope.spawn(|| {
+            let handle = cache.get_or_init(&1, 1, |_| {
+                making.wait();
+                making.wait();
+                1
+            });
+            handle.map(|value| *value)
+        });
+        making.wait();
+        assert_eq!(cache.invalidate(&1), Ok(()));
+        assert_eq!(cache.get_or_init(&1, 1, |_| 2).as_deref(), Ok(&2));
+        making.wait();
+        assert_eq!(making_first.join().unwrap(), Ok(1));
+    });
+    assert_eq!(cache.get(&1)?.as_deref(), Some(&2));
+    assert_eq!(cache.total_charge(), 1);
+    Ok(())
+}
+
+#[test]
+fn a_dropped_cache_drops_its_values() -> Result<(), Refusal> {
+    let recording = Recording::new()?;
+    let dropped = recording.dropped.clone();
+    for number in 1..=3 {
+        recording.make(number)?;
+    }
+    drop(recording);
+    assert_eq!(*dropped.lock().unwrap(), [1, 2, 3]);
+    Ok(())
+}
+
+#[test]
+fn a_forgotten_handle_keeps_its_entry_until_the_cache_goes() -> Result<(), Refusal> {
+    let recording = Recording::new()?;
+    let dropped = recording.dropped.clone();
+    std::mem::forget(recording.make(1)?);
+    recording.cache.prune();
+    assert_eq!(recording.cache.total_charge(), 1);
+    drop(recording);
+    assert_eq!(*dropped.lock().unwrap(), [1]);
+    Ok(())
+}
+
+#[test]
+fn a_drop_may_call_the_cache() -> Result<(), Refusal> {
+    struct Calls {
+        cache: std::sync::Weak<LruCache<u32, Calls>>,
+        total: Arc<AtomicU64>,
+    }
+
+    impl Drop for Calls {
+        fn drop(&mut self) {
+            if let Some(cache) = self.cache.upgrade() {
+                cache.prune();
+                self.total
+                    .fetch_add(1 + cache.total_charge(), Ordering::Relaxed);
+            }
+        }
+    }
+
+    let total = Arc::new(AtomicU64::new(0));
+    let cache = Arc::new(LruCache::<u32, _>::new(2)?);
+    for key in 0..4 {
+        cache.get_or_init(&key, 1, |_| Calls {
+            cache: Arc::downgrade(&cache),
+            total: total.clone(),
+        })?;
+    }
+    cache.prune();
+    // Each of the four was dropped, and its drop could lock the cache.
+    assert!(total.load(Ordering::Relaxed) >= 4);
+    assert_eq!(cache.total_charge(), 0);
+    Ok(())
+}
+
+#[test]
+fn a_panicking_drop_loses_no_other() -> Result<(), Refusal> {
+    struct Panics {
+        number: u32,
+        dropped: Arc<Mutex<Vec<u32>>>,
+    }
+
+    impl Drop for Panics {
+        fn drop(&mut self) {
+            self.dropped.lock().unwrap().push(self.number);
+            assert!(self.number != 2 || thread::panicking(), "the drop of 2");
+        }
+    }
+
+    let dropped: Arc<Mutex<Vec<u32>>> = Arc::default();
+    let cache = LruCache::<u32, Panics>::new(5)?;
+    for number in 1..=3 {
+        cache.get_or_init(&number, 1, |&number| Panics {
+            number,
+            dropped: dropped.clone(),
+        })?;
+    }
+    let caught = thread::scope(|scope| scope.spawn(|| cache.prune()).join());
+    assert!(caught.is_err());
+    assert_eq!(*dropped.lock().unwrap(), [1, 2, 3]);
+    // The cache still works.
+    assert_eq!(cache.total_charge(), 0);
+    assert!(cache.get(&1)?.is_none());
+    Ok(())
+}
+
+/// Adds its charge when it is dropped.
+struct Counted<'a> {
+    charge: u64,
+    dropped: &'a AtomicU64,
+}
+
+impl Drop for Counted<'_> {
+    fn drop(&mut self) {
+        self.dropped.fetch_add(self.charge, Ordering::Relaxed);
+    }
+}
+
+#[test]
+fn stress() -> Result<(), Refusal> {
+    const CAPACITY: u64 = 100;
+    let made = AtomicU64::new(0);
+    let dropped = AtomicU64::new(0);
+    let cache = LruCache::<u64, _>::new(CAPACITY)?;
+    thread::scope(|scope| {
+        for seed in 1..=8u64 {
+            let (cache, made, dropped) = (&cache, &made, &dropped);
+            scope.spawn(move || {
+                let mut random = seed;
+                for _ in 0..10_000 {
+                    random = random.wrapping_mul(6364136223846793005).wrapping_add(1);
+                    let key = (random >> 33) % 100;
+                    let charge = 1 + (random >> 40) % 4;
+                    let fails = (random >> 50) % 10 >= 8;
+                    let value = || {
+                        made.fetch_add(charge, Ordering::Relaxed);
+                        Counted { charge, dropped }
+                    };
+                    match (random >> 56) % 16 {
+                        0 => assert!(cache.invalidate(&key).is_ok()),
+                        1 => assert!(cache.insert(&key, charge, value()).is_ok()),
+                        _ => {
+                            let made = |_: &u64| if fails { Err(()) } else { Ok(value()) };
+                            let answer = cache.get_or_try_init(&key, charge, made);
+                            assert!(fails || answer.is_ok());
+                        }
+                    }
+                    if key % 10 == 0 {
+                        thread::yield_now();
+                    }
+                }
+            });
+        }
+    });
+    assert!(cache.total_charge() <= CAPACITY);
+    let kept = cache.total_charge();
+    assert_eq!(
+        made.load(Ordering::Relaxed),
+        kept + dropped.load(Ordering::Relaxed)
+    );
+    cache.prune();
+    assert_eq!(
+        made.load(Ordering::Relaxed),
+        dropped.load(Ordering::Relaxed)
+    );
+    Ok(())
+}
+
+#[test]
+fn keys_of_every_form() -> Result<(), Refusal> {
+    fn serves<K, Q>(one: &Q, other: &Q)
+    where
+        K: std::borrow::Borrow<Q>,
+        Q: concurrent_lru_proved::key::Key + ?Sized,
+        K: concurrent_lru_proved::key::Key<Form = Q::Form>,
+    {
+        let cache = LruCache::<K, &str>::new(10).unwrap();
+        cache.get_or_init(one, 1, |_| "one").unwrap();
+        assert!(cache.get(other).unwrap().is_none());
+        cache.get_or_init(other, 1, |_| "other").unwrap();
+        assert_eq!(cache.get(one).unwrap().as_deref(), Some(&"one"));
+        assert_eq!(cache.get(other).unwrap().as_deref(), Some(&"other"));
+    }
+
+    serves::<String, str>("", "a");
+    serves::<&str, str>("a", "a\0");
+    serves::<Vec<u8>, [u8]>(&[0], &[0, 0]);
+    serves::<[u8; 3], [u8; 3]>(&[1, 2, 3], &[3, 2, 1]);
+    serves::<std::ffi::OsString, std::ffi::OsStr>("a".as_ref(), "b".as_ref());
+    serves::<u8, u8>(&0, &255);
+    serves::<i8, i8>(&-1, &1);
+    serves::<i64, i64>(&i64::MIN, &0);
+    serves::<u128, u128>(&1, &(1 << 64));
+    serves::<i128, i128>(&-1, &(u64::MAX as i128));
+    serves::<char, char>(&'a', &'b');
+    serves::<bool, bool>(&false, &true);
+    serves::<(u64, u64), (u64, u64)>(&(0, 1), &(1, 0));
+    serves::<[u64; 2], [u64; 2]>(&[0, u64::MAX], &[u64::MAX, 0]);
+    Ok(())
+}
+
+#[test]
+fn caches_and_handles_cross_threads() -> Result<(), Refusal> {
+    let cache = LruCache::<u32, String>::new(2)?;
+    let handle = cache.get_or_init(&1, 1, |key| key.to_string())?;
+    thread::scope(|scope| {
+        scope.spawn(move || {
+            assert_eq!(handle.value(), "1");
+            drop(handle);
+        });
+    });
+    thread::spawn(move || assert_eq!(cache.total_charge(), 1))
+        .join()
+        .unwrap();
+    Ok(())
+}
+
+#[test]
+fn errors_say_what_happened() {
+    let told = |error: &dyn std::error::Error| error.to_string();
+    assert_eq!(
+        told(&Refusal::Memory),
+        "the cache could not allocate memory"
+    );
+    assert_eq!(
+        told(&GetError::Init(std::fmt::Error)),
+        "the value could not be made"
+    );
+}

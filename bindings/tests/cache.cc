@@ -1,0 +1,430 @@
+// Tests lru::Cache and lru::ShardedCache.
+#include <atomic>
+#include <chrono>
+#include <condition_variable>
+#include <cstdint>
+#include <memory>
+#include <mutex>
+#include <stdexcept>
+#include <string>
+#include <string_view>
+#include <thread>
+#include <type_traits>
+#include <utility>
+#include <vector>
+
+#include "check.hpp"
+#include "lru.hpp"
+
+namespace {
+
+using Numbers = lru::Cache<const int, lru::Words>;
+
+lru::Words key(std::uint64_t n) { return {0, n}; }
+
+auto returns(int number) {
+  return [number](lru::Words) { return number; };
+}
+
+static_assert(std::is_nothrow_move_constructible_v<Numbers::Handle>);
+static_assert(std::is_nothrow_move_assignable_v<Numbers::Handle>);
+static_assert(!std::is_copy_constructible_v<Numbers::Handle>);
+static_assert(!std::is_copy_assignable_v<Numbers::Handle>);
+static_assert(!std::is_move_constructible_v<Numbers>);
+static_assert(std::is_base_of_v<std::bad_alloc, lru::OutOfMemory>);
+static_assert(std::is_base_of_v<std::overflow_error, lru::Overflow>);
+static_assert(std::is_base_of_v<std::invalid_argument, lru::ZeroCharge>);
+
+void a_present_value_is_not_made_again() {
+  Numbers cache(10);
+  CHECK(*cache.get_or_init(key(1), 1, returns(1)) == 1);
+  CHECK(*cache.get_or_init(key(2), 1, returns(2)) == 2);
+  CHECK(*cache.get_or_init(key(1), 1, returns(3)) == 1);
+  CHECK(cache.total_charge() == 2);
+}
+
+void an_evicted_value_is_made_again() {
+  Numbers cache(5);
+  CHECK(*cache.get_or_init(key(1), 3, returns(1)) == 1);
+  CHECK(*cache.get_or_init(key(2), 3, returns(2)) == 2);
+  CHECK(*cache.get_or_init(key(1), 3, returns(3)) == 3);
+}
+
+void get_finds_what_is_ready() {
+  lru::Cache<std::string> cache(10);
+  CHECK(!cache.get("a"));
+  cache.get_or_init("a", 1, [](std::string_view k) { return std::string(k) + "!"; });
+  const auto found = cache.get("a");
+  CHECK(found && *found == "a!" && found->size() == 2);
+  CHECK(!cache.get(std::string_view("a\0", 2)));
+  CHECK(!cache.get(""));
+  *cache.get_or_init({}, 1, [](std::string_view) { return "the empty key"; }) += ".";
+  CHECK(*cache.get("") == "the empty key.");
+}
+
+void a_pinned_value_stays() {
+  Numbers cache(1);
+  auto large = cache.get_or_init(key(1), 100, returns(1));
+  auto small = cache.get_or_init(key(2), 1, returns(2));
+  cache.prune();
+  cache.advice_evict(key(1));
+  cache.set_capacity(0);
+  CHECK(cache.total_charge() == 101 && *large == 1 && *small == 2);
+  large.reset();
+  CHECK(!large && large.get() == nullptr);
+  CHECK(cache.total_charge() == 1);
+  small.reset();
+  CHECK(cache.total_charge() == 0);
+}
+
+void handles_move() {
+  Numbers cache(0);
+  Numbers::Handle none;
+  CHECK(!none && none.get() == nullptr);
+  Numbers::Handle one = cache.get_or_init(key(1), 1, returns(1));
+  Numbers::Handle moved = std::move(one);
+  CHECK(moved && *moved == 1);
+  Numbers::Handle other = cache.get_or_init(key(2), 1, returns(2));
+  CHECK(cache.total_charge() == 2);
+  // The assignment releases 2, which a cache of capacity 0 evicts.
+  other = std::move(moved);
+  CHECK(*other == 1 && cache.total_charge() == 1);
+  Numbers::Handle& same = other;
+  other = std::move(same);
+  CHECK(other && *other == 1 && cache.total_charge() == 1);
+  swap(other, none);
+  CHECK(!other && *none == 1);
+  std::vector<Numbers::Handle> all;
+  all.push_back(std::move(none));
+  all.push_back(cache.get(key(1)));
+  all.erase(all.begin());
+  CHECK(cache.total_charge() == 1);
+  all.clear();
+  CHECK(cache.total_charge() == 0);
+}
+
+void an_init_that_throws_leaves_nothing() {
+  Numbers cache(10);
+  cache.get_or_init(key(1), 6, returns(1));
+  bool thrown = false;
+  try {
+    cache.get_or_init(key(2), 5, [](lru::Words) -> int { throw std::runtime_error("no value"); });
+  } catch (const std::runtime_error& error) {
+    thrown = std::string_view(error.what()) == "no value";
+  }
+  CHECK(thrown);
+  CHECK(!cache.get(key(2)));
+  // 1 was evicted before `init` ran.
+  CHECK(!cache.get(key(1)) && cache.total_charge() == 0);
+  CHECK(*cache.get_or_init(key(2), 1, returns(7)) == 7);
+}
+
+void refusals_are_exceptions() {
+  Numbers cache(10);
+  cache.get_or_init(key(1), 1, returns(1));
+  bool zero = false, overflow = false, ran = false;
+  const auto runs = [&ran](lru::Words) { return ran = true, 2; };
+  try {
+    cache.get_or_init(key(2), 0, runs);
+  } catch (const lru::ZeroCharge&) {
+    zero = true;
+  }
+  try {
+    cache.get_or_init(key(2), UINT64_MAX, runs);
+  } catch (const lru::Overflow&) {
+    overflow = true;
+  }
+  CHECK(zero && overflow && !ran);
+  CHECK(cache.total_charge() == 1 && cache.get(key(1)));
+  bool no_shards = false;
+  try {
+    lru::ShardedCache<int> none(10, 0);
+  } catch (const std::invalid_argument&) {
+    no_shards = true;
+  }
+  CHECK(no_shards);
+}
+
+// Records that it was deleted, and calls the cache.
+struct Calling {
+  using Cache = lru::Cache<Calling, lru::Words>;
+
+  Calling(Cache* c, std::vector<int>* d, int n) : cache(c), deleted(d), number(n) {}
+  // What was moved from is not recorded.
+  Calling(Calling&& from) noexcept
+      : cache(from.cache), deleted(std::exchange(from.deleted, nullptr)), number(from.number) {}
+  ~Calling() {
+    if (deleted == nullptr) return;
+    deleted->push_back(number);
+    if (cache != nullptr) cache->prune();
+  }
+
+  Calling(const Calling&) = delete;
+  Calling& operator=(const Calling&) = delete;
+
+  Cache* cache;
+  std::vector<int>* deleted;
+  int number;
+};
+
+void an_insert_replaces_whatever_is_there() {
+  std::vector<int> deleted;
+  {
+    Calling::Cache cache(10);
+    const auto insert = [&](int number) {
+      return cache.insert(key(1), 2, Calling(nullptr, &deleted, number));
+    };
+    insert(1);
+    CHECK(cache.get(key(1))->number == 1 && cache.total_charge() == 2);
+    auto held = insert(2);
+    CHECK((deleted == std::vector<int>{1}));
+    const auto fresh = insert(3);
+    CHECK(held->number == 2 && fresh->number == 3 && cache.get(key(1))->number == 3);
+    CHECK(cache.total_charge() == 4);
+    held.reset();
+    CHECK((deleted == std::vector<int>{1, 2}) && cache.total_charge() == 2);
+  }
+  CHECK((deleted == std::vector<int>{1, 2, 3}));
+
+  // A refused insert leaves the key its value.
+  lru::Cache<std::unique_ptr<int>> owners(10);
+  const auto one = owners.insert("a", 1, std::make_unique<int>(1));
+  bool zero = false, overflow = false;
+  try {
+    owners.insert("a", 0, std::make_unique<int>(2));
+  } catch (const lru::ZeroCharge&) {
+    zero = true;
+  }
+  try {
+    owners.insert("a", UINT64_MAX, std::make_unique<int>(3));
+  } catch (const lru::Overflow&) {
+    overflow = true;
+  }
+  CHECK(zero && overflow && **owners.get("a") == 1 && owners.total_charge() == 1);
+}
+
+void an_invalidate_takes_a_value_away() {
+  Numbers cache(10);
+  cache.invalidate(key(1));
+  cache.insert(key(1), 3, 1);
+  cache.invalidate(key(1));
+  CHECK(!cache.get(key(1)) && cache.total_charge() == 0);
+  auto held = cache.insert(key(1), 3, 1);
+  cache.invalidate(key(1));
+  CHECK(!cache.get(key(1)) && *held == 1 && cache.total_charge() == 3);
+  CHECK(*cache.get_or_init(key(1), 4, returns(2)) == 2 && cache.total_charge() == 7);
+  held.reset();
+  CHECK(*cache.get(key(1)) == 2 && cache.total_charge() == 4);
+}
+
+// A barrier for two threads.
+class Meeting {
+ public:
+  void meet() {
+    std::unique_lock<std::mutex> lock(mutex_);
+    arrived_++;
+    const int round = (arrived_ + 1) / 2;
+    changed_.notify_all();
+    changed_.wait(lock, [&] { return arrived_ >= 2 * round; });
+  }
+
+ private:
+  std::mutex mutex_;
+  std::condition_variable changed_;
+  int arrived_ = 0;
+};
+
+void a_making_that_is_invalidated_is_not_waited_for() {
+  Numbers cache(10);
+  Meeting meeting;
+  std::thread making([&] {
+    const auto handle = cache.get_or_init(key(1), 1, [&](lru::Words) {
+      meeting.meet();
+      meeting.meet();
+      return 1;
+    });
+    CHECK(*handle == 1);
+  });
+  meeting.meet();
+  cache.invalidate(key(1));
+  // The value that is being made is no longer the key's, so this one does not wait for it.
+  CHECK(*cache.get_or_init(key(1), 2, returns(2)) == 2);
+  CHECK(cache.total_charge() == 3);
+  meeting.meet();
+  making.join();
+  CHECK(*cache.get(key(1)) == 2 && cache.total_charge() == 2);
+}
+
+void others_wait_for_one_making() {
+  Numbers cache(10);
+  std::atomic<int> made{0};
+  std::vector<std::thread> threads;
+  std::atomic<int> right{0};
+  for (int t = 0; t < 8; t++) {
+    threads.emplace_back([&] {
+      const auto handle = cache.get_or_init(key(1), 1, [&](lru::Words) {
+        std::this_thread::sleep_for(std::chrono::milliseconds(50));
+        return ++made;
+      });
+      if (*handle == 1) right++;
+    });
+  }
+  for (std::thread& thread : threads) thread.join();
+  CHECK(made == 1 && right == 8);
+}
+
+void one_that_waits_takes_a_failed_making_over() {
+  Numbers cache(10);
+  Meeting meeting;
+  bool thrown = false;
+  std::thread failing([&] {
+    try {
+      cache.get_or_init(key(1), 1, [&](lru::Words) -> int {
+        meeting.meet();
+        // Gives the other thread time to wait. If it comes later, it makes the value all the same.
+        std::this_thread::sleep_for(std::chrono::milliseconds(50));
+        throw std::runtime_error("no value");
+      });
+    } catch (const std::runtime_error&) {
+      thrown = true;
+    }
+  });
+  meeting.meet();
+  CHECK(*cache.get_or_init(key(1), 5, returns(7)) == 7);
+  failing.join();
+  CHECK(thrown);
+  CHECK(*cache.get(key(1)) == 7);
+}
+
+void other_keys_are_served_while_a_value_is_made() {
+  Numbers cache(2);
+  Meeting meeting;
+  std::thread making([&] {
+    cache.get_or_init(key(1), 1, [&](lru::Words) {
+      meeting.meet();
+      meeting.meet();
+      return 1;
+    });
+  });
+  // The other thread cannot continue before these calls have returned.
+  meeting.meet();
+  CHECK(!cache.get(key(1)));
+  CHECK(*cache.get_or_init(key(2), 1, returns(2)) == 2);
+  CHECK(cache.total_charge() == 2);
+  meeting.meet();
+  making.join();
+}
+
+void a_destructor_may_call_the_cache() {
+  std::vector<int> deleted;
+  Calling::Cache cache(2);
+  const auto make = [&](int number) {
+    cache.get_or_init(key(static_cast<std::uint64_t>(number)), 1,
+                      [&](lru::Words) { return Calling(&cache, &deleted, number); });
+  };
+  make(1);
+  make(2);
+  // This evicts 1, whose destructor evicts 2.
+  make(3);
+  CHECK((deleted == std::vector<int>{1, 2}));
+  cache.prune();
+  CHECK((deleted == std::vector<int>{1, 2, 3}));
+}
+
+void a_cache_deletes_what_is_left_oldest_release_first() {
+  std::vector<int> deleted;
+  {
+    Calling::Cache cache(2);
+    const auto make = [&](int number) {
+      return cache.get_or_init(key(static_cast<std::uint64_t>(number)), 1,
+                               [&](lru::Words) { return Calling(nullptr, &deleted, number); });
+    };
+    for (int number = 1; number <= 3; number++) make(number);
+    CHECK((deleted == std::vector<int>{1}));
+    auto pinned = make(4);
+    make(5);
+    make(6);
+    CHECK((deleted == std::vector<int>{1, 2, 3, 5}));
+    pinned.reset();
+    make(7);
+    make(8);
+    CHECK((deleted == std::vector<int>{1, 2, 3, 5, 6, 4}));
+  }
+  CHECK(deleted.size() == 8);
+}
+
+void a_capacity_is_set_at_any_time() {
+  Numbers cache(3);
+  CHECK(cache.capacity() == 3);
+  for (int n = 1; n <= 3; n++) cache.get_or_init(key(static_cast<std::uint64_t>(n)), 1, returns(n));
+  cache.set_capacity(1);
+  CHECK(cache.capacity() == 1 && cache.total_charge() == 1);
+  CHECK(!cache.get(key(2)) && cache.get(key(3)));
+}
+
+// The hash of a key is its second word.
+struct BySecond {
+  std::size_t operator()(lru::Words k) const { return static_cast<std::size_t>(k.second); }
+};
+
+void shards_have_equal_shares() {
+  using Sharded = lru::ShardedCache<const int, lru::Words, BySecond>;
+  CHECK(Sharded(10, 3).capacity() == 12);
+  CHECK(Sharded(UINT64_MAX, 2).capacity() == UINT64_MAX);
+  Sharded cache(4, 2);
+  for (int n = 0; n <= 4; n++) {
+    cache.get_or_init(key(static_cast<std::uint64_t>(n)), 1, returns(n));
+  }
+  // The shard of the even keys has room for two.
+  CHECK(!cache.get(key(0)) && cache.get(key(1)) && cache.get(key(2)) && cache.get(key(3)));
+  CHECK(*cache.get(key(4)) == 4 && cache.total_charge() == 4);
+  cache.advice_evict(key(1));
+  CHECK(!cache.get(key(1)) && cache.total_charge() == 3);
+  cache.set_capacity(2);
+  CHECK(cache.capacity() == 2 && cache.total_charge() == 2);
+  const Sharded::Handle held = cache.get(key(3));
+  cache.prune();
+  CHECK(cache.total_charge() == 1 && *held == 3);
+  lru::ShardedCache<std::string> texts(100);
+  for (const char* text : {"one", "two", "three"}) {
+    texts.get_or_init(text, 1, [](std::string_view k) { return std::string(k); });
+  }
+  CHECK(texts.total_charge() == 3 && *texts.get("two") == "two");
+  CHECK(*texts.insert("two", 2, "2") == "2" && texts.total_charge() == 4);
+  texts.invalidate("one");
+  CHECK(!texts.get("one") && *texts.get("two") == "2" && texts.total_charge() == 3);
+}
+
+void values_may_be_move_only_or_neither() {
+  lru::Cache<std::unique_ptr<int>> owners(10);
+  const auto owner = owners.get_or_init("1", 1, [](std::string_view) { return new int(1); });
+  CHECK(**owner == 1);
+  lru::Cache<std::atomic<int>> counters(10);
+  const auto counter = counters.get_or_init("1", 1, [](std::string_view) { return 5; });
+  CHECK(++*counter == 6 && *counters.get("1") == 6);
+}
+
+}  // namespace
+
+int main() {
+  a_present_value_is_not_made_again();
+  an_evicted_value_is_made_again();
+  get_finds_what_is_ready();
+  a_pinned_value_stays();
+  handles_move();
+  an_init_that_throws_leaves_nothing();
+  refusals_are_exceptions();
+  an_insert_replaces_whatever_is_there();
+  an_invalidate_takes_a_value_away();
+  a_making_that_is_invalidated_is_not_waited_for();
+  others_wait_for_one_making();
+  one_that_waits_takes_a_failed_making_over();
+  other_keys_are_served_while_a_value_is_made();
+  a_destructor_may_call_the_cache();
+  a_cache_deletes_what_is_left_oldest_release_first();
+  a_capacity_is_set_at_any_time();
+  shards_have_equal_shares();
+  values_may_be_move_only_or_neither();
+  std::printf("lru.hpp: 18 tests, %d checks failed\n", failed_checks);
+  return failed_checks == 0 ? 0 : 1;
+}

@@ -1,0 +1,194 @@
+// Reads a database of 20,000 keys with this block cache and with LevelDB's own, at three
+// capacities. All answers must be equal, and the numbers of hits and insertions and the total
+// charge at the end. Prints these numbers, and exits with 1 if something differs.
+#include <cstdint>
+#include <cstdio>
+#include <cstdlib>
+#include <memory>
+#include <string>
+#include <vector>
+
+#include "leveldb/cache.h"
+#include "leveldb/db.h"
+#include "leveldb/options.h"
+#include "leveldb_cache.h"
+
+namespace {
+
+constexpr std::uint64_t kKeys = 20000;
+constexpr std::uint64_t kReads = 60000;
+
+std::uint64_t Mix(std::uint64_t x) {
+  x += 0x9e3779b97f4a7c15u;
+  x = (x ^ (x >> 30)) * 0xbf58476d1ce4e5b9u;
+  x = (x ^ (x >> 27)) * 0x94d049bb133111ebu;
+  return x ^ (x >> 31);
+}
+
+std::string KeyOf(std::uint64_t n) {
+  char text[24];
+  std::snprintf(text, sizeof text, "%016llu", static_cast<unsigned long long>(n));
+  return text;
+}
+
+// 300 bytes that compress well: LevelDB does not cache blocks that it stored uncompressed.
+std::string ValueOf(std::uint64_t n) {
+  std::string value;
+  for (std::uint64_t i = 0; i < 6; i++) {
+    const std::uint64_t word = Mix(n * 8 + i);
+    value.append(reinterpret_cast<const char*>(&word), sizeof word);
+  }
+  value.append(300 - value.size(), 'v');
+  return value;
+}
+
+// Counts the calls of a cache, for one thread.
+class Counting : public leveldb::Cache {
+ public:
+  explicit Counting(leveldb::Cache* cache) : cache_(cache) {}
+
+  Handle* Insert(const leveldb::Slice& key, void* value, std::size_t charge,
+                 void (*deleter)(const leveldb::Slice&, void*)) override {
+    inserts++;
+    return cache_->Insert(key, value, charge, deleter);
+  }
+  Handle* Lookup(const leveldb::Slice& key) override {
+    lookups++;
+    Handle* handle = cache_->Lookup(key);
+    if (handle != nullptr) hits++;
+    return handle;
+  }
+  void Release(Handle* handle) override { cache_->Release(handle); }
+  void* Value(Handle* handle) override { return cache_->Value(handle); }
+  void Erase(const leveldb::Slice& key) override { cache_->Erase(key); }
+  std::uint64_t NewId() override { return cache_->NewId(); }
+  void Prune() override { cache_->Prune(); }
+  std::size_t TotalCharge() const override { return cache_->TotalCharge(); }
+
+  std::uint64_t lookups = 0;
+  std::uint64_t hits = 0;
+  std::uint64_t inserts = 0;
+
+ private:
+  std::unique_ptr<leveldb::Cache> cache_;
+};
+
+void Check(const leveldb::Status& status) {
+  if (status.ok()) return;
+  std::fprintf(stderr, "%s\n", status.ToString().c_str());
+  std::exit(2);
+}
+
+std::unique_ptr<leveldb::DB> Open(const std::string& path, leveldb::Cache* cache, bool create) {
+  leveldb::Options options;
+  options.create_if_missing = create;
+  options.block_cache = cache;
+  leveldb::DB* db = nullptr;
+  Check(leveldb::DB::Open(options, path, &db));
+  return std::unique_ptr<leveldb::DB>(db);
+}
+
+void Fill(const std::string& path) {
+  const std::unique_ptr<leveldb::Cache> cache(leveldb::NewLRUCache(1 << 20));
+  const std::unique_ptr<leveldb::DB> db = Open(path, cache.get(), true);
+  for (std::uint64_t i = 0; i < kKeys; i++) {
+    const std::uint64_t n = i * 7919 % kKeys;
+    Check(db->Put(leveldb::WriteOptions(), KeyOf(n), ValueOf(n)));
+  }
+  db->CompactRange(nullptr, nullptr);
+}
+
+// The key that a read asks for. Nine of ten are from a tenth of the keys, and one in fifty does not
+// exist.
+std::uint64_t Asked(std::uint64_t read) {
+  const std::uint64_t x = Mix(read);
+  if (x % 50 == 0) return kKeys + x % kKeys;
+  return (x >> 8) % 10 != 0 ? (x >> 16) % (kKeys / 10) * 10 : (x >> 16) % kKeys;
+}
+
+struct Outcome {
+  std::vector<std::string> answers;
+  std::uint64_t lookups, hits, inserts;
+  std::size_t total_charge;
+  std::uint64_t wrong;
+};
+
+// Random reads, with a scan of all keys halfway.
+Outcome Read(const std::string& path, leveldb::Cache* cache) {
+  Counting counting(cache);
+  Outcome outcome = {};
+  {
+    const std::unique_ptr<leveldb::DB> db = Open(path, &counting, false);
+    for (std::uint64_t read = 0; read < kReads; read++) {
+      if (read == kReads / 2) {
+        const std::unique_ptr<leveldb::Iterator> all(db->NewIterator(leveldb::ReadOptions()));
+        std::uint64_t n = 0;
+        for (all->SeekToFirst(); all->Valid(); all->Next(), n++) {
+          if (all->key() != KeyOf(n) || all->value() != ValueOf(n)) outcome.wrong++;
+        }
+        if (n != kKeys) outcome.wrong++;
+      }
+      const std::uint64_t n = Asked(read);
+      std::string value;
+      const leveldb::Status status = db->Get(leveldb::ReadOptions(), KeyOf(n), &value);
+      if (!status.IsNotFound()) Check(status);
+      if (status.IsNotFound() ? n < kKeys : value != ValueOf(n)) outcome.wrong++;
+      outcome.answers.push_back(status.IsNotFound() ? "none" : value);
+    }
+    outcome.lookups = counting.lookups;
+    outcome.hits = counting.hits;
+    outcome.inserts = counting.inserts;
+    outcome.total_charge = counting.TotalCharge();
+  }
+  return outcome;
+}
+
+unsigned long long Number(std::uint64_t n) { return n; }
+
+void Print(const char* name, const Outcome& outcome) {
+  std::printf("  %-18s %llu of %llu look-ups hit, %llu insertions, charge %zu, %llu wrong\n", name,
+              Number(outcome.hits), Number(outcome.lookups), Number(outcome.inserts),
+              outcome.total_charge, Number(outcome.wrong));
+}
+
+// Whether a cache gave what LevelDB's own gave. If there were only hits, or only misses, equal
+// numbers would mean nothing.
+bool IsAs(const Outcome& own, const Outcome& proved) {
+  return own.answers == proved.answers && own.lookups == proved.lookups &&
+         own.hits == proved.hits && own.inserts == proved.inserts &&
+         own.total_charge == proved.total_charge && own.wrong == 0 && proved.wrong == 0 &&
+         proved.hits > 0 && proved.inserts > 0;
+}
+
+}  // namespace
+
+int main(int argc, char** argv) {
+  if (argc != 2) {
+    std::fprintf(stderr, "usage: leveldb FOLDER, where FOLDER does not exist yet\n");
+    return 2;
+  }
+  const std::string path = argv[1];
+  Fill(path);
+  bool good = true;
+  std::string hits;
+  for (const std::size_t kibibytes : {256u, 1024u, 8192u}) {
+    const std::size_t capacity = kibibytes << 10;
+    const Outcome own = Read(path, leveldb::NewLRUCache(capacity));
+    const Outcome blocks = Read(path, lru::NewLevelDBBlockCache(capacity));
+    const Outcome any = Read(path, lru::NewLevelDBCache(capacity));
+    if (!IsAs(own, blocks) || !IsAs(own, any)) {
+      good = false;
+      std::printf("%zu KiB: the answers of LevelDBBlockCache are %s, of LevelDBCache %s\n",
+                  kibibytes, own.answers == blocks.answers ? "equal" : "not equal",
+                  own.answers == any.answers ? "equal" : "not equal");
+      Print("LevelDB's own:", own);
+      Print("LevelDBBlockCache:", blocks);
+      Print("LevelDBCache:", any);
+    }
+    if (!hits.empty()) hits += ", ";
+    hits += std::to_string(own.hits) + " at " + std::to_string(kibibytes) + " KiB";
+  }
+  std::printf("leveldb: %llu keys, %llu reads and a scan; hits %s: %s\n", Number(kKeys),
+              Number(kReads), hits.c_str(), good ? "equal to LevelDB's own cache" : "NOT EQUAL");
+  return good ? 0 : 1;
+}

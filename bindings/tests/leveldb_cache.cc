@@ -1,0 +1,423 @@
+// Tests lru::LevelDBCache: what it has in common with LevelDB's own cache, on which these tests run
+// too; where it differs, as its header says; and threads, with each object deleted exactly once.
+#include "leveldb_cache.h"
+
+#include <algorithm>
+#include <atomic>
+#include <cstddef>
+#include <cstdint>
+#include <cstdio>
+#include <cstring>
+#include <functional>
+#include <memory>
+#include <string>
+#include <thread>
+#include <utility>
+#include <vector>
+
+#include "check.hpp"
+#include "leveldb/cache.h"
+
+namespace {
+
+using leveldb::Slice;
+using Handle = leveldb::Cache::Handle;
+
+// A cache, with keys of 16 bytes if it needs them: short names are padded by zeros.
+class Tested {
+ public:
+  Tested(leveldb::Cache* cache, bool pads) : cache_(cache), pads_(pads) {}
+
+  leveldb::Cache* operator->() const { return cache_.get(); }
+
+  std::string Key(std::string name) const {
+    if (pads_) name.resize(16);
+    return name;
+  }
+
+  Handle* Insert(const std::string& name, const std::string& value, std::size_t charge = 1) const {
+    return cache_->Insert(Key(name), new std::string(value), charge, Delete);
+  }
+
+  void Put(const std::string& name, const std::string& value, std::size_t charge = 1) const {
+    cache_->Release(Insert(name, value, charge));
+  }
+
+  Handle* Lookup(const std::string& name) const { return cache_->Lookup(Key(name)); }
+
+  void Erase(const std::string& name) const { cache_->Erase(Key(name)); }
+
+  std::string ValueOf(Handle* handle) const {
+    return *static_cast<std::string*>(cache_->Value(handle));
+  }
+
+  // The value of a key, or "none".
+  std::string Get(const std::string& name) const {
+    Handle* handle = Lookup(name);
+    if (handle == nullptr) return "none";
+    std::string value = ValueOf(handle);
+    cache_->Release(handle);
+    return value;
+  }
+
+  // The objects deleted since the last call, each as "key=value ".
+  static std::string Deleted() { return std::exchange(deleted_, ""); }
+
+ private:
+  static void Delete(const Slice& key, void* value) {
+    // Without the padding.
+    deleted_ += key.ToString().c_str() + ("=" + *static_cast<std::string*>(value)) + " ";
+    delete static_cast<std::string*>(value);
+  }
+
+  static inline std::string deleted_;
+
+  std::unique_ptr<leveldb::Cache> cache_;
+  bool pads_;
+};
+
+using NewCache = Tested (*)(std::size_t);
+
+Tested Own(std::size_t capacity) { return Tested(leveldb::NewLRUCache(capacity), false); }
+Tested Any(std::size_t capacity) { return Tested(lru::NewLevelDBCache(capacity), false); }
+Tested Blocks(std::size_t capacity) { return Tested(lru::NewLevelDBBlockCache(capacity), true); }
+
+// Tests that LevelDB's own cache passes too.
+
+void HitsAndMisses(NewCache new_cache) {
+  const Tested cache = new_cache(1000);
+  CHECK(cache.Get("a") == "none");
+  cache.Put("a", "1");
+  cache.Put("", "empty");
+  cache.Put("a longer key", "2", 5);
+  CHECK(cache.Get("a") == "1" && cache.Get("") == "empty" && cache.Get("a longer key") == "2");
+  CHECK(cache->TotalCharge() == 7);
+  cache.Put("a", "3");
+  CHECK(cache.Get("a") == "3" && cache.Deleted() == "a=1 ");
+  CHECK(cache->TotalCharge() == 7);
+  cache.Erase("a");
+  cache.Erase("a");
+  CHECK(cache.Get("a") == "none" && cache.Deleted() == "a=3 ");
+  const std::uint64_t id = cache->NewId();
+  CHECK(cache->NewId() != id);
+  Handle* held = cache.Lookup("");
+  cache->Prune();
+  CHECK(cache.Deleted() == "a longer key=2 ");
+  CHECK(cache.ValueOf(held) == "empty" && cache->TotalCharge() == 1);
+  cache->Release(held);
+  CHECK(cache.Get("") == "empty");
+}
+
+void EvictsByLastRelease(NewCache new_cache) {
+  const Tested cache = new_cache(1600);
+  cache.Put("first", "1");
+  cache.Put("used", "2");
+  Handle* held = cache.Insert("held", "3");
+  for (int n = 0; n < 3000; n++) {
+    cache.Put("key" + std::to_string(n), "x");
+    CHECK(cache.Get("used") == "2");
+  }
+  CHECK(cache.Get("first") == "none");
+  CHECK(cache.ValueOf(held) == "3" && cache.Get("held") == "3");
+  cache->Release(held);
+}
+
+void ErasesWhatIsHeld(NewCache new_cache) {
+  const Tested cache = new_cache(1000);
+  Handle* one = cache.Insert("a", "1");
+  Handle* two = cache.Lookup("a");
+  cache.Erase("a");
+  CHECK(cache.Get("a") == "none" && cache.Deleted().empty());
+  CHECK(cache.ValueOf(one) == "1" && cache.ValueOf(two) == "1");
+  cache->Release(one);
+  CHECK(cache.Deleted().empty());
+  cache->Release(two);
+  CHECK(cache.Deleted() == "a=1 " && cache->TotalCharge() == 0);
+  cache.Put("a", "2");
+  CHECK(cache.Get("a") == "2");
+}
+
+void ReplacesWhatIsHeld(NewCache new_cache) {
+  const Tested cache = new_cache(1000);
+  Handle* old = cache.Insert("a", "1");
+  Handle* fresh = cache.Insert("a", "2");
+  CHECK(cache.ValueOf(old) == "1" && cache.ValueOf(fresh) == "2" && cache.Get("a") == "2");
+  cache->Release(old);
+  CHECK(cache.Deleted() == "a=1 " && cache.Get("a") == "2" && cache->TotalCharge() == 1);
+  cache->Release(fresh);
+  CHECK(cache.Deleted().empty() && cache.Get("a") == "2");
+}
+
+// Tests for this cache only.
+
+void ChargesWhatIsHeld(NewCache new_cache) {
+  const Tested cache = new_cache(1000);
+  Handle* old = cache.Insert("a", "1", 3);
+  Handle* fresh = cache.Insert("a", "2", 4);
+  CHECK(cache->TotalCharge() == 7);
+  cache.Erase("a");
+  CHECK(cache.Get("a") == "none" && cache->TotalCharge() == 7);
+  cache->Release(old);
+  CHECK(cache.Deleted() == "a=1 " && cache->TotalCharge() == 4);
+  cache.Put("a", "3", 5);
+  cache->Release(fresh);
+  CHECK(cache.Deleted() == "a=2 " && cache.Get("a") == "3" && cache->TotalCharge() == 5);
+}
+
+void FindsWhatIsHeldAtCapacity0(NewCache new_cache) {
+  const Tested cache = new_cache(0);
+  Handle* held = cache.Insert("a", "1");
+  CHECK(cache.Get("a") == "1");
+  cache->Release(held);
+  CHECK(cache.Get("a") == "none" && cache.Deleted() == "a=1 ");
+}
+
+// An entry that is refused is not cached, and replaces the old one all the same.
+void ReplacesWhereItIsRefused(NewCache new_cache) {
+  const Tested cache = new_cache(1000);
+  Handle* old = cache.Insert("a", "1");
+  Handle* fresh = cache.Insert("a", "2", SIZE_MAX);
+  CHECK(cache.ValueOf(fresh) == "2" && cache.Get("a") == "none");
+  cache->Release(fresh);
+  CHECK(cache.Deleted() == "a=2 " && cache.ValueOf(old) == "1");
+  cache->Release(old);
+  CHECK(cache.Deleted() == "a=1 " && cache->TotalCharge() == 0);
+}
+
+void EvictsAtReleases(NewCache new_cache) {
+  const Tested cache = new_cache(16);
+  Handle* large = cache.Insert("a", "1", 100);
+  CHECK(cache.Get("a") == "1" && cache->TotalCharge() == 100);
+  cache->Release(large);
+  CHECK(cache.Deleted() == "a=1 " && cache->TotalCharge() == 0);
+  cache.Put("b", "2", 0);
+  CHECK(cache->TotalCharge() == 1);
+}
+
+void DeletesWhatIsLeft(NewCache new_cache) {
+  {
+    const Tested cache = new_cache(1000);
+    cache.Put("a", "1");
+    cache.Insert("b", "2");
+  }
+  const std::string all = Tested::Deleted();
+  CHECK(all == "a=1 b=2 " || all == "b=2 a=1 ");
+}
+
+// Deleters run without the mutex, so they may call the cache.
+void DeletersMayCall(NewCache new_cache) {
+  struct Caller {
+    const Tested* cache;
+    int calls;
+  };
+  const Tested cache = new_cache(1000);
+  Caller caller = {&cache, 0};
+  const auto call = [](const Slice&, void* value) {
+    auto* c = static_cast<Caller*>(value);
+    c->cache->Erase("b");
+    c->calls += (*c->cache)->TotalCharge() == 0;
+  };
+  cache->Release(cache->Insert(cache.Key("a"), &caller, 1, call));
+  cache.Put("b", "1");
+  cache.Erase("a");
+  CHECK(caller.calls == 1 && cache.Deleted() == "b=1 ");
+}
+
+// A cache of blocks returns entries of other keys, and does not cache them.
+void CachesBlocksOnly() {
+  const Tested cache(lru::NewLevelDBBlockCache(1000), false);
+  Handle* handle = cache.Insert("a", "1");
+  CHECK(cache.ValueOf(handle) == "1" && cache.Get("a") == "none" && cache->TotalCharge() == 0);
+  cache.Erase("a");
+  cache->Release(handle);
+  CHECK(cache.Deleted() == "a=1 ");
+}
+
+void Common(NewCache new_cache) {
+  for (const auto test :
+       {HitsAndMisses, EvictsByLastRelease, ErasesWhatIsHeld, ReplacesWhatIsHeld}) {
+    test(new_cache);
+    Tested::Deleted();
+  }
+}
+
+void Differences(NewCache new_cache) {
+  for (const auto test : {ChargesWhatIsHeld, FindsWhatIsHeldAtCapacity0, ReplacesWhereItIsRefused,
+                          EvictsAtReleases, DeletesWhatIsLeft, DeletersMayCall}) {
+    test(new_cache);
+    Tested::Deleted();
+  }
+}
+
+// Random calls on LevelDB's own cache and on another one, whose answers and deletions must be the
+// same. What is pinned at one time fits into a shard, and is not erased or replaced, so the
+// differences do not show.
+class SameAsOwn {
+ public:
+  explicit SameAsOwn(NewCache new_cache) : caches_{Own(kCapacity), new_cache(kCapacity)} {}
+
+  void Run(std::uint64_t seed) {
+    random_ = seed;
+    for (int call = 0; call < 20000; call++) {
+      Call();
+      CHECK(caches_[0]->TotalCharge() == caches_[1]->TotalCharge());
+    }
+    for (auto& [name, handles] : held_) Release(handles);
+    CHECK(deleted_ > 1000);
+  }
+
+ private:
+  static constexpr std::size_t kCapacity = 16 * 12;
+  using Pair = std::pair<Handle*, Handle*>;
+
+  std::uint64_t Below(std::uint64_t end) {
+    random_ = random_ * 6364136223846793005u + 1442695040888963407u;
+    return (random_ >> 33) % end;
+  }
+
+  // Whether both caches have deleted the same, and how much.
+  template <class Calls>
+  void Same(Calls calls) {
+    std::string deleted[2];
+    for (int i : {0, 1}) {
+      calls(i);
+      deleted[i] = Tested::Deleted();
+    }
+    CHECK(deleted[0] == deleted[1]);
+    deleted_ += !deleted[0].empty();
+  }
+
+  void Release(Pair handles) {
+    Same([&](int i) { caches_[i]->Release(i == 0 ? handles.first : handles.second); });
+  }
+
+  // At most 4 entries of charge 3 at most are pinned.
+  void Hold(const std::string& name, Pair handles) {
+    CHECK(caches_[0].ValueOf(handles.first) == caches_[1].ValueOf(handles.second));
+    held_.emplace_back(name, handles);
+    if (held_.size() < 4) return;
+    Release(held_[0].second);
+    held_.erase(held_.begin());
+  }
+
+  void Call() {
+    // All of one length, so that padded keys lie in the shards of the others.
+    const std::string name = "key of 16 " + std::to_string(100000 + Below(150));
+    const bool is_held = std::any_of(held_.begin(), held_.end(),
+                                     [&](const auto& held) { return held.first == name; });
+    Pair handles;
+    const std::uint64_t kind = Below(100);
+    if (kind == 0) {
+      Same([&](int i) { caches_[i]->Prune(); });
+    } else if (kind < 10 && !is_held) {
+      Same([&](int i) { caches_[i].Erase(name); });
+    } else if (kind < 50 && !is_held) {
+      const std::size_t charge = 1 + Below(3);
+      const std::string value = std::to_string(random_);
+      Same([&](int i) {
+        (i == 0 ? handles.first : handles.second) = caches_[i].Insert(name, value, charge);
+      });
+      Hold(name, handles);
+    } else {
+      Same([&](int i) { (i == 0 ? handles.first : handles.second) = caches_[i].Lookup(name); });
+      CHECK((handles.first == nullptr) == (handles.second == nullptr));
+      if (handles.first != nullptr && handles.second != nullptr) Hold(name, handles);
+    }
+  }
+
+  Tested caches_[2];
+  std::vector<std::pair<std::string, Pair>> held_;
+  std::uint64_t random_ = 0;
+  int deleted_ = 0;
+};
+
+void EqualsOwn(NewCache new_cache) {
+  for (std::uint64_t seed = 1; seed <= 3; seed++) {
+    SameAsOwn(new_cache).Run(seed);
+    Tested::Deleted();
+  }
+}
+
+// Threads: each object is deleted once, by its own deleter, and not while it is pinned.
+
+constexpr int kThreads = 8;
+constexpr int kCalls = 20000;
+
+std::atomic<std::int64_t> alive{0};
+std::atomic<std::int64_t> wrong{0};
+
+struct Object {
+  explicit Object(std::uint64_t k) : key(k) { alive++; }
+  ~Object() { alive--; }
+
+  std::uint64_t key;
+  std::atomic<bool> there{true};
+};
+
+void DeleteObject(const Slice& key, void* value) {
+  auto* object = static_cast<Object*>(value);
+  std::uint64_t n = 0;
+  std::memcpy(&n, key.data(), sizeof n);
+  if (object->key != n || !object->there.exchange(false)) wrong++;
+  delete object;
+}
+
+void Calls(const Tested& cache, std::uint64_t seed) {
+  std::uint64_t random = seed * 0x9e3779b97f4a7c15u;
+  Handle* held[4] = {};
+  for (int call = 0; call < kCalls; call++) {
+    random = random * 6364136223846793005u + 1442695040888963407u;
+    const std::uint64_t n = (random >> 33) % 200;
+    const std::uint64_t words[2] = {n, n};
+    const Slice key(reinterpret_cast<const char*>(words), sizeof words);
+    Handle*& slot = held[(random >> 41) % 4];
+    if (slot != nullptr) cache->Release(std::exchange(slot, nullptr));
+    const std::uint64_t kind = (random >> 44) % 64;
+    if (kind < 4) {
+      cache->Erase(key);
+    } else if (kind == 4) {
+      cache->Prune();
+    } else {
+      if (kind > 8) slot = cache->Lookup(key);
+      const std::size_t charge = 1 + (random >> 50) % 3;
+      if (slot == nullptr) slot = cache->Insert(key, new Object(n), charge, DeleteObject);
+      const auto* object = static_cast<const Object*>(cache->Value(slot));
+      if (object->key != n || !object->there) wrong++;
+    }
+  }
+  for (Handle* handle : held) {
+    if (handle != nullptr) cache->Release(handle);
+  }
+}
+
+void Threads(NewCache new_cache, int count) {
+  {
+    const Tested cache = new_cache(64);
+    std::vector<std::thread> threads;
+    for (int t = 1; t <= count; t++) {
+      threads.emplace_back(Calls, std::cref(cache), static_cast<std::uint64_t>(t));
+    }
+    for (std::thread& thread : threads) thread.join();
+    CHECK(cache->TotalCharge() <= 64 && alive > 0);
+    cache->Prune();
+    CHECK(cache->TotalCharge() == 0 && alive == 0);
+  }
+  CHECK(wrong == 0);
+}
+
+}  // namespace
+
+int main() {
+  Common(Own);
+  for (const NewCache new_cache : {Any, Blocks}) {
+    Common(new_cache);
+    Differences(new_cache);
+    EqualsOwn(new_cache);
+    Threads(new_cache, 4);
+    Threads(new_cache, kThreads);
+  }
+  CachesBlocksOnly();
+  std::printf("leveldb_cache.h: both caches, with 1, 4 and 8 threads: %d checks failed\n",
+              failed_checks);
+  return failed_checks == 0 ? 0 : 1;
+}

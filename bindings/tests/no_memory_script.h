@@ -1,0 +1,185 @@
+/* The script of no_memory.c for one family of functions. It is included once for each, with
+ *
+ *   FAMILY       lru_bytes or lru_words
+ *   NAME(call)   the name of a function of the family
+ *   CALL(call)   the same as text, where a call may be refused
+ *   KEY(n)       the key of a number, as arguments
+ *   RUN          the name of the function that is defined here
+ */
+
+/* The total charge and the number of entries, which a refused call must not change. */
+static uint64_t NAME(weighed)(FAMILY *cache) {
+    return NAME(total)(cache).value * 1000 + NAME(len)(cache).value;
+}
+
+/* Deletes what was evicted. */
+static void NAME(take)(NAME(evicted) * gone) {
+    lru_gone entry;
+    while (NAME(evicted_pop)(gone, &entry)) delete_object(entry.value, "evicted");
+    if (!NAME(evicted_is_empty)(gone)) wrong("a chain that was popped is not empty");
+}
+
+static lru_told NAME(ask)(FAMILY *cache, NAME(evicted) * gone, unsigned n, uint64_t charge) {
+    uint64_t before = NAME(weighed)(cache);
+    lru_told told = NAME(begin)(cache, KEY(n), charge, gone);
+    if (refused(told.code, CALL("begin"))) {
+        if (!NAME(evicted_is_empty)(gone) || NAME(weighed)(cache) != before)
+            wrong("a refused begin changed something");
+        told = NAME(begin)(cache, KEY(n), charge, gone);
+    }
+    NAME(take)(gone);
+    say("begin", told);
+    return told;
+}
+
+static lru_told NAME(find)(FAMILY *cache, unsigned n) {
+    uint64_t before = NAME(weighed)(cache);
+    lru_told told = NAME(get)(cache, KEY(n));
+    if (refused(told.code, CALL("get"))) {
+        if (NAME(weighed)(cache) != before) wrong("a refused get changed something");
+        told = NAME(get)(cache, KEY(n));
+    }
+    say("get", told);
+    return told;
+}
+
+static void NAME(give)(FAMILY *cache, uint64_t stamp) {
+    uint64_t before = NAME(weighed)(cache), value = new_object();
+    lru_code code = NAME(ready)(cache, stamp, value);
+    if (refused(code, CALL("ready"))) {
+        if (NAME(weighed)(cache) != before) wrong("a refused ready changed something");
+        code = NAME(ready)(cache, stamp, value);
+    }
+    say_code("ready", code);
+}
+
+static void NAME(let_go)(FAMILY *cache, NAME(evicted) * gone, uint64_t stamp) {
+    say_code("release", NAME(release)(cache, stamp, gone));
+    NAME(take)(gone);
+}
+
+/* Makes the entry of a key if there is none, and releases it. */
+static void NAME(use)(FAMILY *cache, NAME(evicted) * gone, unsigned n, uint64_t charge) {
+    lru_told told = NAME(ask)(cache, gone, n, charge);
+    if (told.code == LRU_MAKE) NAME(give)(cache, told.stamp);
+    NAME(let_go)(cache, gone, told.stamp);
+}
+
+static void NAME(evict)(FAMILY *cache, NAME(evicted) * gone, unsigned n) {
+    lru_code code = NAME(advice_evict)(cache, KEY(n), gone);
+    if (refused(code, CALL("advice_evict"))) code = NAME(advice_evict)(cache, KEY(n), gone);
+    say_code("advice_evict", code);
+    NAME(take)(gone);
+}
+
+static void NAME(take_away)(FAMILY *cache, NAME(evicted) * gone, unsigned n) {
+    uint64_t before = NAME(weighed)(cache);
+    lru_code code = NAME(invalidate)(cache, KEY(n), gone);
+    if (refused(code, CALL("invalidate"))) {
+        if (!NAME(evicted_is_empty)(gone) || NAME(weighed)(cache) != before)
+            wrong("a refused invalidate changed something");
+        code = NAME(invalidate)(cache, KEY(n), gone);
+    }
+    say_code("invalidate", code);
+    NAME(take)(gone);
+}
+
+static void NAME(look)(FAMILY *cache, unsigned n) {
+    lru_code code = NAME(contains)(cache, KEY(n));
+    if (refused(code, CALL("contains"))) code = NAME(contains)(cache, KEY(n));
+    say_code("contains", code);
+}
+
+/* Puts a value in, and answers the stamp of its entry. */
+static uint64_t NAME(put)(FAMILY *cache, NAME(evicted) * gone, unsigned n, uint64_t charge) {
+    uint64_t before = NAME(weighed)(cache), value = new_object();
+    lru_told told = NAME(insert)(cache, KEY(n), charge, value, gone);
+    if (refused(told.code, CALL("insert"))) {
+        if (!NAME(evicted_is_empty)(gone) || NAME(weighed)(cache) != before)
+            wrong("a refused insert changed something");
+        told = NAME(insert)(cache, KEY(n), charge, value, gone);
+    }
+    say("insert", told);
+    NAME(take)(gone);
+    return told.stamp;
+}
+
+static void NAME(open)(FAMILY *cache) {
+    lru_code code = NAME(new)(20, cache);
+    if (refused(code, CALL("new"))) code = NAME(new)(20, cache);
+    say_code("new", code);
+}
+
+static void RUN(void) {
+    FAMILY cache = {0};
+    NAME(evicted) gone = {0};
+    lru_told held, waited;
+    lru_code code = NAME(evicted_new)(&gone);
+    if (refused(code, CALL("evicted_new"))) code = NAME(evicted_new)(&gone);
+    say_code("evicted_new", code);
+    NAME(open)(&cache);
+
+    /* Entries are made and evicted while one is held. */
+    held = NAME(ask)(&cache, &gone, 0, 3);
+    NAME(give)(&cache, held.stamp);
+    for (unsigned n = 1; n < 40; n++) NAME(use)(&cache, &gone, n, 1 + n % 3);
+    for (unsigned n = 30; n < 40; n++) NAME(use)(&cache, &gone, n, 1);
+
+    /* Making a value fails, once while nobody waits and once while somebody does. */
+    waited = NAME(ask)(&cache, &gone, 50, 2);
+    say_code("fail", NAME(fail)(&cache, waited.stamp));
+    waited = NAME(ask)(&cache, &gone, 50, 2);
+    NAME(ask)(&cache, &gone, 50, 9);
+    say_code("fail", NAME(fail)(&cache, waited.stamp));
+    say("poll", NAME(poll)(&cache, waited.stamp));
+    NAME(give)(&cache, waited.stamp);
+    say("poll", NAME(poll)(&cache, waited.stamp));
+    NAME(let_go)(&cache, &gone, waited.stamp);
+
+    /* Hits, misses and advice_evict. */
+    waited = NAME(find)(&cache, 50);
+    NAME(evict)(&cache, &gone, 50);
+    NAME(let_go)(&cache, &gone, waited.stamp);
+    NAME(evict)(&cache, &gone, 50);
+    NAME(find)(&cache, 50);
+    NAME(find)(&cache, 80);
+
+    /* Inserts over nothing, over an entry that is held and over one that is idle; an invalidate of
+     * one that is held. Some keys are longer than all before. */
+    held = NAME(find)(&cache, 0);
+    for (unsigned n = 130; n < 150; n++) {
+        uint64_t first = NAME(put)(&cache, &gone, n, 2), second = NAME(put)(&cache, &gone, n, 3);
+        NAME(let_go)(&cache, &gone, first);
+        NAME(let_go)(&cache, &gone, second);
+        NAME(let_go)(&cache, &gone, NAME(put)(&cache, &gone, n, 1 + n % 4));
+    }
+    NAME(take_away)(&cache, &gone, 0);
+    NAME(let_go)(&cache, &gone, held.stamp);
+    NAME(take_away)(&cache, &gone, 149);
+    NAME(look)(&cache, 149);
+    NAME(look)(&cache, 148);
+    NAME(take_away)(&cache, &gone, 300);
+    NAME(look)(&cache, 600);
+    NAME(evict)(&cache, &gone, 1200);
+
+    /* reserve, a smaller capacity, prune. */
+    code = NAME(reserve)(&cache, 100);
+    if (refused(code, CALL("reserve"))) code = NAME(reserve)(&cache, 100);
+    say_code("reserve", code);
+    say_code("set_capacity", NAME(set_capacity)(&cache, 8, &gone));
+    NAME(take)(&gone);
+    say_code("prune", NAME(prune)(&cache, &gone));
+    NAME(take)(&gone);
+
+    /* Free with one entry held, one idle and one being made; then open again. */
+    NAME(use)(&cache, &gone, 60, 1);
+    NAME(ask)(&cache, &gone, 61, 1);
+    say("total", NAME(total)(&cache));
+    say_code("free", NAME(free)(&cache, &gone));
+    NAME(take)(&gone);
+    NAME(open)(&cache);
+    NAME(use)(&cache, &gone, 1, 1);
+    say_code("free", NAME(free)(&cache, &gone));
+    NAME(take)(&gone);
+    say_code("evicted_free", NAME(evicted_free)(&gone));
+}

@@ -1,0 +1,327 @@
+// Runs random calls on the library and on the plain cache, for both kinds of keys: each answer and
+// each evicted entry must be the same. Prints one line, and exits with 1 if an answer differs.
+#include <algorithm>
+#include <cinttypes>
+#include <cstdint>
+#include <cstdio>
+#include <cstdlib>
+#include <optional>
+#include <string>
+#include <string_view>
+#include <utility>
+#include <vector>
+
+#include "lru.h"
+#include "lru_core.hpp"
+#include "plain_cache.hpp"
+
+// In the namespace of their types, so that std's algorithms find them.
+static bool operator==(const lru_told& one, const lru_told& other) {
+  return one.code == other.code && one.stamp == other.stamp && one.value == other.value;
+}
+static bool operator==(const lru_gone& one, const lru_gone& other) {
+  return one.stamp == other.stamp && one.charge == other.charge && one.value == other.value;
+}
+
+namespace {
+
+constexpr std::uint64_t kSeeds = 20;
+constexpr int kSteps = 2000;
+
+// The functions of lru.h for each kind of key, and keys by number, some of which begin alike.
+
+struct Bytes : lru::detail::Calls<std::string_view> {
+  using Key = std::string;
+
+  static constexpr const char* name = "bytes";
+  static constexpr auto open = lru_bytes_new_with_limits;
+  static constexpr auto reserve = lru_bytes_reserve;
+  static constexpr auto len = lru_bytes_len;
+
+  static Key key(std::uint64_t n) { return std::string(n % 5 * 9, '\0') + std::string(n / 5, 'k'); }
+  static lru_code contains(Cache* cache, const Key& key) {
+    return lru_bytes_contains(cache, key.data(), key.size());
+  }
+  static std::optional<Key> key_of(Cache* cache, std::uint64_t stamp) {
+    char buffer[64];
+    const lru_told told = lru_bytes_key_of(cache, stamp, buffer, sizeof buffer);
+    if (told.code == LRU_STALE) return std::nullopt;
+    if (told.code != LRU_NUMBER) return "no key of this test";
+    return std::string(buffer, static_cast<std::size_t>(told.value));
+  }
+};
+
+struct Pairs : lru::detail::Calls<lru::Words> {
+  using Key = std::pair<std::uint64_t, std::uint64_t>;
+
+  static constexpr const char* name = "words";
+  static constexpr auto open = lru_words_new_with_limits;
+  static constexpr auto reserve = lru_words_reserve;
+  static constexpr auto len = lru_words_len;
+
+  static Key key(std::uint64_t n) { return {n / 4, n % 4}; }
+  static lru::Words words(const Key& key) { return {key.first, key.second}; }
+  static lru_told begin(Cache* cache, const Key& key, std::uint64_t charge, Chain* gone) {
+    return Calls::begin(cache, words(key), charge, gone);
+  }
+  static lru_told get(Cache* cache, const Key& key) { return Calls::get(cache, words(key)); }
+  static lru_code advice_evict(Cache* cache, const Key& key, Chain* gone) {
+    return Calls::advice_evict(cache, words(key), gone);
+  }
+  static lru_code invalidate(Cache* cache, const Key& key, Chain* gone) {
+    return Calls::invalidate(cache, words(key), gone);
+  }
+  static lru_told insert(Cache* cache, const Key& key, std::uint64_t charge, std::uint64_t value,
+                         Chain* gone) {
+    return Calls::insert(cache, words(key), charge, value, gone);
+  }
+  static lru_code contains(Cache* cache, const Key& key) {
+    return lru_words_contains(cache, key.first, key.second);
+  }
+  static std::optional<Key> key_of(Cache* cache, std::uint64_t stamp) {
+    Key key;
+    if (lru_words_key_of(cache, stamp, &key.first, &key.second) != LRU_DONE) return std::nullopt;
+    return key;
+  }
+};
+
+// SplitMix64.
+class Random {
+ public:
+  explicit Random(std::uint64_t seed) : state_(seed) {}
+
+  std::uint64_t below(std::uint64_t end) {
+    std::uint64_t x = state_ += 0x9e3779b97f4a7c15u;
+    x = (x ^ (x >> 30)) * 0xbf58476d1ce4e5b9u;
+    x = (x ^ (x >> 27)) * 0x94d049bb133111ebu;
+    return (x ^ (x >> 31)) % end;
+  }
+
+ private:
+  std::uint64_t state_;
+};
+
+template <class Family>
+class Run {
+ public:
+  explicit Run(std::uint64_t seed)
+      : random_(seed), seed_(seed), plain_(kCapacity, kFirstStamp, kMostPins) {
+    if (Family::make_chain(&chain_) != LRU_DONE) std::abort();
+    if (Family::open(kCapacity, kFirstStamp, kMostPins, &cache_) != LRU_DONE) std::abort();
+  }
+
+  // Whether all answers were the same.
+  bool all() {
+    for (int step = 0; step < kSteps; step++) {
+      if (!call() || !look()) {
+        std::printf("seeded: %s, seed %" PRIu64 ": step %d, %s, differs\n", Family::name, seed_,
+                    step, call_);
+        return false;
+      }
+    }
+    return end();
+  }
+
+ private:
+  static constexpr std::uint64_t kCapacity = 16;
+  static constexpr std::uint64_t kFirstStamp = 3;
+  static constexpr std::uint32_t kMostPins = 3;
+
+  using Key = typename Family::Key;
+
+  Key any_key() { return Family::key(random_.below(12)); }
+
+  // Mostly a stamp that has a pin, sometimes any other, or one that was never given.
+  std::uint64_t any_stamp() {
+    if (pins_.empty() || random_.below(8) == 0) return random_.below(latest_ + 2);
+    return pins_[static_cast<std::size_t>(random_.below(pins_.size()))];
+  }
+
+  void pinned(const lru_told& told) {
+    pins_.push_back(told.stamp);
+    latest_ = std::max(latest_, told.stamp);
+  }
+
+  void given_back(std::uint64_t stamp) {
+    const auto pin = std::find(pins_.begin(), pins_.end(), stamp);
+    if (pin != pins_.end()) pins_.erase(pin);
+  }
+
+  // Makes one random call on both caches. False if the answers differ. There are so many releases
+  // that about half of the time some entries are idle.
+  bool call() {
+    const std::uint64_t kind = random_.below(48);
+    if (kind < 7) return begin();
+    if (kind < 10) return insert();
+    if (kind < 11) return poll();
+    if (kind < 17) return ready();
+    if (kind < 18) return fail();
+    if (kind < 20) return get();
+    if (kind < 43) return release();
+    if (kind < 44) return advice_evict();
+    if (kind < 45) return invalidate();
+    if (kind < 46) return set_capacity();
+    // Rarely, as a prune leaves little for other calls to evict.
+    if (kind < 47) return random_.below(4) != 0 || prune();
+    return reserve();
+  }
+
+  bool begin() {
+    call_ = "begin";
+    const Key key = any_key();
+    const std::uint64_t charge = random_.below(5);
+    const lru_told told = Family::begin(&cache_, key, charge, &chain_);
+    if (told.code <= LRU_HIT) pinned(told);
+    return told == plain_.begin(key, charge, &gone_) && evicted();
+  }
+
+  // Now and then with a charge that is almost the largest, which may be too much beside others.
+  bool insert() {
+    call_ = "insert";
+    const Key key = any_key();
+    const std::uint64_t charge =
+        random_.below(8) == 0 ? UINT64_MAX - random_.below(2 * kCapacity) : random_.below(5);
+    const std::uint64_t value = random_.below(UINT64_MAX);
+    const lru_told told = Family::insert(&cache_, key, charge, value, &chain_);
+    if (told.code == LRU_DONE) pinned(told);
+    return told == plain_.insert(key, charge, value, &gone_) && evicted();
+  }
+
+  bool poll() {
+    call_ = "poll";
+    const std::uint64_t stamp = any_stamp();
+    return Family::poll(&cache_, stamp) == plain_.poll(stamp);
+  }
+
+  bool ready() {
+    call_ = "ready";
+    const std::uint64_t stamp = any_stamp();
+    const std::uint64_t value = random_.below(UINT64_MAX);
+    return Family::ready(&cache_, stamp, value) == plain_.ready(stamp, value);
+  }
+
+  bool fail() {
+    call_ = "fail";
+    const std::uint64_t stamp = any_stamp();
+    const lru_code code = Family::fail(&cache_, stamp);
+    if (code != LRU_STALE) given_back(stamp);
+    return code == plain_.fail(stamp);
+  }
+
+  bool get() {
+    call_ = "get";
+    const Key key = any_key();
+    const lru_told told = Family::get(&cache_, key);
+    if (told.code == LRU_HIT) pinned(told);
+    return told == plain_.get(key);
+  }
+
+  bool release() {
+    call_ = "release";
+    const std::uint64_t stamp = any_stamp();
+    const lru_code code = Family::release(&cache_, stamp, &chain_);
+    if (code == LRU_DONE) given_back(stamp);
+    return code == plain_.release(stamp, &gone_) && evicted();
+  }
+
+  bool advice_evict() {
+    call_ = "advice_evict";
+    const Key key = any_key();
+    const lru_code code = Family::advice_evict(&cache_, key, &chain_);
+    return code == plain_.advice_evict(key, &gone_) && evicted();
+  }
+
+  bool invalidate() {
+    call_ = "invalidate";
+    const Key key = any_key();
+    const lru_code code = Family::invalidate(&cache_, key, &chain_);
+    return code == plain_.invalidate(key, &gone_) && evicted();
+  }
+
+  bool set_capacity() {
+    call_ = "set_capacity";
+    const std::uint64_t capacity = random_.below(2 * kCapacity);
+    const lru_code code = Family::set_capacity(&cache_, capacity, &chain_);
+    return code == plain_.set_capacity(capacity, &gone_) && evicted();
+  }
+
+  bool prune() {
+    call_ = "prune";
+    return Family::prune(&cache_, &chain_) == plain_.prune(&gone_) && evicted();
+  }
+
+  bool reserve() {
+    call_ = "reserve";
+    return Family::reserve(&cache_, static_cast<std::size_t>(random_.below(64))) == LRU_DONE;
+  }
+
+  // Whether the chain holds what the plain cache evicted, in order.
+  bool evicted() {
+    bool same = true;
+    for (const lru_gone& expected : gone_) {
+      lru_gone told = {};
+      same = Family::pop(&chain_, &told) && told == expected && same;
+    }
+    lru_gone more;
+    while (Family::pop(&chain_, &more)) same = false;
+    evictions_ += gone_.size();
+    gone_.clear();
+    return same;
+  }
+
+  // Whether the calls that change nothing answer the same.
+  bool look() {
+    const auto number = [](const lru_told& told) {
+      return told.code == LRU_NUMBER ? std::optional<std::uint64_t>(told.value) : std::nullopt;
+    };
+    const Key key = any_key();
+    const std::uint64_t stamp = any_stamp();
+    return number(Family::total(&cache_)) == plain_.total() &&
+           number(Family::capacity(&cache_)) == plain_.capacity() &&
+           number(Family::len(&cache_)) == plain_.len() &&
+           Family::contains(&cache_, key) == plain_.contains(key) &&
+           Family::key_of(&cache_, stamp) == plain_.key_of(stamp);
+  }
+
+  // Whether free hands out the same entries, in any order, and the run evicted enough to mean
+  // something.
+  bool end() {
+    std::vector<lru_gone> left;
+    lru_gone gone;
+    bool same = Family::free(&cache_, &chain_) == LRU_DONE;
+    while (Family::pop(&chain_, &gone)) left.push_back(gone);
+    std::sort(left.begin(), left.end(),
+              [](const lru_gone& a, const lru_gone& b) { return a.stamp < b.stamp; });
+    const std::vector<lru_gone> expected = plain_.values();
+    same = std::equal(left.begin(), left.end(), expected.begin(), expected.end()) && same;
+    same = Family::free_chain(&chain_) == LRU_DONE && same;
+    if (!same) std::printf("seeded: %s, seed %" PRIu64 ": the free differs\n", Family::name, seed_);
+    if (evictions_ < kSteps / 50)
+      std::printf("seeded: %s, seed %" PRIu64 ": too little evicted\n", Family::name, seed_);
+    return same && evictions_ >= kSteps / 50;
+  }
+
+  Random random_;
+  std::uint64_t seed_;
+  PlainCache<Key> plain_;
+  typename Family::Cache cache_ = {};
+  typename Family::Chain chain_ = {};
+  std::vector<lru_gone> gone_;       // what the plain cache has just evicted
+  std::vector<std::uint64_t> pins_;  // a stamp for each pin
+  std::uint64_t latest_ = kFirstStamp;
+  std::size_t evictions_ = 0;
+  const char* call_ = "";
+};
+
+}  // namespace
+
+int main() {
+  std::uint64_t same = 0;
+  for (std::uint64_t seed = 1; seed <= kSeeds; seed++) {
+    same += Run<Bytes>(seed).all();
+    same += Run<Pairs>(seed).all();
+  }
+  std::printf("seeded: %" PRIu64 " of %" PRIu64 " runs of %d steps equal the plain cache\n", same,
+              2 * kSeeds, kSteps);
+  return same == 2 * kSeeds ? 0 : 1;
+}
