@@ -275,7 +275,7 @@ class SameAsOwn {
     return (random_ >> 33) % end;
   }
 
-  // Whether both caches have deleted the same, and how much.
+  // Makes a call on both caches, which must delete the same for it.
   template <class Calls>
   void Same(Calls calls) {
     std::string deleted[2];
@@ -301,7 +301,7 @@ class SameAsOwn {
   }
 
   void Call() {
-    // All of one length, so that padded keys lie in the shards of the others.
+    // Of 16 bytes, so that none is padded, which would change its shard.
     const std::string name = "key of 16 " + std::to_string(100000 + Below(150));
     const bool is_held = std::any_of(held_.begin(), held_.end(),
                                      [&](const auto& held) { return held.first == name; });
