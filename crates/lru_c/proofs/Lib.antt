@@ -3,7 +3,6 @@ pub mod ByKey
 pub mod Cases
 pub mod Handles
 pub mod Inserted
-pub mod IntoChain
 pub mod BytesCopies
 pub mod ChainCodes
 pub mod Opened
