@@ -1,11 +1,11 @@
 pub mod Asked
 pub mod ByKey
 pub mod Cases
-pub mod Handles
 pub mod Inserted
 pub mod IntoChain
 pub mod BytesCopies
 pub mod ChainCodes
+pub mod EvictedSent
 pub mod Opened
 pub mod Opens
 pub mod BytesCacheAsBox
