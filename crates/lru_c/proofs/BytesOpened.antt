@@ -52,18 +52,6 @@ module _ {old new : Option BytesCache} {x y : BytesCache} (o : old ≡ Some x) (
   reserves c h same =
       on_open old new x y (λ p q. ((c ≡ code.done) ⊎ (c ≡ code.memory)) × (q.state.cache ≡ p.state.cache)) _ o n (h, subst (λ p. y.state.cache ≡ p.state.cache) is same)
 
--- what a method did with what an open handle leads to, as what a call did with the handle of a chain
-pub chain_code_of : (held : Option BytesChain) (x a : BytesChain) (c : ℕ) → held ≡ Some x → a ≡ x → c ≡ chain_code (Some (a.first ++ a.rest)) → c ≡ chain_code (entries_of held)
-chain_code_of held x a c h is same = subst (λ o. c ≡ chain_code (entries_of o)) (sym h) (subst (λ (z : BytesChain). c ≡ chain_code (Some (z.first ++ z.rest))) is same)
-
-pub pops : (old new : Option BytesChain) (x a y : BytesChain) (g : Option LruGone) → old ≡ Some x → a ≡ x → new ≡ Some y → Pops (a.first ++ a.rest) g (y.first ++ y.rest) → Pops (entries_in (entries_of old)) g (entries_in (entries_of new))
-pops old new x a y g o is n h =
-    subst (λ p. Pops (entries_in (entries_of p)) g (entries_in (entries_of new))) (sym o)
-    (subst (λ p. Pops (x.first ++ x.rest) g (entries_in (entries_of p))) (sym n) (subst (λ (z : BytesChain). Pops (z.first ++ z.rest) g (y.first ++ y.rest)) is h))
-
-pub pops_none : (old new : Option BytesChain) → old ≡ None → new ≡ None → Pops (entries_in (entries_of old)) None (entries_in (entries_of new))
-pops_none old new o n = subst (λ p. Pops (entries_in (entries_of p)) None (entries_in (entries_of new))) (sym o) (subst (λ p. Pops [] None (entries_in (entries_of p))) (sym n) (refl, refl))
-
 -- a cache behind a handle that was freed
 pub frees : (old : Option BytesCache) (x a : BytesCache) (out : Entries) → old ≡ Some x → a ≡ x → TakesAll a.state.cache out → Frees old code.done out
 frees old x a out o is h = subst (λ p. Frees p code.done out) (sym o) (refl, subst (λ (z : BytesCache). TakesAll z.state.cache out) is h)

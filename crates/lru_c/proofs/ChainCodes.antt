@@ -31,6 +31,3 @@ module _ {K : Type 0} where
     first_of_rest left e f h =
         subst (λ (zs : List (Idle K ℕ)). TellsFirst (zs ++ ys) g (left ++ rest)) (sym e)
         (subst (λ (zs : List (Idle K ℕ)). TellsFirst ys g (zs ++ rest)) (sym f) (subst (λ (zs : List (Idle K ℕ)). TellsFirst zs g rest) (sym h) (refl, told.0, told.1, told.2)))
-
-  pub none_left : (xs ys : List (Idle K ℕ)) → xs ≡ [] → ys ≡ [] → xs ++ ys ≡ []
-  none_left xs ys e f = subst (λ (zs : List (Idle K ℕ)). zs ++ ys ≡ []) (sym e) f

@@ -1,11 +1,10 @@
 -- What an insert of the core did, told as C is told; an insert by the bytes of a key is the insert of the key that was made of them.
 use Rattle.std.proofs.Common.{◌≡◌, ℕ, Bool, List, [], inl, inr, refl, sym, ◌∙◌, ap, subst}
-use Rattle.std.specs.Prelude.{◌⊎◌}
 use Rattle.concurrent_lru.specs.Cache.{Cache, Idle, IsLawful}
 use Rattle.concurrent_lru.specs.Inserts.{Replaces, RefusesToReplace}
 use Rattle.concurrent_lru.specs.declared.list.Refusal.{Refusal}
 use Rattle.lru_c.specs.Codes as code
-use Rattle.lru_c.specs.Inserts.{IsUntouched, TellsInsert, TellsInsertOf}
+use Rattle.lru_c.specs.Inserts.{TellsInsert, TellsInsertOf}
 use Rattle.lru_c.specs.Told.{bare, refusal_code, told}
 use Rattle.lru_c.specs.declared.told.LruTold.{LruTold}
 use Rattle.lru_c.proofs.Cases.{where_is, where_is_not}

@@ -1,10 +1,10 @@
 pub mod Asked
 pub mod ByKey
 pub mod Cases
-pub mod Handles
 pub mod Inserted
 pub mod BytesCopies
 pub mod ChainCodes
+pub mod EvictedSent
 pub mod Opened
 pub mod Opens
 pub mod BytesCacheAsBox

@@ -68,18 +68,6 @@ any_key (Some o) (Some n) stamp c k l none h = (
 any_key None (Some n) stamp c k l none h = h
 any_key (Some o) None stamp c k l none h = h
 
--- what a method did with what an open handle leads to, as what a call did with the handle of a chain
-pub chain_code_of : (held : Option WordsChain) (x a : WordsChain) (c : ℕ) → held ≡ Some x → a ≡ x → c ≡ chain_code (Some (a.first ++ a.rest)) → c ≡ chain_code (entries_of held)
-chain_code_of held x a c h is same = subst (λ o. c ≡ chain_code (entries_of o)) (sym h) (subst (λ (z : WordsChain). c ≡ chain_code (Some (z.first ++ z.rest))) is same)
-
-pub pops : (old new : Option WordsChain) (x a y : WordsChain) (g : Option LruGone) → old ≡ Some x → a ≡ x → new ≡ Some y → Pops (a.first ++ a.rest) g (y.first ++ y.rest) → Pops (entries_in (entries_of old)) g (entries_in (entries_of new))
-pops old new x a y g o is n h =
-    subst (λ p. Pops (entries_in (entries_of p)) g (entries_in (entries_of new))) (sym o)
-    (subst (λ p. Pops (x.first ++ x.rest) g (entries_in (entries_of p))) (sym n) (subst (λ (z : WordsChain). Pops (z.first ++ z.rest) g (y.first ++ y.rest)) is h))
-
-pub pops_none : (old new : Option WordsChain) → old ≡ None → new ≡ None → Pops (entries_in (entries_of old)) None (entries_in (entries_of new))
-pops_none old new o n = subst (λ p. Pops (entries_in (entries_of p)) None (entries_in (entries_of new))) (sym o) (subst (λ p. Pops [] None (entries_in (entries_of p))) (sym n) (refl, refl))
-
 -- a cache behind a handle that was freed
 pub frees : (old : Option WordsCache) (x a : WordsCache) (out : Entries) → old ≡ Some x → a ≡ x → TakesAll a.state.cache out → Frees old code.done out
 frees old x a out o is h = subst (λ p. Frees p code.done out) (sym o) (refl, subst (λ (z : WordsCache). TakesAll z.state.cache out) is h)

@@ -5,7 +5,6 @@ ghost use Rattle.lru_c.specs.Chains.{chain_code, Pops};
 use crate::chains;
 use crate::told::LruGone;
 use concurrent_lru::lru_core::Evicted;
-use std::marker::Send;
 
 /// What a call took out of a cache, oldest first: these, and then those.
 #[derive(Drop)]
@@ -15,9 +14,6 @@ pub struct BytesChain {
     /// What is popped after it.
     pub rest: Evicted<Vec<u8>, u64>,
 }
-
-// The entries may go to another thread, and so may the chain.
-unsafe impl Send for BytesChain {}
 
 impl BytesChain {
     // Whether it takes more.

@@ -6,7 +6,6 @@ use crate::chains;
 use crate::told::LruGone;
 use crate::words::key::Words;
 use concurrent_lru::lru_core::Evicted;
-use std::marker::Send;
 
 /// What a call took out of a cache, oldest first: these, and then those.
 #[derive(Drop)]
@@ -16,9 +15,6 @@ pub struct WordsChain {
     /// What is popped after it.
     pub rest: Evicted<Words, u64>,
 }
-
-// The entries may go to another thread, and so may the chain.
-unsafe impl Send for WordsChain {}
 
 impl WordsChain {
     // Whether it takes more.

@@ -11,7 +11,7 @@ returns-then-charge-eq0 c = where_is c.args.charge 0 _ _ c.if-charge-eq0.true (c
 pub returns-then-not-keep : goal.returns-then-not-keep
 returns-then-not-keep c =
     where_is_not c.args.charge 0 _ _ c.if-charge-eq0.false
-    (without_key bytes_eq (λ k. k.items ≡ c.args.key.now) c.args.self.now.state.cache c.keep.new.self.state.cache (λ k. ask.begin k c.args.charge) c.bare.result c.none.result c.bare.ensures (ap (λ s. s.cache) c.keep.ensures.state) c.none.ensures)
+    (without_key bytes_eq (λ k. k.items ≡ c.args.key.now) c.args.self.now.state.cache c.keep.new.self.state.cache (λ k. ask.begin k c.args.charge) c.bare-then-not-keep.result c.none-then-not-keep.result c.bare-then-not-keep.ensures (ap (λ s. s.cache) c.keep.ensures.state) c.none-then-not-keep.ensures)
 
 pub returns : goal.returns
 returns c =

@@ -9,7 +9,7 @@ returns-then-charge-eq0 c =
 
 pub returns-then-not-keep : goal.returns-then-not-keep
 returns-then-not-keep c =
-    insert_without_key bytes_eq (λ k. k.items ≡ c.args.key.now) c.args.self.now.state.cache c.keep.new.self.state.cache c.args.charge c.args.value c.refused.result.0 c.refused.result.1.0 c.refused.result.1.1 c.if-charge-eq0.false c.refused.ensures
+    insert_without_key bytes_eq (λ k. k.items ≡ c.args.key.now) c.args.self.now.state.cache c.keep.new.self.state.cache c.args.charge c.args.value c.refused-then-not-keep.result.0 c.refused-then-not-keep.result.1.0 c.refused-then-not-keep.result.1.1 c.if-charge-eq0.false c.refused-then-not-keep.ensures
     (ap (λ s. s.cache) c.keep.ensures.state)
 
 pub returns : goal.returns

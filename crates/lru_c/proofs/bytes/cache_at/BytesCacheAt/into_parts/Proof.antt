@@ -1,7 +1,7 @@
--- `into_parts` moves two fields, and what a live handle owns goes with them.
-use Rattle.std.specs.Prelude.{Option, Some, None, IsSome, true, false}
+-- `into_parts` moves two fields, and what the pointer owns goes with them.
+use Rattle.std.specs.Prelude.{Option, Some, None, IsSome}
 use lib.Dec.{T}
-use mathlib.Core.Path.{◌≡◌, refl, sym, subst}
+use mathlib.Core.Path.{refl, sym, subst}
 use mathlib.Core.List.{List, [], ◌∷◌, ◌++◌}
 use seplogic.Ra.Ura.{Ura}
 use mir.Val.{Val}

@@ -7,14 +7,19 @@ use denote.RawPtr.{Ptr}
 use denote.Struct.Struct.{exits_of}
 use denote.Struct.Owning.{shape, fields, to}
 use denote.Param.Send.{IsSend, AllSend, owning_send, struct_send, sendable}
+use denote.Param.SendFields.{declared_send}
 use Rattle.std.proofs.Crossing as heap
 use Rattle.std_alloc.proofs.SendSync.{quiet, lies}
 use Rattle.std_heap.specs.contracts.Global as Heap
 use Rattle.std_heap.proofs.Global.TheSendSync as handle
+use Rattle.lru_c.proofs.EvictedSent.{evicted_send}
 use Rattle.lru_c.specs.WordsChainOwned.{words_chain_owns}
 use Rattle.lru_c.specs.contracts.words.chain.WordsChain as Inner
-use Rattle.lru_c.proofs.words.chain.WordsChain.TheSendSync.{the_send as inner}
 use Rattle.lru_c.specs.contracts.words.chain_at.WordsChainAt.{the_row, the_type}
+
+-- the chain has no more than two chains of evicted entries
+inner : IsSend Inner.the_row
+inner = declared_send Inner.the_type (search (sendable, heap.crosses, evicted_send) depth 12)
 
 owned : (a : Heap.the_row.Denot) (p : Ptr) (h : Option Inner.the_row.Denot) → Keyless (words_chain_owns a p h)
 owned a p None = tt

@@ -1,7 +1,0 @@
-use Rattle.lru_c.proofs.Handles.{leads_nowhere}
-use Rattle.lru_c.proofs.bytes.cache_handle.LruBytes.opened.Goals as goal
-
-pub returns-else-self : goal.returns-else-self
-returns-else-self c =
-    let none = leads_nowhere c.args.self.cache.held c.args.self.is_open c.args.self.agrees c.if-self.false in
-    (none, none)
