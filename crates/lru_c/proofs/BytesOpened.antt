@@ -1,19 +1,16 @@
 -- What a step did with what an open handle leads to, as what a call did with the handle.
-use Rattle.std.proofs.Common.{◌≡◌, ℕ, List, sym, subst, [], ◌++◌, refl}
+use Rattle.std.proofs.Common.{◌≡◌, ℕ, List, sym, subst, [], refl}
 use Rattle.std.specs.Prelude.{Option, Some, ◌⊎◌, None}
 use Rattle.concurrent_lru.specs.Cache.{Cache}
 use Rattle.concurrent_lru.specs.Request.{Request}
 use Rattle.concurrent_lru.specs.TakeAll.{TakesAll}
-use Rattle.lru_c.specs.Chains.{chain_code, entries_in, Pops}
 use Rattle.lru_c.specs.Codes as code
 use Rattle.lru_c.specs.Inserts.{TellsInsertOf}
 use Rattle.lru_c.specs.Told as tells
 use Rattle.lru_c.specs.Told.{told}
-use Rattle.lru_c.specs.BytesCalls.{entries_of, bytes_eq, Entries, Key, Asks, AsksByKey, AsksWithMemory, Begins, BeginsByKey, Contains, ContainsBytes, Inserts, Numbers, Reserves, Frees}
-use Rattle.lru_c.specs.declared.told.LruGone.{LruGone}
+use Rattle.lru_c.specs.BytesCalls.{bytes_eq, Entries, Key, Asks, AsksByKey, AsksWithMemory, Begins, BeginsByKey, Contains, ContainsBytes, Inserts, Numbers, Reserves, Frees}
 use Rattle.lru_c.specs.declared.told.LruTold.{LruTold}
 use Rattle.lru_c.specs.declared.bytes.cache.BytesCache.{BytesCache}
-use Rattle.lru_c.specs.declared.bytes.chain.BytesChain.{BytesChain}
 use Rattle.lru_c.proofs.Opened.{on_open}
 
 module _ {old new : Option BytesCache} {x y : BytesCache} (o : old ≡ Some x) (n : new ≡ Some y) (a : BytesCache) (is : a ≡ x) where

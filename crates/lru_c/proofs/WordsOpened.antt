@@ -1,22 +1,19 @@
 -- What a step did with what an open handle leads to, as what a call did with the handle.
-use Rattle.std.proofs.Common.{◌≡◌, ℕ, List, inl, inr, sym, subst, ◌==◌, [], ◌++◌, refl}
+use Rattle.std.proofs.Common.{◌≡◌, ℕ, inl, inr, sym, subst, ◌==◌, [], refl}
 use Rattle.std.specs.Prelude.{Option, Some, None, MatchBool, ◌⊎◌}
 use Rattle.concurrent_lru.specs.Cache.{Cache}
 use Rattle.concurrent_lru.specs.Request as ask
 use Rattle.concurrent_lru.specs.Request.{Request}
 use Rattle.concurrent_lru.specs.TakeAll.{TakesAll}
-use Rattle.lru_c.specs.Chains.{chain_code, entries_in, Pops}
 use Rattle.lru_c.specs.Codes as code
 use Rattle.lru_c.specs.Inserts.{TellsInsertOf}
 use Rattle.lru_c.specs.Opened.{TellsKey, TellsReady}
 use Rattle.lru_c.specs.Told as tells
 use Rattle.lru_c.specs.Told.{bare, told, IsSame}
-use Rattle.lru_c.specs.WordsCalls.{entries_of, words_eq, Entries, Asks, AsksWithMemory, Begins, Contains, Inserts, KeyOf, Numbers, Reserves, Frees}
-use Rattle.lru_c.specs.declared.told.LruGone.{LruGone}
+use Rattle.lru_c.specs.WordsCalls.{words_eq, Entries, Asks, AsksWithMemory, Begins, Contains, Inserts, KeyOf, Numbers, Reserves, Frees}
 use Rattle.lru_c.specs.declared.told.LruTold.{LruTold}
 use Rattle.lru_c.specs.declared.words.key.Words.{Words}
 use Rattle.lru_c.specs.declared.words.cache.WordsCache.{WordsCache}
-use Rattle.lru_c.specs.declared.words.chain.WordsChain.{WordsChain}
 use Rattle.lru_c.proofs.Opened.{on_open}
 
 module _ {old new : Option WordsCache} {x y : WordsCache} (o : old ≡ Some x) (n : new ≡ Some y) (a : WordsCache) (is : a ≡ x) where
