@@ -2,7 +2,6 @@ pub mod Asked
 pub mod ByKey
 pub mod Cases
 pub mod Inserted
-pub mod IntoChain
 pub mod BytesCopies
 pub mod ChainCodes
 pub mod EvictedSent
