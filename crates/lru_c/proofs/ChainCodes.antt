@@ -25,9 +25,3 @@ module _ {K : Type 0} where
     -- the first part had the entry
     pub first_of : xs ≡ x ∷ rest → TellsFirst (xs ++ ys) g (rest ++ ys)
     first_of e = subst (λ (zs : List (Idle K ℕ)). TellsFirst (zs ++ ys) g (rest ++ ys)) (sym e) (refl, told.0, told.1, told.2)
-
-    -- the first part had none, and the other one had the entry
-    pub first_of_rest : (left : List (Idle K ℕ)) → xs ≡ [] → left ≡ [] → ys ≡ x ∷ rest → TellsFirst (xs ++ ys) g (left ++ rest)
-    first_of_rest left e f h =
-        subst (λ (zs : List (Idle K ℕ)). TellsFirst (zs ++ ys) g (left ++ rest)) (sym e)
-        (subst (λ (zs : List (Idle K ℕ)). TellsFirst ys g (zs ++ rest)) (sym f) (subst (λ (zs : List (Idle K ℕ)). TellsFirst zs g rest) (sym h) (refl, told.0, told.1, told.2)))

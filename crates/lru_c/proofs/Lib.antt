@@ -6,7 +6,6 @@ pub mod BytesCopies
 pub mod ChainCodes
 pub mod EvictedSent
 pub mod Opened
-pub mod Opens
 pub mod BytesCacheAsBox
 pub mod BytesChainAsBox
 pub mod BytesOpened

@@ -1,11 +1,8 @@
--- What holds of an open handle's insides holds of the handle; a handle that is not open.
+-- What holds of an open handle's insides holds of the handle.
 use Rattle.std.proofs.Common.{◌≡◌, sym, subst}
-use Rattle.std.specs.Prelude.{Option, Some, None}
+use Rattle.std.specs.Prelude.{Option, Some}
 use Rattle.lru_c.specs.Handles.{OnOpen}
 
 module _ {A : Type 0} where
   pub on_open : (old new : Option A) (x y : A) (Step : A → A → Type 0) (Closed : Type 0) → old ≡ Some x → new ≡ Some y → Step x y → OnOpen old new Step Closed
   on_open old new x y Step Closed o n h = subst (λ m. OnOpen m new Step Closed) (sym o) (subst (λ m. OnOpen (Some x) m Step Closed) (sym n) h)
-
-  pub on_closed : (old new : Option A) (Step : A → A → Type 0) (Closed : Type 0) → old ≡ None → new ≡ None → Closed → OnOpen old new Step Closed
-  on_closed old new Step Closed o n h = subst (λ m. OnOpen m new Step Closed) (sym o) (subst (λ m. OnOpen None m Step Closed) (sym n) h)

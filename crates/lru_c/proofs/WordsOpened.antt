@@ -1,22 +1,17 @@
 -- What a step did with what an open handle leads to, as what a call did with the handle.
-use Rattle.std.proofs.Common.{◌≡◌, ℕ, List, inl, inr, sym, subst, ◌==◌, [], ◌++◌, refl}
-use Rattle.std.specs.Prelude.{Option, Some, None, MatchBool, ◌⊎◌}
-use Rattle.concurrent_lru.specs.Cache.{Cache}
+use Rattle.std.proofs.Common.{◌≡◌, ℕ, subst, ◌==◌}
+use Rattle.std.specs.Prelude.{Option, Some, MatchBool}
 use Rattle.concurrent_lru.specs.Request as ask
 use Rattle.concurrent_lru.specs.Request.{Request}
-use Rattle.concurrent_lru.specs.TakeAll.{TakesAll}
-use Rattle.lru_c.specs.Chains.{chain_code, entries_in, Pops}
 use Rattle.lru_c.specs.Codes as code
 use Rattle.lru_c.specs.Inserts.{TellsInsertOf}
 use Rattle.lru_c.specs.Opened.{TellsKey, TellsReady}
 use Rattle.lru_c.specs.Told as tells
-use Rattle.lru_c.specs.Told.{bare, told, IsSame}
-use Rattle.lru_c.specs.WordsCalls.{entries_of, words_eq, Entries, Asks, AsksWithMemory, Begins, Contains, Inserts, KeyOf, Numbers, Reserves, Frees}
-use Rattle.lru_c.specs.declared.told.LruGone.{LruGone}
+use Rattle.lru_c.specs.Told.{bare, IsSame}
+use Rattle.lru_c.specs.WordsCalls.{words_eq, Entries, Asks, Begins, Contains, Inserts, KeyOf}
 use Rattle.lru_c.specs.declared.told.LruTold.{LruTold}
 use Rattle.lru_c.specs.declared.words.key.Words.{Words}
 use Rattle.lru_c.specs.declared.words.cache.WordsCache.{WordsCache}
-use Rattle.lru_c.specs.declared.words.chain.WordsChain.{WordsChain}
 use Rattle.lru_c.proofs.Opened.{on_open}
 
 module _ {old new : Option WordsCache} {x y : WordsCache} (o : old ≡ Some x) (n : new ≡ Some y) (a : WordsCache) (is : a ≡ x) where
@@ -41,36 +36,3 @@ module _ {old new : Option WordsCache} {x y : WordsCache} (o : old ≡ Some x) (
   inserts key charge v t replaced evicted h =
       on_open old new x y (λ p q. TellsInsertOf words_eq (λ k. k ≡ key) p.state.cache charge v t replaced evicted q.state.cache) _ o n
       (subst (λ p. TellsInsertOf words_eq (λ k. k ≡ key) p.state.cache charge v t replaced evicted y.state.cache) is h)
-
-  pub numbers : (number : Cache Words ℕ → ℕ) (t : LruTold) → t ≡ told code.number 0 (number a.state.cache) → y.state.cache ≡ x.state.cache → Numbers old number t new
-  numbers number t h same =
-      on_open old new x y (λ p q. (t ≡ told code.number 0 (number p.state.cache)) × (q.state.cache ≡ p.state.cache)) _ o n
-      (subst (λ p. t ≡ told code.number 0 (number p.state.cache)) is h, same)
-
-  pub reserves : (c : ℕ) → (c ≡ code.done) ⊎ (c ≡ code.memory) → y.state.cache ≡ a.state.cache → Reserves old c new
-  reserves c h same =
-      on_open old new x y (λ p q. ((c ≡ code.done) ⊎ (c ≡ code.memory)) × (q.state.cache ≡ p.state.cache)) _ o n (h, subst (λ p. y.state.cache ≡ p.state.cache) is same)
-
-  pub asks_with_memory : (r : Request Words ℕ) (t : LruTold) (gone : Entries) → tells.AsksWithMemory words_eq a.state.cache r t gone y.state.cache → AsksWithMemory old r t gone new
-  asks_with_memory r t gone h =
-      on_open old new x y (λ p q. tells.AsksWithMemory words_eq p.state.cache r t gone q.state.cache) _ o n (subst (λ p. tells.AsksWithMemory words_eq p.state.cache r t gone y.state.cache) is h)
-
--- where no key is told, it does not matter which one is named
-pub any_key : (old new : Option WordsCache) (stamp c : ℕ) (k l : Words) → (c ≡ code.done → ⊥) → KeyOf old stamp c k new → KeyOf old stamp c l new
-any_key None None stamp c k l none h = h
-any_key (Some o) (Some n) stamp c k l none h = (
-  elim h.0 [
-    | inl p ↦ absurd (none p.0)
-    | inr q ↦ inr q
-  ],
-  h.1,
-)
-any_key None (Some n) stamp c k l none h = h
-any_key (Some o) None stamp c k l none h = h
-
--- a cache behind a handle that was freed
-pub frees : (old : Option WordsCache) (x a : WordsCache) (out : Entries) → old ≡ Some x → a ≡ x → TakesAll a.state.cache out → Frees old code.done out
-frees old x a out o is h = subst (λ p. Frees p code.done out) (sym o) (refl, subst (λ (z : WordsCache). TakesAll z.state.cache out) is h)
-
-pub frees_none : (old : Option WordsCache) (out : Entries) → old ≡ None → out ≡ [] → Frees old code.closed out
-frees_none old out o none = subst (λ p. Frees p code.closed out) (sym o) (refl, none)

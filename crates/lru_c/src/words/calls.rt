@@ -1,11 +1,9 @@
 //! The calls on a cache behind a handle, which is handed in and handed back.
-ghost use Rattle.std.specs.Prelude.{◌≡◌, ◌<◌, ◌==◌, [], None, Some, IfOk, MatchBool, MatchOption};
+ghost use Rattle.std.specs.Prelude.{◌≡◌, ◌<◌, [], None, Some, IfOk, MatchOption};
 ghost use Rattle.concurrent_lru.specs.Cache.{count_of, empty_cache, sum_of};
 ghost use Rattle.concurrent_lru.specs.Request as ask;
-ghost use Rattle.lru_c.specs.Codes as codes;
-ghost use Rattle.lru_c.specs.Handles.{OnOpen};
-ghost use Rattle.lru_c.specs.Opened.{TellsKey, TellsReady};
-ghost use Rattle.lru_c.specs.Told.{bare, told};
+ghost use Rattle.lru_c.specs.Opened.{TellsKey};
+ghost use Rattle.lru_c.specs.Told.{bare};
 ghost use Rattle.lru_c.specs.WordsCalls.{Asks, AsksWithMemory, Begins, Contains, Frees, Inserts, KeyOf, Numbers, Reserves};
 
 use crate::told::LruTold;
