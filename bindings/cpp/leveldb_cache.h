@@ -71,13 +71,16 @@ class BasicLevelDBCache : public leveldb::Cache {
     if (!CanStore(key)) return reinterpret_cast<Handle*>(entry);
     const std::uint64_t weight = charge == 0 ? 1 : charge;
     Shard& shard = ShardOf(key);
+    entry->shard = &shard;
     Evicted evicted;
     const std::lock_guard<std::mutex> lock(shard.mutex);
     const lru_told told = shard.core.insert(Stored(key), weight, entry, &evicted);
     entry->stamp = told.stamp;
-    entry->cached = told.code == LRU_DONE;
-    // Where the new entry is refused, the old one must not be found either.
-    if (!entry->cached) shard.core.invalidate(Stored(key), &evicted);
+    if (told.code != LRU_DONE) {
+      entry->shard = nullptr;
+      // The old entry must not be found either.
+      shard.core.invalidate(Stored(key), &evicted);
+    }
     return reinterpret_cast<Handle*>(entry);
   }
 
@@ -92,11 +95,11 @@ class BasicLevelDBCache : public leveldb::Cache {
 
   void Release(Handle* handle) override {
     Entry* entry = reinterpret_cast<Entry*>(handle);
-    if (!entry->cached) {
+    if (entry->shard == nullptr) {
       delete entry;
       return;
     }
-    Shard& shard = ShardOf(entry->key());
+    Shard& shard = *entry->shard;
     Evicted evicted;
     const std::lock_guard<std::mutex> lock(shard.mutex);
     shard.core.release(entry->stamp, &evicted);
@@ -135,6 +138,8 @@ class BasicLevelDBCache : public leveldb::Cache {
  private:
   static constexpr std::size_t kShards = 16;
 
+  struct Shard;
+
   // An entry, followed by the bytes of its key.
   struct Entry {
     void* value;
@@ -142,7 +147,7 @@ class BasicLevelDBCache : public leveldb::Cache {
     Entry* next = nullptr;
     std::uint64_t stamp = 0;
     std::size_t length;
-    bool cached = false;
+    Shard* shard = nullptr;  // null if the entry is not in the cache
 
     static Entry* New(const leveldb::Slice& key, void* value,
                       void (*deleter)(const leveldb::Slice&, void*)) {
@@ -172,9 +177,10 @@ class BasicLevelDBCache : public leveldb::Cache {
   // is unlocked.
   using Evicted = detail::Evicted<Entry>;
 
+  // What each call uses of a shard lies in one line of memory.
   struct alignas(64) Shard {
-    mutable std::mutex mutex;
     Core core;
+    mutable std::mutex mutex;
   };
 
   BasicLevelDBCache() = default;
@@ -209,19 +215,16 @@ class BasicLevelDBCache : public leveldb::Cache {
     const std::uint8_t* const end = at + key.size();
     std::uint32_t hash = static_cast<std::uint32_t>(key.size()) * kFactor;
     for (; end - at >= 4; at += 4) {
-      hash = (hash + Word(at, 4)) * kFactor;
+      std::uint32_t word;  // its lowest byte first, as x86-64 has it
+      std::memcpy(&word, at, sizeof word);
+      hash = (hash + word) * kFactor;
       hash ^= hash >> 16;
     }
     if (at == end) return hash;
-    hash = (hash + Word(at, static_cast<std::size_t>(end - at))) * kFactor;
+    std::uint32_t rest = 0;
+    std::memcpy(&rest, at, static_cast<std::size_t>(end - at));
+    hash = (hash + rest) * kFactor;
     return hash ^ hash >> 24;
-  }
-
-  // Up to four bytes as a number, the lowest byte first.
-  static std::uint32_t Word(const std::uint8_t* at, std::size_t length) {
-    std::uint32_t word = 0;
-    for (std::size_t i = 0; i < length; i++) word |= static_cast<std::uint32_t>(at[i]) << (8 * i);
-    return word;
   }
 
   Shard& ShardOf(const leveldb::Slice& key) { return shards_[Hash(key) >> 28]; }

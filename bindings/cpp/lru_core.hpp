@@ -59,6 +59,7 @@ struct Calls<std::string_view> {
   static constexpr auto make_chain = lru_bytes_evicted_new;
   static constexpr auto free_chain = lru_bytes_evicted_free;
   static constexpr auto pop = lru_bytes_evicted_pop;
+  static constexpr auto is_empty = lru_bytes_evicted_is_empty;
 
   static lru_told begin(Cache* cache, std::string_view key, std::uint64_t charge, Chain* gone) {
     return lru_bytes_begin(cache, key.data(), key.size(), charge, gone);
@@ -96,6 +97,7 @@ struct Calls<Words> {
   static constexpr auto make_chain = lru_words_evicted_new;
   static constexpr auto free_chain = lru_words_evicted_free;
   static constexpr auto pop = lru_words_evicted_pop;
+  static constexpr auto is_empty = lru_words_evicted_is_empty;
 
   static lru_told begin(Cache* cache, Words key, std::uint64_t charge, Chain* gone) {
     return lru_words_begin(cache, key.first, key.second, charge, gone);
@@ -221,8 +223,9 @@ class Core {
     return static_cast<std::uint64_t>(reinterpret_cast<std::uintptr_t>(node));
   }
 
-  // Empties the chain, as the next call needs it empty.
+  // Empties the chain, as the next call needs it empty. Most calls evict nothing.
   void take_evicted(Evicted<Node>* evicted) noexcept {
+    if (Calls::is_empty(&chain_)) return;
     lru_gone gone;
     while (Calls::pop(&chain_, &gone)) evicted->add(node_of(gone.value));
   }
