@@ -1,6 +1,6 @@
-//! The entries of a cache as one value: nodes, what finds their places by key and by stamp, and the
-//! total of the charges. No rule of the cache is decided here but the order of eviction: what
-//! happens when is the core's.
+//! The entries of a cache as one value: nodes, lookup of their places by key and by stamp, and the
+//! total of the charges. The only rule of the cache decided here is the order of eviction; when
+//! things happen is up to the core.
 ghost use Rattle.std.specs.Prelude.{◌≡◌, ◌≢◌, ℕ, ◌+◌, ◌<◌, ◌≤◌, ◌^◌, Some, None, [], IsSome, OnOk, OnErr, IfOk, IfErr, IfSome, MatchOption, filter_map, length, ◌∷◌, ◌++◌, true, cond, nat_eq};
 ghost use Rattle.std.specs.Arc.{arc_value};
 ghost use Rattle.std.specs.HashMap as hash;
@@ -38,8 +38,8 @@ pub struct Table<K: Hash + Eq + Clone, V> {
     total: u64,
     // The idle entries' part of the total.
     idle_charge: u64,
-    // Where a look by stamp begins: the place of the entry that was pinned last, or that a caller
-    // tells. It is a hint alone: any place will do.
+    // Where a lookup by stamp begins: the place of the entry that was pinned last, or one that a
+    // caller set. It is only a hint: any place will do.
     near: Place,
 }
 
@@ -58,8 +58,7 @@ impl<K: Hash + Eq + Clone, V> Model for Table<K, V> {
 }
 
 impl<K: Hash + Eq + Clone, V: Drop> Table<K, V> {
-    /// No entries, and a map by stamp, so that each look by stamp takes the same time. Takes no
-    /// memory.
+    /// Creates a table with no entries and a map by stamp. Takes no memory.
     pub fn new(alloc: Global) -> Table<K, V>
         requires { CopiesAreEqual K.is_clone K.eq }
         ensures idle { result.idle ≡ [] }
@@ -70,9 +69,9 @@ impl<K: Hash + Eq + Clone, V: Drop> Table<K, V> {
         Table::found_by(alloc, Stamps::Mapped(HashMap::new(alloc)))
     }
 
-    // No entries, and no map by stamp: an entry comes and goes with one write less, and a look by
-    // stamp visits every node, but for one that begins at its entry's place. For callers that
-    // keep the places of what they pinned. Takes no memory.
+    // Creates a table with no entries and no map by stamp: adding or removing an entry costs one
+    // write less, but a lookup by stamp visits every node unless it begins at its entry's place.
+    // For callers that keep the places of what they pinned. Takes no memory.
     pub(crate) fn without_map_of_stamps(alloc: Global) -> Table<K, V>
         requires { CopiesAreEqual K.is_clone K.eq }
         ensures idle { result.idle ≡ [] }
@@ -83,7 +82,7 @@ impl<K: Hash + Eq + Clone, V: Drop> Table<K, V> {
         Table::found_by(alloc, Stamps::Unmapped)
     }
 
-    // No entries; where some come, their stamps are found by this.
+    // Creates a table with no entries that finds stamps with `by_stamp`.
     fn found_by(alloc: Global, by_stamp: Stamps) -> Table<K, V>
         requires copies { CopiesAreEqual K.is_clone K.eq }
         requires unmapped { (s : ℕ) → mapped_place by_stamp s ≡ None }
@@ -102,40 +101,40 @@ impl<K: Hash + Eq + Clone, V: Drop> Table<K, V> {
         }
     }
 
-    /// Makes room for so many entries in all, those that are there included.
+    /// Reserves room for a total of `entries` entries, including those present.
     ///
-    /// `Memory` where a growth is refused; some room may have been made.
+    /// Returns `Memory` if a growth is refused; some room may have been reserved.
     pub fn reserve(&mut self, entries: usize) -> Result<(), Refusal>
         ensures err { IfErr result (λ e. e ≡ Refusal.Memory) }
         ensures same { self.new ≡ self.old }
     {
-        // Detached entries have no key here, so beside them this makes more room, and never less.
+        // Detached entries have no key here, so beside them this reserves more room, never less.
         let more = entries.saturating_sub(self.by_key.len());
         make_room(&mut self.nodes, &mut self.by_key, &mut self.by_stamp, more)
     }
 
-    /// The number of entries.
+    /// Returns the number of entries.
     pub fn len(&self) -> usize
         ensures { result ≡ count_of (cache_of self.now) }
     {
         self.nodes.len()
     }
 
-    /// The sum of the charges of all entries.
+    /// Returns the sum of the charges of all entries.
     pub fn total(&self) -> u64
         ensures { result ≡ charges_of self.now }
     {
         self.total
     }
 
-    /// The sum of the charges of held entries, detached ones included.
+    /// Returns the sum of the charges of held entries, including detached ones.
     pub fn pinned_charge(&self) -> u64
         ensures { result ≡ pinned_of (cache_of self.now) }
     {
         self.total - self.idle_charge
     }
 
-    /// The place of the entry with this stamp.
+    /// Returns the place of the entry with this stamp.
     #[inline(always)]
     pub fn find_stamp(&self, stamp: u64) -> Option<Place>
         ensures { MatchOption result (ContainsNoStamp self.now stamp) (λ p. map.get self.now.stamps p ≡ Some stamp) }
@@ -146,26 +145,26 @@ impl<K: Hash + Eq + Clone, V: Drop> Table<K, V> {
         self.by_stamp.find(&self.nodes, stamp)
     }
 
-    /// The place of the entry that was pinned last, where no look was told to begin elsewhere.
+    /// Returns the place of the entry that was pinned last, unless another place was set since.
     pub fn near(&self) -> Place {
         self.near
     }
 
-    /// Tells the looks by stamp to begin at a place, which may be any.
+    /// Sets the place where lookups by stamp begin. Any place will do.
     pub fn look_near(&mut self, place: Place)
         ensures { self.new ≡ self.old }
     {
         self.near = place;
     }
 
-    /// The place of the entry with an equal key.
+    /// Returns the place of the entry with an equal key.
     pub fn find_key(&self, key: &K) -> Option<Place>
         ensures { MatchOption result (ContainsNoKey K.eq self.now key.now) (λ p. IsPlaceOfKey K.eq self.now p key.now) }
     {
         self.by_key.get(key).copied()
     }
 
-    /// The node at a place.
+    /// Returns the node at a place.
     pub fn node(&self, place: Place) -> &Node<K, V>
         requires { ContainsPlace self.now place }
         ensures entry { GetsAt self.now place (entry_of result.now) }
@@ -176,9 +175,9 @@ impl<K: Hash + Eq + Clone, V: Drop> Table<K, V> {
         self.nodes.node(place)
     }
 
-    /// Keeps a new entry, held by one pin, whose value is being made.
+    /// Adds a new entry, held by one pin, whose value is being made.
     ///
-    /// `Memory` where a copy of the key or a growth is refused; nothing changes then.
+    /// Returns `Memory` if a copy of the key or a growth is refused; then nothing changes.
     #[inline(never)]
     pub fn add(&mut self, alloc: Global, stamp: u64, key: &K, charge: u64) -> Result<(), Refusal>
         requires absent { ContainsNoKey K.eq self.old key.now }
@@ -206,10 +205,10 @@ impl<K: Hash + Eq + Clone, V: Drop> Table<K, V> {
         Ok(())
     }
 
-    /// Keeps a new entry, as `add`, and detaches the held one that the key found before. All that
-    /// can be refused comes first.
+    /// Adds a new entry, as `add` does, and detaches the held one that the key had. Everything that
+    /// can be refused precedes the first change.
     ///
-    /// `Memory` as there; nothing changes then.
+    /// Returns `Memory` as `add` does; then nothing changes.
     pub fn add_over_held(
         &mut self,
         alloc: Global,
@@ -244,10 +243,10 @@ impl<K: Hash + Eq + Clone, V: Drop> Table<K, V> {
         Ok(())
     }
 
-    /// Keeps a new entry, as `add`, and takes away the idle one that the key found before. All that
-    /// can be refused comes first.
+    /// Adds a new entry, as `add` does, and removes the idle one that the key had. Everything that
+    /// can be refused precedes the first change.
     ///
-    /// `Memory` as there; nothing changes then.
+    /// Returns `Memory` as `add` does; then nothing changes.
     pub fn add_over_idle(
         &mut self,
         alloc: Global,
@@ -291,9 +290,9 @@ impl<K: Hash + Eq + Clone, V: Drop> Table<K, V> {
         Ok(old)
     }
 
-    /// Pins a ready entry once more, and tells its value: an idle one leaves the idle order.
+    /// Pins a ready entry once more and returns its value. An idle one leaves the idle order.
     ///
-    /// `Memory` where the copy of the value is refused; nothing changes then.
+    /// Returns `Memory` if the copy of the value is refused; then nothing changes.
     #[inline(always)]
     pub fn pin(&mut self, place: Place) -> Result<Arc<V>, Refusal>
         requires place { ContainsPlace self.old place }
@@ -315,7 +314,7 @@ impl<K: Hash + Eq + Clone, V: Drop> Table<K, V> {
         Ok(value)
     }
 
-    /// Writes the number of pins of a held entry, which stays held. Takes no memory.
+    /// Sets the number of pins of a held entry, which stays held. Takes no memory.
     pub fn hold(&mut self, place: Place, pins: u32)
         requires held { ContainsHeldAt self.old place }
         requires some { 0 < pins }
@@ -325,7 +324,7 @@ impl<K: Hash + Eq + Clone, V: Drop> Table<K, V> {
         self.near = place;
     }
 
-    /// Detaches a held entry from its key: from then on its stamp alone finds it. Takes no memory.
+    /// Detaches a held entry from its key: it is then found by its stamp only. Takes no memory.
     pub fn detach(&mut self, place: Place)
         requires { ContainsFoundAt self.old place }
         ensures { Rewrites held_detached self.old place self.new }
@@ -334,8 +333,8 @@ impl<K: Hash + Eq + Clone, V: Drop> Table<K, V> {
         self.nodes.set_detached(place);
     }
 
-    /// Writes the phase of a held entry: its making is handed over, or its value is there. Takes
-    /// no memory.
+    /// Sets the phase of a held entry: its making is handed over, or its value is ready. Takes no
+    /// memory.
     pub fn set_phase(&mut self, place: Place, phase: Phase<V>)
         requires { ContainsHeldAt self.old place }
         ensures { Rewrites (held_in_phase (phase_of phase)) self.old place self.new }
@@ -343,8 +342,8 @@ impl<K: Hash + Eq + Clone, V: Drop> Table<K, V> {
         self.nodes.set_phase(place, phase);
     }
 
-    /// Stores the value of an entry that is being made. Where it is not, the value comes back.
-    /// Takes no memory.
+    /// Stores the value of an entry that is being made. Returns the value if the entry is not being
+    /// made. Takes no memory.
     pub fn store(&mut self, place: Place, value: Arc<V>) -> Result<(), Arc<V>>
         requires { ContainsPlace self.old place }
         ensures ok { OnOk result (ReadiesAt (arc_value value) self.old place self.new) }
@@ -358,7 +357,7 @@ impl<K: Hash + Eq + Clone, V: Drop> Table<K, V> {
         Ok(())
     }
 
-    // Pins an idle entry, which is held from then on, and tells its value.
+    // Pins an idle entry, which is then held, and returns its value.
     fn revive(&mut self, place: Place) -> Result<Arc<V>, Refusal>
         requires { ContainsIdleAt self.old place }
         ensures value { IfOk result (λ a. value_at self.old place ≡ Some (arc_value a)) }
@@ -373,7 +372,7 @@ impl<K: Hash + Eq + Clone, V: Drop> Table<K, V> {
         Ok(value)
     }
 
-    /// Takes the pins of a ready entry, which becomes the newest idle one. Takes no memory.
+    /// Removes the pins of a ready entry, which becomes the newest idle one. Takes no memory.
     pub fn rest(&mut self, place: Place)
         requires { IsReadyAt self.old place }
         ensures { RestsAt self.old place self.new }
@@ -384,7 +383,7 @@ impl<K: Hash + Eq + Clone, V: Drop> Table<K, V> {
         self.idle_charge += charge;
     }
 
-    /// Makes an idle entry the newest idle one, as a pin and the release of it do. Takes no memory.
+    /// Makes an idle entry the newest idle one, as pinning and releasing it does. Takes no memory.
     pub fn renew(&mut self, place: Place)
         requires { ContainsIdleAt self.old place }
         ensures entry { RenewsAt self.old place self.new }
@@ -393,7 +392,7 @@ impl<K: Hash + Eq + Clone, V: Drop> Table<K, V> {
         self.nodes.renew(place);
     }
 
-    /// Takes a held entry away. Takes no memory.
+    /// Removes a held entry. Takes no memory.
     pub fn take_held(&mut self, place: Place) -> Box<Node<K, V>>
         requires { ContainsHeldAt self.old place }
         ensures at { map.get self.old.stamps place ≡ Some (entry_of result.value).stamp }
@@ -413,7 +412,7 @@ impl<K: Hash + Eq + Clone, V: Drop> Table<K, V> {
         )
     }
 
-    /// Takes an idle entry away. Takes no memory.
+    /// Removes an idle entry. Takes no memory.
     pub fn evict(&mut self, place: Place) -> Box<Node<K, V>>
         requires { ContainsIdleAt self.old place }
         ensures at { map.get self.old.stamps place ≡ Some (entry_of result.value).stamp }
@@ -437,7 +436,7 @@ impl<K: Hash + Eq + Clone, V: Drop> Table<K, V> {
         node
     }
 
-    /// Takes every held entry away, detached ones too, where no entry is idle. Answers those that
+    /// Removes every held entry, including detached ones, if no entry is idle. Returns those that
     /// have a value, in an unspecified order, and drops the others. Takes no memory.
     pub fn take_each_held(&mut self) -> Evicted<K, V>
         requires { self.old.idle ≡ [] }
@@ -455,7 +454,7 @@ impl<K: Hash + Eq + Clone, V: Drop> Table<K, V> {
         taken
     }
 
-    // Takes the held entry at a place away, if there is one. No entry is idle.
+    // Removes the held entry at a place, if there is one. No entry is idle.
     fn take_held_at(&mut self, place: Place) -> Option<Box<Node<K, V>>>
         requires { self.old.idle ≡ [] }
         ensures taken { MatchOption result ((map.get self.old.stamps place ≡ None) × (self.new ≡ self.old)) (λ node. TakesHeldAt self.old place (entry_of node.value) self.new) }
@@ -467,7 +466,7 @@ impl<K: Hash + Eq + Clone, V: Drop> Table<K, V> {
         None
     }
 
-    // Takes the oldest idle entry away, if there is one.
+    // Removes the oldest idle entry, if there is one.
     fn evict_oldest(&mut self) -> Option<Box<Node<K, V>>>
         ensures held { self.new.held ≡ self.old.held }
         ensures idle { MatchOption result ((self.old.idle ≡ []) × (self.new.idle ≡ [])) (λ node. self.old.idle ≡ filter_map as_idle (entry_of node.value ∷ []) ++ self.new.idle) }
@@ -492,7 +491,7 @@ impl<K: Hash + Eq + Clone, V: Drop> Table<K, V> {
         self.evict_down_to(capacity)
     }
 
-    // Settles a total that is above the capacity.
+    // Evicts until a total that is above the capacity is at most the capacity or nothing is idle.
     #[inline(never)]
     fn evict_down_to(&mut self, capacity: u64) -> Evicted<K, V>
         ensures held { self.new.held ≡ self.old.held }
@@ -513,7 +512,7 @@ impl<K: Hash + Eq + Clone, V: Drop> Table<K, V> {
     }
 }
 
-// Makes room for so many more entries, so that their inserts cannot fail.
+// Reserves room for `more` more entries, so that their inserts cannot fail.
 fn make_room<K: Hash + Eq + Drop, V: Drop>(
     nodes: &mut Nodes<K, V>,
     by_key: &mut HashMap<K, Place>,
@@ -535,7 +534,7 @@ fn make_room<K: Hash + Eq + Drop, V: Drop>(
     Ok(())
 }
 
-// Keeps a new node, for which there is room, and whose key finds none. Answers its place.
+// Inserts a new node, for which there is room and whose key finds none. Returns its place.
 #[inline(always)]
 fn put<K: Hash + Eq + Drop, V: Drop>(
     nodes: &mut Nodes<K, V>,
@@ -563,14 +562,14 @@ fn put<K: Hash + Eq + Drop, V: Drop>(
     let stamp = node.stamp;
     let charge = node.charge;
     let place = nodes.insert_reserved(node);
-    // Not refused, since there is room.
+    // Never refused, since there is room.
     let _before = by_key.insert(kept, place);
     by_stamp.insert(stamp, place);
     *total += charge;
     place
 }
 
-// Takes the key of a node out of what finds places by key.
+// Removes the key of a node from the map by key.
 fn forget_key<K: Hash + Eq + Drop, V: Drop>(
     nodes: &Nodes<K, V>,
     by_key: &mut HashMap<K, Place>,
@@ -583,7 +582,7 @@ fn forget_key<K: Hash + Eq + Drop, V: Drop>(
     let _place = by_key.remove(&nodes.node(place).key);
 }
 
-// Takes a node away that is in no order, what finds it, and its charge.
+// Removes a node that is in no order, with its map entries and its charge.
 fn take_away<K: Hash + Eq + Drop, V: Drop>(
     nodes: &mut Nodes<K, V>,
     by_key: &mut HashMap<K, Place>,
@@ -608,7 +607,7 @@ fn take_away<K: Hash + Eq + Drop, V: Drop>(
     ensures total { total.new + (entry_of result.value).charge ≡ total.old }
 {
     let node = nodes.take(place);
-    // The key of a detached one leads to a newer entry, if to any.
+    // The key of a detached node leads to a newer entry, if to any.
     if !node.detached {
         let _place = by_key.remove(&node.key);
     }
@@ -617,7 +616,7 @@ fn take_away<K: Hash + Eq + Drop, V: Drop>(
     node
 }
 
-// Ready entries as a map; an entry that is being made, or that is detached, is not shown.
+// Prints the ready entries as a map. An entry that is being made or detached is not shown.
 impl<K: Hash + Eq + Clone + fmt::Debug, V: Drop + fmt::Debug> fmt::Debug for Table<K, V> {
     fn fmt<W: fmt::Write>(&self, f: &mut fmt::Formatter<W>) -> fmt::Result {
         let mut map = f.debug_map();

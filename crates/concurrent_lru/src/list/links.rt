@@ -1,4 +1,5 @@
-//! The idle order as links among nodes: each idle one has the pointers of its neighbours.
+//! The idle order as links among nodes: each idle one points to its neighbours.
+//!
 //! Free functions over the slots and the two ends, which may break the order for a moment.
 ghost use Rattle.std.specs.Prelude.{◌≡◌, ◌+◌, ◌∷◌, [], ◌++◌, ◌==◌, map, filter, not, nat_eq, true, false, None, Some, IsSome, OnOk, OnErr, IfOk, IfErr};
 ghost use Rattle.std.specs.Arc.{arc_value};
@@ -14,7 +15,7 @@ use crate::list::slots::Slots;
 use crate::list::{Node, Phase, Refusal};
 use std::sync::Arc;
 
-// The neighbours of one node.
+// Sets the neighbours of one node.
 fn set_links<K, V>(
     node: &mut Node<K, V>,
     before: Option<*mut Node<K, V>>,
@@ -26,8 +27,8 @@ fn set_links<K, V>(
     node.after = after;
 }
 
-// One link of a node. The other is not read: a neighbour was often written last by another
-// processor, and then a read before the write moves it twice.
+// Sets one link of a node. The other is not read: a neighbour was often written last by another
+// processor, and reading it before the write moves its cache line twice.
 fn link_before<K, V>(node: &mut Node<K, V>, before: Option<*mut Node<K, V>>)
     ensures { IsRelinked node.old node.new before (after_link node.old) }
 {
@@ -97,7 +98,7 @@ pub(super) fn append_at<K: Drop, V: Drop>(
     push(slots, oldest, newest, own, key);
 }
 
-// Makes the node that a link leads to the newest idle one. The key is the node's own.
+// Makes the node at the end of a link the newest idle one. The key is the node's own.
 fn push<K: Drop, V: Drop>(
     slots: &mut Slots<K, V>,
     oldest: &mut Option<usize>,
@@ -122,7 +123,7 @@ fn push<K: Drop, V: Drop>(
     *newest = Some(own);
 }
 
-// Cuts a node's links, and tells what they were.
+// Clears a node's links and returns them.
 fn unlink<K: Drop, V: Drop>(
     slots: &mut Slots<K, V>,
     link: *mut Node<K, V>,
@@ -138,7 +139,7 @@ fn unlink<K: Drop, V: Drop>(
     (before, after)
 }
 
-// The key of the node that a link leads to, which the node itself carries.
+// Returns the key of the node at the end of a link. The node stores it.
 fn key_of<K: Drop, V: Drop>(slots: &Slots<K, V>, link: Option<*mut Node<K, V>>) -> Option<usize>
     requires tied { IsTied slots.now }
     requires good { IsGood slots.now.memory.cells link }
@@ -150,7 +151,7 @@ fn key_of<K: Drop, V: Drop>(slots: &Slots<K, V>, link: Option<*mut Node<K, V>>) 
     }
 }
 
-// Joins the neighbours of a node that was taken out, seen from the one before, or from the end.
+// Joins the neighbours of a removed node, from the side of the one before it, or of the end.
 fn join_left<K: Drop, V: Drop>(
     slots: &mut Slots<K, V>,
     oldest: &mut Option<usize>,
@@ -169,7 +170,7 @@ fn join_left<K: Drop, V: Drop>(
     }
 }
 
-// And from the one after.
+// Joins them from the side of the one after it.
 fn join_right<K: Drop, V: Drop>(
     slots: &mut Slots<K, V>,
     newest: &mut Option<*mut Node<K, V>>,
@@ -186,7 +187,7 @@ fn join_right<K: Drop, V: Drop>(
     }
 }
 
-// Takes the node that a link leads to out of the idle order.
+// Removes the node at the end of a link from the idle order.
 fn cut<K: Drop, V: Drop>(
     slots: &mut Slots<K, V>,
     oldest: &mut Option<usize>,
@@ -206,7 +207,7 @@ fn cut<K: Drop, V: Drop>(
     join_right(slots, newest, before, after);
 }
 
-// Takes the node under a key out of the idle order.
+// Removes the node under a key from the idle order.
 pub(super) fn remove_at<K: Drop, V: Drop>(
     slots: &mut Slots<K, V>,
     oldest: &mut Option<usize>,
@@ -225,7 +226,8 @@ pub(super) fn remove_at<K: Drop, V: Drop>(
     cut(slots, oldest, newest, own);
 }
 
-// Takes the node under a key out of the idle order and makes it the newest idle one, with one look.
+// Removes the node under a key from the idle order and makes it the newest idle one, with one
+// lookup.
 pub(super) fn renew_at<K: Drop, V: Drop>(
     slots: &mut Slots<K, V>,
     oldest: &mut Option<usize>,
@@ -245,7 +247,7 @@ pub(super) fn renew_at<K: Drop, V: Drop>(
     push(slots, oldest, newest, node, key);
 }
 
-// Writes the pins of the node that a link leads to.
+// Sets the pins of the node at the end of a link.
 fn hold<K: Drop, V: Drop>(slots: &mut Slots<K, V>, link: *mut Node<K, V>, pins: u32)
     requires { IsSome (key_at slots.old.memory.cells link) }
     ensures slots { slots.new ≡ record slots.old { memory = slots.new.memory } }
@@ -254,9 +256,9 @@ fn hold<K: Drop, V: Drop>(slots: &mut Slots<K, V>, link: *mut Node<K, V>, pins: 
     slots.follow_mut(link).hold(pins);
 }
 
-// Takes the node under a key out of the idle order with one pin, and copies its value. The node is
-// looked up once, before the copy: a processor reads nothing behind an atomic instruction before
-// that has ended.
+// Removes the node under a key from the idle order, with one pin, and copies its value. The node is
+// looked up once, before the copy, since a processor starts no later read until an atomic
+// instruction has completed.
 pub(super) fn revive_at<K: Drop, V: Drop>(
     slots: &mut Slots<K, V>,
     oldest: &mut Option<usize>,
@@ -282,7 +284,7 @@ pub(super) fn revive_at<K: Drop, V: Drop>(
     Ok(value)
 }
 
-// Writes the pins of the node under a key.
+// Sets the pins of the node under a key.
 pub(super) fn write_pins<K: Drop, V: Drop>(slots: &mut Slots<K, V>, key: usize, pins: u32)
     requires tied { IsTied slots.old }
     requires present { IsSome (cell_at slots.old.memory.cells key) }
@@ -293,7 +295,7 @@ pub(super) fn write_pins<K: Drop, V: Drop>(slots: &mut Slots<K, V>, key: usize, 
     hold(slots, link, pins);
 }
 
-// Tells the node under a key that it is detached from its key.
+// Marks the node under a key as detached.
 pub(super) fn write_detached<K: Drop, V: Drop>(slots: &mut Slots<K, V>, key: usize)
     requires tied { IsTied slots.old }
     requires present { IsSome (cell_at slots.old.memory.cells key) }
@@ -304,7 +306,7 @@ pub(super) fn write_detached<K: Drop, V: Drop>(slots: &mut Slots<K, V>, key: usi
     slots.follow_mut(link).detach();
 }
 
-// Writes the phase of the node under a key.
+// Sets the phase of the node under a key.
 pub(super) fn write_phase<K: Drop, V: Drop>(slots: &mut Slots<K, V>, key: usize, phase: Phase<V>)
     requires tied { IsTied slots.old }
     requires present { IsSome (cell_at slots.old.memory.cells key) }

@@ -1,5 +1,6 @@
-//! The nodes under their keys: a slab of pointers alone, and the memory that these reach.
-//! A node is had for writing by a look, which is counted, or by a link that a node carries.
+//! The nodes under their keys: a slab of pointers, and the memory that they point to.
+//!
+//! A node is reached for writing by a lookup, which is counted, or by a link in another node.
 ghost use Rattle.std.specs.Prelude.{◌≡◌, ◌≢◌, ℕ, ◌+◌, ◌≤◌, [], Some, None, IsSome, IsTrue, IsFalse, OnOk};
 ghost use Rattle.std.specs.Borrow.{sem};
 ghost use Rattle.slab.specs.Slab.{HasRoomFor, slab_len};
@@ -13,7 +14,7 @@ use crate::work::Work;
 use slab::Slab;
 use std::alloc::{AllocError, Global};
 
-// The nodes of a `Nodes`, and how often one was looked up for writing or taken.
+// The nodes of a `Nodes`, and how often one was looked up to be written or taken.
 pub(super) struct Slots<K, V> {
     pointers: Slab<At<Node<K, V>>>,
     memory: Memory<Node<K, V>, Global>,
@@ -47,7 +48,7 @@ impl<K: Drop, V: Drop> Slots<K, V> {
         self.pointers.reserve(more)
     }
 
-    // Keeps a node under a key that was free, and tells the key.
+    // Inserts a node under a key that was free, and returns the key.
     pub(super) fn insert(&mut self, mut node: Box<Node<K, V>>) -> usize
         requires tied { IsTied self.old }
         requires room { HasRoomFor self.old.pointers 1 }
@@ -67,7 +68,7 @@ impl<K: Drop, V: Drop> Slots<K, V> {
         self.pointers.insert_reserved(at)
     }
 
-    // Gives the node under a key back; a look, as a write is.
+    // Takes out the node under a key. This counts as a lookup, as a write does.
     pub(super) fn take(&mut self, key: usize) -> Box<Node<K, V>>
         requires tied { IsTied self.old }
         requires present { IsSome (cell_at self.old.memory.cells key) }
@@ -87,7 +88,7 @@ impl<K: Drop, V: Drop> Slots<K, V> {
         node
     }
 
-    // The node under a key, for reading.
+    // Returns the node under a key for reading.
     pub(super) fn node(&self, key: usize) -> &Node<K, V>
         requires tied { IsTied self.now }
         requires present { IsSome (cell_at self.now.memory.cells key) }
@@ -96,14 +97,14 @@ impl<K: Drop, V: Drop> Slots<K, V> {
         self.memory.get(self.pointers[key])
     }
 
-    // How many nodes there are.
+    // Returns the number of nodes.
     pub(super) fn len(&self) -> usize
         ensures { result ≡ slab_len self.now.pointers }
     {
         self.pointers.len()
     }
 
-    // Whether there is a node under a key, which may be any.
+    // Returns whether there is a node under a key, which may be any.
     pub(super) fn contains(&self, key: usize) -> bool
         requires { IsTied self.now }
         ensures yes { IsTrue result → IsSome (cell_at self.now.memory.cells key) }
@@ -112,7 +113,7 @@ impl<K: Drop, V: Drop> Slots<K, V> {
         self.pointers.contains(key)
     }
 
-    // All nodes are under keys below this one.
+    // Returns a key above those of all nodes.
     pub(super) fn end_of_keys(&self) -> usize
         requires { IsTied self.now }
         ensures { (key : ℕ) → result ≤ key → cell_at self.now.memory.cells key ≡ None }
@@ -120,7 +121,7 @@ impl<K: Drop, V: Drop> Slots<K, V> {
         self.pointers.capacity()
     }
 
-    // The way to the node under a key, for writing.
+    // Returns a pointer to the node under a key, for writing.
     pub(super) fn look(&mut self, key: usize) -> *mut Node<K, V>
         requires tied { IsTied self.old }
         requires present { IsSome (cell_at self.old.memory.cells key) }
@@ -133,7 +134,7 @@ impl<K: Drop, V: Drop> Slots<K, V> {
         self.pointers[key].ptr
     }
 
-    // The node that a link leads to, for reading.
+    // Returns the node at the end of a link for reading.
     pub(super) fn follow(&self, link: *mut Node<K, V>) -> &Node<K, V>
         requires { IsSome (key_at self.now.memory.cells link) }
         ensures { AtFirst self.now.memory.cells link (λ _ c. result.now ≡ c.value) }
@@ -141,7 +142,7 @@ impl<K: Drop, V: Drop> Slots<K, V> {
         self.memory.get(At { ptr: link })
     }
 
-    // And for writing.
+    // Returns the node at the end of a link for writing.
     pub(super) fn follow_mut(&mut self, link: *mut Node<K, V>) -> &mut Node<K, V>
         requires { IsSome (key_at self.old.memory.cells link) }
         ensures* writes_back { sem 𝓛 (lends_node K.row V.row self.entry link result) }
@@ -150,7 +151,7 @@ impl<K: Drop, V: Drop> Slots<K, V> {
         self.memory.lend(At { ptr: link })
     }
 
-    // Frees every node, whatever links lead to it.
+    // Frees every node, whatever links point to it.
     pub(super) fn end(mut self)
         requires { IsTied self }
     {
