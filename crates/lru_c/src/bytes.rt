@@ -25,10 +25,10 @@ use concurrent_lru::lru_core::Evicted;
 use core::mem::replace_with;
 use std::alloc::Global;
 
-/// Opens an empty cache. An entry may have as many pins as a `u32` counts, and the first one gets
-/// the stamp 0.
+/// Creates an empty cache. Its first entry gets the stamp 0, and an entry has at most `u32::MAX`
+/// pins.
 ///
-/// `OPEN` where the handle is open already, and `MEMORY`: the handle is as it was.
+/// Returns `OPEN` if the handle is already open, or `MEMORY`: the handle stays as it was.
 #[unsafe(no_mangle)]
 pub extern "C" fn lru_bytes_new(alloc: Global, capacity: u64, out: &mut LruBytes) -> u32
     ensures { Opens out.old.is_open out.old.cache.held (λ c. c.state.cache ≡ empty_cache capacity most_pins_by_default 0) result out.new.cache.held }
@@ -45,11 +45,11 @@ pub extern "C" fn lru_bytes_new(alloc: Global, capacity: u64, out: &mut LruBytes
     }
 }
 
-/// Opens an empty cache whose first entry gets the stamp `first_stamp`, and whose entries have at
+/// Creates an empty cache whose first entry gets the stamp `first_stamp`, and whose entries have at
 /// most `most_pins` pins each.
 ///
-/// `NO_PINS` where that is 0, `OPEN` where the handle is open already, and `MEMORY`: the handle is
-/// as it was.
+/// Returns `NO_PINS` if `most_pins` is 0, `OPEN` if the handle is already open, or `MEMORY`: the
+/// handle stays as it was.
 #[unsafe(no_mangle)]
 pub extern "C" fn lru_bytes_new_with_limits(
     alloc: Global,
@@ -75,10 +75,11 @@ pub extern "C" fn lru_bytes_new_with_limits(
     }
 }
 
-/// Frees a cache, and puts each entry that has a value into a chain: what was idle, oldest first,
-/// and then what was held, in no particular order. The handle is not open then.
+/// Frees a cache and puts each entry that has a value into a chain: the idle ones, oldest first,
+/// followed by the held ones in an unspecified order. The handle is then not open.
 ///
-/// `CLOSED` where the cache or the chain is not open, and `NOT_EMPTY` where the chain has entries.
+/// Returns `CLOSED` if the cache or the chain is not open, and `NOT_EMPTY` if the chain has
+/// entries.
 #[unsafe(no_mangle)]
 pub extern "C" fn lru_bytes_free(cache: &mut LruBytes, left: &mut LruBytesEvicted) -> u32
     ensures { FreesInto left.old.chain.held left.new.chain.held result cache.old.cache.held cache.new.cache.held }
@@ -92,11 +93,11 @@ pub extern "C" fn lru_bytes_free(cache: &mut LruBytes, left: &mut LruBytesEvicte
     answer
 }
 
-/// Asks for the value of a key and pins its entry, which is made where there is none. What the
-/// charge of a new entry evicted is put into a chain, oldest first.
+/// Asks for the value of a key and pins its entry, inserting one if there is none. What the charge
+/// of a new entry evicts is put into a chain, oldest first.
 ///
-/// `NO_CHARGE` for a charge of 0, `CLOSED` where the cache or the chain is not open, `NOT_EMPTY` where
-/// the chain has entries, and the refusals of the core: nothing changes.
+/// Returns `NO_CHARGE` for a charge of 0, `CLOSED` if the cache or the chain is not open,
+/// `NOT_EMPTY` if the chain has entries, or a refusal of the core: then nothing changes.
 #[unsafe(no_mangle)]
 pub extern "C" fn lru_bytes_begin_nonnull(
     cache: &mut LruBytes,
@@ -117,7 +118,7 @@ pub extern "C" fn lru_bytes_begin_nonnull(
 
 /// Asks again for a value that was being made.
 ///
-/// `STALE` where no held entry has the stamp.
+/// Returns `STALE` if no held entry has the stamp.
 #[unsafe(no_mangle)]
 pub extern "C" fn lru_bytes_poll(cache: &mut LruBytes, stamp: u64) -> LruTold
     ensures { Asks cache.old.cache.held (ask.poll stamp) result [] cache.new.cache.held }
@@ -125,9 +126,10 @@ pub extern "C" fn lru_bytes_poll(cache: &mut LruBytes, stamp: u64) -> LruTold
     replace_with(cache, stamp, calls::poll)
 }
 
-/// Gives the value of an entry that is being made.
+/// Stores the value of an entry that is being made.
 ///
-/// `STALE` where none is being made under the stamp; `MEMORY`, and then it is still being made.
+/// Returns `STALE` if no entry is being made under that stamp, and `MEMORY`, in which case it is
+/// still being made.
 #[unsafe(no_mangle)]
 pub extern "C" fn lru_bytes_ready(cache: &mut LruBytes, stamp: u64, value: u64) -> u32
     ensures { AsksWithMemory cache.old.cache.held (ask.ready stamp value) (bare result) [] cache.new.cache.held }
@@ -135,9 +137,10 @@ pub extern "C" fn lru_bytes_ready(cache: &mut LruBytes, stamp: u64, value: u64) 
     replace_with(cache, (stamp, value), calls::ready)
 }
 
-/// Gives a making up, and the pin with it: `LEFT` where others wait, and else `REMOVED`.
+/// Gives up making a value, and releases the maker's pin. Returns `LEFT` if others wait for the
+/// entry, and `REMOVED` otherwise.
 ///
-/// `STALE` where none is being made under the stamp.
+/// Returns `STALE` if no entry is being made under that stamp.
 #[unsafe(no_mangle)]
 pub extern "C" fn lru_bytes_fail(cache: &mut LruBytes, stamp: u64) -> u32
     ensures { Asks cache.old.cache.held (ask.fail stamp) (bare result) [] cache.new.cache.held }
@@ -145,9 +148,10 @@ pub extern "C" fn lru_bytes_fail(cache: &mut LruBytes, stamp: u64) -> u32
     replace_with(cache, stamp, calls::fail)
 }
 
-/// The value of a key that is ready, pinned once more; `MISSED` where there is none.
+/// Returns the value of a key that is ready, and pins its entry. Returns `MISSED` if there is none.
 ///
-/// `OVERFLOW` where the entry has all its pins, `MEMORY` and `CLOSED`: nothing changes.
+/// Returns `OVERFLOW` if the entry has the maximum number of pins, `MEMORY` or `CLOSED`: then
+/// nothing changes.
 #[unsafe(no_mangle)]
 pub extern "C" fn lru_bytes_get_nonnull(cache: &mut LruBytes, key: &[u8]) -> LruTold
     ensures { AsksByKey cache.old.cache.held ask.get key.now result [] cache.new.cache.held }
@@ -155,7 +159,7 @@ pub extern "C" fn lru_bytes_get_nonnull(cache: &mut LruBytes, key: &[u8]) -> Lru
     replace_with(cache, key, calls::get)
 }
 
-/// Whether a key has a value: `DONE` or `MISSED`. Pins nothing and moves nothing.
+/// Returns whether a key has a ready value: `DONE` or `MISSED`. Pins nothing.
 #[unsafe(no_mangle)]
 pub extern "C" fn lru_bytes_contains_nonnull(cache: &mut LruBytes, key: &[u8]) -> u32
     ensures { Contains cache.old.cache.held key.now result cache.new.cache.held }
@@ -163,10 +167,10 @@ pub extern "C" fn lru_bytes_contains_nonnull(cache: &mut LruBytes, key: &[u8]) -
     replace_with(cache, key, calls::contains)
 }
 
-/// Gives a pin of a ready entry back. With its last pin the entry becomes the newest idle one, and
-/// what is evicted then is put into a chain, oldest first.
+/// Releases a pin of a ready entry. When its last pin is released, the entry becomes the newest
+/// idle one, and what is evicted then is put into a chain, oldest first.
 ///
-/// `STALE` where no held and ready entry has the stamp.
+/// Returns `STALE` if no held and ready entry has the stamp.
 #[unsafe(no_mangle)]
 pub extern "C" fn lru_bytes_release(
     cache: &mut LruBytes,
@@ -184,7 +188,7 @@ pub extern "C" fn lru_bytes_release(
     answer
 }
 
-/// Evicts the entry of a key into a chain, where it is idle; else nothing happens, now or later.
+/// Evicts the entry of a key into a chain if it is idle. Otherwise nothing happens, now or later.
 #[unsafe(no_mangle)]
 pub extern "C" fn lru_bytes_advice_evict_nonnull(
     cache: &mut LruBytes,
@@ -202,8 +206,8 @@ pub extern "C" fn lru_bytes_advice_evict_nonnull(
     answer
 }
 
-/// Detaches the entry of a key, so that no call by the key finds it. An idle entry is evicted into a
-/// chain; a held one is found by its stamp still, and is evicted with its last pin. Where the key has
+/// Invalidates a key, so that no call by the key finds its entry. An idle entry is evicted into a
+/// chain. A held one is still found by its stamp, and is evicted with its last pin. If the key has
 /// no entry, nothing happens.
 #[unsafe(no_mangle)]
 pub extern "C" fn lru_bytes_invalidate_nonnull(
@@ -222,12 +226,13 @@ pub extern "C" fn lru_bytes_invalidate_nonnull(
     answer
 }
 
-/// Puts a value in, whatever the key has: detaches the entry of the key as an invalidate does, and
-/// makes a new one, in which the caller has a pin: `DONE` with its stamp. The entry that was idle
-/// under the key, and then what the charge evicted, oldest first, are put into a chain.
+/// Inserts a value, replacing what the key has: invalidates the key and inserts a new entry, which
+/// the caller has pinned. Returns `DONE` with its stamp. The idle entry that it replaced, followed
+/// by what the charge evicted, oldest first, is put into a chain.
 ///
-/// `NO_CHARGE` for a charge of 0, `CLOSED` where the cache or the chain is not open, `NOT_EMPTY` where
-/// the chain has entries, `OVERFLOW` and `MEMORY`: nothing changes, and the value is not taken.
+/// Returns `NO_CHARGE` for a charge of 0, `CLOSED` if the cache or the chain is not open,
+/// `NOT_EMPTY` if the chain has entries, `OVERFLOW` or `MEMORY`: then nothing changes, and the
+/// value is not taken.
 #[unsafe(no_mangle)]
 pub extern "C" fn lru_bytes_insert_nonnull(
     cache: &mut LruBytes,
@@ -247,7 +252,7 @@ pub extern "C" fn lru_bytes_insert_nonnull(
     answer
 }
 
-/// Evicts each idle entry into a chain, oldest first.
+/// Evicts every idle entry into a chain, oldest first.
 #[unsafe(no_mangle)]
 pub extern "C" fn lru_bytes_prune(cache: &mut LruBytes, gone: &mut LruBytesEvicted) -> u32
     ensures { IntoChain (entries_of gone.old.chain.held) (entries_of gone.new.chain.held) result cache.old.cache.held cache.new.cache.held (λ out. Asks cache.old.cache.held ask.prune (bare result) out cache.new.cache.held) }
@@ -261,7 +266,7 @@ pub extern "C" fn lru_bytes_prune(cache: &mut LruBytes, gone: &mut LruBytesEvict
     answer
 }
 
-/// Sets the capacity, and evicts at once what is idle and too much for it.
+/// Sets the capacity, and evicts idle entries while the total is above it.
 #[unsafe(no_mangle)]
 pub extern "C" fn lru_bytes_set_capacity(
     cache: &mut LruBytes,
@@ -279,7 +284,7 @@ pub extern "C" fn lru_bytes_set_capacity(
     answer
 }
 
-/// Makes room for this many entries in all. No entry changes in any case.
+/// Reserves room for this many entries in total. No entry changes in any case.
 #[unsafe(no_mangle)]
 pub extern "C" fn lru_bytes_reserve(cache: &mut LruBytes, entries: usize) -> u32
     ensures { Reserves cache.old.cache.held result cache.new.cache.held }
@@ -287,7 +292,7 @@ pub extern "C" fn lru_bytes_reserve(cache: &mut LruBytes, entries: usize) -> u32
     replace_with(cache, entries, calls::reserve)
 }
 
-/// The sum of the charges of all entries.
+/// Returns the sum of the charges of all entries.
 #[unsafe(no_mangle)]
 pub extern "C" fn lru_bytes_total(cache: &mut LruBytes) -> LruTold
     ensures { Numbers cache.old.cache.held sum_of result cache.new.cache.held }
@@ -295,7 +300,7 @@ pub extern "C" fn lru_bytes_total(cache: &mut LruBytes) -> LruTold
     replace_with(cache, (), calls::total)
 }
 
-/// The total that the cache settles to.
+/// Returns the capacity.
 #[unsafe(no_mangle)]
 pub extern "C" fn lru_bytes_capacity(cache: &mut LruBytes) -> LruTold
     ensures { Numbers cache.old.cache.held (λ c. c.capacity) result cache.new.cache.held }
@@ -303,7 +308,7 @@ pub extern "C" fn lru_bytes_capacity(cache: &mut LruBytes) -> LruTold
     replace_with(cache, (), calls::capacity)
 }
 
-/// How many entries there are, held and idle.
+/// Returns the number of entries, held and idle.
 #[unsafe(no_mangle)]
 pub extern "C" fn lru_bytes_len(cache: &mut LruBytes) -> LruTold
     ensures { Numbers cache.old.cache.held count_of result cache.new.cache.held }
@@ -311,10 +316,11 @@ pub extern "C" fn lru_bytes_len(cache: &mut LruBytes) -> LruTold
     replace_with(cache, (), calls::len)
 }
 
-/// Copies the key of an entry, held or idle, to the front of a buffer: `NUMBER` with its length.
+/// Copies the key of an entry, held or idle, to the front of a buffer. Returns `NUMBER` with its
+/// length.
 ///
-/// `NO_ROOM` with its length where the buffer is too small, and `STALE` where no entry has the
-/// stamp: nothing is written.
+/// Returns `NO_ROOM` with its length if the buffer is too small, and `STALE` if no entry has the
+/// stamp: then nothing is written.
 #[unsafe(no_mangle)]
 pub extern "C" fn lru_bytes_key_of_nonnull(
     cache: &mut LruBytes,
@@ -333,9 +339,9 @@ pub extern "C" fn lru_bytes_key_of_nonnull(
     }
 }
 
-/// Opens an empty chain.
+/// Creates an empty chain.
 ///
-/// `OPEN` where the handle is open already, and `MEMORY`: the handle is as it was.
+/// Returns `OPEN` if the handle is already open, or `MEMORY`: the handle stays as it was.
 #[unsafe(no_mangle)]
 pub extern "C" fn lru_bytes_evicted_new(alloc: Global, out: &mut LruBytesEvicted) -> u32
     ensures { Opens out.old.is_open out.old.chain.held (λ c. entries_in (entries_of (Some c)) ≡ []) result out.new.chain.held }
@@ -352,9 +358,9 @@ pub extern "C" fn lru_bytes_evicted_new(alloc: Global, out: &mut LruBytesEvicted
     }
 }
 
-/// Frees a chain that has no entries. The handle is not open then.
+/// Frees a chain that has no entries. The handle is then not open.
 ///
-/// `NOT_EMPTY` where it has some, and then nothing changes.
+/// Returns `NOT_EMPTY` if it has entries; then nothing changes.
 #[unsafe(no_mangle)]
 pub extern "C" fn lru_bytes_evicted_free(chain: &mut LruBytesEvicted) -> u32
     ensures code { result ≡ chain_code (entries_of chain.old.chain.held) }
@@ -368,7 +374,7 @@ pub extern "C" fn lru_bytes_evicted_free(chain: &mut LruBytesEvicted) -> u32
     filled
 }
 
-/// Takes the oldest entry out of a chain. False where none is left, or the chain is not open.
+/// Takes the oldest entry out of a chain. Returns false if none is left or the chain is not open.
 #[unsafe(no_mangle)]
 pub extern "C" fn lru_bytes_evicted_pop(chain: &mut LruBytesEvicted, out: &mut LruGone) -> bool
     ensures stays { is_some chain.new.chain.held ≡ is_some chain.old.chain.held }
@@ -383,7 +389,7 @@ pub extern "C" fn lru_bytes_evicted_pop(chain: &mut LruBytesEvicted, out: &mut L
     }
 }
 
-/// Whether a chain has no entry; true too where it is not open.
+/// Returns whether a chain has no entry, and true if it is not open.
 #[unsafe(no_mangle)]
 pub extern "C" fn lru_bytes_evicted_is_empty(chain: &mut LruBytesEvicted) -> bool
     ensures same { chain.new.chain.held ≡ chain.old.chain.held }

@@ -1,4 +1,4 @@
-//! What is asked of a chain, for keys of any type.
+//! Operations on a chain, for keys of any type.
 ghost use Rattle.std.specs.Prelude.{◌≡◌, ◌++◌, Some};
 ghost use Rattle.lru_c.specs.Chains.{chain_code, Pops};
 
@@ -16,7 +16,7 @@ fn told<K>(gone: &Gone<K, u64>) -> LruGone
     }
 }
 
-// Whether an open chain of these two parts takes more.
+// Returns the code for whether an open chain of these two parts takes more entries.
 pub(crate) fn is_filled<K: Drop>(first: &Evicted<K, u64>, rest: &Evicted<K, u64>) -> u32
     ensures { result ≡ chain_code (Some (first.now ++ rest.now)) }
 {

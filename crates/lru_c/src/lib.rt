@@ -1,6 +1,7 @@
-//! The cache for one owner, for programs in C and in other languages that call C.
-//! C holds handles to caches and to chains of evicted entries, and has a lock of its own round
-//! each call.
+//! The cache for a single owner, for programs in C and in other languages that call C.
+//!
+//! C holds handles of caches and of chains of evicted entries, and a lock of its own around each
+//! call.
 #![tactic(auto)]
 
 pub mod bytes;

@@ -1,4 +1,4 @@
-//! The steps of a cache of words, for keys of any type: each as the core takes it, told as C is told.
+//! The steps of a cache of words, for keys of any type: each calls the core and returns C's answer.
 ghost use Rattle.std.specs.Prelude.{◌≡◌, ◌<◌, ◌==◌, ◌⊎◌, [], MatchBool};
 ghost use Rattle.std.specs.Arc.{arc_value};
 ghost use Rattle.concurrent_lru.specs.Cache.{count_of, sum_of};
@@ -154,7 +154,7 @@ pub(crate) fn invalidate<K: Hash + Eq + Clone>(
     (code::DONE, state.invalidate(key))
 }
 
-// Answers what the new entry replaced, and what its charge evicted.
+// Returns what the new entry replaced and what its charge evicted.
 pub(crate) fn insert<K: Hash + Eq + Clone>(
     state: &mut State<K, u64>,
     alloc: Global,

@@ -1,16 +1,16 @@
-//! What a call tells C.
+//! What a call from C returns.
 ghost use Rattle.std.specs.Prelude.{◌≡◌};
 ghost use Rattle.lru_c.specs.Told.{told, bare};
 
-/// What a call tells: which answer it is, and the numbers that go with it.
+/// The answer of a call: its code, and the numbers that go with it.
 #[repr(C)]
 #[derive(Clone, Copy, PartialEq, Eq)]
 pub struct LruTold {
-    /// The number that names the entry.
+    /// The number that identifies the entry.
     pub stamp: u64,
     /// The value, or the number that was asked for.
     pub value: u64,
-    /// Which answer it is.
+    /// The code of the answer.
     pub code: u32,
 }
 
@@ -32,7 +32,7 @@ impl LruTold {
 #[repr(C)]
 #[derive(Clone, Copy, PartialEq, Eq)]
 pub struct LruGone {
-    /// The number that named the entry.
+    /// The number that identified the entry.
     pub stamp: u64,
     /// What the entry added to the total.
     pub charge: u64,

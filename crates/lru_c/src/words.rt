@@ -27,10 +27,10 @@ use concurrent_lru::lru_core::Evicted;
 use core::mem::replace_with;
 use std::alloc::Global;
 
-/// Opens an empty cache. An entry may have as many pins as a `u32` counts, and the first one gets
-/// the stamp 0.
+/// Creates an empty cache. Its first entry gets the stamp 0, and an entry has at most `u32::MAX`
+/// pins.
 ///
-/// `OPEN` where the handle is open already, and `MEMORY`: the handle is as it was.
+/// Returns `OPEN` if the handle is already open, or `MEMORY`: the handle stays as it was.
 #[unsafe(no_mangle)]
 pub extern "C" fn lru_words_new(alloc: Global, capacity: u64, out: &mut LruWords) -> u32
     ensures { Opens out.old.is_open out.old.cache.held (λ c. c.state.cache ≡ empty_cache capacity most_pins_by_default 0) result out.new.cache.held }
@@ -47,11 +47,11 @@ pub extern "C" fn lru_words_new(alloc: Global, capacity: u64, out: &mut LruWords
     }
 }
 
-/// Opens an empty cache whose first entry gets the stamp `first_stamp`, and whose entries have at
+/// Creates an empty cache whose first entry gets the stamp `first_stamp`, and whose entries have at
 /// most `most_pins` pins each.
 ///
-/// `NO_PINS` where that is 0, `OPEN` where the handle is open already, and `MEMORY`: the handle is
-/// as it was.
+/// Returns `NO_PINS` if `most_pins` is 0, `OPEN` if the handle is already open, or `MEMORY`: the
+/// handle stays as it was.
 #[unsafe(no_mangle)]
 pub extern "C" fn lru_words_new_with_limits(
     alloc: Global,
@@ -77,10 +77,11 @@ pub extern "C" fn lru_words_new_with_limits(
     }
 }
 
-/// Frees a cache, and puts each entry that has a value into a chain: what was idle, oldest first,
-/// and then what was held, in no particular order. The handle is not open then.
+/// Frees a cache and puts each entry that has a value into a chain: the idle ones, oldest first,
+/// followed by the held ones in an unspecified order. The handle is then not open.
 ///
-/// `CLOSED` where the cache or the chain is not open, and `NOT_EMPTY` where the chain has entries.
+/// Returns `CLOSED` if the cache or the chain is not open, and `NOT_EMPTY` if the chain has
+/// entries.
 #[unsafe(no_mangle)]
 pub extern "C" fn lru_words_free(cache: &mut LruWords, left: &mut LruWordsEvicted) -> u32
     ensures { FreesInto left.old.chain.held left.new.chain.held result cache.old.cache.held cache.new.cache.held }
@@ -94,11 +95,11 @@ pub extern "C" fn lru_words_free(cache: &mut LruWords, left: &mut LruWordsEvicte
     answer
 }
 
-/// Asks for the value of a key and pins its entry, which is made where there is none. What the
-/// charge of a new entry evicted is put into a chain, oldest first.
+/// Asks for the value of a key and pins its entry, inserting one if there is none. What the charge
+/// of a new entry evicts is put into a chain, oldest first.
 ///
-/// `NO_CHARGE` for a charge of 0, `CLOSED` where the cache or the chain is not open, `NOT_EMPTY` where
-/// the chain has entries, and the refusals of the core: nothing changes.
+/// Returns `NO_CHARGE` for a charge of 0, `CLOSED` if the cache or the chain is not open,
+/// `NOT_EMPTY` if the chain has entries, or a refusal of the core: then nothing changes.
 #[unsafe(no_mangle)]
 pub extern "C" fn lru_words_begin(
     cache: &mut LruWords,
@@ -120,7 +121,7 @@ pub extern "C" fn lru_words_begin(
 
 /// Asks again for a value that was being made.
 ///
-/// `STALE` where no held entry has the stamp.
+/// Returns `STALE` if no held entry has the stamp.
 #[unsafe(no_mangle)]
 pub extern "C" fn lru_words_poll(cache: &mut LruWords, stamp: u64) -> LruTold
     ensures { Asks cache.old.cache.held (ask.poll stamp) result [] cache.new.cache.held }
@@ -128,9 +129,10 @@ pub extern "C" fn lru_words_poll(cache: &mut LruWords, stamp: u64) -> LruTold
     replace_with(cache, stamp, calls::poll)
 }
 
-/// Gives the value of an entry that is being made.
+/// Stores the value of an entry that is being made.
 ///
-/// `STALE` where none is being made under the stamp; `MEMORY`, and then it is still being made.
+/// Returns `STALE` if no entry is being made under that stamp, and `MEMORY`, in which case it is
+/// still being made.
 #[unsafe(no_mangle)]
 pub extern "C" fn lru_words_ready(cache: &mut LruWords, stamp: u64, value: u64) -> u32
     ensures { AsksWithMemory cache.old.cache.held (ask.ready stamp value) (bare result) [] cache.new.cache.held }
@@ -138,9 +140,10 @@ pub extern "C" fn lru_words_ready(cache: &mut LruWords, stamp: u64, value: u64) 
     replace_with(cache, (stamp, value), calls::ready)
 }
 
-/// Gives a making up, and the pin with it: `LEFT` where others wait, and else `REMOVED`.
+/// Gives up making a value, and releases the maker's pin. Returns `LEFT` if others wait for the
+/// entry, and `REMOVED` otherwise.
 ///
-/// `STALE` where none is being made under the stamp.
+/// Returns `STALE` if no entry is being made under that stamp.
 #[unsafe(no_mangle)]
 pub extern "C" fn lru_words_fail(cache: &mut LruWords, stamp: u64) -> u32
     ensures { Asks cache.old.cache.held (ask.fail stamp) (bare result) [] cache.new.cache.held }
@@ -148,9 +151,10 @@ pub extern "C" fn lru_words_fail(cache: &mut LruWords, stamp: u64) -> u32
     replace_with(cache, stamp, calls::fail)
 }
 
-/// The value of a key that is ready, pinned once more; `MISSED` where there is none.
+/// Returns the value of a key that is ready, and pins its entry. Returns `MISSED` if there is none.
 ///
-/// `OVERFLOW` where the entry has all its pins, `MEMORY` and `CLOSED`: nothing changes.
+/// Returns `OVERFLOW` if the entry has the maximum number of pins, `MEMORY` or `CLOSED`: then
+/// nothing changes.
 #[unsafe(no_mangle)]
 pub extern "C" fn lru_words_get(cache: &mut LruWords, first: u64, second: u64) -> LruTold
     ensures { Asks cache.old.cache.held (ask.get (record { first = first; second = second })) result [] cache.new.cache.held }
@@ -158,7 +162,7 @@ pub extern "C" fn lru_words_get(cache: &mut LruWords, first: u64, second: u64) -
     replace_with(cache, Words { first, second }, calls::get)
 }
 
-/// Whether a key has a value: `DONE` or `MISSED`. Pins nothing and moves nothing.
+/// Returns whether a key has a ready value: `DONE` or `MISSED`. Pins nothing.
 #[unsafe(no_mangle)]
 pub extern "C" fn lru_words_contains(cache: &mut LruWords, first: u64, second: u64) -> u32
     ensures { Contains cache.old.cache.held (record { first = first; second = second }) result cache.new.cache.held }
@@ -166,10 +170,10 @@ pub extern "C" fn lru_words_contains(cache: &mut LruWords, first: u64, second: u
     replace_with(cache, Words { first, second }, calls::contains)
 }
 
-/// Gives a pin of a ready entry back. With its last pin the entry becomes the newest idle one, and
-/// what is evicted then is put into a chain, oldest first.
+/// Releases a pin of a ready entry. When its last pin is released, the entry becomes the newest
+/// idle one, and what is evicted then is put into a chain, oldest first.
 ///
-/// `STALE` where no held and ready entry has the stamp.
+/// Returns `STALE` if no held and ready entry has the stamp.
 #[unsafe(no_mangle)]
 pub extern "C" fn lru_words_release(
     cache: &mut LruWords,
@@ -187,7 +191,7 @@ pub extern "C" fn lru_words_release(
     answer
 }
 
-/// Evicts the entry of a key into a chain, where it is idle; else nothing happens, now or later.
+/// Evicts the entry of a key into a chain if it is idle. Otherwise nothing happens, now or later.
 #[unsafe(no_mangle)]
 pub extern "C" fn lru_words_advice_evict(
     cache: &mut LruWords,
@@ -206,8 +210,8 @@ pub extern "C" fn lru_words_advice_evict(
     answer
 }
 
-/// Detaches the entry of a key, so that no call by the key finds it. An idle entry is evicted into a
-/// chain; a held one is found by its stamp still, and is evicted with its last pin. Where the key has
+/// Invalidates a key, so that no call by the key finds its entry. An idle entry is evicted into a
+/// chain. A held one is still found by its stamp, and is evicted with its last pin. If the key has
 /// no entry, nothing happens.
 #[unsafe(no_mangle)]
 pub extern "C" fn lru_words_invalidate(
@@ -227,12 +231,13 @@ pub extern "C" fn lru_words_invalidate(
     answer
 }
 
-/// Puts a value in, whatever the key has: detaches the entry of the key as an invalidate does, and
-/// makes a new one, in which the caller has a pin: `DONE` with its stamp. The entry that was idle
-/// under the key, and then what the charge evicted, oldest first, are put into a chain.
+/// Inserts a value, replacing what the key has: invalidates the key and inserts a new entry, which
+/// the caller has pinned. Returns `DONE` with its stamp. The idle entry that it replaced, followed
+/// by what the charge evicted, oldest first, is put into a chain.
 ///
-/// `NO_CHARGE` for a charge of 0, `CLOSED` where the cache or the chain is not open, `NOT_EMPTY` where
-/// the chain has entries, `OVERFLOW` and `MEMORY`: nothing changes, and the value is not taken.
+/// Returns `NO_CHARGE` for a charge of 0, `CLOSED` if the cache or the chain is not open,
+/// `NOT_EMPTY` if the chain has entries, `OVERFLOW` or `MEMORY`: then nothing changes, and the
+/// value is not taken.
 #[unsafe(no_mangle)]
 pub extern "C" fn lru_words_insert(
     cache: &mut LruWords,
@@ -257,7 +262,7 @@ pub extern "C" fn lru_words_insert(
     answer
 }
 
-/// Evicts each idle entry into a chain, oldest first.
+/// Evicts every idle entry into a chain, oldest first.
 #[unsafe(no_mangle)]
 pub extern "C" fn lru_words_prune(cache: &mut LruWords, gone: &mut LruWordsEvicted) -> u32
     ensures { IntoChain (entries_of gone.old.chain.held) (entries_of gone.new.chain.held) result cache.old.cache.held cache.new.cache.held (λ out. Asks cache.old.cache.held ask.prune (bare result) out cache.new.cache.held) }
@@ -271,7 +276,7 @@ pub extern "C" fn lru_words_prune(cache: &mut LruWords, gone: &mut LruWordsEvict
     answer
 }
 
-/// Sets the capacity, and evicts at once what is idle and too much for it.
+/// Sets the capacity, and evicts idle entries while the total is above it.
 #[unsafe(no_mangle)]
 pub extern "C" fn lru_words_set_capacity(
     cache: &mut LruWords,
@@ -289,7 +294,7 @@ pub extern "C" fn lru_words_set_capacity(
     answer
 }
 
-/// Makes room for this many entries in all. No entry changes in any case.
+/// Reserves room for this many entries in total. No entry changes in any case.
 #[unsafe(no_mangle)]
 pub extern "C" fn lru_words_reserve(cache: &mut LruWords, entries: usize) -> u32
     ensures { Reserves cache.old.cache.held result cache.new.cache.held }
@@ -297,7 +302,7 @@ pub extern "C" fn lru_words_reserve(cache: &mut LruWords, entries: usize) -> u32
     replace_with(cache, entries, calls::reserve)
 }
 
-/// The sum of the charges of all entries.
+/// Returns the sum of the charges of all entries.
 #[unsafe(no_mangle)]
 pub extern "C" fn lru_words_total(cache: &mut LruWords) -> LruTold
     ensures { Numbers cache.old.cache.held sum_of result cache.new.cache.held }
@@ -305,7 +310,7 @@ pub extern "C" fn lru_words_total(cache: &mut LruWords) -> LruTold
     replace_with(cache, (), calls::total)
 }
 
-/// The total that the cache settles to.
+/// Returns the capacity.
 #[unsafe(no_mangle)]
 pub extern "C" fn lru_words_capacity(cache: &mut LruWords) -> LruTold
     ensures { Numbers cache.old.cache.held (λ c. c.capacity) result cache.new.cache.held }
@@ -313,7 +318,7 @@ pub extern "C" fn lru_words_capacity(cache: &mut LruWords) -> LruTold
     replace_with(cache, (), calls::capacity)
 }
 
-/// How many entries there are, held and idle.
+/// Returns the number of entries, held and idle.
 #[unsafe(no_mangle)]
 pub extern "C" fn lru_words_len(cache: &mut LruWords) -> LruTold
     ensures { Numbers cache.old.cache.held count_of result cache.new.cache.held }
@@ -321,7 +326,8 @@ pub extern "C" fn lru_words_len(cache: &mut LruWords) -> LruTold
     replace_with(cache, (), calls::len)
 }
 
-/// The key of an entry, held or idle, as its two words. `STALE` where no entry has the stamp.
+/// Returns the key of an entry, held or idle, as its two words. Returns `STALE` if no entry has the
+/// stamp.
 #[unsafe(no_mangle)]
 pub extern "C" fn lru_words_key_of(
     cache: &mut LruWords,
@@ -341,9 +347,9 @@ pub extern "C" fn lru_words_key_of(
     code
 }
 
-/// Opens an empty chain.
+/// Creates an empty chain.
 ///
-/// `OPEN` where the handle is open already, and `MEMORY`: the handle is as it was.
+/// Returns `OPEN` if the handle is already open, or `MEMORY`: the handle stays as it was.
 #[unsafe(no_mangle)]
 pub extern "C" fn lru_words_evicted_new(alloc: Global, out: &mut LruWordsEvicted) -> u32
     ensures { Opens out.old.is_open out.old.chain.held (λ c. entries_in (entries_of (Some c)) ≡ []) result out.new.chain.held }
@@ -360,9 +366,9 @@ pub extern "C" fn lru_words_evicted_new(alloc: Global, out: &mut LruWordsEvicted
     }
 }
 
-/// Frees a chain that has no entries. The handle is not open then.
+/// Frees a chain that has no entries. The handle is then not open.
 ///
-/// `NOT_EMPTY` where it has some, and then nothing changes.
+/// Returns `NOT_EMPTY` if it has entries; then nothing changes.
 #[unsafe(no_mangle)]
 pub extern "C" fn lru_words_evicted_free(chain: &mut LruWordsEvicted) -> u32
     ensures code { result ≡ chain_code (entries_of chain.old.chain.held) }
@@ -376,7 +382,7 @@ pub extern "C" fn lru_words_evicted_free(chain: &mut LruWordsEvicted) -> u32
     filled
 }
 
-/// Takes the oldest entry out of a chain. False where none is left, or the chain is not open.
+/// Takes the oldest entry out of a chain. Returns false if none is left or the chain is not open.
 #[unsafe(no_mangle)]
 pub extern "C" fn lru_words_evicted_pop(chain: &mut LruWordsEvicted, out: &mut LruGone) -> bool
     ensures stays { is_some chain.new.chain.held ≡ is_some chain.old.chain.held }
@@ -391,7 +397,7 @@ pub extern "C" fn lru_words_evicted_pop(chain: &mut LruWordsEvicted, out: &mut L
     }
 }
 
-/// Whether a chain has no entry; true too where it is not open.
+/// Returns whether a chain has no entry, and true if it is not open.
 #[unsafe(no_mangle)]
 pub extern "C" fn lru_words_evicted_is_empty(chain: &mut LruWordsEvicted) -> bool
     ensures same { chain.new.chain.held ≡ chain.old.chain.held }

@@ -1,5 +1,6 @@
-//! What the handle of a cache leads to: the cache, and room for a key.
-//! A look-up takes a whole key, so the bytes that are asked are copied into one that is kept.
+//! What the handle of a cache points to: the cache, and a buffer for a key.
+//!
+//! A lookup takes an owned key, so the bytes that are asked for are copied into one that is kept.
 ghost use Rattle.std.specs.Prelude.{◌≡◌, [], true};
 ghost use Rattle.concurrent_lru.specs.Request as ask;
 
@@ -11,11 +12,11 @@ use std::alloc::Global;
 /// A cache whose keys are bytes.
 #[derive(Drop)]
 pub struct BytesCache {
-    /// What values are put on the heap by.
+    /// The allocator of the values.
     pub alloc: Global,
     /// The cache.
     pub state: State<Vec<u8>, u64>,
-    /// The key that was asked last. It grows as longer keys are asked.
+    /// The key of the last lookup. It grows as longer keys are looked up.
     pub key: Vec<u8>,
 }
 
@@ -24,7 +25,7 @@ impl BytesCache {
     ghost use Rattle.lru_c.specs.Inserts.{TellsInsertOf};
     ghost use Rattle.lru_c.specs.Told.{bare, Asks, AsksOf};
 
-    // Copies the bytes of a key into the room for one. False where the room can't grow.
+    // Copies the bytes of a key into the buffer. Returns false if it cannot grow.
     fn keep(&mut self, key: &[u8]) -> bool
         ensures kept { result ≡ true → self.new.key.items ≡ key.now }
         ensures state { self.new.state ≡ self.old.state }

@@ -1,4 +1,4 @@
-//! The calls on a cache behind a handle, which is handed in and handed back.
+//! The calls on a cache behind a handle, which is passed in and returned.
 ghost use Rattle.std.specs.Prelude.{◌≡◌, ◌<◌, [], None, Some, IfOk, MatchOption};
 ghost use Rattle.concurrent_lru.specs.Cache.{count_of, empty_cache, sum_of};
 ghost use Rattle.concurrent_lru.specs.Request as ask;
@@ -80,7 +80,7 @@ pub(crate) fn invalidate(handle: LruBytes, key: &[u8]) -> (LruBytes, (u32, Gone)
     }
 }
 
-// Puts a value in, for a key, a charge and that value: what was replaced, and what was evicted.
+// Inserts a value, and returns what was replaced and what was evicted.
 pub(crate) fn insert(
     handle: LruBytes,
     asked: (&[u8], u64, u64),
@@ -245,7 +245,7 @@ pub(crate) fn contains(handle: LruBytes, key: &[u8]) -> (LruBytes, u32)
     }
 }
 
-// Takes the cache out of its handle, which is not open then.
+// Takes the cache out of its handle, which is then not open.
 pub(crate) fn take(handle: LruBytes, _nothing: ()) -> (LruBytes, Option<Box<BytesCache>>)
     ensures closed { result.0.cache.held ≡ None }
     ensures taken { MatchOption result.1 (handle.cache.held ≡ None) (λ c. handle.cache.held ≡ Some c.value) }

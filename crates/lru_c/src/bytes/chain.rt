@@ -1,4 +1,4 @@
-//! What the handle of a chain leads to.
+//! What the handle of a chain points to.
 ghost use Rattle.std.specs.Prelude.{◌≡◌, ◌++◌, Some};
 ghost use Rattle.lru_c.specs.Chains.{chain_code, Pops};
 
@@ -6,7 +6,7 @@ use crate::chains;
 use crate::told::LruGone;
 use concurrent_lru::lru_core::Evicted;
 
-/// What a call took out of a cache, oldest first: these, and then those.
+/// What a call took out of a cache, oldest first: `first`, followed by `rest`.
 #[derive(Drop)]
 pub struct BytesChain {
     /// What is popped first.
@@ -16,7 +16,7 @@ pub struct BytesChain {
 }
 
 impl BytesChain {
-    // Whether it takes more.
+    // Returns the code for whether it takes more entries.
     pub(crate) fn is_filled(&self) -> u32
         ensures { result ≡ chain_code (Some (self.now.first ++ self.now.rest)) }
     {

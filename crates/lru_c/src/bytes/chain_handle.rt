@@ -36,7 +36,7 @@ impl LruBytesEvicted {
         }
     }
 
-    // What the handle leads to; the handle again where it is not open.
+    // Returns what the handle points to, or the handle if it is not open.
     pub(crate) fn opened(self) -> Result<Box<BytesChain>, LruBytesEvicted>
         ensures { MatchResult result (λ inner. self.chain.held ≡ Some inner.value) (λ same. (self.chain.held ≡ None) × (same.chain.held ≡ None)) }
     {

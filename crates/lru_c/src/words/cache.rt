@@ -1,4 +1,4 @@
-//! What the handle of a cache leads to.
+//! What the handle of a cache points to.
 ghost use Rattle.std.specs.Prelude.{◌≡◌};
 
 use crate::told::LruTold;
@@ -10,7 +10,7 @@ use std::alloc::Global;
 /// A cache whose keys are two words.
 #[derive(Drop)]
 pub struct WordsCache {
-    /// What values are put on the heap by.
+    /// The allocator of the values.
     pub alloc: Global,
     /// The cache.
     pub state: State<Words, u64>,

@@ -8,7 +8,7 @@ use crate::words::cache::WordsCache;
 use std::alloc::Global;
 use std::marker::{Model, Send};
 
-/// A pointer of C. Where `held` is some, it owns that cache as a box does; else it owns nothing.
+/// A C pointer. If `held` is `Some`, it owns that cache as a box does; otherwise it owns nothing.
 #[repr(C)]
 #[derive(Drop)]
 pub struct WordsCacheAt {
@@ -21,7 +21,7 @@ impl Model for WordsCacheAt {
     ghost also_owns = { λ c. words_cache_owns c.alloc c.at c.held };
 }
 
-// One call at a time, from any thread.
+// Callers in C make one call at a time, from any thread.
 unsafe impl Send for WordsCacheAt {}
 
 impl WordsCacheAt {

@@ -36,7 +36,7 @@ impl LruWords {
         }
     }
 
-    // What the handle leads to; the handle again where it is not open.
+    // Returns what the handle points to, or the handle if it is not open.
     pub(crate) fn opened(self) -> Result<Box<WordsCache>, LruWords>
         ensures { MatchResult result (λ inner. self.cache.held ≡ Some inner.value) (λ same. (self.cache.held ≡ None) × (same.cache.held ≡ None)) }
     {

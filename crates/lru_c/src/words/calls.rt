@@ -1,4 +1,4 @@
-//! The calls on a cache behind a handle, which is handed in and handed back.
+//! The calls on a cache behind a handle, which is passed in and returned.
 ghost use Rattle.std.specs.Prelude.{◌≡◌, ◌<◌, [], None, Some, IfOk, MatchOption};
 ghost use Rattle.concurrent_lru.specs.Cache.{count_of, empty_cache, sum_of};
 ghost use Rattle.concurrent_lru.specs.Request as ask;
@@ -81,7 +81,7 @@ pub(crate) fn invalidate(handle: LruWords, key: Words) -> (LruWords, (u32, Gone)
     }
 }
 
-// Puts a value in, for a key, a charge and that value: what was replaced, and what was evicted.
+// Inserts a value, and returns what was replaced and what was evicted.
 pub(crate) fn insert(
     handle: LruWords,
     asked: (Words, u64, u64),

@@ -1,4 +1,4 @@
-//! What the handle of a chain leads to.
+//! What the handle of a chain points to.
 ghost use Rattle.std.specs.Prelude.{◌≡◌, ◌++◌, Some};
 ghost use Rattle.lru_c.specs.Chains.{chain_code, Pops};
 
@@ -7,7 +7,7 @@ use crate::told::LruGone;
 use crate::words::key::Words;
 use concurrent_lru::lru_core::Evicted;
 
-/// What a call took out of a cache, oldest first: these, and then those.
+/// What a call took out of a cache, oldest first: `first`, followed by `rest`.
 #[derive(Drop)]
 pub struct WordsChain {
     /// What is popped first.
@@ -17,7 +17,7 @@ pub struct WordsChain {
 }
 
 impl WordsChain {
-    // Whether it takes more.
+    // Returns the code for whether it takes more entries.
     pub(crate) fn is_filled(&self) -> u32
         ensures { result ≡ chain_code (Some (self.now.first ++ self.now.rest)) }
     {

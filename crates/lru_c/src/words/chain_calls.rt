@@ -1,4 +1,4 @@
-//! The calls on a chain behind a handle, which is handed in and handed back.
+//! The calls on a chain behind a handle, which is passed in and returned.
 ghost use Rattle.std.specs.Prelude.{◌≡◌, ◌++◌, [], None, Some, is_some, true, IfOk, MatchOption};
 ghost use Rattle.lru_c.specs.Chains.{chain_code, entries_in, Pops};
 ghost use Rattle.lru_c.specs.Codes as codes;
@@ -23,7 +23,7 @@ pub(crate) fn make(alloc: Global) -> Result<LruWordsEvicted, AllocError>
     Ok(LruWordsEvicted::of(boxed))
 }
 
-// Whether a chain takes more.
+// Returns the code for whether a chain takes more entries.
 pub(crate) fn is_filled(handle: LruWordsEvicted, _nothing: ()) -> (LruWordsEvicted, u32)
     ensures same { result.0.chain.held ≡ handle.chain.held }
     ensures code { result.1 ≡ chain_code (entries_of handle.chain.held) }
@@ -71,7 +71,7 @@ pub(crate) fn pop(handle: LruWordsEvicted, _nothing: ()) -> (LruWordsEvicted, Op
     }
 }
 
-// Frees a chain, and what is in it.
+// Frees a chain and its entries.
 pub(crate) fn free(handle: LruWordsEvicted, _nothing: ()) -> (LruWordsEvicted, ())
     ensures { result.0.chain.held ≡ None }
 {
