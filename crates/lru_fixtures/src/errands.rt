@@ -1,5 +1,5 @@
-//! Values that use the cache when they are dropped. A value can't name the cache that it is in, so
-//! it asks another thread, which does it while the drop waits: the drop has an errand.
+//! Values that use the cache when they are dropped. A value cannot name the cache that it is in, so
+//! it asks another thread, which does the errand while the drop waits.
 ghost use Rattle.std.specs.Prelude.{◌<◌};
 
 use crate::gates::{Cause, evict_with};
@@ -10,7 +10,7 @@ use std::alloc::AllocError;
 use std::sync::Arc;
 use std::sync::atomic::{AtomicU64, Ordering};
 
-/// How many values have errands. Their numbers, which are their keys too, go from 1.
+/// The number of values that have errands. Their numbers, which are also their keys, start at 1.
 pub const VALUES: usize = 5;
 
 // One value's errand.
@@ -18,7 +18,7 @@ pub const VALUES: usize = 5;
 struct Errand {
     asked: AtomicU64,
     done: AtomicU64,
-    // The place of the value's drop among all, from 1; a sum where it was dropped more than once.
+    // The position of the value's drop among all, from 1; a sum if it was dropped more than once.
     places: AtomicU64,
 }
 
@@ -32,7 +32,7 @@ impl Errand {
     }
 }
 
-/// The errands of all values, and what came of them.
+/// The errands of all values, and their outcomes.
 #[derive(Drop)]
 pub struct Errands {
     all: [Errand; VALUES],
@@ -43,7 +43,7 @@ pub struct Errands {
 }
 
 impl Errands {
-    /// None is asked yet.
+    /// Creates errands that were not asked for yet.
     pub fn new() -> Errands {
         Errands {
             all: [
@@ -64,8 +64,8 @@ impl Errands {
         &self.all[(number.saturating_sub(1) % VALUES as u64) as usize]
     }
 
-    // A drop: waits until the errand is done. Once one was missed no drop waits any more, so that
-    // the test ends.
+    // The drop of a value: waits until its errand is done. Once one is missed, no drop waits any
+    // more, so that the test ends.
     fn drop_value(&self, number: u64) {
         let errand = self.of(number);
         raise(&errand.asked);
@@ -78,8 +78,8 @@ impl Errands {
             .fetch_add(before.wrapping_add(1), Ordering::SeqCst);
     }
 
-    /// What came of a cause, with the totals that `evicts` answered; none where an errand was not
-    /// done, as where a value is dropped under the lock.
+    /// Returns the outcome of a cause, with the totals that `evicts` returned. Returns `None` if an
+    /// errand was not done, as when a value is dropped under the lock.
     pub fn outcome(&self, totals: (u128, u128)) -> Option<Outcome> {
         if is_raised(&self.missed) {
             return None;
@@ -95,7 +95,7 @@ impl Errands {
         })
     }
 
-    // Lets those go that wait for errands, of which there will be no more.
+    // Releases the threads that wait for errands, since there will be no more.
     fn close(&self) {
         raise(&self.closed);
         for errand in &self.all {
@@ -143,7 +143,7 @@ pub fn serve<C: Cached<Sent>>(cache: C, errands: &Errands, number: u64) {
     raise(&errand.done);
 }
 
-// Makes a value, and answers its handle.
+// Makes a value and returns its handle.
 fn makes<H: Drop, C: Cached<Sent, Handle = H>>(
     cache: C,
     errands: &Arc<Errands>,
@@ -153,7 +153,7 @@ fn makes<H: Drop, C: Cached<Sent, Handle = H>>(
     make_value(cache, number, 1, value, &mut None).ok()
 }
 
-// Makes the values 1 to 4, and keeps the first handle where its drop is to evict.
+// Makes the values 1 to 4, and keeps the first handle if its drop is to evict.
 fn makes_four<H: Drop, C: Cached<Sent, Handle = H>>(
     cache: C,
     errands: &Arc<Errands>,
@@ -169,8 +169,8 @@ fn makes_four<H: Drop, C: Cached<Sent, Handle = H>>(
     kept
 }
 
-/// Makes the values 1 to 4 in an empty cache, evicts by this cause and then by a prune. Answers the
-/// totals after both. Each value needs a thread that serves its errand.
+/// Makes the values 1 to 4 in an empty cache, and evicts by this cause and then by a prune. Returns
+/// the totals after both. Each value needs a thread that serves its errand.
 pub fn evicts<H: Drop, C: Cached<Sent, Handle = H>>(
     cache: C,
     errands: &Arc<Errands>,
@@ -189,13 +189,13 @@ pub fn evicts<H: Drop, C: Cached<Sent, Handle = H>>(
     (before, after)
 }
 
-/// What came of a cause.
+/// The outcome of a cause.
 #[derive(Clone, Copy, Debug, PartialEq, Eq)]
 pub struct Outcome {
-    /// The total after it, and once the cache is pruned.
+    /// The total after it, and after the prune.
     pub totals: (u128, u128),
-    /// For each value the place of its drop among all, from 1; 0 where it was not dropped, and a
-    /// sum where it was dropped more than once.
+    /// For each value the position of its drop among all, from 1; 0 if it was not dropped, and a
+    /// sum if it was dropped more than once.
     pub places: [u64; VALUES],
     /// How many errands found the next value in the cache.
     pub found: u64,

@@ -1,5 +1,5 @@
-//! What a cache evicts is dropped without its lock: a value that is dropped waits for another
-//! thread, which gets the lock meanwhile, or gives up.
+//! Tests that a cache drops what it evicts without its lock: a value that is dropped waits for
+//! another thread, which acquires the lock meanwhile, or gives up.
 ghost use Rattle.std.specs.Prelude.{◌<◌};
 
 use crate::threaded::{make_value, try_make_value};
@@ -9,7 +9,7 @@ use std::alloc::AllocError;
 use std::sync::Arc;
 use std::sync::atomic::AtomicU64;
 
-/// Where the thread that drops a value and the one that wants the lock are.
+/// The progress of the thread that drops a value and of the one that acquires the lock.
 #[derive(Drop)]
 pub struct Gate {
     dropping: AtomicU64,
@@ -18,7 +18,7 @@ pub struct Gate {
 }
 
 impl Gate {
-    /// Neither is there yet.
+    /// Creates a gate that neither has reached.
     pub fn new() -> Gate {
         Gate {
             dropping: AtomicU64::new(0),
@@ -27,8 +27,8 @@ impl Gate {
         }
     }
 
-    /// The total that the other thread was told while a value was dropped; none where it was told
-    /// none, or where the lock was not free then.
+    /// Returns the total that the other thread read while a value was dropped, or `None` if it read
+    /// none or the lock was not free then.
     pub fn told(&self, total: Option<u128>) -> Option<u128> {
         if is_raised(&self.missed) {
             return None;
@@ -36,7 +36,7 @@ impl Gate {
         total
     }
 
-    // A drop: waits until the lock was got by the other thread.
+    // The drop of a value: waits until the other thread has acquired the lock.
     fn drop_value(&self) {
         raise(&self.dropping);
         if !meets(&self.entered) {
@@ -51,7 +51,8 @@ pub struct Slow {
 }
 
 impl Slow {
-    /// A value for this gate. `AllocError` where another owner of the gate is refused.
+    /// Creates a value for this gate. Returns `AllocError` if a copy of the gate's `Arc` is
+    /// refused.
     pub fn at(gate: &Arc<Gate>) -> Result<Slow, AllocError> {
         Ok(Slow {
             gate: Arc::try_clone(gate)?,
@@ -69,9 +70,9 @@ impl Drop for Slow {
 /// What evicts a value.
 #[derive(Clone, Copy, Debug)]
 pub enum Cause {
-    /// Another value, for which room is made.
+    /// Another value, which needs room.
     Begin,
-    /// Another value, whose `init` fails after room was made.
+    /// Another value, whose `init` fails after room was made for it.
     Failure,
     /// The drop of its last handle, at a capacity of 0.
     Release,
@@ -85,9 +86,9 @@ pub enum Cause {
     Capacity,
 }
 
-/// Makes a value of key 1 with the charge 1 in a cache that keeps no other beside it. Answers its
-/// handle where the drop of that is to evict it, and else lets the handle go; none where the value
-/// could not be made.
+/// Makes a value of key 1 with the charge 1 in a cache that keeps no other beside it. Returns its
+/// handle if dropping that is to evict it, and drops the handle otherwise. Returns `None` if the
+/// value could not be made.
 pub fn made_for<H: Drop, C: Cached<Slow, Handle = H>>(
     cache: C,
     gate: &Arc<Gate>,
@@ -116,8 +117,8 @@ pub fn evict<H: Drop, C: Cached<Slow, Handle = H>>(
     evict_with(cache, cause, handle, value);
 }
 
-/// Evicts by this cause, which may need a handle to be let go, or a value for which room is made:
-/// its key is 5.
+/// Evicts by this cause, by dropping the handle or by making another value, of key 5, if the cause
+/// needs that.
 pub fn evict_with<V: Drop, H: Drop, C: Cached<V, Handle = H>>(
     cache: C,
     cause: Cause,
@@ -140,7 +141,7 @@ pub fn evict_with<V: Drop, H: Drop, C: Cached<V, Handle = H>>(
     }
 }
 
-/// The total while a value is dropped; none where no value was.
+/// Returns the total while a value is dropped, or `None` if no value was.
 pub fn total_meanwhile<C: Cached<Slow>>(cache: C, gate: &Gate) -> Option<u128> {
     if !meets(&gate.dropping) {
         return None;

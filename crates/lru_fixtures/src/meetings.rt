@@ -1,5 +1,5 @@
-//! What runs without the lock of a cache: makers, and the reading of a handle while the cache is
-//! printed. Two threads have to meet in each; where one held the lock, a limit of looks ends it.
+//! Tests of what runs without the lock of a cache: making values, and reading a handle while the
+//! cache is printed. Two threads have to meet in each; if one held the lock, a limit ends the wait.
 ghost use Rattle.std.specs.Prelude.{◌<◌};
 
 use lru_support::cached::Cached;
@@ -10,7 +10,7 @@ use std::sync::atomic::AtomicU64;
 use std::thread::Threads;
 use std::{fmt, thread};
 
-/// Makes a key, and says whether its `init` met the other maker's.
+/// Makes a key, and returns whether its `init` met the other maker's.
 pub fn meets_in_making<C: Cached<u64>>(
     cache: C,
     key: u64,
@@ -26,7 +26,7 @@ pub fn meets_in_making<C: Cached<u64>>(
     made.is_ok() && met
 }
 
-/// Where the thread that prints a cache and the one that reads a handle are.
+/// The progress of the thread that prints a cache and of the one that reads a handle.
 #[derive(Drop)]
 pub struct Print {
     started: AtomicU64,
@@ -35,7 +35,7 @@ pub struct Print {
 }
 
 impl Print {
-    /// Neither is there yet.
+    /// Creates a meeting that neither has reached.
     pub fn new() -> Print {
         Print {
             started: AtomicU64::new(0),
@@ -44,13 +44,13 @@ impl Print {
         }
     }
 
-    /// Whether the handle was read while the cache was printed.
+    /// Returns whether the handle was read while the cache was printed.
     pub fn is_met(&self) -> bool {
         is_raised(&self.met)
     }
 }
 
-/// A value whose Debug waits until the other thread has read it.
+/// A value whose `Debug` waits until the other thread has read it.
 #[derive(Drop)]
 pub struct Shown {
     print: Arc<Print>,
@@ -58,7 +58,8 @@ pub struct Shown {
 }
 
 impl Shown {
-    /// A value with a number. `AllocError` where another owner of the print is refused.
+    /// Creates a value with a number. Returns `AllocError` if a copy of the meeting's `Arc` is
+    /// refused.
     pub fn new(print: &Arc<Print>, number: u64) -> Result<Shown, AllocError> {
         Ok(Shown {
             print: Arc::try_clone(print)?,
@@ -77,8 +78,8 @@ impl fmt::Debug for Shown {
     }
 }
 
-/// The text of a cache, and the number of a handle's value as another thread reads it meanwhile;
-/// none where memory for the text is refused, and where no value is printed.
+/// Returns the text of a cache, and the number of a handle's value as another thread reads it
+/// meanwhile. Returns `None` if memory for the text is refused or no value is printed.
 pub fn text_and_number<
     T: Threads,
     H: Drop + Sync,

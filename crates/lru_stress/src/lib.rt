@@ -1,5 +1,5 @@
-//! The stress workload: workers that share a cache or a twin, and all that is checked and counted
-//! of what they did. Programs and tests run it with numbers of their own.
+//! The stress workload: workers that share a cache or a twin, and what is checked and counted of
+//! their calls. Programs and tests run it with plans of their own.
 #![tactic(auto)]
 
 mod counted;

@@ -1,20 +1,21 @@
-//! The numbers of a stress run.
-//! A run of these numbers has the same calls each time, in an order that the schedule chooses.
+//! The parameters of a stress run.
+//!
+//! Runs with the same parameters make the same calls, in an order that the scheduler chooses.
 ghost use Rattle.std.specs.Prelude.{◌<◌};
 
-/// How much a stress run does, and on which caches.
+/// The size of a stress run, and its caches.
 #[derive(Clone, Copy)]
 pub struct Plan {
-    /// From which all calls are drawn.
+    /// The seed of all calls.
     pub seed: u64,
-    /// How many threads share a cache.
+    /// The number of threads that share a cache.
     pub workers: u16,
-    /// How many calls a worker makes.
+    /// The number of calls of each worker.
     pub calls: u32,
-    /// How many keys the workers of a cache share, and how many each worker of the twin has of
-    /// its own.
+    /// The number of keys that the workers of a cache share, and that each worker of the twin has
+    /// of its own.
     pub keys: u64,
-    /// The capacity of the cache of one lock and of the twin, in the units of charges.
+    /// The capacity of the cache of one lock and of the twin, in the unit of the charges.
     pub lock_capacity: u64,
     /// The capacity of the sharded cache.
     pub shards_capacity: u64,
@@ -29,8 +30,8 @@ pub struct Plan {
 }
 
 impl Plan {
-    /// 8 workers with 10,000 calls each, for 100 keys, at the capacity 100 on one lock and 128 in
-    /// 16 shards. No `init` yields, and no total is read.
+    /// Creates a plan of 8 workers with 10,000 calls each, for 100 keys, at the capacity 100 on one
+    /// lock and 128 in 16 shards. No `init` yields, and no total is read.
     pub fn new(seed: u64) -> Plan {
         Plan {
             seed,

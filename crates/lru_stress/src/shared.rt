@@ -1,4 +1,4 @@
-//! A cache of one lock or in shards, as the workers of the stress run use it.
+//! A cache of one lock or in shards, as the workers of a stress run use it.
 ghost use Rattle.std.specs.Prelude.{◌<◌};
 
 use crate::counted::{Book, Counted, Unmade};
@@ -10,7 +10,7 @@ use lru_support::calls::Call;
 use std::hash::{BuildHasherDefault, FoldHasher};
 use std::sync::Arc;
 
-/// What the cache in shards numbers its keys by.
+/// The hasher of the cache in shards.
 pub type KeyHasher = BuildHasherDefault<FoldHasher>;
 
 /// The cache of one lock.
@@ -19,10 +19,10 @@ pub type Cache<R> = unsharded::LruCache<u64, Counted, R>;
 /// The cache in shards.
 pub type Shards<R> = sharded::LruCache<u64, Counted, R, KeyHasher>;
 
-/// How a worker asks.
+/// How a worker makes its calls.
 #[derive(Drop)]
 pub struct Manner {
-    /// What the values count in.
+    /// The book of the values.
     pub book: Arc<Book>,
     /// How often an `init` yields.
     pub yields: u32,
@@ -30,21 +30,21 @@ pub struct Manner {
     pub looks: bool,
 }
 
-/// What a call was answered.
+/// The result of a call.
 #[derive(Clone, Copy)]
 pub struct Answer {
-    /// Whether the value is of the key that was asked.
+    /// Whether the value is that of the key that was asked for.
     pub fits: bool,
     /// Whether another call's `init` made it.
     pub is_hit: bool,
     /// Whether it did so after this call began.
     pub is_meeting: bool,
-    /// The total while the handle was held, where it was read.
+    /// The total while the handle was held, if it was read.
     pub total: u128,
 }
 
 impl Answer {
-    // Of a call that began at this moment, whose own `init` may have run.
+    // Creates the result of a call that began at this moment, and whose own `init` may have run.
     fn of(value: &Counted, call: &Call, began: u64, ran: bool, total: u128) -> Answer {
         Answer {
             fits: value.key() == call.key,
@@ -55,8 +55,8 @@ impl Answer {
     }
 }
 
-/// A cache that workers share. It has no associated type, since the checker covers no closure of
-/// a thread over one that has.
+/// A cache that workers share. It has no associated type, since the checker does not support thread
+/// closures over a type that has one.
 pub trait Shared {
     /// Asks for a value, and drops its handle at once.
     fn fetch(&self, call: &Call, manner: &Manner) -> Result<Answer, Unmade>;

@@ -12,7 +12,7 @@ use std::sync::Arc;
 use std::thread;
 use std::thread::Threads;
 
-// What a worker notes of its calls' answers.
+// What a worker records of its calls' results.
 #[derive(Clone, Copy)]
 struct Notes {
     hits: u64,
@@ -54,7 +54,7 @@ impl Notes {
         self.trouble = Trouble::worse(self.trouble, Some(failed));
     }
 
-    // What these workers noted together.
+    // Returns the sum of these workers' notes.
     fn sum(notes: &[Notes]) -> Notes {
         let mut sum = Notes::none();
         for note in notes {
@@ -67,9 +67,10 @@ impl Notes {
     }
 }
 
-/// All workers' calls of a cache, whose total may be so much in the end, and what was counted.
+/// Makes all workers' calls on a cache whose total may be this much in the end, and returns what
+/// was counted.
 ///
-/// `Refused` where memory was refused to a call, or a worker had no thread of its own; else the
+/// Returns `Refused` if memory was refused to a call or a worker had no thread, and otherwise the
 /// first check that failed.
 pub fn share<R: Threads + Sync, C: Shared + Sync>(
     rt: &R,
@@ -99,7 +100,7 @@ pub fn share<R: Threads + Sync, C: Shared + Sync>(
     Ok(counts)
 }
 
-// Has all workers make their calls at once.
+// Runs all workers at the same time.
 fn notes_of_all<R: Threads + Sync, C: Shared + Sync>(
     rt: &R,
     alloc: Global,
@@ -118,7 +119,7 @@ fn notes_of_all<R: Threads + Sync, C: Shared + Sync>(
     Ok(Notes::sum(&notes))
 }
 
-// A worker's calls. After each 1,000 it yields.
+// Makes a worker's calls. It yields after each 1,000.
 fn work<C: Shared>(cache: &C, plan: &Plan, worker: usize, manner: &Manner, start: &Start) -> Notes {
     let mut notes = Notes::none();
     if !start.meets_all() {
@@ -136,7 +137,7 @@ fn work<C: Shared>(cache: &C, plan: &Plan, worker: usize, manner: &Manner, start
     notes
 }
 
-// What is checked of a cache that no worker uses any more.
+// Checks a cache that no worker uses any more.
 fn check<C: Shared>(cache: &C, book: &Book, allowed: u128) -> Result<(), Trouble> {
     if cache.charged() > allowed {
         return Err(Trouble::Failed(Check::Total));
