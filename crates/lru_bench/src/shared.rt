@@ -1,4 +1,4 @@
-//! A cache as the workers of the stress workload see it: on one lock, or in shards.
+//! A cache as the workers of the stress workload see it: on one lock or in shards.
 ghost use Rattle.std.specs.Prelude.{◌<◌};
 
 use concurrent_lru::lru_core::Refusal;
@@ -7,9 +7,10 @@ use lru_support::cached::Cached;
 use lru_support::calls::Call;
 
 /// A cache that workers share. The value of a key is the key. It has no associated type, since the
-/// checker covers no closure of a thread over one that has.
+/// checker does not support thread closures over a type that has one.
 pub trait Shared {
-    /// The value of a call, whose handle is dropped at once; none where its making failed.
+    /// Returns the value of a call, whose handle is dropped at once, or `None` if its making
+    /// failed.
     fn fetch(&self, call: &Call) -> Result<Option<u64>, Refusal>;
 }
 
@@ -24,7 +25,7 @@ impl<C: Cached<u64>> Shared for C {
     }
 }
 
-// What `init` answers: the key, or that it fails.
+// The `init` of a call: returns the key, or fails.
 fn make(call: &Call) -> Result<u64, ()> {
     if call.fails { Err(()) } else { Ok(call.key) }
 }

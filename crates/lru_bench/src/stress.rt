@@ -8,16 +8,16 @@ use std::sync::atomic::{AtomicU64, Ordering};
 use std::thread;
 use std::thread::Threads;
 
-// From which all calls are drawn.
+// The seed of all calls.
 const SEED: u64 = 1;
 
-/// How many keys there are.
+/// The number of keys.
 pub const KEYS: u64 = 100;
 
-/// Makes `calls` calls in each of some threads, and answers the sum of what was read by the calls
+/// Makes `calls` calls on each of some threads, and returns the sum of what was read by the calls
 /// whose making would not fail. It is the same on every schedule.
 ///
-/// `Memory` where a thread could not be started, or a call was refused.
+/// Returns `Memory` if a thread could not be started or a call was refused.
 pub fn stress<R: Threads + Wait + Sync, C: Shared + Sync>(
     rt: &R,
     cache: &C,
@@ -43,8 +43,8 @@ pub fn stress<R: Threads + Wait + Sync, C: Shared + Sync>(
     }
 }
 
-// One worker's calls, and the sum of what it read. Where a making would fail, whether a value is
-// read depends on the others, so it is not counted.
+// Makes one worker's calls, and returns the sum of what it read. If a making would fail, whether a
+// value is read depends on the other workers, so it is not counted.
 fn work<C: Shared>(cache: &C, worker: u32, calls: u32) -> Result<u64, Refusal> {
     let mut drawn = Calls::of_worker(SEED, u64::from(worker));
     let mut sum: u64 = 0;
