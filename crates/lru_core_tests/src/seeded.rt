@@ -1,4 +1,4 @@
-//! Long runs of calls that seeds decide, each answered as a plain cache answers it.
+//! Long runs of calls drawn from seeds, whose answers are compared with those of a plain cache.
 
 use crate::both::Both;
 use crate::plain::KEYS;
@@ -9,7 +9,8 @@ use std::alloc::Global;
 
 const KINDS: u64 = 14;
 
-// The next call, whose stamp is among the last that were given out: `next` is the one after them.
+// Returns the next call, whose stamp is among the last that were given out: `next` is the one after
+// them.
 fn draw(generator: &mut Xoshiro256PlusPlus, next: u64) -> Call {
     let a = generator.next_u64();
     let b = generator.next_u64();
@@ -34,12 +35,13 @@ fn draw(generator: &mut Xoshiro256PlusPlus, next: u64) -> Call {
     }
 }
 
-// Two empty caches at capacity 10, which give an entry three pins at most.
+// Creates two empty caches at capacity 10, whose entries have at most three pins.
 fn both_of_ten(alloc: Global) -> Both {
     Both::with_limits(alloc, 10, 0, 3)
 }
 
-// Few pins are ever given back here, so entries are full of pins more often than they are idle.
+// Few pins are ever released here, so entries reach the maximum number of pins more often than they
+// are idle.
 #[test]
 fn answers_as_a_plain_cache_does(rt: HostRuntime) {
     for seed in 1..=20u64 {
@@ -52,7 +54,7 @@ fn answers_as_a_plain_cache_does(rt: HostRuntime) {
     }
 }
 
-// With three pins held, the oldest is given back, so that there are idle entries to choose from.
+// Once three pins are held, the oldest is released, so that there are idle entries to choose from.
 #[test]
 fn answers_alike_where_pins_are_given_back(rt: HostRuntime) {
     for seed in 1..=20u64 {

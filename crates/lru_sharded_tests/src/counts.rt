@@ -35,7 +35,7 @@ fn the_counts_of_all_shards_are_summed(rt: HostRuntime) -> Result<(), Refusal> {
     assert_eq!(rt; (counts.evictions, counts.evicted_charge), (2, 2));
     assert_eq!(rt; (counts.removals, counts.removed_charge), (1, 1));
     assert_eq!(rt; (cache.len(), cache.total_charge()), (5, 5));
-    // Each shard tells what it had, and begins anew at what it has.
+    // Each shard returns what it had, and starts again from what it has.
     assert_eq!(rt; cache.reset_counts(), counts);
     let anew = Counts {
         entries_before: 5,
@@ -50,7 +50,7 @@ fn the_counts_of_all_shards_are_summed(rt: HostRuntime) -> Result<(), Refusal> {
     Ok(())
 }
 
-// Each shard refuses, replaces and takes back by itself.
+// Each shard refuses, replaces and invalidates independently.
 #[test]
 fn what_each_shard_is_asked_is_counted_there(rt: HostRuntime) {
     let made: Result<LruCache<u64, u64, &HostRuntime, ByOwnNumber>, _> =
@@ -66,7 +66,7 @@ fn what_each_shard_is_asked_is_counted_there(rt: HostRuntime) {
     assert_eq!(rt; (full.refusals, full.misses, full.makings), (3, 0, 0));
     assert_eq!(rt; (full.insertions, full.evictions), (2, 0));
     assert_eq!(rt; full.inserted_charge, 2 + u128::from(u64::MAX));
-    // What is held is evicted later; what is idle at once.
+    // A held entry is evicted later; an idle one at once.
     cache.invalidate(&0);
     assert_eq!(rt; cache.counts().evictions, 0);
     cache.invalidate(&4);
@@ -85,7 +85,7 @@ const RESETS: u32 = 2_000;
 
 const ASKS: u64 = 20_000;
 
-// The calls that hit, missed or waited.
+// Returns the number of calls that hit, missed or waited.
 fn asked_in(counts: &Counts) -> u64 {
     counts
         .hits
@@ -93,7 +93,7 @@ fn asked_in(counts: &Counts) -> u64 {
         .wrapping_add(counts.waits)
 }
 
-// The calls that some resets tell of.
+// Returns the number of calls that some resets counted.
 fn resets_often<R: Wait>(cache: &LruCache<u64, u64, R, ByOwnNumber>) -> u64 {
     let mut asked: u64 = 0;
     for _ in 0..RESETS {
@@ -103,7 +103,7 @@ fn resets_often<R: Wait>(cache: &LruCache<u64, u64, R, ByOwnNumber>) -> u64 {
     asked
 }
 
-// Asks each shard for a value in turn. Answers how many calls it was told of, which are none.
+// Asks each shard for a value in turn. Returns 0, since it counts no calls itself.
 fn asks_often<R: Wait>(cache: &LruCache<u64, u64, R, ByOwnNumber>) -> u64 {
     for key in 0..ASKS {
         let _ = cache.read(&key, |value| *value);

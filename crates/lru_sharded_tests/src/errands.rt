@@ -1,5 +1,5 @@
 //! Values whose drops use a sharded cache, and other shards than their own: whatever evicts them,
-//! no lock is held, and the books are right afterwards.
+//! no lock is held, and the totals are right afterwards.
 
 use concurrent_lru::sharded::LruCache;
 use lru_fixtures::errands::{Errands, Outcome, Sent, VALUES, evicts, serve};
@@ -10,9 +10,8 @@ use std::sync::{Arc, Wait};
 use std::thread;
 use std::thread::Threads;
 
-// What evicts, the capacity of two shards, and what comes of it. Where the first value alone is
-// evicted, its errand evicts the second, of the other shard, and so on, so the drops end last
-// first.
+// What evicts, the capacity of two shards, and the outcome. If only the first value is evicted, its
+// errand evicts the second, of the other shard, and so on, so the drops end in reverse order.
 static CAUSES: [(Cause, u64, Outcome); 6] = [
     (
         Cause::Begin,
@@ -60,7 +59,7 @@ static CAUSES: [(Cause, u64, Outcome); 6] = [
             found: 1,
         },
     ),
-    // Each is evicted as it is let go, the first one last.
+    // Each is evicted when it is released, the first one last.
     (
         Cause::Release,
         0,
@@ -72,7 +71,7 @@ static CAUSES: [(Cause, u64, Outcome); 6] = [
     ),
 ];
 
-// What comes of a cause in a new cache of two shards, which share this capacity.
+// Returns the outcome of a cause in a new cache of two shards, which share this capacity.
 fn outcome<R: Wait + Threads + Send + Sync>(
     rt: &R,
     alloc: Global,

@@ -1,5 +1,6 @@
 //! What a sharded cache evicts is dropped without the lock of its shard.
-//! Two threads have to meet; where one held the lock, a limit of looks would end it.
+//!
+//! Two threads have to meet; if one held the lock, a limit would end the wait.
 
 use concurrent_lru::sharded::LruCache;
 use lru_fixtures::gates::{Cause, Gate, Slow, evict, made_for, total_meanwhile};
@@ -20,7 +21,7 @@ const CAUSES: [(Cause, u64, u128); 7] = [
     (Cause::Capacity, 2, 0),
 ];
 
-// The total while a new cache of two shards, which share this capacity, drops a value.
+// Returns the total while a new cache of two shards, which share this capacity, drops a value.
 fn total_of<R: Wait + Threads + Sync + Send>(
     rt: &R,
     alloc: Global,

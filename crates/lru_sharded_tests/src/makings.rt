@@ -9,7 +9,7 @@ use std::thread;
 
 type Cache<R> = LruCache<u64, u64, R, ByOwnNumber>;
 
-// The value of key 1, made as 5 while the other caller comes.
+// Returns the value of key 1, made as 5 while the other caller comes.
 fn makes_first<R: Wait>(cache: &Cache<R>, started: &AtomicU64, coming: &AtomicU64) -> Option<u64> {
     let mut met = false;
     let made = cache.get_or_init(1, 3, |_| {
@@ -24,7 +24,7 @@ fn makes_first<R: Wait>(cache: &Cache<R>, started: &AtomicU64, coming: &AtomicU6
     }
 }
 
-// The value of key 1, asked for while it is made; none where this caller made it anew.
+// Returns the value of key 1, asked for while it is made, or `None` if this caller made it again.
 fn comes_second<R: Wait>(cache: &Cache<R>, started: &AtomicU64, coming: &AtomicU64) -> Option<u64> {
     if !meets(started) {
         return None;
@@ -41,7 +41,7 @@ fn comes_second<R: Wait>(cache: &Cache<R>, started: &AtomicU64, coming: &AtomicU
     }
 }
 
-// The value of key 1, where it is ready.
+// Returns the value of key 1, if it is ready.
 fn found<R: Wait>(cache: &Cache<R>) -> Option<u64> {
     match cache.get(1) {
         Ok(Some(handle)) => Some(*handle.value()),
@@ -70,7 +70,7 @@ fn one_value_for_two_callers(rt: HostRuntime) {
     // The charge is the maker's.
     let (third, total) = thread::join(&rt, || found(&cache), || cache.total_charge());
     assert_eq!(rt; (third, total), (Some(5), 3));
-    // The second waited, or came later and hit.
+    // The second caller waited, or came later and hit.
     let counts = cache.counts();
     assert_eq!(rt;
         (counts.misses, counts.makings, counts.insertions),

@@ -1,5 +1,5 @@
-//! Makers run without the lock of a shard. In each gate two threads have to meet; a limit of looks
-//! ends it where they don't.
+//! Makers run without the lock of a shard. Two threads have to meet in each test; a limit ends the
+//! wait if they do not.
 
 use concurrent_lru::sharded::LruCache;
 use lru_fixtures::meetings::meets_in_making;
@@ -11,7 +11,7 @@ use std::thread::Threads;
 
 type Cache<V, R> = LruCache<u64, V, R, ByOwnNumber>;
 
-// Whether two makers of these keys met.
+// Returns whether two makers of these keys met.
 fn makers_meet<R: Wait + Send + Sync, T: Threads>(
     rt: &T,
     cache: &Cache<u64, R>,
@@ -37,7 +37,7 @@ fn makers_run_without_the_lock_of_their_shard(rt: HostRuntime) {
         ByOwnNumber,
     );
     let cache = made.expect(&rt, "memory");
-    // Of one shard, and of two.
+    // Keys of one shard, and of two.
     for keys in [(1, 3), (5, 6)] {
         assert_eq!(rt; makers_meet(&rt, &cache, keys), (true, true), "{keys:?}");
     }

@@ -6,7 +6,8 @@ use std::sync::Wait;
 
 type Cache<R> = LruCache<u64, u64, R, ByOwnNumber>;
 
-// Key 1, whose `init` makes key 2. A value has a digit more than the one that it was made of.
+// Makes key 1, whose `init` makes key 2. A value has one digit more than the one that it was made
+// from.
 fn makes_three_deep<R: Wait>(cache: &Cache<R>) -> u64 {
     match cache.get_or_init(1, 1, |_| one_digit_more(makes_two_deep(cache))) {
         Ok(handle) => *handle.value(),
@@ -14,7 +15,7 @@ fn makes_three_deep<R: Wait>(cache: &Cache<R>) -> u64 {
     }
 }
 
-// Key 2, whose `init` makes key 3.
+// Makes key 2, whose `init` makes key 3.
 fn makes_two_deep<R: Wait>(cache: &Cache<R>) -> u64 {
     match cache.get_or_init(2, 1, |_| one_digit_more(makes_one(cache))) {
         Ok(handle) => *handle.value(),
@@ -33,7 +34,7 @@ fn one_digit_more(digits: u64) -> u64 {
     digits.saturating_mul(10).saturating_add(1)
 }
 
-// The value of a key, where it is ready.
+// Returns the value of a key, if it is ready.
 fn found<R: Wait>(cache: &Cache<R>, key: u64) -> Option<u64> {
     match cache.get(key) {
         Ok(Some(handle)) => Some(*handle.value()),
@@ -41,8 +42,8 @@ fn found<R: Wait>(cache: &Cache<R>, key: u64) -> Option<u64> {
     }
 }
 
-// The capacity of two shards, and the values that stay. Each that was made within another is let
-// go first; the keys 1 and 3 have one shard.
+// The capacity of two shards, and the values that stay. Each value that was made within another is
+// released first; the keys 1 and 3 have the same shard.
 const LEFT: [(u64, [Option<u64>; 3]); 3] = [
     (4, [Some(111), Some(11), Some(1)]),
     (2, [Some(111), Some(11), None]),

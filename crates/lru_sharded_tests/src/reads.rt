@@ -26,7 +26,7 @@ fn make(
     Ok(())
 }
 
-// The keys that a shard evicts when it is pruned, in their order.
+// Returns the keys that a prune of a shard evicts, in order.
 fn pruned(
     alloc: Global,
     shards: &mut Shards<u64, u64, ByOwnNumber>,
@@ -88,14 +88,15 @@ fn a_read_keeps_the_entry_in_its_shard(rt: HostRuntime) -> Result<(), Fail> {
     Ok(())
 }
 
-// More keys than the cache keeps, so that some are evicted and made anew all the time.
+// More keys than the cache keeps, so that some are evicted and made again all the time.
 const KEYS: u64 = 20;
 
 const CAPACITY: u64 = 8;
 
 const ROUNDS: u32 = 100;
 
-// Whether the value of a key, read where it is ready and asked for otherwise, is ten times the key.
+// Returns whether the value of a key, read if it is ready and asked for otherwise, is ten times the
+// key.
 fn is_right<R: Wait + Clone + Drop>(cache: &LruCache<u64, u64, R, ByOwnNumber>, key: u64) -> bool {
     let value = match cache.read(&key, |value| *value) {
         Ok(Some(value)) => Some(value),
@@ -108,7 +109,7 @@ fn is_right<R: Wait + Clone + Drop>(cache: &LruCache<u64, u64, R, ByOwnNumber>, 
     value == Some(key.wrapping_mul(10))
 }
 
-// Whether those of all keys are, every time.
+// Returns whether those of all keys are, every time.
 fn stay_right<R: Wait + Clone + Drop>(cache: &LruCache<u64, u64, R, ByOwnNumber>) -> bool {
     for _ in 0..ROUNDS {
         for key in 0..KEYS {

@@ -1,4 +1,4 @@
-//! Long runs of calls that seeds decide, each answered as the shards of one owner answer it.
+//! Long runs of calls drawn from seeds, whose answers are compared with those of `Shards`.
 
 use concurrent_lru::sharded::{LruCache, Shards};
 use lru_fixtures::threaded::{Model, Player, agree};
@@ -10,7 +10,7 @@ use std::test::Fail;
 
 const CAPACITIES: [u64; 4] = [0, 1, 10, 37];
 
-// Makes the calls of a seed, of a cache of three shards, which share this capacity.
+// Makes the calls of a seed on a cache of three shards, which share this capacity.
 fn agrees<R: Wait + Clone + Drop>(
     rt: &R,
     alloc: Global,

@@ -1,4 +1,4 @@
-//! Four threads at one sharded cache with a mark, each of which proves what it reads.
+//! Four threads that use one sharded cache with a mark, each of which proves what it reads.
 
 use concurrent_lru::sharded::LruCache;
 use lru_fixtures::marks::Twice;
@@ -10,7 +10,7 @@ use std::thread::Threads;
 
 type Doubles<R> = LruCache<u64, u64, R, BuildHasherDefault<FoldHasher>, Twice>;
 
-// Reads each key below 50, 20 times, and says whether it could.
+// Reads each key below 50, 20 times, and returns whether it succeeded.
 fn reads_all<R: Wait>(cache: &Doubles<R>) -> bool {
     for _ in 0..20u32 {
         for key in 0..50u64 {
@@ -26,7 +26,7 @@ fn reads_all<R: Wait>(cache: &Doubles<R>) -> bool {
     true
 }
 
-// How many of four workers could read all.
+// Returns how many of four workers could read all.
 fn four_workers<R: Wait + Threads + Send + Sync, W: Wait + Send + Sync>(
     rt: &R,
     cache: &Doubles<W>,
@@ -45,7 +45,7 @@ fn four_workers<R: Wait + Threads + Send + Sync, W: Wait + Send + Sync>(
     done.load(Ordering::SeqCst)
 }
 
-// Whether the value of a key was there, and is twice the key by its handle's contract.
+// Returns whether the value of a key was there, and is twice the key by its handle's contract.
 fn proves_its_double<R: Wait>(cache: &Doubles<R>, key: u64) -> bool {
     match cache.get(key) {
         Ok(Some(handle)) => {
