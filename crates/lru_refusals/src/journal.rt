@@ -1,4 +1,4 @@
-//! Steps of a journal, whose keys are texts, and then its records.
+//! Steps of a journal, whose keys are text, and then its records.
 ghost use Rattle.std.specs.Prelude.{◌<◌};
 
 use crate::step::{Asked, NO_SUCH_STEP, Step};
@@ -9,7 +9,7 @@ use std::alloc::Global;
 use std::io::Write;
 use std::sync::Arc;
 
-/// Takes steps of a journal that is empty at first, and tells its records.
+/// Takes steps of an initially empty journal, and writes its records.
 pub fn play<O: Write, E: Write>(
     alloc: Global,
     capacity: u64,
@@ -69,7 +69,7 @@ fn ask_with_key<O: Write, E: Write>(
     }
 }
 
-// Takes a step that hands over plain numbers.
+// Takes a step whose arguments are plain numbers.
 fn ask_plainly<O: Write, E: Write>(
     journal: &mut Journal<String, u64>,
     step: Step<&'static str>,

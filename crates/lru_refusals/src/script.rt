@@ -1,4 +1,4 @@
-//! A script: a cache, and what is asked of it.
+//! A script: a cache, and the calls on it.
 
 use crate::shards::ShardStep;
 use crate::state::Opening;
@@ -12,26 +12,26 @@ use std::io::Write;
 use std::sync::Wait;
 use std::thread::Threads;
 
-/// A script. Its cache is empty at first.
+/// A script. Its cache is initially empty.
 #[derive(Clone, Copy)]
 pub enum Script {
-    /// Steps of a cache without a lock, of a capacity.
+    /// Steps of a cache without a lock, with a capacity.
     State(u64, &'static [Step<&'static str>]),
-    /// Steps of a cache without a lock, of these limits.
+    /// Steps of a cache without a lock, with these limits.
     Limited(Opening, &'static [Step<&'static str>]),
     /// A list of steps of a cache without a lock.
     List,
     /// A list of steps of shards.
     ShardList,
-    /// Steps of so many shards of a capacity.
+    /// Steps of this many shards, with a capacity.
     Shards(u64, usize, &'static [ShardStep]),
-    /// Steps of a journal of a capacity.
+    /// Steps of a journal, with a capacity.
     Journal(u64, &'static [Step<&'static str>]),
-    /// Steps of a twin of a capacity: those of one caller, and then those of another.
+    /// Steps of a twin, with a capacity: those of one caller, and then those of another.
     Twin(u64, &'static [Step<&'static str>], &'static [Step<&'static str>]),
-    /// Calls of a cache of one lock and a capacity.
+    /// Calls of a cache of one lock, with a capacity.
     Unsharded(u64, &'static [Call]),
-    /// Calls of a cache of a capacity in so many shards.
+    /// Calls of a cache in this many shards, with a capacity.
     Sharded(u64, usize, &'static [Call]),
     /// An entry that takes the room of two, on a cache of one lock.
     OverTwo,
@@ -40,9 +40,9 @@ pub enum Script {
 }
 
 impl Script {
-    /// Runs the script and tells the answers.
+    /// Runs the script and writes the answers.
     ///
-    /// `Memory` where a request of the script's own is refused, or a call twice.
+    /// Returns `Memory` if a request of the script's own, or a call twice, is refused.
     pub fn run<R: Threads + Wait + Sync + Send, O: Write, E: Write>(
         self,
         rt: &R,

@@ -75,7 +75,7 @@ pub const SCRIPTS: &[(&str, Script)] = &[
     ("sharded-many", Script::Sharded(160, 16, VALUES)),
 ];
 
-// A pinned entry stays, whatever comes, and leaves as the newest once it is released.
+// A pinned entry stays, whatever is inserted, and becomes the newest idle one when it is released.
 const PINNED: &[Step] = &[
     Begin("1", 1),
     Ready(0, 1),
@@ -103,7 +103,7 @@ const PINNED: &[Step] = &[
     Release(7),
 ];
 
-// A maker that fails leaves the making to the next that asks.
+// A maker that fails leaves the making to the next caller that polls.
 const HANDED_OVER: &[Step] = &[
     Begin("1", 3),
     Get("1"),
@@ -124,7 +124,7 @@ const AT_LAST_STAMP: Opening = Opening {
     room: 0,
 };
 
-// A begin that was refused for want of memory has not used up the last stamp but one.
+// A begin that was refused for lack of memory does not use up a stamp.
 const LAST_STAMP: &[Step] = &[
     Begin("1", 1),
     Begin("2", 1),
@@ -150,7 +150,7 @@ const ONE_PIN: &[Step] = &[
     Get("1"),
 ];
 
-// Stamps that no longer fit.
+// Stamps of entries that have left or are in another phase.
 const STRAYS: &[Step] = &[
     Begin("1", 1),
     Begin("1", 1),
@@ -173,7 +173,7 @@ const STRAYS: &[Step] = &[
     Prune,
 ];
 
-// What is there is found without a request.
+// A present value is found without an allocation.
 const HITS: &[Step] = &[
     Begin("1", 1),
     Ready(0, 1),
@@ -186,8 +186,8 @@ const HITS: &[Step] = &[
     AdviceEvict("1"),
 ];
 
-// The old value is detached or evicted before the new one is there. The charge of an idle one does
-// not count beside that of the new one; that of a held one does.
+// The old value is detached or evicted before the new one is inserted. The charge of an idle one
+// does not count together with that of the new one; that of a held one does.
 const PUT_IN: &[Step] = &[
     Insert("1", 1, 10),
     Insert("1", 2, 11),
@@ -235,7 +235,7 @@ const CAPACITIES: &[Step] = &[
     Prune,
 ];
 
-// Nine entries where there is no room, and nine where there is.
+// Nine entries without room, and nine with reserved room.
 const GROWTHS: &[Step] = &[
     Begin("1", 1),
     Begin("2", 1),
@@ -275,7 +275,7 @@ const WITH_ROOM: Opening = Opening {
     room: 5,
 };
 
-// Room for as many entries as a map of 16 places takes: for one more, it grows.
+// Room for as many entries as a map of 16 places holds: one more makes it grow.
 const WITH_MUCH_ROOM: Opening = Opening {
     capacity: 40,
     first_stamp: 0,
@@ -302,7 +302,7 @@ const FILLED: &[Step] = &[
     Total,
 ];
 
-// A new entry evicts from its own shard alone.
+// A new entry evicts in its own shard only.
 const SHARDS: &[shards::ShardStep] = &[
     (1, Begin(1, 1)),
     (1, Ready(0, 1)),
@@ -326,8 +326,8 @@ const SHARDS: &[shards::ShardStep] = &[
     (1, Total),
 ];
 
-// An entry that is held when its key is taken back is evicted with its last pin; others leave at
-// once. The shard of the key alone looks for it.
+// An entry that is held when its key is invalidated is evicted with its last pin; others are
+// evicted at once. Only the shard of the key looks for it.
 const SHARDS_TAKEN_BACK: &[shards::ShardStep] = &[
     (1, Begin(1, 1)),
     (1, Ready(0, 10)),
@@ -350,9 +350,8 @@ const SHARDS_TAKEN_BACK: &[shards::ShardStep] = &[
     (1, Total),
 ];
 
-// The tables of a journal and of a twin have each step once where its record needs new room: there
-// is none at first, then it lasts for four records, and then for eight. A read asks for the room of
-// two.
+// The tables of a journal and of a twin have each step once when its record needs new room: there
+// is none at first, then for four records, and then for eight. A read reserves the room of two.
 const EVICTS: &[Step] = &[
     Begin("1", 1),
     Ready(0, 1),
@@ -401,7 +400,7 @@ const FAILS: &[Step] = &[
     Begin("1", 1),
 ];
 
-// A read finds what is ready, makes it the newest, and leaves no pin.
+// A read finds a ready value, makes its entry the newest, and leaves no pin.
 const READS: &[Step] = &[
     Read("1"),
     Begin("1", 1),
@@ -419,7 +418,7 @@ const READS: &[Step] = &[
     Total,
 ];
 
-// An entry whose key is taken back while a caller waits for it is made for that caller, beside the
+// An entry whose key is invalidated while a caller waits for it is made for that caller, beside the
 // new one of the key.
 const TAKEN_BACK: &[Step] = &[
     Invalidate("1"),
@@ -450,9 +449,9 @@ const FINDS_NOTHING: &[Step] = &[
     Prune,
 ];
 
-// What is refused for another cause than memory asks for the room of its record first, and is
-// refused for that where there is none: each such step comes where the records before it fill
-// their room, of 4, 8, 16 and 32.
+// A step that is refused for another reason than memory reserves the room of its record first, and
+// is refused for that if there is none: each such step comes when the records before it fill their
+// room, of 4, 8, 16 and 32.
 const REFUSES: &[Step] = &[
     Poll(0),
     Begin("1", u64::MAX),
@@ -505,7 +504,7 @@ const TWIN_HITS: &[Step] = &[
     Total,
 ];
 
-// What the second caller finds is what the first one made.
+// The second caller finds what the first one made.
 const FIRST_CALLER: &[Step] = &[
     Begin("1", 1),
     Ready(0, 7),
@@ -533,7 +532,7 @@ const VALUES: &[Call] = &[
     Call::Total,
 ];
 
-// After an eviction the value is made anew.
+// After an eviction the value is made again.
 const LARGE_VALUES: &[Call] = &[
     Call::Make(1, 3, 1),
     Call::Make(2, 3, 2),
@@ -570,7 +569,7 @@ const READ_VALUES: &[Call] = &[
     Call::Total,
 ];
 
-// A key that was taken back is found no more, and made anew.
+// The value of an invalidated key is no longer found, and is made again.
 const TAKEN_VALUES: &[Call] = &[
     Call::Invalidate(1),
     Call::Make(1, 1, 10),
@@ -584,8 +583,8 @@ const TAKEN_VALUES: &[Call] = &[
     Call::Total,
 ];
 
-// A value that is put in replaces the one that the key has, whose charge does not count beside its
-// own. One that is refused leaves all as it was.
+// An inserted value replaces that of the key, whose charge does not count together with its own.
+// One that is refused leaves everything as it was.
 const PUT_VALUES: &[Call] = &[
     Call::Insert(1, 1, 10),
     Call::Insert(1, 2, 11),
@@ -614,7 +613,7 @@ const ROOM: &[Call] = &[
     Call::Total,
 ];
 
-// Room for as many entries as a map of 32 places takes, or two of 16: for one more, it grows.
+// Room for as many entries as a map of 32 places holds, or two of 16: one more makes it grow.
 const MUCH_ROOM: &[Call] = &[
     Call::Reserve(28),
     Call::Make(1, 1, 1),

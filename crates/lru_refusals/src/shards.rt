@@ -1,4 +1,4 @@
-//! Steps of shards without a lock, whose keys are numbers: the shard of a key can be told from it.
+//! Steps of shards without a lock, whose keys are numbers, so that the shard of a key is known.
 ghost use Rattle.std.specs.Prelude.{◌<◌};
 
 use crate::step::{Asked, NO_SUCH_STEP, Step};
@@ -10,12 +10,12 @@ use std::alloc::Global;
 use std::io::Write;
 use std::sync::Arc;
 
-/// A step, and the shard that it names, where it has no key.
+/// A step, and the shard that it names if it has no key.
 pub type ShardStep = (usize, Step<u64>);
 
 type NewShards = Result<Shards<u64, u64, ByOwnNumber>, Refusal>;
 
-/// Takes steps of new shards. No shards count as 1.
+/// Takes steps of new shards. A number of 0 shards counts as 1.
 pub fn play<O: Write, E: Write>(
     alloc: Global,
     capacity: u64,
@@ -28,7 +28,7 @@ pub fn play<O: Write, E: Write>(
     crate::step::play(alloc, &mut shards, steps, told)
 }
 
-// New shards, asked for again where they are refused.
+// Creates new shards, and tries again if they are refused.
 fn make<O: Write, E: Write>(
     alloc: Global,
     capacity: u64,

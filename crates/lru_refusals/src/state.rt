@@ -1,4 +1,4 @@
-//! Steps of a cache without a lock, whose keys are texts: copies of them ask for memory.
+//! Steps of a cache without a lock, whose keys are text: copying them allocates.
 ghost use Rattle.std.specs.Prelude.{◌<◌};
 
 use crate::step::{Asked, NO_SUCH_STEP, Step};
@@ -8,8 +8,8 @@ use std::alloc::Global;
 use std::io::Write;
 use std::sync::Arc;
 
-/// A new cache: its capacity, its first stamp, the most pins of an entry (none count as 1), and for
-/// how many entries it makes room first.
+/// A new cache: its capacity, its first stamp, the maximum number of pins of an entry (0 counts as
+/// 1), and for how many entries it reserves room first.
 #[derive(Clone, Copy)]
 pub struct Opening {
     pub capacity: u64,
@@ -19,7 +19,7 @@ pub struct Opening {
 }
 
 impl Opening {
-    /// A cache of this capacity, with no other limit and no room.
+    /// Returns a cache of this capacity, with no other limit and no room.
     pub fn of(capacity: u64) -> Opening {
         Opening {
             capacity,
@@ -39,7 +39,7 @@ impl Opening {
     }
 }
 
-/// Makes room in a new cache, and takes steps of it.
+/// Reserves room in a new cache, and takes steps of it.
 pub fn play<O: Write, E: Write>(
     alloc: Global,
     opening: Opening,
@@ -100,7 +100,7 @@ fn ask_with_key<O: Write, E: Write>(
     Ok(false)
 }
 
-// Puts a value in; one that comes back for want of memory is put in once more.
+// Inserts a value, and again if it was refused for lack of memory.
 fn insert<O: Write, E: Write>(
     state: &mut State<String, u64>,
     step: Step<&'static str>,
@@ -116,7 +116,7 @@ fn insert<O: Write, E: Write>(
     }
 }
 
-// Takes a step that hands over plain numbers.
+// Takes a step whose arguments are plain numbers.
 fn ask_plainly<O: Write, E: Write>(
     state: &mut State<String, u64>,
     step: Step<&'static str>,

@@ -1,4 +1,4 @@
-//! Steps of a cache for one owner as data, and the one function that takes a table of them.
+//! Steps of a cache for a single owner as data, and the function that takes a table of them.
 
 use crate::told::Told;
 use concurrent_lru::lru_core::Refusal;
@@ -37,7 +37,7 @@ pub enum Step<K> {
 }
 
 impl<K: Copy> Step<K> {
-    /// The key that the step names, where it names one.
+    /// Returns the key of the step, if it has one.
     pub fn key(self) -> Option<K> {
         match self {
             Step::Begin(key, _)
@@ -51,15 +51,15 @@ impl<K: Copy> Step<K> {
     }
 }
 
-/// What is told of a step that the cache does not have.
+/// The answer to a step that the cache does not have.
 pub const NO_SUCH_STEP: &str = "no such step";
 
 /// A cache that takes steps `S`.
 pub trait Asked<S> {
-    /// Takes a step and tells its answer. True where it was refused for want of memory, and is to
-    /// be taken again.
+    /// Takes a step and writes its answer. Returns true if it was refused for lack of memory and is
+    /// to be taken again.
     ///
-    /// `Memory` where the key or the value that the step hands over is refused.
+    /// Returns `Memory` if the key or the value of the step is refused.
     fn ask<O: Write, E: Write>(
         &mut self,
         alloc: Global,
@@ -68,8 +68,8 @@ pub trait Asked<S> {
     ) -> Result<bool, Refusal>;
 }
 
-/// Takes steps in order, and one that was refused for want of memory once more. What is refused
-/// twice is not told.
+/// Takes steps in order, and each again if it was refused for lack of memory. A step that is
+/// refused twice is not reported.
 pub fn play<S: Copy + Drop, A: Asked<S>, O: Write, E: Write>(
     alloc: Global,
     cache: &mut A,

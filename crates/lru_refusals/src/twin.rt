@@ -1,4 +1,4 @@
-//! Steps of a twin, whose keys are texts, and then its records.
+//! Steps of a twin, whose keys are text, and then its records.
 ghost use Rattle.std.specs.Prelude.{◌≡◌, ◌<◌};
 
 use crate::step::{NO_SUCH_STEP, Step};
@@ -10,8 +10,8 @@ use std::io::Write;
 use std::marker::Brand;
 use std::sync::{Arc, Wait};
 
-/// Takes steps of a twin that is empty at first, some by one caller and then some by another, and
-/// tells its records. Each caller has a part of the tally.
+/// Takes steps of an initially empty twin, some by one caller and then some by another, and writes
+/// its records. Each caller has a part of the tally.
 pub fn play<R: Wait, O: Write, E: Write>(
     rt: &R,
     alloc: Global,
@@ -25,7 +25,7 @@ pub fn play<R: Wait, O: Write, E: Write>(
     play_twin::<Brand, R, O, E>(rt, alloc, opening, first, second, told)
 }
 
-// What a twin is made of, asked for again where it is refused.
+// Creates an opening for a twin, and tries again if it is refused.
 fn open<O: Write, E: Write>(
     alloc: Global,
     capacity: u64,
@@ -145,7 +145,7 @@ fn ask_with_key<R: Wait + Drop, I: Identity, O: Write, E: Write>(
     }
 }
 
-// Gives a pin back; one that comes back for want of memory is given once more.
+// Releases a pin, and again if it was refused for lack of memory.
 fn give_back<R: Wait + Drop, I: Identity, O: Write, E: Write>(
     cache: &LruCache<String, u64, R, I>,
     tally: &mut Tally<String, I>,
@@ -164,7 +164,7 @@ fn give_back<R: Wait + Drop, I: Identity, O: Write, E: Write>(
     }
 }
 
-// Takes a step that hands over plain numbers.
+// Takes a step whose arguments are plain numbers.
 fn ask_plainly<R: Wait + Drop, I: Identity, O: Write, E: Write>(
     cache: &LruCache<String, u64, R, I>,
     tally: &mut Tally<String, I>,
@@ -186,7 +186,7 @@ fn ask_plainly<R: Wait + Drop, I: Identity, O: Write, E: Write>(
     }
 }
 
-// What a begin or a poll says, its stamp, and the value of a hit.
+// Returns the result of a begin or a poll, its stamp, and the value of a hit.
 fn seen(
     started: Result<Started<u64>, Refusal>,
 ) -> Result<(&'static str, u64, Option<u64>), Refusal> {
@@ -198,7 +198,7 @@ fn seen(
     }
 }
 
-// The stamp and the value of a pin that a get found.
+// Returns the stamp and the value of a pin that a get found.
 fn found(got: Result<Option<Pin<u64>>, Refusal>) -> Result<Option<(u64, u64)>, Refusal> {
     match got {
         Ok(Some(pin)) => Ok(Some((pin.stamp(), *pin.value()))),
@@ -207,7 +207,7 @@ fn found(got: Result<Option<Pin<u64>>, Refusal>) -> Result<Option<(u64, u64)>, R
     }
 }
 
-// A pin that was not taken, as its stamp.
+// Returns a pin that was not taken as its stamp.
 fn back(released: Result<(), (Refusal, Pin<u64>)>) -> Result<(), (Refusal, u64)> {
     match released {
         Ok(()) => Ok(()),

@@ -1,5 +1,5 @@
-//! Values whose drops use the cache: whatever evicts them, no lock is held, and the books are right
-//! afterwards.
+//! Values whose drops use the cache: whatever evicts them, no lock is held, and the totals are
+//! right afterwards.
 
 use concurrent_lru::unsharded::LruCache;
 use lru_fixtures::errands::{Errands, Outcome, Sent, VALUES, evicts, serve};
@@ -9,8 +9,8 @@ use std::sync::{Arc, Wait};
 use std::thread;
 use std::thread::Threads;
 
-// What evicts, the capacity, and what comes of it. Where the first value alone is evicted, its
-// errand evicts the second, and so on, so the drops end last first.
+// What evicts, the capacity, and the outcome. If only the first value is evicted, its errand evicts
+// the second, and so on, so the drops end in reverse order.
 static CAUSES: [(Cause, u64, Outcome); 6] = [
     (
         Cause::Begin,
@@ -58,7 +58,7 @@ static CAUSES: [(Cause, u64, Outcome); 6] = [
             found: 0,
         },
     ),
-    // Each is evicted as it is let go, the first one last.
+    // Each is evicted when it is released, the first one last.
     (
         Cause::Release,
         0,
@@ -70,7 +70,7 @@ static CAUSES: [(Cause, u64, Outcome); 6] = [
     ),
 ];
 
-// What comes of a cause in a new cache of this capacity.
+// Returns the outcome of a cause in a new cache of this capacity.
 fn outcome<R: Wait + Threads + Send + Sync>(
     rt: &R,
     alloc: Global,

@@ -1,5 +1,6 @@
-//! What runs without the lock: makers, drops, and the reading of a handle.
-//! In each gate two threads have to meet; where one held the lock, a limit of looks would end it.
+//! What runs without the lock: makers, drops, and reading a handle.
+//!
+//! In each test two threads have to meet; if one held the lock, a limit would end the wait.
 
 use concurrent_lru::unsharded::LruCache;
 use lru_fixtures::gates::{Cause, Gate, Slow, evict, made_for, total_meanwhile};
@@ -35,7 +36,7 @@ const CAUSES: [(Cause, u64, u128); 7] = [
     (Cause::Capacity, 1, 0),
 ];
 
-// The total while a new cache of this capacity drops a value.
+// Returns the total while a new cache of this capacity drops a value.
 fn total_of<R: Wait + Threads + Clone + Drop + Sync + Send>(
     rt: &R,
     alloc: Global,

@@ -8,7 +8,7 @@ use std::sync::atomic::AtomicU64;
 use std::thread;
 use std::thread::Threads;
 
-/// Where two callers of a value are: the first makes it, and the second comes.
+/// The progress of two callers of a value: the first makes it, and the second comes.
 #[derive(Drop)]
 pub struct Meeting {
     pub started: AtomicU64,
@@ -16,7 +16,7 @@ pub struct Meeting {
 }
 
 impl Meeting {
-    /// Neither is there yet.
+    /// Creates a meeting that neither has reached.
     pub(crate) fn new() -> Meeting {
         Meeting {
             started: AtomicU64::new(0),
@@ -25,7 +25,7 @@ impl Meeting {
     }
 }
 
-/// The value of key 1, made as 5 while the other caller comes.
+/// Returns the value of key 1, made as 5 while the other caller comes.
 pub(crate) fn makes_first<R: Wait>(
     cache: &LruCache<u64, u64, R>,
     meeting: &Meeting,
@@ -43,7 +43,7 @@ pub(crate) fn makes_first<R: Wait>(
     }
 }
 
-/// The value of key 1, asked for while it is made; none where this caller made it anew.
+/// Returns the value of key 1, asked for while it is made, or `None` if this caller made it again.
 pub(crate) fn comes_second<R: Wait>(
     cache: &LruCache<u64, u64, R>,
     meeting: &Meeting,
@@ -63,7 +63,7 @@ pub(crate) fn comes_second<R: Wait>(
     }
 }
 
-/// The value of key 1, where it is ready.
+/// Returns the value of key 1, if it is ready.
 pub(crate) fn found<R: Wait>(cache: &LruCache<u64, u64, R>) -> Option<u64> {
     match cache.get(1) {
         Ok(Some(handle)) => Some(*handle.value()),
@@ -86,7 +86,7 @@ fn one_value_for_two_callers(rt: HostRuntime) {
     assert_eq!(rt; (third, total), (Some(5), 3));
 }
 
-/// Fails to make key 1 once the other caller comes, and says whether it did.
+/// Fails to make key 1 once the other caller comes, and returns whether it did.
 pub(crate) fn fails_first<R: Wait>(cache: &LruCache<u64, u64, R>, meeting: &Meeting) -> bool {
     let made = cache.get_or_try_init(1, 3, |_| -> Result<u64, u8> {
         raise(&meeting.started);
@@ -97,7 +97,7 @@ pub(crate) fn fails_first<R: Wait>(cache: &LruCache<u64, u64, R>, meeting: &Meet
     matches!(&made, Err(GetError::Init(9)))
 }
 
-/// The value of key 1, which this caller makes as 5 where the other has failed.
+/// Returns the value of key 1, which this caller makes as 5 if the other has failed.
 pub(crate) fn takes_over<R: Wait>(cache: &LruCache<u64, u64, R>, meeting: &Meeting) -> Option<u64> {
     if !meets(&meeting.started) {
         return None;
@@ -109,11 +109,11 @@ pub(crate) fn takes_over<R: Wait>(cache: &LruCache<u64, u64, R>, meeting: &Meeti
     }
 }
 
-// How often the two meet again, at most, where the second came too late to wait.
+// How often the two meet again, at most, if the second came too late to wait.
 const MEETINGS: u32 = 50;
 
-// The total after the first caller failed at the charge 3 and the second, which asked with the
-// charge 7, made the value; none where one of them did otherwise.
+// Returns the total after the first caller failed at the charge 3 and the second, which asked with
+// the charge 7, made the value, or `None` if one of them did otherwise.
 fn total_after_failure<R: Wait + Threads + Clone + Drop + Send + Sync>(
     rt: &R,
     alloc: Global,
@@ -131,8 +131,8 @@ fn total_after_failure<R: Wait + Threads + Clone + Drop + Send + Sync>(
     }
 }
 
-// Who waited while the making failed takes over the entry that is there, and its charge with it;
-// only who came later makes one of its own.
+// A caller that waited while the making failed takes over the present entry, and its charge with
+// it; only one that came later makes an entry of its own.
 #[test]
 fn another_takes_a_failed_making_over(rt: HostRuntime) {
     let mut total = total_after_failure(&rt, rt.alloc());
@@ -144,7 +144,7 @@ fn another_takes_a_failed_making_over(rt: HostRuntime) {
     assert_eq!(rt; total, Some(3));
 }
 
-// The value of key 1, whose `init` asks for key 2, made as 6.
+// Returns the value of key 1, whose `init` asks for key 2, made as 6.
 fn makes_by_another_key<R: Wait>(cache: &LruCache<u64, u64, R>) -> Option<u64> {
     let made = cache.get_or_try_init(1, 1, |_| -> Result<u64, GetError<u8>> {
         let inner = cache.get_or_try_init(2, 1, |_| -> Result<u64, u8> { Ok(6) })?;

@@ -3,7 +3,8 @@
 use concurrent_lru::unsharded::LruCache;
 use std::sync::Wait;
 
-// Key 1, whose `init` makes key 2. A value has a digit more than the one that it was made of.
+// Makes key 1, whose `init` makes key 2. A value has one digit more than the one that it was made
+// from.
 fn makes_three_deep<R: Wait>(cache: &LruCache<u64, u64, R>) -> u64 {
     match cache.get_or_init(1, 1, |_| one_digit_more(makes_two_deep(cache))) {
         Ok(handle) => *handle.value(),
@@ -11,7 +12,7 @@ fn makes_three_deep<R: Wait>(cache: &LruCache<u64, u64, R>) -> u64 {
     }
 }
 
-// Key 2, whose `init` makes key 3.
+// Makes key 2, whose `init` makes key 3.
 fn makes_two_deep<R: Wait>(cache: &LruCache<u64, u64, R>) -> u64 {
     match cache.get_or_init(2, 1, |_| one_digit_more(makes_one(cache))) {
         Ok(handle) => *handle.value(),
@@ -30,7 +31,7 @@ fn one_digit_more(digits: u64) -> u64 {
     digits.saturating_mul(10).saturating_add(1)
 }
 
-// The value of a key, where it is ready.
+// Returns the value of a key, if it is ready.
 fn found<R: Wait>(cache: &LruCache<u64, u64, R>, key: u64) -> Option<u64> {
     match cache.get(key) {
         Ok(Some(handle)) => Some(*handle.value()),
@@ -38,7 +39,8 @@ fn found<R: Wait>(cache: &LruCache<u64, u64, R>, key: u64) -> Option<u64> {
     }
 }
 
-// The capacity, and the values that stay. Each that was made within another is let go first.
+// The capacity, and the values that stay. Each value that was made within another is released
+// first.
 const LEFT: [(u64, [Option<u64>; 3]); 4] = [
     (3, [Some(111), Some(11), Some(1)]),
     (2, [Some(111), Some(11), None]),

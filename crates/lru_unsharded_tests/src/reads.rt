@@ -67,14 +67,15 @@ fn a_read_proves_its_answer(rt: HostRuntime) {
     assert_eq!(rt; value, 14);
 }
 
-// More keys than the cache keeps, so that some are evicted and made anew all the time.
+// More keys than the cache keeps, so that some are evicted and made again all the time.
 const KEYS: u64 = 20;
 
 const CAPACITY: u64 = 8;
 
 const ROUNDS: u32 = 100;
 
-// Whether the value of a key, read where it is ready and asked for otherwise, is ten times the key.
+// Returns whether the value of a key, read if it is ready and asked for otherwise, is ten times the
+// key.
 fn is_right<R: Wait>(cache: &LruCache<u64, u64, R>, key: u64) -> bool {
     let value = match cache.read(&key, |value| *value) {
         Ok(Some(value)) => Some(value),
@@ -87,7 +88,7 @@ fn is_right<R: Wait>(cache: &LruCache<u64, u64, R>, key: u64) -> bool {
     value == Some(key.wrapping_mul(10))
 }
 
-// Whether those of all keys are, every time.
+// Returns whether those of all keys are, every time.
 fn stay_right<R: Wait>(cache: &LruCache<u64, u64, R>) -> bool {
     for _ in 0..ROUNDS {
         for key in 0..KEYS {

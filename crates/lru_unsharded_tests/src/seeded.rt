@@ -1,4 +1,4 @@
-//! Long runs of calls that seeds decide, each answered as the cache of one owner answers it.
+//! Long runs of calls drawn from seeds, whose answers are compared with those of `State`.
 
 use concurrent_lru::lru_core::State;
 use concurrent_lru::unsharded::LruCache;
@@ -10,7 +10,7 @@ use std::test::Fail;
 
 const CAPACITIES: [u64; 4] = [0, 1, 10, 37];
 
-// Makes the calls of a seed, of a cache of this capacity.
+// Makes the calls of a seed on a cache of this capacity.
 fn agrees<R: Wait + Clone + Drop>(
     rt: &R,
     alloc: Global,

@@ -1,4 +1,4 @@
-//! Four threads at one cache with a mark, each of which proves what it reads.
+//! Four threads that use one cache with a mark, each of which proves what it reads.
 
 use concurrent_lru::unsharded::LruCache;
 use lru_fixtures::marks::Twice;
@@ -7,7 +7,7 @@ use std::sync::atomic::{AtomicU64, Ordering};
 use std::thread;
 use std::thread::Threads;
 
-// Reads each key below 50, 20 times, and says whether it could.
+// Reads each key below 50, 20 times, and returns whether it succeeded.
 fn reads_all<R: Wait>(cache: &LruCache<u64, u64, R, Twice>) -> bool {
     for _ in 0..20u32 {
         for key in 0..50u64 {
@@ -23,7 +23,7 @@ fn reads_all<R: Wait>(cache: &LruCache<u64, u64, R, Twice>) -> bool {
     true
 }
 
-// How many of four workers could read all.
+// Returns how many of four workers could read all.
 fn four_workers<R: Wait + Threads + Send + Sync, W: Wait + Send + Sync>(
     rt: &R,
     cache: &LruCache<u64, u64, W, Twice>,
