@@ -1,8 +1,8 @@
 //! The data under the lock: the core's state, whose ready values fit their keys, with counts of its
 //! calls.
 //!
-//! Each call is one step of the core. What it leaves to be done is returned as an obligation, a
-//! type that is not `Drop`.
+//! Each call is one step of the core. What it leaves to be done is returned as a debt, a type that
+//! is not `Drop`.
 ghost use Rattle.std.specs.Prelude.{◌≡◌, ◌≢◌, ◌<◌, true, [], Err, Some, None, IsTrue, IsFalse, IfOk, IfErr, IfSome, OnErr};
 ghost use Rattle.std.specs.Arc.{arc_value};
 ghost use Rattle.std.specs.Fn.{FnOnceReturnsAt, FnOnceTakesAt};
@@ -48,9 +48,9 @@ use std::sync::Arc;
 /// entries and their charges. Each call counts its outcome, as `counted` of specs/CountedCalls.antt
 /// defines.
 ///
-/// It has no map by stamp. An obligation holds the place of its entry beside the stamp, and a
-/// pinned entry stays at its place, so the call that settles an obligation finds the entry there at
-/// once. Only a stamp from elsewhere, or one whose entry has left, costs a look at every entry.
+/// It has no map by stamp. A debt holds the place of its entry beside the stamp, and a pinned entry
+/// stays at its place, so the call that settles a debt finds the entry there at once. Only a stamp
+/// from elsewhere, or one whose entry has left, costs a look at every entry.
 #[derive(Drop)]
 pub struct Locked<K: Hash + Eq + Clone, V, F: Fit<K, V>> {
     state: CountedState<K, V>,
