@@ -173,7 +173,8 @@ def main():
     size = built("lru_size", *sizing, path=trace)
     _, out, _ = run(scripted, [])
     scripts = re.findall(r"^script (.*)$", out.decode(), re.MULTILINE)
-    # the stress workload makes some 400,000 requests: the first ones are refused, and then some far between
+    # the stress workload makes some 400,000 requests: the first ones are refused, and then some
+    # far between
     some = [*range(1, 21), *(100 * 2**power for power in range(13))]
     runs = [(rows, ["stress", "1"], some), (rows, ["rows"]), (size, sizing, None, trace), *((scripted, [name]) for name in scripts)]
     with tempfile.TemporaryDirectory() as folder, concurrent.futures.ThreadPoolExecutor(asked.jobs) as pool:

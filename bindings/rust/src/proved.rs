@@ -145,8 +145,8 @@ impl<F: Form, V> Core<F, V> {
         done(code)
     }
 
-    /// Detaches the entry of a key as `invalidate` does, and makes one with this value, of which the
-    /// caller has a pin. If it is refused, returns the value, and nothing has changed.
+    /// Detaches the entry of a key as `invalidate` does, and makes one with this value, of which
+    /// the caller has a pin. If it is refused, returns the value, and nothing has changed.
     pub(crate) fn insert(
         &mut self,
         key: F::Written<'_>,
@@ -213,8 +213,8 @@ impl<F: Form, V> Core<F, V> {
         // SAFETY: the chain was opened for this form, and this core has the only copy.
         while unsafe { (Self::CALLS.pop)(&mut self.chain, &mut gone) } {
             let value = value_of(gone.value).as_ptr();
-            // SAFETY: the word is the address of a box that `ready` or `insert` stored. The library tells each
-            // word once, and only when its entry has no pin.
+            // SAFETY: the word is the address of a box that `ready` or `insert` stored. The library
+            // tells each word once, and only when its entry has no pin.
             evicted.push(unsafe { Box::from_raw(value) });
         }
     }
