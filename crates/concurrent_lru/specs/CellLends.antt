@@ -10,5 +10,5 @@ use Rattle.concurrent_lru.specs.contracts.list.memory.Memory.{the_row}
 abbrev pub with_value : {T A : Type 0} → Memory T A → Ptr → T → Memory T A
 with_value m p w = record m { cells = write_to p w m.cells }
 
-abbrev pub lends_value : (T A : RattleType) → Ghosts A.Denot → MutBor (Memory T.Denot A.Denot) → Ptr → MutBor T.Denot → Fml
-lends_value T A g m p r = Lends (the_row T A g) T m r (with_value m.now p)
+abbrev pub lends_at : (T A : RattleType) → Ghosts A.Denot → MutBor (Memory T.Denot A.Denot) → Ptr → MutBor T.Denot → Fml
+lends_at T A g m p r = Lends (the_row T A g) T m r (with_value m.now p)

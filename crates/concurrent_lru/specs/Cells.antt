@@ -36,6 +36,14 @@ module _ {T A : Type 0} where
   abbrev pub cell : Ptr → A → T → Cell T A
   cell p a x = record { at = p; alloc = a; value = x }
 
+  -- the cells with x under the key, which lies at p and which this handle frees
+  abbrev pub put_cell : ℕ → Ptr → A → T → List (Option (Cell T A)) → List (Option (Cell T A))
+  put_cell key p a x cells = put_at key (Some (cell p a x)) cells
+
+  -- the value under the key is x, if one is there
+  abbrev pub IsValueAt : List (Option (Cell T A)) → ℕ → T → Type 0
+  IsValueAt cells key x = (c : Cell T A) → cell_at cells key ≡ Some c → x ≡ c.value
+
   -- the value under the key lies at p, and this handle frees it
   abbrev pub HoldsBy : List (Option (Cell T A)) → ℕ → Ptr → A → Type 0
   HoldsBy cells key p a = (c : Cell T A) × (cell_at cells key ≡ Some c) × (c.at ≡ p) × (c.alloc ≡ a)

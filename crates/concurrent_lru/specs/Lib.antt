@@ -14,6 +14,7 @@ pub mod CellLends
 pub mod Slots
 pub mod Relinks
 pub mod SlotPointers
+pub mod SlotWrites
 pub mod SlotTable
 pub mod Representation
 pub mod Entries

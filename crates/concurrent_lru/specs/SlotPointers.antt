@@ -1,11 +1,11 @@
 -- How the slab of pointers and the memory that they reach go together.
-use Rattle.std.specs.Prelude.{◌≡◌, ℕ, Option, Some, None}
+use Rattle.std.specs.Prelude.{◌≡◌, ◌≢◌, ℕ, Option, Some, None, IsSome}
 use Rattle.std.specs.Borrow.{Fml, RattleType, MutBor, Lends}
 use Rattle.slab.specs.Slab.{get}
 use denote.RawPtr.{Ptr}
-use Rattle.concurrent_lru.specs.Cells.{cell_at, ptr_in, key_at}
+use Rattle.concurrent_lru.specs.Cells.{cell_at, ptr_in, key_at, IsValueAt}
 use Rattle.concurrent_lru.specs.CellLends.{with_value}
-use Rattle.concurrent_lru.specs.Relinks.{NodeCell, place_of}
+use Rattle.concurrent_lru.specs.Relinks.{NodeCell, NodeCells, place_of}
 use Rattle.concurrent_lru.specs.declared.list.memory.At.{At}
 use Rattle.concurrent_lru.specs.declared.list.Node.{Node}
 use Rattle.concurrent_lru.specs.declared.list.slots.Slots.{Slots}
@@ -18,6 +18,29 @@ ptr_of None = None
 ptr_of (Some at) = Some at.ptr
 
 module _ {K V : Type 0} where
+  -- the cells of the nodes
+  abbrev pub cells_of : Slots K V → NodeCells K V
+  cells_of s = s.memory.cells
+
+  -- a node is under the key
+  abbrev pub HasNode : Slots K V → ℕ → Type 0
+  HasNode s key = IsSome (cell_at (cells_of s) key)
+
+  -- the link leads to a node, or to the one under the key
+  abbrev pub LeadsToNode : Slots K V → Ptr → Type 0
+  LeadsToNode s link = IsSome (key_at (cells_of s) link)
+
+  abbrev pub LeadsTo : Slots K V → Ptr → ℕ → Type 0
+  LeadsTo s link key = key_at (cells_of s) link ≡ Some key
+
+  -- the node under the key is n, if one is there
+  abbrev pub IsNodeAt : Slots K V → ℕ → Node K V → Type 0
+  IsNodeAt s key n = IsValueAt (cells_of s) key n
+
+  -- under every other key there is what there was
+  abbrev pub KeepsOthers : Slots K V → Slots K V → ℕ → Type 0
+  KeepsOthers old new key = (k : ℕ) → k ≢ key → cell_at (cells_of new) k ≡ cell_at (cells_of old) k
+
   -- the own key of a node that is there
   abbrev pub place_in : Option (NodeCell K V) → Option ℕ
   place_in None = None
@@ -26,9 +49,9 @@ module _ {K V : Type 0} where
   -- each pointer is that of the node under its key, no two are the same, and each node has its own
   -- key
   pub record IsTied (s : Slots K V) : Type 0 where
-    pub pointers : (key : ℕ) → ptr_in (cell_at s.memory.cells key) ≡ ptr_of (get s.pointers key)
-    pub apart : (key : ℕ) (p : Ptr) → ptr_in (cell_at s.memory.cells key) ≡ Some p → key_at s.memory.cells p ≡ Some key
-    pub placed : (key place : ℕ) → place_in (cell_at s.memory.cells key) ≡ Some place → place ≡ key
+    pub pointers : (key : ℕ) → ptr_in (cell_at (cells_of s) key) ≡ ptr_of (get s.pointers key)
+    pub apart : (key : ℕ) (p : Ptr) → ptr_in (cell_at (cells_of s) key) ≡ Some p → key_at (cells_of s) p ≡ Some key
+    pub placed : (key place : ℕ) → place_in (cell_at (cells_of s) key) ≡ Some place → place ≡ key
 
   -- the slots with this node at a pointer
   abbrev pub with_node : Slots K V → Ptr → Node K V → Slots K V

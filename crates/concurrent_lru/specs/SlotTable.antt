@@ -1,13 +1,17 @@
--- The slots of a `Nodes`: what they and their two ends are seen as, and what holds of them.
-use Rattle.std.specs.Prelude.{◌≡◌, ℕ, ◌-◌, List, [], ◌∷◌, map, length, Option, Some, None, IsSome}
+-- The idle order of a `Nodes`: what its slots and two ends are seen as, and what holds of them.
+use Rattle.std.specs.Prelude.{◌≡◌, ℕ, ◌-◌, ◌==◌, List, [], ◌∷◌, map, filter, not, length, Option, Some, None, IsSome, nat_eq, true, false}
+use Rattle.std.specs.FinMap.{FinMap}
+use Rattle.std.specs.List.{list_any}
+use Rattle.std.specs.Ordering.{nat_cmp}
 use denote.RawPtr.{Ptr}
 use Rattle.slab.specs.Slab.{slab_len}
 use Rattle.concurrent_lru.specs.Order.{Link, link, IsOrder, order}
 use Rattle.concurrent_lru.specs.Slots.{map_of_slots}
-use Rattle.concurrent_lru.specs.Cells.{cell_at, key_at}
+use Rattle.concurrent_lru.specs.Cells.{cell_at, key_at, AtKey, OfKey}
 use Rattle.concurrent_lru.specs.NodeTable.{NodeTable, Entry, entry_of, chain_of}
-use Rattle.concurrent_lru.specs.Relinks.{NodeCell, NodeCells, before_link, after_link, key_in, before_at, after_at}
-use Rattle.concurrent_lru.specs.SlotPointers.{IsTied}
+use Rattle.concurrent_lru.specs.Relinks.{NodeCell, NodeCells, LeftJoined, RightJoined, before_link, after_link, key_in, before_at, after_at}
+use Rattle.concurrent_lru.specs.SlotPointers.{IsTied, cells_of}
+use Rattle.concurrent_lru.specs.declared.list.links.Order.{Order}
 use Rattle.concurrent_lru.specs.declared.list.slots.Slots.{Slots}
 
 module _ {K V : Type 0} where
@@ -24,9 +28,6 @@ module _ {K V : Type 0} where
 
   abbrev pub idle_places : NodeCells K V → Option ℕ → List ℕ
   idle_places cs oldest = order (length cs) (link_at cs) oldest
-
-  abbrev pub node_table_of : Slots K V → Option ℕ → ℕ → NodeTable K V
-  node_table_of s oldest work = record { nodes = map_of_slots (map entry_in s.memory.cells); idle = idle_places s.memory.cells oldest; spare = s.pointers.capacity - slab_len s.pointers; work = work; looks = s.looks.count }
 
   -- the link leads to a node
   abbrev pub IsGood : NodeCells K V → Option Ptr → Type 0
@@ -45,9 +46,59 @@ module _ {K V : Type 0} where
   IsEnd None = Unit {0}
   IsEnd (Some c) = chain_of c.value ≡ []
 
-  pub record IsNodeTable (s : Slots K V) (oldest : Option ℕ) (newest : Option Ptr) : Type 0 where
-    pub tied : IsTied s
-    pub ordered : IsOrder (link_at s.memory.cells) oldest (key_in s.memory.cells newest) (idle_places s.memory.cells oldest)
-    pub good : AreGood s.memory.cells (idle_places s.memory.cells oldest)
-    pub last_good : IsGood s.memory.cells newest
-    pub ends : (k : ℕ) → IsEnd (cell_at s.memory.cells k)
+  -- the order over these slots, with these ends
+  abbrev pub order_with : Slots K V → Option ℕ → Option Ptr → Order K V
+  order_with s oldest newest = record { slots = s; oldest = oldest; newest = newest }
+
+  -- the entries by key, and the keys of the idle ones, oldest first
+  abbrev pub nodes_of : Order K V → FinMap nat_cmp (Entry K V)
+  nodes_of o = map_of_slots (map entry_in (cells_of o.slots))
+
+  abbrev pub idle_of : Order K V → List ℕ
+  idle_of o = idle_places (cells_of o.slots) o.oldest
+
+  abbrev pub node_table_of : Order K V → ℕ → NodeTable K V
+  node_table_of o work = record { nodes = nodes_of o; idle = idle_of o; spare = o.slots.pointers.capacity - slab_len o.slots.pointers; work = work; looks = o.slots.looks.count }
+
+  -- each link leads to the neighbour, and nothing hangs on a node
+  pub record IsWellLinked (o : Order K V) : Type 0 where
+    pub tied : IsTied o.slots
+    pub ordered : IsOrder (link_at (cells_of o.slots)) o.oldest (key_in (cells_of o.slots) o.newest) (idle_of o)
+    pub good : AreGood (cells_of o.slots) (idle_of o)
+    pub last_good : IsGood (cells_of o.slots) o.newest
+    pub ends : (k : ℕ) → IsEnd (cell_at (cells_of o.slots) k)
+
+  -- the key is in the order, or is not
+  abbrev pub Lists : Order K V → ℕ → Type 0
+  Lists o key = list_any (nat_eq key) (idle_of o) ≡ true
+
+  abbrev pub Omits : Order K V → ℕ → Type 0
+  Omits o key = list_any (nat_eq key) (idle_of o) ≡ false
+
+  -- the link leads to a node that is in the order
+  abbrev pub ListsLink : Order K V → Ptr → Type 0
+  ListsLink o p = AtKey (cells_of o.slots) p (Lists o)
+
+  -- what is idle without the key
+  abbrev pub idle_without : Order K V → ℕ → List ℕ
+  idle_without o key = filter (λ q. not (q == key)) (idle_of o)
+
+  -- the node that the link leads to was taken out of the order
+  abbrev pub LosesLink : Order K V → Order K V → Ptr → Type 0
+  LosesLink old new p = OfKey (cells_of old.slots) p (λ key. idle_of new ≡ idle_without old key)
+
+  -- the entry under a key
+  abbrev pub entry_at : Order K V → ℕ → Option (Entry K V)
+  entry_at o key = entry_in (cell_at (cells_of o.slots) key)
+
+  -- nothing changed but the count of looks
+  abbrev pub OnlyLooked : Order K V → Order K V → Type 0
+  OnlyLooked old new = new ≡ record old { slots = record old.slots { looks = new.slots.looks } }
+
+  -- the nodes before and after one that was cut out were joined, seen from the one before
+  abbrev pub JoinsLeft : Order K V → Order K V → Option Ptr → Option Ptr → Type 0
+  JoinsLeft old new before after = LeftJoined (cells_of old.slots) (cells_of new.slots) old.oldest new.oldest before after
+
+  -- and from the one after
+  abbrev pub JoinsRight : Order K V → Order K V → Option Ptr → Option Ptr → Type 0
+  JoinsRight old new before after = RightJoined (cells_of old.slots) (cells_of new.slots) old.newest new.newest before after

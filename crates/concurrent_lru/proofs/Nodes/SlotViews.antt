@@ -6,17 +6,18 @@ use Rattle.std.specs.List.{list_any}
 use Rattle.std.proofs.lemmas.Bool.{cases_eq}
 use Rattle.std.specs.FinMap as fin
 use denote.RawPtr.{Ptr}
+use Rattle.concurrent_lru.specs.declared.list.links.Order.{Order}
 use Rattle.concurrent_lru.specs.declared.list.slots.Slots.{Slots}
-use Rattle.concurrent_lru.specs.Cells.{cell_at, ptr_in, key_at, OfKey}
-use Rattle.concurrent_lru.specs.SlotPointers.{IsTied, ptr_of, place_in}
+use Rattle.concurrent_lru.specs.Cells.{cell_at, ptr_in, key_at}
+use Rattle.concurrent_lru.specs.SlotPointers.{IsTied, ptr_of, place_in, cells_of, HasNode, LeadsTo, KeepsOthers}
 use Rattle.concurrent_lru.specs.Order.{Link, link, first_or, last_or, Absent, Linked, IsOrder}
 use Rattle.concurrent_lru.specs.Slots.{map_of_slots}
 use Rattle.concurrent_lru.specs.NodeTable.{NodeTable, Entry, entry_of}
 use Rattle.concurrent_lru.specs.Relinks.{NodeCell, NodeCells, key_in, before_in, after_in, before_at, after_at}
-use Rattle.concurrent_lru.specs.SlotTable.{link_of, link_at, entry_in, idle_places, node_table_of, IsGood, AreGood, IsEnd, IsNodeTable}
+use Rattle.concurrent_lru.specs.SlotTable.{link_of, link_at, entry_in, entry_at, idle_places, idle_of, nodes_of, node_table_of, IsGood, AreGood, IsEnd, IsWellLinked, Lists}
+use Rattle.concurrent_lru.specs.SlotWrites.{OnlyWrites, Rewrites, RewritesLink}
 use Rattle.concurrent_lru.proofs.Lists.SlotsAsMaps.{map_of_slots_at, made_insert, made_remove}
 use Rattle.concurrent_lru.proofs.Order.Links.{Same, linked_same}
-use Rattle.concurrent_lru.specs.Relinks.{Revalues}
 use Rattle.concurrent_lru.specs.NodeTable.{update_at}
 use Rattle.std.specs.List.{IsDistinct}
 use Rattle.std.specs.Option.{option_map_or}
@@ -39,25 +40,25 @@ last_not key b [] a h = h
 last_not key b (k ∷ ks) a h = last_not key (Some k) ks a.1 (λ z is eq. let same : k ≡ z = cc in a.0 (sym eq ∙ sym same))
 
 module _ {K V : Type 0} where
-  node_is : (s : Slots K V) (o : Option ℕ) (w : ℕ) (k : ℕ) → fin.get (node_table_of s o w).nodes k ≡ entry_in (cell_at s.memory.cells k)
-  node_is s o w k = map_of_slots_at (map entry_in s.memory.cells) k ∙ get_or-map_option entry_in refl s.memory.cells k
+  node_is : (o : Order K V) (w : ℕ) (k : ℕ) → fin.get (node_table_of o w).nodes k ≡ entry_at o k
+  node_is o w k = map_of_slots_at (map entry_in (cells_of o.slots)) k ∙ get_or-map_option entry_in refl (cells_of o.slots) k
 
-  module _ (s : Slots K V) (o : Option ℕ) (w : ℕ) (v : NodeTable K V) (e : node_table_of s o w ≡ v) where
-    pub node_had : (k p : ℕ) → k ≡ p → fin.get v.nodes p ≡ entry_in (cell_at s.memory.cells k)
-    node_had k p f = (λ i. fin.get (sym e i).nodes (sym f i)) ∙ node_is s o w k
+  module _ (o : Order K V) (w : ℕ) (v : NodeTable K V) (e : node_table_of o w ≡ v) where
+    pub node_had : (k p : ℕ) → k ≡ p → fin.get v.nodes p ≡ entry_at o k
+    node_had k p f = (λ i. fin.get (sym e i).nodes (sym f i)) ∙ node_is o w k
 
     present_cases : (x : Option (NodeCell K V)) → IsSome (entry_in x) → IsSome x
     present_cases None h = h
     present_cases (Some x) h = refl
 
-    pub present : (k p : ℕ) → k ≡ p → IsSome (fin.get v.nodes p) → IsSome (cell_at s.memory.cells k)
-    present k p f h = present_cases (cell_at s.memory.cells k) (subst IsSome (node_had k p f) h)
+    pub present : (k p : ℕ) → k ≡ p → IsSome (fin.get v.nodes p) → HasNode o.slots k
+    present k p f h = present_cases (cell_at (cells_of o.slots) k) (subst IsSome (node_had k p f) h)
 
-    pub entry_there : (k p : ℕ) (n : NodeCell K V) → k ≡ p → cell_at s.memory.cells k ≡ Some n → fin.get v.nodes p ≡ Some (entry_of n.value)
+    pub entry_there : (k p : ℕ) (n : NodeCell K V) → k ≡ p → cell_at (cells_of o.slots) k ≡ Some n → fin.get v.nodes p ≡ Some (entry_of n.value)
     entry_there k p n f h = node_had k p f ∙ ap entry_in h
 
     -- whether the key is in the order
-    pub idle_there : (b : Bool) (k p : ℕ) → k ≡ p → list_any (eqb p) v.idle ≡ b → list_any (eqb k) (idle_places s.memory.cells o) ≡ b
+    pub idle_there : (b : Bool) (k p : ℕ) → k ≡ p → list_any (eqb p) v.idle ≡ b → list_any (eqb k) (idle_of o) ≡ b
     idle_there b k p f h = subst (λ (q : List ℕ × ℕ). list_any (eqb q.1) q.0 ≡ b) (λ i. ((sym e i).idle, sym f i)) h
 
   -- a change under a key that is not idle
@@ -88,23 +89,22 @@ module _ {K V : Type 0} where
           (ap (link_of ds) (others k nk) ∙ links_same cs ds (cell_at cs k) (link_else (before_at cs k) g.0.0 left) (link_else (after_at cs k) g.0.1 right), on.1),
         )
 
-  pub table_else : (s t : Slots K V) (o : Option ℕ) (n : Option Ptr) (key : ℕ) → IsNodeTable s o n → Absent key (idle_places s.memory.cells o) → IsTied t → ((q : ℕ) → q ≢ key → cell_at t.memory.cells q ≡ cell_at s.memory.cells q) → IsEnd (cell_at t.memory.cells key)
-      → IsNodeTable t o n × (idle_places t.memory.cells o ≡ idle_places s.memory.cells o)
-  table_else s t o n key kept out tied others ends =
-      let cs = s.memory.cells in let ds = t.memory.cells in let ks = idle_places cs o in
+  pub table_else : (o : Order K V) (t : Slots K V) (key : ℕ) → IsWellLinked o → Absent key (idle_of o) → IsTied t → KeepsOthers o.slots t key → IsEnd (cell_at (cells_of t) key) → IsWellLinked (record o { slots = t }) × (idle_of (record o { slots = t }) ≡ idle_of o)
+  table_else o t key kept out tied others ends =
+      let cs = cells_of o.slots in let ds = cells_of t in let n = o.newest in let ks = idle_of o in
       let i = kept.ordered in
       let stay = all_else cs ds key others tied.apart None ks None i.linked out (λ z is. cc) (λ z is. cc) kept.good in
       let last : NotKey key (key_in cs n) = (λ z is. last_not key None ks out (λ y h. cc) z (sym i.last ∙ is)) in
-      let j : IsOrder (link_at ds) o (key_in ds n) ks = record {
+      let j : IsOrder (link_at ds) o.oldest (key_in ds n) ks = record {
         first = i.first;
         last = link_else cs ds key others tied.apart n kept.last_good last ∙ i.last;
         linked = linked_same (link_at cs) (link_at ds) None ks None stay.1 i.linked;
         distinct = i.distinct;
       } in
-      let e = read ds o (key_in ds n) ks j in (
+      let e = read ds o.oldest (key_in ds n) ks j in (
         record {
           tied = tied;
-          ordered = subst (IsOrder (link_at ds) o (key_in ds n)) (sym e) j;
+          ordered = subst (IsOrder (link_at ds) o.oldest (key_in ds n)) (sym e) j;
           good = subst (AreGood ds) (sym e) stay.0;
           last_good = good_else cs ds key others tied.apart n kept.last_good last;
           ends = λ q. elim (cases_eq q key) [
@@ -122,8 +122,8 @@ module _ {K V : Type 0} where
       none_some : (x : Link) → None ≡ Some x → ⊥
       none_some x e = cc
 
-  pub vacant_out : (s : Slots K V) (o : Option ℕ) (n : Option Ptr) (key : ℕ) → IsNodeTable s o n → cell_at s.memory.cells key ≡ None → Absent key (idle_places s.memory.cells o)
-  vacant_out s o n key kept h = vacant s.memory.cells key None (idle_places s.memory.cells o) None h kept.ordered.linked
+  pub vacant_out : (o : Order K V) (key : ℕ) → IsWellLinked o → cell_at (cells_of o.slots) key ≡ None → Absent key (idle_of o)
+  vacant_out o key kept h = vacant (cells_of o.slots) key None (idle_of o) None h kept.ordered.linked
 
   pub entries_inserted : (cs ds : NodeCells K V) (key : ℕ) (x : Entry K V) → ((q : ℕ) → q ≢ key → cell_at ds q ≡ cell_at cs q) → entry_in (cell_at ds key) ≡ Some x → map_of_slots (map entry_in ds) ≡ fin.insert (map_of_slots (map entry_in cs)) key x
   entries_inserted cs ds key x others h = made_insert (map entry_in cs) (map entry_in ds) key x (get_or-map_option entry_in refl ds key ∙ h)
@@ -134,12 +134,12 @@ module _ {K V : Type 0} where
       (λ q ne. get_or-map_option entry_in refl ds q ∙ ap entry_in (others q ne) ∙ sym (get_or-map_option entry_in refl cs q))
 
   -- another entry in a node that keeps its links
-  module _ (s t : Slots K V) (key : ℕ) (f : Entry K V → Entry K V) (pointers : t.pointers ≡ s.pointers) (r : Revalues s.memory.cells t.memory.cells key f) where
+  module _ (o : Order K V) (t : Slots K V) (key : ℕ) (f : Entry K V → Entry K V) (pointers : t.pointers ≡ o.slots.pointers) (r : Rewrites o.slots t key f) where
     abbrev cs : NodeCells K V
-    cs = s.memory.cells
+    cs = cells_of o.slots
 
     abbrev ds : NodeCells K V
-    ds = t.memory.cells
+    ds = cells_of t
 
     -- what is alike under the key is alike everywhere
     alike : {X : Type 0} (g : Option (NodeCell K V) → X) → g (Some r.new) ≡ g (Some r.old) → (q : ℕ) → g (cell_at ds q) ≡ g (cell_at cs q)
@@ -176,68 +176,68 @@ module _ {K V : Type 0} where
     same_all [] = tt
     same_all (q ∷ qs) = (links_all q, same_all qs)
 
-    module _ (o : Option ℕ) (n : Option Ptr) (kept : IsNodeTable s o n) where
-      order_all : IsOrder (link_at ds) o (key_in ds n) (idle_places cs o)
+    module _ (kept : IsWellLinked o) where
+      order_all : IsOrder (link_at ds) o.oldest (key_in ds o.newest) (idle_of o)
       order_all = let i = kept.ordered in
-          record { first = i.first; last = keys_all n ∙ i.last; linked = linked_same (link_at cs) (link_at ds) None (idle_places cs o) None (same_all (idle_places cs o)) i.linked; distinct = i.distinct }
+          record { first = i.first; last = keys_all o.newest ∙ i.last; linked = linked_same (link_at cs) (link_at ds) None (idle_of o) None (same_all (idle_of o)) i.linked; distinct = i.distinct }
 
-      pub idle_written : idle_places ds o ≡ idle_places cs o
-      idle_written = read ds o (key_in ds n) (idle_places cs o) order_all
+      pub idle_written : idle_of (record o { slots = t }) ≡ idle_of o
+      idle_written = read ds o.oldest (key_in ds o.newest) (idle_of o) order_all
 
-      pub table_written : IsNodeTable t o n
+      pub table_written : IsWellLinked (record o { slots = t })
       table_written = record {
         tied = record {
           pointers = λ q. pointers_all q ∙ kept.tied.pointers q ∙ ap (λ l. ptr_of (get l q)) (sym pointers);
           apart = λ q p e. keys_kept cs ds pointers_all p ∙ kept.tied.apart q p (sym (pointers_all q) ∙ e);
           placed = λ q place e. kept.tied.placed q place (sym (alike place_in (ap Some r.node.place) q) ∙ e);
         };
-        ordered = subst (IsOrder (link_at ds) o (key_in ds n)) (sym idle_written) order_all;
-        good = subst (AreGood ds) (sym idle_written) (are_all (idle_places cs o) kept.good);
-        last_good = good_all n kept.last_good;
+        ordered = subst (IsOrder (link_at ds) o.oldest (key_in ds o.newest)) (sym idle_written) order_all;
+        good = subst (AreGood ds) (sym idle_written) (are_all (idle_of o) kept.good);
+        last_good = good_all o.newest kept.last_good;
         ends = λ q. elim (cases_eq q key) [
           | inl is ↦ subst IsEnd (sym (ap (cell_at ds) is ∙ r.now)) (r.node.chain ∙ subst IsEnd (ap (cell_at cs) is ∙ r.was) (kept.ends q))
           | inr ne ↦ subst IsEnd (sym (r.others q ne)) (kept.ends q)
         ];
       }
 
-    pub nodes_written : (v : NodeTable K V) (o : Option ℕ) (w p : ℕ) → node_table_of s o w ≡ v → key ≡ p → map_of_slots (map entry_in ds) ≡ update_at f v.nodes p
-    nodes_written v o w p e is =
-        let at : fin.get v.nodes p ≡ Some (entry_of r.old.value) = node_had s o w v e key p is ∙ ap entry_in r.was in
+    pub nodes_written : (v : NodeTable K V) (w p : ℕ) → node_table_of o w ≡ v → key ≡ p → map_of_slots (map entry_in ds) ≡ update_at f v.nodes p
+    nodes_written v w p e is =
+        let at : fin.get v.nodes p ≡ Some (entry_of r.old.value) = node_had o w v e key p is ∙ ap entry_in r.was in
         entries_inserted cs ds key (f (entry_of r.old.value)) r.others (ap entry_in r.now ∙ ap Some r.node.entry) ∙ (λ n. fin.insert (e n).nodes (is n) (f (entry_of r.old.value))) ∙ ap (λ x. option_map_or (λ d. fin.insert v.nodes p (f d)) x v.nodes) (sym at)
 
   -- a node was looked at, at p, and its entry written
-  pub record IsWritten (s t : Slots K V) (o : Option ℕ) (n : Option Ptr) (k : ℕ) (p : Ptr) (f : Entry K V → Entry K V) : Type 0 where
-    pub table : IsNodeTable t o n
-    pub at : key_at t.memory.cells p ≡ Some k
-    pub idle : idle_places t.memory.cells o ≡ idle_places s.memory.cells o
-    pub nodes : map_of_slots (map entry_in t.memory.cells) ≡ update_at f (map_of_slots (map entry_in s.memory.cells)) k
+  pub record IsWritten (old new : Order K V) (k : ℕ) (p : Ptr) (f : Entry K V → Entry K V) : Type 0 where
+    pub linked : IsWellLinked new
+    pub at : LeadsTo new.slots p k
+    pub idle : idle_of new ≡ idle_of old
+    pub nodes : nodes_of new ≡ update_at f (nodes_of old) k
 
-  pub written : (s u t : Slots K V) {o : Option ℕ} {n : Option Ptr} {k : ℕ} {p : Ptr} (f : Entry K V → Entry K V) → IsNodeTable s o n → u ≡ record s { looks = u.looks } → IsTied u → key_at s.memory.cells p ≡ Some k → t ≡ record u { memory = t.memory }
-      → OfKey u.memory.cells p (λ j. Revalues u.memory.cells t.memory.cells j f) → IsWritten s t o n k p f
-  written s u t {o} {n} {k} {p} f kept rest tied link slots cells =
-      let same : u.memory.cells ≡ s.memory.cells = ap (λ x. x.memory.cells) rest in
-      let at : key_at u.memory.cells p ≡ Some k = ap (λ l. key_at l p) same ∙ link in
+  pub written : (o : Order K V) (u t : Slots K V) {k : ℕ} {p : Ptr} (f : Entry K V → Entry K V) → IsWellLinked o → u ≡ record o.slots { looks = u.looks } → IsTied u → LeadsTo o.slots p k → OnlyWrites u t → RewritesLink u t p f → IsWritten o (record o { slots = t }) k p f
+  written o u t {k} {p} f kept rest tied link slots cells =
+      let now : Order K V = record o { slots = u } in
+      let same : cells_of u ≡ cells_of o.slots = ap (λ x. x.memory.cells) rest in
+      let at : LeadsTo u p k = ap (λ l. key_at l p) same ∙ link in
       let r = cells k at in let pointers : t.pointers ≡ u.pointers = ap (λ x. x.pointers) slots in
-      let looked = table_looked s u o n rest tied kept in
+      let looked = table_looked o u rest tied kept in
       record {
-        table = table_written u t k f pointers r o n looked;
-        at = keys_all u t k f pointers r (Some p) ∙ at;
-        idle = idle_written u t k f pointers r o n looked ∙ ap (λ l. idle_places l o) same;
-        nodes = nodes_written u t k f pointers r (node_table_of u o 0) o 0 k refl refl ∙ ap (λ l. update_at f (map_of_slots (map entry_in l)) k) same;
+        linked = table_written now t k f pointers r looked;
+        at = keys_all now t k f pointers r (Some p) ∙ at;
+        idle = idle_written now t k f pointers r looked ∙ ap (λ l. idle_places l o.oldest) same;
+        nodes = nodes_written now t k f pointers r (node_table_of now 0) 0 k refl refl ∙ ap (λ l. update_at f (map_of_slots (map entry_in l)) k) same;
       }
 
   -- what is in the order has a node, and stands there once
-  pub idle_within : (s : Slots K V) (o : Option ℕ) (n : Option Ptr) (w p : ℕ) → IsNodeTable s o n → IsIn p (idle_places s.memory.cells o) → IsSome (fin.get (node_table_of s o w).nodes p)
-  idle_within s o n w p t m =
-      let there = some_cell (cell_at s.memory.cells p) (present_in s o n p t m) in
-      ap is_some (node_is s o w p ∙ ap entry_in there.1)
+  pub idle_within : (o : Order K V) (w p : ℕ) → IsWellLinked o → Lists o p → IsSome (fin.get (node_table_of o w).nodes p)
+  idle_within o w p t m =
+      let there = some_cell (cell_at (cells_of o.slots) p) (present_in o p t m) in
+      ap is_some (node_is o w p ∙ ap entry_in there.1)
 
-  pub idle_places_distinct : (s : Slots K V) (o : Option ℕ) (n : Option Ptr) → IsNodeTable s o n → IsDistinct eqb (idle_places s.memory.cells o)
-  idle_places_distinct s o n t = distinct (idle_places s.memory.cells o) t.ordered.distinct
+  pub idle_distinct : (o : Order K V) → IsWellLinked o → IsDistinct eqb (idle_of o)
+  idle_distinct o t = distinct (idle_of o) t.ordered.distinct
 
   -- as much to spare as before
-  pub spare_same : (s t : Slots K V) (v : NodeTable K V) (o : Option ℕ) (w : ℕ) → node_table_of s o w ≡ v → t.pointers ≡ s.pointers → v.spare ≤ t.pointers.capacity - slab_len t.pointers
-  spare_same s t v o w e same =
-      let was : s.pointers.capacity - slab_len s.pointers ≡ v.spare = ap (λ x. x.spare) e in
-      let now : t.pointers.capacity - slab_len t.pointers ≡ s.pointers.capacity - slab_len s.pointers = ap (λ l. l.capacity - slab_len l) same in
+  pub spare_same : (o : Order K V) (t : Slots K V) (v : NodeTable K V) (w : ℕ) → node_table_of o w ≡ v → t.pointers ≡ o.slots.pointers → v.spare ≤ t.pointers.capacity - slab_len t.pointers
+  spare_same o t v w e same =
+      let was : o.slots.pointers.capacity - slab_len o.slots.pointers ≡ v.spare = ap (λ x. x.spare) e in
+      let now : t.pointers.capacity - slab_len t.pointers ≡ o.slots.pointers.capacity - slab_len o.slots.pointers = ap (λ l. l.capacity - slab_len l) same in
       omega (arith, was, now)

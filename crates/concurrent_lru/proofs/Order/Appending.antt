@@ -5,13 +5,15 @@ use Rattle.std.proofs.lemmas.Bool.{cases_eq, eq-eqb, ne_eqb, true≢false}
 use Rattle.std.proofs.lemmas.Map.Steps.{length-le_from_distinct_below}
 use denote.RawPtr.{Ptr}
 use Rattle.slab.specs.Slab.{get}
+use Rattle.concurrent_lru.specs.declared.list.links.Order.{Order}
 use Rattle.concurrent_lru.specs.declared.list.slots.Slots.{Slots}
 use Rattle.concurrent_lru.specs.Cells.{cell_at, ptr_in, key_at, AtKey}
-use Rattle.concurrent_lru.specs.SlotPointers.{IsTied, ptr_of, place_in}
+use Rattle.concurrent_lru.specs.SlotPointers.{IsTied, ptr_of, place_in, cells_of, LeadsTo}
 use Rattle.concurrent_lru.specs.Order.{Link, link, last_or, Absent, Distinct, Linked, IsOrder, order}
 use Rattle.concurrent_lru.specs.Slots.{map_of_slots}
 use Rattle.concurrent_lru.specs.Relinks.{NodeCell, NodeCells, Relinks, key_in, before_link, after_link, before_in, after_in, before_at, after_at}
-use Rattle.concurrent_lru.specs.SlotTable.{link_of, link_at, entry_in, idle_places, IsGood, IsGoodAt, AreGood, IsEnd, IsNodeTable}
+use Rattle.concurrent_lru.specs.SlotTable.{link_of, link_at, entry_in, idle_places, nodes_of, idle_of, IsGood, IsGoodAt, AreGood, IsEnd, IsWellLinked, Omits, order_with}
+use Rattle.concurrent_lru.specs.SlotWrites.{SetsLinks, SetsAfter}
 use Rattle.concurrent_lru.proofs.Memory.CellKeys.{keys_kept}
 use Rattle.concurrent_lru.proofs.Lists.SlotsAsMaps.{made_same}
 use Rattle.concurrent_lru.proofs.Order.Links.{order_read, order_push, first_of}
@@ -161,14 +163,15 @@ module _ {K V : Type 0} where
     pub good : AreGood ds (ks ++ own ∷ [])
 
   -- p is the pointer of the key own
-  table_pushed : (s t : Slots K V) (o q : Option ℕ) (n : Option Ptr) (own : ℕ) (p : Ptr) → IsNodeTable s o n → t.pointers ≡ s.pointers → key_at s.memory.cells p ≡ Some own → Pushed s.memory.cells t.memory.cells q (idle_places s.memory.cells o) own → IsNodeTable t q (Some p)
-  table_pushed s t o q n own p kept same at u =
-      let e = read t.memory.cells q (Some own) (idle_places s.memory.cells o ++ own ∷ []) u.ordered in
-      let there : key_at t.memory.cells p ≡ Some own = keys_kept s.memory.cells t.memory.cells u.quiet.pointers p ∙ at in
+  table_pushed : (o : Order K V) (t : Slots K V) (q : Option ℕ) (own : ℕ) (p : Ptr) → IsWellLinked o → t.pointers ≡ o.slots.pointers → LeadsTo o.slots p own → Pushed (cells_of o.slots) (cells_of t) q (idle_of o) own → IsWellLinked (order_with t q (Some p))
+  table_pushed o t q own p kept same at u =
+      let cs = cells_of o.slots in let ds = cells_of t in
+      let e = read ds q (Some own) (idle_of o ++ own ∷ []) u.ordered in
+      let there : key_at ds p ≡ Some own = keys_kept cs ds u.quiet.pointers p ∙ at in
       record {
-        tied = tied_kept s t same u.quiet kept.tied;
-        ordered = subst (λ w. IsOrder (link_at t.memory.cells) q w (idle_places t.memory.cells q)) (sym there) (subst (IsOrder (link_at t.memory.cells) q (Some own)) (sym e) u.ordered);
-        good = subst (AreGood t.memory.cells) (sym e) u.good;
+        tied = tied_kept o.slots t same u.quiet kept.tied;
+        ordered = subst (λ w. IsOrder (link_at ds) q w (idle_places ds q)) (sym there) (subst (IsOrder (link_at ds) q (Some own)) (sym e) u.ordered);
+        good = subst (AreGood ds) (sym e) u.good;
         last_good = ap is_some there;
         ends = λ k. u.quiet.ends k (kept.ends k);
       }
@@ -250,42 +253,42 @@ module _ {K V : Type 0} where
   some_cell None h = cc
   some_cell (Some c) h = (c, refl)
 
-  -- a key appended to the order, with p as its pointer
-  pub record IsAppended (s t : Slots K V) (o q : Option ℕ) (k : ℕ) (p : Ptr) : Type 0 where
-    pub table : IsNodeTable t q (Some p)
-    pub nodes : map_of_slots (map entry_in t.memory.cells) ≡ map_of_slots (map entry_in s.memory.cells)
-    pub idle : idle_places t.memory.cells q ≡ idle_places s.memory.cells o ++ k ∷ []
+  -- a key appended to the order
+  pub record IsAppended (old new : Order K V) (k : ℕ) : Type 0 where
+    pub linked : IsWellLinked new
+    pub nodes : nodes_of new ≡ nodes_of old
+    pub idle : idle_of new ≡ idle_of old ++ k ∷ []
 
-  appended : (s t : Slots K V) (o q : Option ℕ) (n : Option Ptr) (k : ℕ) (p : Ptr) → IsNodeTable s o n → t.pointers ≡ s.pointers → key_at s.memory.cells p ≡ Some k → Pushed s.memory.cells t.memory.cells q (idle_places s.memory.cells o) k → IsAppended s t o q k p
-  appended s t o q n k p kept same at u = record { table = table_pushed s t o q n k p kept same at u; nodes = entries_kept s.memory.cells t.memory.cells u.quiet; idle = read t.memory.cells q (Some k) (idle_places s.memory.cells o ++ k ∷ []) u.ordered }
+  appended : (o : Order K V) (t : Slots K V) (q : Option ℕ) (k : ℕ) (p : Ptr) → IsWellLinked o → t.pointers ≡ o.slots.pointers → LeadsTo o.slots p k → Pushed (cells_of o.slots) (cells_of t) q (idle_of o) k → IsAppended o (order_with t q (Some p)) k
+  appended o t q k p kept same at u = record { linked = table_pushed o t q k p kept same at u; nodes = entries_kept (cells_of o.slots) (cells_of t) u.quiet; idle = read (cells_of t) q (Some k) (idle_of o ++ k ∷ []) u.ordered }
 
   -- a look changes no node
-  pub table_looked : (s t : Slots K V) (o : Option ℕ) (n : Option Ptr) → t ≡ record s { looks = t.looks } → IsTied t → IsNodeTable s o n → IsNodeTable t o n
-  table_looked s t o n rest tied kept = subst (λ u. IsTied u → IsNodeTable u o n) (sym rest) (λ u. record { tied = u; ordered = kept.ordered; good = kept.good; last_good = kept.last_good; ends = kept.ends }) tied
+  pub table_looked : (o : Order K V) (t : Slots K V) → t ≡ record o.slots { looks = t.looks } → IsTied t → IsWellLinked o → IsWellLinked (record o { slots = t })
+  table_looked o t rest tied kept = subst (λ u. IsTied u → IsWellLinked (record o { slots = u })) (sym rest) (λ u. record { tied = u; ordered = kept.ordered; good = kept.good; last_good = kept.last_good; ends = kept.ends }) tied
 
-  -- what holds of the cells before a look, by the key of the pointer
-  pub told_at : (F : NodeCells K V → ℕ → Type 0) (looked cs : NodeCells K V) (p : Ptr) (k : ℕ) → looked ≡ cs → key_at cs p ≡ Some k → AtKey looked p (F looked) → F cs k
-  told_at F looked cs p k e at x =
-      let y : AtKey cs p (F cs) = subst (λ l. AtKey l p (F l)) e x in
-      let both : Some y.0 ≡ Some k = sym y.1 ∙ at in let is : y.0 ≡ k = cc in subst (F cs) is y.2
+  -- what holds of the key of a pointer
+  told_at : (cs : NodeCells K V) (F : ℕ → Type 0) (p : Ptr) (k : ℕ) → key_at cs p ≡ Some k → AtKey cs p F → F k
+  told_at cs F p k at x = let both : Some x.0 ≡ Some k = sym x.1 ∙ at in let is : x.0 ≡ k = cc in subst F is x.2
 
-  module _ (s : Slots K V) (o : Option ℕ) (n : Option Ptr) (k : ℕ) (p : Ptr) (looked : NodeCells K V) (kept : IsNodeTable s o n) (at : key_at s.memory.cells p ≡ Some k) (e : looked ≡ s.memory.cells) where
+  module _ (o : Order K V) (k : ℕ) (p : Ptr) (kept : IsWellLinked o) (at : LeadsTo o.slots p k) where
+    abbrev cells : NodeCells K V
+    cells = cells_of o.slots
+
+    relinked : (ds : NodeCells K V) → AtKey cells p (λ j. Relinks cells ds j o.newest None) → Relinks cells ds k o.newest None
+    relinked ds x = told_at cells (λ j. Relinks cells ds j o.newest None) p k at x
+
     -- the newest is there once the key is linked to it
-    pub last_held : (cs : NodeCells K V) (last : Ptr) → AtKey looked p (λ j. Relinks looked cs j n None) → n ≡ Some last → IsSome (key_at cs last)
-    last_held cs last x is =
-        let r : Relinks s.memory.cells cs k n None = told_at (λ l j. Relinks l cs j n None) looked s.memory.cells p k e at x in
-        good_kept s.memory.cells cs (quiet s.memory.cells cs k n None r) (Some last) (subst (IsGood s.memory.cells) is kept.last_good)
+    pub last_held : (ds : NodeCells K V) (last : Ptr) → AtKey cells p (λ j. Relinks cells ds j o.newest None) → o.newest ≡ Some last → IsSome (key_at ds last)
+    last_held ds last x is = good_kept cells ds (quiet cells ds k o.newest None (relinked ds x)) (Some last) (subst (IsGood cells) is kept.last_good)
 
     -- to an empty one, and after the newest
-    pub appended_first : (t : Slots K V) → t.pointers ≡ s.pointers → list_any (eqb k) (idle_places s.memory.cells o) ≡ false → AtKey looked p (λ j. Relinks looked t.memory.cells j n None) → n ≡ None → IsAppended s t o (Some k) k p
+    pub appended_first : (t : Slots K V) → t.pointers ≡ o.slots.pointers → Omits o k → SetsLinks o.slots t p o.newest None → o.newest ≡ None → IsAppended o (order_with t (Some k) (Some p)) k
     appended_first t same held x none =
-        let r : Relinks s.memory.cells t.memory.cells k n None = told_at (λ l j. Relinks l t.memory.cells j n None) looked s.memory.cells p k e at x in
-        appended s t o (Some k) n k p kept same at (pushed_first s.memory.cells t.memory.cells o n (idle_places s.memory.cells o) k p at kept.ordered kept.good kept.last_good (absent_from k (idle_places s.memory.cells o) held) r none)
+        appended o t (Some k) k p kept same at (pushed_first cells (cells_of t) o.oldest o.newest (idle_of o) k p at kept.ordered kept.good kept.last_good (absent_from k (idle_of o) held) (relinked (cells_of t) x) none)
 
-    pub appended_after : (t : Slots K V) (cs : NodeCells K V) (last : Ptr) → t.pointers ≡ s.pointers → list_any (eqb k) (idle_places s.memory.cells o) ≡ false → AtKey looked p (λ j. Relinks looked cs j n None) → n ≡ Some last
-        → AtKey cs last (λ j. Relinks cs t.memory.cells j (before_at cs j) (Some p)) → IsAppended s t o o k p
-    appended_after t cs last same held x is after =
-        let r : Relinks s.memory.cells cs k n None = told_at (λ l j. Relinks l cs j n None) looked s.memory.cells p k e at x in
-        let newest : key_in s.memory.cells n ≡ Some after.0 = ap (key_in s.memory.cells) is ∙ sym (link_kept s.memory.cells cs (quiet s.memory.cells cs k n None r) (Some last)) ∙ after.1 in
-        appended s t o o n k p kept same at
-        (pushed_after s.memory.cells cs o n (idle_places s.memory.cells o) k p at kept.ordered kept.good kept.last_good (absent_from k (idle_places s.memory.cells o) held) r t.memory.cells after.0 newest after.2)
+    pub appended_after : (s t : Slots K V) (last : Ptr) → t.pointers ≡ o.slots.pointers → Omits o k → SetsLinks o.slots s p o.newest None → o.newest ≡ Some last → SetsAfter s t last (Some p) → IsAppended o (order_with t o.oldest (Some p)) k
+    appended_after s t last same held x is after =
+        let ds = cells_of s in let r = relinked ds x in
+        let newest : key_in cells o.newest ≡ Some after.0 = ap (key_in cells) is ∙ sym (link_kept cells ds (quiet cells ds k o.newest None r) (Some last)) ∙ after.1 in
+        appended o t o.oldest k p kept same at
+        (pushed_after cells ds o.oldest o.newest (idle_of o) k p at kept.ordered kept.good kept.last_good (absent_from k (idle_of o) held) r (cells_of t) after.0 newest after.2)

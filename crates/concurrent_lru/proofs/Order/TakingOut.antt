@@ -1,13 +1,13 @@
 -- Nodes of which one is taken out of the order: its links are cut, and its neighbours joined.
-use Rattle.concurrent_lru.specs.Slots.{map_of_slots}
-use Rattle.std.proofs.Common.{map, ◌≡◌, ◌≢◌, ◌⊎◌, ℕ, List, [], ◌∷◌, ◌++◌, cond, Option, Some, None, refl, sym, ap, ◌∙◌, subst, inl, inr, eqb, filter, not, IsSome}
+use Rattle.std.proofs.Common.{◌≡◌, ◌≢◌, ◌⊎◌, ℕ, List, [], ◌∷◌, ◌++◌, cond, Option, Some, None, refl, sym, ap, ◌∙◌, subst, inl, inr, eqb, filter, not, IsSome}
 use Rattle.std.proofs.lemmas.Bool.{cases_eq, eq-eqb, ne_eqb}
 use denote.RawPtr.{Ptr}
-use Rattle.concurrent_lru.specs.declared.list.slots.Slots.{Slots}
+use Rattle.concurrent_lru.specs.declared.list.links.Order.{Order}
 use Rattle.concurrent_lru.specs.Cells.{cell_at}
 use Rattle.concurrent_lru.specs.Order.{Link, link, first_or, last_or, Absent, Distinct, IsOrder}
 use Rattle.concurrent_lru.specs.Relinks.{NodeCell, NodeCells, Relinks, Unlinks, LeftJoined, RightJoined, key_in, before_at, after_at}
-use Rattle.concurrent_lru.specs.SlotTable.{link_of, link_at, entry_in, idle_places, IsGood, IsGoodAt, AreGood, IsNodeTable}
+use Rattle.concurrent_lru.specs.SlotPointers.{cells_of, HasNode}
+use Rattle.concurrent_lru.specs.SlotTable.{link_of, link_at, nodes_of, idle_of, idle_without, IsGood, IsGoodAt, AreGood, IsWellLinked, Lists}
 use Rattle.concurrent_lru.proofs.Entries.NodeWrittenOrAdded.{around}
 use Rattle.concurrent_lru.proofs.Lists.Members.{IsIn}
 use Rattle.concurrent_lru.proofs.Order.Links.{absent_both, order_cut, oldest_without, newest_without, linked_at, apart_middle}
@@ -193,61 +193,62 @@ module _ {K V : Type 0} where
       present None l e = cc
       present (Some c) l e = refl
 
-  table_removed : (s t : Slots K V) (o p : Option ℕ) (n m : Option Ptr) (ks : List ℕ) → IsNodeTable s o n → t.pointers ≡ s.pointers → Quiet s.memory.cells t.memory.cells → IsOrder (link_at t.memory.cells) p (key_in t.memory.cells m) ks
-      → AreGood t.memory.cells ks → IsGood t.memory.cells m → IsNodeTable t p m
-  table_removed s t o p n m ks kept same u i g gm =
-      let e = read t.memory.cells p (key_in t.memory.cells m) ks i in
+  table_removed : (o q : Order K V) (ks : List ℕ) → IsWellLinked o → q.slots.pointers ≡ o.slots.pointers → Quiet (cells_of o.slots) (cells_of q.slots) → IsOrder (link_at (cells_of q.slots)) q.oldest (key_in (cells_of q.slots) q.newest) ks
+      → AreGood (cells_of q.slots) ks → IsGood (cells_of q.slots) q.newest → IsWellLinked q
+  table_removed o q ks kept same u i g gm =
+      let ds = cells_of q.slots in let e = read ds q.oldest (key_in ds q.newest) ks i in
       record {
-        tied = tied_kept s t same u kept.tied;
-        ordered = subst (IsOrder (link_at t.memory.cells) p (key_in t.memory.cells m)) (sym e) i;
-        good = subst (AreGood t.memory.cells) (sym e) g;
+        tied = tied_kept o.slots q.slots same u kept.tied;
+        ordered = subst (IsOrder (link_at ds) q.oldest (key_in ds q.newest)) (sym e) i;
+        good = subst (AreGood ds) (sym e) g;
         last_good = gm;
-        ends = λ q. u.ends q (kept.ends q);
+        ends = λ k. u.ends k (kept.ends k);
       }
 
   -- the steps of taking a key out: its links cut, and its neighbours before and after joined
-  pub record Cuts (s t : Slots K V) (o p : Option ℕ) (n m : Option Ptr) (k : ℕ) : Type 0 where
+  pub record Cuts (old new : Order K V) (k : ℕ) : Type 0 where
     pub unlinked : NodeCells K V
     pub joined : NodeCells K V
     pub before : Option Ptr
     pub after : Option Ptr
-    pub pointers : t.pointers ≡ s.pointers
-    pub apart : Unlinks s.memory.cells unlinked k before after
-    pub left : LeftJoined unlinked joined o p before after
-    pub right : RightJoined joined t.memory.cells n m before after
+    pub pointers : new.slots.pointers ≡ old.slots.pointers
+    pub apart : Unlinks (cells_of old.slots) unlinked k before after
+    pub left : LeftJoined unlinked joined old.oldest new.oldest before after
+    pub right : RightJoined joined (cells_of new.slots) old.newest new.newest before after
 
-  module _ {s t : Slots K V} {o p : Option ℕ} {n m : Option Ptr} {k : ℕ} (kept : IsNodeTable s o n) (there : IsIn k (idle_places s.memory.cells o)) (c : Cuts s t o p n m k) where
-    parts_at : (xs : List ℕ) × (ys : List ℕ) × (idle_places s.memory.cells o ≡ xs ++ k ∷ ys)
-    parts_at = cut_at (idle_places s.memory.cells o) k there
+  module _ {o q : Order K V} {k : ℕ} (kept : IsWellLinked o) (there : Lists o k) (c : Cuts o q k) where
+    parts_at : (xs : List ℕ) × (ys : List ℕ) × (idle_of o ≡ xs ++ k ∷ ys)
+    parts_at = cut_at (idle_of o) k there
 
-    quiet_out : Quiet s.memory.cells t.memory.cells
-    quiet_out = quiet3 s.memory.cells c.unlinked c.joined t.memory.cells o p n m c.before c.after k (idle_places s.memory.cells o) parts_at.0 parts_at.1 parts_at.2 kept.ordered kept.good kept.last_good c.apart.cut c.apart.was_before c.apart.was_after c.left c.right
+    quiet_out : Quiet (cells_of o.slots) (cells_of q.slots)
+    quiet_out = quiet3 (cells_of o.slots) c.unlinked c.joined (cells_of q.slots) o.oldest q.oldest o.newest q.newest c.before c.after k (idle_of o) parts_at.0 parts_at.1 parts_at.2 kept.ordered kept.good kept.last_good c.apart.cut c.apart.was_before c.apart.was_after c.left c.right
 
-    order_out : IsOrder (link_at t.memory.cells) p (key_in t.memory.cells m) (parts_at.0 ++ parts_at.1)
-    order_out = ordered3 s.memory.cells c.unlinked c.joined t.memory.cells o p n m c.before c.after k (idle_places s.memory.cells o) parts_at.0 parts_at.1 parts_at.2 kept.ordered kept.good kept.last_good c.apart.cut c.apart.was_before c.apart.was_after c.left c.right
+    order_out : IsOrder (link_at (cells_of q.slots)) q.oldest (key_in (cells_of q.slots) q.newest) (parts_at.0 ++ parts_at.1)
+    order_out = ordered3 (cells_of o.slots) c.unlinked c.joined (cells_of q.slots) o.oldest q.oldest o.newest q.newest c.before c.after k (idle_of o) parts_at.0 parts_at.1 parts_at.2 kept.ordered kept.good kept.last_good c.apart.cut c.apart.was_before c.apart.was_after c.left c.right
 
-    pub table_out : IsNodeTable t p m
-    table_out = table_removed s t o p n m (parts_at.0 ++ parts_at.1) kept c.pointers quiet_out order_out
-        (good3 s.memory.cells c.unlinked c.joined t.memory.cells o p n m c.before c.after k (idle_places s.memory.cells o) parts_at.0 parts_at.1 parts_at.2 kept.ordered kept.good kept.last_good c.apart.cut c.apart.was_before c.apart.was_after c.left c.right)
-        (last_good3 s.memory.cells c.unlinked c.joined t.memory.cells o p n m c.before c.after k (idle_places s.memory.cells o) parts_at.0 parts_at.1 parts_at.2 kept.ordered kept.good kept.last_good c.apart.cut c.apart.was_before c.apart.was_after c.left c.right)
+    pub linked_out : IsWellLinked q
+    linked_out = table_removed o q (parts_at.0 ++ parts_at.1) kept c.pointers quiet_out order_out
+        (good3 (cells_of o.slots) c.unlinked c.joined (cells_of q.slots) o.oldest q.oldest o.newest q.newest c.before c.after k (idle_of o) parts_at.0 parts_at.1 parts_at.2 kept.ordered kept.good kept.last_good c.apart.cut c.apart.was_before c.apart.was_after c.left c.right)
+        (last_good3 (cells_of o.slots) c.unlinked c.joined (cells_of q.slots) o.oldest q.oldest o.newest q.newest c.before c.after k (idle_of o) parts_at.0 parts_at.1 parts_at.2 kept.ordered kept.good kept.last_good c.apart.cut c.apart.was_before c.apart.was_after c.left c.right)
 
-    pub nodes_out : map_of_slots (map entry_in t.memory.cells) ≡ map_of_slots (map entry_in s.memory.cells)
-    nodes_out = entries_kept s.memory.cells t.memory.cells quiet_out
+    pub nodes_out : nodes_of q ≡ nodes_of o
+    nodes_out = entries_kept (cells_of o.slots) (cells_of q.slots) quiet_out
 
-    pub idle_out : idle_places t.memory.cells p ≡ filter (λ q. not (eqb q k)) (idle_places s.memory.cells o)
+    pub idle_out : idle_of q ≡ idle_without o k
     idle_out =
         let apart = apart_middle parts_at.0 k parts_at.1 (subst Distinct parts_at.2 kept.ordered.distinct) in
-        read t.memory.cells p (key_in t.memory.cells m) (parts_at.0 ++ parts_at.1) order_out ∙ sym (ap (filter (λ q. not (eqb q k))) parts_at.2 ∙ left_beside k parts_at.0 parts_at.1 apart.0 apart.1)
+        read (cells_of q.slots) q.oldest (key_in (cells_of q.slots) q.newest) (parts_at.0 ++ parts_at.1) order_out ∙ sym (ap (filter (λ q. not (eqb q k))) parts_at.2 ∙ left_beside k parts_at.0 parts_at.1 apart.0 apart.1)
 
   -- the neighbours of a key in the order are there, before and after its links are cut
-  pub good_beside : (s : Slots K V) (o : Option ℕ) (n : Option Ptr) (k : ℕ) (cs : NodeCells K V) → IsNodeTable s o n → IsIn k (idle_places s.memory.cells o) → Relinks s.memory.cells cs k None None → IsGood cs (before_at s.memory.cells k) × IsGood cs (after_at s.memory.cells k)
-  good_beside s o n k cs kept there r =
-      let w = cut_at (idle_places s.memory.cells o) k there in
-      let g = good_at s.memory.cells (idle_places s.memory.cells o) w.0 k w.1 w.2 kept.good in
-      let q = quiet s.memory.cells cs k None None r in
-      (good_kept s.memory.cells cs q (before_at s.memory.cells k) g.0, good_kept s.memory.cells cs q (after_at s.memory.cells k) g.1)
+  pub good_beside : (o : Order K V) (k : ℕ) (ds : NodeCells K V) → IsWellLinked o → Lists o k → Relinks (cells_of o.slots) ds k None None → IsGood ds (before_at (cells_of o.slots) k) × IsGood ds (after_at (cells_of o.slots) k)
+  good_beside o k ds kept there r =
+      let cs = cells_of o.slots in
+      let w = cut_at (idle_of o) k there in
+      let g = good_at cs (idle_of o) w.0 k w.1 w.2 kept.good in
+      let q = quiet cs ds k None None r in
+      (good_kept cs ds q (before_at cs k) g.0, good_kept cs ds q (after_at cs k) g.1)
 
-  pub present_in : (s : Slots K V) (o : Option ℕ) (n : Option Ptr) (k : ℕ) → IsNodeTable s o n → IsIn k (idle_places s.memory.cells o) → IsSome (cell_at s.memory.cells k)
-  present_in s o n k kept there =
-      let w = cut_at (idle_places s.memory.cells o) k there in
-      linked_present s.memory.cells k _ (linked_at (link_at s.memory.cells) None (idle_places s.memory.cells o) None k w.0 w.1 w.2 kept.ordered.linked)
+  pub present_in : (o : Order K V) (k : ℕ) → IsWellLinked o → Lists o k → HasNode o.slots k
+  present_in o k kept there =
+      let cs = cells_of o.slots in let w = cut_at (idle_of o) k there in
+      linked_present cs k _ (linked_at (link_at cs) None (idle_of o) None k w.0 w.1 w.2 kept.ordered.linked)

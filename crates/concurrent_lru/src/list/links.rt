@@ -1,316 +1,176 @@
 //! The idle order as links among nodes: each idle one has the pointers of its neighbours.
-//! Free functions over the slots and the two ends, which may break the order for a moment.
-ghost use Rattle.std.specs.Prelude.{◌≡◌, ◌+◌, ◌∷◌, [], ◌++◌, ◌==◌, map, filter, not, nat_eq, true, false, None, Some, IsSome, OnOk, OnErr, IfOk, IfErr};
-ghost use Rattle.std.specs.Arc.{arc_value};
-ghost use Rattle.std.specs.List.{list_any};
-ghost use Rattle.concurrent_lru.specs.Cells.{cell_at, key_at, AtKey, OfKey};
-ghost use Rattle.concurrent_lru.specs.SlotTable.{IsNodeTable, IsGood, idle_places, entry_in};
-ghost use Rattle.concurrent_lru.specs.SlotPointers.{IsTied};
-ghost use Rattle.concurrent_lru.specs.Slots.{map_of_slots};
-ghost use Rattle.concurrent_lru.specs.NodeTable.{Entry, phase_of, value_of, update_at, entry_with_pins, entry_detached, entry_in_phase};
-ghost use Rattle.concurrent_lru.specs.Relinks.{IsRelinked, Relinks, Unlinks, Revalues, LeftJoined, RightJoined, key_in, before_link, after_link, before_at, after_at};
+ghost use Rattle.std.specs.Prelude.{◌≡◌, ◌+◌, ◌∷◌, [], ◌++◌, OnOk, OnErr, IfErr};
+ghost use Rattle.concurrent_lru.specs.NodeTable.{HasValue, GivesValue, pinned_once};
+ghost use Rattle.concurrent_lru.specs.SlotPointers.{IsTied, cells_of, HasNode, LeadsTo};
+ghost use Rattle.concurrent_lru.specs.SlotWrites.{OnlyWrites};
+ghost use Rattle.concurrent_lru.specs.SlotTable.{IsWellLinked, IsGood, Lists, Omits, ListsLink, LosesLink, JoinsLeft, JoinsRight, OnlyLooked, nodes_of, idle_of, idle_without, entry_at};
 
 use crate::list::slots::Slots;
-use crate::list::{Node, Phase, Refusal};
+use crate::list::{Node, Refusal};
+use std::alloc::Global;
 use std::sync::Arc;
 
-// The neighbours of one node.
-fn set_links<K, V>(
-    node: &mut Node<K, V>,
-    before: Option<*mut Node<K, V>>,
-    after: Option<*mut Node<K, V>>,
-)
-    ensures { IsRelinked node.old node.new before after }
-{
-    node.before = before;
-    node.after = after;
+// The nodes, and the order of the idle ones by its two ends. It has no invariant: a method may
+// break the order for a moment.
+pub(super) struct Order<K, V> {
+    pub(super) slots: Slots<K, V>,
+    pub(super) oldest: Option<usize>,
+    newest: Option<*mut Node<K, V>>,
 }
 
-// One link of a node. The other is not read: a neighbour was often written last by another
-// processor, and then a read before the write moves it twice.
-fn link_before<K, V>(node: &mut Node<K, V>, before: Option<*mut Node<K, V>>)
-    ensures { IsRelinked node.old node.new before (after_link node.old) }
-{
-    node.before = before;
-}
-
-fn link_after<K, V>(node: &mut Node<K, V>, after: Option<*mut Node<K, V>>)
-    ensures { IsRelinked node.old node.new (before_link node.old) after }
-{
-    node.after = after;
-}
-
-fn relink<K: Drop, V: Drop>(
-    slots: &mut Slots<K, V>,
-    link: *mut Node<K, V>,
-    before: Option<*mut Node<K, V>>,
-    after: Option<*mut Node<K, V>>,
-)
-    requires { IsSome (key_at slots.old.memory.cells link) }
-    ensures slots { slots.new ≡ record slots.old { memory = slots.new.memory } }
-    ensures cells { AtKey slots.old.memory.cells link (λ k. Relinks slots.old.memory.cells slots.new.memory.cells k before after) }
-{
-    set_links(slots.follow_mut(link), before, after);
-}
-
-fn set_after<K: Drop, V: Drop>(
-    slots: &mut Slots<K, V>,
-    link: *mut Node<K, V>,
-    after: Option<*mut Node<K, V>>,
-)
-    requires { IsSome (key_at slots.old.memory.cells link) }
-    ensures slots { slots.new ≡ record slots.old { memory = slots.new.memory } }
-    ensures cells { AtKey slots.old.memory.cells link (λ k. Relinks slots.old.memory.cells slots.new.memory.cells k (before_at slots.old.memory.cells k) after) }
-{
-    link_after(slots.follow_mut(link), after);
-}
-
-fn set_before<K: Drop, V: Drop>(
-    slots: &mut Slots<K, V>,
-    link: *mut Node<K, V>,
-    before: Option<*mut Node<K, V>>,
-)
-    requires { IsSome (key_at slots.old.memory.cells link) }
-    ensures slots { slots.new ≡ record slots.old { memory = slots.new.memory } }
-    ensures cells { AtKey slots.old.memory.cells link (λ k. Relinks slots.old.memory.cells slots.new.memory.cells k before (after_at slots.old.memory.cells k)) }
-{
-    link_before(slots.follow_mut(link), before);
-}
-
-// Makes the node under a key the newest idle one.
-pub(super) fn append_at<K: Drop, V: Drop>(
-    slots: &mut Slots<K, V>,
-    oldest: &mut Option<usize>,
-    newest: &mut Option<*mut Node<K, V>>,
-    key: usize,
-)
-    requires table { IsNodeTable slots.old oldest.old newest.old }
-    requires present { IsSome (cell_at slots.old.memory.cells key) }
-    requires held { list_any (nat_eq key) (idle_places slots.old.memory.cells oldest.old) ≡ false }
-    ensures table { IsNodeTable slots.new oldest.new newest.new }
-    ensures nodes { map_of_slots (map entry_in slots.new.memory.cells) ≡ map_of_slots (map entry_in slots.old.memory.cells) }
-    ensures idle { idle_places slots.new.memory.cells oldest.new ≡ idle_places slots.old.memory.cells oldest.old ++ key ∷ [] }
-    ensures pointers { slots.new.pointers ≡ slots.old.pointers }
-    ensures looks { slots.new.looks.count ≡ slots.old.looks.count + 1 }
-{
-    let own = slots.look(key);
-    push(slots, oldest, newest, own, key);
-}
-
-// Makes the node that a link leads to the newest idle one. The key is the node's own.
-fn push<K: Drop, V: Drop>(
-    slots: &mut Slots<K, V>,
-    oldest: &mut Option<usize>,
-    newest: &mut Option<*mut Node<K, V>>,
-    own: *mut Node<K, V>,
-    key: usize,
-)
-    requires table { IsNodeTable slots.old oldest.old newest.old }
-    requires own { key_at slots.old.memory.cells own ≡ Some key }
-    requires held { list_any (nat_eq key) (idle_places slots.old.memory.cells oldest.old) ≡ false }
-    ensures table { IsNodeTable slots.new oldest.new newest.new }
-    ensures nodes { map_of_slots (map entry_in slots.new.memory.cells) ≡ map_of_slots (map entry_in slots.old.memory.cells) }
-    ensures idle { idle_places slots.new.memory.cells oldest.new ≡ idle_places slots.old.memory.cells oldest.old ++ key ∷ [] }
-    ensures pointers { slots.new.pointers ≡ slots.old.pointers }
-    ensures looks { slots.new.looks ≡ slots.old.looks }
-{
-    relink(slots, own, *newest, None);
-    match *newest {
-        Some(last) => set_after(slots, last, Some(own)),
-        None => *oldest = Some(key),
+impl<K: Drop, V: Drop> Order<K, V> {
+    // No nodes.
+    pub(super) fn new(alloc: Global) -> Order<K, V>
+        ensures linked { IsWellLinked result }
+        ensures empty { cells_of result.slots ≡ [] }
+        ensures idle { idle_of result ≡ [] }
+    {
+        Order {
+            slots: Slots::new(alloc),
+            oldest: None,
+            newest: None,
+        }
     }
-    *newest = Some(own);
-}
 
-// Cuts a node's links, and tells what they were.
-fn unlink<K: Drop, V: Drop>(
-    slots: &mut Slots<K, V>,
-    link: *mut Node<K, V>,
-) -> (Option<*mut Node<K, V>>, Option<*mut Node<K, V>>)
-    requires { IsSome (key_at slots.old.memory.cells link) }
-    ensures slots { slots.new ≡ record slots.old { memory = slots.new.memory } }
-    ensures cells { OfKey slots.old.memory.cells link (λ k. Unlinks slots.old.memory.cells slots.new.memory.cells k result.0 result.1) }
-{
-    let node = slots.follow_mut(link);
-    let before = node.before;
-    let after = node.after;
-    set_links(node, None, None);
-    (before, after)
-}
-
-// The key of the node that a link leads to, which the node itself carries.
-fn key_of<K: Drop, V: Drop>(slots: &Slots<K, V>, link: Option<*mut Node<K, V>>) -> Option<usize>
-    requires tied { IsTied slots.now }
-    requires good { IsGood slots.now.memory.cells link }
-    ensures { result ≡ key_in slots.now.memory.cells link }
-{
-    match link {
-        Some(link) => Some(slots.follow(link).place),
-        None => None,
+    // Makes the node under a key the newest idle one.
+    pub(super) fn append(&mut self, key: usize)
+        requires linked { IsWellLinked self.old }
+        requires present { HasNode self.old.slots key }
+        requires held { Omits self.old key }
+        ensures linked { IsWellLinked self.new }
+        ensures nodes { nodes_of self.new ≡ nodes_of self.old }
+        ensures idle { idle_of self.new ≡ idle_of self.old ++ key ∷ [] }
+        ensures pointers { self.new.slots.pointers ≡ self.old.slots.pointers }
+        ensures looks { self.new.slots.looks.count ≡ self.old.slots.looks.count + 1 }
+    {
+        let own = self.slots.look(key);
+        self.push(own, key);
     }
-}
 
-// Joins the neighbours of a node that was taken out, seen from the one before, or from the end.
-fn join_left<K: Drop, V: Drop>(
-    slots: &mut Slots<K, V>,
-    oldest: &mut Option<usize>,
-    before: Option<*mut Node<K, V>>,
-    after: Option<*mut Node<K, V>>,
-)
-    requires tied { IsTied slots.old }
-    requires before { IsGood slots.old.memory.cells before }
-    requires after { IsGood slots.old.memory.cells after }
-    ensures slots { slots.new ≡ record slots.old { memory = slots.new.memory } }
-    ensures joined { LeftJoined slots.old.memory.cells slots.new.memory.cells oldest.old oldest.new before after }
-{
-    match before {
-        Some(link) => set_after(slots, link, after),
-        None => *oldest = key_of(slots, after),
+    // Makes the node that a link leads to the newest idle one. The key is the node's own.
+    fn push(&mut self, own: *mut Node<K, V>, key: usize)
+        requires linked { IsWellLinked self.old }
+        requires own { LeadsTo self.old.slots own key }
+        requires held { Omits self.old key }
+        ensures linked { IsWellLinked self.new }
+        ensures nodes { nodes_of self.new ≡ nodes_of self.old }
+        ensures idle { idle_of self.new ≡ idle_of self.old ++ key ∷ [] }
+        ensures pointers { self.new.slots.pointers ≡ self.old.slots.pointers }
+        ensures looks { self.new.slots.looks ≡ self.old.slots.looks }
+    {
+        self.slots.relink(own, self.newest, None);
+        match self.newest {
+            Some(last) => self.slots.set_after(last, Some(own)),
+            None => self.oldest = Some(key),
+        }
+        self.newest = Some(own);
     }
-}
 
-// And from the one after.
-fn join_right<K: Drop, V: Drop>(
-    slots: &mut Slots<K, V>,
-    newest: &mut Option<*mut Node<K, V>>,
-    before: Option<*mut Node<K, V>>,
-    after: Option<*mut Node<K, V>>,
-)
-    requires { IsGood slots.old.memory.cells after }
-    ensures slots { slots.new ≡ record slots.old { memory = slots.new.memory } }
-    ensures joined { RightJoined slots.old.memory.cells slots.new.memory.cells newest.old newest.new before after }
-{
-    match after {
-        Some(link) => set_before(slots, link, before),
-        None => *newest = before,
+    // Joins the neighbours of a node that was taken out, seen from the one before, or from the end.
+    fn join_left(&mut self, before: Option<*mut Node<K, V>>, after: Option<*mut Node<K, V>>)
+        requires tied { IsTied self.old.slots }
+        requires before { IsGood (cells_of self.old.slots) before }
+        requires after { IsGood (cells_of self.old.slots) after }
+        ensures newest { self.new.newest ≡ self.old.newest }
+        ensures rest { OnlyWrites self.old.slots self.new.slots }
+        ensures joined { JoinsLeft self.old self.new before after }
+    {
+        match before {
+            Some(link) => self.slots.set_after(link, after),
+            None => self.oldest = self.slots.slot_of(after),
+        }
     }
-}
 
-// Takes the node that a link leads to out of the idle order.
-fn cut<K: Drop, V: Drop>(
-    slots: &mut Slots<K, V>,
-    oldest: &mut Option<usize>,
-    newest: &mut Option<*mut Node<K, V>>,
-    own: *mut Node<K, V>,
-)
-    requires table { IsNodeTable slots.old oldest.old newest.old }
-    requires idle { AtKey slots.old.memory.cells own (λ k. list_any (nat_eq k) (idle_places slots.old.memory.cells oldest.old) ≡ true) }
-    ensures table { IsNodeTable slots.new oldest.new newest.new }
-    ensures nodes { map_of_slots (map entry_in slots.new.memory.cells) ≡ map_of_slots (map entry_in slots.old.memory.cells) }
-    ensures idle { OfKey slots.old.memory.cells own (λ k. idle_places slots.new.memory.cells oldest.new ≡ filter (λ q. not (q == k)) (idle_places slots.old.memory.cells oldest.old)) }
-    ensures pointers { slots.new.pointers ≡ slots.old.pointers }
-    ensures looks { slots.new.looks ≡ slots.old.looks }
-{
-    let (before, after) = unlink(slots, own);
-    join_left(slots, oldest, before, after);
-    join_right(slots, newest, before, after);
-}
+    // And from the one after.
+    fn join_right(&mut self, before: Option<*mut Node<K, V>>, after: Option<*mut Node<K, V>>)
+        requires { IsGood (cells_of self.old.slots) after }
+        ensures oldest { self.new.oldest ≡ self.old.oldest }
+        ensures rest { OnlyWrites self.old.slots self.new.slots }
+        ensures joined { JoinsRight self.old self.new before after }
+    {
+        match after {
+            Some(link) => self.slots.set_before(link, before),
+            None => self.newest = before,
+        }
+    }
 
-// Takes the node under a key out of the idle order.
-pub(super) fn remove_at<K: Drop, V: Drop>(
-    slots: &mut Slots<K, V>,
-    oldest: &mut Option<usize>,
-    newest: &mut Option<*mut Node<K, V>>,
-    key: usize,
-)
-    requires table { IsNodeTable slots.old oldest.old newest.old }
-    requires idle { list_any (nat_eq key) (idle_places slots.old.memory.cells oldest.old) ≡ true }
-    ensures table { IsNodeTable slots.new oldest.new newest.new }
-    ensures nodes { map_of_slots (map entry_in slots.new.memory.cells) ≡ map_of_slots (map entry_in slots.old.memory.cells) }
-    ensures idle { idle_places slots.new.memory.cells oldest.new ≡ filter (λ q. not (q == key)) (idle_places slots.old.memory.cells oldest.old) }
-    ensures pointers { slots.new.pointers ≡ slots.old.pointers }
-    ensures looks { slots.new.looks.count ≡ slots.old.looks.count + 1 }
-{
-    let own = slots.look(key);
-    cut(slots, oldest, newest, own);
-}
+    // Takes the node that a link leads to out of the idle order.
+    fn cut(&mut self, own: *mut Node<K, V>)
+        requires linked { IsWellLinked self.old }
+        requires idle { ListsLink self.old own }
+        ensures linked { IsWellLinked self.new }
+        ensures nodes { nodes_of self.new ≡ nodes_of self.old }
+        ensures idle { LosesLink self.old self.new own }
+        ensures pointers { self.new.slots.pointers ≡ self.old.slots.pointers }
+        ensures looks { self.new.slots.looks ≡ self.old.slots.looks }
+    {
+        let (before, after) = self.slots.unlink(own);
+        self.join_left(before, after);
+        self.join_right(before, after);
+    }
 
-// Takes the node under a key out of the idle order and makes it the newest idle one, with one look.
-pub(super) fn renew_at<K: Drop, V: Drop>(
-    slots: &mut Slots<K, V>,
-    oldest: &mut Option<usize>,
-    newest: &mut Option<*mut Node<K, V>>,
-    key: usize,
-)
-    requires table { IsNodeTable slots.old oldest.old newest.old }
-    requires idle { list_any (nat_eq key) (idle_places slots.old.memory.cells oldest.old) ≡ true }
-    ensures table { IsNodeTable slots.new oldest.new newest.new }
-    ensures nodes { map_of_slots (map entry_in slots.new.memory.cells) ≡ map_of_slots (map entry_in slots.old.memory.cells) }
-    ensures idle { idle_places slots.new.memory.cells oldest.new ≡ filter (λ q. not (q == key)) (idle_places slots.old.memory.cells oldest.old) ++ key ∷ [] }
-    ensures pointers { slots.new.pointers ≡ slots.old.pointers }
-    ensures looks { slots.new.looks.count ≡ slots.old.looks.count + 1 }
-{
-    let node = slots.look(key);
-    cut(slots, oldest, newest, node);
-    push(slots, oldest, newest, node, key);
-}
+    // Takes the node under a key out of the idle order.
+    pub(super) fn remove(&mut self, key: usize)
+        requires linked { IsWellLinked self.old }
+        requires idle { Lists self.old key }
+        ensures linked { IsWellLinked self.new }
+        ensures nodes { nodes_of self.new ≡ nodes_of self.old }
+        ensures idle { idle_of self.new ≡ idle_without self.old key }
+        ensures pointers { self.new.slots.pointers ≡ self.old.slots.pointers }
+        ensures looks { self.new.slots.looks.count ≡ self.old.slots.looks.count + 1 }
+    {
+        let own = self.slots.look(key);
+        self.cut(own);
+    }
 
-// Writes the pins of the node that a link leads to.
-fn hold<K: Drop, V: Drop>(slots: &mut Slots<K, V>, link: *mut Node<K, V>, pins: u32)
-    requires { IsSome (key_at slots.old.memory.cells link) }
-    ensures slots { slots.new ≡ record slots.old { memory = slots.new.memory } }
-    ensures cells { OfKey slots.old.memory.cells link (λ k. Revalues slots.old.memory.cells slots.new.memory.cells k (entry_with_pins pins)) }
-{
-    slots.follow_mut(link).hold(pins);
-}
+    // Takes the node under a key out of the idle order and makes it the newest idle one, with one
+    // look.
+    pub(super) fn renew(&mut self, key: usize)
+        requires linked { IsWellLinked self.old }
+        requires idle { Lists self.old key }
+        ensures linked { IsWellLinked self.new }
+        ensures nodes { nodes_of self.new ≡ nodes_of self.old }
+        ensures idle { idle_of self.new ≡ idle_without self.old key ++ key ∷ [] }
+        ensures pointers { self.new.slots.pointers ≡ self.old.slots.pointers }
+        ensures looks { self.new.slots.looks.count ≡ self.old.slots.looks.count + 1 }
+    {
+        let own = self.slots.look(key);
+        self.cut(own);
+        self.push(own, key);
+    }
 
-// Takes the node under a key out of the idle order with one pin, and copies its value. The node is
-// looked up once, before the copy: a processor reads nothing behind an atomic instruction before
-// that has ended.
-pub(super) fn revive_at<K: Drop, V: Drop>(
-    slots: &mut Slots<K, V>,
-    oldest: &mut Option<usize>,
-    newest: &mut Option<*mut Node<K, V>>,
-    key: usize,
-) -> Result<Arc<V>, Refusal>
-    requires table { IsNodeTable slots.old oldest.old newest.old }
-    requires idle { list_any (nat_eq key) (idle_places slots.old.memory.cells oldest.old) ≡ true }
-    requires ready { (e : Entry K V) → entry_in (cell_at slots.old.memory.cells key) ≡ Some e → IsSome (value_of e) }
-    ensures table { IsNodeTable slots.new oldest.new newest.new }
-    ensures value { (e : Entry K V) → entry_in (cell_at slots.old.memory.cells key) ≡ Some e → IfOk result (λ a. value_of e ≡ Some (arc_value a)) }
-    ensures nodes { OnOk result (map_of_slots (map entry_in slots.new.memory.cells) ≡ update_at (entry_with_pins 1) (map_of_slots (map entry_in slots.old.memory.cells)) key) }
-    ensures idle { OnOk result (idle_places slots.new.memory.cells oldest.new ≡ filter (λ q. not (q == key)) (idle_places slots.old.memory.cells oldest.old)) }
-    ensures same { OnErr result ((slots.new.memory ≡ slots.old.memory) × (oldest.new ≡ oldest.old)) }
-    ensures refusal { IfErr result (λ e. e ≡ Refusal.Memory) }
-    ensures pointers { slots.new.pointers ≡ slots.old.pointers }
-    ensures looks { slots.new.looks.count ≡ slots.old.looks.count + 1 }
-{
-    let own = slots.look(key);
-    let value = slots.follow(own).share_value()?;
-    hold(slots, own, 1);
-    cut(slots, oldest, newest, own);
-    Ok(value)
-}
+    // Takes the node under a key out of the idle order with one pin, and copies its value. The node
+    // is looked up once, before the copy: a processor reads nothing behind an atomic instruction
+    // before that has ended.
+    pub(super) fn revive(&mut self, key: usize) -> Result<Arc<V>, Refusal>
+        requires linked { IsWellLinked self.old }
+        requires idle { Lists self.old key }
+        requires ready { HasValue (entry_at self.old key) }
+        ensures linked { IsWellLinked self.new }
+        ensures value { GivesValue (entry_at self.old key) result }
+        ensures nodes { OnOk result (nodes_of self.new ≡ pinned_once (nodes_of self.old) key) }
+        ensures idle { OnOk result (idle_of self.new ≡ idle_without self.old key) }
+        ensures same { OnErr result (OnlyLooked self.old self.new) }
+        ensures refusal { IfErr result (λ e. e ≡ Refusal.Memory) }
+        ensures pointers { self.new.slots.pointers ≡ self.old.slots.pointers }
+        ensures looks { self.new.slots.looks.count ≡ self.old.slots.looks.count + 1 }
+    {
+        let own = self.slots.look(key);
+        let value = self.slots.follow(own).share_value()?;
+        self.slots.hold(own, 1);
+        self.cut(own);
+        Ok(value)
+    }
 
-// Writes the pins of the node under a key.
-pub(super) fn write_pins<K: Drop, V: Drop>(slots: &mut Slots<K, V>, key: usize, pins: u32)
-    requires tied { IsTied slots.old }
-    requires present { IsSome (cell_at slots.old.memory.cells key) }
-    ensures slots { slots.new ≡ record slots.old { memory = slots.new.memory; looks = slots.new.looks } }
-    ensures cells { Revalues slots.old.memory.cells slots.new.memory.cells key (entry_with_pins pins) }
-{
-    let link = slots.look(key);
-    hold(slots, link, pins);
-}
-
-// Tells the node under a key that it is detached from its key.
-pub(super) fn write_detached<K: Drop, V: Drop>(slots: &mut Slots<K, V>, key: usize)
-    requires tied { IsTied slots.old }
-    requires present { IsSome (cell_at slots.old.memory.cells key) }
-    ensures slots { slots.new ≡ record slots.old { memory = slots.new.memory; looks = slots.new.looks } }
-    ensures cells { Revalues slots.old.memory.cells slots.new.memory.cells key entry_detached }
-{
-    let link = slots.look(key);
-    slots.follow_mut(link).detach();
-}
-
-// Writes the phase of the node under a key.
-pub(super) fn write_phase<K: Drop, V: Drop>(slots: &mut Slots<K, V>, key: usize, phase: Phase<V>)
-    requires tied { IsTied slots.old }
-    requires present { IsSome (cell_at slots.old.memory.cells key) }
-    ensures slots { slots.new ≡ record slots.old { memory = slots.new.memory; looks = slots.new.looks } }
-    ensures cells { Revalues slots.old.memory.cells slots.new.memory.cells key (entry_in_phase (phase_of phase)) }
-{
-    let link = slots.look(key);
-    slots.follow_mut(link).set_phase(phase);
+    // Frees every node.
+    pub(super) fn end(self)
+        requires { IsTied self.slots }
+    {
+        let Order {
+            slots,
+            oldest: _,
+            newest: _,
+        } = self;
+        slots.end();
+    }
 }

@@ -1,9 +1,9 @@
 //! Boxed values turned into raw pointers, and the one owner of what these point to.
 //! The owner takes no bytes: contracts alone see which value lies where, and under which key.
-ghost use Rattle.std.specs.Prelude.{◌≡◌, ◌<◌, List as Seq, [], None, Some, IsSome, Option as Maybe};
+ghost use Rattle.std.specs.Prelude.{◌≡◌, ◌<◌, List as Seq, [], None, IsSome, Option as Maybe};
 ghost use Rattle.std.specs.Mem.{type_size};
 ghost use Rattle.std.specs.Borrow.{sem};
-ghost use Rattle.concurrent_lru.specs.Cells.{Cell, cell, cell_at, key_at, put_at, HoldsBy, AtFirst, AreApart};
+ghost use Rattle.concurrent_lru.specs.Cells.{Cell, cell_at, key_at, put_at, put_cell, HoldsBy, AtFirst, AreApart, IsValueAt};
 ghost use Rattle.concurrent_lru.specs.CellOwnership.{cells_own, cells_lent};
 
 use std::alloc::{AllocError, Allocator};
@@ -51,7 +51,7 @@ unsafe impl<T: Send, A: Allocator + Send> Send for Memory<T, A> {}
 unsafe impl<T: Sync, A: Allocator + Sync> Sync for Memory<T, A> {}
 
 impl<T, A: Allocator> Memory<T, A> {
-    ghost use Rattle.concurrent_lru.specs.CellLends.{lends_value};
+    ghost use Rattle.concurrent_lru.specs.CellLends.{lends_at};
 
     pub(super) fn new() -> Memory<T, A>
         ensures { result.cells ≡ [] }
@@ -64,8 +64,9 @@ impl<T, A: Allocator> Memory<T, A> {
     where
         T: Drop,
         requires { cell_at self.old.cells key ≡ None }
-        ensures { self.new.cells ≡ put_at key (Some (cell result.0.ptr result.1 value.value)) self.old.cells }
+        ensures { self.new.cells ≡ put_cell key result.0.ptr result.1 value.value self.old.cells }
     {
+        // The contract alone uses it.
         let _ = key;
         let (ptr, alloc) = Box::into_raw_with_allocator(value);
         (At { ptr }, alloc)
@@ -82,7 +83,7 @@ impl<T, A: Allocator> Memory<T, A> {
     // Lends the value that lies there for writing.
     pub(super) fn lend(&mut self, at: At<T>) -> &mut T
         requires { IsSome (key_at self.old.cells at.ptr) }
-        ensures* writes_back { sem 𝓛 (lends_value T.row A.row A.Allocator self.entry at.ptr result) }
+        ensures* writes_back { sem 𝓛 (lends_at T.row A.row A.Allocator self.entry at.ptr result) }
         ensures value { AtFirst self.old.cells at.ptr (λ _ c. result.now ≡ c.value) }
     {
         unsafe { &mut *at.ptr }
@@ -91,9 +92,10 @@ impl<T, A: Allocator> Memory<T, A> {
     // Gives the value under a key back in its box.
     pub(super) fn take(&mut self, at: At<T>, key: usize, alloc: A) -> Box<T, A>
         requires { HoldsBy self.old.cells key at.ptr alloc }
-        ensures value { (c : Cell T A) → cell_at self.old.cells key ≡ Some c → result.value ≡ c.value }
+        ensures value { IsValueAt self.old.cells key result.value }
         ensures cells { self.new.cells ≡ put_at key None self.old.cells }
     {
+        // The contract alone uses it.
         let _ = key;
         unsafe { Box::from_raw(alloc, at.ptr) }
     }

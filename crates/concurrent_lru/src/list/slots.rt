@@ -1,14 +1,17 @@
 //! The nodes under their keys: a slab of pointers alone, and the memory that these reach.
 //! A node is had for writing by a look, which is counted, or by a link that a node carries.
-ghost use Rattle.std.specs.Prelude.{◌≡◌, ◌≢◌, ℕ, ◌+◌, ◌≤◌, [], Some, None, IsSome, IsTrue, IsFalse, OnOk};
+ghost use Rattle.std.specs.Prelude.{◌≡◌, ℕ, ◌+◌, ◌≤◌, [], Some, None, IsTrue, IsFalse, OnOk};
 ghost use Rattle.std.specs.Borrow.{sem};
 ghost use Rattle.slab.specs.Slab.{HasRoomFor, slab_len};
-ghost use Rattle.concurrent_lru.specs.Cells.{Cell, cell_at, key_at, AtFirst};
-ghost use Rattle.concurrent_lru.specs.NodeTable.{entry_of, chain_of};
-ghost use Rattle.concurrent_lru.specs.SlotTable.{entry_in, IsEnd};
+ghost use Rattle.concurrent_lru.specs.Cells.{cell_at, AtFirst};
+ghost use Rattle.concurrent_lru.specs.NodeTable.{entry_of, chain_of, entry_with_pins, entry_detached, entry_with_phase};
+ghost use Rattle.concurrent_lru.specs.Relinks.{key_in};
+ghost use Rattle.concurrent_lru.specs.SlotPointers.{IsTied, cells_of, HasNode, LeadsToNode, LeadsTo, IsNodeAt, KeepsOthers};
+ghost use Rattle.concurrent_lru.specs.SlotTable.{entry_in, IsEnd, IsGood};
+ghost use Rattle.concurrent_lru.specs.SlotWrites.{OnlyWrites, OnlyLooksAndWrites, SetsLinks, SetsBefore, SetsAfter, CutsLinks, Rewrites, RewritesLink};
 
-use crate::list::Node;
 use crate::list::memory::{At, Memory};
+use crate::list::{Node, Phase};
 use crate::work::Work;
 use slab::Slab;
 use std::alloc::{AllocError, Global};
@@ -22,11 +25,11 @@ pub(super) struct Slots<K, V> {
 }
 
 impl<K: Drop, V: Drop> Slots<K, V> {
-    ghost use Rattle.concurrent_lru.specs.SlotPointers.{IsTied, lends_node};
+    ghost use Rattle.concurrent_lru.specs.SlotPointers.{lends_node};
 
     pub(super) fn new(alloc: Global) -> Slots<K, V>
         ensures tied { IsTied result }
-        ensures empty { result.memory.cells ≡ [] }
+        ensures empty { cells_of result ≡ [] }
         ensures looks { result.looks.count ≡ 0 }
     {
         Slots {
@@ -52,10 +55,10 @@ impl<K: Drop, V: Drop> Slots<K, V> {
         requires tied { IsTied self.old }
         requires room { HasRoomFor self.old.pointers 1 }
         ensures tied { IsTied self.new }
-        ensures vacant { cell_at self.old.memory.cells result ≡ None }
-        ensures entry { entry_in (cell_at self.new.memory.cells result) ≡ Some (entry_of node.value) }
-        ensures end { chain_of node.value ≡ [] → IsEnd (cell_at self.new.memory.cells result) }
-        ensures others { (k : _) → k ≢ result → cell_at self.new.memory.cells k ≡ cell_at self.old.memory.cells k }
+        ensures vacant { cell_at (cells_of self.old) result ≡ None }
+        ensures entry { entry_in (cell_at (cells_of self.new) result) ≡ Some (entry_of node.value) }
+        ensures end { chain_of node.value ≡ [] → IsEnd (cell_at (cells_of self.new) result) }
+        ensures others { KeepsOthers self.old self.new result }
         ensures looks { self.new.looks ≡ self.old.looks }
         ensures len { slab_len self.new.pointers ≡ slab_len self.old.pointers + 1 }
         ensures capacity { self.new.pointers.capacity ≡ self.old.pointers.capacity }
@@ -70,11 +73,11 @@ impl<K: Drop, V: Drop> Slots<K, V> {
     // Gives the node under a key back; a look, as a write is.
     pub(super) fn take(&mut self, key: usize) -> Box<Node<K, V>>
         requires tied { IsTied self.old }
-        requires present { IsSome (cell_at self.old.memory.cells key) }
+        requires present { HasNode self.old key }
         ensures tied { IsTied self.new }
-        ensures value { (c : Cell (Node K V) Global) → cell_at self.old.memory.cells key ≡ Some c → result.value ≡ c.value }
-        ensures vacant { cell_at self.new.memory.cells key ≡ None }
-        ensures others { (k : _) → k ≢ key → cell_at self.new.memory.cells k ≡ cell_at self.old.memory.cells k }
+        ensures value { IsNodeAt self.old key result.value }
+        ensures vacant { cell_at (cells_of self.new) key ≡ None }
+        ensures others { KeepsOthers self.old self.new key }
         ensures len { slab_len self.new.pointers + 1 ≡ slab_len self.old.pointers }
         ensures capacity { self.new.pointers.capacity ≡ self.old.pointers.capacity }
         ensures room { HasRoomFor self.new.pointers 1 }
@@ -90,8 +93,8 @@ impl<K: Drop, V: Drop> Slots<K, V> {
     // The node under a key, for reading.
     pub(super) fn node(&self, key: usize) -> &Node<K, V>
         requires tied { IsTied self.now }
-        requires present { IsSome (cell_at self.now.memory.cells key) }
-        ensures { (c : Cell (Node K V) Global) → cell_at self.now.memory.cells key ≡ Some c → result.now ≡ c.value }
+        requires present { HasNode self.now key }
+        ensures { IsNodeAt self.now key result.now }
     {
         self.memory.get(self.pointers[key])
     }
@@ -106,8 +109,8 @@ impl<K: Drop, V: Drop> Slots<K, V> {
     // Whether there is a node under a key, which may be any.
     pub(super) fn contains(&self, key: usize) -> bool
         requires { IsTied self.now }
-        ensures yes { IsTrue result → IsSome (cell_at self.now.memory.cells key) }
-        ensures no { IsFalse result → cell_at self.now.memory.cells key ≡ None }
+        ensures yes { IsTrue result → HasNode self.now key }
+        ensures no { IsFalse result → cell_at (cells_of self.now) key ≡ None }
     {
         self.pointers.contains(key)
     }
@@ -115,7 +118,7 @@ impl<K: Drop, V: Drop> Slots<K, V> {
     // All nodes are under keys below this one.
     pub(super) fn end_of_keys(&self) -> usize
         requires { IsTied self.now }
-        ensures { (key : ℕ) → result ≤ key → cell_at self.now.memory.cells key ≡ None }
+        ensures { (key : ℕ) → result ≤ key → cell_at (cells_of self.now) key ≡ None }
     {
         self.pointers.capacity()
     }
@@ -123,9 +126,9 @@ impl<K: Drop, V: Drop> Slots<K, V> {
     // The way to the node under a key, for writing.
     pub(super) fn look(&mut self, key: usize) -> *mut Node<K, V>
         requires tied { IsTied self.old }
-        requires present { IsSome (cell_at self.old.memory.cells key) }
+        requires present { HasNode self.old key }
         ensures tied { IsTied self.new }
-        ensures link { key_at self.old.memory.cells result ≡ Some key }
+        ensures link { LeadsTo self.old result key }
         ensures rest { self.new ≡ record self.old { looks = self.new.looks } }
         ensures looks { self.new.looks.count ≡ self.old.looks.count + 1 }
     {
@@ -135,19 +138,119 @@ impl<K: Drop, V: Drop> Slots<K, V> {
 
     // The node that a link leads to, for reading.
     pub(super) fn follow(&self, link: *mut Node<K, V>) -> &Node<K, V>
-        requires { IsSome (key_at self.now.memory.cells link) }
-        ensures { AtFirst self.now.memory.cells link (λ _ c. result.now ≡ c.value) }
+        requires { LeadsToNode self.now link }
+        ensures { AtFirst (cells_of self.now) link (λ _ c. result.now ≡ c.value) }
     {
         self.memory.get(At { ptr: link })
     }
 
     // And for writing.
     pub(super) fn follow_mut(&mut self, link: *mut Node<K, V>) -> &mut Node<K, V>
-        requires { IsSome (key_at self.old.memory.cells link) }
+        requires { LeadsToNode self.old link }
         ensures* writes_back { sem 𝓛 (lends_node K.row V.row self.entry link result) }
-        ensures value { AtFirst self.old.memory.cells link (λ _ c. result.now ≡ c.value) }
+        ensures value { AtFirst (cells_of self.old) link (λ _ c. result.now ≡ c.value) }
     {
         self.memory.lend(At { ptr: link })
+    }
+
+    // The key of the node that a link leads to, which the node itself carries.
+    pub(super) fn slot_of(&self, link: Option<*mut Node<K, V>>) -> Option<usize>
+        requires tied { IsTied self.now }
+        requires good { IsGood (cells_of self.now) link }
+        ensures { result ≡ key_in (cells_of self.now) link }
+    {
+        match link {
+            Some(link) => Some(self.follow(link).place),
+            None => None,
+        }
+    }
+
+    // Writes both links of the node that a link leads to.
+    pub(super) fn relink(
+        &mut self,
+        link: *mut Node<K, V>,
+        before: Option<*mut Node<K, V>>,
+        after: Option<*mut Node<K, V>>,
+    )
+        requires { LeadsToNode self.old link }
+        ensures rest { OnlyWrites self.old self.new }
+        ensures links { SetsLinks self.old self.new link before after }
+    {
+        self.follow_mut(link).set_links(before, after);
+    }
+
+    pub(super) fn set_before(&mut self, link: *mut Node<K, V>, before: Option<*mut Node<K, V>>)
+        requires { LeadsToNode self.old link }
+        ensures rest { OnlyWrites self.old self.new }
+        ensures links { SetsBefore self.old self.new link before }
+    {
+        self.follow_mut(link).set_before(before);
+    }
+
+    pub(super) fn set_after(&mut self, link: *mut Node<K, V>, after: Option<*mut Node<K, V>>)
+        requires { LeadsToNode self.old link }
+        ensures rest { OnlyWrites self.old self.new }
+        ensures links { SetsAfter self.old self.new link after }
+    {
+        self.follow_mut(link).set_after(after);
+    }
+
+    // Cuts a node's links, and tells what they were.
+    pub(super) fn unlink(
+        &mut self,
+        link: *mut Node<K, V>,
+    ) -> (Option<*mut Node<K, V>>, Option<*mut Node<K, V>>)
+        requires { LeadsToNode self.old link }
+        ensures rest { OnlyWrites self.old self.new }
+        ensures links { CutsLinks self.old self.new link result.0 result.1 }
+    {
+        let node = self.follow_mut(link);
+        let before = node.before;
+        let after = node.after;
+        node.set_links(None, None);
+        (before, after)
+    }
+
+    // Writes the pins of the node that a link leads to.
+    pub(super) fn hold(&mut self, link: *mut Node<K, V>, pins: u32)
+        requires { LeadsToNode self.old link }
+        ensures rest { OnlyWrites self.old self.new }
+        ensures entry { RewritesLink self.old self.new link (entry_with_pins pins) }
+    {
+        self.follow_mut(link).hold(pins);
+    }
+
+    // Writes the pins of the node under a key.
+    pub(super) fn set_pins(&mut self, key: usize, pins: u32)
+        requires tied { IsTied self.old }
+        requires present { HasNode self.old key }
+        ensures rest { OnlyLooksAndWrites self.old self.new }
+        ensures entry { Rewrites self.old self.new key (entry_with_pins pins) }
+    {
+        let link = self.look(key);
+        self.hold(link, pins);
+    }
+
+    // Tells the node under a key that it is detached from its key.
+    pub(super) fn set_detached(&mut self, key: usize)
+        requires tied { IsTied self.old }
+        requires present { HasNode self.old key }
+        ensures rest { OnlyLooksAndWrites self.old self.new }
+        ensures entry { Rewrites self.old self.new key entry_detached }
+    {
+        let link = self.look(key);
+        self.follow_mut(link).detach();
+    }
+
+    // Writes the phase of the node under a key.
+    pub(super) fn set_phase(&mut self, key: usize, phase: Phase<V>)
+        requires tied { IsTied self.old }
+        requires present { HasNode self.old key }
+        ensures rest { OnlyLooksAndWrites self.old self.new }
+        ensures entry { Rewrites self.old self.new key (entry_with_phase phase) }
+    {
+        let link = self.look(key);
+        self.follow_mut(link).set_phase(phase);
     }
 
     // Frees every node, whatever links lead to it.

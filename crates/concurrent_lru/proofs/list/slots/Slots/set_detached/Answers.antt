@@ -2,12 +2,13 @@ use Rattle.std.proofs.Common.{ap, ◌∙◌, subst}
 use Rattle.concurrent_lru.specs.Cells.{key_at, write_to}
 use Rattle.concurrent_lru.specs.NodeTable.{entry_detached}
 use Rattle.concurrent_lru.specs.Relinks.{Revalues}
+use Rattle.concurrent_lru.specs.SlotPointers.{cells_of}
 use Rattle.concurrent_lru.proofs.Nodes.NodeWrites.{revalued}
-use Rattle.concurrent_lru.proofs.list.links.write_detached.Goals as goal
+use Rattle.concurrent_lru.proofs.list.slots.Slots.set_detached.Goals as goal
 
-pub returns-clause-cells : goal.returns-clause-cells
-returns-clause-cells g c =
-    let looked = c.look-link.new.self.memory.cells in let p = c.look-link.result in let new = c.detach.new.self in
-    let same = ap (λ t. t.memory.cells) c.look-link.ensures.rest in
+pub returns-clause-entry : goal.returns-clause-entry
+returns-clause-entry g c =
+    let looked = cells_of c.look-link.new.self in let p = c.look-link.result in let new = c.detach.new.self in
+    let same = ap cells_of c.look-link.ensures.rest in
     subst (λ l. Revalues l (write_to p new looked) c.args.key entry_detached) same
     (revalued looked p c.follow_mut.result.now new c.follow_mut.ensures.value entry_detached c.detach.ensures c.args.key (ap (λ l. key_at l p) same ∙ c.look-link.ensures.link))
