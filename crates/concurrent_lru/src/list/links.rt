@@ -58,12 +58,13 @@ impl<K: Drop, V: Drop> Order<K, V> {
         ensures pointers { self.new.slots.pointers ≡ self.old.slots.pointers }
         ensures looks { self.new.slots.looks ≡ self.old.slots.looks }
     {
-        self.slots.relink(own, self.newest, None);
-        match self.newest {
+        let newest = self.newest;
+        self.slots.relink(own, newest, None);
+        self.newest = Some(own);
+        match newest {
             Some(last) => self.slots.set_after(last, Some(own)),
             None => self.oldest = Some(key),
         }
-        self.newest = Some(own);
     }
 
     // Joins the neighbours of a node that was taken out, seen from the one before, or from the end.

@@ -2,6 +2,7 @@ use Rattle.std.proofs.Common.{ap, ◌∙◌}
 use Rattle.std.specs.Prelude.{is_some}
 use Rattle.concurrent_lru.specs.Cells.{cell_at}
 use Rattle.concurrent_lru.specs.SlotTable.{entry_in}
+use Rattle.concurrent_lru.specs.SlotPointers.{cells_of}
 use Rattle.concurrent_lru.proofs.Order.Appending.{some_cell}
 use Rattle.concurrent_lru.proofs.Nodes.SlotViews.{entry_there, node_had}
 use Rattle.concurrent_lru.proofs.list.Nodes.contains.Goals as goal
@@ -9,10 +10,10 @@ use Rattle.concurrent_lru.proofs.list.Nodes.contains.Goals as goal
 pub returns-clause-yes : goal.returns-clause-yes
 returns-clause-yes g c = λ yes.
     let i = c.self.inside in
-    let there = some_cell (cell_at i.slots.memory.cells c.place.inside.key) (c.contains.ensures.yes yes) in
-    ap is_some (entry_there i.slots i.oldest i.work.count c.args.self.now c.self.view_is c.place.inside.key c.args.place there.0 c.place.view_is there.1)
+    let there = some_cell (cell_at (cells_of i.order.slots) c.place.inside.key) (c.contains.ensures.yes yes) in
+    ap is_some (entry_there i.order i.work.count c.args.self.now c.self.view_is c.place.inside.key c.args.place there.0 c.place.view_is there.1)
 
 pub returns-clause-no : goal.returns-clause-no
 returns-clause-no g c = λ no.
     let i = c.self.inside in
-    node_had i.slots i.oldest i.work.count c.args.self.now c.self.view_is c.place.inside.key c.args.place c.place.view_is ∙ ap entry_in (c.contains.ensures.no no)
+    node_had i.order i.work.count c.args.self.now c.self.view_is c.place.inside.key c.args.place c.place.view_is ∙ ap entry_in (c.contains.ensures.no no)

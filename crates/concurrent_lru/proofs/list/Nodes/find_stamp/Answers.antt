@@ -21,5 +21,5 @@ returns g c = λ place e at same. elim (cases_lt place c.loop-key.key) [
   | inr from ↦
       let i = c.self.inside in
       let past : c.end_of_keys-key-end.result ≤ place = omega (arith, from, c.loop-key-test.false) in
-      none-some e (sym (node_had i.slots i.oldest i.work.count c.args.self.now c.self.view_is place place refl ∙ ap entry_in (c.end_of_keys-key-end.ensures place past)) ∙ at)
+      none-some e (sym (node_had i.order i.work.count c.args.self.now c.self.view_is place place refl ∙ ap entry_in (c.end_of_keys-key-end.ensures place past)) ∙ at)
 ]

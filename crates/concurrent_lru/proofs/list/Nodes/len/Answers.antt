@@ -3,7 +3,7 @@ use Rattle.std.specs.Prelude.{is_some}
 use Rattle.std.specs.FinMap.{len}
 use Rattle.concurrent_lru.specs.Cells.{cell_at, ptr_in}
 use Rattle.concurrent_lru.specs.Relinks.{NodeCell}
-use Rattle.concurrent_lru.specs.SlotPointers.{ptr_of}
+use Rattle.concurrent_lru.specs.SlotPointers.{cells_of, ptr_of}
 use Rattle.concurrent_lru.specs.SlotTable.{entry_in}
 use Rattle.concurrent_lru.specs.declared.list.memory.At.{At}
 use Rattle.concurrent_lru.proofs.Lists.SlotsAsMaps.{map_of_slots-len, count-alike}
@@ -22,7 +22,7 @@ pub returns : goal.returns
 returns g c =
     let i = c.self.inside in
     c.len.ensures
-    ∙ sym (count-alike (map entry_in i.slots.memory.cells) i.slots.pointers.slots (λ k.
-    ap is_some (get_or-map_option entry_in refl i.slots.memory.cells k) ∙ cell_filled (cell_at i.slots.memory.cells k) ∙ ap is_some (c.self.invariant.tied.pointers k) ∙ slot_filled _))
-    ∙ sym (map_of_slots-len (map entry_in i.slots.memory.cells))
+    ∙ sym (count-alike (map entry_in (cells_of i.order.slots)) i.order.slots.pointers.slots (λ k.
+    ap is_some (get_or-map_option entry_in refl (cells_of i.order.slots) k) ∙ cell_filled (cell_at (cells_of i.order.slots) k) ∙ ap is_some (c.self.invariant.tied.pointers k) ∙ slot_filled _))
+    ∙ sym (map_of_slots-len (map entry_in (cells_of i.order.slots)))
     ∙ ap (λ v. len v.nodes) c.self.view_is

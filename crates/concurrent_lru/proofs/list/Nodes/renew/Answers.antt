@@ -3,22 +3,22 @@ use Rattle.concurrent_lru.specs.NodeTable.{NodeTable}
 use Rattle.concurrent_lru.proofs.Nodes.SlotViews.{idle_there, spare_same}
 use Rattle.concurrent_lru.proofs.list.Nodes.renew.Goals as goal
 
-pub renew_at-requires-clause-idle : goal.renew_at-requires-clause-idle
-renew_at-requires-clause-idle g c = let i = c.self.inside in idle_there i.slots i.oldest i.work.count c.args.self.now c.self.view_is true c.place.inside.key c.args.place c.place.view_is c.requires
+pub renew-requires-clause-idle : goal.renew-requires-clause-idle
+renew-requires-clause-idle g c = let i = c.self.inside in idle_there i.order i.work.count c.args.self.now c.self.view_is true c.place.inside.key c.args.place c.place.view_is c.requires
 
 pub returns-clause-nodes : goal.returns-clause-nodes
-returns-clause-nodes g c = c.renew_at.ensures.nodes ∙ ap (λ (v : NodeTable g.row.K.Denot g.row.V.Denot). v.nodes) c.self.view_is
+returns-clause-nodes g c = c.renew.ensures.nodes ∙ ap (λ (v : NodeTable g.row.K.Denot g.row.V.Denot). v.nodes) c.self.view_is
 
 pub returns-clause-idle : goal.returns-clause-idle
-returns-clause-idle g c = c.renew_at.ensures.idle ∙ (λ j. filter (λ q. not (eqb q (c.place.view_is j))) (c.self.view_is j).idle ++ c.place.view_is j ∷ [])
+returns-clause-idle g c = c.renew.ensures.idle ∙ (λ j. filter (λ q. not (eqb q (c.place.view_is j))) (c.self.view_is j).idle ++ c.place.view_is j ∷ [])
 
 pub returns-clause-spare : goal.returns-clause-spare
-returns-clause-spare g c = let i = c.self.inside in spare_same i.slots c.renew_at.new.slots c.args.self.now i.oldest i.work.count c.self.view_is c.renew_at.ensures.pointers
+returns-clause-spare g c = let i = c.self.inside in spare_same i.order c.renew.new.self.slots c.args.self.now i.work.count c.self.view_is c.renew.ensures.pointers
 
 pub returns-clause-looks : goal.returns-clause-looks
 returns-clause-looks g c =
     let looks = ap (λ (v : NodeTable g.row.K.Denot g.row.V.Denot). v.looks) c.self.view_is in
-    let more = c.renew_at.ensures.looks in
+    let more = c.renew.ensures.looks in
     omega (arith, looks, more)
 
 pub returns-clause-work : goal.returns-clause-work

@@ -1,5 +1,5 @@
-use Rattle.std.proofs.Common.{◌×◌, None, sym, ap, ◌∙◌, subst}
-use Rattle.concurrent_lru.specs.Relinks.{Unlinks}
+use Rattle.std.proofs.Common.{None, sym, ap, ◌∙◌, subst}
+use Rattle.concurrent_lru.specs.Relinks.{LeftJoined, RightJoined}
 use Rattle.concurrent_lru.specs.SlotPointers.{cells_of}
 use Rattle.concurrent_lru.specs.SlotTable.{IsGood}
 use Rattle.concurrent_lru.proofs.Memory.CellKeys.{of_found}

@@ -1,32 +1,24 @@
-use Rattle.std.proofs.Common.{Some, None, ap, ◌∙◌}
-use Rattle.concurrent_lru.specs.SlotTable.{order_with}
-use Rattle.concurrent_lru.proofs.Order.Appending.{IsAppended, last_held, appended_first, appended_after}
-use Rattle.concurrent_lru.proofs.list.links.Order.push.Goals.{Returns-in-Some, Returns-in-None}
+use Rattle.std.proofs.Common.{ap, ◌∙◌}
+use Rattle.concurrent_lru.proofs.Order.Appending.{last_held, appended_first, appended_after}
 use Rattle.concurrent_lru.proofs.list.links.Order.push.Goals as goal
 
 pub set_after-requires : goal.set_after-requires
 set_after-requires g c = last_held c.args.self.now c.args.key c.args.own c.requires.linked c.requires.own c.relink.new.self.memory.cells c.in-Some.last c.relink.ensures.links c.in-Some.is
 
-after : (g : _) (c : Returns-in-Some g) → IsAppended c.args.self.now (order_with c.set_after.new.self c.args.self.now.oldest (Some c.args.own)) c.args.key
-after g c = appended_after c.args.self.now c.args.key c.args.own c.requires.linked c.requires.own c.relink.new.self c.set_after.new.self c.in-Some.last (ap (λ w. w.pointers) c.set_after.ensures.rest ∙ ap (λ w. w.pointers) c.relink.ensures.rest) c.requires.held c.relink.ensures.links c.in-Some.is c.set_after.ensures.links
-
-first : (g : _) (c : Returns-in-None g) → IsAppended c.args.self.now (order_with c.relink.new.self (Some c.args.key) (Some c.args.own)) c.args.key
-first g c = appended_first c.args.self.now c.args.key c.args.own c.requires.linked c.requires.own c.relink.new.self (ap (λ w. w.pointers) c.relink.ensures.rest) c.requires.held c.relink.ensures.links c.in-None.is
-
 pub returns-in-Some-clause-linked : goal.returns-in-Some-clause-linked
-returns-in-Some-clause-linked g c = (after g c).linked
+returns-in-Some-clause-linked g c = (appended_after c.args.self.now c.args.key c.args.own c.requires.linked c.requires.own c.relink.new.self c.set_after.new.self c.in-Some.last (ap (λ w. w.pointers) c.set_after.ensures.rest ∙ ap (λ w. w.pointers) c.relink.ensures.rest) c.requires.held c.relink.ensures.links c.in-Some.is c.set_after.ensures.links).linked
 
 pub returns-in-Some-clause-nodes : goal.returns-in-Some-clause-nodes
-returns-in-Some-clause-nodes g c = (after g c).nodes
+returns-in-Some-clause-nodes g c = (appended_after c.args.self.now c.args.key c.args.own c.requires.linked c.requires.own c.relink.new.self c.set_after.new.self c.in-Some.last (ap (λ w. w.pointers) c.set_after.ensures.rest ∙ ap (λ w. w.pointers) c.relink.ensures.rest) c.requires.held c.relink.ensures.links c.in-Some.is c.set_after.ensures.links).nodes
 
 pub returns-in-Some-clause-idle : goal.returns-in-Some-clause-idle
-returns-in-Some-clause-idle g c = (after g c).idle
+returns-in-Some-clause-idle g c = (appended_after c.args.self.now c.args.key c.args.own c.requires.linked c.requires.own c.relink.new.self c.set_after.new.self c.in-Some.last (ap (λ w. w.pointers) c.set_after.ensures.rest ∙ ap (λ w. w.pointers) c.relink.ensures.rest) c.requires.held c.relink.ensures.links c.in-Some.is c.set_after.ensures.links).idle
 
 pub returns-in-None-clause-linked : goal.returns-in-None-clause-linked
-returns-in-None-clause-linked g c = (first g c).linked
+returns-in-None-clause-linked g c = (appended_first c.args.self.now c.args.key c.args.own c.requires.linked c.requires.own c.relink.new.self (ap (λ w. w.pointers) c.relink.ensures.rest) c.requires.held c.relink.ensures.links c.in-None.is).linked
 
 pub returns-in-None-clause-nodes : goal.returns-in-None-clause-nodes
-returns-in-None-clause-nodes g c = (first g c).nodes
+returns-in-None-clause-nodes g c = (appended_first c.args.self.now c.args.key c.args.own c.requires.linked c.requires.own c.relink.new.self (ap (λ w. w.pointers) c.relink.ensures.rest) c.requires.held c.relink.ensures.links c.in-None.is).nodes
 
 pub returns-in-None-clause-idle : goal.returns-in-None-clause-idle
-returns-in-None-clause-idle g c = (first g c).idle
+returns-in-None-clause-idle g c = (appended_first c.args.self.now c.args.key c.args.own c.requires.linked c.requires.own c.relink.new.self (ap (λ w. w.pointers) c.relink.ensures.rest) c.requires.held c.relink.ensures.links c.in-None.is).idle

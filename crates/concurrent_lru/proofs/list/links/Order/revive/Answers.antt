@@ -6,10 +6,9 @@ use Rattle.concurrent_lru.specs.NodeTable.{entry_of, value_of, entry_with_pins}
 use Rattle.concurrent_lru.specs.SlotPointers.{cells_of}
 use Rattle.concurrent_lru.specs.SlotTable.{entry_in}
 use Rattle.concurrent_lru.proofs.Memory.CellKeys.{value_at_key}
-use Rattle.concurrent_lru.proofs.Nodes.SlotViews.{IsWritten, written}
+use Rattle.concurrent_lru.proofs.Nodes.SlotViews.{written}
 use Rattle.concurrent_lru.proofs.Order.TakingOut.{present_in}
 use Rattle.concurrent_lru.proofs.list.links.Order.revive.Goals as goal
-use Rattle.concurrent_lru.proofs.list.links.Order.revive.Goals.{After-hold}
 
 pub look-own-requires-clause-present : goal.look-own-requires-clause-present
 look-own-requires-clause-present g c = present_in c.args.self.now c.args.key c.requires.linked c.requires.idle
@@ -21,17 +20,18 @@ share_value-requires g c =
     let there = value_at_key (cells_of c.look-own.new.self) c.look-own.result c.args.key at in
     subst (λ n. IsSome (value_of (entry_of n))) (sym (c.follow.ensures c.args.key there.0 at there.1)) (c.requires.ready (entry_of there.0.value) (ap (λ l. entry_in (cell_at l c.args.key)) (sym same) ∙ ap entry_in there.1))
 
-held : (g : _) (c : After-hold g) → IsWritten c.args.self.now (record c.args.self.now { slots = c.hold.new.self }) c.args.key c.look-own.result (entry_with_pins 1)
-held g c = written c.args.self.now c.look-own.new.self c.hold.new.self (entry_with_pins 1) c.requires.linked c.look-own.ensures.rest c.look-own.ensures.tied c.look-own.ensures.link c.hold.ensures.rest c.hold.ensures.entry
-
 pub cut-requires-clause-linked : goal.cut-requires-clause-linked
-cut-requires-clause-linked g c = (held g c).linked
+cut-requires-clause-linked g c = (written c.args.self.now c.look-own.new.self c.hold.new.self (entry_with_pins 1) c.requires.linked c.look-own.ensures.rest c.look-own.ensures.tied c.look-own.ensures.link c.hold.ensures.rest c.hold.ensures.entry).linked
 
 pub cut-requires-clause-idle : goal.cut-requires-clause-idle
-cut-requires-clause-idle g c = let w = held g c in (c.args.key, w.at, subst (λ ks. list_any (eqb c.args.key) ks ≡ true) (sym w.idle) c.requires.idle)
+cut-requires-clause-idle g c =
+    let w = written c.args.self.now c.look-own.new.self c.hold.new.self (entry_with_pins 1) c.requires.linked c.look-own.ensures.rest c.look-own.ensures.tied c.look-own.ensures.link c.hold.ensures.rest c.hold.ensures.entry in
+    (c.args.key, w.at, subst (λ ks. list_any (eqb c.args.key) ks ≡ true) (sym w.idle) c.requires.idle)
 
 pub returns-clause-nodes : goal.returns-clause-nodes
-returns-clause-nodes g c = c.cut.ensures.nodes ∙ (held g c).nodes
+returns-clause-nodes g c = c.cut.ensures.nodes ∙ (written c.args.self.now c.look-own.new.self c.hold.new.self (entry_with_pins 1) c.requires.linked c.look-own.ensures.rest c.look-own.ensures.tied c.look-own.ensures.link c.hold.ensures.rest c.hold.ensures.entry).nodes
 
 pub returns-clause-idle : goal.returns-clause-idle
-returns-clause-idle g c = let w = held g c in c.cut.ensures.idle c.args.key w.at ∙ ap (filter (λ q. not (eqb q c.args.key))) w.idle
+returns-clause-idle g c =
+    let w = written c.args.self.now c.look-own.new.self c.hold.new.self (entry_with_pins 1) c.requires.linked c.look-own.ensures.rest c.look-own.ensures.tied c.look-own.ensures.link c.hold.ensures.rest c.hold.ensures.entry in
+    c.cut.ensures.idle c.args.key w.at ∙ ap (filter (λ q. not (eqb q c.args.key))) w.idle
