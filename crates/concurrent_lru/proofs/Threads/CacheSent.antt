@@ -3,9 +3,7 @@ use denote.Hole.FixSend.{fix_send, fix_sync, Sends, Syncs}
 use denote.Memory.{part_of, raw_all}
 use denote.Param.Send.{IsSend, IsSync, cell_keyless, owning_send, sendable, struct_sync_at, view_send, view_sync}
 use denote.Param.SendFields.{declared_send, declared_sync, owner_send}
-use denote.Builtin.{usize}
 use denote.RattleType.{RattleType}
-use denote.RawPtr.{RawPtr}
 use denote.Struct.Owning.{shape, to}
 use Rattle.std.specs.declared.hash.Hash as hash
 use Rattle.std.specs.declared.cmp.PartialEq as partial_eq
@@ -14,13 +12,13 @@ use Rattle.std.proofs.Crossing.{crosses, frees}
 use Rattle.std.proofs.MapsCrossing.{HashMap-send}
 use Rattle.std.proofs.alloc.Global.TheSendSync as global_sent
 use Rattle.std.specs.contracts.alloc.Global as global
-use Rattle.std.specs.contracts.option.Option as option
 use Rattle.std.specs.contracts.impls.GlobalAllocator.TheImpl as allocator
 use Rattle.slab.specs.contracts.Slab as slab
 use Rattle.slab.specs.contracts.Slab.TheInside as slab_inside
 use Rattle.concurrent_lru.specs.contracts.list.Node as node
 use Rattle.concurrent_lru.specs.contracts.list.Nodes as nodes
 use Rattle.concurrent_lru.specs.contracts.list.Nodes.TheInside as nodes_inside
+use Rattle.concurrent_lru.specs.contracts.list.links.Order as order
 use Rattle.concurrent_lru.specs.contracts.list.memory.At as at
 use Rattle.concurrent_lru.specs.contracts.list.memory.Memory as memory
 use Rattle.concurrent_lru.specs.contracts.list.slots.Slots as slots
@@ -65,10 +63,14 @@ module _ (K V : RattleType) (key : IsSend K) (value : IsSend V) (shared : IsSync
   slots_send : IsSend (slots.the_row K V)
   slots_send = declared_send (slots.the_type K V) (search (sendable, crosses, global_sent.the_send, pointers_send, memory_send, work_send) depth 12)
 
+  -- The order of the idle ones is Send.
+  order_send : IsSend (order.the_row K V)
+  order_send = declared_send (order.the_type K V) (search (sendable, crosses, slots_send) depth 12)
+
   -- The nodes of a cache are Send.
   pub nodes_send : IsSend (nodes.the_row K V)
   nodes_send = view_send (nodes_inside.the_row K V) _ _ _ _
-      (owner_send (nodes_inside.the_type K V) (search (sendable, crosses, slots_send, work_send) depth 12) (λ d. tt) (λ k x w. ((tt, (tt, (tt, tt))), (tt, (tt, (tt, tt))))))
+      (owner_send (nodes_inside.the_type K V) (search (sendable, crosses, order_send, work_send) depth 12) (λ d. tt) (λ k x w. (((tt, (tt, (tt, tt))), tt), (tt, tt))))
 
   module _ (h : hash.Ghosts K.Denot) (e : partial_eq.Ghosts K.Denot) (c : clone.Ghosts K.Denot) where
     -- The entries of a cache are Send.
@@ -104,14 +106,11 @@ module _ (K V : RattleType) (key : IsSync K) (value : IsSend V) (shared : IsSync
   slots_sync : IsSync (slots.the_row K V)
   slots_sync = declared_sync (slots.the_type K V) (search (sendable, crosses, global_sent.the_sync, pointers_sync, memory_sync, work_sync) depth 12)
 
-  -- The ends of the order are Sync.
-  oldest_sync : IsSync (option.the_row usize)
-  oldest_sync = search (sendable, crosses) depth 12
-
-  newest_sync : IsSync (option.the_row RawPtr)
-  newest_sync = search (sendable, crosses) depth 12
+  -- The order of the idle ones is Sync.
+  order_sync : IsSync (order.the_row K V)
+  order_sync = declared_sync (order.the_type K V) (search (sendable, crosses, slots_sync) depth 12)
 
   -- The nodes of a cache are Sync: a `&` to them holds a `&` to each field, and nothing else.
   pub nodes_sync : IsSync (nodes.the_row K V)
   nodes_sync = view_sync (nodes_inside.the_row K V) _ _ _ _
-      record { shared = λ d b o κ. (struct_sync_at (shape (nodes_inside.the_type K V)) (to (nodes_inside.the_type K V) d) (slots_sync.shared d.slots, (oldest_sync.shared d.oldest, (newest_sync.shared d.newest, (work_sync.shared d.work, tt)))) b o κ, tt) }
+      record { shared = λ d b o κ. (struct_sync_at (shape (nodes_inside.the_type K V)) (to (nodes_inside.the_type K V) d) (order_sync.shared d.order, (work_sync.shared d.work, tt)) b o κ, tt) }
