@@ -22,7 +22,6 @@ use Rattle.concurrent_lru.specs.NodeTable.{update_at}
 use Rattle.std.specs.List.{IsDistinct}
 use Rattle.std.specs.Option.{option_map_or}
 use Rattle.slab.specs.Slab.{get, slab_len}
-use Rattle.concurrent_lru.proofs.Lists.Members.{IsIn}
 use Rattle.concurrent_lru.proofs.Memory.CellKeys.{key_of_held, value_at_key, keys_kept}
 use Rattle.concurrent_lru.proofs.Order.Appending.{some_cell, distinct, read, link_told_at, links_same, get_or-map_option, table_looked}
 use Rattle.concurrent_lru.proofs.Order.TakingOut.{present_in}

@@ -15,7 +15,7 @@ use std::sync::Arc;
 pub(super) struct Order<K, V> {
     pub(super) slots: Slots<K, V>,
     pub(super) oldest: Option<usize>,
-    newest: Option<*mut Node<K, V>>,
+    pub(super) newest: Option<*mut Node<K, V>>,
 }
 
 impl<K: Drop, V: Drop> Order<K, V> {
@@ -135,9 +135,9 @@ impl<K: Drop, V: Drop> Order<K, V> {
         ensures pointers { self.new.slots.pointers ≡ self.old.slots.pointers }
         ensures looks { self.new.slots.looks.count ≡ self.old.slots.looks.count + 1 }
     {
-        let own = self.slots.look(key);
-        self.cut(own);
-        self.push(own, key);
+        let node = self.slots.look(key);
+        self.cut(node);
+        self.push(node, key);
     }
 
     // Takes the node under a key out of the idle order with one pin, and copies its value. The node

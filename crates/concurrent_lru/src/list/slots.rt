@@ -179,6 +179,7 @@ impl<K: Drop, V: Drop> Slots<K, V> {
         self.follow_mut(link).set_links(before, after);
     }
 
+    // Writes one of its links.
     pub(super) fn set_before(&mut self, link: *mut Node<K, V>, before: Option<*mut Node<K, V>>)
         requires { LeadsToNode self.old link }
         ensures rest { OnlyWrites self.old self.new }

@@ -10,34 +10,34 @@ use Rattle.concurrent_lru.proofs.Nodes.PointersTied.{key_stays}
 use Rattle.concurrent_lru.proofs.Lists.DistinctNumbers.{list_any-filter_self}
 use Rattle.concurrent_lru.proofs.list.links.Order.renew.Goals as goal
 
-pub look-own-requires-clause-present : goal.look-own-requires-clause-present
-look-own-requires-clause-present g c = present_in c.args.self.now c.args.key c.requires.linked c.requires.idle
+pub look-node-requires-clause-present : goal.look-node-requires-clause-present
+look-node-requires-clause-present g c = present_in c.args.self.now c.args.key c.requires.linked c.requires.idle
 
 pub cut-requires-clause-linked : goal.cut-requires-clause-linked
-cut-requires-clause-linked g c = table_looked c.args.self.now c.look-own.new.self c.look-own.ensures.rest c.look-own.ensures.tied c.requires.linked
+cut-requires-clause-linked g c = table_looked c.args.self.now c.look-node.new.self c.look-node.ensures.rest c.look-node.ensures.tied c.requires.linked
 
 pub cut-requires-clause-idle : goal.cut-requires-clause-idle
 cut-requires-clause-idle g c =
-    let same = ap cells_of c.look-own.ensures.rest in
-    (c.args.key, ap (λ l. key_at l c.look-own.result) same ∙ c.look-own.ensures.link, subst (λ t. Lists (record c.args.self.now { slots = t }) c.args.key) (sym c.look-own.ensures.rest) c.requires.idle)
+    let same = ap cells_of c.look-node.ensures.rest in
+    (c.args.key, ap (λ l. key_at l c.look-node.result) same ∙ c.look-node.ensures.link, subst (λ t. Lists (record c.args.self.now { slots = t }) c.args.key) (sym c.look-node.ensures.rest) c.requires.idle)
 
 pub push-requires-clause-own : goal.push-requires-clause-own
 push-requires-clause-own g c =
-    let same = ap cells_of c.look-own.ensures.rest in
-    key_stays c.look-own.new.self c.cut.new.self.slots c.args.key c.look-own.result c.look-own.ensures.tied c.cut.ensures.linked.tied c.cut.ensures.pointers (ap (λ l. key_at l c.look-own.result) same ∙ c.look-own.ensures.link)
+    let same = ap cells_of c.look-node.ensures.rest in
+    key_stays c.look-node.new.self c.cut.new.self.slots c.args.key c.look-node.result c.look-node.ensures.tied c.cut.ensures.linked.tied c.cut.ensures.pointers (ap (λ l. key_at l c.look-node.result) same ∙ c.look-node.ensures.link)
 
 pub push-requires-clause-held : goal.push-requires-clause-held
 push-requires-clause-held g c =
-    let left = c.cut.ensures.idle c.args.key (ap (λ l. key_at l c.look-own.result) (ap cells_of c.look-own.ensures.rest) ∙ c.look-own.ensures.link) ∙ ap (λ t. idle_without (record c.args.self.now { slots = t }) c.args.key) c.look-own.ensures.rest in
+    let left = c.cut.ensures.idle c.args.key (ap (λ l. key_at l c.look-node.result) (ap cells_of c.look-node.ensures.rest) ∙ c.look-node.ensures.link) ∙ ap (λ t. idle_without (record c.args.self.now { slots = t }) c.args.key) c.look-node.ensures.rest in
     ap (list_any (eqb c.args.key)) left ∙ list_any-filter_self c.args.key (idle_of c.args.self.now)
 
 pub returns-clause-nodes : goal.returns-clause-nodes
-returns-clause-nodes g c = c.push.ensures.nodes ∙ c.cut.ensures.nodes ∙ ap (λ t. nodes_of (record c.args.self.now { slots = t })) c.look-own.ensures.rest
+returns-clause-nodes g c = c.push.ensures.nodes ∙ c.cut.ensures.nodes ∙ ap (λ t. nodes_of (record c.args.self.now { slots = t })) c.look-node.ensures.rest
 
 pub returns-clause-idle : goal.returns-clause-idle
 returns-clause-idle g c =
-    let left = c.cut.ensures.idle c.args.key (ap (λ l. key_at l c.look-own.result) (ap cells_of c.look-own.ensures.rest) ∙ c.look-own.ensures.link) ∙ ap (λ t. idle_without (record c.args.self.now { slots = t }) c.args.key) c.look-own.ensures.rest in
+    let left = c.cut.ensures.idle c.args.key (ap (λ l. key_at l c.look-node.result) (ap cells_of c.look-node.ensures.rest) ∙ c.look-node.ensures.link) ∙ ap (λ t. idle_without (record c.args.self.now { slots = t }) c.args.key) c.look-node.ensures.rest in
     c.push.ensures.idle ∙ ap (λ ks. ks ++ c.args.key ∷ []) left
 
 pub returns-clause-pointers : goal.returns-clause-pointers
-returns-clause-pointers g c = c.push.ensures.pointers ∙ c.cut.ensures.pointers ∙ ap (λ t. t.pointers) c.look-own.ensures.rest
+returns-clause-pointers g c = c.push.ensures.pointers ∙ c.cut.ensures.pointers ∙ ap (λ t. t.pointers) c.look-node.ensures.rest
