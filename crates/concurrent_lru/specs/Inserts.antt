@@ -8,6 +8,7 @@ use Rattle.concurrent_lru.specs.Reply as say
 use Rattle.concurrent_lru.specs.Runs.{accepted, refused, Stands, Run}
 use Rattle.concurrent_lru.specs.declared.list.Refusal.{Refusal}
 use Rattle.concurrent_lru.specs.declared.step.Inserted.{Inserted}
+use Rattle.concurrent_lru.specs.declared.table.spot.Spot.{Spot}
 
 module _ {K V : Type 0} (E : K → K → Bool) where
   -- From old, the key is invalidated, begun at this charge under the stamp s, and has the value v.
@@ -29,8 +30,8 @@ module _ {K V : Type 0} (E : K → K → Bool) where
   Inserts old k charge v (Ok i) new = Replaces old k charge v i.stamp i.replaced i.evicted new
   Inserts old k charge v (Err e) new = RefusesToReplace old k charge e.0 new
 
-  -- the same without the value: what was replaced, and the begin with its stamp and what it evicted
-  abbrev pub Remakes : Cache K V → K → ℕ → Result (ℕ × List (Idle K V) × List (Idle K V)) Refusal → Cache K V → Type 0
+  -- the same without the value: what was replaced, and the begin with its spot and what it evicted
+  abbrev pub Remakes : Cache K V → K → ℕ → Result (Spot × List (Idle K V) × List (Idle K V)) Refusal → Cache K V → Type 0
   Remakes old k charge (Ok r) new =
-      (mid : Cache K V) × Stands E old (ask.invalidate k) (accepted say.done r.1) mid × Stands E mid (ask.begin k charge) (accepted (say.make r.0) r.2) new
+      (mid : Cache K V) × Stands E old (ask.invalidate k) (accepted say.done r.1) mid × Stands E mid (ask.begin k charge) (accepted (say.make r.0.stamp) r.2) new
   Remakes old k charge (Err e) new = RefusesToReplace old k charge e new

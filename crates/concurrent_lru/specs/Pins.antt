@@ -27,7 +27,7 @@ IsHandleFor fits h k c = (h.key ≡ k) × (h.charge ≡ c) × fits k h.value
 module _ {K : Type 0} where
   -- the stamp of the entry that a caller makes, and the key and the charge that it asked
   abbrev pub made_stamp : Making K → ℕ
-  made_stamp m = m.stamp
+  made_stamp m = m.spot.stamp
 
   abbrev pub made_key : Making K → K
   made_key m = m.asked.value
@@ -37,7 +37,7 @@ module _ {K : Type 0} where
 
   -- the same of the entry that a caller waited for
   abbrev pub woken_stamp : Woken K → ℕ
-  woken_stamp w = w.stamp
+  woken_stamp w = w.spot.stamp
 
   abbrev pub woken_key : Woken K → K
   woken_key w = w.asked.value
@@ -48,7 +48,7 @@ module _ {K : Type 0} where
 module _ {K V F : Type 0} where
   -- the same of the entry that a caller is to wait for, and what was left under the lock
   abbrev pub awaited_stamp : Waiting K V F → ℕ
-  awaited_stamp w = w.stamp
+  awaited_stamp w = w.spot.stamp
 
   abbrev pub awaited_key : Waiting K V F → K
   awaited_key w = w.asked.value
@@ -61,4 +61,4 @@ module _ {K V F : Type 0} where
 
 -- the stamp of the entry whose value was not read
 abbrev pub unread_stamp : Unread → ℕ
-unread_stamp u = u.stamp
+unread_stamp u = u.spot.stamp

@@ -11,13 +11,14 @@ ghost use Rattle.concurrent_lru.specs.OtherPins.{HasNoOtherPin};
 ghost use Rattle.concurrent_lru.specs.Reads.{Finds, Reads};
 ghost use Rattle.concurrent_lru.specs.Ready.{HasEqualKeyAt, HasReadyKey};
 ghost use Rattle.concurrent_lru.specs.Request as ask;
-ghost use Rattle.concurrent_lru.specs.Results.{outcome_of_begin, outcome_of_poll, outcome_of_ready, outcome_of_fail, outcome_of_get, outcome_of_release, outcome_of_evictions};
+ghost use Rattle.concurrent_lru.specs.Results.{outcome_of_begin, outcome_of_poll, outcome_of_ready, outcome_of_fail, outcome_of_get, outcome_of_release, outcome_of_evictions, begun_without_place, found_without_place, inserted_without_place};
 ghost use Rattle.concurrent_lru.specs.Runs.{Stands};
 ghost use Rattle.concurrent_lru.specs.Steps.{IsUnready};
 
 use crate::counts::Counts;
 use crate::list::Place;
 use crate::lru_core::{Begun, Evicted, Failed, Inserted, Refusal, State};
+use crate::table::Spot;
 use std::alloc::Global;
 use std::fmt;
 use std::hash::Hash;
@@ -28,7 +29,8 @@ use std::sync::Arc;
 ///
 /// Clauses see the abstract cache and the counts. Its type keeps that the cache is lawful and that
 /// the counts add up to its entries and their charges. Each call is the core's of its name, and
-/// counts what it answers.
+/// counts what it answers. One that pins an entry answers its place too, and one on an entry that
+/// is there takes its spot.
 #[derive(Drop)]
 pub struct CountedState<K: Hash + Eq + Clone, V> {
     state: State<K, V>,
@@ -97,14 +99,18 @@ impl<K: Hash + Eq + Clone, V: Drop> CountedState<K, V> {
     /// The core's `begin`: a hit, a wait, a refusal, or a miss that begins a making. Whether it
     /// inserted the entry is told by the stamp, which is then the next one.
     #[inline(always)]
-    pub fn begin(&mut self, key: &K, charge: u64) -> Result<(Begun<V>, Evicted<K, V>), Refusal>
+    pub fn begin(
+        &mut self,
+        key: &K,
+        charge: u64,
+    ) -> Result<(Begun<V>, Evicted<K, V>, Place), Refusal>
         requires { 0 < charge }
-        ensures step { Stands K.eq self.old.cache (ask.begin key.now charge) (outcome_of_begin result) self.new.cache }
-        ensures counted { self.new.counts ≡ counted self.old.cache (ask.begin key.now charge) (outcome_of_begin result) self.old.counts }
+        ensures step { Stands K.eq self.old.cache (ask.begin key.now charge) (outcome_of_begin (begun_without_place result)) self.new.cache }
+        ensures counted { self.new.counts ≡ counted self.old.cache (ask.begin key.now charge) (outcome_of_begin (begun_without_place result)) self.old.counts }
         ensures lawful { IsLawful K.eq self.new.cache }
     {
         let next = self.state.next_stamp();
-        let begun = self.state.begin(key, charge);
+        let begun = self.state.begin_at(key, charge);
         count_begin(&mut self.counts, &begun);
         if !is_insertion(&begun, next) {
             return begun;
@@ -117,37 +123,37 @@ impl<K: Hash + Eq + Clone, V: Drop> CountedState<K, V> {
 
     /// The core's `poll`: a making begun where it is to make the value, a refusal where a copy is
     /// refused.
-    pub fn poll(&mut self, stamp: u64) -> Result<Begun<V>, Refusal>
-        ensures step { Stands K.eq self.old.cache (ask.poll stamp) (outcome_of_poll result) self.new.cache }
-        ensures counted { self.new.counts ≡ counted self.old.cache (ask.poll stamp) (outcome_of_poll result) self.old.counts }
+    pub fn poll(&mut self, spot: Spot) -> Result<Begun<V>, Refusal>
+        ensures step { Stands K.eq self.old.cache (ask.poll spot.stamp) (outcome_of_poll result) self.new.cache }
+        ensures counted { self.new.counts ≡ counted self.old.cache (ask.poll spot.stamp) (outcome_of_poll result) self.old.counts }
         ensures lawful { IsLawful K.eq self.new.cache }
     {
-        let polled = self.state.poll(stamp);
+        let polled = self.state.poll_at(spot);
         count_poll(&mut self.counts, &polled);
         polled
     }
 
     /// The core's `ready`, as its `ready_keyed`. Counts nothing.
     #[inline(always)]
-    pub fn ready_keyed(&mut self, stamp: u64, key: &K, value: Arc<V>) -> (Result<(), Arc<V>>, bool)
-        ensures step { HasEqualKeyAt K.eq self.old.cache stamp key.now → Stands K.eq self.old.cache (ask.ready stamp (arc_value value)) (outcome_of_ready result.0) self.new.cache }
+    pub fn ready_keyed(&mut self, spot: Spot, key: &K, value: Arc<V>) -> (Result<(), Arc<V>>, bool)
+        ensures step { HasEqualKeyAt K.eq self.old.cache spot.stamp key.now → Stands K.eq self.old.cache (ask.ready spot.stamp (arc_value value)) (outcome_of_ready result.0) self.new.cache }
         ensures counts { self.new.counts ≡ self.old.counts }
-        ensures keyed { OnOk result.0 (HasEqualKeyAt K.eq self.old.cache stamp key.now) }
+        ensures keyed { OnOk result.0 (HasEqualKeyAt K.eq self.old.cache spot.stamp key.now) }
         ensures same { OnErr result.0 (self.new.cache ≡ self.old.cache) }
         ensures back { IfErr result.0 (λ a. a ≡ value) }
-        ensures quiet { IsFalse result.1 → HasNoOtherPin self.old.cache stamp }
+        ensures quiet { IsFalse result.1 → HasNoOtherPin self.old.cache spot.stamp }
         ensures lawful { IsLawful K.eq self.new.cache }
     {
-        self.state.ready_keyed(stamp, key, value)
+        self.state.ready_keyed(spot, key, value)
     }
 
     /// The core's `fail`: a failed making, and a removal where the entry is gone.
-    pub fn fail(&mut self, stamp: u64) -> Result<Failed<K>, Refusal>
-        ensures step { Stands K.eq self.old.cache (ask.fail stamp) (outcome_of_fail result) self.new.cache }
-        ensures counted { self.new.counts ≡ counted self.old.cache (ask.fail stamp) (outcome_of_fail result) self.old.counts }
+    pub fn fail(&mut self, spot: Spot) -> Result<Failed<K>, Refusal>
+        ensures step { Stands K.eq self.old.cache (ask.fail spot.stamp) (outcome_of_fail result) self.new.cache }
+        ensures counted { self.new.counts ≡ counted self.old.cache (ask.fail spot.stamp) (outcome_of_fail result) self.old.counts }
         ensures lawful { IsLawful K.eq self.new.cache }
     {
-        match self.state.fail(stamp)? {
+        match self.state.fail_at(spot)? {
             Failed::Left => {
                 self.counts.fail();
                 Ok(Failed::Left)
@@ -162,12 +168,12 @@ impl<K: Hash + Eq + Clone, V: Drop> CountedState<K, V> {
 
     /// The core's `get`: a hit, a miss or a refusal.
     #[inline(always)]
-    pub fn get(&mut self, key: &K) -> Result<Option<(u64, Arc<V>)>, Refusal>
-        ensures step { Stands K.eq self.old.cache (ask.get key.now) (outcome_of_get result) self.new.cache }
-        ensures counted { self.new.counts ≡ counted self.old.cache (ask.get key.now) (outcome_of_get result) self.old.counts }
+    pub fn get(&mut self, key: &K) -> Result<Option<(u64, Arc<V>, Place)>, Refusal>
+        ensures step { Stands K.eq self.old.cache (ask.get key.now) (outcome_of_get (found_without_place result)) self.new.cache }
+        ensures counted { self.new.counts ≡ counted self.old.cache (ask.get key.now) (outcome_of_get (found_without_place result)) self.old.counts }
         ensures lawful { IsLawful K.eq self.new.cache }
     {
-        let found = self.state.get(key);
+        let found = self.state.get_at(key);
         count_look(&mut self.counts, &found);
         found
     }
@@ -189,12 +195,12 @@ impl<K: Hash + Eq + Clone, V: Drop> CountedState<K, V> {
 
     /// The core's `release`. Counts what it evicts.
     #[inline(always)]
-    pub fn release(&mut self, stamp: u64) -> Result<Evicted<K, V>, Refusal>
-        ensures step { Stands K.eq self.old.cache (ask.release stamp) (outcome_of_release result) self.new.cache }
-        ensures counted { self.new.counts ≡ counted self.old.cache (ask.release stamp) (outcome_of_release result) self.old.counts }
+    pub fn release(&mut self, spot: Spot) -> Result<Evicted<K, V>, Refusal>
+        ensures step { Stands K.eq self.old.cache (ask.release spot.stamp) (outcome_of_release result) self.new.cache }
+        ensures counted { self.new.counts ≡ counted self.old.cache (ask.release spot.stamp) (outcome_of_release result) self.old.counts }
         ensures lawful { IsLawful K.eq self.new.cache }
     {
-        let evicted = self.state.release(stamp)?;
+        let evicted = self.state.release_at(spot)?;
         if evicted.is_empty() {
             return Ok(evicted);
         }
@@ -235,16 +241,16 @@ impl<K: Hash + Eq + Clone, V: Drop> CountedState<K, V> {
         key: &K,
         charge: u64,
         value: Arc<V>,
-    ) -> Result<Inserted<K, V>, (Refusal, Arc<V>)>
+    ) -> Result<(Inserted<K, V>, Place), (Refusal, Arc<V>)>
         requires { 0 < charge }
-        ensures step { Inserts K.eq self.old.cache key.now charge (arc_value value) result self.new.cache }
-        ensures inserted { IfOk result (λ i. self.new.counts ≡ replaced i.replaced i.evicted charge self.old.counts) }
+        ensures step { Inserts K.eq self.old.cache key.now charge (arc_value value) (inserted_without_place result) self.new.cache }
+        ensures inserted { IfOk result (λ r. self.new.counts ≡ replaced r.0.replaced r.0.evicted charge self.old.counts) }
         ensures counts { OnErr result (self.new.counts ≡ one_refusal self.old.counts) }
         ensures same { OnErr result (self.new.cache ≡ self.old.cache) }
         ensures back { IfErr result (λ e. e.1 ≡ value) }
         ensures lawful { IsLawful K.eq self.new.cache }
     {
-        let inserted = match self.state.insert(key, charge, value) {
+        let inserted = match self.state.insert_at(key, charge, value) {
             Ok(inserted) => inserted,
             Err(refused) => {
                 self.counts.refuse();
@@ -318,29 +324,17 @@ impl<K: Hash + Eq + Clone, V: Drop> CountedState<K, V> {
     }
 
     /// The core's `key_of`.
-    pub fn key_of(&self, stamp: u64) -> Option<&K>
-        ensures { MatchOption result (LacksStamp self.now.cache stamp) (λ key. HasKeyAt self.now.cache stamp key.now) }
+    pub fn key_of(&self, spot: Spot) -> Option<&K>
+        ensures { MatchOption result (LacksStamp self.now.cache spot.stamp) (λ key. HasKeyAt self.now.cache spot.stamp key.now) }
     {
-        self.state.key_of(stamp)
+        self.state.key_at(spot)
     }
 
     /// The core's `is_shared`.
-    pub fn is_shared(&self, stamp: u64) -> bool
-        ensures { IsFalse result → HasNoOtherPin self.now.cache stamp }
+    pub fn is_shared(&self, spot: Spot) -> bool
+        ensures { IsFalse result → HasNoOtherPin self.now.cache spot.stamp }
     {
-        self.state.is_shared(stamp)
-    }
-
-    /// The core's `near`.
-    pub fn near(&self) -> Place {
-        self.state.near()
-    }
-
-    /// The core's `look_near`.
-    pub fn look_near(&mut self, place: Place)
-        ensures { self.new ≡ self.old }
-    {
-        self.state.look_near(place);
+        self.state.is_shared(spot)
     }
 }
 
@@ -359,13 +353,16 @@ fn count_look<T>(counts: &mut Counts, found: &Result<Option<T>, Refusal>)
 // Counts the answer of a begin, but for an insertion: a hit, a wait, a refusal, or a miss that
 // begins a making.
 #[inline(always)]
-fn count_begin<K, V>(counts: &mut Counts, begun: &Result<(Begun<V>, Evicted<K, V>), Refusal>)
-    ensures { counts.new ≡ counted_begin begun.now counts.old }
+fn count_begin<K, V>(
+    counts: &mut Counts,
+    begun: &Result<(Begun<V>, Evicted<K, V>, Place), Refusal>,
+)
+    ensures { counts.new ≡ counted_begin (begun_without_place begun.now) counts.old }
 {
     match begun {
-        Ok((Begun::Hit(_, _), _)) => counts.hit(),
-        Ok((Begun::Wait(_), _)) => counts.wait(),
-        Ok((Begun::Make(_), _)) => {
+        Ok((Begun::Hit(_, _), _, _)) => counts.hit(),
+        Ok((Begun::Wait(_), _, _)) => counts.wait(),
+        Ok((Begun::Make(_), _, _)) => {
             counts.miss();
             counts.make();
         }
@@ -376,11 +373,14 @@ fn count_begin<K, V>(counts: &mut Counts, begun: &Result<(Begun<V>, Evicted<K, V
 // Whether a begin inserted an entry, which then has the stamp that was the next one. A failed
 // making that is taken over has a stamp from before.
 #[inline(always)]
-fn is_insertion<K, V>(begun: &Result<(Begun<V>, Evicted<K, V>), Refusal>, next: u64) -> bool
-    ensures { result ≡ is_insertion begun.now next }
+fn is_insertion<K, V>(
+    begun: &Result<(Begun<V>, Evicted<K, V>, Place), Refusal>,
+    next: u64,
+) -> bool
+    ensures { result ≡ is_insertion (begun_without_place begun.now) next }
 {
     match begun {
-        Ok((Begun::Make(stamp), _)) => *stamp == next,
+        Ok((Begun::Make(stamp), _, _)) => *stamp == next,
         _ => false,
     }
 }

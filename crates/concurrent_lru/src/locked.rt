@@ -15,7 +15,7 @@ ghost use Rattle.concurrent_lru.specs.Pins.{made_stamp, made_key, made_charge, w
 ghost use Rattle.concurrent_lru.specs.Reads.{Reads};
 ghost use Rattle.concurrent_lru.specs.Ready.{ValuesFit, HasEqualKeyAt, HasReadyKey};
 ghost use Rattle.concurrent_lru.specs.Request as ask;
-ghost use Rattle.concurrent_lru.specs.Results.{outcome_of_begin, outcome_of_poll, outcome_of_ready, outcome_of_fail, outcome_of_release, outcome_of_evictions};
+ghost use Rattle.concurrent_lru.specs.Results.{outcome_of_begin, outcome_of_poll, outcome_of_ready, outcome_of_fail, outcome_of_release, outcome_of_evictions, begun_without_place};
 ghost use Rattle.concurrent_lru.specs.Runs.{Stands};
 ghost use Rattle.concurrent_lru.specs.Steps.{IsUnready};
 ghost use Rattle.concurrent_lru.specs.ThreadedCalls.{IfHit};
@@ -32,6 +32,7 @@ use crate::counts::Counts;
 use crate::fit::Fit;
 use crate::list::Place;
 use crate::lru_core::{Begun, Evicted, Failed, Inserted, Refusal};
+use crate::table::Spot;
 use std::alloc::Global;
 use std::fmt;
 use std::hash::Hash;
@@ -45,7 +46,7 @@ use std::sync::Arc;
 /// the value of every ready entry fits its key, and that the counts add up to the entries and their
 /// charges. Each call counts what it answers, by `counted` of specs/CountedCalls.antt.
 ///
-/// It keeps no map by stamp. A debt has the place of its entry beside the stamp, and a pinned
+/// It keeps no map by stamp. A debt has its entry's spot, the stamp and the place, and a pinned
 /// entry stays at its place, so a call that pays a debt finds the entry there at once. Only a
 /// stamp from elsewhere, or one whose entry has left, costs a look at every entry.
 #[derive(Drop)]
@@ -128,31 +129,32 @@ impl<K: Hash + Eq + Clone + Drop, V: Drop, F: Fit<K, V>> Locked<K, V, F> {
         ensures hit { IfOk result (λ e. IfEntered e (F.fits key.now)) }
         ensures never_stale { IfErr result (λ e. e ≢ Refusal.Stale) }
     {
-        let (begun, evicted) = self.begun(key, charge)?;
-        let place = self.state.near();
+        let (begun, evicted, place) = self.begun(key, charge)?;
         match begun {
             Begun::Make(stamp) => {
-                let making = Making::of(stamp, place, key, charge);
+                let making = Making::of(Spot { stamp, place }, key, charge);
                 Ok(Entered::Make(making, Sealed::of(evicted)))
             }
             // A begin that meets an entry evicts nothing, so there is nothing to seal.
             Begun::Wait(stamp) => {
                 prove!(evicted.is_empty());
-                Ok(Entered::Wait(Waiting::of(stamp, place, key, charge, self)))
+                let spot = Spot { stamp, place };
+                Ok(Entered::Wait(Waiting::of(spot, key, charge, self)))
             }
             Begun::Hit(stamp, value) => {
                 prove!(evicted.is_empty());
-                Ok(Entered::Hit(Pin::of(stamp, place, key, Some(charge), value)))
+                let spot = Spot { stamp, place };
+                Ok(Entered::Hit(Pin::of(spot, key, Some(charge), value)))
             }
         }
     }
 
-    // The core's `begin`, with its own answer.
+    // The core's `begin`, with its own answer, and the place of the entry.
     #[inline(always)]
-    fn begun(&mut self, key: &K, charge: u64) -> Result<(Begun<V>, Evicted<K, V>), Refusal>
+    fn begun(&mut self, key: &K, charge: u64) -> Result<(Begun<V>, Evicted<K, V>, Place), Refusal>
         requires charged { 0 < charge }
-        ensures step { Stands K.eq self.old.cache (ask.begin key.now charge) (outcome_of_begin result) self.new.cache }
-        ensures counted { self.new.counts ≡ counted self.old.cache (ask.begin key.now charge) (outcome_of_begin result) self.old.counts }
+        ensures step { Stands K.eq self.old.cache (ask.begin key.now charge) (outcome_of_begin (begun_without_place result)) self.new.cache }
+        ensures counted { self.new.counts ≡ counted self.old.cache (ask.begin key.now charge) (outcome_of_begin (begun_without_place result)) self.old.counts }
         ensures hit { IfOk result (λ r. IfHit r.0 (F.fits key.now)) }
         ensures never_stale { IfErr result (λ e. e ≢ Refusal.Stale) }
     {
@@ -170,9 +172,9 @@ impl<K: Hash + Eq + Clone + Drop, V: Drop, F: Fit<K, V>> Locked<K, V, F> {
     {
         match self.state.get(key)? {
             None => Ok(None),
-            Some((stamp, value)) => {
-                let place = self.state.near();
-                Ok(Some(Pin::of(stamp, place, key, None, value)))
+            Some((stamp, value, place)) => {
+                let spot = Spot { stamp, place };
+                Ok(Some(Pin::of(spot, key, None, value)))
             }
         }
     }
@@ -191,27 +193,19 @@ impl<K: Hash + Eq + Clone + Drop, V: Drop, F: Fit<K, V>> Locked<K, V, F> {
         self.state.read(key, reader)
     }
 
-    // Tells the next look by stamp to begin at a pin's place. The entry may have left it.
-    fn look_near(&mut self, place: Place)
-        ensures { self.new ≡ self.old }
+    // Those that wait for the value of the spot's entry: whoever has a pin in it beside its maker.
+    fn waiters(&self, spot: Spot) -> Waiters
+        ensures { IsFalse result → HasNoOtherPin self.now.cache spot.stamp }
     {
-        self.state.look_near(place);
+        Waiters::of(self.state.is_shared(spot))
     }
 
-    // Those that wait for the value of the entry with this stamp: whoever has a pin in it beside
-    // its maker.
-    fn waiters(&self, stamp: u64) -> Waiters
-        ensures { IsFalse result → HasNoOtherPin self.now.cache stamp }
+    // Whether the spot's entry has this key. A spot whose entry has left may not.
+    fn has_key(&self, spot: Spot, key: &K) -> bool
+        ensures yes { IsTrue result → HasEqualKeyAt K.eq self.now.cache spot.stamp key.now }
+        ensures no { IsFalse result → HasEqualKeyAt K.eq self.now.cache spot.stamp key.now → ⊥ }
     {
-        Waiters::of(self.state.is_shared(stamp))
-    }
-
-    // Whether the entry with this stamp has this key. A stamp whose entry has left may not.
-    fn has_key(&self, stamp: u64, key: &K) -> bool
-        ensures yes { IsTrue result → HasEqualKeyAt K.eq self.now.cache stamp key.now }
-        ensures no { IsFalse result → HasEqualKeyAt K.eq self.now.cache stamp key.now → ⊥ }
-    {
-        match self.state.key_of(stamp) {
+        match self.state.key_of(spot) {
             Some(own) => *own == *key,
             None => false,
         }
@@ -227,35 +221,31 @@ impl<K: Hash + Eq + Clone + Drop, V: Drop, F: Fit<K, V>> Locked<K, V, F> {
         ensures hit { IfPolled result (F.fits key.now) }
     {
         let Woken {
-            stamp,
-            place,
+            spot,
             asked: _,
             charge,
         } = woken;
-        match self.polled(stamp, place, key) {
-            Ok(Begun::Make(own)) => Polled::Make(Making::of(own, place, key, charge)),
-            Ok(Begun::Wait(own)) => Polled::Wait(Waiting::of(own, place, key, charge, self)),
-            Ok(Begun::Hit(own, value)) => {
-                Polled::Hit(Pin::of(own, place, key, Some(charge), value))
-            }
-            Err(Refusal::Memory) => Polled::Refused(Unread { stamp, place }),
+        match self.polled(spot, key) {
+            Ok(Begun::Make(_)) => Polled::Make(Making::of(spot, key, charge)),
+            Ok(Begun::Wait(_)) => Polled::Wait(Waiting::of(spot, key, charge, self)),
+            Ok(Begun::Hit(_, value)) => Polled::Hit(Pin::of(spot, key, Some(charge), value)),
+            Err(Refusal::Memory) => Polled::Refused(Unread { spot }),
             // A poll never overflows: this is `Stale`, and there is no pin to give back.
             Err(_) => Polled::Stray,
         }
     }
 
-    // The core's `poll`, where the stamp's entry has the key, with its own answer.
-    fn polled(&mut self, stamp: u64, place: Place, key: &K) -> Result<Begun<V>, Refusal>
-        ensures step { HasEqualKeyAt K.eq self.old.cache stamp key.now → Stands K.eq self.old.cache (ask.poll stamp) (outcome_of_poll result) self.new.cache }
-        ensures counted { self.new.counts ≡ counted self.old.cache (ask.poll stamp) (outcome_of_poll result) self.old.counts }
-        ensures stray { (HasEqualKeyAt K.eq self.old.cache stamp key.now → ⊥) → (result ≡ Err Refusal.Stale) × (self.new ≡ self.old) }
+    // The core's `poll`, where the spot's entry has the key, with its own answer.
+    fn polled(&mut self, spot: Spot, key: &K) -> Result<Begun<V>, Refusal>
+        ensures step { HasEqualKeyAt K.eq self.old.cache spot.stamp key.now → Stands K.eq self.old.cache (ask.poll spot.stamp) (outcome_of_poll result) self.new.cache }
+        ensures counted { self.new.counts ≡ counted self.old.cache (ask.poll spot.stamp) (outcome_of_poll result) self.old.counts }
+        ensures stray { (HasEqualKeyAt K.eq self.old.cache spot.stamp key.now → ⊥) → (result ≡ Err Refusal.Stale) × (self.new ≡ self.old) }
         ensures hit { IfOk result (λ b. IfHit b (F.fits key.now)) }
     {
-        self.look_near(place);
-        if !self.has_key(stamp, key) {
+        if !self.has_key(spot, key) {
             return Err(Refusal::Stale);
         }
-        self.state.poll(stamp)
+        self.state.poll(spot)
     }
 
     /// The core's `ready`, where the making's entry has the key: the entry gets `stored`, and the
@@ -282,14 +272,12 @@ impl<K: Hash + Eq + Clone + Drop, V: Drop, F: Fit<K, V>> Locked<K, V, F> {
         ensures quiet { IsFalse result.2 → HasNoOtherPin self.old.cache (made_stamp making) }
     {
         let Making {
-            stamp,
-            place,
+            spot,
             asked: _,
             charge,
         } = making;
-        let pin = Pin::of(stamp, place, key, Some(charge), read);
-        self.look_near(place);
-        let (back, shared) = self.state.ready_keyed(stamp, key, stored);
+        let pin = Pin::of(spot, key, Some(charge), read);
+        let (back, shared) = self.state.ready_keyed(spot, key, stored);
         (pin, Sealed::of(back), Waiters::of(shared))
     }
 
@@ -309,17 +297,15 @@ impl<K: Hash + Eq + Clone + Drop, V: Drop, F: Fit<K, V>> Locked<K, V, F> {
         ensures quiet { IsFalse result.1 → HasNoOtherPin self.old.cache (made_stamp making) }
     {
         let Making {
-            stamp,
-            place,
+            spot,
             asked: _,
             charge: _,
         } = making;
-        self.look_near(place);
-        let heirs = self.waiters(stamp);
-        if !self.has_key(stamp, key) {
+        let heirs = self.waiters(spot);
+        if !self.has_key(spot, key) {
             return (Sealed::of(Err(Refusal::Stale)), heirs);
         }
-        (Sealed::of(self.state.fail(stamp)), heirs)
+        (Sealed::of(self.state.fail(spot)), heirs)
     }
 
     /// The core's `release`. Takes no memory. The pin's Arc of the value is sealed before what the
@@ -333,15 +319,13 @@ impl<K: Hash + Eq + Clone + Drop, V: Drop, F: Fit<K, V>> Locked<K, V, F> {
         ensures value { arc_value result.0 ≡ pin.value }
     {
         let Pin {
-            stamp,
-            place,
+            spot,
             asked: _,
             charge: _,
             value,
             mark: _,
         } = pin;
-        self.look_near(place);
-        Sealed::of((value, self.state.release(stamp)))
+        Sealed::of((value, self.state.release(spot)))
     }
 
     /// The core's `release` of a pin whose value was not read. Takes no memory.
@@ -351,9 +335,8 @@ impl<K: Hash + Eq + Clone + Drop, V: Drop, F: Fit<K, V>> Locked<K, V, F> {
         ensures step { Stands K.eq self.old.cache (ask.release (unread_stamp unread)) (outcome_of_release result) self.new.cache }
         ensures counted { self.new.counts ≡ counted self.old.cache (ask.release (unread_stamp unread)) (outcome_of_release result) self.old.counts }
     {
-        let Unread { stamp, place } = unread;
-        self.look_near(place);
-        Sealed::of(self.state.release(stamp))
+        let Unread { spot } = unread;
+        Sealed::of(self.state.release(spot))
     }
 
     /// The core's `advice_evict`. Takes no memory.
@@ -398,7 +381,7 @@ impl<K: Hash + Eq + Clone + Drop, V: Drop, F: Fit<K, V>> Locked<K, V, F> {
         ensures pin { IfOk result (λ r. (r.0.key ≡ key.now) × (r.0.charge ≡ Some charge) × (r.0.value ≡ arc_value stored)) }
         ensures never_stale { IfErr result (λ e. e.0 ≢ Refusal.Stale) }
     {
-        let inserted = match self.state.insert(key, charge, stored) {
+        let (inserted, place) = match self.state.insert(key, charge, stored) {
             Ok(inserted) => inserted,
             Err((refusal, stored)) => return Err((refusal, Sealed::of((stored, read)))),
         };
@@ -407,7 +390,7 @@ impl<K: Hash + Eq + Clone + Drop, V: Drop, F: Fit<K, V>> Locked<K, V, F> {
             replaced,
             evicted,
         } = inserted;
-        let pin = Pin::of(stamp, self.state.near(), key, Some(charge), read);
+        let pin = Pin::of(Spot { stamp, place }, key, Some(charge), read);
         Ok((pin, Sealed::of((replaced, evicted))))
     }
 

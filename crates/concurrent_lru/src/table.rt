@@ -16,8 +16,10 @@ ghost use Rattle.concurrent_lru.specs.Stamps.{keeps_map, mapped_place, HasRoomFo
 ghost use Rattle.concurrent_lru.specs.Steps.{without, held_in_phase, held_detached};
 ghost use Rattle.concurrent_lru.specs.TakeAll.{TakesHeld, TakesHeldAt};
 
+mod spot;
 mod stamps;
 
+pub use self::spot::Spot;
 use crate::eviction::{Evicted, reversed};
 use crate::list::{Node, Nodes, Phase, Place, Refusal};
 use crate::table::stamps::Stamps;
@@ -38,9 +40,6 @@ pub struct Table<K: Hash + Eq + Clone, V> {
     total: u64,
     // The idle entries' part of the total.
     idle_charge: u64,
-    // Where a look by stamp begins: the place of the entry that was pinned last, or that a caller
-    // tells. It is a hint alone: any place will do.
-    near: Place,
 }
 
 impl<K: Hash + Eq + Clone, V> Model for Table<K, V> {
@@ -98,7 +97,6 @@ impl<K: Hash + Eq + Clone, V: Drop> Table<K, V> {
             by_stamp,
             total: 0,
             idle_charge: 0,
-            near: Place::first(),
         }
     }
 
@@ -135,27 +133,16 @@ impl<K: Hash + Eq + Clone, V: Drop> Table<K, V> {
         self.total - self.idle_charge
     }
 
-    /// The place of the entry with this stamp.
+    /// The place of the entry with this stamp. The look begins at the spot's place, which may be
+    /// any.
     #[inline(always)]
-    pub fn find_stamp(&self, stamp: u64) -> Option<Place>
-        ensures { MatchOption result (ContainsNoStamp self.now stamp) (λ p. map.get self.now.stamps p ≡ Some stamp) }
+    pub fn find_stamp(&self, spot: Spot) -> Option<Place>
+        ensures { MatchOption result (ContainsNoStamp self.now spot.stamp) (λ p. map.get self.now.stamps p ≡ Some spot.stamp) }
     {
-        if self.nodes.has_stamp(self.near, stamp) {
-            return Some(self.near);
+        if self.nodes.has_stamp(spot.place, spot.stamp) {
+            return Some(spot.place);
         }
-        self.by_stamp.find(&self.nodes, stamp)
-    }
-
-    /// The place of the entry that was pinned last, where no look was told to begin elsewhere.
-    pub fn near(&self) -> Place {
-        self.near
-    }
-
-    /// Tells the looks by stamp to begin at a place, which may be any.
-    pub fn look_near(&mut self, place: Place)
-        ensures { self.new ≡ self.old }
-    {
-        self.near = place;
+        self.by_stamp.find(&self.nodes, spot.stamp)
     }
 
     /// The place of the entry with an equal key.
@@ -176,11 +163,17 @@ impl<K: Hash + Eq + Clone, V: Drop> Table<K, V> {
         self.nodes.node(place)
     }
 
-    /// Keeps a new entry, held by one pin, whose value is being made.
+    /// Keeps a new entry, held by one pin, whose value is being made. Answers its place.
     ///
     /// `Memory` where a copy of the key or a growth is refused; nothing changes then.
     #[inline(never)]
-    pub fn add(&mut self, alloc: Global, stamp: u64, key: &K, charge: u64) -> Result<(), Refusal>
+    pub fn add(
+        &mut self,
+        alloc: Global,
+        stamp: u64,
+        key: &K,
+        charge: u64,
+    ) -> Result<Place, Refusal>
         requires absent { ContainsNoKey K.eq self.old key.now }
         requires fresh { ContainsNoStamp self.old stamp }
         requires fits { charges_of self.old + charge < 2 ^ 64 }
@@ -194,16 +187,14 @@ impl<K: Hash + Eq + Clone, V: Drop> Table<K, V> {
         let kept = key.clone()?;
         let node = Box::new(alloc, Node::new(stamp, own, charge))?;
         make_room(&mut self.nodes, &mut self.by_key, &mut self.by_stamp, 1)?;
-        let place = put(
+        Ok(put(
             &mut self.nodes,
             &mut self.by_key,
             &mut self.by_stamp,
             &mut self.total,
             node,
             kept,
-        );
-        self.near = place;
-        Ok(())
+        ))
     }
 
     /// Keeps a new entry, as `add`, and detaches the held one that the key found before. All that
@@ -217,7 +208,7 @@ impl<K: Hash + Eq + Clone, V: Drop> Table<K, V> {
         stamp: u64,
         key: &K,
         charge: u64,
-    ) -> Result<(), Refusal>
+    ) -> Result<Place, Refusal>
         requires held { ContainsFoundAt self.old place }
         requires keyed { (e : Entry K V) → GetsAt self.old place e → K.eq e.key key.now ≡ true }
         requires fresh { ContainsNoStamp self.old stamp }
@@ -232,20 +223,18 @@ impl<K: Hash + Eq + Clone, V: Drop> Table<K, V> {
         make_room(&mut self.nodes, &mut self.by_key, &mut self.by_stamp, 1)?;
         forget_key(&self.nodes, &mut self.by_key, place);
         self.nodes.set_detached(place);
-        let new = put(
+        Ok(put(
             &mut self.nodes,
             &mut self.by_key,
             &mut self.by_stamp,
             &mut self.total,
             node,
             kept,
-        );
-        self.near = new;
-        Ok(())
+        ))
     }
 
-    /// Keeps a new entry, as `add`, and takes away the idle one that the key found before. All that
-    /// can be refused comes first.
+    /// Keeps a new entry, as `add`, and takes away the idle one that the key found before, which is
+    /// answered beside the place. All that can be refused comes first.
     ///
     /// `Memory` as there; nothing changes then.
     pub fn add_over_idle(
@@ -255,14 +244,14 @@ impl<K: Hash + Eq + Clone, V: Drop> Table<K, V> {
         stamp: u64,
         key: &K,
         charge: u64,
-    ) -> Result<Box<Node<K, V>>, Refusal>
+    ) -> Result<(Box<Node<K, V>>, Place), Refusal>
         requires idle { ContainsIdleAt self.old place }
         requires keyed { (e : Entry K V) → GetsAt self.old place e → K.eq e.key key.now ≡ true }
         requires fresh { ContainsNoStamp self.old stamp }
         requires fits { (e : Entry K V) → GetsAt self.old place e → charges_of self.old + charge < 2 ^ 64 + e.charge }
-        ensures ready { IfOk result (λ node. IsSome (as_idle (entry_of node.value))) }
-        ensures alone { IfOk result (λ node. chain_of node.value ≡ []) }
-        ensures ok { IfOk result (λ node. AddsOverIdle K.eq self.old place (entry_of node.value) stamp key.now charge self.new) }
+        ensures ready { IfOk result (λ r. IsSome (as_idle (entry_of r.0.value))) }
+        ensures alone { IfOk result (λ r. chain_of r.0.value ≡ []) }
+        ensures ok { IfOk result (λ r. AddsOverIdle K.eq self.old place (entry_of r.0.value) stamp key.now charge self.new) }
         ensures err { OnErr result (self.new ≡ self.old) }
         ensures refusal { IfErr result (λ e. e ≡ Refusal.Memory) }
     {
@@ -287,8 +276,7 @@ impl<K: Hash + Eq + Clone, V: Drop> Table<K, V> {
             node,
             kept,
         );
-        self.near = new;
-        Ok(old)
+        Ok((old, new))
     }
 
     /// Pins a ready entry once more, and tells its value: an idle one leaves the idle order.
@@ -322,7 +310,6 @@ impl<K: Hash + Eq + Clone, V: Drop> Table<K, V> {
         ensures { Rewrites (held_with_pins pins) self.old place self.new }
     {
         self.nodes.set_pins(place, pins);
-        self.near = place;
     }
 
     /// Detaches a held entry from its key: from then on its stamp alone finds it. Takes no memory.
@@ -369,7 +356,6 @@ impl<K: Hash + Eq + Clone, V: Drop> Table<K, V> {
         let charge = self.nodes.node(place).charge;
         let value = self.nodes.revive(place)?;
         self.idle_charge -= charge;
-        self.near = place;
         Ok(value)
     }
 

@@ -71,8 +71,8 @@ module _ {K V : Type 0} (E : K → K → Bool) (laws : IsEquivalence E) (capacit
           let same : charges_of w.mid ≡ charges_of t = sum_written t w.mid r.stamp r.entry (held_detached r.entry) (ap (λ u. u.idle) r.changed) (ap (λ u. u.held) r.changed) r.held refl in
           makes E capacity most next w.mid added new k w.added.copy charge out absent w.added.same_key (omega (arith, fits, same)) low w.added.idle w.added.held held front
 
-      pub remakes_held : Remakes E old k charge (Ok (next, [], out)) (cache_with capacity most (next + 1) new)
-      remakes_held = (cache_with capacity most next w.mid, inr (inl gone), inl makes_held)
+      pub remakes_held : (p : ℕ) → Remakes E old k charge (Ok (record { stamp = next; place = p }, [], out)) (cache_with capacity most (next + 1) new)
+      remakes_held p = (cache_with capacity most next w.mid, inr (inl gone), inl makes_held)
 
       pub held_lawful : 0 < charge → 0 < most → IsLawful E (cache_with capacity most (next + 1) new)
       held_lawful some pins = makes_lawful E _ _ k charge next out laws (detaches_lawful E old _ k [] l gone) some pins makes_held
@@ -136,8 +136,8 @@ module _ {K V : Type 0} (E : K → K → Bool) (laws : IsEquivalence E) (capacit
           let less : charges_of w.mid + e.charge ≡ charges_of t = sum_evicted t w.mid e.stamp shown l.idle_apart (w.idle ∙ ap (λ s. without s t.idle) stamp) w.held shown_at in
           makes E capacity most next w.mid added new k w.added.copy charge out absent w.added.same_key (omega (arith, fits, less)) low w.added.idle w.added.held held front
 
-      pub remakes_idle : Remakes E old k charge (Ok (next, replaced, out)) (cache_with capacity most (next + 1) new)
-      remakes_idle = (cache_with capacity most next w.mid, inl left, inl makes_idle)
+      pub remakes_idle : (p : ℕ) → Remakes E old k charge (Ok (record { stamp = next; place = p }, replaced, out)) (cache_with capacity most (next + 1) new)
+      remakes_idle p = (cache_with capacity most next w.mid, inl left, inl makes_idle)
 
       pub idle_lawful : 0 < charge → 0 < most → IsLawful E (cache_with capacity most (next + 1) new)
       idle_lawful some pins = makes_lawful E _ _ k charge next out laws (drops_lawful E old _ k replaced l left) some pins makes_idle

@@ -18,6 +18,7 @@ use Rattle.concurrent_lru.specs.declared.list.Refusal.{Refusal}
 use Rattle.concurrent_lru.specs.declared.list.Refusal.TheVariants.{Memory, Overflow}
 use Rattle.concurrent_lru.specs.declared.step.Begun.{Begun}
 use Rattle.concurrent_lru.specs.declared.step.Begun.TheVariants as rust
+use Rattle.concurrent_lru.specs.declared.table.spot.Spot.{Spot}
 use Rattle.concurrent_lru.proofs.Entries.NodeWrittenOrAdded.{inserted_at, inserted_other}
 use Rattle.concurrent_lru.proofs.Steps.LawfulAfterRevival.{find_without}
 
@@ -96,11 +97,11 @@ module _ {K V : Type 0} (E : K → K → Bool) where
   stored_at_once c s v (Err a) new holds h = absurd (h.0 holds.0 holds.1)
 
   -- An insert without its value, and then the value.
-  pub replaces : (old c new : Cache K V) (k : K) (charge : ℕ) (v : V) (m : ℕ × List (Idle K V) × List (Idle K V)) (r : Result (Unit {0}) (Arc V Global)) → Remakes E old k charge (Ok m) c → Stands E c (ask.ready m.0 v) (outcome_of_ready r) new
-      → Replaces E old k charge v m.0 m.1 m.2 new
-  replaces old c new k charge v m r w stores = (w.0, w.1, (c, w.2, (new, stored_at_once c m.0 v r new (begun_holds w.0 c k charge m.0 m.2 w.2) stores, refl)))
+  pub replaces : (old c new : Cache K V) (k : K) (charge : ℕ) (v : V) (m : Spot × List (Idle K V) × List (Idle K V)) (r : Result (Unit {0}) (Arc V Global)) → Remakes E old k charge (Ok m) c → Stands E c (ask.ready m.0.stamp v) (outcome_of_ready r) new
+      → Replaces E old k charge v m.0.stamp m.1 m.2 new
+  replaces old c new k charge v m r w stores = (w.0, w.1, (c, w.2, (new, stored_at_once c m.0.stamp v r new (begun_holds w.0 c k charge m.0.stamp m.2 w.2) stores, refl)))
 
   -- what an answer with `?` tells of a refusal
-  pub remade_refused : (old new : Cache K V) (k : K) (charge : ℕ) (r : Result (ℕ × List (Idle K V) × List (Idle K V)) Refusal) (x : Refusal) → IsErrAnd r (λ e. e ≡ x) → RefusesToReplace E old k charge x new → Remakes E old k charge r new
+  pub remade_refused : (old new : Cache K V) (k : K) (charge : ℕ) (r : Result (Spot × List (Idle K V) × List (Idle K V)) Refusal) (x : Refusal) → IsErrAnd r (λ e. e ≡ x) → RefusesToReplace E old k charge x new → Remakes E old k charge r new
   remade_refused old new k charge (Ok _) x h w = absurd h
   remade_refused old new k charge (Err e) x h w = subst (λ y. RefusesToReplace E old k charge y new) (sym h) w

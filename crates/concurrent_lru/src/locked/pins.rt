@@ -5,10 +5,10 @@ ghost use Rattle.std.specs.Arc.{arc_value};
 ghost use Rattle.std.specs.Sync.Mutex.{mutex_guard_value};
 
 use crate::fit::Fit;
-use crate::list::Place;
 use crate::locked::Locked;
 use crate::locked::sealed::Sealed;
 use crate::lru_core::Evicted;
+use crate::table::Spot;
 use std::hash::Hash;
 use std::marker::{Model, PhantomData};
 use std::snapshot::Snapshot;
@@ -17,22 +17,20 @@ use std::sync::{Arc, Condvar, MutexGuard, Wait};
 /// A debt: the value of an entry is this caller's to make. `ready` and `fail` take it. It knows the
 /// key and the charge that were asked.
 pub struct Making<K> {
-    pub(super) stamp: u64,
-    pub(super) place: Place,
+    pub(super) spot: Spot,
     pub(super) asked: Snapshot<K>,
     pub(super) charge: u64,
 }
 
 impl<K> Making<K> {
-    // The making of the stamp's entry.
-    pub(super) fn of(stamp: u64, place: Place, key: &K, charge: u64) -> Self
-        ensures stamp { result.stamp ≡ stamp }
+    // The making of the spot's entry.
+    pub(super) fn of(spot: Spot, key: &K, charge: u64) -> Self
+        ensures stamp { result.spot.stamp ≡ spot.stamp }
         ensures asked { result.asked.value ≡ key.now }
         ensures charge { result.charge ≡ charge }
     {
         Making {
-            stamp,
-            place,
+            spot,
             asked: Snapshot::of(key),
             charge,
         }
@@ -43,24 +41,22 @@ impl<K> Making<K> {
 /// not, since there is no value yet. It knows the key and the charge that were asked, and what the
 /// call that answered it left under the lock.
 pub struct Waiting<K: Hash + Eq + Clone, V, F: Fit<K, V>> {
-    stamp: u64,
-    place: Place,
+    spot: Spot,
     asked: Snapshot<K>,
     charge: u64,
     left: Snapshot<Locked<K, V, F>>,
 }
 
 impl<K: Hash + Eq + Clone, V, F: Fit<K, V>> Waiting<K, V, F> {
-    // A pin in the stamp's entry.
-    pub(super) fn of(stamp: u64, place: Place, key: &K, charge: u64, left: &Locked<K, V, F>) -> Self
-        ensures stamp { result.stamp ≡ stamp }
+    // A pin in the spot's entry.
+    pub(super) fn of(spot: Spot, key: &K, charge: u64, left: &Locked<K, V, F>) -> Self
+        ensures stamp { result.spot.stamp ≡ spot.stamp }
         ensures asked { result.asked.value ≡ key.now }
         ensures charge { result.charge ≡ charge }
         ensures left { result.left.value ≡ left.now }
     {
         Waiting {
-            stamp,
-            place,
+            spot,
             asked: Snapshot::of(key),
             charge,
             left: Snapshot::of(left),
@@ -78,13 +74,12 @@ impl<K: Hash + Eq + Clone, V, F: Fit<K, V>> Waiting<K, V, F> {
         guard: MutexGuard<'a, Locked<K, V, F>>,
     ) -> (MutexGuard<'a, Locked<K, V, F>>, Woken<K>)
         requires awake { mutex_guard_value guard ≡ self.left.value }
-        ensures stamp { result.1.stamp ≡ self.stamp }
+        ensures stamp { result.1.spot.stamp ≡ self.spot.stamp }
         ensures asked { result.1.asked.value ≡ self.asked.value }
         ensures charge { result.1.charge ≡ self.charge }
     {
         let Self {
-            stamp,
-            place,
+            spot,
             asked,
             charge,
             left: _,
@@ -93,8 +88,7 @@ impl<K: Hash + Eq + Clone, V, F: Fit<K, V>> Waiting<K, V, F> {
         (
             guard,
             Woken {
-                stamp,
-                place,
+                spot,
                 asked,
                 charge,
             },
@@ -105,8 +99,7 @@ impl<K: Hash + Eq + Clone, V, F: Fit<K, V>> Waiting<K, V, F> {
 /// A debt: a pin of a caller that has slept, in an entry whose value another caller made, or makes
 /// still. `poll` takes it.
 pub struct Woken<K> {
-    pub(super) stamp: u64,
-    pub(super) place: Place,
+    pub(super) spot: Spot,
     pub(super) asked: Snapshot<K>,
     pub(super) charge: u64,
 }
@@ -114,8 +107,7 @@ pub struct Woken<K> {
 /// A debt: a pin in a ready entry whose value was not read, since its copy was refused. `give_up`
 /// takes it.
 pub struct Unread {
-    pub(super) stamp: u64,
-    pub(super) place: Place,
+    pub(super) spot: Spot,
 }
 
 /// A debt: a pin in a ready entry, and the value. `release` takes it.
@@ -123,8 +115,7 @@ pub struct Unread {
 /// Clauses see the stamp of the entry, the key and the charge that were asked, and the value, which
 /// fits that key by the mark F.
 pub struct Pin<K: Hash + Eq + Clone, V, F: Fit<K, V>> {
-    pub(super) stamp: u64,
-    pub(super) place: Place,
+    pub(super) spot: Spot,
     pub(super) asked: Snapshot<K>,
     pub(super) charge: Snapshot<Option<u64>>,
     pub(super) value: Arc<V>,
@@ -137,20 +128,19 @@ impl<K: Hash + Eq + Clone, V, F: Fit<K, V>> Model for Pin<K, V, F> {
 
     ghost Value = { PinOf K V };
 
-    ghost view = { λ p. record { stamp = p.stamp; key = p.asked.value; charge = p.charge.value; value = arc_value p.value } };
+    ghost view = { λ p. record { stamp = p.spot.stamp; key = p.asked.value; charge = p.charge.value; value = arc_value p.value } };
 
     ghost invariant = { λ p. F.fits p.asked.value (arc_value p.value) };
 }
 
 impl<K: Hash + Eq + Clone, V, F: Fit<K, V>> Pin<K, V, F> {
-    // A pin in the stamp's entry. A get asks no charge.
-    pub(super) fn of(stamp: u64, place: Place, key: &K, charge: Option<u64>, value: Arc<V>) -> Self
+    // A pin in the spot's entry. A get asks no charge.
+    pub(super) fn of(spot: Spot, key: &K, charge: Option<u64>, value: Arc<V>) -> Self
         requires { F.fits key.now (arc_value value) }
-        ensures { result ≡ record { stamp = stamp; key = key.now; charge = charge; value = arc_value value } }
+        ensures { result ≡ record { stamp = spot.stamp; key = key.now; charge = charge; value = arc_value value } }
     {
         Pin {
-            stamp,
-            place,
+            spot,
             asked: Snapshot::of(key),
             charge: Snapshot::of(&charge),
             value,

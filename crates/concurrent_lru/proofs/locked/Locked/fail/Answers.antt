@@ -1,5 +1,3 @@
-use Rattle.std.proofs.Common.{sym, subst}
-use Rattle.concurrent_lru.specs.Ready.{HasEqualKeyAt}
 use Rattle.concurrent_lru.proofs.Steps.ReadyValues.{fail_kept}
 use Rattle.concurrent_lru.proofs.locked.Locked.fail.Goals as goal
 
@@ -10,7 +8,7 @@ invariant_of-self g c = record {
 }
 
 pub returns-then-not-has_key-clause-step : goal.returns-then-not-has_key-clause-step
-returns-then-not-has_key-clause-step g c = λ at. absurd (c.has_key.ensures.no c.if-not-has_key.true (subst (λ s. HasEqualKeyAt g.K.PartialEq.eq s.cache c.args.making.stamp c.args.key.now) (sym c.look_near.ensures) at))
+returns-then-not-has_key-clause-step g c = λ at. absurd (c.has_key.ensures.no c.if-not-has_key.true at)
 
 pub returns-clause-stray : goal.returns-clause-stray
-returns-clause-stray g c = λ none. absurd (none (subst (λ s. HasEqualKeyAt g.K.PartialEq.eq s.cache c.args.making.stamp c.args.key.now) c.look_near.ensures (c.has_key.ensures.yes c.if-not-has_key.false)))
+returns-clause-stray g c = λ none. absurd (none (c.has_key.ensures.yes c.if-not-has_key.false))

@@ -11,11 +11,11 @@ invariant_of-self g c = record {
 
 pub returns-clause-hit : goal.returns-clause-hit
 returns-clause-hit g c =
-    let at = subst (λ s. HasEqualKeyAt g.K.PartialEq.eq s.cache c.args.stamp c.args.key.now) (sym c.self.view_is) (c.has_key.ensures.yes c.if-not-has_key.false) in
+    let at = subst (λ s. HasEqualKeyAt g.K.PartialEq.eq s.cache c.args.spot.stamp c.args.key.now) (sym c.self.view_is) (c.has_key.ensures.yes c.if-not-has_key.false) in
     poll_hit _ _ _ _ _ _ c.poll.result g.met.F.Fit.equal_keys c.self.invariant.lawful c.self.invariant.kept at c.poll.ensures.step
 
 pub returns-then-not-has_key-clause-step : goal.returns-then-not-has_key-clause-step
-returns-then-not-has_key-clause-step g c = λ at. absurd (c.has_key.ensures.no c.if-not-has_key.true (subst (λ s. HasEqualKeyAt g.K.PartialEq.eq s.cache c.args.stamp c.args.key.now) (sym c.look_near.ensures) at))
+returns-then-not-has_key-clause-step g c = λ at. absurd (c.has_key.ensures.no c.if-not-has_key.true at)
 
 pub returns-clause-stray : goal.returns-clause-stray
-returns-clause-stray g c = λ none. absurd (none (subst (λ s. HasEqualKeyAt g.K.PartialEq.eq s.cache c.args.stamp c.args.key.now) c.look_near.ensures (c.has_key.ensures.yes c.if-not-has_key.false)))
+returns-clause-stray g c = λ none. absurd (none (c.has_key.ensures.yes c.if-not-has_key.false))

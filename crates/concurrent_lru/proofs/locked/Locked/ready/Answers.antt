@@ -17,12 +17,12 @@ invariant_of-self g c =
 pub returns-clause-step : goal.returns-clause-step
 returns-clause-step g c =
     let new = c.ready_keyed-back.new.self.cache in
-    rw c.of.ensures (subst (λ old. HasEqualKeyAt g.K.PartialEq.eq old.cache c.args.making.stamp c.args.key.now → Stands g.K.PartialEq.eq old.cache (ask.ready c.args.making.stamp c.args.stored.value) (outcome_of_ready c.ready_keyed-back.result.0) new) (c.self.view_is ∙ c.look_near.ensures) c.ready_keyed-back.ensures.step)
+    rw c.of.ensures (subst (λ old. HasEqualKeyAt g.K.PartialEq.eq old.cache c.args.making.spot.stamp c.args.key.now → Stands g.K.PartialEq.eq old.cache (ask.ready c.args.making.spot.stamp c.args.stored.value) (outcome_of_ready c.ready_keyed-back.result.0) new) c.self.view_is c.ready_keyed-back.ensures.step)
 
 pub returns-clause-stray : goal.returns-clause-stray
 returns-clause-stray g c =
     let ready = c.ready_keyed-back.ensures in
-    let is = ap (λ x. x.cache) (c.self.view_is ∙ c.look_near.ensures) in
+    let is = ap (λ x. x.cache) c.self.view_is in
     λ none.
-    let back = keyed_stray g.K.PartialEq.eq _ c.ready_keyed-back.new.self.cache c.args.making.stamp c.args.key.now c.args.stored _ ready.keyed ready.same ready.back (λ at. none (subst (λ old. HasEqualKeyAt g.K.PartialEq.eq old c.args.making.stamp c.args.key.now) is at)) in
-    (c.of.ensures ∙ back.0, λ j. record { cache = (back.1 ∙ is) j; counts = (ready.counts ∙ ap (λ x. x.counts) (c.self.view_is ∙ c.look_near.ensures)) j })
+    let back = keyed_stray g.K.PartialEq.eq _ c.ready_keyed-back.new.self.cache c.args.making.spot.stamp c.args.key.now c.args.stored _ ready.keyed ready.same ready.back (λ at. none (subst (λ old. HasEqualKeyAt g.K.PartialEq.eq old c.args.making.spot.stamp c.args.key.now) is at)) in
+    (c.of.ensures ∙ back.0, λ j. record { cache = (back.1 ∙ is) j; counts = (ready.counts ∙ ap (λ x. x.counts) c.self.view_is) j })

@@ -43,8 +43,8 @@ set_detached-requires g c =
     let n = some_node r c.args.place (h.0, h.1) in
     has_node r c.args.place (h.0, h.1)
 
-pub put-new-requires-clause-fresh : goal.put-new-requires-clause-fresh
-put-new-requires-clause-fresh g c =
+pub put-requires-clause-fresh : goal.put-requires-clause-fresh
+put-requires-clause-fresh g c =
     let r = stored_same {t' = c.make_room.new.nodes} {by_key' = c.make_room.new.by_key} {by_stamp' = c.make_room.new.by_stamp} c.self.invariant.stored c.make_room.ensures.nodes c.make_room.ensures.idle c.make_room.ensures.by_key c.make_room.ensures.keeps c.make_room.ensures.by_stamp in
     let grown = entries_same c.self.inside.nodes c.make_room.new.nodes c.make_room.ensures.nodes c.make_room.ensures.idle c.make_room.ensures.work in
     let lacks = subst (λ t. ContainsNoStamp t c.args.stamp) (sym (grown ∙ c.self.view_is)) c.requires.fresh in
@@ -69,16 +69,16 @@ invariant_of-self-2 g c =
     let changed = entries_detached r writes c.set_detached.ensures.idle pinned c.set_detached.ensures.work in
     let kept = c.self.invariant.stored.copies c.args.key.now c.in_ok-kept.kept c.in_ok-kept.ensures.cases in
     let equal = c.requires.keyed n.0 (subst (λ t. GetsAt t c.args.place n.0) (grown ∙ c.self.view_is) (node_is_at r c.args.place n.0 n.1)) in
-    let added : IsAdded g.K.PartialEq.eq c.set_detached.new.self c.put-new.new.nodes c.forget_key.new.by_key c.put-new.new.by_key c.make_room.new.by_stamp c.put-new.new.by_stamp c.put-new.result (new_entry c.args.stamp c.in_ok-own.own c.args.charge) c.in_ok-kept.kept =
-    put_added g.met.K.Eq.laws between c.in_ok-own.ensures.cases c.in_ok-kept.ensures.cases c.put-new.ensures.free
-    (c.put-new.ensures.nodes ∙ ap (insert c.set_detached.new.self.nodes c.put-new.result) entry) c.put-new.ensures.idle (forgotten g.met.K.Eq.laws c.make_room.new.by_key c.forget_key.new.by_key n.0.key c.in_ok-kept.kept c.args.key.now equal kept forgets) (fresh_written c.args.stamp writes (fresh_among r c.args.stamp lacks)) c.put-new.ensures.by_key c.put-new.ensures.keeps
-    (λ kept q. c.put-new.ensures.by_stamp kept q ∙ ap (λ n. cond (eqb n q) (Some c.put-new.result) (mapped_place c.make_room.new.by_stamp q)) (ap (λ x. x.stamp) entry)) in
+    let added : IsAdded g.K.PartialEq.eq c.set_detached.new.self c.put.new.nodes c.forget_key.new.by_key c.put.new.by_key c.make_room.new.by_stamp c.put.new.by_stamp c.put.result (new_entry c.args.stamp c.in_ok-own.own c.args.charge) c.in_ok-kept.kept =
+    put_added g.met.K.Eq.laws between c.in_ok-own.ensures.cases c.in_ok-kept.ensures.cases c.put.ensures.free
+    (c.put.ensures.nodes ∙ ap (insert c.set_detached.new.self.nodes c.put.result) entry) c.put.ensures.idle (forgotten g.met.K.Eq.laws c.make_room.new.by_key c.forget_key.new.by_key n.0.key c.in_ok-kept.kept c.args.key.now equal kept forgets) (fresh_written c.args.stamp writes (fresh_among r c.args.stamp lacks)) c.put.ensures.by_key c.put.ensures.keeps
+    (λ kept q. c.put.ensures.by_stamp kept q ∙ ap (λ n. cond (eqb n q) (Some c.put.result) (mapped_place c.make_room.new.by_stamp q)) (ap (λ x. x.stamp) entry)) in
     let free = unheld_written r (entries_of c.set_detached.new.self) (held_entry (entry_detached n.0)) c.args.place n.0 n.1 c.args.stamp lacks changed in
     let before = sum_written (entries_of c.make_room.new.nodes) (entries_of c.set_detached.new.self) n.0.stamp (held_entry n.0) (held_entry (entry_detached n.0)) (ap (λ t. t.idle) changed) (ap (λ t. t.held) changed) (held_found r c.args.place n.0 n.1 pinned) refl in
-    let sum = sum_with (entries_of c.set_detached.new.self) (entries_of c.put-new.new.nodes) c.args.stamp (new_held c.in_ok-own.own c.args.charge) (idle_with g.met.K.Eq.laws between added) (held_with g.met.K.Eq.laws between added) free in
+    let sum = sum_with (entries_of c.set_detached.new.self) (entries_of c.put.new.nodes) c.args.stamp (new_held c.in_ok-own.own c.args.charge) (idle_with g.met.K.Eq.laws between added) (held_with g.met.K.Eq.laws between added) free in
     record {
       stored = stored_with g.met.K.Eq.laws between added;
-      sums = c.put-new.ensures.total ∙ ap (λ n. c.self.inside.total + n) (ap (λ x. x.charge) entry) ∙ ap (λ n. n + c.args.charge) (c.self.invariant.sums ∙ ap charges_of (sym grown) ∙ sym before) ∙ sym sum;
+      sums = c.put.ensures.total ∙ ap (λ n. c.self.inside.total + n) (ap (λ x. x.charge) entry) ∙ ap (λ n. n + c.args.charge) (c.self.invariant.sums ∙ ap charges_of (sym grown) ∙ sym before) ∙ sym sum;
       rests = c.self.invariant.rests ∙ ap charges (sym (idle_with g.met.K.Eq.laws between added ∙ ap (λ t. t.idle) changed ∙ ap (λ t. t.idle) grown));
     }
 
@@ -97,11 +97,11 @@ returns-clause-ok g c =
     let changed = entries_detached r writes c.set_detached.ensures.idle pinned c.set_detached.ensures.work in
     let kept = c.self.invariant.stored.copies c.args.key.now c.in_ok-kept.kept c.in_ok-kept.ensures.cases in
     let equal = c.requires.keyed n.0 (subst (λ t. GetsAt t c.args.place n.0) (grown ∙ c.self.view_is) (node_is_at r c.args.place n.0 n.1)) in
-    let added : IsAdded g.K.PartialEq.eq c.set_detached.new.self c.put-new.new.nodes c.forget_key.new.by_key c.put-new.new.by_key c.make_room.new.by_stamp c.put-new.new.by_stamp c.put-new.result (new_entry c.args.stamp c.in_ok-own.own c.args.charge) c.in_ok-kept.kept =
-    put_added g.met.K.Eq.laws between c.in_ok-own.ensures.cases c.in_ok-kept.ensures.cases c.put-new.ensures.free
-    (c.put-new.ensures.nodes ∙ ap (insert c.set_detached.new.self.nodes c.put-new.result) entry) c.put-new.ensures.idle (forgotten g.met.K.Eq.laws c.make_room.new.by_key c.forget_key.new.by_key n.0.key c.in_ok-kept.kept c.args.key.now equal kept forgets) (fresh_written c.args.stamp writes (fresh_among r c.args.stamp lacks)) c.put-new.ensures.by_key c.put-new.ensures.keeps
-    (λ kept q. c.put-new.ensures.by_stamp kept q ∙ ap (λ n. cond (eqb n q) (Some c.put-new.result) (mapped_place c.make_room.new.by_stamp q)) (ap (λ x. x.stamp) entry)) in
-    subst (λ t. AddsOverHeld g.K.PartialEq.eq t c.args.place c.args.stamp c.args.key.now c.args.charge (entries_of c.put-new.new.nodes)) (grown ∙ c.self.view_is) (record {
+    let added : IsAdded g.K.PartialEq.eq c.set_detached.new.self c.put.new.nodes c.forget_key.new.by_key c.put.new.by_key c.make_room.new.by_stamp c.put.new.by_stamp c.put.result (new_entry c.args.stamp c.in_ok-own.own c.args.charge) c.in_ok-kept.kept =
+    put_added g.met.K.Eq.laws between c.in_ok-own.ensures.cases c.in_ok-kept.ensures.cases c.put.ensures.free
+    (c.put.ensures.nodes ∙ ap (insert c.set_detached.new.self.nodes c.put.result) entry) c.put.ensures.idle (forgotten g.met.K.Eq.laws c.make_room.new.by_key c.forget_key.new.by_key n.0.key c.in_ok-kept.kept c.args.key.now equal kept forgets) (fresh_written c.args.stamp writes (fresh_among r c.args.stamp lacks)) c.put.ensures.by_key c.put.ensures.keeps
+    (λ kept q. c.put.ensures.by_stamp kept q ∙ ap (λ n. cond (eqb n q) (Some c.put.result) (mapped_place c.make_room.new.by_stamp q)) (ap (λ x. x.stamp) entry)) in
+    subst (λ t. AddsOverHeld g.K.PartialEq.eq t c.args.place c.args.stamp c.args.key.now c.args.charge (entries_of c.put.new.nodes)) (grown ∙ c.self.view_is) (record {
       mid = entries_of c.set_detached.new.self;
       detached = record {
         stamp = n.0.stamp;
@@ -115,6 +115,6 @@ returns-clause-ok g c =
         same_key = c.self.invariant.stored.copies c.args.key.now c.in_ok-own.own c.in_ok-own.ensures.cases;
         idle = idle_with g.met.K.Eq.laws between added;
         held = held_with g.met.K.Eq.laws between added;
-        work = c.put-new.ensures.work;
+        work = c.put.ensures.work;
       };
     })

@@ -7,15 +7,15 @@ use Rattle.concurrent_lru.specs.NodeTable.{entry_of, phase_of, value_in}
 use Rattle.concurrent_lru.specs.Entries.{cache_with, IsSound}
 use Rattle.concurrent_lru.specs.Request as ask
 use Rattle.concurrent_lru.specs.Runs.{Stands, Overflows, TakesMemory}
-use Rattle.concurrent_lru.specs.Results.{outcome_of_begin}
+use Rattle.concurrent_lru.specs.Results.{outcome_of_begin, begun_without_place}
 use Rattle.concurrent_lru.proofs.Entries.EntryAtPlace.{key_is, found_is, has_room, held_place, unready_pinned, would_hit, is_full, value_here}
 use Rattle.concurrent_lru.proofs.Steps.NotReady.{unready_not_ready}
 use Rattle.concurrent_lru.proofs.Steps.BeginOfHeld.{joins_lawful}
 use Rattle.concurrent_lru.proofs.Steps.StaysLawful.{hits_lawful}
 use Rattle.concurrent_lru.proofs.Steps.MemoryRefused.{begun_memory}
 use Rattle.concurrent_lru.proofs.Entries.StepsOfEntries.{still_held, rewritten_twice, joins, joins_as_it_is, hits}
-use Rattle.concurrent_lru.proofs.lru_core.State.begin.Goals as goal
-use Rattle.concurrent_lru.proofs.lru_core.State.begin.Goals.{After-none, After-none-in-Untaken, After-none-in-Ready}
+use Rattle.concurrent_lru.proofs.lru_core.State.begin_at.Goals as goal
+use Rattle.concurrent_lru.proofs.lru_core.State.begin_at.Goals.{After-none, After-none-in-Untaken, After-none-in-Ready}
 
 pub make-requires-clause-absent : goal.make-requires-clause-absent
 make-requires-clause-absent g c = subst (λ k. IsAbsent g.K.PartialEq.eq k c.args.key.now) (ap (λ x. x.cache) c.self.view_is) c.in_default.ensures
@@ -96,8 +96,8 @@ invariant_of-self-in_err-value-in-Ready g c = subst (λ t. IsSound g.K.PartialEq
 pub returns-in_err-value-in-Ready-clause-step : goal.returns-in_err-value-in-Ready-clause-step
 returns-in_err-value-in-Ready-clause-step g c =
     let here = c.node-node.ensures.entry in
-    subst (λ t. Stands g.K.PartialEq.eq c.args.self.now.cache (ask.begin c.args.key.now c.args.charge) (outcome_of_begin c.from_residual.result) (cache_with c.self.inside.capacity c.self.inside.most_pins c.self.inside.next t)) (sym c.in_err-value-in-Ready.ensures.err)
-    (subst (λ old. Stands g.K.PartialEq.eq c.args.self.now.cache (ask.begin c.args.key.now c.args.charge) (outcome_of_begin c.from_residual.result) old) (sym (ap (λ x. x.cache) c.self.view_is))
+    subst (λ t. Stands g.K.PartialEq.eq c.args.self.now.cache (ask.begin c.args.key.now c.args.charge) (outcome_of_begin (begun_without_place c.from_residual.result)) (cache_with c.self.inside.capacity c.self.inside.most_pins c.self.inside.next t)) (sym c.in_err-value-in-Ready.ensures.err)
+    (subst (λ old. Stands g.K.PartialEq.eq c.args.self.now.cache (ask.begin c.args.key.now c.args.charge) (outcome_of_begin (begun_without_place c.from_residual.result)) old) (sym (ap (λ x. x.cache) c.self.view_is))
     (begun_memory g.K.PartialEq.eq c.args.self.now.cache (ask.begin c.args.key.now c.args.charge) c.from_residual.result _ c.from_residual.ensures.1 c.in_err-value-in-Ready.ensures.refusal
     (subst (λ old. TakesMemory g.K.PartialEq.eq old (ask.begin c.args.key.now c.args.charge)) (ap (λ x. x.cache) c.self.view_is)
     (inr (would_hit here g.K.PartialEq.eq c.self.inside.capacity c.self.inside.most_pins c.self.inside.next c.args.key.now c.in-Ready.field-0.value (found_is here c.self.invariant.lawful c.args.key.now c.in-Some.ensures)
