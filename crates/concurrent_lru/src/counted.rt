@@ -123,9 +123,9 @@ impl<K: Hash + Eq + Clone, V: Drop> CountedState<K, V> {
 
     /// The core's `poll`: a making begun where it is to make the value, a refusal where a copy is
     /// refused.
-    pub fn poll(&mut self, spot: Spot) -> Result<Begun<V>, Refusal>
-        ensures step { Stands K.eq self.old.cache (ask.poll spot.stamp) (outcome_of_poll result) self.new.cache }
-        ensures counted { self.new.counts ≡ counted self.old.cache (ask.poll spot.stamp) (outcome_of_poll result) self.old.counts }
+    pub fn poll(&mut self, spot: &Spot) -> Result<Begun<V>, Refusal>
+        ensures step { Stands K.eq self.old.cache (ask.poll spot.now.stamp) (outcome_of_poll result) self.new.cache }
+        ensures counted { self.new.counts ≡ counted self.old.cache (ask.poll spot.now.stamp) (outcome_of_poll result) self.old.counts }
         ensures lawful { IsLawful K.eq self.new.cache }
     {
         let polled = self.state.poll_at(spot);
@@ -135,22 +135,22 @@ impl<K: Hash + Eq + Clone, V: Drop> CountedState<K, V> {
 
     /// The core's `ready`, as its `ready_keyed`. Counts nothing.
     #[inline(always)]
-    pub fn ready_keyed(&mut self, spot: Spot, key: &K, value: Arc<V>) -> (Result<(), Arc<V>>, bool)
-        ensures step { HasEqualKeyAt K.eq self.old.cache spot.stamp key.now → Stands K.eq self.old.cache (ask.ready spot.stamp (arc_value value)) (outcome_of_ready result.0) self.new.cache }
+    pub fn ready_keyed(&mut self, spot: &Spot, key: &K, value: Arc<V>) -> (Result<(), Arc<V>>, bool)
+        ensures step { HasEqualKeyAt K.eq self.old.cache spot.now.stamp key.now → Stands K.eq self.old.cache (ask.ready spot.now.stamp (arc_value value)) (outcome_of_ready result.0) self.new.cache }
         ensures counts { self.new.counts ≡ self.old.counts }
-        ensures keyed { OnOk result.0 (HasEqualKeyAt K.eq self.old.cache spot.stamp key.now) }
+        ensures keyed { OnOk result.0 (HasEqualKeyAt K.eq self.old.cache spot.now.stamp key.now) }
         ensures same { OnErr result.0 (self.new.cache ≡ self.old.cache) }
         ensures back { IfErr result.0 (λ a. a ≡ value) }
-        ensures quiet { IsFalse result.1 → HasNoOtherPin self.old.cache spot.stamp }
+        ensures quiet { IsFalse result.1 → HasNoOtherPin self.old.cache spot.now.stamp }
         ensures lawful { IsLawful K.eq self.new.cache }
     {
         self.state.ready_keyed(spot, key, value)
     }
 
     /// The core's `fail`: a failed making, and a removal where the entry is gone.
-    pub fn fail(&mut self, spot: Spot) -> Result<Failed<K>, Refusal>
-        ensures step { Stands K.eq self.old.cache (ask.fail spot.stamp) (outcome_of_fail result) self.new.cache }
-        ensures counted { self.new.counts ≡ counted self.old.cache (ask.fail spot.stamp) (outcome_of_fail result) self.old.counts }
+    pub fn fail(&mut self, spot: &Spot) -> Result<Failed<K>, Refusal>
+        ensures step { Stands K.eq self.old.cache (ask.fail spot.now.stamp) (outcome_of_fail result) self.new.cache }
+        ensures counted { self.new.counts ≡ counted self.old.cache (ask.fail spot.now.stamp) (outcome_of_fail result) self.old.counts }
         ensures lawful { IsLawful K.eq self.new.cache }
     {
         match self.state.fail_at(spot)? {
@@ -195,9 +195,9 @@ impl<K: Hash + Eq + Clone, V: Drop> CountedState<K, V> {
 
     /// The core's `release`. Counts what it evicts.
     #[inline(always)]
-    pub fn release(&mut self, spot: Spot) -> Result<Evicted<K, V>, Refusal>
-        ensures step { Stands K.eq self.old.cache (ask.release spot.stamp) (outcome_of_release result) self.new.cache }
-        ensures counted { self.new.counts ≡ counted self.old.cache (ask.release spot.stamp) (outcome_of_release result) self.old.counts }
+    pub fn release(&mut self, spot: &Spot) -> Result<Evicted<K, V>, Refusal>
+        ensures step { Stands K.eq self.old.cache (ask.release spot.now.stamp) (outcome_of_release result) self.new.cache }
+        ensures counted { self.new.counts ≡ counted self.old.cache (ask.release spot.now.stamp) (outcome_of_release result) self.old.counts }
         ensures lawful { IsLawful K.eq self.new.cache }
     {
         let evicted = self.state.release_at(spot)?;
@@ -324,15 +324,15 @@ impl<K: Hash + Eq + Clone, V: Drop> CountedState<K, V> {
     }
 
     /// The core's `key_of`.
-    pub fn key_of(&self, spot: Spot) -> Option<&K>
-        ensures { MatchOption result (LacksStamp self.now.cache spot.stamp) (λ key. HasKeyAt self.now.cache spot.stamp key.now) }
+    pub fn key_of(&self, spot: &Spot) -> Option<&K>
+        ensures { MatchOption result (LacksStamp self.now.cache spot.now.stamp) (λ key. HasKeyAt self.now.cache spot.now.stamp key.now) }
     {
         self.state.key_at(spot)
     }
 
     /// The core's `is_shared`.
-    pub fn is_shared(&self, spot: Spot) -> bool
-        ensures { IsFalse result → HasNoOtherPin self.now.cache spot.stamp }
+    pub fn is_shared(&self, spot: &Spot) -> bool
+        ensures { IsFalse result → HasNoOtherPin self.now.cache spot.now.stamp }
     {
         self.state.is_shared(spot)
     }

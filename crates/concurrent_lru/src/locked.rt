@@ -194,16 +194,16 @@ impl<K: Hash + Eq + Clone + Drop, V: Drop, F: Fit<K, V>> Locked<K, V, F> {
     }
 
     // Those that wait for the value of the spot's entry: whoever has a pin in it beside its maker.
-    fn waiters(&self, spot: Spot) -> Waiters
-        ensures { IsFalse result → HasNoOtherPin self.now.cache spot.stamp }
+    fn waiters(&self, spot: &Spot) -> Waiters
+        ensures { IsFalse result → HasNoOtherPin self.now.cache spot.now.stamp }
     {
         Waiters::of(self.state.is_shared(spot))
     }
 
     // Whether the spot's entry has this key. A spot whose entry has left may not.
-    fn has_key(&self, spot: Spot, key: &K) -> bool
-        ensures yes { IsTrue result → HasEqualKeyAt K.eq self.now.cache spot.stamp key.now }
-        ensures no { IsFalse result → HasEqualKeyAt K.eq self.now.cache spot.stamp key.now → ⊥ }
+    fn has_key(&self, spot: &Spot, key: &K) -> bool
+        ensures yes { IsTrue result → HasEqualKeyAt K.eq self.now.cache spot.now.stamp key.now }
+        ensures no { IsFalse result → HasEqualKeyAt K.eq self.now.cache spot.now.stamp key.now → ⊥ }
     {
         match self.state.key_of(spot) {
             Some(own) => *own == *key,
@@ -225,7 +225,7 @@ impl<K: Hash + Eq + Clone + Drop, V: Drop, F: Fit<K, V>> Locked<K, V, F> {
             asked: _,
             charge,
         } = woken;
-        match self.polled(spot, key) {
+        match self.polled(&spot, key) {
             Ok(Begun::Make(_)) => Polled::Make(Making::of(spot, key, charge)),
             Ok(Begun::Wait(_)) => Polled::Wait(Waiting::of(spot, key, charge, self)),
             Ok(Begun::Hit(_, value)) => Polled::Hit(Pin::of(spot, key, Some(charge), value)),
@@ -236,10 +236,10 @@ impl<K: Hash + Eq + Clone + Drop, V: Drop, F: Fit<K, V>> Locked<K, V, F> {
     }
 
     // The core's `poll`, where the spot's entry has the key, with its own answer.
-    fn polled(&mut self, spot: Spot, key: &K) -> Result<Begun<V>, Refusal>
-        ensures step { HasEqualKeyAt K.eq self.old.cache spot.stamp key.now → Stands K.eq self.old.cache (ask.poll spot.stamp) (outcome_of_poll result) self.new.cache }
-        ensures counted { self.new.counts ≡ counted self.old.cache (ask.poll spot.stamp) (outcome_of_poll result) self.old.counts }
-        ensures stray { (HasEqualKeyAt K.eq self.old.cache spot.stamp key.now → ⊥) → (result ≡ Err Refusal.Stale) × (self.new ≡ self.old) }
+    fn polled(&mut self, spot: &Spot, key: &K) -> Result<Begun<V>, Refusal>
+        ensures step { HasEqualKeyAt K.eq self.old.cache spot.now.stamp key.now → Stands K.eq self.old.cache (ask.poll spot.now.stamp) (outcome_of_poll result) self.new.cache }
+        ensures counted { self.new.counts ≡ counted self.old.cache (ask.poll spot.now.stamp) (outcome_of_poll result) self.old.counts }
+        ensures stray { (HasEqualKeyAt K.eq self.old.cache spot.now.stamp key.now → ⊥) → (result ≡ Err Refusal.Stale) × (self.new ≡ self.old) }
         ensures hit { IfOk result (λ b. IfHit b (F.fits key.now)) }
     {
         if !self.has_key(spot, key) {
@@ -276,8 +276,8 @@ impl<K: Hash + Eq + Clone + Drop, V: Drop, F: Fit<K, V>> Locked<K, V, F> {
             asked: _,
             charge,
         } = making;
+        let (back, shared) = self.state.ready_keyed(&spot, key, stored);
         let pin = Pin::of(spot, key, Some(charge), read);
-        let (back, shared) = self.state.ready_keyed(spot, key, stored);
         (pin, Sealed::of(back), Waiters::of(shared))
     }
 
@@ -301,11 +301,11 @@ impl<K: Hash + Eq + Clone + Drop, V: Drop, F: Fit<K, V>> Locked<K, V, F> {
             asked: _,
             charge: _,
         } = making;
-        let heirs = self.waiters(spot);
-        if !self.has_key(spot, key) {
+        let heirs = self.waiters(&spot);
+        if !self.has_key(&spot, key) {
             return (Sealed::of(Err(Refusal::Stale)), heirs);
         }
-        (Sealed::of(self.state.fail(spot)), heirs)
+        (Sealed::of(self.state.fail(&spot)), heirs)
     }
 
     /// The core's `release`. Takes no memory. The pin's Arc of the value is sealed before what the
@@ -325,7 +325,7 @@ impl<K: Hash + Eq + Clone + Drop, V: Drop, F: Fit<K, V>> Locked<K, V, F> {
             value,
             mark: _,
         } = pin;
-        Sealed::of((value, self.state.release(spot)))
+        Sealed::of((value, self.state.release(&spot)))
     }
 
     /// The core's `release` of a pin whose value was not read. Takes no memory.
@@ -336,7 +336,7 @@ impl<K: Hash + Eq + Clone + Drop, V: Drop, F: Fit<K, V>> Locked<K, V, F> {
         ensures counted { self.new.counts ≡ counted self.old.cache (ask.release (unread_stamp unread)) (outcome_of_release result) self.old.counts }
     {
         let Unread { spot } = unread;
-        Sealed::of(self.state.release(spot))
+        Sealed::of(self.state.release(&spot))
     }
 
     /// The core's `advice_evict`. Takes no memory.

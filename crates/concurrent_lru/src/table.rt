@@ -136,8 +136,8 @@ impl<K: Hash + Eq + Clone, V: Drop> Table<K, V> {
     /// The place of the entry with this stamp. The look begins at the spot's place, which may be
     /// any.
     #[inline(always)]
-    pub fn find_stamp(&self, spot: Spot) -> Option<Place>
-        ensures { MatchOption result (ContainsNoStamp self.now spot.stamp) (λ p. map.get self.now.stamps p ≡ Some spot.stamp) }
+    pub fn find_stamp(&self, spot: &Spot) -> Option<Place>
+        ensures { MatchOption result (ContainsNoStamp self.now spot.now.stamp) (λ p. map.get self.now.stamps p ≡ Some spot.now.stamp) }
     {
         if self.nodes.has_stamp(spot.place, spot.stamp) {
             return Some(spot.place);

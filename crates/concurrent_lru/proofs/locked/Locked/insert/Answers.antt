@@ -11,4 +11,4 @@ invariant_of-self-2 g c = record {
 }
 
 pub returns-clause-step : goal.returns-clause-step
-returns-clause-step g c = rw (c.of-2.ensures, c.of-pin.ensures) (subst (λ x. Replaces g.K.PartialEq.eq x.cache c.args.key.now c.args.charge (arc_value c.args.stored) c.in-Ok.inserted.stamp c.in-Ok.inserted.replaced c.in-Ok.inserted.evicted c.insert.new.self.cache) c.self.view_is c.in-Ok.ensures.step)
+returns-clause-step g c = rw (c.of-2.ensures, c.of-pin.ensures) (subst (λ x. Replaces g.K.PartialEq.eq x.cache c.args.key.now c.args.charge (arc_value c.args.stored) c.in-Ok.inserted.0.stamp c.in-Ok.inserted.0.replaced c.in-Ok.inserted.0.evicted c.insert.new.self.cache) c.self.view_is c.in-Ok.ensures.step)

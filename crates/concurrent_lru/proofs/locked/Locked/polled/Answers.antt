@@ -11,7 +11,7 @@ invariant_of-self g c = record {
 
 pub returns-clause-hit : goal.returns-clause-hit
 returns-clause-hit g c =
-    let at = subst (λ s. HasEqualKeyAt g.K.PartialEq.eq s.cache c.args.spot.stamp c.args.key.now) (sym c.self.view_is) (c.has_key.ensures.yes c.if-not-has_key.false) in
+    let at = subst (λ s. HasEqualKeyAt g.K.PartialEq.eq s.cache c.args.spot.now.stamp c.args.key.now) (sym c.self.view_is) (c.has_key.ensures.yes c.if-not-has_key.false) in
     poll_hit _ _ _ _ _ _ c.poll.result g.met.F.Fit.equal_keys c.self.invariant.lawful c.self.invariant.kept at c.poll.ensures.step
 
 pub returns-then-not-has_key-clause-step : goal.returns-then-not-has_key-clause-step

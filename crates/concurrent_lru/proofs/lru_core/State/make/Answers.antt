@@ -23,7 +23,7 @@ makes g c =
     let small : c.args.charge ≤ 18446744073709551615 - c.total.result = c.if-charge-total.false in
     let fits : charges_of c.self.inside.table + c.args.charge < 2 ^ 64 = omega (arith, sum_fits, total, small) in
     let low : c.self.inside.next + 1 < 2 ^ 64 = below_end c.self.inside.next (omega arith) c.if-self.false in
-    let ok = c.in_ok-add.ensures.ok in
+    let ok = c.in_ok-place.ensures.ok in
     steps.makes g.K.PartialEq.eq c.self.inside.capacity c.self.inside.most_pins c.self.inside.next c.self.inside.table c.add.new.self c.settle-evicted.new.self c.args.key.now ok.0 c.args.charge c.settle-evicted.result
     absent ok.1 fits low c.add.ensures.idle ok.2 c.settle-evicted.ensures.held c.settle-evicted.ensures.front
 

@@ -17,16 +17,16 @@ on_ok (Ok t) x = x
 on_ok (Err e) x = tt
 
 pub returns-in_default-clause-step : goal.returns-in_default-clause-step
-returns-in_default-clause-step g c = λ _. (λ h holds. c.in_default.ensures h.key h.charge (inr (h, ap (λ k. held_at k.cache c.args.spot.stamp) c.self.view_is ∙ holds.at, refl, refl)), refl)
+returns-in_default-clause-step g c = λ _. (λ h holds. c.in_default.ensures h.key h.charge (inr (h, ap (λ k. held_at k.cache c.args.spot.now.stamp) c.self.view_is ∙ holds.at, refl, refl)), refl)
 
 pub returns-in_default-clause-quiet : goal.returns-in_default-clause-quiet
-returns-in_default-clause-quiet g c = λ _ h at. absurd (c.in_default.ensures h.key h.charge (inr (h, ap (λ k. held_at k.cache c.args.spot.stamp) c.self.view_is ∙ at, refl, refl)))
+returns-in_default-clause-quiet g c = λ _ h at. absurd (c.in_default.ensures h.key h.charge (inr (h, ap (λ k. held_at k.cache c.args.spot.now.stamp) c.self.view_is ∙ at, refl, refl)))
 
 pub returns-clause-keyed : goal.returns-clause-keyed
 returns-clause-keyed g c =
     let node = entry_of c.node-node.result.now in
-    let at = subst (λ s. ContainsEntry c.self.inside.table s node.key node.charge) (stamp_is c.node-node.ensures.entry c.args.spot.stamp c.in-Some.ensures) (has_entry c.node-node.ensures.entry) in
-    on_ok c.store.result (equal_key_at g.K.PartialEq.eq (cache_with c.self.inside.capacity c.self.inside.most_pins c.self.inside.next c.self.inside.table) _ c.args.spot.stamp node.key c.args.key.now (ap (λ x. x.cache) c.self.view_is) (node.charge, at) (not-false _ (sym c.if-ne.ensures)))
+    let at = subst (λ s. ContainsEntry c.self.inside.table s node.key node.charge) (stamp_is c.node-node.ensures.entry c.args.spot.now.stamp c.in-Some.ensures) (has_entry c.node-node.ensures.entry) in
+    on_ok c.store.result (equal_key_at g.K.PartialEq.eq (cache_with c.self.inside.capacity c.self.inside.most_pins c.self.inside.next c.self.inside.table) _ c.args.spot.now.stamp node.key c.args.key.now (ap (λ x. x.cache) c.self.view_is) (node.charge, at) (not-false _ (sym c.if-ne.ensures)))
 
 pub invariant_of-self : goal.invariant_of-self
 invariant_of-self g c =
@@ -39,7 +39,7 @@ invariant_of-self g c =
 pub returns-clause-step : goal.returns-clause-step
 returns-clause-step g c =
     let stored = c.store.ensures in
-    λ _. subst (λ old. Stands g.K.PartialEq.eq old (ask.ready c.args.spot.stamp c.args.value.value) (outcome_of_ready c.store.result) (cache_with c.self.inside.capacity c.self.inside.most_pins c.self.inside.next c.store.new.self)) (ap (λ x. x.cache) c.self.view_is)
+    λ _. subst (λ old. Stands g.K.PartialEq.eq old (ask.ready c.args.spot.now.stamp c.args.value.value) (outcome_of_ready c.store.result) (cache_with c.self.inside.capacity c.self.inside.most_pins c.self.inside.next c.store.new.self)) (ap (λ x. x.cache) c.self.view_is)
     (stored_stands g.K.PartialEq.eq c.self.inside.capacity c.self.inside.most_pins c.self.inside.next c.self.inside.table c.store.new.self _ _ _ c.in-Some.ensures c.self.invariant.lawful c.store.result stored.ok stored.err)
 
 pub returns-clause-lawful : goal.returns-clause-lawful

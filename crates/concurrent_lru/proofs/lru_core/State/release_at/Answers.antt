@@ -11,13 +11,13 @@ use Rattle.concurrent_lru.proofs.lru_core.State.release_at.Goals as goal
 use Rattle.concurrent_lru.proofs.lru_core.State.release_at.Goals.{After-none, After-settle, After-one}
 
 pub returns-in_default-clause-step : goal.returns-in_default-clause-step
-returns-in_default-clause-step g c = (λ h v holds. c.in_default.ensures h.key h.charge (inr (h, ap (λ k. held_at k.cache c.args.spot.stamp) c.self.view_is ∙ holds.at, refl, refl)), refl)
+returns-in_default-clause-step g c = (λ h v holds. c.in_default.ensures h.key h.charge (inr (h, ap (λ k. held_at k.cache c.args.spot.now.stamp) c.self.view_is ∙ holds.at, refl, refl)), refl)
 
 pub returns-in_default-phase : goal.returns-in_default-phase
 returns-in_default-phase g c = record {
   step = (
     λ h v holds.
-        let node = held_is c.node-node.ensures.entry c.self.invariant.lawful c.args.spot.stamp h c.in-Some.ensures (ap (λ k. held_at k.cache c.args.spot.stamp) c.self.view_is ∙ holds.at) in
+        let node = held_is c.node-node.ensures.entry c.self.invariant.lawful c.args.spot.now.stamp h c.in-Some.ensures (ap (λ k. held_at k.cache c.args.spot.now.stamp) c.self.view_is ∙ holds.at) in
         let r = phase_ready _ v (ap (λ x. x.phase) (sym node.1) ∙ holds.phase) in
         c.in_default-phase.not-Ready r.0 r.1,
     refl,
@@ -28,15 +28,15 @@ returns-in_default-phase g c = record {
 
 pub returns-then-pins-eq0-clause-step : goal.returns-then-pins-eq0-clause-step
 returns-then-pins-eq0-clause-step g c = (
-  λ h v holds. (held_is c.node-node.ensures.entry c.self.invariant.lawful c.args.spot.stamp h c.in-Some.ensures (ap (λ k. held_at k.cache c.args.spot.stamp) c.self.view_is ∙ holds.at)).0 c.if-pins-eq0.true,
+  λ h v holds. (held_is c.node-node.ensures.entry c.self.invariant.lawful c.args.spot.now.stamp h c.in-Some.ensures (ap (λ k. held_at k.cache c.args.spot.now.stamp) c.self.view_is ∙ holds.at)).0 c.if-pins-eq0.true,
   refl,
 )
 
 pub hold-requires-clause-held : goal.hold-requires-clause-held
 hold-requires-clause-held g c = held_place c.node-node.ensures.entry c.if-pins-eq0.false
 
-unpinned : (g : _) (c : After-none g) → Leaves g.K.PartialEq.eq (cache_with c.self.inside.capacity c.self.inside.most_pins c.self.inside.next c.self.inside.table) c.args.spot.stamp (ready c.in-Ready.field-0.value) (ready c.in-Ready.field-0.value) [] (cache_with c.self.inside.capacity c.self.inside.most_pins c.self.inside.next c.hold.new.self)
-unpinned g c = leaves_as_it_is g.K.PartialEq.eq c.self.inside.capacity c.self.inside.most_pins c.self.inside.next c.node-node.ensures.entry c.hold.new.self c.args.spot.stamp (ready c.in-Ready.field-0.value) c.in-Some.ensures c.if-pins-gt1.true (ap phase_of c.in-Ready.is) c.hold.ensures
+unpinned : (g : _) (c : After-none g) → Leaves g.K.PartialEq.eq (cache_with c.self.inside.capacity c.self.inside.most_pins c.self.inside.next c.self.inside.table) c.args.spot.now.stamp (ready c.in-Ready.field-0.value) (ready c.in-Ready.field-0.value) [] (cache_with c.self.inside.capacity c.self.inside.most_pins c.self.inside.next c.hold.new.self)
+unpinned g c = leaves_as_it_is g.K.PartialEq.eq c.self.inside.capacity c.self.inside.most_pins c.self.inside.next c.node-node.ensures.entry c.hold.new.self c.args.spot.now.stamp (ready c.in-Ready.field-0.value) c.in-Some.ensures c.if-pins-gt1.true (ap phase_of c.in-Ready.is) c.hold.ensures
 
 pub invariant_of-self : goal.invariant_of-self
 invariant_of-self g c = record { lawful = leaves_lawful _ _ _ _ _ _ _ c.self.invariant.lawful (unpinned g c); pins_above = c.self.invariant.pins_above }
@@ -45,8 +45,8 @@ pub returns-then-pins-gt1-clause-step : goal.returns-then-pins-gt1-clause-step
 returns-then-pins-gt1-clause-step g c =
     let v = c.in-Ready.field-0.value in
     let new = cache_with c.self.inside.capacity c.self.inside.most_pins c.self.inside.next c.hold.new.self in
-    let step : Leaves g.K.PartialEq.eq c.args.self.now.cache c.args.spot.stamp (ready v) (ready v) [] new = subst (λ old. Leaves g.K.PartialEq.eq old c.args.spot.stamp (ready v) (ready v) [] new) (ap (λ x. x.cache) c.self.view_is) (unpinned g c) in
-    inl (v, subst (λ out. Leaves g.K.PartialEq.eq c.args.self.now.cache c.args.spot.stamp (ready v) (ready v) out new) (sym c.none.ensures) step)
+    let step : Leaves g.K.PartialEq.eq c.args.self.now.cache c.args.spot.now.stamp (ready v) (ready v) [] new = subst (λ old. Leaves g.K.PartialEq.eq old c.args.spot.now.stamp (ready v) (ready v) [] new) (ap (λ x. x.cache) c.self.view_is) (unpinned g c) in
+    inl (v, subst (λ out. Leaves g.K.PartialEq.eq c.args.self.now.cache c.args.spot.now.stamp (ready v) (ready v) out new) (sym c.none.ensures) step)
 
 pub returns-then-pins-gt1-clause-lawful : goal.returns-then-pins-gt1-clause-lawful
 returns-then-pins-gt1-clause-lawful g c = leaves_lawful _ _ _ _ _ _ _ c.self.invariant.lawful (unpinned g c)
@@ -57,32 +57,32 @@ rest-requires g c = ready_place c.node-node.ensures.entry c.in-Ready.field-0.val
 one : (n : ℕ) → (n ≡ 0 → ⊥) → (1 < n → ⊥) → n ≡ 1
 one n some few = omega arith
 
-ended : (g : _) (c : After-one g) → Ends g.K.PartialEq.eq (cache_with c.self.inside.capacity c.self.inside.most_pins c.self.inside.next c.self.inside.table) c.args.spot.stamp c.one.result (cache_with c.self.inside.capacity c.self.inside.most_pins c.self.inside.next c.take_held.new.self)
+ended : (g : _) (c : After-one g) → Ends g.K.PartialEq.eq (cache_with c.self.inside.capacity c.self.inside.most_pins c.self.inside.next c.self.inside.table) c.args.spot.now.stamp c.one.result (cache_with c.self.inside.capacity c.self.inside.most_pins c.self.inside.next c.take_held.new.self)
 ended g c =
     let few = c.if-pins-gt1.false in
-    ends g.K.PartialEq.eq c.self.inside.capacity c.self.inside.most_pins c.self.inside.next c.node-node.ensures.entry c.take_held.new.self c.args.spot.stamp c.in-Ready.field-0.value (entry_of c.take_held.result.value) c.one.result c.in-Some.ensures
+    ends g.K.PartialEq.eq c.self.inside.capacity c.self.inside.most_pins c.self.inside.next c.node-node.ensures.entry c.take_held.new.self c.args.spot.now.stamp c.in-Ready.field-0.value (entry_of c.take_held.result.value) c.one.result c.in-Some.ensures
     (ap phase_of c.in-Ready.is) c.if-detached.true (one (entry_of c.node-node.result.now).pins c.if-pins-eq0.false (λ many. omega (arith, many, few))) c.take_held.ensures.at c.take_held.ensures.entry c.take_held.ensures.idle c.take_held.ensures.held c.one.ensures
 
 pub invariant_of-self-then-detached : goal.invariant_of-self-then-detached
 invariant_of-self-then-detached g c = record { lawful = ends_lawful _ _ _ _ _ c.self.invariant.lawful (ended g c); pins_above = c.self.invariant.pins_above }
 
 pub returns-then-detached-clause-step : goal.returns-then-detached-clause-step
-returns-then-detached-clause-step g c = inr (inr (subst (λ old. Ends g.K.PartialEq.eq old c.args.spot.stamp c.one.result (cache_with c.self.inside.capacity c.self.inside.most_pins c.self.inside.next c.take_held.new.self)) (ap (λ x. x.cache) c.self.view_is) (ended g c)))
+returns-then-detached-clause-step g c = inr (inr (subst (λ old. Ends g.K.PartialEq.eq old c.args.spot.now.stamp c.one.result (cache_with c.self.inside.capacity c.self.inside.most_pins c.self.inside.next c.take_held.new.self)) (ap (λ x. x.cache) c.self.view_is) (ended g c)))
 
 pub returns-then-detached-clause-lawful : goal.returns-then-detached-clause-lawful
 returns-then-detached-clause-lawful g c = ends_lawful _ _ _ _ _ c.self.invariant.lawful (ended g c)
 
-rested : (g : _) (c : After-settle g) → Rests g.K.PartialEq.eq (cache_with c.self.inside.capacity c.self.inside.most_pins c.self.inside.next c.self.inside.table) c.args.spot.stamp c.settle.result (cache_with c.self.inside.capacity c.self.inside.most_pins c.self.inside.next c.settle.new.self)
+rested : (g : _) (c : After-settle g) → Rests g.K.PartialEq.eq (cache_with c.self.inside.capacity c.self.inside.most_pins c.self.inside.next c.self.inside.table) c.args.spot.now.stamp c.settle.result (cache_with c.self.inside.capacity c.self.inside.most_pins c.self.inside.next c.settle.new.self)
 rested g c =
     let few = c.if-pins-gt1.false in
-    rests g.K.PartialEq.eq c.self.inside.capacity c.self.inside.most_pins c.self.inside.next c.node-node.ensures.entry c.rest.new.self c.settle.new.self c.args.spot.stamp c.settle.result c.in-Some.ensures
+    rests g.K.PartialEq.eq c.self.inside.capacity c.self.inside.most_pins c.self.inside.next c.node-node.ensures.entry c.rest.new.self c.settle.new.self c.args.spot.now.stamp c.settle.result c.in-Some.ensures
     (one (entry_of c.node-node.result.now).pins c.if-pins-eq0.false (λ many. omega (arith, many, few))) c.rest.ensures c.settle.ensures.held c.settle.ensures.front
 
 pub invariant_of-self-2 : goal.invariant_of-self-2
 invariant_of-self-2 g c = record { lawful = rests_lawful _ _ _ _ _ c.self.invariant.lawful (rested g c); pins_above = c.self.invariant.pins_above }
 
 pub returns-clause-step : goal.returns-clause-step
-returns-clause-step g c = inr (inl (subst (λ old. Rests g.K.PartialEq.eq old c.args.spot.stamp c.settle.result (cache_with c.self.inside.capacity c.self.inside.most_pins c.self.inside.next c.settle.new.self)) (ap (λ x. x.cache) c.self.view_is) (rested g c)))
+returns-clause-step g c = inr (inl (subst (λ old. Rests g.K.PartialEq.eq old c.args.spot.now.stamp c.settle.result (cache_with c.self.inside.capacity c.self.inside.most_pins c.self.inside.next c.settle.new.self)) (ap (λ x. x.cache) c.self.view_is) (rested g c)))
 
 pub returns-clause-lawful : goal.returns-clause-lawful
 returns-clause-lawful g c = rests_lawful _ _ _ _ _ c.self.invariant.lawful (rested g c)

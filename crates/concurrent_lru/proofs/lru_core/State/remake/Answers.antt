@@ -94,14 +94,14 @@ over_held g c =
     let some = pinned (entry_of c.node-node.result.now).pins c.if-pins-gt0.true in
     let equal = key_is c.node-node.ensures.entry c.self.invariant.lawful c.args.key.now c.in-Some.ensures in
     let found = found_is c.node-node.ensures.entry c.self.invariant.lawful c.args.key.now c.in-Some.ensures some in
-    steps.remakes_held g.K.PartialEq.eq g.met.K.Eq.laws c.self.inside.capacity c.self.inside.most_pins c.self.inside.next c.node-node.ensures.entry c.self.invariant.lawful c.args.key.now c.args.charge equal some found c.add_over_held-new.new.self c.settle-evicted.new.self c.settle-evicted.result c.in_ok-new.ensures.ok (fits_beside (charges_of c.self.inside.table) c.total.result c.args.charge c.self.invariant.lawful.sum_fits c.total.ensures c.if-charge-total.false) (below_end c.self.inside.next (omega arith) c.if-stamp.false) c.settle-evicted.ensures.held c.settle-evicted.ensures.front c.in_ok-new.new
+    steps.remakes_held g.K.PartialEq.eq g.met.K.Eq.laws c.self.inside.capacity c.self.inside.most_pins c.self.inside.next c.node-node.ensures.entry c.self.invariant.lawful c.args.key.now c.args.charge equal some found c.add_over_held.new.self c.settle-evicted.new.self c.settle-evicted.result c.in_ok-new.ensures.ok (fits_beside (charges_of c.self.inside.table) c.total.result c.args.charge c.self.invariant.lawful.sum_fits c.total.ensures c.if-charge-total.false) (below_end c.self.inside.next (omega arith) c.if-stamp.false) c.settle-evicted.ensures.held c.settle-evicted.ensures.front c.in_ok-new.new
 
 over_held_lawful : (g : _) (c : After-none-then-pins-gt0 g) → IsLawful g.K.PartialEq.eq (cache_with c.self.inside.capacity c.self.inside.most_pins (c.self.inside.next + 1) c.settle-evicted.new.self)
 over_held_lawful g c =
     let some = pinned (entry_of c.node-node.result.now).pins c.if-pins-gt0.true in
     let equal = key_is c.node-node.ensures.entry c.self.invariant.lawful c.args.key.now c.in-Some.ensures in
     let found = found_is c.node-node.ensures.entry c.self.invariant.lawful c.args.key.now c.in-Some.ensures some in
-    steps.held_lawful g.K.PartialEq.eq g.met.K.Eq.laws c.self.inside.capacity c.self.inside.most_pins c.self.inside.next c.node-node.ensures.entry c.self.invariant.lawful c.args.key.now c.args.charge equal some found c.add_over_held-new.new.self c.settle-evicted.new.self c.settle-evicted.result c.in_ok-new.ensures.ok (fits_beside (charges_of c.self.inside.table) c.total.result c.args.charge c.self.invariant.lawful.sum_fits c.total.ensures c.if-charge-total.false) (below_end c.self.inside.next (omega arith) c.if-stamp.false) c.settle-evicted.ensures.held c.settle-evicted.ensures.front c.requires c.self.invariant.pins_above
+    steps.held_lawful g.K.PartialEq.eq g.met.K.Eq.laws c.self.inside.capacity c.self.inside.most_pins c.self.inside.next c.node-node.ensures.entry c.self.invariant.lawful c.args.key.now c.args.charge equal some found c.add_over_held.new.self c.settle-evicted.new.self c.settle-evicted.result c.in_ok-new.ensures.ok (fits_beside (charges_of c.self.inside.table) c.total.result c.args.charge c.self.invariant.lawful.sum_fits c.total.ensures c.if-charge-total.false) (below_end c.self.inside.next (omega arith) c.if-stamp.false) c.settle-evicted.ensures.held c.settle-evicted.ensures.front c.requires c.self.invariant.pins_above
 
 pub invariant_of-self-then-pins-gt0 : goal.invariant_of-self-then-pins-gt0
 invariant_of-self-then-pins-gt0 g c = record { lawful = over_held_lawful g c; pins_above = c.self.invariant.pins_above }
