@@ -6,11 +6,12 @@ use crate::mostly::{Asked, ByInit, ByRead, HitRatio, ask_all, read_mostly};
 use crate::parts::{Parts, PartsInShards};
 use crate::plan::{Mostly, Plan, Shown};
 use crate::report::{Report, Work};
-use crate::stress::{KEYS, stress};
+use crate::stress::{Keyed, stress};
 use crate::uses::{
     fill, hit_get, hit_init, hit_parts, hit_read, look_up, map_of, miss_evict, miss_parts,
 };
 use concurrent_lru::{sharded, unsharded};
+use lru_stress::plan::KEYS;
 use std::alloc::Global;
 use std::hash::RandomState;
 use std::io::Write;
@@ -53,10 +54,10 @@ pub fn run<R: Threads + Wait + Clock + RandomSource + Sync, O: Write>(
         use_parts(rt, alloc, *entries, plan.operations, &mut report)?;
         use_alone(rt, alloc, *entries, plan.operations, &mut report)?;
     }
-    for threads in [1, 2, 4, 8] {
-        stress_parts(rt, rt, alloc, threads, plan.calls, &mut report)?;
-        stress_lock(rt, rt, alloc, threads, plan.calls, &mut report)?;
-        stress_shards(rt, rt, alloc, threads, plan.calls, &mut report)?;
+    for workers in [1, 2, 4, 8] {
+        stress_parts(rt, rt, alloc, workers, plan.calls, &mut report)?;
+        stress_lock(rt, rt, alloc, workers, plan.calls, &mut report)?;
+        stress_shards(rt, rt, alloc, workers, plan.calls, &mut report)?;
     }
     Ok(())
 }
@@ -126,24 +127,29 @@ fn use_alone<R: Wait + Clock, O: Write>(
     report.end(&work("miss_evict"), begin, sum)
 }
 
+// The stress workload on this cache of this capacity.
+fn stressed(system: &'static str, capacity: u64, workers: u16, calls: u32) -> Work {
+    Work::new(system, "stress", capacity, u32::from(workers), calls)
+}
+
 // The parts of the cache under the calls of the stress workload, each of a present key.
 fn stress_parts<R: Threads + Wait + Clock + Sync, W: Wait + Clone + Drop + Sync, O: Write>(
     rt: &R,
     wait: W,
     alloc: Global,
-    threads: u32,
+    workers: u16,
     calls: u32,
     report: &mut Report<'_, R, O>,
 ) -> Result<(), Failure> {
     let shards = PartsInShards::filled(alloc, &wait, KEYS)?;
     let parts = Parts::filled(alloc, wait, KEYS)?;
     let begin = report.start()?;
-    let sum = stress(rt, &parts, threads, calls)?;
-    let work = Work::new(PARTS_ON_ONE_LOCK, "stress", LOCK_CAPACITY, threads, calls);
+    let sum = stress(rt, alloc, &parts, workers, calls)?;
+    let work = stressed(PARTS_ON_ONE_LOCK, LOCK_CAPACITY, workers, calls);
     report.end(&work, begin, sum)?;
     let begin = report.start()?;
-    let sum = stress(rt, &shards, threads, calls)?;
-    let work = Work::new(PARTS_IN_SHARDS, "stress", SHARDS_CAPACITY, threads, calls);
+    let sum = stress(rt, alloc, &shards, workers, calls)?;
+    let work = stressed(PARTS_IN_SHARDS, SHARDS_CAPACITY, workers, calls);
     report.end(&work, begin, sum)
 }
 
@@ -151,7 +157,7 @@ fn stress_lock<R: Threads + Wait + Clock + Sync, W: Wait + Drop + Sync, O: Write
     rt: &R,
     wait: W,
     alloc: Global,
-    threads: u32,
+    workers: u16,
     calls: u32,
     report: &mut Report<'_, R, O>,
 ) -> Result<(), Failure> {
@@ -160,9 +166,10 @@ fn stress_lock<R: Threads + Wait + Clock + Sync, W: Wait + Drop + Sync, O: Write
         wait,
         LOCK_CAPACITY,
     );
+    let asked = Keyed { cache: &cache };
     let begin = report.start()?;
-    let sum = stress(rt, &&cache, threads, calls)?;
-    let work = Work::new(ON_ONE_LOCK, "stress", LOCK_CAPACITY, threads, calls);
+    let sum = stress(rt, alloc, &asked, workers, calls)?;
+    let work = stressed(ON_ONE_LOCK, LOCK_CAPACITY, workers, calls);
     report.end(&work, begin, sum)
 }
 
@@ -174,7 +181,7 @@ fn stress_shards<
     rt: &R,
     wait: W,
     alloc: Global,
-    threads: u32,
+    workers: u16,
     calls: u32,
     report: &mut Report<'_, R, O>,
 ) -> Result<(), Failure> {
@@ -184,9 +191,10 @@ fn stress_shards<
         SHARDS_CAPACITY,
         RandomState::new(rt)?,
     )?;
+    let asked = Keyed { cache: &cache };
     let begin = report.start()?;
-    let sum = stress(rt, &&cache, threads, calls)?;
-    let work = Work::new(IN_SHARDS, "stress", SHARDS_CAPACITY, threads, calls);
+    let sum = stress(rt, alloc, &asked, workers, calls)?;
+    let work = stressed(IN_SHARDS, SHARDS_CAPACITY, workers, calls);
     report.end(&work, begin, sum)
 }
 

@@ -3,6 +3,7 @@
 
 use crate::plan::MOST_ENTRIES;
 use concurrent_lru::lru_core::Refusal;
+use lru_stress::outcome::Trouble;
 use std::alloc::{AllocError, AllocFailed};
 use std::io;
 use std::io::{ErrorKind, Write};
@@ -18,6 +19,8 @@ pub enum Failure {
     Refused(Refusal),
     /// The file of keys has none, or its last is cut off.
     Keys,
+    /// A call of the stress workload got no value, or that of another key.
+    Answers,
     /// A file could not be read, a write failed, or the clock or the system's random numbers did.
     System,
 }
@@ -46,6 +49,7 @@ impl Failure {
             ),
             Failure::Refused(refusal) => writeln!(err, "refused {}", refusal.code()),
             Failure::Keys => writeln!(err, "the file has no keys of four bytes"),
+            Failure::Answers => writeln!(err, "stress failed"),
             Failure::System => {
                 writeln!(err, "a file, a write, the clock or random numbers failed")
             }
@@ -60,6 +64,15 @@ impl Failure {
 impl From<Refusal> for Failure {
     fn from(refusal: Refusal) -> Failure {
         Failure::Refused(refusal)
+    }
+}
+
+impl From<Trouble> for Failure {
+    fn from(trouble: Trouble) -> Failure {
+        match trouble {
+            Trouble::Refused => Failure::Refused(Refusal::Memory),
+            Trouble::Failed(_) => Failure::Answers,
+        }
     }
 }
 

@@ -11,7 +11,6 @@ mod parts;
 mod plan;
 mod program;
 mod report;
-mod shared;
 mod stress;
 mod uses;
 

@@ -3,9 +3,7 @@
 
 use crate::draws::Draws;
 use concurrent_lru::lru_core::Refusal;
-use concurrent_lru::{sharded, unsharded};
 use lru_support::cached::Cached;
-use std::hash::BuildHasher;
 use std::sync::Wait;
 use std::sync::atomic::{AtomicU64, Ordering};
 use std::thread::Threads;
@@ -45,9 +43,9 @@ pub struct ByRead<C> {
     pub cache: C,
 }
 
-impl<C: Cached<u64> + Reads> Asked for ByRead<C> {
+impl<C: Cached<u64>> Asked for ByRead<C> {
     fn ask(&self, key: u64) -> Result<Found, Refusal> {
-        match self.cache.read_value(key)? {
+        match self.cache.seen(key, |value| *value)? {
             Some(value) => Ok(Found { value, hit: true }),
             None => make(self.cache, key),
         }
@@ -62,24 +60,6 @@ fn make<C: Cached<u64>>(cache: C, key: u64) -> Result<Found, Refusal> {
     })?;
     let value = *C::value_of(&handle);
     Ok(Found { value, hit: !made })
-}
-
-/// `read` of values that are numbers.
-pub trait Reads {
-    /// The value of a key, where it is ready.
-    fn read_value(&self, key: u64) -> Result<Option<u64>, Refusal>;
-}
-
-impl<R: Wait> Reads for &unsharded::LruCache<u64, u64, R> {
-    fn read_value(&self, key: u64) -> Result<Option<u64>, Refusal> {
-        self.read(&key, |value| *value)
-    }
-}
-
-impl<R: Wait, S: BuildHasher> Reads for &sharded::LruCache<u64, u64, R, S> {
-    fn read_value(&self, key: u64) -> Result<Option<u64>, Refusal> {
-        self.read(&key, |value| *value)
-    }
 }
 
 /// What came of a run: the sum of the values, which no schedule changes, and how many were there.

@@ -1,8 +1,8 @@
 //! The parts that the cache is made of, with no rule of a cache: a lock, a map from keys to places,
 //! a slab of boxed values. What these take alone is what no body of the cache does without.
 
-use crate::shared::Shared;
 use concurrent_lru::lru_core::Refusal;
+use lru_stress::workers::{Answer, Shared, Unmade};
 use lru_support::calls::Call;
 use slab::Slab;
 use std::alloc::Global;
@@ -145,9 +145,18 @@ impl<R: Wait + Drop> Parts<R> {
     }
 }
 
+// What a look answers a worker of the stress workload, each of whose keys is there.
+fn answer(found: Result<Option<u64>, Refusal>) -> Result<Answer, Unmade> {
+    match found {
+        Ok(Some(key)) => Ok(Answer::of_key(key)),
+        Ok(None) => Err(Unmade::Failed),
+        Err(refusal) => Err(Unmade::Refused(refusal)),
+    }
+}
+
 impl<R: Wait + Drop> Shared for Parts<R> {
-    fn fetch(&self, call: &Call) -> Result<Option<u64>, Refusal> {
-        self.hit(call.key)
+    fn fetch(&self, call: &Call) -> Result<Answer, Unmade> {
+        answer(self.hit(call.key))
     }
 }
 
@@ -182,10 +191,10 @@ impl<R: Wait + Drop> PartsInShards<R> {
 }
 
 impl<R: Wait + Drop> Shared for PartsInShards<R> {
-    fn fetch(&self, call: &Call) -> Result<Option<u64>, Refusal> {
+    fn fetch(&self, call: &Call) -> Result<Answer, Unmade> {
         match self.shard(call.key) {
-            Some(shard) => shard.hit(call.key),
-            None => Ok(None),
+            Some(shard) => shard.fetch(call),
+            None => Err(Unmade::Failed),
         }
     }
 }

@@ -23,8 +23,10 @@ use std::thread::Threads;
 /// refused by a line on `err`, before anything is run: status 2. `mostly`, with the path of a file
 /// of keys, does so for the workload of reads that mostly hit, on that file's keys, and writes each
 /// hit ratio to `err`. Any other words write the usage line to `err`: status 2. Where a call is
-/// refused, `refused` and the refusal's number go to `err`, and the status is 1. Where the system
-/// fails, as at a write, a line says so on `err`, and the status is 1.
+/// refused, `refused` and the refusal's number go to `err`, and the status is 1. Where a call of
+/// the stress workload gets no value, or that of another key, `stress failed` goes to `err`, and
+/// the status is 1. Where the system fails, as at a write, a line says so on `err`, and the status
+/// is 1.
 pub fn program<R: Threads + Wait + Clock + RandomSource + Files + Sync, O: Write, E: Write>(
     rt: &R,
     alloc: Global,

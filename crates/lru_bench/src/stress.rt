@@ -1,68 +1,70 @@
-//! The stress workload: workers that share a cache, each with calls of its own.
+//! The stress workload on caches whose values are their keys.
+ghost use Rattle.std.specs.Prelude.{◌<◌};
 
-use crate::shared::Shared;
 use concurrent_lru::lru_core::Refusal;
-use lru_support::calls::Calls;
-use std::sync::Wait;
-use std::sync::atomic::{AtomicU64, Ordering};
-use std::thread;
+use concurrent_lru::unsharded::GetError;
+use lru_stress::outcome::Trouble;
+use lru_stress::plan::Plan;
+use lru_stress::workers::{Answer, Shared, Unmade, share};
+use lru_support::cached::Cached;
+use lru_support::calls::Call;
+use std::alloc::Global;
 use std::thread::Threads;
 
 // From which all calls are drawn.
 const SEED: u64 = 1;
 
-/// How many keys there are.
-pub const KEYS: u64 = 100;
+/// A reference to a cache of one lock or in shards. The value of a key is the key.
+#[derive(Drop)]
+pub struct Keyed<C> {
+    /// The reference.
+    pub cache: C,
+}
 
-/// Makes `calls` calls in each of some threads, and answers the sum of what was read by the calls
-/// whose making would not fail. It is the same on every schedule.
-///
-/// `Memory` where a thread could not be started, or a call was refused.
-pub fn stress<R: Threads + Wait + Sync, C: Shared + Sync>(
-    rt: &R,
-    cache: &C,
-    threads: u32,
-    calls: u32,
-) -> Result<u64, Refusal> {
-    let (sum, ended) = (AtomicU64::new(0), AtomicU64::new(0));
-    let (all, done) = (&sum, &ended);
-    thread::scope(thread::scope_env(), rt, |scope| {
-        for worker in 0..threads {
-            let _started = scope.spawn(move || {
-                if let Ok(read) = work(cache, worker, calls) {
-                    all.fetch_add(read, Ordering::SeqCst);
-                    done.fetch_add(1, Ordering::SeqCst);
-                }
-            });
+impl<C: Cached<u64>> Shared for Keyed<C> {
+    fn fetch(&self, call: &Call) -> Result<Answer, Unmade> {
+        match self.cache.tried(call.key, call.charge, |_| make(call)) {
+            Ok(handle) => Ok(Answer::of_key(*C::value_of(&handle))),
+            Err(GetError::Init(unmade)) => Err(unmade),
+            Err(GetError::Memory) => Err(Unmade::Refused(Refusal::Memory)),
+            Err(GetError::Overflow) => Err(Unmade::Refused(Refusal::Overflow)),
         }
-    });
-    if ended.load(Ordering::SeqCst) == u64::from(threads) {
-        Ok(sum.load(Ordering::SeqCst))
-    } else {
-        Err(Refusal::Memory)
     }
 }
 
-// One worker's calls, and the sum of what it read. Where a making would fail, whether a value is
-// read depends on the others, so it is not counted.
-fn work<C: Shared>(cache: &C, worker: u32, calls: u32) -> Result<u64, Refusal> {
-    let mut drawn = Calls::of_worker(SEED, u64::from(worker));
-    let mut sum: u64 = 0;
-    for _ in 0..calls {
-        let call = drawn.draw(KEYS);
-        let read = cache.fetch(&call)?;
-        if let Some(value) = read
-            && !call.fails
-        {
-            sum = sum.wrapping_add(value);
-        }
+// What `init` answers: the key, or that it fails.
+fn make(call: &Call) -> Result<u64, Unmade> {
+    if call.fails {
+        Err(Unmade::Failed)
+    } else {
+        Ok(call.key)
     }
-    Ok(sum)
+}
+
+/// Has each of some workers make `calls` calls, one after another with no rest, and answers the sum
+/// of what was read by the calls whose making would not fail. It is the same on every schedule.
+///
+/// `Refused` where a thread could not be started, or memory was refused to a call; else `Failed`
+/// where a call was not answered as it should be.
+pub fn stress<R: Threads + Sync, C: Shared + Sync>(
+    rt: &R,
+    alloc: Global,
+    cache: &C,
+    workers: u16,
+    calls: u32,
+) -> Result<u64, Trouble> {
+    let mut plan = Plan::new(SEED);
+    plan.workers = workers;
+    plan.calls = calls;
+    plan.rests = false;
+    Ok(share(rt, alloc, &plan, cache)?.sum)
 }
 
 #[cfg(test)]
 mod tests {
-    use super::*;
+    use super::SEED;
+    use lru_stress::plan::KEYS;
+    use lru_support::calls::Calls;
 
     // The first calls of the workers 0 and 2, as Rust's generator draws them.
     const DRAWN: [(u64, [(u64, u64, bool); 4]); 2] = [

@@ -1,4 +1,5 @@
 //! Long runs of calls that seeds decide, each answered as a plain cache answers it.
+ghost use Rattle.std.specs.Prelude.{◌<◌};
 
 use crate::both::Both;
 use crate::plain::KEYS;
@@ -6,17 +7,25 @@ use lru_fixtures::tables::Call;
 use rand_core::{Rng, SeedableRng};
 use rand_xoshiro::Xoshiro256PlusPlus;
 use std::alloc::Global;
+use std::process::Abort;
 
+// How many kinds of calls are drawn: all of them, or the first ones alone, in which no key is taken
+// back, no value put in or read without a pin, and the capacity stays.
 const KINDS: u64 = 14;
 
-// The next call, whose stamp is among the last that were given out: `next` is the one after them.
-fn draw(generator: &mut Xoshiro256PlusPlus, next: u64) -> Call {
+const FIRST_KINDS: u64 = 9;
+
+// The next call of one of so many kinds, whose stamp is among the last that were given out: `next`
+// is the one after them.
+fn draw(generator: &mut Xoshiro256PlusPlus, kinds: u64, next: u64) -> Call
+    requires { 0 < kinds }
+{
     let a = generator.next_u64();
     let b = generator.next_u64();
     let c = generator.next_u64();
     let key = b % KEYS as u64;
     let stamp = next.saturating_sub(1 + c % 16);
-    match a % KINDS {
+    match a % kinds {
         0 => Call::Begin(key, 1 + c % 4),
         1 => Call::Poll(stamp),
         2 => Call::Ready(stamp, b),
@@ -39,17 +48,29 @@ fn both_of_ten(alloc: Global) -> Both {
     Both::with_limits(alloc, 10, 0, 3)
 }
 
+// Makes 2,000 calls of so many kinds from each seed.
+fn answer_alike(rt: &impl Abort, alloc: Global, kinds: u64)
+    requires { 0 < kinds }
+{
+    for seed in 1..=20u64 {
+        let mut both = both_of_ten(alloc);
+        let mut generator = Xoshiro256PlusPlus::seed_from_u64(seed);
+        for number in 0..2_000u32 {
+            let call = draw(&mut generator, kinds, both.plain.next);
+            both.take(rt, &("seed", seed, "call", number), call);
+        }
+    }
+}
+
 // Few pins are ever given back here, so entries are full of pins more often than they are idle.
 #[test]
 fn answers_as_a_plain_cache_does(rt: HostRuntime) {
-    for seed in 1..=20u64 {
-        let mut both = both_of_ten(rt.alloc());
-        let mut generator = Xoshiro256PlusPlus::seed_from_u64(seed);
-        for number in 0..2_000u32 {
-            let call = draw(&mut generator, both.plain.next);
-            both.take(&rt, &("seed", seed, "call", number), call);
-        }
-    }
+    answer_alike(&rt, rt.alloc(), KINDS);
+}
+
+#[test]
+fn answers_alike_to_the_first_kinds(rt: HostRuntime) {
+    answer_alike(&rt, rt.alloc(), FIRST_KINDS);
 }
 
 // With three pins held, the oldest is given back, so that there are idle entries to choose from.
@@ -60,7 +81,7 @@ fn answers_alike_where_pins_are_given_back(rt: HostRuntime) {
         let mut generator = Xoshiro256PlusPlus::seed_from_u64(seed);
         let mut held = [None, None];
         for number in 0..2_000u32 {
-            let call = draw(&mut generator, both.plain.next);
+            let call = draw(&mut generator, KINDS, both.plain.next);
             both.take(&rt, &("seed", seed, "call", number), call);
             let Some(pinned) = both.plain.pinned else {
                 continue;

@@ -6,9 +6,11 @@ use crate::gates::{Cause, evict_with};
 use crate::threaded::make_value;
 use lru_support::cached::Cached;
 use lru_support::flags::{is_raised, meets, raise};
-use std::alloc::AllocError;
-use std::sync::Arc;
+use std::alloc::{AllocError, Global};
 use std::sync::atomic::{AtomicU64, Ordering};
+use std::sync::{Arc, Wait};
+use std::thread;
+use std::thread::Threads;
 
 /// How many values have errands. Their numbers, which are their keys too, go from 1.
 pub const VALUES: usize = 5;
@@ -78,7 +80,7 @@ impl Errands {
             .fetch_add(before.wrapping_add(1), Ordering::SeqCst);
     }
 
-    /// What came of a cause, with the totals that `evicts` answered; none where an errand was not
+    /// What came of a cause, with the totals that `evict` answered; none where an errand was not
     /// done, as where a value is dropped under the lock.
     pub fn outcome(&self, totals: (u128, u128)) -> Option<Outcome> {
         if is_raised(&self.missed) {
@@ -126,39 +128,61 @@ impl Drop for Sent {
     }
 }
 
-/// Waits for the errand of a value, and does it: gets the next value, evicts it by advice, and
-/// prunes.
-pub fn serve<C: Cached<Sent>>(cache: C, errands: &Errands, number: u64) {
-    let errand = errands.of(number);
-    if !meets(&errand.asked) || is_raised(&errands.closed) {
-        return;
+/// A cache whose values have errands. It has no associated type, since the checker covers no
+/// closure of a thread over one that has.
+pub trait Sends {
+    /// Waits for the errand of a value, and does it: gets the next value, evicts it by advice, and
+    /// prunes.
+    fn serve(&self, errands: &Errands, number: u64);
+
+    /// Makes the values 1 to 4 in an empty cache, evicts by this cause and then by a prune. Answers
+    /// the totals after both. Each value needs a thread that serves its errand.
+    fn evict(&self, errands: &Arc<Errands>, cause: Cause) -> (u128, u128);
+}
+
+impl<C: Cached<Sent>> Sends for C {
+    fn serve(&self, errands: &Errands, number: u64) {
+        let errand = errands.of(number);
+        if !meets(&errand.asked) || is_raised(&errands.closed) {
+            return;
+        }
+        let next = number.saturating_add(1);
+        if let Ok(Some(handle)) = self.found(next) {
+            errands.found.fetch_add(1, Ordering::SeqCst);
+            drop(handle);
+        }
+        self.advise(next);
+        self.clear();
+        raise(&errand.done);
     }
-    let next = number.saturating_add(1);
-    if let Ok(Some(handle)) = cache.found(next) {
-        errands.found.fetch_add(1, Ordering::SeqCst);
-        drop(handle);
+
+    fn evict(&self, errands: &Arc<Errands>, cause: Cause) -> (u128, u128) {
+        let kept = makes_four(*self, errands, cause);
+        let last = match cause {
+            Cause::Begin => Sent::new(VALUES as u64, errands).ok(),
+            _ => None,
+        };
+        evict_with(*self, cause, kept, last);
+        let before = self.total();
+        self.clear();
+        let after = self.total();
+        errands.close();
+        (before, after)
     }
-    cache.advise(next);
-    cache.clear();
-    raise(&errand.done);
 }
 
 // Makes a value, and answers its handle.
-fn makes<H: Drop, C: Cached<Sent, Handle = H>>(
-    cache: C,
-    errands: &Arc<Errands>,
-    number: u64,
-) -> Option<H> {
+fn makes<C: Cached<Sent>>(cache: C, errands: &Arc<Errands>, number: u64) -> Option<C::Handle> {
     let value = Sent::new(number, errands).ok()?;
     make_value(cache, number, 1, value, &mut None).ok()
 }
 
 // Makes the values 1 to 4, and keeps the first handle where its drop is to evict.
-fn makes_four<H: Drop, C: Cached<Sent, Handle = H>>(
+fn makes_four<C: Cached<Sent>>(
     cache: C,
     errands: &Arc<Errands>,
     cause: Cause,
-) -> Option<H> {
+) -> Option<C::Handle> {
     let mut kept = None;
     for number in 1..VALUES as u64 {
         let made = makes(cache, errands, number);
@@ -169,24 +193,23 @@ fn makes_four<H: Drop, C: Cached<Sent, Handle = H>>(
     kept
 }
 
-/// Makes the values 1 to 4 in an empty cache, evicts by this cause and then by a prune. Answers the
-/// totals after both. Each value needs a thread that serves its errand.
-pub fn evicts<H: Drop, C: Cached<Sent, Handle = H>>(
-    cache: C,
-    errands: &Arc<Errands>,
+/// What comes of a cause in an empty cache; none where an errand was not done, or where memory for
+/// the errands is refused.
+pub fn outcome_in<R: Threads + Wait + Sync, C: Sends + Sync>(
+    rt: &R,
+    alloc: Global,
+    cache: &C,
     cause: Cause,
-) -> (u128, u128) {
-    let kept = makes_four(cache, errands, cause);
-    let last = match cause {
-        Cause::Begin => Sent::new(VALUES as u64, errands).ok(),
-        _ => None,
-    };
-    evict_with(cache, cause, kept, last);
-    let before = cache.total();
-    cache.clear();
-    let after = cache.total();
-    errands.close();
-    (before, after)
+) -> Option<Outcome> {
+    let errands = Arc::new(alloc, Errands::new()).ok()?;
+    let served = &*errands;
+    let totals = thread::scope(thread::scope_env(), rt, |scope| {
+        for number in 1..=VALUES as u64 {
+            let _started = scope.spawn(move || cache.serve(served, number));
+        }
+        cache.evict(&errands, cause)
+    });
+    errands.outcome(totals)
 }
 
 /// What came of a cause.
@@ -199,4 +222,34 @@ pub struct Outcome {
     pub places: [u64; VALUES],
     /// How many errands found the next value in the cache.
     pub found: u64,
+}
+
+/// What evicts, the capacity that it needs, and what comes of it, where a prune and a smaller
+/// capacity have this outcome. Where the first value alone is evicted, its errand evicts the
+/// second, and so on, so the drops end last first.
+pub fn causes(cleared: Outcome) -> [(Cause, u64, Outcome); 6] {
+    let one_by_one = Outcome {
+        totals: (0, 0),
+        places: [4, 3, 2, 1, 0],
+        found: 3,
+    };
+    let begun = Outcome {
+        totals: (1, 0),
+        places: [4, 3, 2, 1, 5],
+        found: 3,
+    };
+    // Each is evicted as it is let go, the first one last.
+    let let_go = Outcome {
+        totals: (0, 0),
+        places: [4, 1, 2, 3, 0],
+        found: 0,
+    };
+    [
+        (Cause::Begin, 4, begun),
+        (Cause::Failure, 4, one_by_one),
+        (Cause::Advice, 4, one_by_one),
+        (Cause::Prune, 4, cleared),
+        (Cause::Capacity, 4, cleared),
+        (Cause::Release, 0, let_go),
+    ]
 }

@@ -5,9 +5,11 @@ ghost use Rattle.std.specs.Prelude.{◌<◌};
 use crate::threaded::{make_value, try_make_value};
 use lru_support::cached::Cached;
 use lru_support::flags::{is_raised, meets, raise};
-use std::alloc::AllocError;
+use std::alloc::{AllocError, Global};
 use std::sync::Arc;
 use std::sync::atomic::AtomicU64;
+use std::thread;
+use std::thread::Threads;
 
 /// Where the thread that drops a value and the one that wants the lock are.
 #[derive(Drop)]
@@ -27,9 +29,9 @@ impl Gate {
         }
     }
 
-    /// The total that the other thread was told while a value was dropped; none where it was told
-    /// none, or where the lock was not free then.
-    pub fn told(&self, total: Option<u128>) -> Option<u128> {
+    // The total that the other thread was told while a value was dropped; none where it was told
+    // none, or where the lock was not free then.
+    fn told(&self, total: Option<u128>) -> Option<u128> {
         if is_raised(&self.missed) {
             return None;
         }
@@ -85,43 +87,67 @@ pub enum Cause {
     Capacity,
 }
 
-/// Makes a value of key 1 with the charge 1 in a cache that keeps no other beside it. Answers its
-/// handle where the drop of that is to evict it, and else lets the handle go; none where the value
-/// could not be made.
-pub fn made_for<H: Drop, C: Cached<Slow, Handle = H>>(
-    cache: C,
-    gate: &Arc<Gate>,
-    cause: Cause,
-) -> Option<Option<H>> {
-    let value = Slow::at(gate).ok()?;
-    let mut ran = None;
-    let handle = make_value(cache, 1, 1, value, &mut ran).ok()?;
-    match cause {
-        Cause::Release => Some(Some(handle)),
-        _ => Some(None),
-    }
+/// What evicts a value, the capacity of its shard before, and the total while the value is dropped.
+pub const CAUSES: [(Cause, u64, u128); 7] = [
+    (Cause::Begin, 1, 1),
+    (Cause::Failure, 1, 1),
+    (Cause::Release, 0, 0),
+    (Cause::Advice, 1, 0),
+    (Cause::Invalidation, 1, 0),
+    (Cause::Prune, 1, 0),
+    (Cause::Capacity, 1, 0),
+];
+
+/// A cache whose values drop slowly. It has no associated type, since the checker covers no closure
+/// of a thread over one that has.
+pub trait Drops {
+    /// Makes a value of key 1 with the charge 1 in a cache that keeps no other beside it, and
+    /// evicts it. No value is dropped where it could not be made.
+    fn evict(&self, gate: &Arc<Gate>, cause: Cause);
+
+    /// The total while a value is dropped; none where no value was.
+    fn total_meanwhile(&self, gate: &Gate) -> Option<u128>;
 }
 
-/// Evicts the value of key 1.
-pub fn evict<H: Drop, C: Cached<Slow, Handle = H>>(
-    cache: C,
-    gate: &Arc<Gate>,
-    cause: Cause,
-    handle: Option<H>,
-) {
-    let value = match cause {
-        Cause::Begin => Slow::at(gate).ok(),
-        _ => None,
-    };
-    evict_with(cache, cause, handle, value);
+impl<C: Cached<Slow>> Drops for C {
+    fn evict(&self, gate: &Arc<Gate>, cause: Cause) {
+        let Ok(first) = Slow::at(gate) else {
+            return;
+        };
+        let mut ran = None;
+        let Ok(handle) = make_value(*self, 1, 1, first, &mut ran) else {
+            return;
+        };
+        let kept = match cause {
+            Cause::Release => Some(handle),
+            _ => {
+                drop(handle);
+                None
+            }
+        };
+        let second = match cause {
+            Cause::Begin => Slow::at(gate).ok(),
+            _ => None,
+        };
+        evict_with(*self, cause, kept, second);
+    }
+
+    fn total_meanwhile(&self, gate: &Gate) -> Option<u128> {
+        if !meets(&gate.dropping) {
+            return None;
+        }
+        let total = self.total();
+        raise(&gate.entered);
+        Some(total)
+    }
 }
 
 /// Evicts by this cause, which may need a handle to be let go, or a value for which room is made:
 /// its key is 5.
-pub fn evict_with<V: Drop, H: Drop, C: Cached<V, Handle = H>>(
+pub fn evict_with<V: Drop, C: Cached<V>>(
     cache: C,
     cause: Cause,
-    handle: Option<H>,
+    handle: Option<C::Handle>,
     value: Option<V>,
 ) {
     let mut ran = None;
@@ -140,12 +166,20 @@ pub fn evict_with<V: Drop, H: Drop, C: Cached<V, Handle = H>>(
     }
 }
 
-/// The total while a value is dropped; none where no value was.
-pub fn total_meanwhile<C: Cached<Slow>>(cache: C, gate: &Gate) -> Option<u128> {
-    if !meets(&gate.dropping) {
-        return None;
-    }
-    let total = cache.total();
-    raise(&gate.entered);
-    Some(total)
+/// The total while an empty cache drops a value that this cause evicts; none where it dropped none,
+/// or where its lock was not free then.
+pub fn total_in_drop<T: Threads, C: Drops + Sync>(
+    rt: &T,
+    alloc: Global,
+    cache: &C,
+    cause: Cause,
+) -> Option<u128> {
+    let gate = Arc::new(alloc, Gate::new()).ok()?;
+    let met = &gate;
+    let (_, total) = thread::join(
+        rt,
+        move || cache.evict(met, cause),
+        move || cache.total_meanwhile(&**met),
+    );
+    gate.told(total)
 }

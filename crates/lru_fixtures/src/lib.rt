@@ -1,12 +1,16 @@
 //! What tests and programs of the caches share: values that use the cache in their drops, meetings
-//! of threads, marks, tables of calls, the seeded runs, and the worked rows.
+//! of threads, callers of one value, workers, marks, tables of calls, the seeded runs, and the
+//! worked rows.
 #![tactic(auto)]
 
 pub mod errands;
 pub mod gates;
 pub mod makes;
+pub mod makings;
 pub mod marks;
 pub mod meetings;
+pub mod owners;
 pub mod rows;
 pub mod tables;
 pub mod threaded;
+pub mod workers;

@@ -10,43 +10,56 @@ use std::sync::atomic::AtomicU64;
 use std::thread::Threads;
 use std::{fmt, thread};
 
-/// Makes a key, and says whether its `init` met the other maker's.
-pub fn meets_in_making<C: Cached<u64>>(
-    cache: C,
-    key: u64,
-    mine: &AtomicU64,
-    other: &AtomicU64,
-) -> bool {
-    let mut met = false;
-    let made = cache.made(key, 1, |key| {
-        raise(mine);
-        met = meets(other);
-        *key
-    });
-    made.is_ok() && met
+/// A cache as makers ask it. It has no associated type, since the checker covers no closure of a
+/// thread over one that has.
+pub trait Makes {
+    /// Makes a key, and says whether its `init` met the other maker's.
+    fn meet_in_making(&self, key: u64, mine: &AtomicU64, other: &AtomicU64) -> bool;
 }
 
-/// Where the thread that prints a cache and the one that reads a handle are.
+impl<C: Cached<u64>> Makes for C {
+    fn meet_in_making(&self, key: u64, mine: &AtomicU64, other: &AtomicU64) -> bool {
+        let mut met = false;
+        let made = self.made(key, 1, |key| {
+            raise(mine);
+            met = meets(other);
+            *key
+        });
+        made.is_ok() && met
+    }
+}
+
+/// Whether each of two makers of these keys met the other.
+pub fn makers_meet<T: Threads, C: Makes + Sync>(
+    rt: &T,
+    cache: &C,
+    keys: (u64, u64),
+) -> (bool, bool) {
+    let (first, second) = (AtomicU64::new(0), AtomicU64::new(0));
+    let (one, other) = (&first, &second);
+    thread::join(
+        rt,
+        move || cache.meet_in_making(keys.0, one, other),
+        move || cache.meet_in_making(keys.1, other, one),
+    )
+}
+
+// Where the thread that prints a cache and the one that reads a handle are.
 #[derive(Drop)]
-pub struct Print {
+struct Print {
     started: AtomicU64,
     read: AtomicU64,
     met: AtomicU64,
 }
 
 impl Print {
-    /// Neither is there yet.
-    pub fn new() -> Print {
+    // Neither is there yet.
+    fn new() -> Print {
         Print {
             started: AtomicU64::new(0),
             read: AtomicU64::new(0),
             met: AtomicU64::new(0),
         }
-    }
-
-    /// Whether the handle was read while the cache was printed.
-    pub fn is_met(&self) -> bool {
-        is_raised(&self.met)
     }
 }
 
@@ -58,8 +71,8 @@ pub struct Shown {
 }
 
 impl Shown {
-    /// A value with a number. `AllocError` where another owner of the print is refused.
-    pub fn new(print: &Arc<Print>, number: u64) -> Result<Shown, AllocError> {
+    // A value with a number. `AllocError` where another owner of the print is refused.
+    fn new(print: &Arc<Print>, number: u64) -> Result<Shown, AllocError> {
         Ok(Shown {
             print: Arc::try_clone(print)?,
             number,
@@ -77,13 +90,15 @@ impl fmt::Debug for Shown {
     }
 }
 
-/// The text of a cache, and the number of a handle's value as another thread reads it meanwhile;
-/// none where memory for the text is refused, and where no value is printed.
-pub fn text_and_number<
-    T: Threads,
-    H: Drop + Sync,
-    C: Cached<Shown, Handle = H> + fmt::Debug + Sync,
->(rt: &T, alloc: Global, cache: C, handle: &H, print: &Print) -> (Option<String>, Option<u64>) {
+// The text of a cache, and the number of a handle's value as another thread reads it meanwhile;
+// none where memory for the text is refused, and where no value is printed.
+fn text_and_number<T: Threads, H: Drop + Sync, C: Cached<Shown, Handle = H> + fmt::Debug + Sync>(
+    rt: &T,
+    alloc: Global,
+    cache: C,
+    handle: &H,
+    print: &Print,
+) -> (Option<String>, Option<u64>) {
     thread::join(
         rt,
         || format!(in alloc; "{cache:?}").ok(),
@@ -98,4 +113,22 @@ fn number_meanwhile<C: Cached<Shown>>(handle: &C::Handle, print: &Print) -> Opti
     let number = C::value_of(handle).number;
     raise(&print.read);
     Some(number)
+}
+
+/// The text of an empty cache once key 1 has a value, whose number is 7, and that number as another
+/// thread reads it of a handle while the cache is printed. None where the two did not meet, or
+/// where memory is refused.
+pub fn text_while_read<
+    T: Threads,
+    H: Drop + Sync,
+    C: Cached<Shown, Handle = H> + fmt::Debug + Sync,
+>(rt: &T, alloc: Global, cache: C) -> Option<(String, u64)> {
+    let print = Arc::new(alloc, Print::new()).ok()?;
+    let shown = Shown::new(&print, 7).ok()?;
+    let handle = cache.made(1, 1, move |_| shown).ok()?;
+    let (text, number) = text_and_number(rt, alloc, cache, &handle, &*print);
+    match (text, number) {
+        (Some(text), Some(number)) if is_raised(&print.met) => Some((text, number)),
+        _ => None,
+    }
 }

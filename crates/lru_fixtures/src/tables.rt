@@ -10,11 +10,11 @@ use std::fmt::Debug;
 use std::sync::Arc;
 use std::test::Fail;
 
-/// A call of a cache whose keys and values are numbers.
+/// A call of a cache of one owner whose values are numbers.
 #[derive(Clone, Copy, Debug)]
-pub enum Call {
+pub enum Call<K = u64> {
     /// `begin` with a key and a charge, which is above 0.
-    Begin(u64, u64),
+    Begin(K, u64),
     /// `poll` with a stamp.
     Poll(u64),
     /// `ready` with a stamp and a value.
@@ -22,17 +22,17 @@ pub enum Call {
     /// `fail` with a stamp.
     Fail(u64),
     /// `get` with a key.
-    Get(u64),
+    Get(K),
     /// `read` with a key, by a reader that copies the value.
-    Read(u64),
+    Read(K),
     /// `release` with a stamp.
     Release(u64),
     /// `advice_evict` with a key.
-    AdviceEvict(u64),
+    AdviceEvict(K),
     /// `invalidate` with a key.
-    Invalidate(u64),
+    Invalidate(K),
     /// `insert` with a key, a charge, which is above 0, and a value.
-    Insert(u64, u64, u64),
+    Insert(K, u64, u64),
     /// `prune`.
     Prune,
     /// `set_capacity` with a capacity.
@@ -47,6 +47,21 @@ pub enum Call {
     Reserve(usize),
     /// The text of the cache.
     Show,
+}
+
+impl<K: Copy> Call<K> {
+    /// The key that the call names, where it names one.
+    pub fn key(self) -> Option<K> {
+        match self {
+            Call::Begin(key, _)
+            | Call::Get(key)
+            | Call::Read(key)
+            | Call::AdviceEvict(key)
+            | Call::Invalidate(key)
+            | Call::Insert(key, ..) => Some(key),
+            _ => None,
+        }
+    }
 }
 
 /// A cache that calls can be made of. `C` is what such a call is.

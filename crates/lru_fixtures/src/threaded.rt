@@ -10,7 +10,6 @@ mod seeded;
 
 pub use calls::{Call, Said, Then};
 pub use making::{NoHandle, make_value, try_make_value};
-pub use model::Model;
 pub use owned::Owned;
-pub use player::Player;
-pub use seeded::agree;
+pub use player::{Player, play};
+pub use seeded::{agree, capacity_of};

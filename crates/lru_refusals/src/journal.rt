@@ -1,89 +1,90 @@
-//! Steps of a journal, whose keys are texts, and then its records.
+//! Calls of a journal, whose keys are texts, and then its records.
 ghost use Rattle.std.specs.Prelude.{◌<◌};
 
-use crate::step::{Asked, NO_SUCH_STEP, Step};
+use crate::asked::{Asked, NO_SUCH_CALL};
 use crate::told::Told;
 use concurrent_lru::lru_core::Refusal;
+use lru_fixtures::tables::Call;
 use lru_journal::journal::Journal;
 use std::alloc::Global;
 use std::io::Write;
 use std::sync::Arc;
 
-/// Takes steps of a journal that is empty at first, and tells its records.
+/// Makes calls of a journal that is empty at first, and tells its records.
 pub fn play<O: Write, E: Write>(
     alloc: Global,
     capacity: u64,
-    steps: &[Step<&'static str>],
+    calls: &[Call<&'static str>],
     told: &mut Told<'_, O, E>,
 ) -> Result<(), Refusal> {
     told.name("Journal");
     let mut journal = Journal::new(alloc, capacity);
-    crate::step::play(alloc, &mut journal, steps, told)?;
+    crate::asked::play(alloc, &mut journal, calls, told)?;
     for record in journal.records() {
         told.record(record);
     }
     Ok(())
 }
 
-impl Asked<Step<&'static str>> for Journal<String, u64> {
+impl Asked<Call<&'static str>> for Journal<String, u64> {
     fn ask<O: Write, E: Write>(
         &mut self,
         alloc: Global,
-        step: Step<&'static str>,
+        call: Call<&'static str>,
         told: &mut Told<'_, O, E>,
     ) -> Result<bool, Refusal> {
-        if let Some(key) = step.key() {
+        if let Some(key) = call.key() {
             let key = String::from_str(alloc, key)?;
-            return Ok(ask_with_key(self, step, &key, told));
+            return Ok(ask_with_key(self, call, &key, told));
         }
-        match step {
-            Step::Ready(stamp, value) => {
+        match call {
+            Call::Ready(stamp, value) => {
                 let value = Arc::new(alloc, value)?;
-                if let Some(value) = told.handed_over(&step, self.ready(stamp, value)) {
-                    told.line(&step, &self.ready(stamp, value));
+                if let Some(value) = told.handed_over(&call, self.ready(stamp, value)) {
+                    told.line(&call, &self.ready(stamp, value));
                 }
                 Ok(false)
             }
-            _ => Ok(ask_plainly(self, step, told)),
+            _ => Ok(ask_plainly(self, call, told)),
         }
     }
 }
 
-// Takes a step that has this key.
+// Makes a call that has this key.
 fn ask_with_key<O: Write, E: Write>(
     journal: &mut Journal<String, u64>,
-    step: Step<&'static str>,
+    call: Call<&'static str>,
     key: &String,
     told: &mut Told<'_, O, E>,
 ) -> bool {
-    match step {
-        Step::Begin(_, charge) => told.answer(&step, &journal.begin(key, charge.max(1))),
-        Step::Get(_) => told.answer(&step, &journal.get(key)),
-        Step::Read(_) => told.answer(&step, &journal.read(key, |value| *value)),
-        Step::AdviceEvict(_) => told.answer(&step, &journal.advice_evict(key)),
-        Step::Invalidate(_) => told.answer(&step, &journal.invalidate(key)),
+    match call {
+        Call::Begin(_, charge) => told.answer(&call, &journal.begin(key, charge.max(1))),
+        Call::Get(_) => told.answer(&call, &journal.get(key)),
+        Call::Read(_) => told.answer(&call, &journal.read(key, |value| *value)),
+        Call::AdviceEvict(_) => told.answer(&call, &journal.advice_evict(key)),
+        Call::Invalidate(_) => told.answer(&call, &journal.invalidate(key)),
         _ => {
-            told.line(&step, &NO_SUCH_STEP);
+            told.line(&call, &NO_SUCH_CALL);
             false
         }
     }
 }
 
-// Takes a step that hands over plain numbers.
+// Makes a call that hands over plain numbers.
 fn ask_plainly<O: Write, E: Write>(
     journal: &mut Journal<String, u64>,
-    step: Step<&'static str>,
+    call: Call<&'static str>,
     told: &mut Told<'_, O, E>,
 ) -> bool {
-    match step {
-        Step::Poll(stamp) => told.answer(&step, &journal.poll(stamp)),
-        Step::Fail(stamp) => told.answer(&step, &journal.fail(stamp)),
-        Step::Release(stamp) => told.answer(&step, &journal.release(stamp)),
-        Step::Prune => told.answer(&step, &journal.prune()),
-        Step::SetCapacity(capacity) => told.answer(&step, &journal.set_capacity(capacity)),
-        Step::Total => told.answer(&step, &journal.total()),
+    match call {
+        Call::Poll(stamp) => told.answer(&call, &journal.poll(stamp)),
+        Call::Fail(stamp) => told.answer(&call, &journal.fail(stamp)),
+        Call::Release(stamp) => told.answer(&call, &journal.release(stamp)),
+        Call::Prune => told.answer(&call, &journal.prune()),
+        Call::SetCapacity(capacity) => told.answer(&call, &journal.set_capacity(capacity)),
+        Call::Total => told.answer(&call, &journal.total()),
         _ => {
-            told.line(&step, &NO_SUCH_STEP);
+            told.line(&call, &NO_SUCH_CALL);
             false
         }
     }

@@ -3,6 +3,7 @@
 //! does. All but the words and the two streams of the system stands in `program`.
 #![tactic(auto)]
 
+mod asked;
 mod failure;
 mod journal;
 mod list;
@@ -12,7 +13,6 @@ mod script;
 mod scripts;
 mod shards;
 mod state;
-mod step;
 mod threaded;
 mod told;
 mod twin;

@@ -1,12 +1,12 @@
 //! A script: a cache, and what is asked of it.
 
-use crate::shards::ShardStep;
-use crate::state::Opening;
-use crate::step::Step;
-use crate::threaded::Call;
+use crate::shards::ShardCall;
+use crate::state::Limits;
 use crate::told::Told;
 use crate::{journal, list, meeting, shards, state, threaded, twin};
 use concurrent_lru::lru_core::Refusal;
+use lru_fixtures::tables::Call;
+use lru_fixtures::threaded::Call as SharedCall;
 use std::alloc::Global;
 use std::io::Write;
 use std::sync::Wait;
@@ -15,24 +15,24 @@ use std::thread::Threads;
 /// A script. Its cache is empty at first.
 #[derive(Clone, Copy)]
 pub enum Script {
-    /// Steps of a cache without a lock, of a capacity.
-    State(u64, &'static [Step<&'static str>]),
-    /// Steps of a cache without a lock, of these limits.
-    Limited(Opening, &'static [Step<&'static str>]),
+    /// Calls of a cache without a lock, of a capacity.
+    State(u64, &'static [Call<&'static str>]),
+    /// Calls of a cache without a lock, of these limits.
+    Limited(Limits, &'static [Call<&'static str>]),
     /// A list of steps of a cache without a lock.
     List,
     /// A list of steps of shards.
     ShardList,
-    /// Steps of so many shards of a capacity.
-    Shards(u64, usize, &'static [ShardStep]),
-    /// Steps of a journal of a capacity.
-    Journal(u64, &'static [Step<&'static str>]),
-    /// Steps of a twin of a capacity: those of one caller, and then those of another.
-    Twin(u64, &'static [Step<&'static str>], &'static [Step<&'static str>]),
+    /// Calls of so many shards of a capacity.
+    Shards(u64, usize, &'static [ShardCall]),
+    /// Calls of a journal of a capacity.
+    Journal(u64, &'static [Call<&'static str>]),
+    /// Calls of a twin of a capacity: those of one caller, and then those of another.
+    Twin(u64, &'static [Call<&'static str>], &'static [Call<&'static str>]),
     /// Calls of a cache of one lock and a capacity.
-    Unsharded(u64, &'static [Call]),
+    Unsharded(u64, &'static [SharedCall]),
     /// Calls of a cache of a capacity in so many shards.
-    Sharded(u64, usize, &'static [Call]),
+    Sharded(u64, usize, &'static [SharedCall]),
     /// An entry that takes the room of two, on a cache of one lock.
     OverTwo,
     /// Two threads that ask for one key.
@@ -50,16 +50,16 @@ impl Script {
         told: &mut Told<'_, O, E>,
     ) -> Result<(), Refusal> {
         match self {
-            Script::State(capacity, steps) => {
-                state::play(alloc, Opening::of(capacity), steps, told)
+            Script::State(capacity, calls) => {
+                state::play(alloc, Limits::of(capacity), calls, told)
             }
-            Script::Limited(opening, steps) => state::play(alloc, opening, steps, told),
+            Script::Limited(limits, calls) => state::play(alloc, limits, calls, told),
             Script::List => list::play(alloc, told),
             Script::ShardList => list::play_shards(alloc, told),
-            Script::Shards(capacity, number, steps) => {
-                shards::play(alloc, capacity, number, steps, told)
+            Script::Shards(capacity, number, calls) => {
+                shards::play(alloc, capacity, number, calls, told)
             }
-            Script::Journal(capacity, steps) => journal::play(alloc, capacity, steps, told),
+            Script::Journal(capacity, calls) => journal::play(alloc, capacity, calls, told),
             Script::Twin(capacity, first, second) => {
                 twin::play(rt, alloc, capacity, first, second, told)
             }

@@ -1,15 +1,20 @@
 //! The scripts, each with its name.
 
+mod threaded;
+
+use self::threaded::{
+    FAILED, LARGE_VALUES, MUCH_ROOM, PUT_VALUES, READ_VALUES, ROOM, TAKEN_VALUES, VALUES,
+};
 use crate::script::Script;
-use crate::state::Opening;
-use crate::step::Step::{
+use crate::shards::ShardCall;
+use crate::state::Limits;
+use lru_fixtures::tables;
+use lru_fixtures::tables::Call::{
     AdviceEvict, Begin, Fail, Get, Insert, Invalidate, Poll, Prune, Read, Ready, Release,
     SetCapacity, Total,
 };
-use crate::threaded::Call;
-use crate::{shards, step};
 
-type Step = step::Step<&'static str>;
+type Call = tables::Call<&'static str>;
 
 /// All scripts.
 pub const SCRIPTS: &[(&str, Script)] = &[
@@ -76,7 +81,7 @@ pub const SCRIPTS: &[(&str, Script)] = &[
 ];
 
 // A pinned entry stays, whatever comes, and leaves as the newest once it is released.
-const PINNED: &[Step] = &[
+const PINNED: &[Call] = &[
     Begin("1", 1),
     Ready(0, 1),
     Release(0),
@@ -104,7 +109,7 @@ const PINNED: &[Step] = &[
 ];
 
 // A maker that fails leaves the making to the next that asks.
-const HANDED_OVER: &[Step] = &[
+const HANDED_OVER: &[Call] = &[
     Begin("1", 3),
     Get("1"),
     Begin("1", 7),
@@ -117,7 +122,7 @@ const HANDED_OVER: &[Step] = &[
     Release(0),
 ];
 
-const AT_LAST_STAMP: Opening = Opening {
+const AT_LAST_STAMP: Limits = Limits {
     capacity: 10,
     first_stamp: u64::MAX - 1,
     most_pins: 5,
@@ -125,7 +130,7 @@ const AT_LAST_STAMP: Opening = Opening {
 };
 
 // A begin that was refused for want of memory has not used up the last stamp but one.
-const LAST_STAMP: &[Step] = &[
+const LAST_STAMP: &[Call] = &[
     Begin("1", 1),
     Begin("2", 1),
     Insert("1", 1, 5),
@@ -133,14 +138,14 @@ const LAST_STAMP: &[Step] = &[
     Total,
 ];
 
-const OF_ONE_PIN: Opening = Opening {
+const OF_ONE_PIN: Limits = Limits {
     capacity: 10,
     first_stamp: 0,
     most_pins: 1,
     room: 0,
 };
 
-const ONE_PIN: &[Step] = &[
+const ONE_PIN: &[Call] = &[
     Begin("1", 1),
     Ready(0, 1),
     Get("1"),
@@ -151,7 +156,7 @@ const ONE_PIN: &[Step] = &[
 ];
 
 // Stamps that no longer fit.
-const STRAYS: &[Step] = &[
+const STRAYS: &[Call] = &[
     Begin("1", 1),
     Begin("1", 1),
     Fail(0),
@@ -174,7 +179,7 @@ const STRAYS: &[Step] = &[
 ];
 
 // What is there is found without a request.
-const HITS: &[Step] = &[
+const HITS: &[Call] = &[
     Begin("1", 1),
     Ready(0, 1),
     Poll(0),
@@ -188,7 +193,7 @@ const HITS: &[Step] = &[
 
 // The old value is detached or evicted before the new one is there. The charge of an idle one does
 // not count beside that of the new one; that of a held one does.
-const PUT_IN: &[Step] = &[
+const PUT_IN: &[Call] = &[
     Insert("1", 1, 10),
     Insert("1", 2, 11),
     Read("1"),
@@ -213,7 +218,7 @@ const PUT_IN: &[Step] = &[
     Total,
 ];
 
-const CAPACITIES: &[Step] = &[
+const CAPACITIES: &[Call] = &[
     Begin("1", 3),
     Ready(0, 1),
     Release(0),
@@ -236,7 +241,7 @@ const CAPACITIES: &[Step] = &[
 ];
 
 // Nine entries where there is no room, and nine where there is.
-const GROWTHS: &[Step] = &[
+const GROWTHS: &[Call] = &[
     Begin("1", 1),
     Begin("2", 1),
     Begin("3", 1),
@@ -268,7 +273,7 @@ const GROWTHS: &[Step] = &[
     Total,
 ];
 
-const WITH_ROOM: Opening = Opening {
+const WITH_ROOM: Limits = Limits {
     capacity: 9,
     first_stamp: 0,
     most_pins: 2,
@@ -276,14 +281,14 @@ const WITH_ROOM: Opening = Opening {
 };
 
 // Room for as many entries as a map of 16 places takes: for one more, it grows.
-const WITH_MUCH_ROOM: Opening = Opening {
+const WITH_MUCH_ROOM: Limits = Limits {
     capacity: 40,
     first_stamp: 0,
     most_pins: 2,
     room: 14,
 };
 
-const FILLED: &[Step] = &[
+const FILLED: &[Call] = &[
     Begin("1", 1),
     Begin("2", 1),
     Begin("3", 1),
@@ -303,7 +308,7 @@ const FILLED: &[Step] = &[
 ];
 
 // A new entry evicts from its own shard alone.
-const SHARDS: &[shards::ShardStep] = &[
+const SHARDS: &[ShardCall] = &[
     (1, Begin(1, 1)),
     (1, Ready(0, 1)),
     (1, Release(0)),
@@ -328,7 +333,7 @@ const SHARDS: &[shards::ShardStep] = &[
 
 // An entry that is held when its key is taken back is evicted with its last pin; others leave at
 // once. The shard of the key alone looks for it.
-const SHARDS_TAKEN_BACK: &[shards::ShardStep] = &[
+const SHARDS_TAKEN_BACK: &[ShardCall] = &[
     (1, Begin(1, 1)),
     (1, Ready(0, 10)),
     (0, Begin(0, 1)),
@@ -350,10 +355,10 @@ const SHARDS_TAKEN_BACK: &[shards::ShardStep] = &[
     (1, Total),
 ];
 
-// The tables of a journal and of a twin have each step once where its record needs new room: there
+// The tables of a journal and of a twin have each call once where its record needs new room: there
 // is none at first, then it lasts for four records, and then for eight. A read asks for the room of
 // two.
-const EVICTS: &[Step] = &[
+const EVICTS: &[Call] = &[
     Begin("1", 1),
     Ready(0, 1),
     Release(0),
@@ -362,7 +367,7 @@ const EVICTS: &[Step] = &[
     Release(0),
 ];
 
-const POLLS: &[Step] = &[
+const POLLS: &[Call] = &[
     Get("1"),
     Begin("1", 1),
     Begin("1", 1),
@@ -376,7 +381,7 @@ const POLLS: &[Step] = &[
     Release(0),
 ];
 
-const STORES: &[Step] = &[
+const STORES: &[Call] = &[
     SetCapacity(2),
     Begin("1", 1),
     Begin("1", 1),
@@ -389,7 +394,7 @@ const STORES: &[Step] = &[
     Total,
 ];
 
-const FAILS: &[Step] = &[
+const FAILS: &[Call] = &[
     AdviceEvict("1"),
     Begin("1", 1),
     Begin("1", 1),
@@ -402,7 +407,7 @@ const FAILS: &[Step] = &[
 ];
 
 // A read finds what is ready, makes it the newest, and leaves no pin.
-const READS: &[Step] = &[
+const READS: &[Call] = &[
     Read("1"),
     Begin("1", 1),
     Read("1"),
@@ -421,7 +426,7 @@ const READS: &[Step] = &[
 
 // An entry whose key is taken back while a caller waits for it is made for that caller, beside the
 // new one of the key.
-const TAKEN_BACK: &[Step] = &[
+const TAKEN_BACK: &[Call] = &[
     Invalidate("1"),
     Begin("1", 1),
     Begin("1", 1),
@@ -440,7 +445,7 @@ const TAKEN_BACK: &[Step] = &[
     Total,
 ];
 
-const FINDS_NOTHING: &[Step] = &[
+const FINDS_NOTHING: &[Call] = &[
     Total,
     Poll(0),
     Get("1"),
@@ -451,9 +456,9 @@ const FINDS_NOTHING: &[Step] = &[
 ];
 
 // What is refused for another cause than memory asks for the room of its record first, and is
-// refused for that where there is none: each such step comes where the records before it fill
+// refused for that where there is none: each such call comes where the records before it fill
 // their room, of 4, 8, 16 and 32.
-const REFUSES: &[Step] = &[
+const REFUSES: &[Call] = &[
     Poll(0),
     Begin("1", u64::MAX),
     Total,
@@ -494,7 +499,7 @@ const REFUSES: &[Step] = &[
     Total,
 ];
 
-const TWIN_HITS: &[Step] = &[
+const TWIN_HITS: &[Call] = &[
     Begin("1", 1),
     Ready(0, 7),
     Release(0),
@@ -506,7 +511,7 @@ const TWIN_HITS: &[Step] = &[
 ];
 
 // What the second caller finds is what the first one made.
-const FIRST_CALLER: &[Step] = &[
+const FIRST_CALLER: &[Call] = &[
     Begin("1", 1),
     Ready(0, 7),
     Release(0),
@@ -515,7 +520,7 @@ const FIRST_CALLER: &[Step] = &[
     Release(0),
 ];
 
-const SECOND_CALLER: &[Step] = &[
+const SECOND_CALLER: &[Call] = &[
     Begin("1", 1),
     Begin("2", 1),
     Ready(1, 2),
@@ -523,129 +528,4 @@ const SECOND_CALLER: &[Step] = &[
     Release(0),
     Total,
     Prune,
-];
-
-// A present key keeps its value.
-const VALUES: &[Call] = &[
-    Call::Make(1, 1, 1),
-    Call::Make(2, 1, 2),
-    Call::Make(1, 1, 3),
-    Call::Total,
-];
-
-// After an eviction the value is made anew.
-const LARGE_VALUES: &[Call] = &[
-    Call::Make(1, 3, 1),
-    Call::Make(2, 3, 2),
-    Call::Make(1, 3, 3),
-    Call::Total,
-];
-
-// A making that fails leaves no entry, and the next one may succeed.
-const FAILED: &[Call] = &[
-    Call::Make(1, 1, 1),
-    Call::Get(1),
-    Call::Make(2, 1, 2),
-    Call::Get(2),
-    Call::Fail(3, 1),
-    Call::Get(3),
-    Call::Try(3, 1, 3),
-    Call::Get(3),
-    Call::Total,
-];
-
-// A read makes its entry the newest, and leaves no pin.
-const READ_VALUES: &[Call] = &[
-    Call::Read(1),
-    Call::Make(1, 1, 10),
-    Call::Make(2, 1, 20),
-    Call::Read(1),
-    Call::Make(3, 1, 30),
-    Call::Read(2),
-    Call::Read(1),
-    Call::Read(3),
-    Call::Total,
-    Call::Prune,
-    Call::Read(1),
-    Call::Total,
-];
-
-// A key that was taken back is found no more, and made anew.
-const TAKEN_VALUES: &[Call] = &[
-    Call::Invalidate(1),
-    Call::Make(1, 1, 10),
-    Call::Make(2, 2, 20),
-    Call::Invalidate(1),
-    Call::Get(1),
-    Call::Get(2),
-    Call::Total,
-    Call::Make(1, 3, 11),
-    Call::Get(1),
-    Call::Total,
-];
-
-// A value that is put in replaces the one that the key has, whose charge does not count beside its
-// own. One that is refused leaves all as it was.
-const PUT_VALUES: &[Call] = &[
-    Call::Insert(1, 1, 10),
-    Call::Insert(1, 2, 11),
-    Call::Get(1),
-    Call::Insert(2, 2, 20),
-    Call::Get(1),
-    Call::Get(2),
-    Call::Insert(2, u64::MAX, 21),
-    Call::Get(2),
-    Call::Total,
-    Call::Make(1, 1, 12),
-    Call::Insert(2, u64::MAX, 22),
-    Call::Get(1),
-    Call::Total,
-];
-
-const ROOM: &[Call] = &[
-    Call::Reserve(9),
-    Call::Make(1, 1, 1),
-    Call::Try(2, 1, 2),
-    Call::SetCapacity(4),
-    Call::Make(3, 1, 3),
-    Call::Total,
-    Call::Prune,
-    Call::Get(1),
-    Call::Total,
-];
-
-// Room for as many entries as a map of 32 places takes, or two of 16: for one more, it grows.
-const MUCH_ROOM: &[Call] = &[
-    Call::Reserve(28),
-    Call::Make(1, 1, 1),
-    Call::Make(2, 1, 2),
-    Call::Make(3, 1, 3),
-    Call::Make(4, 1, 4),
-    Call::Make(5, 1, 5),
-    Call::Make(6, 1, 6),
-    Call::Make(7, 1, 7),
-    Call::Make(8, 1, 8),
-    Call::Make(9, 1, 9),
-    Call::Make(10, 1, 10),
-    Call::Make(11, 1, 11),
-    Call::Make(12, 1, 12),
-    Call::Make(13, 1, 13),
-    Call::Make(14, 1, 14),
-    Call::Make(15, 1, 15),
-    Call::Make(16, 1, 16),
-    Call::Make(17, 1, 17),
-    Call::Make(18, 1, 18),
-    Call::Make(19, 1, 19),
-    Call::Make(20, 1, 20),
-    Call::Make(21, 1, 21),
-    Call::Make(22, 1, 22),
-    Call::Make(23, 1, 23),
-    Call::Make(24, 1, 24),
-    Call::Make(25, 1, 25),
-    Call::Make(26, 1, 26),
-    Call::Make(27, 1, 27),
-    Call::Make(28, 1, 28),
-    Call::Make(29, 1, 29),
-    Call::Make(30, 1, 30),
-    Call::Total,
 ];

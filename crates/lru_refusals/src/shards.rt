@@ -1,31 +1,32 @@
-//! Steps of shards without a lock, whose keys are numbers: the shard of a key can be told from it.
+//! Calls of shards without a lock, whose keys are numbers: the shard of a key can be told from it.
 ghost use Rattle.std.specs.Prelude.{◌<◌};
 
-use crate::step::{Asked, NO_SUCH_STEP, Step};
+use crate::asked::{Asked, NO_SUCH_CALL};
 use crate::told::Told;
 use concurrent_lru::lru_core::Refusal;
 use concurrent_lru::sharded::Shards;
+use lru_fixtures::tables::Call;
 use lru_support::hashers::ByOwnNumber;
 use std::alloc::Global;
 use std::io::Write;
 use std::sync::Arc;
 
-/// A step, and the shard that it names, where it has no key.
-pub type ShardStep = (usize, Step<u64>);
+/// A call, and the shard that it names, where it has no key.
+pub type ShardCall = (usize, Call<u64>);
 
 type NewShards = Result<Shards<u64, u64, ByOwnNumber>, Refusal>;
 
-/// Takes steps of new shards. No shards count as 1.
+/// Makes calls of new shards. No shards count as 1.
 pub fn play<O: Write, E: Write>(
     alloc: Global,
     capacity: u64,
     shards: usize,
-    steps: &[ShardStep],
+    calls: &[ShardCall],
     told: &mut Told<'_, O, E>,
 ) -> Result<(), Refusal> {
     told.name("Shards");
     let mut shards = make(alloc, capacity, shards, told)?;
-    crate::step::play(alloc, &mut shards, steps, told)
+    crate::asked::play(alloc, &mut shards, calls, told)
 }
 
 // New shards, asked for again where they are refused.
@@ -44,54 +45,54 @@ fn make<O: Write, E: Write>(
     }
 }
 
-impl Asked<ShardStep> for Shards<u64, u64, ByOwnNumber> {
+impl Asked<ShardCall> for Shards<u64, u64, ByOwnNumber> {
     fn ask<O: Write, E: Write>(
         &mut self,
         alloc: Global,
-        step: ShardStep,
+        call: ShardCall,
         told: &mut Told<'_, O, E>,
     ) -> Result<bool, Refusal> {
-        let (shard, step) = step;
-        match step {
-            Step::Begin(key, charge) => { Ok(told.answer(&step, &self.begin(&key, charge.max(1)))) }
-            Step::Get(key) => Ok(told.answer(&step, &self.get(&key))),
-            Step::Read(key) => Ok(told.answer(&step, &self.read(&key, |value| *value))),
-            Step::AdviceEvict(key) => {
-                told.line(&step, &self.advice_evict(&key));
+        let (shard, call) = call;
+        match call {
+            Call::Begin(key, charge) => { Ok(told.answer(&call, &self.begin(&key, charge.max(1)))) }
+            Call::Get(key) => Ok(told.answer(&call, &self.get(&key))),
+            Call::Read(key) => Ok(told.answer(&call, &self.read(&key, |value| *value))),
+            Call::AdviceEvict(key) => {
+                told.line(&call, &self.advice_evict(&key));
                 Ok(false)
             }
-            Step::Invalidate(key) => {
-                told.line(&step, &self.invalidate(&key));
+            Call::Invalidate(key) => {
+                told.line(&call, &self.invalidate(&key));
                 Ok(false)
             }
-            Step::Ready(stamp, value) => {
+            Call::Ready(stamp, value) => {
                 let value = Arc::new(alloc, value)?;
-                told.line(&step, &self.ready(shard, stamp, value));
+                told.line(&call, &self.ready(shard, stamp, value));
                 Ok(false)
             }
-            _ => Ok(ask_plainly(self, shard, step, told)),
+            _ => Ok(ask_plainly(self, shard, call, told)),
         }
     }
 }
 
-// Takes a step that names its shard.
+// Makes a call that names its shard.
 fn ask_plainly<O: Write, E: Write>(
     shards: &mut Shards<u64, u64, ByOwnNumber>,
     shard: usize,
-    step: Step<u64>,
+    call: Call<u64>,
     told: &mut Told<'_, O, E>,
 ) -> bool {
-    match step {
-        Step::Poll(stamp) => told.answer(&step, &shards.poll(shard, stamp)),
-        Step::Fail(stamp) => told.answer(&step, &shards.fail(shard, stamp)),
-        Step::Release(stamp) => told.answer(&step, &shards.release(shard, stamp)),
-        Step::Prune => told.answer(&step, &shards.prune_shard(shard)),
-        Step::SetCapacity(capacity) => {
-            told.answer(&step, &shards.set_capacity_shard(shard, capacity))
+    match call {
+        Call::Poll(stamp) => told.answer(&call, &shards.poll(shard, stamp)),
+        Call::Fail(stamp) => told.answer(&call, &shards.fail(shard, stamp)),
+        Call::Release(stamp) => told.answer(&call, &shards.release(shard, stamp)),
+        Call::Prune => told.answer(&call, &shards.prune_shard(shard)),
+        Call::SetCapacity(capacity) => {
+            told.answer(&call, &shards.set_capacity_shard(shard, capacity))
         }
-        Step::Total => told.answer(&step, &shards.total_shard(shard)),
+        Call::Total => told.answer(&call, &shards.total_shard(shard)),
         _ => {
-            told.line(&step, &NO_SUCH_STEP);
+            told.line(&call, &NO_SUCH_CALL);
             false
         }
     }

@@ -1,27 +1,28 @@
-//! Steps of a cache without a lock, whose keys are texts: copies of them ask for memory.
+//! Calls of a cache without a lock, whose keys are texts: copies of them ask for memory.
 ghost use Rattle.std.specs.Prelude.{◌<◌};
 
-use crate::step::{Asked, NO_SUCH_STEP, Step};
+use crate::asked::{Asked, NO_SUCH_CALL};
 use crate::told::Told;
 use concurrent_lru::lru_core::{Refusal, State};
+use lru_fixtures::tables::Call;
 use std::alloc::Global;
 use std::io::Write;
 use std::sync::Arc;
 
-/// A new cache: its capacity, its first stamp, the most pins of an entry (none count as 1), and for
-/// how many entries it makes room first.
+/// The limits of a new cache: its capacity, its first stamp, the most pins of an entry (none count
+/// as 1), and for how many entries it makes room first.
 #[derive(Clone, Copy)]
-pub struct Opening {
+pub struct Limits {
     pub capacity: u64,
     pub first_stamp: u64,
     pub most_pins: u32,
     pub room: usize,
 }
 
-impl Opening {
-    /// A cache of this capacity, with no other limit and no room.
-    pub fn of(capacity: u64) -> Opening {
-        Opening {
+impl Limits {
+    /// This capacity, no other limit and no room.
+    pub fn of(capacity: u64) -> Limits {
+        Limits {
             capacity,
             first_stamp: 0,
             most_pins: u32::MAX,
@@ -39,63 +40,63 @@ impl Opening {
     }
 }
 
-/// Makes room in a new cache, and takes steps of it.
+/// Makes room in a new cache, and makes calls of it.
 pub fn play<O: Write, E: Write>(
     alloc: Global,
-    opening: Opening,
-    steps: &[Step<&'static str>],
+    limits: Limits,
+    calls: &[Call<&'static str>],
     told: &mut Told<'_, O, E>,
 ) -> Result<(), Refusal> {
     told.name("State");
-    let mut state = opening.new(alloc);
-    if told.answer(&"reserve", &state.reserve(opening.room)) {
-        told.answer(&"reserve", &state.reserve(opening.room));
+    let mut state = limits.new(alloc);
+    if told.answer(&"reserve", &state.reserve(limits.room)) {
+        told.answer(&"reserve", &state.reserve(limits.room));
     }
-    crate::step::play(alloc, &mut state, steps, told)
+    crate::asked::play(alloc, &mut state, calls, told)
 }
 
-impl Asked<Step<&'static str>> for State<String, u64> {
+impl Asked<Call<&'static str>> for State<String, u64> {
     fn ask<O: Write, E: Write>(
         &mut self,
         alloc: Global,
-        step: Step<&'static str>,
+        call: Call<&'static str>,
         told: &mut Told<'_, O, E>,
     ) -> Result<bool, Refusal> {
-        if let Some(key) = step.key() {
+        if let Some(key) = call.key() {
             let key = String::from_str(alloc, key)?;
-            return ask_with_key(alloc, self, step, &key, told);
+            return ask_with_key(alloc, self, call, &key, told);
         }
-        match step {
-            Step::Ready(stamp, value) => {
+        match call {
+            Call::Ready(stamp, value) => {
                 let value = Arc::new(alloc, value)?;
-                told.line(&step, &self.ready(stamp, value));
+                told.line(&call, &self.ready(stamp, value));
                 Ok(false)
             }
-            _ => Ok(ask_plainly(self, step, told)),
+            _ => Ok(ask_plainly(self, call, told)),
         }
     }
 }
 
-// Takes a step that has this key.
+// Makes a call that has this key.
 fn ask_with_key<O: Write, E: Write>(
     alloc: Global,
     state: &mut State<String, u64>,
-    step: Step<&'static str>,
+    call: Call<&'static str>,
     key: &String,
     told: &mut Told<'_, O, E>,
 ) -> Result<bool, Refusal> {
-    match step {
-        Step::Begin(_, charge) => {
-            return Ok(told.answer(&step, &state.begin(key, charge.max(1))));
+    match call {
+        Call::Begin(_, charge) => {
+            return Ok(told.answer(&call, &state.begin(key, charge.max(1))));
         }
-        Step::Get(_) => return Ok(told.answer(&step, &state.get(key))),
-        Step::Read(_) => return Ok(told.answer(&step, &state.read(key, |value| *value))),
-        Step::Insert(_, charge, value) => {
+        Call::Get(_) => return Ok(told.answer(&call, &state.get(key))),
+        Call::Read(_) => return Ok(told.answer(&call, &state.read(key, |value| *value))),
+        Call::Insert(_, charge, value) => {
             let value = Arc::new(alloc, value)?;
-            insert(state, step, key, charge.max(1), value, told);
+            insert(state, call, key, charge.max(1), value, told);
         }
-        Step::Invalidate(_) => told.line(&step, &state.invalidate(key)),
-        _ => told.line(&step, &state.advice_evict(key)),
+        Call::Invalidate(_) => told.line(&call, &state.invalidate(key)),
+        _ => told.line(&call, &state.advice_evict(key)),
     }
     Ok(false)
 }
@@ -103,7 +104,7 @@ fn ask_with_key<O: Write, E: Write>(
 // Puts a value in; one that comes back for want of memory is put in once more.
 fn insert<O: Write, E: Write>(
     state: &mut State<String, u64>,
-    step: Step<&'static str>,
+    call: Call<&'static str>,
     key: &String,
     charge: u64,
     value: Arc<u64>,
@@ -111,25 +112,25 @@ fn insert<O: Write, E: Write>(
 )
     requires { 0 < charge }
 {
-    if let Some(value) = told.handed_over(&step, state.insert(key, charge, value)) {
-        told.line(&step, &state.insert(key, charge, value));
+    if let Some(value) = told.handed_over(&call, state.insert(key, charge, value)) {
+        told.line(&call, &state.insert(key, charge, value));
     }
 }
 
-// Takes a step that hands over plain numbers.
+// Makes a call that hands over plain numbers.
 fn ask_plainly<O: Write, E: Write>(
     state: &mut State<String, u64>,
-    step: Step<&'static str>,
+    call: Call<&'static str>,
     told: &mut Told<'_, O, E>,
 ) -> bool {
-    match step {
-        Step::Poll(stamp) => return told.answer(&step, &state.poll(stamp)),
-        Step::Fail(stamp) => return told.answer(&step, &state.fail(stamp)),
-        Step::Release(stamp) => return told.answer(&step, &state.release(stamp)),
-        Step::Prune => told.line(&step, &state.prune()),
-        Step::SetCapacity(capacity) => told.line(&step, &state.set_capacity(capacity)),
-        Step::Total => told.line(&step, &state.total()),
-        _ => told.line(&step, &NO_SUCH_STEP),
+    match call {
+        Call::Poll(stamp) => return told.answer(&call, &state.poll(stamp)),
+        Call::Fail(stamp) => return told.answer(&call, &state.fail(stamp)),
+        Call::Release(stamp) => return told.answer(&call, &state.release(stamp)),
+        Call::Prune => told.line(&call, &state.prune()),
+        Call::SetCapacity(capacity) => told.line(&call, &state.set_capacity(capacity)),
+        Call::Total => told.line(&call, &state.total()),
+        _ => told.line(&call, &NO_SUCH_CALL),
     }
     false
 }

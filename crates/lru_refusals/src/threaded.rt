@@ -1,43 +1,18 @@
 //! Calls of a cache that threads share, as one thread makes them, and what they tell of a value.
+//! Each handle is dropped at once, whatever the call says of it, and a charge of 0 counts as 1.
 ghost use Rattle.std.specs.Prelude.{◌<◌};
 
-use crate::step::{Asked, play};
+use crate::asked::{Asked, NO_SUCH_CALL, play};
 use crate::told::Told;
 use concurrent_lru::lru_core::Refusal;
 use concurrent_lru::{sharded, unsharded};
-use lru_fixtures::threaded::{NoHandle, make_value, try_make_value};
+use lru_fixtures::threaded::Then::AtOnce;
+use lru_fixtures::threaded::{Call, NoHandle, make_value, try_make_value};
 use lru_support::cached::Cached;
 use std::alloc::Global;
 use std::hash::{BuildHasherDefault, FoldHasher};
 use std::io::Write;
 use std::sync::Wait;
-
-/// A call. A charge of 0 counts as 1.
-#[derive(Clone, Copy, Debug)]
-pub enum Call {
-    /// `get_or_init` with a key, a charge and an `init` that gives this value.
-    Make(u64, u64, u64),
-    /// `get_or_try_init` with a key, a charge and an `init` that gives this value.
-    Try(u64, u64, u64),
-    /// `get_or_try_init` with a key, a charge and an `init` that fails.
-    Fail(u64, u64),
-    /// `get` with a key.
-    Get(u64),
-    /// `read` with a key, by a reader that copies the value.
-    Read(u64),
-    /// `insert` with a key, a charge and a value.
-    Insert(u64, u64, u64),
-    /// `invalidate` with a key.
-    Invalidate(u64),
-    /// `reserve` with a number of entries.
-    Reserve(usize),
-    /// `set_capacity` with a capacity.
-    SetCapacity(u64),
-    /// `prune`.
-    Prune,
-    /// `total_charge`.
-    Total,
-}
 
 /// A reference to a cache.
 #[derive(Drop)]
@@ -103,11 +78,16 @@ pub fn play_over_two<R: Wait + Drop, O: Write, E: Write>(
     play(
         alloc,
         &mut Shared(shared),
-        &[Call::Make(1, 1, 1), Call::Make(2, 1, 2)],
+        &[Call::Init(1, 1, 1, AtOnce), Call::Init(2, 1, 2, AtOnce)],
         told,
     )?;
     make_over_two(shared, told);
-    let calls = [Call::Get(1), Call::Get(2), Call::Make(3, 2, 3), Call::Total];
+    let calls = [
+        Call::Get(1, AtOnce),
+        Call::Get(2, AtOnce),
+        Call::Init(3, 2, 3, AtOnce),
+        Call::Total,
+    ];
     play(alloc, &mut Shared(shared), &calls, told)
 }
 
@@ -168,18 +148,18 @@ fn ask<C: Cached<u64>, O: Write, E: Write>(
 ) -> bool {
     let mut ran = None;
     let made = match call {
-        Call::Insert(key, charge, value) => {
+        Call::Insert(key, charge, value, _) => {
             return told.answer(&call, &value_put(cache, key, charge.max(1), value));
         }
-        Call::Make(key, charge, value) => make_value(cache, key, charge.max(1), value, &mut ran),
-        Call::Try(key, charge, value) => try_make_value(
+        Call::Init(key, charge, value, _) => make_value(cache, key, charge.max(1), value, &mut ran),
+        Call::TryInit(key, charge, value, _) => try_make_value(
             cache,
             key,
             charge.max(1),
             Some(value),
             &mut ran,
         ),
-        Call::Fail(key, charge) => try_make_value(cache, key, charge.max(1), None, &mut ran),
+        Call::Fail(key, charge, _) => try_make_value(cache, key, charge.max(1), None, &mut ran),
         _ => return ask_for_none(cache, call, told),
     };
     told.answer(&call, &value_made::<C>(made))
@@ -201,12 +181,14 @@ fn ask_for_none<C: Cached<u64>, O: Write, E: Write>(
 ) -> bool {
     match call {
         Call::Reserve(entries) => return told.answer(&call, &cache.make_room(entries)),
-        Call::Get(key) => return told.answer(&call, &value_found(cache, key)),
+        Call::Get(key, _) => return told.answer(&call, &value_found(cache, key)),
         Call::Read(key) => return told.answer(&call, &cache.seen(key, |value| *value)),
         Call::SetCapacity(capacity) => cache.resize(capacity),
+        Call::AdviceEvict(key) => cache.advise(key),
         Call::Invalidate(key) => cache.take_back(key),
         Call::Prune => cache.clear(),
-        _ => told.line(&call, &cache.total()),
+        Call::Total => told.line(&call, &cache.total()),
+        _ => told.line(&call, &NO_SUCH_CALL),
     }
     false
 }

@@ -1,23 +1,24 @@
-//! Steps of a twin, whose keys are texts, and then its records.
+//! Calls of a twin, whose keys are texts, and then its records.
 ghost use Rattle.std.specs.Prelude.{◌≡◌, ◌<◌};
 
-use crate::step::{NO_SUCH_STEP, Step};
+use crate::asked::NO_SUCH_CALL;
 use crate::told::Told;
 use concurrent_lru::lru_core::Refusal;
+use lru_fixtures::tables::Call;
 use lru_journal::journal::{Identity, LruCache, Opening, Pin, Record, Started, Tally};
 use std::alloc::Global;
 use std::io::Write;
 use std::marker::Brand;
 use std::sync::{Arc, Wait};
 
-/// Takes steps of a twin that is empty at first, some by one caller and then some by another, and
+/// Makes calls of a twin that is empty at first, some by one caller and then some by another, and
 /// tells its records. Each caller has a part of the tally.
 pub fn play<R: Wait, O: Write, E: Write>(
     rt: &R,
     alloc: Global,
     capacity: u64,
-    first: &[Step<&'static str>],
-    second: &[Step<&'static str>],
+    first: &[Call<&'static str>],
+    second: &[Call<&'static str>],
     told: &mut Told<'_, O, E>,
 ) -> Result<(), Refusal> {
     told.name("twin");
@@ -44,8 +45,8 @@ fn play_twin<I: Identity, R: Wait, O: Write, E: Write>(
     rt: &R,
     alloc: Global,
     opening: Opening<String>,
-    first: &[Step<&'static str>],
-    second: &[Step<&'static str>],
+    first: &[Call<&'static str>],
+    second: &[Call<&'static str>],
     told: &mut Told<'_, O, E>,
 ) -> Result<(), Refusal>
     requires { opening ≡ I.name }
@@ -53,9 +54,9 @@ fn play_twin<I: Identity, R: Wait, O: Write, E: Write>(
     let (cache, mut whole) = LruCache::<String, u64, &R, I>::new(alloc, rt, opening);
     let mut one = whole.split(&cache);
     let mut two = whole.split(&cache);
-    let mut ended = play_steps(alloc, &cache, &mut one, first, told);
+    let mut ended = play_calls(alloc, &cache, &mut one, first, told);
     if ended.is_ok() {
-        ended = play_steps(alloc, &cache, &mut two, second, told);
+        ended = play_calls(alloc, &cache, &mut two, second, told);
     }
     whole.join(&cache, one);
     whole.join(&cache, two);
@@ -72,19 +73,19 @@ fn tell_records<O: Write, E: Write>(records: &[Record<String>], told: &mut Told<
     }
 }
 
-// As `step::play`, with a caller's tally.
-fn play_steps<R: Wait + Drop, I: Identity, O: Write, E: Write>(
+// As `asked::play`, with a caller's tally.
+fn play_calls<R: Wait + Drop, I: Identity, O: Write, E: Write>(
     alloc: Global,
     cache: &LruCache<String, u64, R, I>,
     tally: &mut Tally<String, I>,
-    steps: &[Step<&'static str>],
+    calls: &[Call<&'static str>],
     told: &mut Told<'_, O, E>,
 ) -> Result<(), Refusal>
     ensures { tally.new.parts ≡ tally.old.parts }
 {
-    for step in steps {
-        if ask(alloc, cache, tally, *step, told)? {
-            ask(alloc, cache, tally, *step, told)?;
+    for call in calls {
+        if ask(alloc, cache, tally, *call, told)? {
+            ask(alloc, cache, tally, *call, told)?;
         }
     }
     Ok(())
@@ -94,52 +95,52 @@ fn ask<R: Wait + Drop, I: Identity, O: Write, E: Write>(
     alloc: Global,
     cache: &LruCache<String, u64, R, I>,
     tally: &mut Tally<String, I>,
-    step: Step<&'static str>,
+    call: Call<&'static str>,
     told: &mut Told<'_, O, E>,
 ) -> Result<bool, Refusal>
     ensures { tally.new.parts ≡ tally.old.parts }
 {
-    if let Some(key) = step.key() {
+    if let Some(key) = call.key() {
         let key = String::from_str(alloc, key)?;
-        return Ok(ask_with_key(cache, tally, step, &key, told));
+        return Ok(ask_with_key(cache, tally, call, &key, told));
     }
-    match step {
-        Step::Ready(stamp, value) => {
+    match call {
+        Call::Ready(stamp, value) => {
             let value = Arc::new(alloc, value)?;
-            if let Some(value) = told.handed_over(&step, cache.ready(tally, stamp, value)) {
-                told.line(&step, &cache.ready(tally, stamp, value));
+            if let Some(value) = told.handed_over(&call, cache.ready(tally, stamp, value)) {
+                told.line(&call, &cache.ready(tally, stamp, value));
             }
             Ok(false)
         }
-        Step::Release(stamp) => {
+        Call::Release(stamp) => {
             let value = Arc::new(alloc, stamp)?;
-            give_back(cache, tally, step, Pin::new(stamp, value), told);
+            give_back(cache, tally, call, Pin::new(stamp, value), told);
             Ok(false)
         }
-        _ => Ok(ask_plainly(cache, tally, step, told)),
+        _ => Ok(ask_plainly(cache, tally, call, told)),
     }
 }
 
-// Takes a step that has this key.
+// Makes a call that has this key.
 fn ask_with_key<R: Wait + Drop, I: Identity, O: Write, E: Write>(
     cache: &LruCache<String, u64, R, I>,
     tally: &mut Tally<String, I>,
-    step: Step<&'static str>,
+    call: Call<&'static str>,
     key: &String,
     told: &mut Told<'_, O, E>,
 ) -> bool
     ensures { tally.new.parts ≡ tally.old.parts }
 {
-    match step {
-        Step::Begin(_, charge) => {
-            told.answer(&step, &seen(cache.begin(tally, key, charge.max(1))))
+    match call {
+        Call::Begin(_, charge) => {
+            told.answer(&call, &seen(cache.begin(tally, key, charge.max(1))))
         }
-        Step::Get(_) => told.answer(&step, &found(cache.get(tally, key))),
-        Step::Read(_) => told.answer(&step, &cache.read(tally, key, |value| *value)),
-        Step::AdviceEvict(_) => told.answer(&step, &cache.advice_evict(tally, key)),
-        Step::Invalidate(_) => told.answer(&step, &cache.invalidate(tally, key)),
+        Call::Get(_) => told.answer(&call, &found(cache.get(tally, key))),
+        Call::Read(_) => told.answer(&call, &cache.read(tally, key, |value| *value)),
+        Call::AdviceEvict(_) => told.answer(&call, &cache.advice_evict(tally, key)),
+        Call::Invalidate(_) => told.answer(&call, &cache.invalidate(tally, key)),
         _ => {
-            told.line(&step, &NO_SUCH_STEP);
+            told.line(&call, &NO_SUCH_CALL);
             false
         }
     }
@@ -149,7 +150,7 @@ fn ask_with_key<R: Wait + Drop, I: Identity, O: Write, E: Write>(
 fn give_back<R: Wait + Drop, I: Identity, O: Write, E: Write>(
     cache: &LruCache<String, u64, R, I>,
     tally: &mut Tally<String, I>,
-    step: Step<&'static str>,
+    call: Call<&'static str>,
     pin: Pin<u64>,
     told: &mut Told<'_, O, E>,
 )
@@ -157,30 +158,30 @@ fn give_back<R: Wait + Drop, I: Identity, O: Write, E: Write>(
 {
     match cache.release(tally, pin) {
         Err((Refusal::Memory, pin)) => {
-            told.memory(&step);
-            told.line(&step, &back(cache.release(tally, pin)));
+            told.memory(&call);
+            told.line(&call, &back(cache.release(tally, pin)));
         }
-        answer => told.line(&step, &back(answer)),
+        answer => told.line(&call, &back(answer)),
     }
 }
 
-// Takes a step that hands over plain numbers.
+// Makes a call that hands over plain numbers.
 fn ask_plainly<R: Wait + Drop, I: Identity, O: Write, E: Write>(
     cache: &LruCache<String, u64, R, I>,
     tally: &mut Tally<String, I>,
-    step: Step<&'static str>,
+    call: Call<&'static str>,
     told: &mut Told<'_, O, E>,
 ) -> bool
     ensures { tally.new.parts ≡ tally.old.parts }
 {
-    match step {
-        Step::Poll(stamp) => told.answer(&step, &seen(cache.poll(tally, stamp))),
-        Step::Fail(stamp) => told.answer(&step, &cache.fail(tally, stamp)),
-        Step::Prune => told.answer(&step, &cache.prune(tally)),
-        Step::SetCapacity(capacity) => told.answer(&step, &cache.set_capacity(tally, capacity)),
-        Step::Total => told.answer(&step, &cache.total(tally)),
+    match call {
+        Call::Poll(stamp) => told.answer(&call, &seen(cache.poll(tally, stamp))),
+        Call::Fail(stamp) => told.answer(&call, &cache.fail(tally, stamp)),
+        Call::Prune => told.answer(&call, &cache.prune(tally)),
+        Call::SetCapacity(capacity) => told.answer(&call, &cache.set_capacity(tally, capacity)),
+        Call::Total => told.answer(&call, &cache.total(tally)),
         _ => {
-            told.line(&step, &NO_SUCH_STEP);
+            told.line(&call, &NO_SUCH_CALL);
             false
         }
     }

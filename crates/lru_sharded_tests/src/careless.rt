@@ -2,10 +2,9 @@
 //! empty. Handles that are forgotten keep their pins there.
 
 use concurrent_lru::sharded::LruCache;
-use lru_fixtures::tables::answers_as_told;
 use lru_fixtures::threaded::Call::{AdviceEvict, Get, Init, Prune, SetCapacity, Show, Total};
 use lru_fixtures::threaded::Then::{AtOnce, Forget};
-use lru_fixtures::threaded::{Call, Player};
+use lru_fixtures::threaded::{Call, play};
 use lru_support::drops::{DropLog, Logged};
 use lru_support::hashers::ByThree;
 use std::alloc::Global;
@@ -26,8 +25,7 @@ fn plays<R: Wait + Clone + Drop>(
         4,
         ByThree,
     )?;
-    let mut player = Player::new(alloc, &cache, &log)?;
-    answers_as_told(alloc, &mut player, table)
+    play(alloc, &cache, &log, table)
 }
 
 const ONE_SHARD: [(Call, &str); 17] = [

@@ -1,10 +1,9 @@
 //! Counts of all shards: their sum, and a reset of each, also while other threads use the cache.
 
 use concurrent_lru::sharded::{Counts, LruCache, Refusal};
+use lru_fixtures::workers::asked_between_resets;
 use lru_support::hashers::ByOwnNumber;
-use std::sync::Wait;
 use std::test::Fail;
-use std::thread;
 
 #[test]
 fn the_counts_of_all_shards_are_summed(rt: HostRuntime) -> Result<(), Refusal> {
@@ -80,37 +79,6 @@ fn what_each_shard_is_asked_is_counted_there(rt: HostRuntime) {
     assert!(rt; cache.is_empty());
 }
 
-// How often one thread resets the counts, and how often each of three others asks for values.
-const RESETS: u32 = 2_000;
-
-const ASKS: u64 = 20_000;
-
-// The calls that hit, missed or waited.
-fn asked_in(counts: &Counts) -> u64 {
-    counts
-        .hits
-        .wrapping_add(counts.misses)
-        .wrapping_add(counts.waits)
-}
-
-// The calls that some resets tell of.
-fn resets_often<R: Wait>(cache: &LruCache<u64, u64, R, ByOwnNumber>) -> u64 {
-    let mut asked: u64 = 0;
-    for _ in 0..RESETS {
-        asked = asked.wrapping_add(asked_in(&cache.reset_counts()));
-        thread::yield_now();
-    }
-    asked
-}
-
-// Asks each shard for a value in turn. Answers how many calls it was told of, which are none.
-fn asks_often<R: Wait>(cache: &LruCache<u64, u64, R, ByOwnNumber>) -> u64 {
-    for key in 0..ASKS {
-        let _ = cache.read(&key, |value| *value);
-    }
-    0
-}
-
 // No call is missed between two resets, and none is counted twice.
 #[test]
 fn each_call_is_counted_in_one_reset(rt: HostRuntime) -> Result<(), Fail> {
@@ -121,19 +89,6 @@ fn each_call_is_counted_in_one_reset(rt: HostRuntime) -> Result<(), Fail> {
         3,
         ByOwnNumber,
     )?;
-    let told = thread::map_indices(
-        &rt,
-        rt.alloc(),
-        4,
-        &|index| match index {
-            0 => resets_often(&cache),
-            _ => asks_often(&cache),
-        },
-    )?;
-    let mut asked = asked_in(&cache.counts());
-    for part in told.as_slice() {
-        asked = asked.wrapping_add(*part);
-    }
-    assert_eq!(rt; asked, 60_000);
+    assert_eq!(rt; asked_between_resets(&rt, rt.alloc(), &&cache)?, 60_000);
     Ok(())
 }

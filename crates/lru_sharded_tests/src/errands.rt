@@ -2,75 +2,19 @@
 //! no lock is held, and the books are right afterwards.
 
 use concurrent_lru::sharded::LruCache;
-use lru_fixtures::errands::{Errands, Outcome, Sent, VALUES, evicts, serve};
+use lru_fixtures::errands::{Outcome, Sent, causes, outcome_in};
 use lru_fixtures::gates::Cause;
 use lru_support::hashers::ByOwnNumber;
 use std::alloc::Global;
-use std::sync::{Arc, Wait};
-use std::thread;
+use std::sync::Wait;
 use std::thread::Threads;
 
-// What evicts, the capacity of two shards, and what comes of it. Where the first value alone is
-// evicted, its errand evicts the second, of the other shard, and so on, so the drops end last
-// first.
-static CAUSES: [(Cause, u64, Outcome); 6] = [
-    (
-        Cause::Begin,
-        4,
-        Outcome {
-            totals: (1, 0),
-            places: [4, 3, 2, 1, 5],
-            found: 3,
-        },
-    ),
-    (
-        Cause::Failure,
-        4,
-        Outcome {
-            totals: (0, 0),
-            places: [4, 3, 2, 1, 0],
-            found: 3,
-        },
-    ),
-    (
-        Cause::Advice,
-        4,
-        Outcome {
-            totals: (0, 0),
-            places: [4, 3, 2, 1, 0],
-            found: 3,
-        },
-    ),
-    // Values 2 and 4 are evicted as one chain, and the errand of 2 evicts 3 and then 1.
-    (
-        Cause::Prune,
-        4,
-        Outcome {
-            totals: (0, 0),
-            places: [1, 3, 2, 4, 0],
-            found: 1,
-        },
-    ),
-    (
-        Cause::Capacity,
-        4,
-        Outcome {
-            totals: (0, 0),
-            places: [1, 3, 2, 4, 0],
-            found: 1,
-        },
-    ),
-    // Each is evicted as it is let go, the first one last.
-    (
-        Cause::Release,
-        0,
-        Outcome {
-            totals: (0, 0),
-            places: [4, 1, 2, 3, 0],
-            found: 0,
-        },
-    ),
-];
+// Values 2 and 4 are evicted as one chain, and the errand of 2 evicts 3 and then 1.
+const CLEARED: Outcome = Outcome {
+    totals: (0, 0),
+    places: [1, 3, 2, 4, 0],
+    found: 1,
+};
 
 // What comes of a cause in a new cache of two shards, which share this capacity.
 fn outcome<R: Wait + Threads + Send + Sync>(
@@ -87,23 +31,15 @@ fn outcome<R: Wait + Threads + Send + Sync>(
         ByOwnNumber,
     );
     let cache = made.ok()?;
-    let errands = Arc::new(alloc, Errands::new()).ok()?;
-    let (shared, served) = (&cache, &*errands);
-    let totals = thread::scope(thread::scope_env(), rt, |scope| {
-        for number in 1..=VALUES as u64 {
-            let _started = scope.spawn(move || serve(shared, served, number));
-        }
-        evicts(shared, &errands, cause)
-    });
-    errands.outcome(totals)
+    outcome_in(rt, alloc, &&cache, cause)
 }
 
 #[test]
 fn drops_may_use_the_cache(rt: HostRuntime) {
-    for (cause, capacity, wanted) in &CAUSES {
+    for (cause, capacity, wanted) in causes(CLEARED) {
         assert_eq!(rt;
-            outcome(&rt, rt.alloc(), *cause, *capacity),
-            Some(*wanted),
+            outcome(&rt, rt.alloc(), cause, capacity),
+            Some(wanted),
             "{cause:?}"
         );
     }

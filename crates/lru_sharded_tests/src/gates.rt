@@ -1,56 +1,56 @@
-//! What a sharded cache evicts is dropped without the lock of its shard.
-//! Two threads have to meet; where one held the lock, a limit of looks would end it.
+//! What runs without the lock of a shard: makers, and drops.
+//! In each gate two threads have to meet; where one held the lock, a limit of looks would end it.
 
 use concurrent_lru::sharded::LruCache;
-use lru_fixtures::gates::{Cause, Gate, Slow, evict, made_for, total_meanwhile};
+use lru_fixtures::gates::{CAUSES, Cause, Slow, total_in_drop};
+use lru_fixtures::meetings::makers_meet;
 use lru_support::hashers::ByOwnNumber;
 use std::alloc::Global;
-use std::sync::{Arc, Wait};
-use std::thread;
+use std::sync::Wait;
 use std::thread::Threads;
 
-// What evicts a value, the capacity before, and the total while the value is dropped.
-const CAUSES: [(Cause, u64, u128); 7] = [
-    (Cause::Begin, 2, 1),
-    (Cause::Failure, 2, 1),
-    (Cause::Release, 0, 0),
-    (Cause::Advice, 2, 0),
-    (Cause::Invalidation, 2, 0),
-    (Cause::Prune, 2, 0),
-    (Cause::Capacity, 2, 0),
-];
+type Cache<V, R> = LruCache<u64, V, R, ByOwnNumber>;
 
-// The total while a new cache of two shards, which share this capacity, drops a value.
+#[test]
+fn makers_run_without_the_lock_of_their_shard(rt: HostRuntime) {
+    let own = rt.clone().expect(&rt, "memory");
+    let made: Result<Cache<u64, HostRuntime>, _> = LruCache::with_shards_hasher(
+        rt.alloc(),
+        own,
+        20,
+        2,
+        ByOwnNumber,
+    );
+    let cache = made.expect(&rt, "memory");
+    // Of one shard, and of two.
+    for keys in [(1, 3), (5, 6)] {
+        assert_eq!(rt; makers_meet(&rt, &&cache, keys), (true, true), "{keys:?}");
+    }
+}
+
+// The total while a new cache of two shards, which have this capacity each, drops a value.
 fn total_of<R: Wait + Threads + Sync + Send>(
     rt: &R,
     alloc: Global,
     cause: Cause,
-    capacity: u64,
+    share: u64,
 ) -> Option<u128> {
-    let gate = Arc::new(alloc, Gate::new()).ok()?;
-    let made: Result<LruCache<u64, Slow, &R, ByOwnNumber>, _> = LruCache::with_shards_hasher(
+    let made: Result<Cache<Slow, &R>, _> = LruCache::with_shards_hasher(
         alloc,
         rt,
-        capacity,
+        share.saturating_mul(2),
         2,
         ByOwnNumber,
     );
     let cache = made.ok()?;
-    let (shared, met) = (&cache, &gate);
-    let kept = made_for(shared, met, cause)?;
-    let (_, total) = thread::join(
-        rt,
-        move || evict(shared, met, cause, kept),
-        || total_meanwhile(shared, &**met),
-    );
-    gate.told(total)
+    total_in_drop(rt, alloc, &&cache, cause)
 }
 
 #[test]
-fn drops_run_without_the_lock(rt: HostRuntime) {
-    for (cause, capacity, total) in CAUSES {
+fn drops_run_without_the_lock_of_their_shard(rt: HostRuntime) {
+    for (cause, share, total) in CAUSES {
         assert_eq!(rt;
-            total_of(&rt, rt.alloc(), cause, capacity),
+            total_of(&rt, rt.alloc(), cause, share),
             Some(total),
             "{cause:?}"
         );

@@ -3,12 +3,12 @@ ghost use Rattle.std.specs.Prelude.{◌<◌};
 
 use crate::{pure, threaded};
 use concurrent_lru::sharded::LruCache;
+use lru_fixtures::makings::reads_around;
 use lru_fixtures::tables::shards::ShardCall;
 use lru_fixtures::threaded::Call;
 use lru_fixtures::threaded::Call::{Get, Init, Insert, Invalidate, LetGo, Show, Total};
 use lru_fixtures::threaded::Then::{AtOnce, Keep};
 use lru_support::hashers::ByOwnNumber;
-use std::sync::Wait;
 use std::test;
 
 // The shard of the key alone detaches; stamps of the other shard stay as they were.
@@ -78,20 +78,11 @@ fn a_present_key_is_replaced(rt: HostRuntime) -> Result<(), test::Fail> {
     threaded::plays(&rt, rt.alloc(), 20, 2, &PUT_IN)
 }
 
-// What a handle reads after its value was taken back, what is found then, and what is made anew.
-fn reads_around<R: Wait>(cache: &LruCache<u64, u64, R, ByOwnNumber>) -> Option<(u64, bool, u64)> {
-    let old = cache.get_or_init(1, 1, |_| 5).ok()?;
-    cache.invalidate(&1);
-    let found = cache.contains(&1);
-    let new = cache.get_or_init(1, 1, |_| 6).ok()?;
-    Some((*old.value(), found, *new.value()))
-}
-
 #[test]
 fn a_handle_reads_its_own_value(rt: HostRuntime) {
     let made: Result<LruCache<u64, u64, &HostRuntime, ByOwnNumber>, _> =
         LruCache::with_shards_hasher(rt.alloc(), &rt, 10, 2, ByOwnNumber);
     let cache = made.expect(&rt, "memory");
-    assert_eq!(rt; reads_around(&cache), Some((5, false, 6)));
+    assert_eq!(rt; reads_around(&cache), Some((5, None, false, 6)));
     assert_eq!(rt; (cache.total_charge(), cache.len()), (1, 1));
 }

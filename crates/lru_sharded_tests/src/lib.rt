@@ -27,8 +27,6 @@ mod keys;
 #[cfg(test)]
 mod makings;
 #[cfg(test)]
-mod meetings;
-#[cfg(test)]
 mod nested;
 #[cfg(test)]
 mod owned;

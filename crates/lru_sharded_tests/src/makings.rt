@@ -1,76 +1,19 @@
 //! Two callers of one value in a sharded cache: the second waits for what the first makes.
 
 use concurrent_lru::sharded::LruCache;
-use lru_support::flags::{meets, pause, raise};
+use lru_fixtures::makings::{value_beside_total, values_of_two};
 use lru_support::hashers::ByOwnNumber;
-use std::sync::Wait;
-use std::sync::atomic::AtomicU64;
-use std::thread;
-
-type Cache<R> = LruCache<u64, u64, R, ByOwnNumber>;
-
-// The value of key 1, made as 5 while the other caller comes.
-fn makes_first<R: Wait>(cache: &Cache<R>, started: &AtomicU64, coming: &AtomicU64) -> Option<u64> {
-    let mut met = false;
-    let made = cache.get_or_init(1, 3, |_| {
-        raise(started);
-        met = meets(coming);
-        pause();
-        5
-    });
-    match made {
-        Ok(handle) if met => Some(*handle.value()),
-        _ => None,
-    }
-}
-
-// The value of key 1, asked for while it is made; none where this caller made it anew.
-fn comes_second<R: Wait>(cache: &Cache<R>, started: &AtomicU64, coming: &AtomicU64) -> Option<u64> {
-    if !meets(started) {
-        return None;
-    }
-    raise(coming);
-    let mut ran = false;
-    let made = cache.get_or_init(1, 7, |_| {
-        ran = true;
-        6
-    });
-    match made {
-        Ok(handle) if !ran => Some(*handle.value()),
-        _ => None,
-    }
-}
-
-// The value of key 1, where it is ready.
-fn found<R: Wait>(cache: &Cache<R>) -> Option<u64> {
-    match cache.get(1) {
-        Ok(Some(handle)) => Some(*handle.value()),
-        _ => None,
-    }
-}
 
 #[test]
 fn one_value_for_two_callers(rt: HostRuntime) {
-    let made: Result<Cache<&HostRuntime>, _> = LruCache::with_shards_hasher(
-        rt.alloc(),
-        &rt,
-        10,
-        2,
-        ByOwnNumber,
-    );
+    let own = rt.clone().expect(&rt, "memory");
+    let made: Result<LruCache<u64, u64, HostRuntime, ByOwnNumber>, _> =
+        LruCache::with_shards_hasher(rt.alloc(), own, 10, 2, ByOwnNumber);
     let cache = made.expect(&rt, "memory");
-    let started = AtomicU64::new(0);
-    let coming = AtomicU64::new(0);
-    let values = thread::join(
-        &rt,
-        || makes_first(&cache, &started, &coming),
-        || comes_second(&cache, &started, &coming),
-    );
-    assert_eq!(rt; values, (Some(5), Some(5)));
+    assert_eq!(rt; values_of_two(&rt, &&cache), (Some(5), Some(5)));
     // The charge is the maker's.
-    let (third, total) = thread::join(&rt, || found(&cache), || cache.total_charge());
-    assert_eq!(rt; (third, total), (Some(5), 3));
-    // The second waited, or came later and hit.
+    assert_eq!(rt; value_beside_total(&rt, &&cache), (Some(5), 3));
+    // The second waited, or came later and hit; the third found the value.
     let counts = cache.counts();
     assert_eq!(rt;
         (counts.misses, counts.makings, counts.insertions),

@@ -1,7 +1,8 @@
 //! Owned handles of a cache in shards: each keeps the cache alive, and gives its pin back at its
 //! own shard.
 
-use concurrent_lru::sharded::{GetError, LruCache, OwnedHandle, Refusal};
+use concurrent_lru::sharded::{LruCache, OwnedHandle, Refusal};
+use lru_fixtures::owners::{DROPPED_IN_TURN, counts_of_calls, drops_two_handles, fails_once};
 use lru_support::hashers::ByOwnNumber;
 use std::alloc::Global;
 use std::sync::{Arc, Wait};
@@ -18,18 +19,7 @@ fn keeps_nothing<R: Wait + Clone + Drop>(alloc: Global, rt: R) -> Result<Arc<Cac
 #[test]
 fn an_entry_stays_until_its_owned_handles_are_dropped(rt: HostRuntime) {
     let shared = keeps_nothing(rt.alloc(), &rt).expect(&rt, "memory");
-    assert!(rt; matches!(LruCache::get_owned(&shared, &1), Ok(None)));
-    let first = LruCache::get_or_init_owned(&shared, &1, 3, |_| 5).expect(&rt, "memory");
-    let second = LruCache::get_owned(&shared, &1)
-        .expect(&rt, "memory")
-        .expect(&rt, "an entry");
-    assert_eq!(rt; (*first, *second), (5, 5));
-    assert_eq!(rt; Arc::strong_count(&shared), 3);
-    drop(first);
-    assert_eq!(rt; (shared.total_charge(), shared.pinned_charge()), (3, 3));
-    drop(second);
-    assert_eq!(rt; shared.total_charge(), 0);
-    assert_eq!(rt; Arc::strong_count(&shared), 1);
+    assert_eq!(rt; drops_two_handles(&shared), Some(DROPPED_IN_TURN));
 }
 
 // Each shard numbers its entries by itself, so each of these has the stamp 0 in its own.
@@ -56,11 +46,7 @@ fn each_owned_handle_gives_its_pin_back_at_its_own_shard(rt: HostRuntime) {
 #[test]
 fn an_owned_init_may_fail(rt: HostRuntime) {
     let shared = keeps_nothing(rt.alloc(), &rt).expect(&rt, "memory");
-    let failed = LruCache::get_or_try_init_owned(&shared, &1, 3, |_| Err::<u64, u64>(9));
-    assert!(rt; matches!(&failed, Err(GetError::Init(9))));
-    assert_eq!(rt; shared.total_charge(), 0);
-    let made = LruCache::get_or_try_init_owned(&shared, &1, 3, |_| Ok::<u64, u64>(4)).ok();
-    assert_eq!(rt; made.map(|handle| *handle), Some(4));
+    assert_eq!(rt; fails_once(&shared), (Some(9), 0, Some(4)));
     assert_eq!(rt; Arc::strong_count(&shared), 1);
 }
 
@@ -110,18 +96,9 @@ fn owners_of_a_value_share_its_handle(rt: HostRuntime) {
 #[test]
 fn owned_calls_are_counted(rt: HostRuntime) {
     let shared = keeps_nothing(rt.alloc(), &rt).expect(&rt, "memory");
-    assert!(rt; matches!(LruCache::get_owned(&shared, &1), Ok(None)));
-    drop(LruCache::get_or_try_init_owned(&shared, &1, 3, |_| Err::<u64, u64>(9)));
-    let handle = LruCache::get_or_init_owned(&shared, &1, 3, |_| 5).expect(&rt, "memory");
-    drop(LruCache::get_or_try_init_owned(&shared, &1, 7, |_| Ok::<u64, u64>(6)));
-    drop(LruCache::get_owned(&shared, &1));
-    let held = shared.counts();
+    let (held, dropped) = counts_of_calls(&shared).expect(&rt, "memory");
     assert_eq!(rt; (held.hits, held.misses, held.refusals), (2, 3, 0));
     assert_eq!(rt; (held.makings, held.failures), (2, 1));
     assert_eq!(rt; (held.insertions, held.evictions, held.removals), (2, 0, 1));
-    drop(handle);
-    assert_eq!(rt;
-        (shared.counts().evictions, shared.counts().evicted_charge),
-        (1, 3)
-    );
+    assert_eq!(rt; (dropped.evictions, dropped.evicted_charge), (1, 3));
 }

@@ -2,9 +2,10 @@
 
 use concurrent_lru::lru_core::Begun;
 use concurrent_lru::sharded::{LruCache, Refusal, Shards};
+use lru_fixtures::workers::{CAPACITY, stays_right};
 use lru_support::hashers::ByOwnNumber;
 use std::alloc::{AllocError, Global};
-use std::sync::{Arc, Wait};
+use std::sync::Arc;
 use std::test::Fail;
 use std::thread;
 
@@ -88,38 +89,6 @@ fn a_read_keeps_the_entry_in_its_shard(rt: HostRuntime) -> Result<(), Fail> {
     Ok(())
 }
 
-// More keys than the cache keeps, so that some are evicted and made anew all the time.
-const KEYS: u64 = 20;
-
-const CAPACITY: u64 = 8;
-
-const ROUNDS: u32 = 100;
-
-// Whether the value of a key, read where it is ready and asked for otherwise, is ten times the key.
-fn is_right<R: Wait + Clone + Drop>(cache: &LruCache<u64, u64, R, ByOwnNumber>, key: u64) -> bool {
-    let value = match cache.read(&key, |value| *value) {
-        Ok(Some(value)) => Some(value),
-        Ok(None) => match cache.get_or_init(key, 1, |key| key.wrapping_mul(10)) {
-            Ok(handle) => Some(*handle.value()),
-            Err(_) => None,
-        },
-        Err(_) => None,
-    };
-    value == Some(key.wrapping_mul(10))
-}
-
-// Whether those of all keys are, every time.
-fn stay_right<R: Wait + Clone + Drop>(cache: &LruCache<u64, u64, R, ByOwnNumber>) -> bool {
-    for _ in 0..ROUNDS {
-        for key in 0..KEYS {
-            if !is_right(cache, key) {
-                return false;
-            }
-        }
-    }
-    true
-}
-
 #[test]
 fn four_threads_read_what_they_make(rt: HostRuntime) -> Result<(), Fail> {
     let cache: LruCache<u64, u64, &HostRuntime, ByOwnNumber> = LruCache::with_shards_hasher(
@@ -129,7 +98,7 @@ fn four_threads_read_what_they_make(rt: HostRuntime) -> Result<(), Fail> {
         2,
         ByOwnNumber,
     )?;
-    let right = thread::map_indices(&rt, rt.alloc(), 4, &|_| stay_right(&cache))?;
+    let right = thread::map_indices(&rt, rt.alloc(), 4, &|_| stays_right(&cache))?;
     assert_eq!(rt; right.as_slice(), [true; 4].as_slice());
     assert_eq!(rt; cache.total_charge(), u128::from(CAPACITY));
     cache.prune();

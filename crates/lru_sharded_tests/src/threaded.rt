@@ -2,13 +2,12 @@
 ghost use Rattle.std.specs.Prelude.{◌<◌};
 
 use concurrent_lru::sharded::LruCache;
-use lru_fixtures::tables::answers_as_told;
 use lru_fixtures::threaded::Call::{
     AdviceEvict, Capacity, Fail, Get, Init, LetGo, Prune, Reserve, SetCapacity, Show, Total,
     TryInit,
 };
 use lru_fixtures::threaded::Then::{AtOnce, Keep};
-use lru_fixtures::threaded::{Call, Player};
+use lru_fixtures::threaded::{Call, play};
 use lru_support::drops::{DropLog, Logged};
 use lru_support::hashers::ByOwnNumber;
 use std::alloc::Global;
@@ -33,8 +32,7 @@ pub(crate) fn plays<R: Wait + Clone + Drop>(
         shards,
         ByOwnNumber,
     )?;
-    let mut player = Player::new(alloc, &cache, &log)?;
-    answers_as_told(alloc, &mut player, table)
+    play(alloc, &cache, &log, table)
 }
 
 const EACH_FOR_ITSELF: [(Call, &str); 10] = [

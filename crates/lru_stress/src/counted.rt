@@ -1,5 +1,6 @@
 //! Values that count themselves, and know when they were made.
 
+use crate::workers::Unmade;
 use concurrent_lru::lru_core::Refusal;
 use lru_support::calls::Call;
 use std::sync::Arc;
@@ -46,15 +47,6 @@ impl Book {
     pub fn dropped(&self) -> u64 {
         self.dropped.load(Ordering::SeqCst)
     }
-}
-
-/// Why no value was made.
-#[derive(Clone, Copy)]
-pub enum Unmade {
-    /// The making was to fail.
-    Failed,
-    /// The cache refused the call, or memory for the value.
-    Refused(Refusal),
 }
 
 /// A value that counts itself as made and as dropped.

@@ -1,13 +1,14 @@
 //! The stress workload: workers that share a cache or a twin, and all that is checked and counted
-//! of what they did. Programs and tests run it with numbers of their own.
+//! of what they did. Programs and tests run it with numbers of their own, and a benchmark has the
+//! workers share caches of its own.
 #![tactic(auto)]
 
+mod checked;
 mod counted;
 pub mod outcome;
 pub mod plan;
 pub mod run;
 pub mod seed;
-mod shared;
 mod start;
 mod twin;
-mod workers;
+pub mod workers;

@@ -2,6 +2,10 @@
 //! A run of these numbers has the same calls each time, in an order that the schedule chooses.
 ghost use Rattle.std.specs.Prelude.{◌<◌};
 
+/// How many keys the workers of a cache share, and how many each worker of the twin has of its own.
+/// It is a constant, so that no division is made where a call is drawn.
+pub const KEYS: u64 = 100;
+
 /// How much a stress run does, and on which caches.
 #[derive(Clone, Copy)]
 pub struct Plan {
@@ -11,35 +15,33 @@ pub struct Plan {
     pub workers: u16,
     /// How many calls a worker makes.
     pub calls: u32,
-    /// How many keys the workers of a cache share, and how many each worker of the twin has of
-    /// its own.
-    pub keys: u64,
     /// The capacity of the cache of one lock and of the twin, in the units of charges.
     pub lock_capacity: u64,
     /// The capacity of the sharded cache.
     pub shards_capacity: u64,
     /// The number of its shards.
     pub shards: usize,
+    /// Whether a worker yields after each 1,000 calls.
+    pub rests: bool,
     /// How often an `init` yields, so that others ask for what it makes.
     pub yields: u32,
     /// Whether the total is read with each handle held.
     pub looks: bool,
-    ghost keyed: { 0 < keys },
     ghost sharded: { 0 < shards },
 }
 
 impl Plan {
-    /// 8 workers with 10,000 calls each, for 100 keys, at the capacity 100 on one lock and 128 in
-    /// 16 shards. No `init` yields, and no total is read.
+    /// 8 workers with 10,000 calls each, which yield after each 1,000, at the capacity 100 on one
+    /// lock and 128 in 16 shards. No `init` yields, and no total is read.
     pub fn new(seed: u64) -> Plan {
         Plan {
             seed,
             workers: 8,
             calls: 10_000,
-            keys: 100,
             lock_capacity: 100,
             shards_capacity: 128,
             shards: 16,
+            rests: true,
             yields: 0,
             looks: false,
         }

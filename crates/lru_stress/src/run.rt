@@ -1,16 +1,15 @@
 //! The three parts of a stress run: a cache of one lock, a cache in shards, and a twin.
 
-use crate::counted::Book;
+use crate::checked::{Cache, Shards};
 use crate::outcome::{Counts, Trouble};
 use crate::plan::Plan;
-use crate::shared::{Cache, Shards};
-use crate::{twin, workers};
+use crate::{checked, twin};
 use concurrent_lru::sharded::capacity_per_shard;
 use lru_journal::journal::Opening;
 use std::alloc::Global;
 use std::hash::BuildHasherDefault;
 use std::marker::Brand;
-use std::sync::{Arc, Wait};
+use std::sync::Wait;
 use std::thread::Threads;
 
 // A part of a run.
@@ -66,16 +65,8 @@ fn on_one_lock<R: Threads + Wait + Clone + Drop + Send + Sync>(
     alloc: Global,
     plan: &Plan,
 ) -> Result<Counts, Trouble> {
-    let book = Arc::new(alloc, Book::new())?;
     let cache: Cache<R> = Cache::new(alloc, rt.clone()?, plan.lock_capacity);
-    workers::share(
-        rt,
-        alloc,
-        plan,
-        &&cache,
-        &book,
-        u128::from(plan.lock_capacity),
-    )
+    checked::share(rt, alloc, plan, &cache, u128::from(plan.lock_capacity))
 }
 
 fn in_shards<R: Threads + Wait + Clone + Drop + Send + Sync>(
@@ -83,7 +74,6 @@ fn in_shards<R: Threads + Wait + Clone + Drop + Send + Sync>(
     alloc: Global,
     plan: &Plan,
 ) -> Result<Counts, Trouble> {
-    let book = Arc::new(alloc, Book::new())?;
     let made: Result<Shards<R>, _> = Shards::with_shards_hasher(
         alloc,
         rt.clone()?,
@@ -92,7 +82,7 @@ fn in_shards<R: Threads + Wait + Clone + Drop + Send + Sync>(
         BuildHasherDefault::new(),
     );
     let cache = made?;
-    workers::share(rt, alloc, plan, &&cache, &book, allowed_in_shards(plan))
+    checked::share(rt, alloc, plan, &cache, allowed_in_shards(plan))
 }
 
 // The sum of what the shards settle to: each share is rounded up.

@@ -3,7 +3,7 @@ ghost use Rattle.std.specs.Prelude.{◌≡◌, ◌<◌, ◌+◌, IfOk};
 ghost use denote.Param.Send.{IsSync, IsSend};
 
 use crate::outcome::{Check, Counts, Trouble};
-use crate::plan::Plan;
+use crate::plan::{KEYS, Plan};
 use crate::start::Start;
 use lru_journal::journal::{Identity, Journal, LruCache, Opening, Pin, Started, Tally};
 use lru_support::calls::{Call, Calls};
@@ -109,7 +109,7 @@ fn work_from<I: Identity + Send + Sync, R: Threads + Wait + Drop + Send + Sync>(
     Ok((all, accepted.and(more)))
 }
 
-// A worker's calls. After each 1,000 it yields.
+// A worker's calls.
 fn work<I: Identity, R: Wait + Drop>(
     cache: &LruCache<u64, u64, R, I>,
     shift: &Shift<'_>,
@@ -123,12 +123,12 @@ fn work<I: Identity, R: Wait + Drop>(
     }
     let mut accepted = Accepted::none();
     let mut calls = Calls::of_worker(shift.plan.seed, worker as u64);
-    let first = (worker as u64).wrapping_mul(shift.plan.keys);
+    let first = (worker as u64).wrapping_mul(KEYS);
     for number in 0..shift.plan.calls {
-        let mut call = calls.draw(shift.plan.keys);
+        let mut call = calls.draw(KEYS);
         call.key = first.wrapping_add(call.key);
         accepted = accepted.and(use_key(cache, shift.alloc, &mut tally, &call)?);
-        if number % 1_000 == 999 {
+        if shift.plan.rests && number % 1_000 == 999 {
             thread::yield_now();
         }
     }

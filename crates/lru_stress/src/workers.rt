@@ -1,29 +1,74 @@
-//! Workers that share a cache, and what is checked once all have ended.
+//! Workers that share a cache, each with calls of its own.
 
-use crate::counted::{Book, Unmade};
-use crate::outcome::{Check, Counts, Trouble};
-use crate::plan::Plan;
-use crate::shared::{Answer, Manner, Shared};
+use crate::outcome::{Check, Trouble};
+use crate::plan::{KEYS, Plan};
 use crate::start::Start;
 use concurrent_lru::lru_core::Refusal;
 use lru_support::calls::{Call, Calls};
 use std::alloc::Global;
-use std::sync::Arc;
 use std::thread;
 use std::thread::Threads;
 
-// What a worker notes of its calls' answers.
+/// What a call was answered.
 #[derive(Clone, Copy)]
-struct Notes {
-    hits: u64,
-    meetings: u64,
-    greatest: u128,
+pub struct Answer {
+    /// The key that the value was made for.
+    pub key: u64,
+    /// Whether another call's `init` made it.
+    pub is_hit: bool,
+    /// Whether it did so after this call began.
+    pub is_meeting: bool,
+    /// The total while the handle was held, where it was read.
+    pub total: u128,
+}
+
+impl Answer {
+    /// An answer of which nothing is known but the key that the value was made for.
+    pub fn of_key(key: u64) -> Answer {
+        Answer {
+            key,
+            is_hit: false,
+            is_meeting: false,
+            total: 0,
+        }
+    }
+}
+
+/// Why a call gave no value.
+#[derive(Clone, Copy)]
+pub enum Unmade {
+    /// The making was to fail.
+    Failed,
+    /// The cache refused the call, or memory for the value.
+    Refused(Refusal),
+}
+
+/// A cache as its workers ask it. It has no associated type, since the checker covers no closure of
+/// a thread over one that has.
+pub trait Shared {
+    /// Asks for a value, and drops its handle at once.
+    fn fetch(&self, call: &Call) -> Result<Answer, Unmade>;
+}
+
+/// What workers note of their calls' answers.
+#[derive(Clone, Copy)]
+pub struct Notes {
+    /// The sum of the values' keys, of the calls whose making would not fail. Where one would,
+    /// whether a value is read depends on the others; so this sum is the same on every schedule.
+    pub sum: u64,
+    /// How many calls were answered with a value that another call made.
+    pub hits: u64,
+    /// How many of these values were made after the call began.
+    pub meetings: u64,
+    /// The greatest total that was read with a handle held; 0 where none was read.
+    pub greatest: u128,
     trouble: Option<Trouble>,
 }
 
 impl Notes {
     fn none() -> Notes {
         Notes {
+            sum: 0,
             hits: 0,
             meetings: 0,
             greatest: 0,
@@ -33,16 +78,19 @@ impl Notes {
 
     fn note(&mut self, call: &Call, answer: Result<Answer, Unmade>) {
         match answer {
-            Ok(answer) => self.note_value(answer),
+            Ok(answer) => self.note_value(call, answer),
             Err(Unmade::Failed) if call.fails => {}
             Err(Unmade::Refused(Refusal::Memory)) => self.trouble = Some(Trouble::Refused),
             Err(_) => self.note_failed(),
         }
     }
 
-    fn note_value(&mut self, answer: Answer) {
-        if !answer.fits {
+    fn note_value(&mut self, call: &Call, answer: Answer) {
+        if answer.key != call.key {
             self.note_failed();
+        }
+        if !call.fails {
+            self.sum = self.sum.wrapping_add(answer.key);
         }
         self.hits = self.hits.wrapping_add(u64::from(answer.is_hit));
         self.meetings = self.meetings.wrapping_add(u64::from(answer.is_meeting));
@@ -58,6 +106,7 @@ impl Notes {
     fn sum(notes: &[Notes]) -> Notes {
         let mut sum = Notes::none();
         for note in notes {
+            sum.sum = sum.sum.wrapping_add(note.sum);
             sum.hits = sum.hits.wrapping_add(note.hits);
             sum.meetings = sum.meetings.wrapping_add(note.meetings);
             sum.greatest = sum.greatest.max(note.greatest);
@@ -67,45 +116,15 @@ impl Notes {
     }
 }
 
-/// All workers' calls of a cache, whose total may be so much in the end, and what was counted.
+/// Has all workers make their calls of a cache at once, and answers what they noted together.
 ///
-/// `Refused` where memory was refused to a call, or a worker had no thread of its own; else the
-/// first check that failed.
+/// `Refused` where memory was refused to a call, or a worker had no thread of its own; else
+/// `Failed(Answers)` where a call whose making would not fail got no value, or that of another key.
 pub fn share<R: Threads + Sync, C: Shared + Sync>(
     rt: &R,
     alloc: Global,
     plan: &Plan,
     cache: &C,
-    book: &Arc<Book>,
-    allowed: u128,
-) -> Result<Counts, Trouble> {
-    let manner = Manner {
-        book: Arc::try_clone(book)?,
-        yields: plan.yields,
-        looks: plan.looks,
-    };
-    let sum = notes_of_all(rt, alloc, plan, cache, &manner)?;
-    if let Some(trouble) = sum.trouble {
-        return Err(trouble);
-    }
-    let counts = Counts {
-        makings: book.inits(),
-        hits: sum.hits,
-        evictions: book.dropped(),
-        meetings: sum.meetings,
-        greatest: sum.greatest,
-    };
-    check(cache, book, allowed)?;
-    Ok(counts)
-}
-
-// Has all workers make their calls at once.
-fn notes_of_all<R: Threads + Sync, C: Shared + Sync>(
-    rt: &R,
-    alloc: Global,
-    plan: &Plan,
-    cache: &C,
-    manner: &Manner,
 ) -> Result<Notes, Trouble> {
     let start = Start::of(plan.workers);
     let together = &start;
@@ -113,13 +132,17 @@ fn notes_of_all<R: Threads + Sync, C: Shared + Sync>(
         rt,
         alloc,
         usize::from(plan.workers),
-        &|worker| { work(cache, plan, worker, manner, together) },
+        &|worker| { work(cache, plan, worker, together) },
     )?;
-    Ok(Notes::sum(&notes))
+    let sum = Notes::sum(&notes);
+    match sum.trouble {
+        Some(trouble) => Err(trouble),
+        None => Ok(sum),
+    }
 }
 
-// A worker's calls. After each 1,000 it yields.
-fn work<C: Shared>(cache: &C, plan: &Plan, worker: usize, manner: &Manner, start: &Start) -> Notes {
+// A worker's calls.
+fn work<C: Shared>(cache: &C, plan: &Plan, worker: usize, start: &Start) -> Notes {
     let mut notes = Notes::none();
     if !start.meets_all() {
         notes.trouble = Some(Trouble::Refused);
@@ -127,26 +150,11 @@ fn work<C: Shared>(cache: &C, plan: &Plan, worker: usize, manner: &Manner, start
     }
     let mut calls = Calls::of_worker(plan.seed, worker as u64);
     for number in 0..plan.calls {
-        let call = calls.draw(plan.keys);
-        notes.note(&call, cache.fetch(&call, manner));
-        if number % 1_000 == 999 {
+        let call = calls.draw(KEYS);
+        notes.note(&call, cache.fetch(&call));
+        if plan.rests && number % 1_000 == 999 {
             thread::yield_now();
         }
     }
     notes
-}
-
-// What is checked of a cache that no worker uses any more.
-fn check<C: Shared>(cache: &C, book: &Book, allowed: u128) -> Result<(), Trouble> {
-    if cache.charged() > allowed {
-        return Err(Trouble::Failed(Check::Total));
-    }
-    cache.prune_all();
-    if cache.charged() != 0 {
-        return Err(Trouble::Failed(Check::Prune));
-    }
-    if book.dropped() != book.made() {
-        return Err(Trouble::Failed(Check::Drops));
-    }
-    Ok(())
 }

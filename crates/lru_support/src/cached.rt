@@ -3,6 +3,7 @@
 ghost use Rattle.std.specs.Prelude.{◌<◌};
 ghost use Rattle.std.specs.Fn.{FnOnceTakesAt};
 
+use concurrent_lru::counts::Counts;
 use concurrent_lru::lru_core::Refusal;
 use concurrent_lru::unsharded::GetError;
 use concurrent_lru::{sharded, unsharded};
@@ -64,6 +65,15 @@ pub trait Cached<V>: Copy {
 
     /// `total_charge`.
     fn total(self) -> u128;
+
+    /// `contains`.
+    fn contains(self, key: u64) -> bool;
+
+    /// `counts`.
+    fn counts(self) -> Counts;
+
+    /// `reset_counts`.
+    fn reset_counts(self) -> Counts;
 }
 
 impl<'a, V: Drop, R: Wait> Cached<V> for &'a unsharded::LruCache<u64, V, R> {
@@ -136,6 +146,18 @@ impl<'a, V: Drop, R: Wait> Cached<V> for &'a unsharded::LruCache<u64, V, R> {
     fn total(self) -> u128 {
         u128::from(self.total_charge())
     }
+
+    fn contains(self, key: u64) -> bool {
+        unsharded::LruCache::contains(self, &key)
+    }
+
+    fn counts(self) -> Counts {
+        unsharded::LruCache::counts(self)
+    }
+
+    fn reset_counts(self) -> Counts {
+        unsharded::LruCache::reset_counts(self)
+    }
 }
 
 impl<'a, V: Drop, R: Wait, S: BuildHasher> Cached<V> for &'a sharded::LruCache<u64, V, R, S> {
@@ -207,5 +229,17 @@ impl<'a, V: Drop, R: Wait, S: BuildHasher> Cached<V> for &'a sharded::LruCache<u
 
     fn total(self) -> u128 {
         self.total_charge()
+    }
+
+    fn contains(self, key: u64) -> bool {
+        sharded::LruCache::contains(self, &key)
+    }
+
+    fn counts(self) -> Counts {
+        sharded::LruCache::counts(self)
+    }
+
+    fn reset_counts(self) -> Counts {
+        sharded::LruCache::reset_counts(self)
     }
 }

@@ -1,7 +1,7 @@
 //! A capacity set while values are held, made and waited for.
 
-use crate::makings::{Meeting, comes_second, found};
 use concurrent_lru::unsharded::LruCache;
+use lru_fixtures::makings::{Meeting, comes_second, value_found};
 use lru_fixtures::tables::answers_as_told;
 use lru_fixtures::threaded::Call::{Init, LetGo, Total};
 use lru_fixtures::threaded::Then::{AtOnce, Keep};
@@ -108,5 +108,5 @@ fn makers_and_waiters_outlive_a_change(rt: HostRuntime) {
     );
     assert_eq!(rt; (made, waited, total), (Some(5), Some(5), Some(3)));
     // The last of the two handles was let go at capacity 0.
-    assert_eq!(rt; (cache.total_charge(), found(&cache)), (0, None));
+    assert_eq!(rt; (cache.total_charge(), value_found(&cache, 1)), (0, None));
 }

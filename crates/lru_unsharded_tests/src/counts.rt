@@ -1,8 +1,10 @@
 //! Counts of what calls did: each kind of call, that they add up, and what a reset answers, also
 //! while other threads use the cache.
 
-use crate::makings::{Meeting, comes_second, fails_first, makes_first, takes_over};
+use crate::makings::{MEETINGS, one_fails_and_one_makes};
 use concurrent_lru::unsharded::{Counts, GetError, LruCache};
+use lru_fixtures::makings::values_of_two;
+use lru_fixtures::workers::asked_between_resets;
 use std::alloc::Global;
 use std::sync::Wait;
 use std::test::Fail;
@@ -315,9 +317,6 @@ fn the_hit_ratio_is_of_hits_and_misses(rt: HostRuntime) {
     assert_eq!(rt; more.hit_ratio(), Some(1.0));
 }
 
-// How often the two meet again, at most, where the second came too late to wait.
-const MEETINGS: u32 = 50;
-
 // The counts after two callers asked for one value, the second while the first made it; none where
 // the second came too late.
 fn counts_of_meeting<R: Wait + Threads + Clone + Drop + Send + Sync>(
@@ -325,12 +324,7 @@ fn counts_of_meeting<R: Wait + Threads + Clone + Drop + Send + Sync>(
     alloc: Global,
 ) -> Option<Counts> {
     let cache: LruCache<u64, u64, R> = LruCache::new(alloc, rt.clone().ok()?, 10);
-    let meeting = Meeting::new();
-    let made = thread::join(
-        rt,
-        || makes_first(&cache, &meeting),
-        || comes_second(&cache, &meeting),
-    );
+    let made = values_of_two(rt, &&cache);
     let counts = cache.counts();
     match made {
         (Some(5), Some(5)) if counts.hits == 0 => Some(counts),
@@ -361,17 +355,9 @@ fn counts_of_failure<R: Wait + Threads + Clone + Drop + Send + Sync>(
     alloc: Global,
 ) -> Option<Counts> {
     let cache: LruCache<u64, u64, R> = LruCache::new(alloc, rt.clone().ok()?, 10);
-    let meeting = Meeting::new();
-    let made = thread::join(
-        rt,
-        || fails_first(&cache, &meeting),
-        || takes_over(&cache, &meeting),
-    );
+    let ended = one_fails_and_one_makes(rt, &cache);
     let counts = cache.counts();
-    match made {
-        (true, Some(5)) if counts.waits > 0 => Some(counts),
-        _ => None,
-    }
+    (ended && counts.waits > 0).then_some(counts)
 }
 
 // The entry stays for the caller that waits, so it is neither removed nor inserted again.
@@ -421,54 +407,10 @@ fn four_threads_counts_add_up(rt: HostRuntime) -> Result<(), Fail> {
     Ok(())
 }
 
-// How often one thread resets the counts, and how often each of three others asks for a value.
-const RESETS: u32 = 2_000;
-
-const ASKS: u32 = 20_000;
-
-// The calls that hit, missed or waited.
-fn asked_in(counts: &Counts) -> u64 {
-    counts
-        .hits
-        .wrapping_add(counts.misses)
-        .wrapping_add(counts.waits)
-}
-
-// The calls that some resets tell of.
-fn resets_often<R: Wait>(cache: &LruCache<u64, u64, R>) -> u64 {
-    let mut asked: u64 = 0;
-    for _ in 0..RESETS {
-        asked = asked.wrapping_add(asked_in(&cache.reset_counts()));
-        thread::yield_now();
-    }
-    asked
-}
-
-// Asks for a value. Answers how many calls it was told of, which are none.
-fn asks_often<R: Wait>(cache: &LruCache<u64, u64, R>) -> u64 {
-    for _ in 0..ASKS {
-        let _ = cache.read(&1, |value| *value);
-    }
-    0
-}
-
 // No call is missed between two resets, and none is counted twice.
 #[test]
 fn each_call_is_counted_in_one_reset(rt: HostRuntime) -> Result<(), Fail> {
     let cache: LruCache<u64, u64, &HostRuntime> = LruCache::new(rt.alloc(), &rt, 8);
-    let told = thread::map_indices(
-        &rt,
-        rt.alloc(),
-        4,
-        &|index| match index {
-            0 => resets_often(&cache),
-            _ => asks_often(&cache),
-        },
-    )?;
-    let mut asked = asked_in(&cache.counts());
-    for part in told.as_slice() {
-        asked = asked.wrapping_add(*part);
-    }
-    assert_eq!(rt; asked, 60_000);
+    assert_eq!(rt; asked_between_resets(&rt, rt.alloc(), &&cache)?, 60_000);
     Ok(())
 }

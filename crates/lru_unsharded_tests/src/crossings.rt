@@ -1,8 +1,8 @@
 //! Caches and handles that cross threads.
 
-use crate::makings::found;
 use concurrent_lru::fit::Fit;
 use concurrent_lru::unsharded::{CacheHandle, LruCache};
+use lru_fixtures::makings::value_found;
 use std::hash::Hash;
 use std::sync::{Arc, Wait};
 use std::thread;
@@ -59,7 +59,7 @@ fn one_thread_finds_what_another_made(rt: HostRuntime) {
     let theirs = Arc::try_clone(&shared).expect(&rt, "memory");
     let maker = thread::spawn(&rt, move || makes_one(&*theirs)).expect(&rt, "a thread");
     assert!(rt; maker.join(&rt));
-    let finder = thread::spawn(&rt, move || found(&*shared)).expect(&rt, "a thread");
+    let finder = thread::spawn(&rt, move || value_found(&*shared, 1)).expect(&rt, "a thread");
     assert_eq!(rt; finder.join(&rt), Some(7));
 }
 

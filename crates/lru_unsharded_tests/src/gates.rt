@@ -2,38 +2,18 @@
 //! In each gate two threads have to meet; where one held the lock, a limit of looks would end it.
 
 use concurrent_lru::unsharded::LruCache;
-use lru_fixtures::gates::{Cause, Gate, Slow, evict, made_for, total_meanwhile};
-use lru_fixtures::meetings::{Print, Shown, meets_in_making, text_and_number};
+use lru_fixtures::gates::{CAUSES, Cause, Slow, total_in_drop};
+use lru_fixtures::meetings::{Shown, makers_meet, text_while_read};
 use std::alloc::Global;
-use std::sync::atomic::AtomicU64;
-use std::sync::{Arc, Wait};
-use std::thread;
+use std::sync::Wait;
 use std::thread::Threads;
 
 #[test]
 fn makers_run_without_the_lock(rt: HostRuntime) {
     let own = rt.clone().expect(&rt, "memory");
     let cache: LruCache<u64, u64, HostRuntime> = LruCache::new(rt.alloc(), own, 10);
-    let first = AtomicU64::new(0);
-    let second = AtomicU64::new(0);
-    let met = thread::join(
-        &rt,
-        || meets_in_making(&cache, 1, &first, &second),
-        || meets_in_making(&cache, 2, &second, &first),
-    );
-    assert_eq!(rt; met, (true, true));
+    assert_eq!(rt; makers_meet(&rt, &&cache, (1, 2)), (true, true));
 }
-
-// What evicts a value, the capacity before, and the total while the value is dropped.
-const CAUSES: [(Cause, u64, u128); 7] = [
-    (Cause::Begin, 1, 1),
-    (Cause::Failure, 1, 1),
-    (Cause::Release, 0, 0),
-    (Cause::Advice, 1, 0),
-    (Cause::Invalidation, 1, 0),
-    (Cause::Prune, 1, 0),
-    (Cause::Capacity, 1, 0),
-];
 
 // The total while a new cache of this capacity drops a value.
 fn total_of<R: Wait + Threads + Clone + Drop + Sync + Send>(
@@ -42,16 +22,8 @@ fn total_of<R: Wait + Threads + Clone + Drop + Sync + Send>(
     cause: Cause,
     capacity: u64,
 ) -> Option<u128> {
-    let gate = Arc::new(alloc, Gate::new()).ok()?;
     let cache: LruCache<u64, Slow, R> = LruCache::new(alloc, rt.clone().ok()?, capacity);
-    let (shared, met) = (&cache, &gate);
-    let kept = made_for(shared, met, cause)?;
-    let (_, total) = thread::join(
-        rt,
-        move || evict(shared, met, cause, kept),
-        || total_meanwhile(shared, &**met),
-    );
-    gate.told(total)
+    total_in_drop(rt, alloc, &&cache, cause)
 }
 
 #[test]
@@ -67,14 +39,9 @@ fn drops_run_without_the_lock(rt: HostRuntime) {
 
 #[test]
 fn a_handle_is_read_without_the_lock(rt: HostRuntime) {
-    let print = Arc::new(rt.alloc(), Print::new()).expect(&rt, "memory");
-    let shown = Shown::new(&print, 7).expect(&rt, "memory");
     let own = rt.clone().expect(&rt, "memory");
     let cache: LruCache<u64, Shown, HostRuntime> = LruCache::new(rt.alloc(), own, 10);
-    let handle = cache
-        .get_or_init(1, 1, move |_| shown)
-        .expect(&rt, "memory");
-    let (text, number) = text_and_number(&rt, rt.alloc(), &cache, &handle, &*print);
-    assert_eq!(rt; text.expect(&rt, "memory").as_str(), "{1: 7}");
-    assert_eq!(rt; (number, print.is_met()), (Some(7), true));
+    let read = text_while_read(&rt, rt.alloc(), &cache);
+    let (text, number) = read.expect(&rt, "a meeting");
+    assert_eq!(rt; (text.as_str(), number), ("{1: 7}", 7));
 }

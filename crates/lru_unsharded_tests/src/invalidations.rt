@@ -1,8 +1,8 @@
 //! Values that are taken back while handles read them, and while callers wait for them.
 
-use crate::makings::{Meeting, found};
 use crate::play::plays;
 use concurrent_lru::unsharded::LruCache;
+use lru_fixtures::makings::{Meeting, reads_around, value_found};
 use lru_fixtures::threaded::Call;
 use lru_fixtures::threaded::Call::{Get, Init, Insert, Invalidate, LetGo, Prune, Show, Total};
 use lru_fixtures::threaded::Then::{AtOnce, Keep};
@@ -174,20 +174,11 @@ fn a_cache_of_no_capacity_keeps_nothing(rt: HostRuntime) -> Result<(), test::Fai
     plays(&rt, rt.alloc(), 0, &NO_CAPACITY)
 }
 
-// What a handle reads after its value was taken back, what is found then, and what is made anew.
-fn reads_around<R: Wait>(cache: &LruCache<u64, u64, R>) -> Option<(u64, Option<u64>, u64)> {
-    let old = cache.get_or_init(1, 1, |_| 5).ok()?;
-    cache.invalidate(&1);
-    let meanwhile = found(cache);
-    let new = cache.get_or_init(1, 1, |_| 6).ok()?;
-    Some((*old.value(), meanwhile, *new.value()))
-}
-
 #[test]
 fn a_handle_reads_its_own_value(rt: HostRuntime) {
     let own = rt.clone().expect(&rt, "memory");
     let cache: LruCache<u64, u64, HostRuntime> = LruCache::new(rt.alloc(), own, 10);
-    assert_eq!(rt; reads_around(&cache), Some((5, None, 6)));
+    assert_eq!(rt; reads_around(&cache), Some((5, None, false, 6)));
     assert_eq!(rt; (cache.total_charge(), cache.len()), (1, 1));
 }
 
@@ -242,10 +233,16 @@ fn a_waiter_has_the_outcome_of_its_making(rt: HostRuntime) {
         );
         assert_eq!(rt; made, Some(5));
         match came {
-            Some((5, false)) => assert_eq!(rt; (found(&cache), cache.total_charge()), (None, 0)),
+            Some((5, false)) => assert_eq!(rt;
+                (value_found(&cache, 1), cache.total_charge()),
+                (None, 0)
+            ),
             other => {
                 assert_eq!(rt; other, Some((6, true)));
-                assert_eq!(rt; (found(&cache), cache.total_charge()), (Some(6), 7));
+                assert_eq!(rt;
+                    (value_found(&cache, 1), cache.total_charge()),
+                    (Some(6), 7)
+                );
             }
         }
     }

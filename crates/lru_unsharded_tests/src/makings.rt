@@ -1,93 +1,24 @@
 //! Two callers of one value: the second waits, takes over, or finds what the first made.
 
 use concurrent_lru::unsharded::{GetError, LruCache};
+use lru_fixtures::makings::{Meeting, value_beside_total, values_of_two};
 use lru_support::flags::{meets, pause, raise};
 use std::alloc::Global;
 use std::sync::Wait;
-use std::sync::atomic::AtomicU64;
 use std::thread;
 use std::thread::Threads;
-
-/// Where two callers of a value are: the first makes it, and the second comes.
-#[derive(Drop)]
-pub struct Meeting {
-    pub started: AtomicU64,
-    pub coming: AtomicU64,
-}
-
-impl Meeting {
-    /// Neither is there yet.
-    pub(crate) fn new() -> Meeting {
-        Meeting {
-            started: AtomicU64::new(0),
-            coming: AtomicU64::new(0),
-        }
-    }
-}
-
-/// The value of key 1, made as 5 while the other caller comes.
-pub(crate) fn makes_first<R: Wait>(
-    cache: &LruCache<u64, u64, R>,
-    meeting: &Meeting,
-) -> Option<u64> {
-    let mut met = false;
-    let made = cache.get_or_init(1, 3, |_| {
-        raise(&meeting.started);
-        met = meets(&meeting.coming);
-        pause();
-        5
-    });
-    match made {
-        Ok(handle) if met => Some(*handle.value()),
-        _ => None,
-    }
-}
-
-/// The value of key 1, asked for while it is made; none where this caller made it anew.
-pub(crate) fn comes_second<R: Wait>(
-    cache: &LruCache<u64, u64, R>,
-    meeting: &Meeting,
-) -> Option<u64> {
-    if !meets(&meeting.started) {
-        return None;
-    }
-    raise(&meeting.coming);
-    let mut ran = false;
-    let made = cache.get_or_init(1, 7, |_| {
-        ran = true;
-        6
-    });
-    match made {
-        Ok(handle) if !ran => Some(*handle.value()),
-        _ => None,
-    }
-}
-
-/// The value of key 1, where it is ready.
-pub(crate) fn found<R: Wait>(cache: &LruCache<u64, u64, R>) -> Option<u64> {
-    match cache.get(1) {
-        Ok(Some(handle)) => Some(*handle.value()),
-        _ => None,
-    }
-}
 
 #[test]
 fn one_value_for_two_callers(rt: HostRuntime) {
     let own = rt.clone().expect(&rt, "memory");
     let cache: LruCache<u64, u64, HostRuntime> = LruCache::new(rt.alloc(), own, 10);
-    let meeting = Meeting::new();
-    let values = thread::join(
-        &rt,
-        || makes_first(&cache, &meeting),
-        || comes_second(&cache, &meeting),
-    );
-    assert_eq!(rt; values, (Some(5), Some(5)));
-    let (third, total) = thread::join(&rt, || found(&cache), || cache.total_charge());
-    assert_eq!(rt; (third, total), (Some(5), 3));
+    assert_eq!(rt; values_of_two(&rt, &&cache), (Some(5), Some(5)));
+    // The charge is the maker's.
+    assert_eq!(rt; value_beside_total(&rt, &&cache), (Some(5), 3));
 }
 
-/// Fails to make key 1 once the other caller comes, and says whether it did.
-pub(crate) fn fails_first<R: Wait>(cache: &LruCache<u64, u64, R>, meeting: &Meeting) -> bool {
+// Fails to make key 1 once the other caller comes, and says whether it did.
+fn fails_first<R: Wait>(cache: &LruCache<u64, u64, R>, meeting: &Meeting) -> bool {
     let made = cache.get_or_try_init(1, 3, |_| -> Result<u64, u8> {
         raise(&meeting.started);
         let error = if meets(&meeting.coming) { 9 } else { 8 };
@@ -97,8 +28,8 @@ pub(crate) fn fails_first<R: Wait>(cache: &LruCache<u64, u64, R>, meeting: &Meet
     matches!(&made, Err(GetError::Init(9)))
 }
 
-/// The value of key 1, which this caller makes as 5 where the other has failed.
-pub(crate) fn takes_over<R: Wait>(cache: &LruCache<u64, u64, R>, meeting: &Meeting) -> Option<u64> {
+// The value of key 1, which this caller makes as 5 where the other has failed.
+fn takes_over<R: Wait>(cache: &LruCache<u64, u64, R>, meeting: &Meeting) -> Option<u64> {
     if !meets(&meeting.started) {
         return None;
     }
@@ -109,25 +40,35 @@ pub(crate) fn takes_over<R: Wait>(cache: &LruCache<u64, u64, R>, meeting: &Meeti
     }
 }
 
-// How often the two meet again, at most, where the second came too late to wait.
-const MEETINGS: u32 = 50;
+/// Whether the first caller failed at the charge 3, and the second, which asked meanwhile with the
+/// charge 7, made the value.
+pub(crate) fn one_fails_and_one_makes<R: Wait + Threads + Send + Sync>(
+    rt: &R,
+    cache: &LruCache<u64, u64, R>,
+) -> bool {
+    let meeting = Meeting::new();
+    let (failed, made) = thread::join(
+        rt,
+        || fails_first(cache, &meeting),
+        || takes_over(cache, &meeting),
+    );
+    failed && made == Some(5)
+}
 
-// The total after the first caller failed at the charge 3 and the second, which asked with the
-// charge 7, made the value; none where one of them did otherwise.
+/// How often two callers meet again, at most, where the second came too late to wait.
+pub(crate) const MEETINGS: u32 = 50;
+
+// The total after the first caller failed and the second made the value; none where one of them did
+// otherwise.
 fn total_after_failure<R: Wait + Threads + Clone + Drop + Send + Sync>(
     rt: &R,
     alloc: Global,
 ) -> Option<u64> {
     let cache: LruCache<u64, u64, R> = LruCache::new(alloc, rt.clone().ok()?, 10);
-    let meeting = Meeting::new();
-    let made = thread::join(
-        rt,
-        || fails_first(&cache, &meeting),
-        || takes_over(&cache, &meeting),
-    );
-    match made {
-        (true, Some(5)) => Some(cache.total_charge()),
-        _ => None,
+    if one_fails_and_one_makes(rt, &cache) {
+        Some(cache.total_charge())
+    } else {
+        None
     }
 }
 

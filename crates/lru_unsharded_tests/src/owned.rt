@@ -1,6 +1,7 @@
 //! Handles are read as their values, and owned ones keep their cache alive.
 
-use concurrent_lru::unsharded::{GetError, LruCache, OwnedHandle};
+use concurrent_lru::unsharded::{LruCache, OwnedHandle};
+use lru_fixtures::owners::{DROPPED_IN_TURN, counts_of_calls, drops_two_handles, fails_once};
 use std::alloc::Global;
 use std::sync::{Arc, Wait};
 use std::thread;
@@ -12,41 +13,27 @@ fn a_handle_is_read_as_its_value(rt: HostRuntime) {
     assert_eq!(rt; *handle, 5);
 }
 
+// A cache that keeps nothing idle.
+fn keeps_nothing<R: Wait + Drop>(alloc: Global, rt: R) -> Option<Arc<LruCache<u64, u64, R>>> {
+    Arc::new(alloc, LruCache::new(alloc, rt, 0)).ok()
+}
+
 #[test]
 fn an_entry_stays_until_its_owned_handles_are_dropped(rt: HostRuntime) {
-    let alloc = rt.alloc();
-    let cache: LruCache<u64, u64, &HostRuntime> = LruCache::new(alloc, &rt, 0);
-    let shared = Arc::new(alloc, cache).expect(&rt, "memory");
-    assert!(rt; matches!(LruCache::get_owned(&shared, &1), Ok(None)));
-    let first = LruCache::get_or_init_owned(&shared, &1, 3, |_| 5).expect(&rt, "memory");
-    let second = LruCache::get_owned(&shared, &1)
-        .expect(&rt, "memory")
-        .expect(&rt, "an entry");
-    assert_eq!(rt; (*first, *second), (5, 5));
-    assert_eq!(rt; Arc::strong_count(&shared), 3);
-    drop(first);
-    assert_eq!(rt; (shared.total_charge(), shared.pinned_charge()), (3, 3));
-    drop(second);
-    assert_eq!(rt; shared.total_charge(), 0);
-    assert_eq!(rt; Arc::strong_count(&shared), 1);
+    let shared = keeps_nothing(rt.alloc(), &rt).expect(&rt, "memory");
+    assert_eq!(rt; drops_two_handles(&shared), Some(DROPPED_IN_TURN));
 }
 
 #[test]
 fn an_owned_init_may_fail(rt: HostRuntime) {
-    let alloc = rt.alloc();
-    let cache: LruCache<u64, u64, &HostRuntime> = LruCache::new(alloc, &rt, 10);
-    let shared = Arc::new(alloc, cache).expect(&rt, "memory");
-    let failed = LruCache::get_or_try_init_owned(&shared, &1, 3, |_| Err::<u64, u64>(9));
-    assert!(rt; matches!(&failed, Err(GetError::Init(9))));
-    assert_eq!(rt; shared.total_charge(), 0);
-    let made = LruCache::get_or_try_init_owned(&shared, &1, 3, |_| Ok::<u64, u64>(4)).ok();
-    assert_eq!(rt; made.map(|handle| *handle), Some(4));
+    let shared = keeps_nothing(rt.alloc(), &rt).expect(&rt, "memory");
+    assert_eq!(rt; fails_once(&shared), (Some(9), 0, Some(4)));
     assert_eq!(rt; Arc::strong_count(&shared), 1);
 }
 
 // A handle whose cache has no other owner.
 fn alone<R: Wait + Drop>(alloc: Global, rt: R) -> Option<OwnedHandle<u64, u64, R>> {
-    let cache = Arc::new(alloc, LruCache::new(alloc, rt, 0)).ok()?;
+    let cache = keeps_nothing(alloc, rt)?;
     LruCache::get_or_init_owned(&cache, &1, 3, |_| 5).ok()
 }
 
@@ -75,21 +62,10 @@ fn an_owned_handle_ends_on_another_thread(rt: HostRuntime) {
 // Each call counts as the one that it is named after.
 #[test]
 fn owned_calls_are_counted(rt: HostRuntime) {
-    let alloc = rt.alloc();
-    let cache: LruCache<u64, u64, &HostRuntime> = LruCache::new(alloc, &rt, 0);
-    let shared = Arc::new(alloc, cache).expect(&rt, "memory");
-    assert!(rt; matches!(LruCache::get_owned(&shared, &1), Ok(None)));
-    drop(LruCache::get_or_try_init_owned(&shared, &1, 3, |_| Err::<u64, u64>(9)));
-    let handle = LruCache::get_or_init_owned(&shared, &1, 3, |_| 5).expect(&rt, "memory");
-    drop(LruCache::get_or_try_init_owned(&shared, &1, 7, |_| Ok::<u64, u64>(6)));
-    drop(LruCache::get_owned(&shared, &1));
-    let held = shared.counts();
+    let shared = keeps_nothing(rt.alloc(), &rt).expect(&rt, "memory");
+    let (held, dropped) = counts_of_calls(&shared).expect(&rt, "memory");
     assert_eq!(rt; (held.hits, held.misses, held.refusals), (2, 3, 0));
     assert_eq!(rt; (held.makings, held.failures), (2, 1));
     assert_eq!(rt; (held.insertions, held.evictions, held.removals), (2, 0, 1));
-    drop(handle);
-    assert_eq!(rt;
-        (shared.counts().evictions, shared.counts().evicted_charge),
-        (1, 3)
-    );
+    assert_eq!(rt; (dropped.evictions, dropped.evicted_charge), (1, 3));
 }

@@ -1,8 +1,7 @@
 //! A table of calls, made of a new cache by one thread.
 
 use concurrent_lru::unsharded::LruCache;
-use lru_fixtures::tables::answers_as_told;
-use lru_fixtures::threaded::{Call, Player};
+use lru_fixtures::threaded::{Call, play};
 use lru_support::drops::{DropLog, Logged};
 use std::alloc::Global;
 use std::sync::Wait;
@@ -17,6 +16,5 @@ pub(crate) fn plays<R: Wait + Clone + Drop>(
 ) -> Result<(), Fail> {
     let log = DropLog::new(alloc, rt)?;
     let cache: LruCache<u64, Logged<R>, R> = LruCache::new(alloc, rt.clone()?, capacity);
-    let mut player = Player::new(alloc, &cache, &log)?;
-    answers_as_told(alloc, &mut player, table)
+    play(alloc, &cache, &log, table)
 }

@@ -1,22 +1,10 @@
 //! Reads without a handle: they count as uses, see the value under its mark, and leave no pin.
-ghost use Rattle.std.specs.Prelude.{◌≡◌, ◌*◌};
-ghost use Rattle.std.proofs.Common.{rules};
 
-use concurrent_lru::fit::Fit;
 use concurrent_lru::unsharded::{LruCache, Refusal};
-use std::sync::Wait;
+use lru_fixtures::marks::Twice;
+use lru_fixtures::workers::{CAPACITY, stays_right};
 use std::test::Fail;
 use std::thread;
-
-/// The mark of caches whose values are twice their keys.
-#[derive(Drop)]
-struct Twice;
-
-impl Fit<u64, u64> for Twice {
-    ghost fits = { λ k v. v ≡ 2 * k };
-
-    ghost equal_keys = { Prim.search rules };
-}
 
 #[test]
 fn a_read_counts_as_a_use(rt: HostRuntime) -> Result<(), Refusal> {
@@ -67,42 +55,10 @@ fn a_read_proves_its_answer(rt: HostRuntime) {
     assert_eq!(rt; value, 14);
 }
 
-// More keys than the cache keeps, so that some are evicted and made anew all the time.
-const KEYS: u64 = 20;
-
-const CAPACITY: u64 = 8;
-
-const ROUNDS: u32 = 100;
-
-// Whether the value of a key, read where it is ready and asked for otherwise, is ten times the key.
-fn is_right<R: Wait>(cache: &LruCache<u64, u64, R>, key: u64) -> bool {
-    let value = match cache.read(&key, |value| *value) {
-        Ok(Some(value)) => Some(value),
-        Ok(None) => match cache.get_or_init(key, 1, |key| key.wrapping_mul(10)) {
-            Ok(handle) => Some(*handle.value()),
-            Err(_) => None,
-        },
-        Err(_) => None,
-    };
-    value == Some(key.wrapping_mul(10))
-}
-
-// Whether those of all keys are, every time.
-fn stay_right<R: Wait>(cache: &LruCache<u64, u64, R>) -> bool {
-    for _ in 0..ROUNDS {
-        for key in 0..KEYS {
-            if !is_right(cache, key) {
-                return false;
-            }
-        }
-    }
-    true
-}
-
 #[test]
 fn four_threads_read_what_they_make(rt: HostRuntime) -> Result<(), Fail> {
     let cache: LruCache<u64, u64, &HostRuntime> = LruCache::new(rt.alloc(), &rt, CAPACITY);
-    let right = thread::map_indices(&rt, rt.alloc(), 4, &|_| stay_right(&cache))?;
+    let right = thread::map_indices(&rt, rt.alloc(), 4, &|_| stays_right(&cache))?;
     assert_eq!(rt; right.as_slice(), [true; 4].as_slice());
     assert_eq!(rt; cache.total_charge(), CAPACITY);
     cache.prune();

@@ -2,32 +2,24 @@
 
 use concurrent_lru::lru_core::State;
 use concurrent_lru::unsharded::LruCache;
-use lru_fixtures::threaded::{Model, Player, agree};
+use lru_fixtures::threaded::{agree, capacity_of};
 use lru_support::drops::{DropLog, Logged};
 use std::alloc::Global;
 use std::sync::Wait;
 use std::test::Fail;
 
-const CAPACITIES: [u64; 4] = [0, 1, 10, 37];
-
-// Makes the calls of a seed, of a cache of this capacity.
-fn agrees<R: Wait + Clone + Drop>(
-    rt: &R,
-    alloc: Global,
-    seed: u64,
-    capacity: u64,
-) -> Result<(), Fail> {
+// Makes the calls of a seed.
+fn agrees<R: Wait + Clone + Drop>(rt: &R, alloc: Global, seed: u64) -> Result<(), Fail> {
+    let capacity = capacity_of(seed);
     let log = DropLog::new(alloc, rt)?;
     let cache: LruCache<u64, Logged<R>, R> = LruCache::new(alloc, rt.clone()?, capacity);
-    let mut model = Model::new(alloc, State::new(alloc, capacity));
-    let mut player = Player::new(alloc, &cache, &log)?;
-    agree(alloc, seed, &mut player, &mut model)
+    agree(alloc, seed, &cache, &log, State::new(alloc, capacity))
 }
 
 #[test]
 fn one_thread_is_answered_as_one_owner(rt: HostRuntime) -> Result<(), Fail> {
     for seed in 1..=10u64 {
-        agrees(&rt, rt.alloc(), seed, CAPACITIES[(seed % 4) as usize])?;
+        agrees(&rt, rt.alloc(), seed)?;
     }
     Ok(())
 }
@@ -35,7 +27,7 @@ fn one_thread_is_answered_as_one_owner(rt: HostRuntime) -> Result<(), Fail> {
 #[test]
 fn one_thread_is_answered_as_one_owner_again(rt: HostRuntime) -> Result<(), Fail> {
     for seed in 11..=20u64 {
-        agrees(&rt, rt.alloc(), seed, CAPACITIES[(seed % 4) as usize])?;
+        agrees(&rt, rt.alloc(), seed)?;
     }
     Ok(())
 }

@@ -1,13 +1,14 @@
 //! One thread that makes calls of a cache, and holds handles in slots.
 ghost use Rattle.std.specs.Prelude.{◌<◌};
 
-use crate::tables::{Answers, text_of};
+use crate::tables::{Answers, answers_as_told, text_of};
 use crate::threaded::calls::{Call, Said, Then};
 use crate::threaded::making::{NoHandle, make_value, try_make_value};
 use lru_support::cached::Cached;
 use lru_support::drops::{DropLog, Logged};
 use std::alloc::{AllocError, Global};
 use std::sync::Wait;
+use std::test::Fail;
 use std::{fmt, mem};
 
 // How many handles a player can hold.
@@ -138,6 +139,18 @@ fn said(ran: Option<u64>, number: u64) -> Said {
         Some(key) => Said::Made(key, number),
         None => Said::Found(number),
     }
+}
+
+/// Makes the calls of a table of an empty cache, whose values note their drops in the log, and
+/// fails at the first whose answer is not the one that is wanted.
+pub fn play<R: Wait + Clone + Drop, C: Cached<Logged<R>> + fmt::Debug>(
+    alloc: Global,
+    cache: C,
+    log: &DropLog<R>,
+    table: &[(Call, &str)],
+) -> Result<(), Fail> {
+    let mut player = Player::new(alloc, cache, log)?;
+    answers_as_told(alloc, &mut player, table)
 }
 
 // Makes a call that gives no handle.

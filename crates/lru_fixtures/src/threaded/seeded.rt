@@ -2,13 +2,27 @@
 
 use crate::tables::{Answers, text_of};
 use crate::threaded::calls::{Call, Then};
+use crate::threaded::model::Model;
+use crate::threaded::owned::Owned;
+use crate::threaded::player::Player;
+use lru_support::cached::Cached;
+use lru_support::drops::{DropLog, Logged};
 use rand_core::{Rng, SeedableRng};
 use rand_xoshiro::Xoshiro256PlusPlus;
 use std::alloc::{AllocError, Global};
+use std::fmt;
+use std::sync::Wait;
 use std::test::Fail;
 
 // How many calls a run has.
 const CALLS: u64 = 2_000;
+
+const CAPACITIES: [u64; 4] = [0, 1, 10, 37];
+
+/// The capacity of the cache of a seed's run.
+pub fn capacity_of(seed: u64) -> u64 {
+    CAPACITIES[(seed % 4) as usize]
+}
 
 // The next call, whose value would be its number. The numbers of 16 keys differ in their high
 // half alone, in their low half alone, or in both.
@@ -40,10 +54,23 @@ fn draw(generator: &mut Xoshiro256PlusPlus, number: u64) -> Call {
     }
 }
 
-/// Makes the calls that a seed decides, of a cache and of its model. Fails at the first call where
-/// their answers differ, or the entries that the text of the cache shows in each shard: the
-/// failure tells the seed, the call, what was answered and what was wanted.
-pub fn agree<C: Answers<Call>, M: Answers<Call>>(
+/// Makes the calls that a seed decides, of an empty cache that threads share, whose values note
+/// their drops in the log, and of an empty one of one owner. Fails at the first call where their
+/// answers differ, or the entries that the text of the cache shows in each shard: the failure tells
+/// the seed, the call, what was answered and what was wanted.
+pub fn agree<R: Wait + Clone + Drop, C: Cached<Logged<R>> + fmt::Debug, P: Owned + Drop>(
+    alloc: Global,
+    seed: u64,
+    cache: C,
+    log: &DropLog<R>,
+    owned: P,
+) -> Result<(), Fail> {
+    let mut player = Player::new(alloc, cache, log)?;
+    let mut model = Model::new(alloc, owned);
+    answer_alike(alloc, seed, &mut player, &mut model)
+}
+
+fn answer_alike<C: Answers<Call>, M: Answers<Call>>(
     alloc: Global,
     seed: u64,
     cache: &mut C,

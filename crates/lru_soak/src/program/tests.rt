@@ -4,6 +4,7 @@ use super::program;
 use crate::failure::Failure;
 use lru_stress::outcome::{Check, Trouble};
 use lru_support::words::words;
+use lru_support::writer::Limited;
 use std::test::Fail;
 
 const USAGE: &str = "usage: lru_soak SEED MINUTES\n";
@@ -30,6 +31,18 @@ fn ends_with_a_status(rt: HostRuntime) -> Result<(), Fail> {
         assert_eq!(rt; str::from_utf8(&out)?, told, "at {asked:?}");
         assert_eq!(rt; str::from_utf8(&err)?, said, "at {asked:?}");
     }
+    Ok(())
+}
+
+#[test]
+fn ends_at_a_failed_write(rt: HostRuntime) -> Result<(), Fail> {
+    let alloc = rt.alloc();
+    let asked = words(alloc, &["1", "0"])?;
+    let (mut out, mut err) = (Limited::new(alloc, 3), Vec::new(alloc));
+    let status = program(&rt, alloc, &asked, &mut out, &mut err);
+    assert_eq!(rt; status, 1);
+    assert_eq!(rt; str::from_utf8(out.bytes())?, "rou");
+    assert_eq!(rt; str::from_utf8(&err)?, "a write or the clock failed\n");
     Ok(())
 }
 

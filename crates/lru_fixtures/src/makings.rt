@@ -1,0 +1,161 @@
+//! Callers of one value: the second comes while the first makes it, and waits or finds what the
+//! first made. And makers that use the cache for other keys, three deep.
+ghost use Rattle.std.specs.Prelude.{◌<◌};
+
+use lru_support::cached::Cached;
+use lru_support::flags::{meets, pause, raise};
+use std::sync::atomic::AtomicU64;
+use std::thread;
+use std::thread::Threads;
+
+/// Where two callers of a value are: the first makes it, and the second comes.
+#[derive(Drop)]
+pub struct Meeting {
+    /// Raised once the first makes the value.
+    pub started: AtomicU64,
+    /// Raised before the second asks for it.
+    pub coming: AtomicU64,
+}
+
+impl Meeting {
+    /// Neither is there yet.
+    pub fn new() -> Meeting {
+        Meeting {
+            started: AtomicU64::new(0),
+            coming: AtomicU64::new(0),
+        }
+    }
+}
+
+/// The value of key 1, made as 5 at the charge 3 while the other caller comes.
+pub fn makes_first<C: Cached<u64>>(cache: C, meeting: &Meeting) -> Option<u64> {
+    let mut met = false;
+    let made = cache.made(1, 3, |_| {
+        raise(&meeting.started);
+        met = meets(&meeting.coming);
+        pause();
+        5
+    });
+    match made {
+        Ok(handle) if met => Some(*C::value_of(&handle)),
+        _ => None,
+    }
+}
+
+/// The value of key 1, asked for while it is made; none where this caller made it anew.
+pub fn comes_second<C: Cached<u64>>(cache: C, meeting: &Meeting) -> Option<u64> {
+    if !meets(&meeting.started) {
+        return None;
+    }
+    raise(&meeting.coming);
+    let mut ran = false;
+    let made = cache.made(1, 7, |_| {
+        ran = true;
+        6
+    });
+    match made {
+        Ok(handle) if !ran => Some(*C::value_of(&handle)),
+        _ => None,
+    }
+}
+
+/// The value of a key, where it is ready.
+pub fn value_found<C: Cached<u64>>(cache: C, key: u64) -> Option<u64> {
+    match cache.found(key) {
+        Ok(Some(handle)) => Some(*C::value_of(&handle)),
+        _ => None,
+    }
+}
+
+/// A cache as two callers ask it. It has no associated type, since the checker covers no closure of
+/// a thread over one that has.
+pub trait Asked {
+    /// `makes_first`.
+    fn first(&self, meeting: &Meeting) -> Option<u64>;
+
+    /// `comes_second`.
+    fn second(&self, meeting: &Meeting) -> Option<u64>;
+
+    /// The value of key 1, where it is ready.
+    fn third(&self) -> Option<u64>;
+
+    /// `total_charge`.
+    fn charged(&self) -> u128;
+}
+
+impl<C: Cached<u64>> Asked for C {
+    fn first(&self, meeting: &Meeting) -> Option<u64> {
+        makes_first(*self, meeting)
+    }
+
+    fn second(&self, meeting: &Meeting) -> Option<u64> {
+        comes_second(*self, meeting)
+    }
+
+    fn third(&self) -> Option<u64> {
+        value_found(*self, 1)
+    }
+
+    fn charged(&self) -> u128 {
+        self.total()
+    }
+}
+
+/// What two callers of key 1 get, the second of which comes while the first makes it.
+pub fn values_of_two<T: Threads, C: Asked + Sync>(rt: &T, cache: &C) -> (Option<u64>, Option<u64>) {
+    let meeting = Meeting::new();
+    let met = &meeting;
+    thread::join(rt, move || cache.first(met), move || cache.second(met))
+}
+
+/// The value of key 1 where it is ready, and the total, asked by two threads.
+pub fn value_beside_total<T: Threads, C: Asked + Sync>(rt: &T, cache: &C) -> (Option<u64>, u128) {
+    thread::join(rt, move || cache.third(), move || cache.charged())
+}
+
+/// Makes key 1, whose `init` makes key 2, whose `init` makes key 3. A value has a digit more than
+/// the one that it was made of. 0 where a key could not be made.
+pub fn makes_three_deep<C: Cached<u64>>(cache: C) -> u64 {
+    match cache.made(1, 1, |_| one_digit_more(makes_two_deep(cache))) {
+        Ok(handle) => *C::value_of(&handle),
+        Err(_) => 0,
+    }
+}
+
+fn makes_two_deep<C: Cached<u64>>(cache: C) -> u64 {
+    match cache.made(2, 1, |_| one_digit_more(makes_one(cache))) {
+        Ok(handle) => *C::value_of(&handle),
+        Err(_) => 0,
+    }
+}
+
+fn makes_one<C: Cached<u64>>(cache: C) -> u64 {
+    match cache.made(3, 1, |_| 1) {
+        Ok(handle) => *C::value_of(&handle),
+        Err(_) => 0,
+    }
+}
+
+fn one_digit_more(digits: u64) -> u64 {
+    digits.saturating_mul(10).saturating_add(1)
+}
+
+/// The values of the keys 1 to 3, each where it is ready.
+pub fn values_of_three<C: Cached<u64>>(cache: C) -> [Option<u64>; 3] {
+    [
+        value_found(cache, 1),
+        value_found(cache, 2),
+        value_found(cache, 3),
+    ]
+}
+
+/// What a handle of key 1 reads after its value was taken back, what is found then and whether the
+/// key has a value, and what is made anew. None where a value could not be made.
+pub fn reads_around<C: Cached<u64>>(cache: C) -> Option<(u64, Option<u64>, bool, u64)> {
+    let old = cache.made(1, 1, |_| 5).ok()?;
+    cache.take_back(1);
+    let found = value_found(cache, 1);
+    let has_value = cache.contains(1);
+    let new = cache.made(1, 1, |_| 6).ok()?;
+    Some((*C::value_of(&old), found, has_value, *C::value_of(&new)))
+}

@@ -1,0 +1,211 @@
+//! Caches that have several owners, asked for handles that own a reference to them: one trait for
+//! both, and what their handles do.
+ghost use Rattle.std.specs.Prelude.{◌<◌};
+
+use concurrent_lru::counts::Counts;
+use concurrent_lru::unsharded::GetError;
+use concurrent_lru::{sharded, unsharded};
+use std::hash::BuildHasher;
+use std::sync::{Arc, Wait};
+
+/// An owner of a cache whose keys and values are numbers.
+pub trait Owners {
+    /// What pins a value, and owns a reference to the cache.
+    type Handle: Drop;
+
+    /// A handle's value.
+    fn value_of(handle: &Self::Handle) -> u64;
+
+    /// `get_owned`. None also where it is refused.
+    fn get_owned(&self, key: u64) -> Option<Self::Handle>;
+
+    /// `get_or_init_owned`, whose `init` gives this value. None where it is refused.
+    fn get_or_init_owned(&self, key: u64, charge: u64, value: u64) -> Option<Self::Handle>
+        requires { 0 < charge };
+
+    /// `get_or_try_init_owned`, whose `init` gives this value or fails with this error.
+    fn get_or_try_init_owned(
+        &self,
+        key: u64,
+        charge: u64,
+        init: Result<u64, u64>,
+    ) -> Result<Self::Handle, GetError<u64>>
+        requires { 0 < charge };
+
+    /// How many owners the cache has.
+    fn owners(&self) -> usize;
+
+    /// `total_charge` and `pinned_charge`.
+    fn charges(&self) -> (u128, u128);
+
+    /// `counts`.
+    fn counted(&self) -> Counts;
+}
+
+impl<R: Wait + Drop> Owners for Arc<unsharded::LruCache<u64, u64, R>> {
+    type Handle = unsharded::OwnedHandle<u64, u64, R>;
+
+    fn value_of(handle: &Self::Handle) -> u64 {
+        *handle.value()
+    }
+
+    fn get_owned(&self, key: u64) -> Option<Self::Handle> {
+        match unsharded::LruCache::get_owned(self, &key) {
+            Ok(found) => found,
+            Err(_) => None,
+        }
+    }
+
+    fn get_or_init_owned(&self, key: u64, charge: u64, value: u64) -> Option<Self::Handle>
+        requires { 0 < charge }
+    {
+        unsharded::LruCache::get_or_init_owned(self, &key, charge, |_| value).ok()
+    }
+
+    fn get_or_try_init_owned(
+        &self,
+        key: u64,
+        charge: u64,
+        init: Result<u64, u64>,
+    ) -> Result<Self::Handle, GetError<u64>>
+        requires { 0 < charge }
+    {
+        unsharded::LruCache::get_or_try_init_owned(self, &key, charge, |_| init)
+    }
+
+    fn owners(&self) -> usize {
+        Arc::strong_count(self)
+    }
+
+    fn charges(&self) -> (u128, u128) {
+        (
+            u128::from(self.total_charge()),
+            u128::from(self.pinned_charge()),
+        )
+    }
+
+    fn counted(&self) -> Counts {
+        self.counts()
+    }
+}
+
+impl<R: Wait + Drop, S: BuildHasher + Drop> Owners for Arc<sharded::LruCache<u64, u64, R, S>> {
+    type Handle = sharded::OwnedHandle<u64, u64, R, S>;
+
+    fn value_of(handle: &Self::Handle) -> u64 {
+        *handle.value()
+    }
+
+    fn get_owned(&self, key: u64) -> Option<Self::Handle> {
+        match sharded::LruCache::get_owned(self, &key) {
+            Ok(found) => found,
+            Err(_) => None,
+        }
+    }
+
+    fn get_or_init_owned(&self, key: u64, charge: u64, value: u64) -> Option<Self::Handle>
+        requires { 0 < charge }
+    {
+        sharded::LruCache::get_or_init_owned(self, &key, charge, |_| value).ok()
+    }
+
+    fn get_or_try_init_owned(
+        &self,
+        key: u64,
+        charge: u64,
+        init: Result<u64, u64>,
+    ) -> Result<Self::Handle, GetError<u64>>
+        requires { 0 < charge }
+    {
+        sharded::LruCache::get_or_try_init_owned(self, &key, charge, |_| init)
+    }
+
+    fn owners(&self) -> usize {
+        Arc::strong_count(self)
+    }
+
+    fn charges(&self) -> (u128, u128) {
+        (self.total_charge(), self.pinned_charge())
+    }
+
+    fn counted(&self) -> Counts {
+        self.counts()
+    }
+}
+
+/// What is seen of an entry with two handles, and of the cache that they own.
+#[derive(Clone, Copy, Debug, PartialEq, Eq)]
+pub struct TwoHandles {
+    /// The values that the two read.
+    pub values: (u64, u64),
+    /// How many owners the cache has while both are there.
+    pub owners: usize,
+    /// The total and the pinned charge once the first is dropped.
+    pub one_dropped: (u128, u128),
+    /// The total and the number of owners once both are.
+    pub both_dropped: (u128, usize),
+}
+
+/// What `drops_two_handles` sees of a cache that keeps nothing idle and has one owner besides.
+pub const DROPPED_IN_TURN: TwoHandles = TwoHandles {
+    values: (5, 5),
+    owners: 3,
+    one_dropped: (3, 3),
+    both_dropped: (0, 1),
+};
+
+/// Makes key 1 as 5, at the charge 3, in an empty cache, and finds it; then drops the two handles,
+/// one after the other. None where a call answers otherwise.
+pub fn drops_two_handles<C: Owners>(cache: &C) -> Option<TwoHandles> {
+    if cache.get_owned(1).is_some() {
+        return None;
+    }
+    let Some(first) = cache.get_or_init_owned(1, 3, 5) else {
+        return None;
+    };
+    let Some(second) = cache.get_owned(1) else {
+        return None;
+    };
+    let values = (C::value_of(&first), C::value_of(&second));
+    let owners = cache.owners();
+    drop(first);
+    let one_dropped = cache.charges();
+    drop(second);
+    Some(TwoHandles {
+        values,
+        owners,
+        one_dropped,
+        both_dropped: (cache.charges().0, cache.owners()),
+    })
+}
+
+/// Fails to make key 1 with the error 9, and then makes it as 4. Answers the error and the total
+/// after it, and the value that was made.
+pub fn fails_once<C: Owners>(cache: &C) -> (Option<u64>, u128, Option<u64>) {
+    let error = match cache.get_or_try_init_owned(1, 3, Err(9)) {
+        Err(GetError::Init(error)) => Some(error),
+        _ => None,
+    };
+    let total = cache.charges().0;
+    let value = match cache.get_or_try_init_owned(1, 3, Ok(4)) {
+        Ok(handle) => Some(C::value_of(&handle)),
+        Err(_) => None,
+    };
+    (error, total, value)
+}
+
+/// Makes each call once on a key that is there and once on one that is not, in an empty cache that
+/// keeps nothing idle. Answers the counts with the handle of the made entry held, and those once it
+/// is dropped.
+pub fn counts_of_calls<C: Owners>(cache: &C) -> Option<(Counts, Counts)> {
+    drop(cache.get_owned(1));
+    drop(cache.get_or_try_init_owned(1, 3, Err(9)));
+    let Some(handle) = cache.get_or_init_owned(1, 3, 5) else {
+        return None;
+    };
+    drop(cache.get_or_try_init_owned(1, 7, Ok(6)));
+    drop(cache.get_owned(1));
+    let held = cache.counted();
+    drop(handle);
+    Some((held, cache.counted()))
+}

@@ -1,0 +1,114 @@
+//! What each of some workers does at one cache: it reads keys of which the cache keeps too few,
+//! resets the counts, or is counted.
+ghost use Rattle.std.specs.Prelude.{◌<◌};
+
+use concurrent_lru::counts::Counts;
+use lru_support::cached::Cached;
+use std::alloc::{AllocError, Global};
+use std::thread;
+use std::thread::Threads;
+
+// More keys than the cache keeps, so that some are evicted and made anew all the time.
+const KEYS: u64 = 20;
+
+const ROUNDS: u32 = 100;
+
+/// The capacity, of one lock or of two shards, at which workers meet evictions all the time.
+pub const CAPACITY: u64 = 8;
+
+/// Asks each of the 20 keys 100 times, and says whether each value, read where it is ready and
+/// asked for otherwise, is ten times the key.
+pub fn stays_right<C: Cached<u64>>(cache: C) -> bool {
+    for _ in 0..ROUNDS {
+        for key in 0..KEYS {
+            if !is_right(cache, key) {
+                return false;
+            }
+        }
+    }
+    true
+}
+
+fn is_right<C: Cached<u64>>(cache: C, key: u64) -> bool {
+    let value = match cache.seen(key, |value| *value) {
+        Ok(Some(value)) => Some(value),
+        Ok(None) => match cache.made(key, 1, |key| key.wrapping_mul(10)) {
+            Ok(handle) => Some(*C::value_of(&handle)),
+            Err(_) => None,
+        },
+        Err(_) => None,
+    };
+    value == Some(key.wrapping_mul(10))
+}
+
+// How often one worker resets the counts, and how often each of three others asks for a value.
+const RESETS: u32 = 2_000;
+
+const ASKS: u64 = 20_000;
+
+/// A cache as workers ask it that count calls. It has no associated type, since the checker covers
+/// no closure of a thread over one that has.
+pub trait Counting {
+    /// Resets the counts 2,000 times, and answers of how many calls the resets told.
+    fn reset_often(&self) -> u64;
+
+    /// Asks for 20,000 values, none of which is there. Answers of how many calls it was told, which
+    /// are none.
+    fn ask_often(&self) -> u64;
+
+    /// The calls that hit, missed or waited since the last reset.
+    fn asked(&self) -> u64;
+}
+
+impl<C: Cached<u64>> Counting for C {
+    fn reset_often(&self) -> u64 {
+        let mut asked: u64 = 0;
+        for _ in 0..RESETS {
+            asked = asked.wrapping_add(asked_in(&self.reset_counts()));
+            thread::yield_now();
+        }
+        asked
+    }
+
+    fn ask_often(&self) -> u64 {
+        for key in 0..ASKS {
+            let _ = self.seen(key, |value| *value);
+        }
+        0
+    }
+
+    fn asked(&self) -> u64 {
+        asked_in(&self.counts())
+    }
+}
+
+// The calls that hit, missed or waited.
+fn asked_in(counts: &Counts) -> u64 {
+    counts
+        .hits
+        .wrapping_add(counts.misses)
+        .wrapping_add(counts.waits)
+}
+
+/// Of how many calls one worker's resets and the counts after them tell, where three others ask an
+/// empty cache 20,000 times each meanwhile.
+pub fn asked_between_resets<T: Threads + Sync, C: Counting + Sync>(
+    rt: &T,
+    alloc: Global,
+    cache: &C,
+) -> Result<u64, AllocError> {
+    let told = thread::map_indices(
+        rt,
+        alloc,
+        4,
+        &|worker| match worker {
+            0 => cache.reset_often(),
+            _ => cache.ask_often(),
+        },
+    )?;
+    let mut asked = cache.asked();
+    for part in &told {
+        asked = asked.wrapping_add(*part);
+    }
+    Ok(asked)
+}
