@@ -1,8 +1,6 @@
 //! The stress workload on caches whose values are their keys.
 ghost use Rattle.std.specs.Prelude.{◌<◌};
 
-use concurrent_lru::lru_core::Refusal;
-use concurrent_lru::unsharded::GetError;
 use lru_stress::outcome::Trouble;
 use lru_stress::plan::Plan;
 use lru_stress::workers::{Answer, Shared, Unmade, share};
@@ -25,9 +23,7 @@ impl<C: Cached<u64>> Shared for Keyed<C> {
     fn fetch(&self, call: &Call) -> Result<Answer, Unmade> {
         match self.cache.tried(call.key, call.charge, |_| make(call)) {
             Ok(handle) => Ok(Answer::of_key(*C::value_of(&handle))),
-            Err(GetError::Init(unmade)) => Err(unmade),
-            Err(GetError::Memory) => Err(Unmade::Refused(Refusal::Memory)),
-            Err(GetError::Overflow) => Err(Unmade::Refused(Refusal::Overflow)),
+            Err(error) => Err(Unmade::from(error)),
         }
     }
 }
@@ -57,7 +53,7 @@ pub fn stress<R: Threads + Sync, C: Shared + Sync>(
     plan.workers = workers;
     plan.calls = calls;
     plan.rests = false;
-    Ok(share(rt, alloc, &plan, cache)?.sum)
+    Ok(share(rt, alloc, &plan, cache)?.key_sum)
 }
 
 #[cfg(test)]

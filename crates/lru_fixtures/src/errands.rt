@@ -45,8 +45,8 @@ pub struct Errands {
 }
 
 impl Errands {
-    /// None is asked yet.
-    pub fn new() -> Errands {
+    // None is asked yet.
+    fn new() -> Errands {
         Errands {
             all: [
                 Errand::new(),
@@ -80,9 +80,9 @@ impl Errands {
             .fetch_add(before.wrapping_add(1), Ordering::SeqCst);
     }
 
-    /// What came of a cause, with the totals that `evict` answered; none where an errand was not
-    /// done, as where a value is dropped under the lock.
-    pub fn outcome(&self, totals: (u128, u128)) -> Option<Outcome> {
+    // What came of a cause, with the totals that `evict` answered; none where an errand was not
+    // done, as where a value is dropped under the lock.
+    fn outcome(&self, totals: (u128, u128)) -> Option<Outcome> {
         if is_raised(&self.missed) {
             return None;
         }

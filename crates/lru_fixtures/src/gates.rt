@@ -20,8 +20,8 @@ pub struct Gate {
 }
 
 impl Gate {
-    /// Neither is there yet.
-    pub fn new() -> Gate {
+    // Neither is there yet.
+    fn new() -> Gate {
         Gate {
             dropping: AtomicU64::new(0),
             entered: AtomicU64::new(0),
@@ -53,8 +53,8 @@ pub struct Slow {
 }
 
 impl Slow {
-    /// A value for this gate. `AllocError` where another owner of the gate is refused.
-    pub fn at(gate: &Arc<Gate>) -> Result<Slow, AllocError> {
+    // A value for this gate. `AllocError` where another owner of the gate is refused.
+    fn at(gate: &Arc<Gate>) -> Result<Slow, AllocError> {
         Ok(Slow {
             gate: Arc::try_clone(gate)?,
         })
@@ -87,7 +87,8 @@ pub enum Cause {
     Capacity,
 }
 
-/// What evicts a value, the capacity of its shard before, and the total while the value is dropped.
+/// What evicts a value, the capacity of one lock or of each shard before, and the total while the
+/// value is dropped.
 pub const CAUSES: [(Cause, u64, u128); 7] = [
     (Cause::Begin, 1, 1),
     (Cause::Failure, 1, 1),
@@ -101,35 +102,25 @@ pub const CAUSES: [(Cause, u64, u128); 7] = [
 /// A cache whose values drop slowly. It has no associated type, since the checker covers no closure
 /// of a thread over one that has.
 pub trait Drops {
-    /// Makes a value of key 1 with the charge 1 in a cache that keeps no other beside it, and
-    /// evicts it. No value is dropped where it could not be made.
-    fn evict(&self, gate: &Arc<Gate>, cause: Cause);
+    /// Makes a value of key 1 with the charge 1 in a cache that keeps no other beside it, evicts it
+    /// by this cause, and says whether it could be made.
+    fn evict(&self, gate: &Arc<Gate>, cause: Cause) -> bool;
 
     /// The total while a value is dropped; none where no value was.
     fn total_meanwhile(&self, gate: &Gate) -> Option<u128>;
 }
 
 impl<C: Cached<Slow>> Drops for C {
-    fn evict(&self, gate: &Arc<Gate>, cause: Cause) {
-        let Ok(first) = Slow::at(gate) else {
-            return;
+    fn evict(&self, gate: &Arc<Gate>, cause: Cause) -> bool {
+        let Some(kept) = make_for(*self, gate, cause) else {
+            return false;
         };
-        let mut ran = None;
-        let Ok(handle) = make_value(*self, 1, 1, first, &mut ran) else {
-            return;
-        };
-        let kept = match cause {
-            Cause::Release => Some(handle),
-            _ => {
-                drop(handle);
-                None
-            }
-        };
-        let second = match cause {
+        let value = match cause {
             Cause::Begin => Slow::at(gate).ok(),
             _ => None,
         };
-        evict_with(*self, cause, kept, second);
+        evict_with(*self, cause, kept, value);
+        true
     }
 
     fn total_meanwhile(&self, gate: &Gate) -> Option<u128> {
@@ -139,6 +130,22 @@ impl<C: Cached<Slow>> Drops for C {
         let total = self.total();
         raise(&gate.entered);
         Some(total)
+    }
+}
+
+// Makes the value of key 1. Answers its handle where the drop of that is to evict it, and else lets
+// the handle go; none where the value could not be made.
+fn make_for<C: Cached<Slow>>(
+    cache: C,
+    gate: &Arc<Gate>,
+    cause: Cause,
+) -> Option<Option<C::Handle>> {
+    let value = Slow::at(gate).ok()?;
+    let mut ran = None;
+    let handle = make_value(cache, 1, 1, value, &mut ran).ok()?;
+    match cause {
+        Cause::Release => Some(Some(handle)),
+        _ => Some(None),
     }
 }
 
@@ -166,8 +173,8 @@ pub fn evict_with<V: Drop, C: Cached<V>>(
     }
 }
 
-/// The total while an empty cache drops a value that this cause evicts; none where it dropped none,
-/// or where its lock was not free then.
+/// The total while an empty cache drops a value that this cause evicts; none where the value could
+/// not be made, or was not dropped, or where the lock was not free then.
 pub fn total_in_drop<T: Threads, C: Drops + Sync>(
     rt: &T,
     alloc: Global,
@@ -176,10 +183,10 @@ pub fn total_in_drop<T: Threads, C: Drops + Sync>(
 ) -> Option<u128> {
     let gate = Arc::new(alloc, Gate::new()).ok()?;
     let met = &gate;
-    let (_, total) = thread::join(
+    let (made, total) = thread::join(
         rt,
         move || cache.evict(met, cause),
         move || cache.total_meanwhile(&**met),
     );
-    gate.told(total)
+    if made { gate.told(total) } else { None }
 }

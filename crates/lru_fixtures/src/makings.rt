@@ -71,28 +71,28 @@ pub fn value_found<C: Cached<u64>>(cache: C, key: u64) -> Option<u64> {
 /// a thread over one that has.
 pub trait Asked {
     /// `makes_first`.
-    fn first(&self, meeting: &Meeting) -> Option<u64>;
+    fn make_first(&self, meeting: &Meeting) -> Option<u64>;
 
     /// `comes_second`.
-    fn second(&self, meeting: &Meeting) -> Option<u64>;
+    fn come_second(&self, meeting: &Meeting) -> Option<u64>;
 
     /// The value of key 1, where it is ready.
-    fn third(&self) -> Option<u64>;
+    fn find(&self) -> Option<u64>;
 
     /// `total_charge`.
     fn charged(&self) -> u128;
 }
 
 impl<C: Cached<u64>> Asked for C {
-    fn first(&self, meeting: &Meeting) -> Option<u64> {
+    fn make_first(&self, meeting: &Meeting) -> Option<u64> {
         makes_first(*self, meeting)
     }
 
-    fn second(&self, meeting: &Meeting) -> Option<u64> {
+    fn come_second(&self, meeting: &Meeting) -> Option<u64> {
         comes_second(*self, meeting)
     }
 
-    fn third(&self) -> Option<u64> {
+    fn find(&self) -> Option<u64> {
         value_found(*self, 1)
     }
 
@@ -105,12 +105,16 @@ impl<C: Cached<u64>> Asked for C {
 pub fn values_of_two<T: Threads, C: Asked + Sync>(rt: &T, cache: &C) -> (Option<u64>, Option<u64>) {
     let meeting = Meeting::new();
     let met = &meeting;
-    thread::join(rt, move || cache.first(met), move || cache.second(met))
+    thread::join(
+        rt,
+        move || cache.make_first(met),
+        move || cache.come_second(met),
+    )
 }
 
 /// The value of key 1 where it is ready, and the total, asked by two threads.
 pub fn value_beside_total<T: Threads, C: Asked + Sync>(rt: &T, cache: &C) -> (Option<u64>, u128) {
-    thread::join(rt, move || cache.third(), move || cache.charged())
+    thread::join(rt, move || cache.find(), move || cache.charged())
 }
 
 /// Makes key 1, whose `init` makes key 2, whose `init` makes key 3. A value has a digit more than

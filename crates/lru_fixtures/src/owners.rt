@@ -3,6 +3,7 @@
 ghost use Rattle.std.specs.Prelude.{◌<◌};
 
 use concurrent_lru::counts::Counts;
+use concurrent_lru::lru_core::Refusal;
 use concurrent_lru::unsharded::GetError;
 use concurrent_lru::{sharded, unsharded};
 use std::hash::BuildHasher;
@@ -16,11 +17,11 @@ pub trait Owners {
     /// A handle's value.
     fn value_of(handle: &Self::Handle) -> u64;
 
-    /// `get_owned`. None also where it is refused.
-    fn get_owned(&self, key: u64) -> Option<Self::Handle>;
+    /// `get_owned`.
+    fn get_owned(&self, key: u64) -> Result<Option<Self::Handle>, Refusal>;
 
-    /// `get_or_init_owned`, whose `init` gives this value. None where it is refused.
-    fn get_or_init_owned(&self, key: u64, charge: u64, value: u64) -> Option<Self::Handle>
+    /// `get_or_init_owned`, whose `init` gives this value.
+    fn get_or_init_owned(&self, key: u64, charge: u64, value: u64) -> Result<Self::Handle, Refusal>
         requires { 0 < charge };
 
     /// `get_or_try_init_owned`, whose `init` gives this value or fails with this error.
@@ -49,17 +50,14 @@ impl<R: Wait + Drop> Owners for Arc<unsharded::LruCache<u64, u64, R>> {
         *handle.value()
     }
 
-    fn get_owned(&self, key: u64) -> Option<Self::Handle> {
-        match unsharded::LruCache::get_owned(self, &key) {
-            Ok(found) => found,
-            Err(_) => None,
-        }
+    fn get_owned(&self, key: u64) -> Result<Option<Self::Handle>, Refusal> {
+        unsharded::LruCache::get_owned(self, &key)
     }
 
-    fn get_or_init_owned(&self, key: u64, charge: u64, value: u64) -> Option<Self::Handle>
+    fn get_or_init_owned(&self, key: u64, charge: u64, value: u64) -> Result<Self::Handle, Refusal>
         requires { 0 < charge }
     {
-        unsharded::LruCache::get_or_init_owned(self, &key, charge, |_| value).ok()
+        unsharded::LruCache::get_or_init_owned(self, &key, charge, |_| value)
     }
 
     fn get_or_try_init_owned(
@@ -96,17 +94,14 @@ impl<R: Wait + Drop, S: BuildHasher + Drop> Owners for Arc<sharded::LruCache<u64
         *handle.value()
     }
 
-    fn get_owned(&self, key: u64) -> Option<Self::Handle> {
-        match sharded::LruCache::get_owned(self, &key) {
-            Ok(found) => found,
-            Err(_) => None,
-        }
+    fn get_owned(&self, key: u64) -> Result<Option<Self::Handle>, Refusal> {
+        sharded::LruCache::get_owned(self, &key)
     }
 
-    fn get_or_init_owned(&self, key: u64, charge: u64, value: u64) -> Option<Self::Handle>
+    fn get_or_init_owned(&self, key: u64, charge: u64, value: u64) -> Result<Self::Handle, Refusal>
         requires { 0 < charge }
     {
-        sharded::LruCache::get_or_init_owned(self, &key, charge, |_| value).ok()
+        sharded::LruCache::get_or_init_owned(self, &key, charge, |_| value)
     }
 
     fn get_or_try_init_owned(
@@ -157,13 +152,13 @@ pub const DROPPED_IN_TURN: TwoHandles = TwoHandles {
 /// Makes key 1 as 5, at the charge 3, in an empty cache, and finds it; then drops the two handles,
 /// one after the other. None where a call answers otherwise.
 pub fn drops_two_handles<C: Owners>(cache: &C) -> Option<TwoHandles> {
-    if cache.get_owned(1).is_some() {
-        return None;
-    }
-    let Some(first) = cache.get_or_init_owned(1, 3, 5) else {
+    let Ok(None) = cache.get_owned(1) else {
         return None;
     };
-    let Some(second) = cache.get_owned(1) else {
+    let Ok(first) = cache.get_or_init_owned(1, 3, 5) else {
+        return None;
+    };
+    let Ok(Some(second)) = cache.get_owned(1) else {
         return None;
     };
     let values = (C::value_of(&first), C::value_of(&second));
@@ -196,11 +191,13 @@ pub fn fails_once<C: Owners>(cache: &C) -> (Option<u64>, u128, Option<u64>) {
 
 /// Makes each call once on a key that is there and once on one that is not, in an empty cache that
 /// keeps nothing idle. Answers the counts with the handle of the made entry held, and those once it
-/// is dropped.
+/// is dropped. None where a call answers otherwise.
 pub fn counts_of_calls<C: Owners>(cache: &C) -> Option<(Counts, Counts)> {
-    drop(cache.get_owned(1));
+    let Ok(None) = cache.get_owned(1) else {
+        return None;
+    };
     drop(cache.get_or_try_init_owned(1, 3, Err(9)));
-    let Some(handle) = cache.get_or_init_owned(1, 3, 5) else {
+    let Ok(handle) = cache.get_or_init_owned(1, 3, 5) else {
         return None;
     };
     drop(cache.get_or_try_init_owned(1, 7, Ok(6)));

@@ -52,8 +52,7 @@ pub trait Counting {
     /// Resets the counts 2,000 times, and answers of how many calls the resets told.
     fn reset_often(&self) -> u64;
 
-    /// Asks for 20,000 values, none of which is there. Answers of how many calls it was told, which
-    /// are none.
+    /// Asks for 20,000 values, none of which is there. Answers 0, since no reset tells it of calls.
     fn ask_often(&self) -> u64;
 
     /// The calls that hit, missed or waited since the last reset.

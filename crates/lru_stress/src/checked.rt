@@ -6,8 +6,6 @@ use crate::outcome::{Check, Counts, Trouble};
 use crate::plan::Plan;
 use crate::workers;
 use crate::workers::{Answer, Shared, Unmade};
-use concurrent_lru::lru_core::Refusal;
-use concurrent_lru::unsharded::GetError;
 use concurrent_lru::{sharded, unsharded};
 use lru_support::cached::Cached;
 use lru_support::calls::Call;
@@ -54,16 +52,8 @@ impl<C: Cached<Counted>> Shared for Checked<C> {
                     total: if self.looks { self.cache.total() } else { 0 },
                 })
             }
-            Err(error) => Err(unmade(error)),
+            Err(error) => Err(Unmade::from(error)),
         }
-    }
-}
-
-fn unmade(error: GetError<Unmade>) -> Unmade {
-    match error {
-        GetError::Init(unmade) => unmade,
-        GetError::Memory => Unmade::Refused(Refusal::Memory),
-        GetError::Overflow => Unmade::Refused(Refusal::Overflow),
     }
 }
 

@@ -4,6 +4,7 @@ use crate::outcome::{Check, Trouble};
 use crate::plan::{KEYS, Plan};
 use crate::start::Start;
 use concurrent_lru::lru_core::Refusal;
+use concurrent_lru::unsharded::GetError;
 use lru_support::calls::{Call, Calls};
 use std::alloc::Global;
 use std::thread;
@@ -43,6 +44,16 @@ pub enum Unmade {
     Refused(Refusal),
 }
 
+impl From<GetError<Unmade>> for Unmade {
+    fn from(error: GetError<Unmade>) -> Unmade {
+        match error {
+            GetError::Init(unmade) => unmade,
+            GetError::Memory => Unmade::Refused(Refusal::Memory),
+            GetError::Overflow => Unmade::Refused(Refusal::Overflow),
+        }
+    }
+}
+
 /// A cache as its workers ask it. It has no associated type, since the checker covers no closure of
 /// a thread over one that has.
 pub trait Shared {
@@ -55,7 +66,7 @@ pub trait Shared {
 pub struct Notes {
     /// The sum of the values' keys, of the calls whose making would not fail. Where one would,
     /// whether a value is read depends on the others; so this sum is the same on every schedule.
-    pub sum: u64,
+    pub key_sum: u64,
     /// How many calls were answered with a value that another call made.
     pub hits: u64,
     /// How many of these values were made after the call began.
@@ -68,7 +79,7 @@ pub struct Notes {
 impl Notes {
     fn none() -> Notes {
         Notes {
-            sum: 0,
+            key_sum: 0,
             hits: 0,
             meetings: 0,
             greatest: 0,
@@ -90,7 +101,7 @@ impl Notes {
             self.note_failed();
         }
         if !call.fails {
-            self.sum = self.sum.wrapping_add(answer.key);
+            self.key_sum = self.key_sum.wrapping_add(answer.key);
         }
         self.hits = self.hits.wrapping_add(u64::from(answer.is_hit));
         self.meetings = self.meetings.wrapping_add(u64::from(answer.is_meeting));
@@ -106,7 +117,7 @@ impl Notes {
     fn sum(notes: &[Notes]) -> Notes {
         let mut sum = Notes::none();
         for note in notes {
-            sum.sum = sum.sum.wrapping_add(note.sum);
+            sum.key_sum = sum.key_sum.wrapping_add(note.key_sum);
             sum.hits = sum.hits.wrapping_add(note.hits);
             sum.meetings = sum.meetings.wrapping_add(note.meetings);
             sum.greatest = sum.greatest.max(note.greatest);

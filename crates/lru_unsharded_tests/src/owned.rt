@@ -26,7 +26,8 @@ fn an_entry_stays_until_its_owned_handles_are_dropped(rt: HostRuntime) {
 
 #[test]
 fn an_owned_init_may_fail(rt: HostRuntime) {
-    let shared = keeps_nothing(rt.alloc(), &rt).expect(&rt, "memory");
+    let cache: LruCache<u64, u64, &HostRuntime> = LruCache::new(rt.alloc(), &rt, 10);
+    let shared = Arc::new(rt.alloc(), cache).expect(&rt, "memory");
     assert_eq!(rt; fails_once(&shared), (Some(9), 0, Some(4)));
     assert_eq!(rt; Arc::strong_count(&shared), 1);
 }
