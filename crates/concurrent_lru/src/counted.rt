@@ -1,4 +1,4 @@
-//! A state of the core, and beside it the counts of what its calls did.
+//! The core's state together with counts of what its calls did.
 ghost use Rattle.std.specs.Prelude.{◌≡◌, ◌<◌, Some, None, IsTrue, IsFalse, IfErr, IfOk, OnOk, OnErr, MatchOption};
 ghost use Rattle.std.specs.Arc.{arc_value};
 ghost use Rattle.std.specs.Fn.{FnOnceReturnsAt, FnOnceTakesAt};
@@ -27,10 +27,10 @@ use std::sync::Arc;
 
 /// A state of the core with counts of its calls.
 ///
-/// Clauses see the abstract cache and the counts. Its type keeps that the cache is lawful and that
-/// the counts add up to its entries and their charges. Each call is the core's of its name, and
-/// counts what it answers. One that pins an entry answers its place too, and one on an entry that
-/// is there takes its spot.
+/// Clauses see the abstract cache and the counts. The type's invariant is that the cache is lawful
+/// and that the counts add up to its entries and their charges. Each call is the core's call of the
+/// same name, and counts its outcome. A call that pins an entry also returns its place, and a call
+/// on an entry that is there takes its spot.
 #[derive(Drop)]
 pub struct CountedState<K: Hash + Eq + Clone, V> {
     state: State<K, V>,
@@ -50,7 +50,7 @@ impl<K: Hash + Eq + Clone, V> Model for CountedState<K, V> {
 }
 
 impl<K: Hash + Eq + Clone, V: Drop> CountedState<K, V> {
-    /// An empty cache that settles to `capacity`, with no map by stamp, and no calls counted.
+    /// Creates an empty cache with no map by stamp and no calls counted.
     pub fn without_map_of_stamps(alloc: Global, capacity: u64) -> CountedState<K, V>
         requires { CopiesAreEqual K.is_clone K.eq }
         ensures empty { result.cache ≡ empty_cache capacity most_pins_by_default 0 }
@@ -62,7 +62,7 @@ impl<K: Hash + Eq + Clone, V: Drop> CountedState<K, V> {
         }
     }
 
-    /// Does nothing; its contract tells what holds of every value.
+    /// Does nothing. Its contract states what holds of every value.
     pub fn show(&self)
         ensures lawful { IsLawful K.eq self.now.cache }
         ensures adds_up { AddUp self.now.cache self.now.counts }
@@ -70,14 +70,14 @@ impl<K: Hash + Eq + Clone, V: Drop> CountedState<K, V> {
         let _ = &self.state;
     }
 
-    /// What was counted.
+    /// Returns the counts.
     pub fn counts(&self) -> Counts
         ensures { result ≡ self.now.counts }
     {
         self.counts
     }
 
-    /// What was counted; the counting begins anew.
+    /// Returns the counts and starts the counting again.
     pub fn reset_counts(&mut self) -> Counts
         ensures counted { result ≡ self.old.counts }
         ensures anew { self.new.counts ≡ counts_from (count_of self.old.cache) (sum_of self.old.cache) }
@@ -96,8 +96,8 @@ impl<K: Hash + Eq + Clone, V: Drop> CountedState<K, V> {
         self.state.reserve(entries)
     }
 
-    /// The core's `begin`: a hit, a wait, a refusal, or a miss that begins a making. Whether it
-    /// inserted the entry is told by the stamp, which is then the next one.
+    /// The core's `begin`: a hit, a wait, a refusal, or a miss that starts a making. It inserted an
+    /// entry if and only if it returns the stamp that was the next one.
     #[inline(always)]
     pub fn begin(
         &mut self,
@@ -121,8 +121,8 @@ impl<K: Hash + Eq + Clone, V: Drop> CountedState<K, V> {
         begun
     }
 
-    /// The core's `poll`: a making begun where it is to make the value, a refusal where a copy is
-    /// refused.
+    /// The core's `poll`: a making started if the caller is to make the value, a refusal if a copy
+    /// is refused.
     pub fn poll(&mut self, spot: &Spot) -> Result<Begun<V>, Refusal>
         ensures step { Stands K.eq self.old.cache (ask.poll spot.now.stamp) (outcome_of_poll result) self.new.cache }
         ensures counted { self.new.counts ≡ counted self.old.cache (ask.poll spot.now.stamp) (outcome_of_poll result) self.old.counts }
@@ -133,7 +133,7 @@ impl<K: Hash + Eq + Clone, V: Drop> CountedState<K, V> {
         polled
     }
 
-    /// The core's `ready`, as its `ready_keyed`. Counts nothing.
+    /// The core's `ready_keyed`. Counts nothing.
     #[inline(always)]
     pub fn ready_keyed(&mut self, spot: &Spot, key: &K, value: Arc<V>) -> (Result<(), Arc<V>>, bool)
         ensures step { HasEqualKeyAt K.eq self.old.cache spot.now.stamp key.now → Stands K.eq self.old.cache (ask.ready spot.now.stamp (arc_value value)) (outcome_of_ready result.0) self.new.cache }
@@ -147,7 +147,7 @@ impl<K: Hash + Eq + Clone, V: Drop> CountedState<K, V> {
         self.state.ready_keyed(spot, key, value)
     }
 
-    /// The core's `fail`: a failed making, and a removal where the entry is gone.
+    /// The core's `fail`: a failed making, and a removal if the entry is removed.
     pub fn fail(&mut self, spot: &Spot) -> Result<Failed<K>, Refusal>
         ensures step { Stands K.eq self.old.cache (ask.fail spot.now.stamp) (outcome_of_fail result) self.new.cache }
         ensures counted { self.new.counts ≡ counted self.old.cache (ask.fail spot.now.stamp) (outcome_of_fail result) self.old.counts }
@@ -234,8 +234,8 @@ impl<K: Hash + Eq + Clone, V: Drop> CountedState<K, V> {
         evicted
     }
 
-    /// The core's `insert`: an insertion, and what was replaced and evicted; or a refusal. It is no
-    /// hit, no miss and no making.
+    /// The core's `insert`: an insertion, with what it replaced and evicted, or a refusal. Counts
+    /// no hit, miss or making.
     pub fn insert(
         &mut self,
         key: &K,
@@ -287,21 +287,21 @@ impl<K: Hash + Eq + Clone, V: Drop> CountedState<K, V> {
         evicted
     }
 
-    /// The sum of the charges of all entries, those still being made included.
+    /// Returns the sum of the charges of all entries, including those still being made.
     pub fn total(&self) -> u64
         ensures total { result ≡ sum_of self.now.cache }
     {
         self.state.total()
     }
 
-    /// The sum of the charges of the held entries, those still being made included.
+    /// Returns the sum of the charges of the held entries, including those still being made.
     pub fn pinned_charge(&self) -> u64
         ensures { result ≡ pinned_of self.now.cache }
     {
         self.state.pinned_charge()
     }
 
-    /// The number of entries, those still being made included.
+    /// Returns the number of entries, including those still being made.
     pub fn len(&self) -> usize
         ensures { result ≡ count_of self.now.cache }
     {
@@ -316,7 +316,7 @@ impl<K: Hash + Eq + Clone, V: Drop> CountedState<K, V> {
         self.state.contains(key)
     }
 
-    /// The total that the cache settles to.
+    /// Returns the capacity.
     pub fn capacity(&self) -> u64
         ensures capacity { result ≡ self.now.cache.capacity }
     {
@@ -338,7 +338,7 @@ impl<K: Hash + Eq + Clone, V: Drop> CountedState<K, V> {
     }
 }
 
-// Counts the answer of a look for a value: a hit, a miss or a refusal.
+// Counts the result of a lookup: a hit, a miss or a refusal.
 #[inline(always)]
 fn count_look<T>(counts: &mut Counts, found: &Result<Option<T>, Refusal>)
     ensures { counts.new ≡ counted_look found.now counts.old }
@@ -350,8 +350,8 @@ fn count_look<T>(counts: &mut Counts, found: &Result<Option<T>, Refusal>)
     }
 }
 
-// Counts the answer of a begin, but for an insertion: a hit, a wait, a refusal, or a miss that
-// begins a making.
+// Counts the result of a begin, except an insertion: a hit, a wait, a refusal, or a miss that
+// starts a making.
 #[inline(always)]
 fn count_begin<K, V>(
     counts: &mut Counts,
@@ -370,8 +370,8 @@ fn count_begin<K, V>(
     }
 }
 
-// Whether a begin inserted an entry, which then has the stamp that was the next one. A failed
-// making that is taken over has a stamp from before.
+// Whether a begin inserted an entry, which then has the stamp that was the next one. A making that
+// is taken over has an earlier stamp.
 #[inline(always)]
 fn is_insertion<K, V>(
     begun: &Result<(Begun<V>, Evicted<K, V>, Place), Refusal>,
@@ -385,7 +385,7 @@ fn is_insertion<K, V>(
     }
 }
 
-// Counts the answer of a poll: a making begun, or a refusal for want of memory.
+// Counts the result of a poll: a making started, or a refusal for lack of memory.
 fn count_poll<V>(counts: &mut Counts, polled: &Result<Begun<V>, Refusal>)
     ensures { counts.new ≡ counted_poll polled.now counts.old }
 {
@@ -397,7 +397,7 @@ fn count_poll<V>(counts: &mut Counts, polled: &Result<Begun<V>, Refusal>)
     }
 }
 
-// As the core prints it.
+// Prints as the core does.
 impl<K: Hash + Eq + Clone + fmt::Debug, V: Drop + fmt::Debug> fmt::Debug for CountedState<K, V> {
     fn fmt<W: fmt::Write>(&self, f: &mut fmt::Formatter<W>) -> fmt::Result {
         self.state.fmt(f)

@@ -1,5 +1,6 @@
-//! Counts of what the calls of a cache have done. They are plain numbers, kept beside the cache
-//! under its lock.
+//! Counts of what the calls of a cache have done.
+//!
+//! They are plain numbers, kept beside the cache under its lock.
 ghost use Rattle.std.specs.Prelude.{◌≡◌, ◌+◌, ◌-◌, ◌<◌, ◌≤◌, ◌^◌};
 ghost use Rattle.std.specs.Fmt.{WritesOnOk};
 ghost use Rattle.concurrent_lru.specs.Counts.{added, asked_text, counts_from, entries_text, hit_ratio_of, inserted, makings_text, one_failure, one_hit, one_making, one_miss, one_refusal, one_wait};
@@ -7,7 +8,7 @@ ghost use Rattle.concurrent_lru.specs.Counts.{added, asked_text, counts_from, en
 use std::fmt;
 use std::num::nearest_u64_to_f64;
 
-/// What the calls of a cache have done since it was made, or since its counts were last reset.
+/// What the calls of a cache have done since it was created or its counts were last reset.
 ///
 /// A count that reaches the maximum of its type stays there. The counts of a cache behind one lock
 /// add up: the entries present when the counting began and those inserted since are the entries
@@ -24,7 +25,7 @@ pub struct Counts {
     pub waits: u64,
     /// Calls that asked for a value, or inserted one, and were refused with `Memory` or `Overflow`.
     pub refusals: u64,
-    /// Makings begun: how often a caller was asked to make a value.
+    /// Makings started: how often a caller was asked to make a value.
     pub makings: u64,
     /// Makings that failed: `init` returned an error, or there was no memory for the value.
     pub failures: u64,
@@ -47,7 +48,7 @@ pub struct Counts {
 }
 
 impl Counts {
-    // Counting begins, at a cache with so many entries of so much charge.
+    // Starts counting at a cache with `entries` entries whose charges sum to `charge`.
     pub(crate) fn from(entries: u64, charge: u64) -> Self
         ensures { result ≡ counts_from entries charge }
     {
@@ -69,8 +70,8 @@ impl Counts {
         }
     }
 
-    /// The hit ratio: `hits` divided by the sum of `hits` and `misses`, each as the nearest `f64`.
-    /// `None` if there were no hits and no misses. Calls that waited or were refused do not count.
+    /// Returns the hit ratio: `hits` divided by the sum of `hits` and `misses`, each as the nearest
+    /// `f64`. Returns `None` if both are 0. Calls that waited or were refused do not count.
     pub fn hit_ratio(&self) -> Option<f64>
         ensures { result ≡ hit_ratio_of self.now }
     {
@@ -81,8 +82,8 @@ impl Counts {
         Some(nearest_u64_to_f64(self.hits) / nearest_u64_to_f64(asked))
     }
 
-    /// Adds the counts of another cache to these, one by one. A sum that exceeds the maximum of its
-    /// type is that maximum.
+    /// Returns the sums of these counts and those of another cache, one by one. A sum saturates at
+    /// the maximum of its type.
     pub fn saturating_add(self, other: Counts) -> Counts
         ensures { result ≡ added self other }
     {
@@ -142,7 +143,7 @@ impl Counts {
         self.failures = self.failures.saturating_add(1);
     }
 
-    // An entry of this charge was inserted.
+    // Counts an inserted entry of this charge.
     pub(crate) fn insert(&mut self, charge: u64)
         requires entries { self.old.insertions + 1 < 2 ^ 64 }
         requires charge { self.old.inserted_charge + charge < 2 ^ 128 }
@@ -152,8 +153,8 @@ impl Counts {
         self.inserted_charge += u128::from(charge);
     }
 
-    // Entries were evicted, and so many of so much charge are left. All that came and is neither
-    // left nor removed has been evicted.
+    // Counts evictions that left `entries` entries of `charge`. Whatever came and is neither left
+    // nor removed has been evicted.
     pub(crate) fn evict(&mut self, entries: u64, charge: u64)
         requires entries { entries + self.old.removals ≤ self.old.entries_before + self.old.insertions }
         requires entries_fit { self.old.entries_before + self.old.insertions < 2 ^ 64 }
@@ -167,8 +168,8 @@ impl Counts {
             - u128::from(charge);
     }
 
-    // An entry was removed, and so much charge is left. All charge that came and is neither left
-    // nor evicted has been removed.
+    // Counts a removed entry that left `charge`. All charge that came and is neither left nor
+    // evicted has been removed.
     pub(crate) fn remove(&mut self, charge: u64)
         requires entries { self.old.removals + 1 < 2 ^ 64 }
         requires charge { charge + self.old.evicted_charge ≤ self.old.charge_before + self.old.inserted_charge }
@@ -182,7 +183,7 @@ impl Counts {
     }
 }
 
-// All counts in one line.
+// Prints all counts in one line.
 impl fmt::Display for Counts {
     ghost use Rattle.std.specs.Prelude.{Some};
     ghost use Rattle.concurrent_lru.specs.Counts.{counts_text};
@@ -199,14 +200,14 @@ impl fmt::Display for Counts {
     }
 }
 
-// What the calls that asked for a value found.
+// Writes what the calls that asked for a value found.
 fn write_asked<W: fmt::Write>(n: &Counts, f: &mut fmt::Formatter<W>) -> fmt::Result
     ensures { WritesOnOk W.write_str_gives f.old result (asked_text n.now) f.new }
 {
     write!(f, "hits {}, misses {}, waits {}", n.hits, n.misses, n.waits)
 }
 
-// What was refused, and the makings.
+// Writes the refusals and the makings.
 fn write_makings<W: fmt::Write>(n: &Counts, f: &mut fmt::Formatter<W>) -> fmt::Result
     ensures { WritesOnOk W.write_str_gives f.old result (makings_text n.now) f.new }
 {
@@ -217,7 +218,7 @@ fn write_makings<W: fmt::Write>(n: &Counts, f: &mut fmt::Formatter<W>) -> fmt::R
     )
 }
 
-// How many entries there are of one kind, and the sum of their charges.
+// Writes the number of entries of one kind and the sum of their charges.
 fn write_entries<W: fmt::Write>(
     kind: &str,
     entries: u64,

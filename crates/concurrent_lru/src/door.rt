@@ -1,5 +1,7 @@
-//! The lock of a cache, and the callers that wait at it. A call gets the lock once and lets it go;
-//! what it took out is dropped after that, and whoever waits for what it did is woken.
+//! The lock of a cache, and the callers that wait at it.
+//!
+//! A call acquires the lock once and releases it. What it took out is dropped after that, and
+//! whoever waits for what it did is woken.
 ghost use Rattle.std.specs.Prelude.{◌≡◌, ◌≢◌, ◌<◌, [], Some, None, IfOk, IfErr, IfSome};
 ghost use Rattle.std.specs.Arc.{arc_value};
 ghost use Rattle.std.specs.Fn.{FnOnceReturnsAt, FnOnceTakesAt};
@@ -23,15 +25,15 @@ use std::hash::Hash;
 use std::sync::{Arc, Condvar, Mutex, MutexGuard, Wait};
 use std::{fmt, hint};
 
-// How often a call looks at a lock that another has before it sleeps: after 64, 128 .. 4,096
-// pauses, each of some tens of nanoseconds. A look takes the lock's line of memory from the call
-// that has it, so the first pause is as long as several calls, and those that wait leave the lock
-// to one that makes many in a row.
+// How often a call tries a lock that is held before it sleeps: after 64, 128 .. 4,096 pauses, each
+// of some tens of nanoseconds. A try takes the lock's cache line from the holder, so the first
+// pause is as long as several calls, and waiters leave the lock to a thread that makes many calls
+// in a row.
 const LOOKS: u32 = 7;
 
 const FIRST_PAUSES: u32 = 64;
 
-/// The lock, what wakes those that wait, and the right to wait.
+/// The lock, its condition variable, and the capability to wait.
 #[derive(Drop)]
 pub struct Door<K: Hash + Eq + Clone, V, R: Wait, F: Fit<K, V>> {
     rt: R,
@@ -39,38 +41,39 @@ pub struct Door<K: Hash + Eq + Clone, V, R: Wait, F: Fit<K, V>> {
     woken: Condvar,
 }
 
-/// A debt: the lock is got. Each call takes it, so there is one call for each lock.
+/// An obligation: the lock is held. Each call takes this value, so there is one call for each time
+/// that the lock is acquired.
 pub struct Inside<'a, K: Hash + Eq + Clone, V, R: Wait, F: Fit<K, V>> {
     door: &'a Door<K, V, R, F>,
     guard: MutexGuard<'a, Locked<K, V, F>>,
 }
 
-/// A debt: a value is this caller's to make, and is stored, or given up, at the door where it was
-/// asked.
+/// An obligation: the caller is to make a value, and stores it, or gives it up, at the door where
+/// it was asked for.
 pub struct Maker<'a, K: Hash + Eq + Clone, V, R: Wait, F: Fit<K, V>> {
     door: &'a Door<K, V, R, F>,
     making: Making<K>,
 }
 
-/// A debt: a pin in an entry whose value another caller makes, and the lock, which the wait alone
-/// lets go, so that no wake is missed.
+/// An obligation: a pin in an entry whose value another caller makes, and the held lock. Only the
+/// wait releases that lock, so that no wakeup is missed.
 pub struct Asleep<'a, K: Hash + Eq + Clone, V, R: Wait, F: Fit<K, V>> {
     inside: Inside<'a, K, V, R, F>,
     waiting: Waiting<K, V, F>,
 }
 
-/// What a begin says, and each wake after it.
+/// The result of `begin`, and of each wakeup after it.
 pub enum Met<'a, K: Hash + Eq + Clone, V, R: Wait, F: Fit<K, V>> {
     /// The caller is to make the value.
     Make(Maker<'a, K, V, R, F>),
     /// Another caller is making it.
     Wait(Asleep<'a, K, V, R, F>),
-    /// The value is there.
+    /// The value is ready.
     Hit(CacheHandle<'a, K, V, R, F>),
 }
 
 impl<K: Hash + Eq + Clone + Drop, V: Drop, R: Wait, F: Fit<K, V>> Door<K, V, R, F> {
-    /// The lock of an empty cache.
+    /// Creates the lock of an empty cache.
     pub fn new(alloc: Global, rt: R, capacity: u64) -> Self
         requires copies { CopiesAreEqual K.is_clone K.eq }
     {
@@ -81,12 +84,13 @@ impl<K: Hash + Eq + Clone + Drop, V: Drop, R: Wait, F: Fit<K, V>> Door<K, V, R, 
         }
     }
 
-    /// The right to wait.
+    /// Returns the capability to wait.
     pub fn rt(&self) -> &R {
         &self.rt
     }
 
-    /// Gets the lock. All calls get it here, so the clauses hold of every state that they meet.
+    /// Acquires the lock. All calls acquire it here, so these clauses hold of every state they
+    /// meet.
     #[inline(always)]
     pub fn enter(&self) -> Inside<'_, K, V, R, F>
         ensures lawful { IsLawful K.eq (mutex_guard_value result.guard).cache }
@@ -102,8 +106,8 @@ impl<K: Hash + Eq + Clone + Drop, V: Drop, R: Wait, F: Fit<K, V>> Door<K, V, R, 
         Inside { door: self, guard }
     }
 
-    // Gets the lock where another call has it. Calls are shorter than a sleep and its wake, so this
-    // looks for a while, less and less often, before it sleeps.
+    // Acquires a lock that another call holds. Calls are shorter than a sleep and a wakeup, so this
+    // tries for a while, less and less often, before it sleeps.
     #[cold]
     fn contend(&self) -> MutexGuard<'_, Locked<K, V, F>> {
         for look in 0..LOOKS {
@@ -116,7 +120,7 @@ impl<K: Hash + Eq + Clone + Drop, V: Drop, R: Wait, F: Fit<K, V>> Door<K, V, R, 
     }
 }
 
-// Lets the processor rest for so many turns.
+// Pauses the processor `turns` times.
 fn pause(turns: u32) {
     for _ in 0..turns {
         hint::spin_loop();
@@ -146,7 +150,7 @@ impl<'a, K: Hash + Eq + Clone + Drop, V: Drop, R: Wait, F: Fit<K, V>> Inside<'a,
         }
     }
 
-    /// `Locked::read`. The reader runs under the lock.
+    /// `Locked::read`. `reader` runs under the lock.
     #[inline(always)]
     pub fn read<T, G>(self, key: &K, reader: G) -> Result<Option<T>, Refusal>
     where
@@ -162,7 +166,7 @@ impl<'a, K: Hash + Eq + Clone + Drop, V: Drop, R: Wait, F: Fit<K, V>> Inside<'a,
         }
     }
 
-    /// `Locked::begin`. What it evicted is dropped without the lock.
+    /// `Locked::begin`. What it evicts is dropped without the lock.
     #[inline(always)]
     pub fn begin(self, key: &K, charge: u64) -> Result<Met<'a, K, V, R, F>, Refusal>
         requires charged { 0 < charge }
@@ -183,16 +187,16 @@ impl<'a, K: Hash + Eq + Clone + Drop, V: Drop, R: Wait, F: Fit<K, V>> Inside<'a,
         }
     }
 
-    /// `Locked::release`. The pin's Arc, and then what was evicted, are dropped without the lock.
+    /// `Locked::release`. The pin's `Arc`, and then what was evicted, are dropped without the lock.
     #[inline(always)]
     pub fn release(self, pin: Pin<K, V, F>) {
         let Self { door: _, mut guard } = self;
         let released = guard.release(pin);
-        // Where it is refused as `Stale`, there is no pin to give back and nothing was evicted.
+        // If it is refused as `Stale`, there is no pin to release and nothing was evicted.
         drop(released.open(guard));
     }
 
-    /// `Locked::advice_evict`. What it evicted is dropped without the lock.
+    /// `Locked::advice_evict`. What it evicts is dropped without the lock.
     pub fn advice_evict(self, key: &K) -> Advised<K>
         ensures { result ≡ key.now }
     {
@@ -202,7 +206,7 @@ impl<'a, K: Hash + Eq + Clone + Drop, V: Drop, R: Wait, F: Fit<K, V>> Inside<'a,
         advised
     }
 
-    /// `Locked::invalidate`. What it evicted is dropped without the lock.
+    /// `Locked::invalidate`. What it evicts is dropped without the lock.
     pub fn invalidate(self, key: &K) -> Invalidated<K>
         ensures { result ≡ key.now }
     {
@@ -212,8 +216,8 @@ impl<'a, K: Hash + Eq + Clone + Drop, V: Drop, R: Wait, F: Fit<K, V>> Inside<'a,
         invalidated
     }
 
-    /// `Locked::insert`. What it replaced and evicted, or both Arcs where it is refused, are
-    /// dropped without the lock.
+    /// `Locked::insert`. What it replaces and evicts, or both `Arc`s if it is refused, are dropped
+    /// without the lock.
     pub fn insert(
         self,
         key: &K,
@@ -241,7 +245,7 @@ impl<'a, K: Hash + Eq + Clone + Drop, V: Drop, R: Wait, F: Fit<K, V>> Inside<'a,
         }
     }
 
-    /// `Locked::prune`. What it evicted is dropped without the lock.
+    /// `Locked::prune`. What it evicts is dropped without the lock.
     pub fn prune(self) -> Pruned {
         let Self { door: _, mut guard } = self;
         let (idle, pruned) = guard.prune();
@@ -249,7 +253,7 @@ impl<'a, K: Hash + Eq + Clone + Drop, V: Drop, R: Wait, F: Fit<K, V>> Inside<'a,
         pruned
     }
 
-    /// `Locked::set_capacity`. What it evicted is dropped without the lock.
+    /// `Locked::set_capacity`. What it evicts is dropped without the lock.
     pub fn set_capacity(self, capacity: u64) -> Resized
         ensures { result ≡ capacity }
     {
@@ -307,7 +311,7 @@ impl<'a, K: Hash + Eq + Clone + Drop, V: Drop, R: Wait, F: Fit<K, V>> Inside<'a,
 }
 
 impl<'a, K: Hash + Eq + Clone + Drop, V: Drop, R: Wait, F: Fit<K, V>> Maker<'a, K, V, R, F> {
-    /// `Locked::ready`. Whoever waits to read is woken.
+    /// `Locked::ready`. Wakes the callers that wait for the value.
     #[inline(always)]
     pub fn ready(self, key: &K, stored: Arc<V>, read: Arc<V>) -> CacheHandle<'a, K, V, R, F>
         requires asked { made_key self.making ≡ key.now }
@@ -320,12 +324,12 @@ impl<'a, K: Hash + Eq + Clone + Drop, V: Drop, R: Wait, F: Fit<K, V>> Maker<'a, 
         let Inside { door: _, mut guard } = door.enter();
         let (pin, back, readers) = guard.ready(making, key, stored, read);
         readers.wake(&door.woken);
-        // Where the Arc comes back, no entry takes the value, and the handle reads the other Arc.
+        // If the `Arc` comes back, no entry takes the value, and the handle reads the other `Arc`.
         let _ = back.open(guard);
         CacheHandle::new(door, pin)
     }
 
-    /// `Locked::fail`. Whoever waits is woken, since the next of them takes the making over.
+    /// `Locked::fail`. Wakes the callers that wait, since the next of them takes over the making.
     pub fn fail(self, key: &K)
         requires { made_key self.making ≡ key.now }
     {
@@ -333,16 +337,16 @@ impl<'a, K: Hash + Eq + Clone + Drop, V: Drop, R: Wait, F: Fit<K, V>> Maker<'a, 
         let Inside { door: _, mut guard } = door.enter();
         let (failed, heirs) = guard.fail(making, key);
         heirs.wake(&door.woken);
-        // Where it is refused as `Stale`, there is no making to give up.
+        // If it is refused as `Stale`, there is no making to give up.
         drop(failed.open(guard));
     }
 }
 
 impl<'a, K: Hash + Eq + Clone + Drop, V: Drop, R: Wait, F: Fit<K, V>> Asleep<'a, K, V, R, F> {
-    /// Waits to be woken, and then `Locked::poll`. None where there is no pin, since the entry of
-    /// its stamp is not the key's.
+    /// Waits to be woken, and then calls `Locked::poll`. Returns `None` if there is no pin, since
+    /// the entry of its stamp does not have this key.
     ///
-    /// `Memory` where the value is there and its copy is refused: then the pin is given back.
+    /// Returns `Memory` if the value is ready and its copy is refused; the pin is then released.
     pub fn wait(self, key: &K) -> Result<Option<Met<'a, K, V, R, F>>, Refusal>
         requires asked { awaited_key self.waiting ≡ key.now }
         requires awake { IsAwake self }
@@ -363,7 +367,7 @@ impl<'a, K: Hash + Eq + Clone + Drop, V: Drop, R: Wait, F: Fit<K, V>> Asleep<'a,
             Polled::Hit(pin) => Ok(Some(Met::Hit(CacheHandle::new(door, pin)))),
             Polled::Refused(unread) => {
                 let given_up = guard.give_up(unread);
-                // Where it is refused as `Stale`, there is no pin to give back.
+                // If it is refused as `Stale`, there is no pin to release.
                 drop(given_up.open(guard));
                 Err(Refusal::Memory)
             }
@@ -372,7 +376,7 @@ impl<'a, K: Hash + Eq + Clone + Drop, V: Drop, R: Wait, F: Fit<K, V>> Asleep<'a,
     }
 }
 
-// Ready entries as a map, under the lock.
+// Prints the ready entries as a map, under the lock.
 impl<
     'a,
     K: Hash + Eq + Clone + Drop + fmt::Debug,

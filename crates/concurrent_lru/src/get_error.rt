@@ -1,4 +1,5 @@
-//! Why a making gave no handle: the error of `get_or_try_init`.
+//! Why no handle was returned: the error of `get_or_try_init`.
+//!
 //! The caller's own error is kept apart from the cache's.
 ghost use Rattle.std.specs.Prelude.{◌≡◌, ◌≢◌};
 ghost use Rattle.concurrent_lru.specs.ThreadedCalls.{IsNotInit};
@@ -7,19 +8,19 @@ use crate::list::Refusal;
 use std::error::Error;
 use std::fmt;
 
-/// Why `get_or_try_init` gave no handle.
+/// Why `get_or_try_init` returned no handle.
 #[derive(Debug, Drop, PartialEq, Eq)]
 pub enum GetError<E> {
-    /// A growth or a copy was refused by the allocator.
+    /// The allocator refused a growth or a copy.
     Memory,
-    /// A number is at its end: the total, the next stamp, or the pins of an entry.
+    /// A number is at its maximum: the total, the next stamp, or the pins of an entry.
     Overflow,
-    /// `init` answered this error.
+    /// `init` returned this error.
     Init(E),
 }
 
 impl<E> GetError<E> {
-    /// The number that stands for the error where a program has only numbers: 1, 2 or 4.
+    /// Returns the code of the error, for programs that have only numbers: 1, 2 or 4.
     pub fn code(&self) -> u8
         ensures memory { self.now ≡ GetError.Memory → result ≡ 1 }
         ensures overflow { self.now ≡ GetError.Overflow → result ≡ 2 }
@@ -32,7 +33,7 @@ impl<E> GetError<E> {
         }
     }
 
-    // The same refusal. What a begin and a making refuse is never stale.
+    // Converts a refusal. What a begin or a making refuses is never stale.
     pub(crate) fn of_refusal(refusal: Refusal) -> GetError<E>
         requires { refusal ≢ Refusal.Stale }
         ensures memory { refusal ≡ Refusal.Memory → result ≡ GetError.Memory }

@@ -1,5 +1,6 @@
-//! Handles: each pins the value that it reads.
-//! Reading takes no lock; the drop gives the pin back under it.
+//! Handles, each of which pins the value that it reads.
+//!
+//! Reading acquires no lock; dropping the handle releases the pin under the lock.
 ghost use Rattle.std.specs.Prelude.{◌≡◌};
 
 use crate::door::Door;
@@ -11,11 +12,11 @@ use std::marker::Model;
 use std::ops::Deref;
 use std::sync::Wait;
 
-/// A pinned value: its entry is not evicted while the handle is there. A handle that is
-/// forgotten keeps its pin for good.
+/// A pinned value: its entry is not evicted while the handle exists. A handle that is forgotten
+/// keeps its pin forever.
 ///
-/// Clauses see the key and the charge that were asked (a `get` asks none), and the value, which
-/// fits that key by the mark F.
+/// Clauses see the key and the charge that were asked for (`get` has no charge), and the value,
+/// which fits that key by the mark `F`.
 pub struct CacheHandle<'a, K: Hash + Eq + Clone, V, R: Wait, F: Fit<K, V> = Anything> {
     door: &'a Door<K, V, R, F>,
     pin: Pin<K, V, F>,
@@ -30,19 +31,19 @@ impl<'a, K: Hash + Eq + Clone, V, R: Wait, F: Fit<K, V>> Model for CacheHandle<'
 }
 
 impl<'a, K: Hash + Eq + Clone, V, R: Wait, F: Fit<K, V>> CacheHandle<'a, K, V, R, F> {
-    // A handle of a pin, and the door where the pin was got and is given back.
+    // Creates a handle of a pin, with the door where the pin was acquired and is released.
     pub(crate) fn new(door: &'a Door<K, V, R, F>, pin: Pin<K, V, F>) -> Self
         ensures key { result.key ≡ pin.key }
         ensures charge { result.charge ≡ pin.charge }
         ensures value { result.value ≡ pin.value }
         ensures fits { F.fits pin.key pin.value }
     {
-        // That the value fits is what the pin's type says.
+        // The pin's type states that the value fits.
         let _ = pin.value();
         CacheHandle { door, pin }
     }
 
-    /// The value. Takes no lock.
+    /// Returns the value. Acquires no lock.
     pub fn value(&self) -> &V
         ensures value { result.now ≡ self.now.value }
         ensures fits { F.fits self.now.key result.now }
@@ -52,7 +53,7 @@ impl<'a, K: Hash + Eq + Clone, V, R: Wait, F: Fit<K, V>> CacheHandle<'a, K, V, R
 }
 
 impl<'a, K: Hash + Eq + Clone + Drop, V: Drop, R: Wait, F: Fit<K, V>> CacheHandle<'a, K, V, R, F> {
-    // The pin alone, for a handle that keeps the cache there by other means.
+    // Returns the pin alone, for a handle that keeps the cache alive by other means.
     pub(crate) fn into_pin(self) -> Pin<K, V, F>
         ensures key { result.key ≡ self.entry.key }
         ensures charge { result.charge ≡ self.entry.charge }
@@ -76,7 +77,7 @@ impl<'a, K: Hash + Eq + Clone, V, R: Wait, F: Fit<K, V>> Deref for CacheHandle<'
     }
 }
 
-// As the value.
+// Prints as the value does.
 impl<'a, K: Hash + Eq + Clone, V: fmt::Debug, R: Wait, F: Fit<K, V>> fmt::Debug
     for CacheHandle<'a, K, V, R, F> {
     ghost debug_output = { λ h. V.debug_output h.value };
@@ -86,8 +87,8 @@ impl<'a, K: Hash + Eq + Clone, V: fmt::Debug, R: Wait, F: Fit<K, V>> fmt::Debug
     }
 }
 
-// Gives the pin back under the lock. The handle's copy, and then what the release evicted, are
-// dropped after the lock is let go.
+// Releases the pin under the lock. The handle's copy, and then what the release evicted, are
+// dropped after the lock is released.
 impl<K: Hash + Eq + Clone + Drop, V: Drop, R: Wait, F: Fit<K, V>> Drop
     for CacheHandle<'_, K, V, R, F> {
     #[inline(always)]

@@ -1,5 +1,5 @@
-//! A cache of heavy values that threads share: handles pin values, and what nobody pins
-//! leaves, oldest release first, once the charges pass the capacity.
+//! A cache of heavy values that threads share. Handles pin values; entries without a pin are
+//! evicted, least recently released first, while the charges exceed the capacity.
 #![tactic(auto)]
 
 mod counted;

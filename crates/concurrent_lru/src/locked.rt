@@ -1,6 +1,8 @@
-//! What lies under the lock: the core's state, whose ready values fit their keys, and the counts of
-//! its calls.
-//! Each call is one step of the core, and what it leaves to be done is a debt, which is not `Drop`.
+//! The data under the lock: the core's state, whose ready values fit their keys, with counts of its
+//! calls.
+//!
+//! Each call is one step of the core. What it leaves to be done is returned as an obligation, a
+//! type that is not `Drop`.
 ghost use Rattle.std.specs.Prelude.{◌≡◌, ◌≢◌, ◌<◌, true, [], Err, Some, None, IsTrue, IsFalse, IfOk, IfErr, IfSome, OnErr};
 ghost use Rattle.std.specs.Arc.{arc_value};
 ghost use Rattle.std.specs.Fn.{FnOnceReturnsAt, FnOnceTakesAt};
@@ -39,16 +41,17 @@ use std::hash::Hash;
 use std::marker::{Model, PhantomData};
 use std::sync::Arc;
 
-/// A state of the core whose ready values fit their keys by the mark F, with counts of its calls.
+/// A state of the core whose ready values fit their keys by the mark `F`, with counts of its calls.
 ///
-/// Clauses see it as the abstract cache and the counts. Its type keeps, whenever the lock is got,
-/// that the cache is lawful (so its total is above the capacity only where nothing is idle), that
-/// the value of every ready entry fits its key, and that the counts add up to the entries and their
-/// charges. Each call counts what it answers, by `counted` of specs/CountedCalls.antt.
+/// Clauses see the abstract cache and the counts. Whenever the lock is acquired, the type's
+/// invariant is that the cache is lawful (so its total is above the capacity only if nothing is
+/// idle), that the value of every ready entry fits its key, and that the counts add up to the
+/// entries and their charges. Each call counts its outcome, as `counted` of specs/CountedCalls.antt
+/// defines.
 ///
-/// It keeps no map by stamp. A debt has its entry's spot, the stamp and the place, and a pinned
-/// entry stays at its place, so a call that pays a debt finds the entry there at once. Only a
-/// stamp from elsewhere, or one whose entry has left, costs a look at every entry.
+/// It has no map by stamp. A debt holds the spot of its entry, the stamp and the place, and a
+/// pinned entry stays at its place, so the call that settles a debt finds the entry there at once.
+/// Only a stamp from elsewhere, or one whose entry has left, costs a look at every entry.
 #[derive(Drop)]
 pub struct Locked<K: Hash + Eq + Clone, V, F: Fit<K, V>> {
     state: CountedState<K, V>,
@@ -69,7 +72,7 @@ impl<K: Hash + Eq + Clone, V, F: Fit<K, V>> Model for Locked<K, V, F> {
 }
 
 impl<K: Hash + Eq + Clone + Drop, V: Drop, F: Fit<K, V>> Locked<K, V, F> {
-    /// An empty cache that settles to `capacity`. Takes no memory.
+    /// Creates an empty cache. Takes no memory.
     pub fn new(alloc: Global, capacity: u64) -> Self
         requires copies { CopiesAreEqual K.is_clone K.eq }
         ensures empty { result.cache ≡ empty_cache capacity most_pins_by_default 0 }
@@ -81,9 +84,9 @@ impl<K: Hash + Eq + Clone + Drop, V: Drop, F: Fit<K, V>> Locked<K, V, F> {
         }
     }
 
-    /// The core's `reserve`: room for so many entries in all.
+    /// The core's `reserve`.
     ///
-    /// `Memory` where the allocator refuses.
+    /// Returns `Memory` if the allocator refuses.
     pub fn reserve(&mut self, entries: usize) -> Result<Reserved, Refusal>
         ensures err { IfErr result (λ e. e ≡ Refusal.Memory) }
         ensures same { self.new ≡ self.old }
@@ -93,7 +96,7 @@ impl<K: Hash + Eq + Clone + Drop, V: Drop, F: Fit<K, V>> Locked<K, V, F> {
         Ok(Reserved::of(entries))
     }
 
-    /// Does nothing; its contract tells what holds whenever the lock is got.
+    /// Does nothing. Its contract states what holds whenever the lock is acquired.
     pub fn show(&self)
         ensures lawful { IsLawful K.eq self.now.cache }
         ensures settled { self.now.cache.capacity < sum_of self.now.cache → self.now.cache.idle ≡ [] }
@@ -103,14 +106,14 @@ impl<K: Hash + Eq + Clone + Drop, V: Drop, F: Fit<K, V>> Locked<K, V, F> {
         self.state.show();
     }
 
-    /// What was counted.
+    /// Returns the counts.
     pub fn counts(&self) -> Counts
         ensures { result ≡ self.now.counts }
     {
         self.state.counts()
     }
 
-    /// What was counted; the counting begins anew.
+    /// Returns the counts and starts the counting again.
     pub fn reset_counts(&mut self) -> Counts
         ensures counted { result ≡ self.old.counts }
         ensures anew { self.new.counts ≡ counts_from (count_of self.old.cache) (sum_of self.old.cache) }
@@ -135,7 +138,7 @@ impl<K: Hash + Eq + Clone + Drop, V: Drop, F: Fit<K, V>> Locked<K, V, F> {
                 let making = Making::of(Spot { stamp, place }, key, charge);
                 Ok(Entered::Make(making, Sealed::of(evicted)))
             }
-            // A begin that meets an entry evicts nothing, so there is nothing to seal.
+            // A begin that finds an entry evicts nothing, so there is nothing to seal.
             Begun::Wait(stamp) => {
                 prove!(evicted.is_empty());
                 let spot = Spot { stamp, place };
@@ -149,7 +152,7 @@ impl<K: Hash + Eq + Clone + Drop, V: Drop, F: Fit<K, V>> Locked<K, V, F> {
         }
     }
 
-    // The core's `begin`, with its own answer, and the place of the entry.
+    // The core's `begin`, with its own result, and the place of the entry.
     #[inline(always)]
     fn begun(&mut self, key: &K, charge: u64) -> Result<(Begun<V>, Evicted<K, V>, Place), Refusal>
         requires charged { 0 < charge }
@@ -179,7 +182,7 @@ impl<K: Hash + Eq + Clone + Drop, V: Drop, F: Fit<K, V>> Locked<K, V, F> {
         }
     }
 
-    /// The core's `read`. The value that the reader is given fits the key.
+    /// The core's `read`. The value passed to `reader` fits the key.
     #[inline(always)]
     pub fn read<T, G>(&mut self, key: &K, reader: G) -> Result<Option<(u64, T)>, Refusal>
     where
@@ -193,14 +196,15 @@ impl<K: Hash + Eq + Clone + Drop, V: Drop, F: Fit<K, V>> Locked<K, V, F> {
         self.state.read(key, reader)
     }
 
-    // Those that wait for the value of the spot's entry: whoever has a pin in it beside its maker.
+    // Returns the callers that may wait for the value of the spot's entry: those that have a pin in
+    // it besides its maker.
     fn waiters(&self, spot: &Spot) -> Waiters
         ensures { IsFalse result → HasNoOtherPin self.now.cache spot.now.stamp }
     {
         Waiters::of(self.state.is_shared(spot))
     }
 
-    // Whether the spot's entry has this key. A spot whose entry has left may not.
+    // Returns whether the spot's entry has this key. It is false if the entry has left.
     fn has_key(&self, spot: &Spot, key: &K) -> bool
         ensures yes { IsTrue result → HasEqualKeyAt K.eq self.now.cache spot.now.stamp key.now }
         ensures no { IsFalse result → HasEqualKeyAt K.eq self.now.cache spot.now.stamp key.now → ⊥ }
@@ -211,7 +215,7 @@ impl<K: Hash + Eq + Clone + Drop, V: Drop, F: Fit<K, V>> Locked<K, V, F> {
         }
     }
 
-    /// The core's `poll`, where the pin's entry has the key. The value of a hit fits the key.
+    /// The core's `poll`, if the pin's entry has the key. The value of a hit fits the key.
     pub fn poll(&mut self, woken: Woken<K>, key: &K) -> Polled<K, V, F>
         requires asked { woken_key woken ≡ key.now }
         ensures step { HasEqualKeyAt K.eq self.old.cache (woken_stamp woken) key.now → Stands K.eq self.old.cache (ask.poll (woken_stamp woken)) (outcome_of_locked_poll result) self.new.cache }
@@ -230,12 +234,12 @@ impl<K: Hash + Eq + Clone + Drop, V: Drop, F: Fit<K, V>> Locked<K, V, F> {
             Ok(Begun::Wait(_)) => Polled::Wait(Waiting::of(spot, key, charge, self)),
             Ok(Begun::Hit(_, value)) => Polled::Hit(Pin::of(spot, key, Some(charge), value)),
             Err(Refusal::Memory) => Polled::Refused(Unread { spot }),
-            // A poll never overflows: this is `Stale`, and there is no pin to give back.
+            // A poll never overflows, so this is `Stale`, and there is no pin to release.
             Err(_) => Polled::Stray,
         }
     }
 
-    // The core's `poll`, where the spot's entry has the key, with its own answer.
+    // The core's `poll`, if the spot's entry has the key, with its own result.
     fn polled(&mut self, spot: &Spot, key: &K) -> Result<Begun<V>, Refusal>
         ensures step { HasEqualKeyAt K.eq self.old.cache spot.now.stamp key.now → Stands K.eq self.old.cache (ask.poll spot.now.stamp) (outcome_of_poll result) self.new.cache }
         ensures counted { self.new.counts ≡ counted self.old.cache (ask.poll spot.now.stamp) (outcome_of_poll result) self.old.counts }
@@ -248,11 +252,11 @@ impl<K: Hash + Eq + Clone + Drop, V: Drop, F: Fit<K, V>> Locked<K, V, F> {
         self.state.poll(spot)
     }
 
-    /// The core's `ready`, where the making's entry has the key: the entry gets `stored`, and the
-    /// pin has `read`, another Arc of the same value. Takes no memory.
+    /// The core's `ready`, if the making's entry has the key: the entry gets `stored`, and the pin
+    /// holds `read`, another `Arc` of the same value. Takes no memory.
     ///
-    /// There is nobody to wake only where no other pin is in the entry.
-    /// Where no entry with this stamp and key is being made, `stored` comes back.
+    /// There is nobody to wake only if the entry has no other pin. If no entry with this stamp and
+    /// key is being made, `stored` is returned.
     #[inline(always)]
     pub fn ready(
         &mut self,
@@ -281,10 +285,10 @@ impl<K: Hash + Eq + Clone + Drop, V: Drop, F: Fit<K, V>> Locked<K, V, F> {
         (pin, Sealed::of(back), Waiters::of(shared))
     }
 
-    /// The core's `fail`, where the making's entry has the key. Takes no memory.
+    /// The core's `fail`, if the making's entry has the key. Takes no memory.
     ///
-    /// There is nobody to wake only where no other pin is in the entry.
-    /// `Stale` where no entry with this stamp and key is being made.
+    /// There is nobody to wake only if the entry has no other pin. Returns `Stale` if no entry with
+    /// this stamp and key is being made.
     pub fn fail(
         &mut self,
         making: Making<K>,
@@ -308,10 +312,10 @@ impl<K: Hash + Eq + Clone + Drop, V: Drop, F: Fit<K, V>> Locked<K, V, F> {
         (Sealed::of(self.state.fail(&spot)), heirs)
     }
 
-    /// The core's `release`. Takes no memory. The pin's Arc of the value is sealed before what the
-    /// release evicted.
+    /// The core's `release`. Takes no memory. Seals the pin's `Arc` of the value, followed by what
+    /// the release evicted.
     ///
-    /// `Stale` where no held and ready entry has the stamp.
+    /// Returns `Stale` if no held and ready entry has the stamp.
     #[inline(always)]
     pub fn release(&mut self, pin: Pin<K, V, F>) -> Sealed<(Arc<V>, Result<Evicted<K, V>, Refusal>)>
         ensures step { Stands K.eq self.old.cache (ask.release pin.stamp) (outcome_of_release result.1) self.new.cache }
@@ -328,9 +332,9 @@ impl<K: Hash + Eq + Clone + Drop, V: Drop, F: Fit<K, V>> Locked<K, V, F> {
         Sealed::of((value, self.state.release(&spot)))
     }
 
-    /// The core's `release` of a pin whose value was not read. Takes no memory.
+    /// The core's `release`, for a pin whose value was not read. Takes no memory.
     ///
-    /// `Stale` as in `release`.
+    /// Returns `Stale` as `release` does.
     pub fn give_up(&mut self, unread: Unread) -> Sealed<Result<Evicted<K, V>, Refusal>>
         ensures step { Stands K.eq self.old.cache (ask.release (unread_stamp unread)) (outcome_of_release result) self.new.cache }
         ensures counted { self.new.counts ≡ counted self.old.cache (ask.release (unread_stamp unread)) (outcome_of_release result) self.old.counts }
@@ -357,10 +361,10 @@ impl<K: Hash + Eq + Clone + Drop, V: Drop, F: Fit<K, V>> Locked<K, V, F> {
         (Sealed::of(self.state.invalidate(key)), Invalidated::of(key))
     }
 
-    /// The core's `insert`: the new entry of the key gets `stored`, and the pin has `read`, another
-    /// Arc of the same value. What it replaced, and what its charge evicted, are sealed.
+    /// The core's `insert`: the new entry of the key gets `stored`, and the pin holds `read`,
+    /// another `Arc` of the same value. What it replaced, and what its charge evicted, are sealed.
     ///
-    /// `Overflow` and `Memory` as there: nothing changes then, and both Arcs are sealed.
+    /// Returns `Overflow` and `Memory` as there: then no entry changes, and both `Arc`s are sealed.
     pub fn insert(
         &mut self,
         key: &K,
@@ -414,22 +418,22 @@ impl<K: Hash + Eq + Clone + Drop, V: Drop, F: Fit<K, V>> Locked<K, V, F> {
         )
     }
 
-    /// The sum of the charges of all entries, those still being made included.
+    /// Returns the sum of the charges of all entries, including those still being made.
     pub fn total(&self) -> u64
         ensures total { result ≡ sum_of self.now.cache }
     {
         self.state.total()
     }
 
-    /// The sum of the charges of the held entries, those still being made included, and those that
-    /// are held after an `invalidate`.
+    /// Returns the sum of the charges of the held entries, including those still being made and
+    /// those held after an `invalidate`.
     pub fn pinned_charge(&self) -> u64
         ensures { result ≡ pinned_of self.now.cache }
     {
         self.state.pinned_charge()
     }
 
-    /// The number of entries, those still being made included, and those that are held after an
+    /// Returns the number of entries, including those still being made and those held after an
     /// `invalidate`.
     pub fn len(&self) -> usize
         ensures { result ≡ count_of self.now.cache }
@@ -437,7 +441,7 @@ impl<K: Hash + Eq + Clone + Drop, V: Drop, F: Fit<K, V>> Locked<K, V, F> {
         self.state.len()
     }
 
-    /// Whether the key has a value: the core's `contains`.
+    /// The core's `contains`.
     pub fn contains(&self, key: &K) -> bool
         ensures yes { IsTrue result → HasReadyKey K.eq self.now.cache key.now }
         ensures no { IsFalse result → IsUnready K.eq self.now.cache key.now }
@@ -445,7 +449,7 @@ impl<K: Hash + Eq + Clone + Drop, V: Drop, F: Fit<K, V>> Locked<K, V, F> {
         self.state.contains(key)
     }
 
-    /// The total that the cache settles to.
+    /// Returns the capacity.
     pub fn capacity(&self) -> u64
         ensures capacity { result ≡ self.now.cache.capacity }
     {
@@ -453,7 +457,7 @@ impl<K: Hash + Eq + Clone + Drop, V: Drop, F: Fit<K, V>> Locked<K, V, F> {
     }
 }
 
-// Ready entries as a map, as the core prints them.
+// Prints the ready entries as a map, as the core does.
 impl<K: Hash + Eq + Clone + Drop + fmt::Debug, V: Drop + fmt::Debug, F: Fit<K, V>> fmt::Debug
     for Locked<K, V, F> {
     fn fmt<W: fmt::Write>(&self, f: &mut fmt::Formatter<W>) -> fmt::Result {

@@ -1,4 +1,4 @@
-//! Handles that borrow nothing: each keeps its cache alive by an `Arc` of its own.
+//! Handles that borrow nothing: each keeps its cache alive with an `Arc` of its own.
 ghost use Rattle.std.specs.Prelude.{◌≡◌, ◌≢◌, ◌<◌, Some, None, Ok, Err, IfOk, IfErr, IfSome};
 ghost use Rattle.std.specs.Fn.{FnOnceReturnsAt, FnOnceTakesAt};
 ghost use Rattle.concurrent_lru.specs.ThreadedCalls.{IfInit};
@@ -14,8 +14,8 @@ use std::marker::Model;
 use std::ops::Deref;
 use std::sync::{Arc, Wait};
 
-/// A pinned value, as a `CacheHandle`, for a cache in an `Arc`: the handle keeps the cache alive.
-/// Its drop gives the pin back, and then drops its `Arc` of the cache.
+/// A pinned value of a cache in an `Arc`, like `CacheHandle`, except that the handle keeps the
+/// cache alive. Dropping it releases the pin, and then drops its `Arc` of the cache.
 ///
 /// Clauses see what they see of a `CacheHandle`.
 pub struct OwnedHandle<K: Hash + Eq + Clone, V, R: Wait, F: Fit<K, V> = Anything> {
@@ -32,7 +32,7 @@ impl<K: Hash + Eq + Clone, V, R: Wait, F: Fit<K, V>> Model for OwnedHandle<K, V,
 }
 
 impl<K: Hash + Eq + Clone, V, R: Wait, F: Fit<K, V>> OwnedHandle<K, V, R, F> {
-    /// The value. Takes no lock.
+    /// Returns the value. Acquires no lock.
     pub fn value(&self) -> &V
         ensures value { result.now ≡ self.now.value }
         ensures fits { F.fits self.now.key result.now }
@@ -42,14 +42,14 @@ impl<K: Hash + Eq + Clone, V, R: Wait, F: Fit<K, V>> OwnedHandle<K, V, R, F> {
 }
 
 impl<K: Hash + Eq + Clone + Drop, V: Drop, R: Wait + Drop, F: Fit<K, V>> OwnedHandle<K, V, R, F> {
-    // A handle of a pin that was got from this cache.
+    // Creates a handle of a pin that was acquired from this cache.
     fn new(cache: Arc<LruCache<K, V, R, F>>, pin: Pin<K, V, F>) -> Self
         ensures key { result.key ≡ pin.key }
         ensures charge { result.charge ≡ pin.charge }
         ensures value { result.value ≡ pin.value }
         ensures fits { F.fits pin.key pin.value }
     {
-        // That the value fits is what the pin's type says.
+        // The pin's type states that the value fits.
         let _ = pin.value();
         OwnedHandle { cache, pin }
     }
@@ -68,7 +68,7 @@ impl<K: Hash + Eq + Clone, V, R: Wait, F: Fit<K, V>> Deref for OwnedHandle<K, V,
     }
 }
 
-// As the value.
+// Prints as the value does.
 impl<K: Hash + Eq + Clone, V: fmt::Debug, R: Wait, F: Fit<K, V>> fmt::Debug
     for OwnedHandle<K, V, R, F> {
     ghost debug_output = { λ h. V.debug_output h.value };
@@ -78,8 +78,7 @@ impl<K: Hash + Eq + Clone, V: fmt::Debug, R: Wait, F: Fit<K, V>> fmt::Debug
     }
 }
 
-// Gives the pin back under the lock, before the Arc of the cache, which may be the last, is
-// dropped.
+// Releases the pin under the lock before the `Arc` of the cache, which may be the last, is dropped.
 impl<K: Hash + Eq + Clone + Drop, V: Drop, R: Wait + Drop, F: Fit<K, V>> Drop
     for OwnedHandle<K, V, R, F> {
     fn drop(self) {
@@ -92,8 +91,8 @@ impl<K: Hash + Eq + Clone + Drop, V: Drop, R: Wait + Drop, F: Fit<K, V>> Drop
 impl<K: Hash + Eq + Clone + Drop, V: Drop, R: Wait + Drop, F: Fit<K, V>> LruCache<K, V, R, F> {
     /// `find`, with a handle that borrows nothing and keeps the cache alive.
     ///
-    /// `Overflow` and `Memory` as there; `Memory` also where a copy of the `Arc` is refused, and
-    /// then nothing is pinned.
+    /// Returns `Overflow` and `Memory` as `find` does, and `Memory` also if a copy of the `Arc` is
+    /// refused; then nothing is pinned.
     pub fn get_owned(
         this: &Arc<LruCache<K, V, R, F>>,
         key: &K,
@@ -115,8 +114,8 @@ impl<K: Hash + Eq + Clone + Drop, V: Drop, R: Wait + Drop, F: Fit<K, V>> LruCach
 
     /// `get_or_init_by`, with a handle that borrows nothing and keeps the cache alive.
     ///
-    /// `Memory` and `Overflow` as there; `Memory` also where a copy of the `Arc` is refused, and
-    /// then `init` is dropped uncalled and nothing is pinned.
+    /// Returns `Memory` and `Overflow` as `get_or_init_by` does, and `Memory` also if a copy of the
+    /// `Arc` is refused; then `init` is dropped without being called, and nothing is pinned.
     pub fn get_or_init_owned<I>(
         this: &Arc<LruCache<K, V, R, F>>,
         key: &K,
@@ -140,8 +139,9 @@ impl<K: Hash + Eq + Clone + Drop, V: Drop, R: Wait + Drop, F: Fit<K, V>> LruCach
 
     /// `get_or_try_init_by`, with a handle that borrows nothing and keeps the cache alive.
     ///
-    /// `Init`, `Memory` and `Overflow` as there; `Memory` also where a copy of the `Arc` is
-    /// refused, and then `init` is dropped uncalled and nothing is pinned.
+    /// Returns `Init`, `Memory` and `Overflow` as `get_or_try_init_by` does, and `Memory` also if a
+    /// copy of the `Arc` is refused; then `init` is dropped without being called, and nothing is
+    /// pinned.
     pub fn get_or_try_init_owned<E, I>(
         this: &Arc<LruCache<K, V, R, F>>,
         key: &K,

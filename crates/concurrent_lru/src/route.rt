@@ -1,6 +1,6 @@
 //! The shards of a cache that threads share, and which of them serves a key.
-//! A single shard is reached by its key alone, or by the route of one, so no call goes to another
-//! shard.
+//!
+//! A single shard is reached only by its key or by a route, so no call goes to another shard.
 ghost use Rattle.std.specs.Prelude.{◌≡◌, ◌<◌, ◌+◌, ◌-◌, ◌/◌, ◌%◌, Some, IfErr, IfOk, slice_get, vec_len};
 ghost use Rattle.concurrent_lru.specs.Keys.{CopiesAreEqual};
 ghost use Rattle.concurrent_lru.specs.Sharded.{key_number};
@@ -16,7 +16,7 @@ use std::fmt;
 use std::hash::{BuildHasher, Hash};
 use std::sync::Wait;
 
-/// Caches of one lock side by side, each for the keys that a hasher routes to it.
+/// Caches of one lock, each for the keys that a hasher routes to it.
 #[derive(Drop)]
 pub struct Routes<K: Hash + Eq + Clone, V, R: Wait, S, F: Fit<K, V>> {
     shards: Vec<LruCache<K, V, R, F>>,
@@ -24,7 +24,7 @@ pub struct Routes<K: Hash + Eq + Clone, V, R: Wait, S, F: Fit<K, V>> {
     ghost some: { 0 < vec_len shards },
 }
 
-/// Which shard serves a key. `Routes::route_of` alone makes one.
+/// Which shard serves a key. Only `Routes::route_of` makes one.
 #[derive(Clone, Copy)]
 pub struct Route {
     index: usize,
@@ -37,9 +37,9 @@ impl<
     S: BuildHasher + Drop,
     F: Fit<K, V>,
 > Routes<K, V, R, S, F> {
-    /// So many empty caches, each with its share of the capacity.
+    /// Creates `shards` empty caches, each with its share of the capacity.
     ///
-    /// `Memory` where there is no room for them, or a copy of the right to wait is refused.
+    /// Returns `Memory` if there is no room for them, or if a copy of `rt` is refused.
     pub fn new(
         alloc: Global,
         rt: R,
@@ -73,14 +73,14 @@ impl<K: Hash + Eq + Clone + Drop, V: Drop, R: Wait, S: BuildHasher, F: Fit<K, V>
     S,
     F,
 > {
-    /// The shard that serves a key: the hasher's number of it modulo the number of shards.
+    /// Returns the shard that serves a key: its hash modulo the number of shards.
     pub fn of(&self, key: &K) -> &LruCache<K, V, R, F>
         ensures route { slice_get self.now.shards.items (key_number S.BuildHasher S.Hasher.Hasher K.hash_input self.now.hasher key.now % vec_len self.now.shards) ≡ Some result.now }
     {
         &self.shards[choose_shard(&self.hasher, key, self.shards.len())]
     }
 
-    /// The route to that shard, for callers that return to it without the key.
+    /// Returns the route to that shard, for callers that return to it without the key.
     pub fn route_of(&self, key: &K) -> Route
         ensures route { result.index ≡ key_number S.BuildHasher S.Hasher.Hasher K.hash_input self.now.hasher key.now % vec_len self.now.shards }
         ensures within { result.index < vec_len self.now.shards }
@@ -90,7 +90,7 @@ impl<K: Hash + Eq + Clone + Drop, V: Drop, R: Wait, S: BuildHasher, F: Fit<K, V>
         }
     }
 
-    /// The shard at the end of a route.
+    /// Returns the shard that a route leads to.
     pub fn at(&self, route: Route) -> &LruCache<K, V, R, F>
         requires within { route.index < vec_len self.now.shards }
         ensures shard { slice_get self.now.shards.items route.index ≡ Some result.now }
@@ -98,9 +98,9 @@ impl<K: Hash + Eq + Clone + Drop, V: Drop, R: Wait, S: BuildHasher, F: Fit<K, V>
         &self.shards[route.index]
     }
 
-    /// `reserve` of each shard, one after another, with its share of the entries.
+    /// Reserves room in each shard, one after another, for its share of the entries.
     ///
-    /// `Memory` where the allocator refuses; the shards before that one keep their room.
+    /// Returns `Memory` if the allocator refuses; the shards before that one keep their room.
     pub fn reserve(&self, entries: usize) -> Result<(), Refusal>
         ensures { IfErr result (λ e. e ≡ Refusal.Memory) }
     {
@@ -110,38 +110,38 @@ impl<K: Hash + Eq + Clone + Drop, V: Drop, R: Wait, S: BuildHasher, F: Fit<K, V>
         Ok(())
     }
 
-    // Asks a shard to make room for its share of so many entries.
+    // Reserves room in one shard for its share of `entries` entries.
     fn reserved(&self, shard: &LruCache<K, V, R, F>, entries: usize) -> Result<Reserved, Refusal>
         ensures err { IfErr result (λ e. e ≡ Refusal.Memory) }
         ensures done { IfOk result (λ reserved. reserved ≡ (entries + vec_len self.now.shards - 1) / vec_len self.now.shards) }
     {
-        // Taken out and wrapped again, since the clause on the share is found by the cases of `?`.
+        // Unwrapped and wrapped again, since the clause on the share is found by the cases of `?`.
         let reserved = shard.reserved(entries.div_ceil(self.shards.len()))?;
         Ok(reserved)
     }
 
-    /// `prune` of each shard, one after another.
+    /// Calls `prune` of each shard, one after another.
     pub fn prune(&self) {
         for shard in &self.shards {
             let _: Pruned = shard.pruned();
         }
     }
 
-    /// `set_capacity` of each shard, one after another, with its share of the capacity.
+    /// Calls `set_capacity` of each shard, one after another, with its share of the capacity.
     pub fn set_capacity(&self, capacity: u64) {
         for shard in &self.shards {
             let _: Resized = self.resized(shard, capacity);
         }
     }
 
-    // Gives a shard its share of a capacity.
+    // Sets the capacity of one shard to its share.
     fn resized(&self, shard: &LruCache<K, V, R, F>, capacity: u64) -> Resized
         ensures { result ≡ (capacity + vec_len self.now.shards - 1) / vec_len self.now.shards }
     {
         shard.resized(capacity_per_shard(capacity, self.shards.len()))
     }
 
-    /// The sum of the shards' capacities, read one after another.
+    /// Returns the sum of the shards' capacities, read one after another.
     pub fn capacity(&self) -> u128 {
         let mut capacity = 0;
         for shard in &self.shards {
@@ -150,7 +150,7 @@ impl<K: Hash + Eq + Clone + Drop, V: Drop, R: Wait, S: BuildHasher, F: Fit<K, V>
         capacity
     }
 
-    /// The sum of the shards' totals, read one after another.
+    /// Returns the sum of the shards' totals, read one after another.
     pub fn total_charge(&self) -> u128 {
         let mut total = 0;
         for shard in &self.shards {
@@ -159,7 +159,7 @@ impl<K: Hash + Eq + Clone + Drop, V: Drop, R: Wait, S: BuildHasher, F: Fit<K, V>
         total
     }
 
-    /// The sum of the shards' pinned charges, read one after another.
+    /// Returns the sum of the shards' pinned charges, read one after another.
     pub fn pinned_charge(&self) -> u128 {
         let mut pinned = 0;
         for shard in &self.shards {
@@ -168,7 +168,7 @@ impl<K: Hash + Eq + Clone + Drop, V: Drop, R: Wait, S: BuildHasher, F: Fit<K, V>
         pinned
     }
 
-    /// The sum of the shards' numbers of entries, read one after another, up to `usize::MAX`.
+    /// Returns the number of entries, read one shard after another, at most `usize::MAX`.
     pub fn len(&self) -> usize {
         let mut len: usize = 0;
         for shard in &self.shards {
@@ -177,7 +177,7 @@ impl<K: Hash + Eq + Clone + Drop, V: Drop, R: Wait, S: BuildHasher, F: Fit<K, V>
         len
     }
 
-    /// The sum of the shards' counts, read one after another.
+    /// Returns the sum of the shards' counts, read one after another.
     pub fn counts(&self) -> Counts {
         let mut counts = Counts::default();
         for shard in &self.shards {
@@ -186,7 +186,7 @@ impl<K: Hash + Eq + Clone + Drop, V: Drop, R: Wait, S: BuildHasher, F: Fit<K, V>
         counts
     }
 
-    /// The sum of the shards' counts, each of which begins anew, one after another.
+    /// Resets the shards' counts, one after another, and returns their sum.
     pub fn reset_counts(&self) -> Counts {
         let mut counts = Counts::default();
         for shard in &self.shards {
@@ -196,7 +196,7 @@ impl<K: Hash + Eq + Clone + Drop, V: Drop, R: Wait, S: BuildHasher, F: Fit<K, V>
     }
 }
 
-// The shards as a list, each under its lock.
+// Prints the shards as a list, each under its lock.
 impl<
     K: Hash + Eq + Clone + Drop + fmt::Debug,
     V: Drop + fmt::Debug,

@@ -1,11 +1,11 @@
-//! Laws of caches side by side. Each function does nothing: its contract is the law, for any
-//! keys, values and hashers.
+//! Laws of sharded caches. Each function does nothing: its contract is the law, for any keys,
+//! values and hashers.
 ghost use Rattle.concurrent_lru.specs.Sharded.{key_number};
 ghost use Rattle.concurrent_lru.specs.ShardLaws.{OneShard, RefusalsChangeNothing};
 
 use std::hash::{BuildHasher, Hash};
 
-/// Equal keys have one shard, whatever the hasher.
+/// Equal keys have the same shard, whatever the hasher.
 pub fn one_shard<K: Hash + Eq, V: Drop, S: BuildHasher>()
     ensures law { OneShard K V S K.eq (key_number S.BuildHasher S.Hasher.Hasher K.hash_input) }
 {}

@@ -1,5 +1,6 @@
-//! Caches side by side, each behind a lock of its own, for any number of threads.
-//! A hasher chooses the shard that serves a key; shards wait for no other's lock.
+//! A cache in shards, each behind a lock of its own, for any number of threads.
+//!
+//! A hasher chooses the shard that serves a key. No shard waits for another's lock.
 ghost use Rattle.std.specs.Prelude.{◌≡◌, ◌≢◌, ◌<◌, Some, None, Ok, Err, IfOk, IfErr, IfSome};
 ghost use Rattle.std.specs.Fn.{FnOnceReturnsAt, FnOnceTakesAt};
 ghost use Rattle.concurrent_lru.specs.Keys.{CopiesAreEqual};
@@ -24,11 +25,12 @@ use std::marker::Model;
 use std::ops::Deref;
 use std::sync::Wait;
 
-/// A cache that threads share, in shards that each have a lock and a share of the capacity. S
-/// numbers the keys; R and F are as in the cache of one lock.
+/// A cache that threads share, in shards that each have a lock and a share of the capacity. `S`
+/// hashes the keys; `R` and `F` are as in `unsharded::LruCache`.
 ///
-/// Whenever the lock of a shard is got, that shard is lawful, its total is the sum of its charges
-/// and above its share only where nothing of it is idle, and its ready values fit their keys.
+/// Whenever the lock of a shard is acquired, that shard is lawful, its total is the sum of its
+/// charges and is above its share only if nothing in it is idle, and its ready values fit their
+/// keys.
 #[derive(Drop)]
 pub struct LruCache<
     K: Hash + Eq + Clone,
@@ -40,11 +42,11 @@ pub struct LruCache<
     routes: Routes<K, V, R, S, F>,
 }
 
-/// A pinned value: its entry is not evicted while the handle is there. A handle that is
-/// forgotten keeps its pin for good.
+/// A pinned value: its entry is not evicted while the handle exists. A handle that is forgotten
+/// keeps its pin forever.
 ///
-/// Clauses see the key and the charge that were asked (a `get` asks none), and the value, which
-/// fits that key by the mark F.
+/// Clauses see the key and the charge that were asked for (`get` has no charge), and the value,
+/// which fits that key by the mark `F`.
 pub struct CacheHandle<'a, K: Hash + Eq + Clone, V, R: Wait, F: Fit<K, V> = Anything> {
     held: unsharded::CacheHandle<'a, K, V, R, F>,
 }
@@ -58,7 +60,7 @@ impl<'a, K: Hash + Eq + Clone, V, R: Wait, F: Fit<K, V>> Model for CacheHandle<'
 }
 
 impl<'a, K: Hash + Eq + Clone, V, R: Wait, F: Fit<K, V>> CacheHandle<'a, K, V, R, F> {
-    /// The value. Takes no lock.
+    /// Returns the value. Acquires no lock.
     pub fn value(&self) -> &V
         ensures value { result.now ≡ self.now.value }
         ensures fits { F.fits self.now.key result.now }
@@ -80,7 +82,7 @@ impl<'a, K: Hash + Eq + Clone, V, R: Wait, F: Fit<K, V>> Deref for CacheHandle<'
     }
 }
 
-// As the value.
+// Prints as the value does.
 impl<'a, K: Hash + Eq + Clone, V: fmt::Debug, R: Wait, F: Fit<K, V>> fmt::Debug
     for CacheHandle<'a, K, V, R, F> {
     ghost debug_output = { λ h. V.debug_output h.value };
@@ -106,10 +108,10 @@ impl<K: Hash + Eq + Clone + Drop, V: Drop, R: Wait + Clone> LruCache<
     RandomState,
     Anything,
 > {
-    /// An empty cache of 16 shards. Whoever makes it promises that a copy of a key equals the
-    /// key.
+    /// Creates an empty cache of 16 shards. Whoever creates it promises that a copy of a key equals
+    /// the key.
     ///
-    /// `Memory` where there is no room for the shards, or a copy of the right to wait is refused.
+    /// Returns `Memory` if there is no room for the shards, or if a copy of `rt` is refused.
     pub fn new(alloc: Global, rt: R, capacity: u64, hasher: RandomState) -> Result<Self, Refusal>
         requires copies { CopiesAreEqual K.is_clone K.eq }
         ensures err { IfErr result (λ e. e ≡ Refusal.Memory) }
@@ -125,9 +127,10 @@ impl<K: Hash + Eq + Clone + Drop, V: Drop, R: Wait + Clone, S: BuildHasher + Dro
     S,
     Anything,
 > {
-    /// An empty cache of one or more shards, each with `capacity_per_shard` of the capacity.
+    /// Creates an empty cache of one or more shards, each with `capacity_per_shard` of the
+    /// capacity.
     ///
-    /// `Memory` as in `new`.
+    /// Returns `Memory` as `new` does.
     pub fn with_shards_hasher(
         alloc: Global,
         rt: R,
@@ -150,9 +153,9 @@ impl<
     S: BuildHasher + Drop,
     F: Fit<K, V>,
 > LruCache<K, V, R, S, F> {
-    /// An empty cache with the mark F, else as `with_shards_hasher` makes it.
+    /// Creates an empty cache with the mark `F`, otherwise as `with_shards_hasher` does.
     ///
-    /// `Memory` as in `new`.
+    /// Returns `Memory` as `new` does.
     pub fn marked(
         alloc: Global,
         rt: R,
@@ -177,22 +180,22 @@ impl<K: Hash + Eq + Clone + Drop, V: Drop, R: Wait, S: BuildHasher, F: Fit<K, V>
     S,
     F,
 > {
-    /// Makes room in each shard for its share of `entries` entries, the quotient by the number of
-    /// shards rounded up, as the cache of one lock does, one shard after another. A hasher may
-    /// give a shard more keys than its share, and that shard then grows as it would.
+    /// Reserves room in each shard for its share of `entries` entries, one shard after another. The
+    /// share is the quotient by the number of shards, rounded up. A hasher may give a shard more
+    /// keys than its share, and that shard then grows as needed.
     ///
-    /// `Memory` where the allocator refuses; no entry changes in either case, though some room
-    /// may have been made.
+    /// Returns `Memory` if the allocator refuses. No entry changes in either case, though some room
+    /// may have been reserved.
     pub fn reserve(&self, entries: usize) -> Result<(), Refusal>
         ensures { IfErr result (λ e. e ≡ Refusal.Memory) }
     {
         self.routes.reserve(entries)
     }
 
-    /// A handle of the key's value, where it is ready; none where the key has no entry or its
-    /// value is still being made. Waits for no maker. `find` asks by a reference to the key.
+    /// Returns a handle of the key's value if it is ready, and `None` if the key has no entry or
+    /// its value is still being made. Never waits for a maker. `find` takes the key by reference.
     ///
-    /// `Overflow` where the entry has the greatest number of pins; `Memory` where the copy of
+    /// Returns `Overflow` if the entry has the maximum number of pins, and `Memory` if the copy of
     /// the value is refused.
     #[inline(always)]
     pub fn get(&self, key: K) -> Result<Option<CacheHandle<'_, K, V, R, F>>, Refusal>
@@ -204,9 +207,9 @@ impl<K: Hash + Eq + Clone + Drop, V: Drop, R: Wait, S: BuildHasher, F: Fit<K, V>
         self.find(&key)
     }
 
-    /// `get` by a reference to the key, which is not copied.
+    /// `get` with the key by reference. The key is not copied.
     ///
-    /// `Overflow` and `Memory` as there.
+    /// Returns `Overflow` and `Memory` as `get` does.
     #[inline(always)]
     pub fn find(&self, key: &K) -> Result<Option<CacheHandle<'_, K, V, R, F>>, Refusal>
         ensures key { IfOk result (λ found. IfSome found (λ h. h.key ≡ key.now)) }
@@ -220,17 +223,16 @@ impl<K: Hash + Eq + Clone + Drop, V: Drop, R: Wait, S: BuildHasher, F: Fit<K, V>
         }
     }
 
-    /// Reads the key's value, where it is ready, and answers what `reader` answers of it. None
-    /// where the key has no entry or its value is still being made; `reader` is then dropped
-    /// uncalled. Waits for no maker. It makes no handle, copies nothing and takes no memory.
+    /// Calls `reader` with the key's value, if it is ready, and returns its result. Returns `None`
+    /// if the key has no entry or its value is still being made; `reader` is then dropped without
+    /// being called. Never waits for a maker. It makes no handle, copies nothing and takes no
+    /// memory.
     ///
     /// It counts as a `get` whose handle is dropped at once: an idle entry becomes the newest idle
-    /// one, and a held one stays as it is. `reader` runs, or is dropped, under the lock, so it
-    /// should be short, and it must not use this cache: such a call would wait for itself.
+    /// one, and a held one stays as it is. `reader` runs, or is dropped, under the lock of the
+    /// shard. It should be short, and must not use this cache, since such a call may deadlock.
     ///
-    /// `Overflow` where the entry has the greatest number of pins, as for `get`.
-    ///
-    /// The original crate has no such call; this one is this project's own.
+    /// Returns `Overflow` if the entry has the maximum number of pins, as `get` does.
     #[inline(always)]
     pub fn read<T, G>(&self, key: &K, reader: G) -> Result<Option<T>, Refusal>
     where
@@ -242,12 +244,12 @@ impl<K: Hash + Eq + Clone + Drop, V: Drop, R: Wait, S: BuildHasher, F: Fit<K, V>
         self.routes.of(key).read(key, reader)
     }
 
-    /// A handle of the key's value, which `init` makes where the key has no entry, or where the
-    /// maker before failed. Waits while another caller makes it. `get_or_try_init_by` asks by a
-    /// reference to the key.
+    /// Returns a handle of the key's value, which `init` makes if the key has no entry or if its
+    /// maker has failed. Waits while another caller makes it. `get_or_try_init_by` takes the key by
+    /// reference.
     ///
-    /// All is as in the cache of one lock, within the key's shard: charge, eviction, `init`, and
-    /// the errors `Init`, `Overflow` and `Memory`.
+    /// Charges, evictions, the call of `init` and the errors `Init`, `Overflow` and `Memory` are
+    /// those of `unsharded::LruCache`, within the key's shard.
     #[inline(always)]
     pub fn get_or_try_init<E, I>(
         &self,
@@ -268,10 +270,10 @@ impl<K: Hash + Eq + Clone + Drop, V: Drop, R: Wait, S: BuildHasher, F: Fit<K, V>
         self.get_or_try_init_by(&key, charge, init)
     }
 
-    /// `get_or_try_init` by a reference to the key, which is copied only where there is no entry
-    /// and one is made.
+    /// `get_or_try_init` with the key by reference. The key is copied only if there is no entry and
+    /// one is inserted.
     ///
-    /// `Init`, `Memory` and `Overflow` as there.
+    /// Returns `Init`, `Memory` and `Overflow` as `get_or_try_init` does.
     pub fn get_or_try_init_by<E, I>(
         &self,
         key: &K,
@@ -292,10 +294,10 @@ impl<K: Hash + Eq + Clone + Drop, V: Drop, R: Wait, S: BuildHasher, F: Fit<K, V>
         Ok(CacheHandle { held })
     }
 
-    /// `get_or_try_init` with an `init` that always gives a value. `get_or_init_by` asks by a
-    /// reference to the key.
+    /// `get_or_try_init` with an `init` that cannot fail. `get_or_init_by` takes the key by
+    /// reference.
     ///
-    /// `Memory` and `Overflow` as there.
+    /// Returns `Memory` and `Overflow` as `get_or_try_init` does.
     #[inline(always)]
     pub fn get_or_init<I>(
         &self,
@@ -316,9 +318,9 @@ impl<K: Hash + Eq + Clone + Drop, V: Drop, R: Wait, S: BuildHasher, F: Fit<K, V>
         self.get_or_init_by(&key, charge, init)
     }
 
-    /// `get_or_try_init_by` with an `init` that always gives a value.
+    /// `get_or_try_init_by` with an `init` that cannot fail.
     ///
-    /// `Memory` and `Overflow` as there.
+    /// Returns `Memory` and `Overflow` as `get_or_try_init` does.
     pub fn get_or_init_by<I>(
         &self,
         key: &K,
@@ -339,29 +341,29 @@ impl<K: Hash + Eq + Clone + Drop, V: Drop, R: Wait, S: BuildHasher, F: Fit<K, V>
         Ok(CacheHandle { held })
     }
 
-    /// Evicts the entry of a key, where it is idle; else nothing happens, now or later. Takes no
-    /// memory. `advise` asks by a reference to the key.
+    /// Evicts the entry of a key if it is idle. Otherwise nothing happens, now or later. Takes no
+    /// memory. `advise` takes the key by reference.
     pub fn advice_evict(&self, key: K) {
         self.advise(&key);
     }
 
-    /// `advice_evict` by a reference to the key.
+    /// `advice_evict` with the key by reference.
     pub fn advise(&self, key: &K) {
         let _: Advised<K> = self.routes.of(key).advised(key);
     }
 
-    /// Takes the value of a key back, at the key's shard, as in the cache of one lock: whoever asks
-    /// for the key after this call gets a value that is made after it, also while others hold the
-    /// old one. An entry that nobody holds is evicted; one that is held stays, for its holders
-    /// alone, and is evicted when its last handle is dropped. Copies no key and takes no memory.
+    /// Invalidates a key in its shard: whoever asks for it after this call gets a value that is
+    /// made after it, even while others hold the old one. An idle entry is evicted. A held one
+    /// stays for its holders only, and is evicted when its last handle is dropped. Copies no key
+    /// and takes no memory.
     pub fn invalidate(&self, key: &K) {
         let _: Invalidated<K> = self.routes.of(key).invalidated(key);
     }
 
-    /// Puts a value in and answers its handle, whatever the key has, at the key's shard, as in the
-    /// cache of one lock: an `invalidate`, and a making of the key that is done at once.
+    /// Inserts a value into the key's shard, replacing what the key has, and returns its handle, as
+    /// `unsharded::LruCache` does: it invalidates the key and inserts the new entry in one step.
     ///
-    /// `Overflow` and `Memory` as there: nothing changed then, and the value is dropped.
+    /// Returns `Overflow` and `Memory` as there: then no entry changed, and the value is dropped.
     pub fn insert(
         &self,
         key: &K,
@@ -380,71 +382,70 @@ impl<K: Hash + Eq + Clone + Drop, V: Drop, R: Wait, S: BuildHasher, F: Fit<K, V>
         Ok(CacheHandle { held })
     }
 
-    /// Evicts every idle entry of each shard, one shard after another, and is no snapshot. Takes
-    /// no memory.
+    /// Evicts every idle entry, one shard after another, so the call is not atomic. Takes no
+    /// memory.
     pub fn prune(&self) {
         self.routes.prune();
     }
 
-    /// Gives each shard its share of a capacity, `capacity_per_shard`, one shard after another, and
-    /// is no snapshot: each settles to its share at once, as in the cache of one lock. Takes no
-    /// memory.
+    /// Sets the capacity of each shard to its share, `capacity_per_shard`, one shard after another,
+    /// so the call is not atomic. Each shard then evicts down to its share. Takes no memory.
     pub fn set_capacity(&self, capacity: u64) {
         self.routes.set_capacity(capacity);
     }
 
-    /// The sum of the shards' capacities, which are read one after another and are no snapshot.
-    /// Each share is rounded up, so the sum may be above the capacity that was given. Takes no
-    /// memory.
+    /// Returns the sum of the shards' capacities, read one after another. Each share is rounded up,
+    /// so the sum may be above the capacity that was set. Takes no memory.
     pub fn capacity(&self) -> u128 {
         self.routes.capacity()
     }
 
-    /// The sum of the shards' totals, which are read one after another and are no snapshot. Takes
+    /// Returns the sum of the shards' totals, read one after another, so it is no snapshot. Takes
     /// no memory.
     pub fn total_charge(&self) -> u128 {
         self.routes.total_charge()
     }
 
-    /// The sum of the shards' pinned charges, which are read one after another and are no snapshot.
+    /// Returns the sum of the shards' pinned charges, read one after another, so it is no snapshot.
     /// Takes no memory.
     pub fn pinned_charge(&self) -> u128 {
         self.routes.pinned_charge()
     }
 
-    /// The sum of the shards' numbers of entries, which are read one after another and are no
-    /// snapshot: what the cache holds at no one moment need be that many. Entries that are held
-    /// after they were invalidated are counted too. Takes no memory.
+    /// Returns the number of entries, including those held after an `invalidate`. The shards are
+    /// read one after another, so the cache need not have had that many at any one moment. Takes no
+    /// memory.
     pub fn len(&self) -> usize {
         self.routes.len()
     }
 
-    /// Whether `len` is 0: no shard had an entry as its lock was got. Takes no memory.
+    /// Returns whether `len` is 0: no shard had an entry when its lock was acquired. Takes no
+    /// memory.
     pub fn is_empty(&self) -> bool {
         self.len() == 0
     }
 
-    /// The sum of the shards' counts, which are read one after another and are no snapshot: they
-    /// need not add up while other threads use the cache. A sum past the greatest number of its
-    /// type is told as that number. Takes no memory.
+    /// Returns the sum of the shards' counts, read one after another. It is no snapshot, so the
+    /// counts need not add up while other threads use the cache. A sum saturates at the maximum of
+    /// its type. Takes no memory.
     pub fn counts(&self) -> Counts {
         self.routes.counts()
     }
 
-    /// The sum of what each shard's `reset_counts` answers, one shard after another. No call is
-    /// missed in between, and none is counted twice. Takes no memory.
+    /// Resets the counts, one shard after another, and returns the sum of what each shard's
+    /// `reset_counts` returned. Takes no memory.
     pub fn reset_counts(&self) -> Counts {
         self.routes.reset_counts()
     }
 
-    /// Whether the key has a value, as in the cache of one lock, within the key's shard. Takes no
-    /// memory.
+    /// Returns whether the key has a ready value in its shard, as `unsharded::LruCache::contains`
+    /// does. Takes no memory.
     pub fn contains(&self, key: &K) -> bool {
         self.routes.of(key).contains(key)
     }
 }
 
-// The shards as a list, each under its lock.
+// Prints the shards as a list, each under its lock.
 impl<
     K: Hash + Eq + Clone + Drop + fmt::Debug,
     V: Drop + fmt::Debug,

@@ -1,5 +1,6 @@
-//! Caches side by side for one owner, each for the keys that are routed to it.
-//! A step changes the one shard that its key has, or that it names, and no other.
+//! Caches in shards for a single owner, each for the keys that are routed to it.
+//!
+//! A step changes only the shard that its key has, or that it names.
 ghost use Rattle.std.specs.Prelude.{◌≡◌, ◌+◌, ◌-◌, ◌/◌, ◌%◌, ◌<◌, ◌^◌, ◌↔◌, length, replicate, map, sum_by, IfOk, IfErr, IfSome, IsTrue, IsFalse, OnErr};
 ghost use Rattle.std.specs.Arc.{arc_value};
 ghost use Rattle.std.specs.Fn.{FnOnceReturnsAt, FnOnceTakesAt};
@@ -22,7 +23,7 @@ use std::hash::{BuildHasher, Hash};
 use std::marker::Model;
 use std::sync::Arc;
 
-/// The capacity of each of so many shards: the quotient, rounded up. There is at least one shard.
+/// Returns the capacity of each of `shards` shards: the quotient, rounded up. `shards` is above 0.
 pub fn capacity_per_shard(capacity: u64, shards: usize) -> u64
     requires { 0 < shards }
     ensures { result ≡ (capacity + shards - 1) / shards }
@@ -30,12 +31,11 @@ pub fn capacity_per_shard(capacity: u64, shards: usize) -> u64
     capacity.div_ceil(shards as u64)
 }
 
-// How many shards a cache has where nothing else is said.
+// The number of shards of a cache that is created without one.
 pub(crate) const DEFAULT_SHARDS: usize = 16;
 
-// The shard, of so many, that serves a key: the hasher's number of it modulo their number. By the
-// number of shards that most caches have it is cut out, since a division of 64 bits takes as long
-// as to get the lock.
+// Returns the shard of a key: its hash modulo the number of shards. For the default number of
+// shards the compiler uses a mask, since a 64-bit division takes as long as acquiring the lock.
 #[inline(always)]
 pub(crate) fn choose_shard<K: Hash, S: BuildHasher>(hasher: &S, key: &K, shards: usize) -> usize
     requires { 0 < shards }
@@ -50,8 +50,8 @@ pub(crate) fn choose_shard<K: Hash, S: BuildHasher>(hasher: &S, key: &K, shards:
     }
 }
 
-/// A step of a run over shards. Charges are above 0. A step with a key goes to the key's shard;
-/// the others name their shard first.
+/// A step of a run over shards. Charges are above 0. A step with a key goes to the key's shard; the
+/// others name their shard first.
 #[derive(Debug, Drop, PartialEq, Eq)]
 pub enum ShardStep<K, V> {
     /// `begin` with a key and a charge.
@@ -78,9 +78,9 @@ pub enum ShardStep<K, V> {
     Total(usize),
 }
 
-/// One or more caches side by side, each for the keys that a hasher routes to it.
+/// One or more caches, each for the keys that a hasher routes to it.
 ///
-/// A stamp names an entry of one shard, so calls that take a stamp take the shard too. Clauses
+/// A stamp identifies an entry of one shard, so calls that take a stamp take the shard too. Clauses
 /// see the value of specs/Sharded.antt.
 #[derive(Drop)]
 pub struct Shards<K: Hash + Eq + Clone, V, S> {
@@ -108,10 +108,10 @@ impl<K: Hash + Eq + Clone, V, S> Model for Shards<K, V, S> {
 }
 
 impl<K: Hash + Eq + Clone, V: Drop, S: BuildHasher + Drop> Shards<K, V, S> {
-    /// So many empty caches, each with its share of the capacity. Whoever makes them promises
-    /// that there is at least one, and that a copy of a key equals the key.
+    /// Creates `shards` empty caches, each with its share of the capacity. Whoever creates them
+    /// promises that there is at least one, and that a copy of a key equals the key.
     ///
-    /// `Memory` where there is no room for the shards.
+    /// Returns `Memory` if there is no room for the shards.
     pub fn new(
         alloc: Global,
         capacity: u64,
@@ -138,7 +138,7 @@ impl<K: Hash + Eq + Clone, V: Drop, S: BuildHasher + Drop> Shards<K, V, S> {
         })
     }
 
-    /// The shard of a key: the hasher's number of it modulo the number of shards.
+    /// Returns the shard of a key: its hash modulo the number of shards.
     pub fn route(&self, key: &K) -> usize
         ensures route { result ≡ key_shard S.BuildHasher S.Hasher.Hasher K.hash_input self.now key.now }
         ensures within { result < length self.now.caches }
@@ -146,9 +146,9 @@ impl<K: Hash + Eq + Clone, V: Drop, S: BuildHasher + Drop> Shards<K, V, S> {
         choose_shard(&self.hasher, key, self.shards.len())
     }
 
-    /// `begin` at the key's shard, which is answered first.
+    /// `begin` in the key's shard, which is returned first.
     ///
-    /// `Overflow` and `Memory` as in one cache.
+    /// Returns `Overflow` and `Memory` as `State::begin` does.
     pub fn begin(
         &mut self,
         key: &K,
@@ -164,9 +164,9 @@ impl<K: Hash + Eq + Clone, V: Drop, S: BuildHasher + Drop> Shards<K, V, S> {
         Ok((shard, begun, evicted))
     }
 
-    /// `get` at the key's shard, which is answered before the stamp.
+    /// `get` in the key's shard, which is returned before the stamp.
     ///
-    /// `Overflow` and `Memory` as in one cache.
+    /// Returns `Overflow` and `Memory` as `State::get` does.
     pub fn get(&mut self, key: &K) -> Result<Option<(usize, u64, Arc<V>)>, Refusal>
         ensures shard { IfOk result (λ found. IfSome found (λ r. r.0 ≡ key_shard S.BuildHasher S.Hasher.Hasher K.hash_input self.old key.now)) }
         ensures step { StandsAt K.eq self.old (key_shard S.BuildHasher S.Hasher.Hasher K.hash_input self.old key.now) (ask.get key.now) (outcome_of_shard_get result) self.new }
@@ -177,10 +177,10 @@ impl<K: Hash + Eq + Clone, V: Drop, S: BuildHasher + Drop> Shards<K, V, S> {
         Ok(found.map(|(stamp, value)| (shard, stamp, value)))
     }
 
-    /// `read` at the key's shard: the stamp that the entry has there, and what the reader answers
-    /// of the value. Takes no memory.
+    /// `read` in the key's shard: returns the entry's stamp there and the result of `reader`. Takes
+    /// no memory.
     ///
-    /// `Overflow` as in one cache.
+    /// Returns `Overflow` as `State::read` does.
     pub fn read<T, G>(&mut self, key: &K, reader: G) -> Result<Option<(u64, T)>, Refusal>
     where
         G: FnOnce(&V) -> T + Drop,
@@ -192,7 +192,7 @@ impl<K: Hash + Eq + Clone, V: Drop, S: BuildHasher + Drop> Shards<K, V, S> {
         self.shards[shard].read(key, reader)
     }
 
-    /// `advice_evict` at the key's shard. Takes no memory.
+    /// `advice_evict` in the key's shard. Takes no memory.
     pub fn advice_evict(&mut self, key: &K) -> Evicted<K, V>
         ensures step { StandsAt K.eq self.old (key_shard S.BuildHasher S.Hasher.Hasher K.hash_input self.old key.now) (ask.advice_evict key.now) (outcome_of_evictions result) self.new }
         ensures lawful { AreLawful K.eq self.new }
@@ -201,7 +201,7 @@ impl<K: Hash + Eq + Clone, V: Drop, S: BuildHasher + Drop> Shards<K, V, S> {
         self.shards[shard].advice_evict(key)
     }
 
-    /// `invalidate` at the key's shard. Takes no memory.
+    /// `invalidate` in the key's shard. Takes no memory.
     pub fn invalidate(&mut self, key: &K) -> Evicted<K, V>
         ensures step { StandsAt K.eq self.old (key_shard S.BuildHasher S.Hasher.Hasher K.hash_input self.old key.now) (ask.invalidate key.now) (outcome_of_evictions result) self.new }
         ensures lawful { AreLawful K.eq self.new }
@@ -210,7 +210,8 @@ impl<K: Hash + Eq + Clone, V: Drop, S: BuildHasher + Drop> Shards<K, V, S> {
         self.shards[shard].invalidate(key)
     }
 
-    /// `poll` at a shard. `Stale` also where there is no such shard; `Memory` as in one cache.
+    /// `poll` in a shard. Returns `Stale` also if there is no such shard, and `Memory` as
+    /// `State::poll`.
     pub fn poll(&mut self, shard: usize, stamp: u64) -> Result<Begun<V>, Refusal>
         ensures step { StandsAt K.eq self.old shard (ask.poll stamp) (outcome_of_poll result) self.new }
         ensures lawful { AreLawful K.eq self.new }
@@ -221,8 +222,7 @@ impl<K: Hash + Eq + Clone, V: Drop, S: BuildHasher + Drop> Shards<K, V, S> {
         cache.poll(stamp)
     }
 
-    /// `ready` at a shard. The value comes back also where there is no such shard. Takes no
-    /// memory.
+    /// `ready` in a shard. Returns the value also if there is no such shard. Takes no memory.
     pub fn ready(&mut self, shard: usize, stamp: u64, value: Arc<V>) -> Result<(), Arc<V>>
         ensures step { StandsAt K.eq self.old shard (ask.ready stamp (arc_value value)) (outcome_of_ready result) self.new }
         ensures back { IfErr result (λ a. arc_value a ≡ arc_value value) }
@@ -234,7 +234,7 @@ impl<K: Hash + Eq + Clone, V: Drop, S: BuildHasher + Drop> Shards<K, V, S> {
         cache.ready(stamp, value)
     }
 
-    /// `fail` at a shard. `Stale` also where there is no such shard. Takes no memory.
+    /// `fail` in a shard. Returns `Stale` also if there is no such shard. Takes no memory.
     pub fn fail(&mut self, shard: usize, stamp: u64) -> Result<Failed<K>, Refusal>
         ensures step { StandsAt K.eq self.old shard (ask.fail stamp) (outcome_of_fail result) self.new }
         ensures lawful { AreLawful K.eq self.new }
@@ -245,7 +245,7 @@ impl<K: Hash + Eq + Clone, V: Drop, S: BuildHasher + Drop> Shards<K, V, S> {
         cache.fail(stamp)
     }
 
-    /// `release` at a shard. `Stale` also where there is no such shard. Takes no memory.
+    /// `release` in a shard. Returns `Stale` also if there is no such shard. Takes no memory.
     pub fn release(&mut self, shard: usize, stamp: u64) -> Result<Evicted<K, V>, Refusal>
         ensures step { StandsAt K.eq self.old shard (ask.release stamp) (outcome_of_release result) self.new }
         ensures lawful { AreLawful K.eq self.new }
@@ -256,7 +256,7 @@ impl<K: Hash + Eq + Clone, V: Drop, S: BuildHasher + Drop> Shards<K, V, S> {
         cache.release(stamp)
     }
 
-    /// `prune` at a shard. `Stale` where there is no such shard. Takes no memory.
+    /// `prune` in a shard. Returns `Stale` if there is no such shard. Takes no memory.
     pub fn prune_shard(&mut self, shard: usize) -> Result<Evicted<K, V>, Refusal>
         ensures step { StandsAt K.eq self.old shard ask.prune (outcome_of_shard_evictions result) self.new }
         ensures lawful { AreLawful K.eq self.new }
@@ -267,8 +267,8 @@ impl<K: Hash + Eq + Clone, V: Drop, S: BuildHasher + Drop> Shards<K, V, S> {
         Ok(cache.prune())
     }
 
-    /// Sets the capacity of one shard, as given and not as a share, and the shard settles to it at
-    /// once. `Stale` where there is no such shard. Takes no memory.
+    /// Sets the capacity of one shard to `capacity`, not to a share of it, and the shard evicts
+    /// down to it. Returns `Stale` if there is no such shard. Takes no memory.
     pub fn set_capacity_shard(
         &mut self,
         shard: usize,
@@ -283,7 +283,7 @@ impl<K: Hash + Eq + Clone, V: Drop, S: BuildHasher + Drop> Shards<K, V, S> {
         Ok(cache.set_capacity(capacity))
     }
 
-    // The same where the shard is there.
+    // The same for a shard that exists.
     fn set_capacity_at(&mut self, shard: usize, capacity: u64) -> Evicted<K, V>
         requires { shard < length self.old.caches }
         ensures step { StandsAt K.eq self.old shard (ask.set_capacity capacity) (outcome_of_evictions result) self.new }
@@ -293,8 +293,8 @@ impl<K: Hash + Eq + Clone, V: Drop, S: BuildHasher + Drop> Shards<K, V, S> {
     }
 
     /// Sets the capacity of every shard, shard 0 first, to its share: `capacity_per_shard` of
-    /// `capacity`. Each settles to it at once. What they evicted is one chain, the entries of
-    /// shard 0 first, and of each shard the oldest first. Takes no memory.
+    /// `capacity`. Each evicts down to it. Returns what they evicted as one chain, the entries of
+    /// shard 0 first, and those of each shard oldest first. Takes no memory.
     pub fn set_capacity(&mut self, capacity: u64) -> Evicted<K, V>
         ensures each { EachTakes K.eq self.old (ask.set_capacity ((capacity + length self.old.caches - 1) / length self.old.caches)) result self.new }
         ensures lawful { AreLawful K.eq self.new }
@@ -307,7 +307,7 @@ impl<K: Hash + Eq + Clone, V: Drop, S: BuildHasher + Drop> Shards<K, V, S> {
         newest_first.turned_onto(Evicted::none())
     }
 
-    /// `total` of a shard. `Stale` where there is no such shard. Takes no memory.
+    /// `total` of a shard. Returns `Stale` if there is no such shard. Takes no memory.
     pub fn total_shard(&self, shard: usize) -> Result<u64, Refusal>
         ensures step { StandsAt K.eq self.now shard ask.total (outcome_of_shard_total result) self.now }
         ensures lawful { AreLawful K.eq self.now }
@@ -318,8 +318,8 @@ impl<K: Hash + Eq + Clone, V: Drop, S: BuildHasher + Drop> Shards<K, V, S> {
         Ok(cache.total())
     }
 
-    /// The sum of the charges of the held entries of all shards, those still being made included,
-    /// and those that are held after an `invalidate`. Takes no memory.
+    /// Returns the sum of the charges of the held entries of all shards, including those still
+    /// being made and those held after an `invalidate`. Takes no memory.
     pub fn pinned_charge(&self) -> u128
         ensures { result ≡ sum_by pinned_of self.now.caches }
     {
@@ -330,9 +330,8 @@ impl<K: Hash + Eq + Clone, V: Drop, S: BuildHasher + Drop> Shards<K, V, S> {
         pinned
     }
 
-    /// The number of entries of all shards, those still being made included, and those that are
-    /// held after an `invalidate`. Exact, but for a sum above `usize::MAX`, which is answered as
-    /// that. Takes no memory.
+    /// Returns the number of entries of all shards, including those still being made and those held
+    /// after an `invalidate`, or `usize::MAX` if there are more. Takes no memory.
     pub fn len(&self) -> usize
         ensures { sum_by count_of self.now.caches < 2 ^ 64 → result ≡ sum_by count_of self.now.caches }
     {
@@ -343,14 +342,14 @@ impl<K: Hash + Eq + Clone, V: Drop, S: BuildHasher + Drop> Shards<K, V, S> {
         len
     }
 
-    /// Whether no shard has an entry. Takes no memory.
+    /// Returns whether no shard has an entry. Takes no memory.
     pub fn is_empty(&self) -> bool
         ensures { sum_by count_of self.now.caches < 2 ^ 64 → (IsTrue result ↔ (sum_by count_of self.now.caches ≡ 0)) }
     {
         self.len() == 0
     }
 
-    /// Whether the key has a value, at the key's shard: `contains` of one cache.
+    /// Returns whether the key has a ready value in its shard.
     pub fn contains(&self, key: &K) -> bool
         ensures yes { IsTrue result → HasReadyKeyAt K.eq self.now (key_shard S.BuildHasher S.Hasher.Hasher K.hash_input self.now key.now) key.now }
         ensures no { IsFalse result → IsUnreadyAt K.eq self.now (key_shard S.BuildHasher S.Hasher.Hasher K.hash_input self.now key.now) key.now }
@@ -359,7 +358,7 @@ impl<K: Hash + Eq + Clone, V: Drop, S: BuildHasher + Drop> Shards<K, V, S> {
         self.shards[shard].contains(key)
     }
 
-    // The shard of a step, and the step that it takes.
+    // Returns the shard of a step, and the step that it takes.
     fn address(&self, step: ShardStep<K, V>) -> (usize, Step<K, V>)
         ensures shard { result.0 ≡ shard_of_step (key_shard S.BuildHasher S.Hasher.Hasher K.hash_input self.now) step }
         ensures step { result.1 ≡ step_at_shard step }
@@ -394,11 +393,11 @@ impl<K: Hash + Eq + Clone, V: Drop, S: BuildHasher + Drop> Shards<K, V, S> {
         (shard, cache.step(step))
     }
 
-    /// Takes steps in order, one answer a step, each with the shard that gave it or that was
-    /// named. Each begin's charge is above 0; shards and stamps may be strangers'.
+    /// Takes steps in order and returns one answer for each, with its shard. Each charge of a begin
+    /// is above 0; shards and stamps may be stale or invented.
     ///
-    /// `Memory` where there is no room for the answers, asked for once and first: then nothing
-    /// ran and the steps are dropped.
+    /// Returns `Memory` if there is no room for the answers, which is reserved first: then no step
+    /// was taken, and the steps are dropped.
     pub fn run(
         &mut self,
         steps: Vec<ShardStep<K, V>>,
@@ -414,21 +413,21 @@ impl<K: Hash + Eq + Clone, V: Drop, S: BuildHasher + Drop> Shards<K, V, S> {
         answers.reserve(steps.len())?;
         for step in steps {
             let answer = self.step(step);
-            // Never refused: the room was asked for before the first step.
+            // Never refused: the room was reserved before the first step.
             let _kept = answers.push(answer);
         }
         Ok(answers)
     }
 }
 
-// The shards as a list.
+// Prints the shards as a list.
 impl<K: Hash + Eq + Clone + fmt::Debug, V: Drop + fmt::Debug, S> fmt::Debug for Shards<K, V, S> {
     fn fmt<W: fmt::Write>(&self, f: &mut fmt::Formatter<W>) -> fmt::Result {
         f.debug_list().entries(self.shards.iter()).finish()
     }
 }
 
-// What a step for a shard that is not there is answered: a value comes back.
+// The answer to a step for a shard that does not exist: a value comes back.
 fn tell_no_shard<K: Drop, V: Drop>(step: Step<K, V>) -> Answer<K, V>
     ensures kind { TellsNoShard step result }
     ensures outcome { outcome_of result ≡ refused Stale }

@@ -1,6 +1,6 @@
-//! The entries of a cache as one value: nodes, what finds their places by key and by stamp, and the
-//! total of the charges. No rule of the cache is decided here but the order of eviction: what
-//! happens when is the core's.
+//! The entries of a cache as one value: nodes, lookup of their places by key and by stamp, and the
+//! total of the charges. The only rule of the cache decided here is the order of eviction; when
+//! things happen is up to the core.
 ghost use Rattle.std.specs.Prelude.{◌≡◌, ◌≢◌, ℕ, ◌+◌, ◌<◌, ◌≤◌, ◌^◌, Some, None, [], IsSome, OnOk, OnErr, IfOk, IfErr, IfSome, MatchOption, filter_map, length, ◌∷◌, ◌++◌, true, cond, nat_eq};
 ghost use Rattle.std.specs.Arc.{arc_value};
 ghost use Rattle.std.specs.HashMap as hash;
@@ -57,8 +57,7 @@ impl<K: Hash + Eq + Clone, V> Model for Table<K, V> {
 }
 
 impl<K: Hash + Eq + Clone, V: Drop> Table<K, V> {
-    /// No entries, and a map by stamp, so that each look by stamp takes the same time. Takes no
-    /// memory.
+    /// Creates a table with no entries and a map by stamp. Takes no memory.
     pub fn new(alloc: Global) -> Table<K, V>
         requires { CopiesAreEqual K.is_clone K.eq }
         ensures idle { result.idle ≡ [] }
@@ -69,9 +68,9 @@ impl<K: Hash + Eq + Clone, V: Drop> Table<K, V> {
         Table::found_by(alloc, Stamps::Mapped(HashMap::new(alloc)))
     }
 
-    // No entries, and no map by stamp: an entry comes and goes with one write less, and a look by
-    // stamp visits every node, but for one that begins at its entry's place. For callers that
-    // keep the places of what they pinned. Takes no memory.
+    // Creates a table with no entries and no map by stamp: adding or removing an entry costs one
+    // write less, but a lookup by stamp visits every node unless it begins at its entry's place.
+    // For callers that keep the places of what they pinned. Takes no memory.
     pub(crate) fn without_map_of_stamps(alloc: Global) -> Table<K, V>
         requires { CopiesAreEqual K.is_clone K.eq }
         ensures idle { result.idle ≡ [] }
@@ -82,7 +81,7 @@ impl<K: Hash + Eq + Clone, V: Drop> Table<K, V> {
         Table::found_by(alloc, Stamps::Unmapped)
     }
 
-    // No entries; where some come, their stamps are found by this.
+    // Creates a table with no entries that finds stamps with `by_stamp`.
     fn found_by(alloc: Global, by_stamp: Stamps) -> Table<K, V>
         requires copies { CopiesAreEqual K.is_clone K.eq }
         requires unmapped { (s : ℕ) → mapped_place by_stamp s ≡ None }
@@ -100,41 +99,41 @@ impl<K: Hash + Eq + Clone, V: Drop> Table<K, V> {
         }
     }
 
-    /// Makes room for so many entries in all, those that are there included.
+    /// Reserves room for a total of `entries` entries, including those present.
     ///
-    /// `Memory` where a growth is refused; some room may have been made.
+    /// Returns `Memory` if a growth is refused; some room may have been reserved.
     pub fn reserve(&mut self, entries: usize) -> Result<(), Refusal>
         ensures err { IfErr result (λ e. e ≡ Refusal.Memory) }
         ensures same { self.new ≡ self.old }
     {
-        // Detached entries have no key here, so beside them this makes more room, and never less.
+        // Detached entries have no key here, so beside them this reserves more room, never less.
         let more = entries.saturating_sub(self.by_key.len());
         make_room(&mut self.nodes, &mut self.by_key, &mut self.by_stamp, more)
     }
 
-    /// The number of entries.
+    /// Returns the number of entries.
     pub fn len(&self) -> usize
         ensures { result ≡ count_of (cache_of self.now) }
     {
         self.nodes.len()
     }
 
-    /// The sum of the charges of all entries.
+    /// Returns the sum of the charges of all entries.
     pub fn total(&self) -> u64
         ensures { result ≡ charges_of self.now }
     {
         self.total
     }
 
-    /// The sum of the charges of held entries, detached ones included.
+    /// Returns the sum of the charges of held entries, including detached ones.
     pub fn pinned_charge(&self) -> u64
         ensures { result ≡ pinned_of (cache_of self.now) }
     {
         self.total - self.idle_charge
     }
 
-    /// The place of the entry with this stamp. The look begins at the spot's place, which may be
-    /// any.
+    /// Returns the place of the entry with this stamp. The lookup begins at the spot's place, which
+    /// may be any place.
     #[inline(always)]
     pub fn find_stamp(&self, spot: &Spot) -> Option<Place>
         ensures { MatchOption result (ContainsNoStamp self.now spot.now.stamp) (λ p. map.get self.now.stamps p ≡ Some spot.now.stamp) }
@@ -145,14 +144,14 @@ impl<K: Hash + Eq + Clone, V: Drop> Table<K, V> {
         self.by_stamp.find(&self.nodes, spot.stamp)
     }
 
-    /// The place of the entry with an equal key.
+    /// Returns the place of the entry with an equal key.
     pub fn find_key(&self, key: &K) -> Option<Place>
         ensures { MatchOption result (ContainsNoKey K.eq self.now key.now) (λ p. IsPlaceOfKey K.eq self.now p key.now) }
     {
         self.by_key.get(key).copied()
     }
 
-    /// The node at a place.
+    /// Returns the node at a place.
     pub fn node(&self, place: Place) -> &Node<K, V>
         requires { ContainsPlace self.now place }
         ensures entry { GetsAt self.now place (entry_of result.now) }
@@ -163,9 +162,9 @@ impl<K: Hash + Eq + Clone, V: Drop> Table<K, V> {
         self.nodes.node(place)
     }
 
-    /// Keeps a new entry, held by one pin, whose value is being made. Answers its place.
+    /// Adds a new entry, held by one pin, whose value is being made, and returns its place.
     ///
-    /// `Memory` where a copy of the key or a growth is refused; nothing changes then.
+    /// Returns `Memory` if a copy of the key or a growth is refused; then nothing changes.
     #[inline(never)]
     pub fn add(
         &mut self,
@@ -197,10 +196,10 @@ impl<K: Hash + Eq + Clone, V: Drop> Table<K, V> {
         ))
     }
 
-    /// Keeps a new entry, as `add`, and detaches the held one that the key found before. All that
-    /// can be refused comes first.
+    /// Adds a new entry, as `add` does, and detaches the held one that the key had. Everything that
+    /// can be refused precedes the first change.
     ///
-    /// `Memory` as there; nothing changes then.
+    /// Returns `Memory` as `add` does; then nothing changes.
     pub fn add_over_held(
         &mut self,
         alloc: Global,
@@ -233,10 +232,10 @@ impl<K: Hash + Eq + Clone, V: Drop> Table<K, V> {
         ))
     }
 
-    /// Keeps a new entry, as `add`, and takes away the idle one that the key found before, which is
-    /// answered beside the place. All that can be refused comes first.
+    /// Adds a new entry, as `add` does, and removes the idle one that the key had, which is
+    /// returned with the place. Everything that can be refused precedes the first change.
     ///
-    /// `Memory` as there; nothing changes then.
+    /// Returns `Memory` as `add` does; then nothing changes.
     pub fn add_over_idle(
         &mut self,
         alloc: Global,
@@ -279,9 +278,9 @@ impl<K: Hash + Eq + Clone, V: Drop> Table<K, V> {
         Ok((old, new))
     }
 
-    /// Pins a ready entry once more, and tells its value: an idle one leaves the idle order.
+    /// Pins a ready entry once more and returns its value. An idle one leaves the idle order.
     ///
-    /// `Memory` where the copy of the value is refused; nothing changes then.
+    /// Returns `Memory` if the copy of the value is refused; then nothing changes.
     #[inline(always)]
     pub fn pin(&mut self, place: Place) -> Result<Arc<V>, Refusal>
         requires place { ContainsPlace self.old place }
@@ -303,7 +302,7 @@ impl<K: Hash + Eq + Clone, V: Drop> Table<K, V> {
         Ok(value)
     }
 
-    /// Writes the number of pins of a held entry, which stays held. Takes no memory.
+    /// Sets the number of pins of a held entry, which stays held. Takes no memory.
     pub fn hold(&mut self, place: Place, pins: u32)
         requires held { ContainsHeldAt self.old place }
         requires some { 0 < pins }
@@ -312,7 +311,7 @@ impl<K: Hash + Eq + Clone, V: Drop> Table<K, V> {
         self.nodes.set_pins(place, pins);
     }
 
-    /// Detaches a held entry from its key: from then on its stamp alone finds it. Takes no memory.
+    /// Detaches a held entry from its key: it is then found by its stamp only. Takes no memory.
     pub fn detach(&mut self, place: Place)
         requires { ContainsFoundAt self.old place }
         ensures { Rewrites held_detached self.old place self.new }
@@ -321,8 +320,8 @@ impl<K: Hash + Eq + Clone, V: Drop> Table<K, V> {
         self.nodes.set_detached(place);
     }
 
-    /// Writes the phase of a held entry: its making is handed over, or its value is there. Takes
-    /// no memory.
+    /// Sets the phase of a held entry: its making is handed over, or its value is ready. Takes no
+    /// memory.
     pub fn set_phase(&mut self, place: Place, phase: Phase<V>)
         requires { ContainsHeldAt self.old place }
         ensures { Rewrites (held_in_phase (phase_of phase)) self.old place self.new }
@@ -330,8 +329,8 @@ impl<K: Hash + Eq + Clone, V: Drop> Table<K, V> {
         self.nodes.set_phase(place, phase);
     }
 
-    /// Stores the value of an entry that is being made. Where it is not, the value comes back.
-    /// Takes no memory.
+    /// Stores the value of an entry that is being made. Returns the value if the entry is not being
+    /// made. Takes no memory.
     pub fn store(&mut self, place: Place, value: Arc<V>) -> Result<(), Arc<V>>
         requires { ContainsPlace self.old place }
         ensures ok { OnOk result (ReadiesAt (arc_value value) self.old place self.new) }
@@ -345,7 +344,7 @@ impl<K: Hash + Eq + Clone, V: Drop> Table<K, V> {
         Ok(())
     }
 
-    // Pins an idle entry, which is held from then on, and tells its value.
+    // Pins an idle entry, which is then held, and returns its value.
     fn revive(&mut self, place: Place) -> Result<Arc<V>, Refusal>
         requires { ContainsIdleAt self.old place }
         ensures value { IfOk result (λ a. value_at self.old place ≡ Some (arc_value a)) }
@@ -359,7 +358,7 @@ impl<K: Hash + Eq + Clone, V: Drop> Table<K, V> {
         Ok(value)
     }
 
-    /// Takes the pins of a ready entry, which becomes the newest idle one. Takes no memory.
+    /// Removes the pins of a ready entry, which becomes the newest idle one. Takes no memory.
     pub fn rest(&mut self, place: Place)
         requires { IsReadyAt self.old place }
         ensures { RestsAt self.old place self.new }
@@ -370,7 +369,7 @@ impl<K: Hash + Eq + Clone, V: Drop> Table<K, V> {
         self.idle_charge += charge;
     }
 
-    /// Makes an idle entry the newest idle one, as a pin and the release of it do. Takes no memory.
+    /// Makes an idle entry the newest idle one, as pinning and releasing it does. Takes no memory.
     pub fn renew(&mut self, place: Place)
         requires { ContainsIdleAt self.old place }
         ensures entry { RenewsAt self.old place self.new }
@@ -379,7 +378,7 @@ impl<K: Hash + Eq + Clone, V: Drop> Table<K, V> {
         self.nodes.renew(place);
     }
 
-    /// Takes a held entry away. Takes no memory.
+    /// Removes a held entry. Takes no memory.
     pub fn take_held(&mut self, place: Place) -> Box<Node<K, V>>
         requires { ContainsHeldAt self.old place }
         ensures at { map.get self.old.stamps place ≡ Some (entry_of result.value).stamp }
@@ -399,7 +398,7 @@ impl<K: Hash + Eq + Clone, V: Drop> Table<K, V> {
         )
     }
 
-    /// Takes an idle entry away. Takes no memory.
+    /// Removes an idle entry. Takes no memory.
     pub fn evict(&mut self, place: Place) -> Box<Node<K, V>>
         requires { ContainsIdleAt self.old place }
         ensures at { map.get self.old.stamps place ≡ Some (entry_of result.value).stamp }
@@ -423,7 +422,7 @@ impl<K: Hash + Eq + Clone, V: Drop> Table<K, V> {
         node
     }
 
-    /// Takes every held entry away, detached ones too, where no entry is idle. Answers those that
+    /// Removes every held entry, including detached ones, if no entry is idle. Returns those that
     /// have a value, in an unspecified order, and drops the others. Takes no memory.
     pub fn take_each_held(&mut self) -> Evicted<K, V>
         requires { self.old.idle ≡ [] }
@@ -441,7 +440,7 @@ impl<K: Hash + Eq + Clone, V: Drop> Table<K, V> {
         taken
     }
 
-    // Takes the held entry at a place away, if there is one. No entry is idle.
+    // Removes the held entry at a place, if there is one. No entry is idle.
     fn take_held_at(&mut self, place: Place) -> Option<Box<Node<K, V>>>
         requires { self.old.idle ≡ [] }
         ensures taken { MatchOption result ((map.get self.old.stamps place ≡ None) × (self.new ≡ self.old)) (λ node. TakesHeldAt self.old place (entry_of node.value) self.new) }
@@ -453,7 +452,7 @@ impl<K: Hash + Eq + Clone, V: Drop> Table<K, V> {
         None
     }
 
-    // Takes the oldest idle entry away, if there is one.
+    // Removes the oldest idle entry, if there is one.
     fn evict_oldest(&mut self) -> Option<Box<Node<K, V>>>
         ensures held { self.new.held ≡ self.old.held }
         ensures idle { MatchOption result ((self.old.idle ≡ []) × (self.new.idle ≡ [])) (λ node. self.old.idle ≡ filter_map as_idle (entry_of node.value ∷ []) ++ self.new.idle) }
@@ -478,7 +477,7 @@ impl<K: Hash + Eq + Clone, V: Drop> Table<K, V> {
         self.evict_down_to(capacity)
     }
 
-    // Settles a total that is above the capacity.
+    // Evicts until a total that is above the capacity is at most the capacity or nothing is idle.
     #[inline(never)]
     fn evict_down_to(&mut self, capacity: u64) -> Evicted<K, V>
         ensures held { self.new.held ≡ self.old.held }
@@ -499,7 +498,7 @@ impl<K: Hash + Eq + Clone, V: Drop> Table<K, V> {
     }
 }
 
-// Makes room for so many more entries, so that their inserts cannot fail.
+// Reserves room for `more` more entries, so that their inserts cannot fail.
 fn make_room<K: Hash + Eq + Drop, V: Drop>(
     nodes: &mut Nodes<K, V>,
     by_key: &mut HashMap<K, Place>,
@@ -521,7 +520,7 @@ fn make_room<K: Hash + Eq + Drop, V: Drop>(
     Ok(())
 }
 
-// Keeps a new node, for which there is room, and whose key finds none. Answers its place.
+// Inserts a new node, for which there is room and whose key finds none. Returns its place.
 #[inline(always)]
 fn put<K: Hash + Eq + Drop, V: Drop>(
     nodes: &mut Nodes<K, V>,
@@ -549,14 +548,14 @@ fn put<K: Hash + Eq + Drop, V: Drop>(
     let stamp = node.stamp;
     let charge = node.charge;
     let place = nodes.insert_reserved(node);
-    // Not refused, since there is room.
+    // Never refused, since there is room.
     let _before = by_key.insert(kept, place);
     by_stamp.insert(stamp, place);
     *total += charge;
     place
 }
 
-// Takes the key of a node out of what finds places by key.
+// Removes the key of a node from the map by key.
 fn forget_key<K: Hash + Eq + Drop, V: Drop>(
     nodes: &Nodes<K, V>,
     by_key: &mut HashMap<K, Place>,
@@ -569,7 +568,7 @@ fn forget_key<K: Hash + Eq + Drop, V: Drop>(
     let _place = by_key.remove(&nodes.node(place).key);
 }
 
-// Takes a node away that is in no order, what finds it, and its charge.
+// Removes a node that is in no order, with its map entries and its charge.
 fn take_away<K: Hash + Eq + Drop, V: Drop>(
     nodes: &mut Nodes<K, V>,
     by_key: &mut HashMap<K, Place>,
@@ -594,7 +593,7 @@ fn take_away<K: Hash + Eq + Drop, V: Drop>(
     ensures total { total.new + (entry_of result.value).charge ≡ total.old }
 {
     let node = nodes.take(place);
-    // The key of a detached one leads to a newer entry, if to any.
+    // The key of a detached node leads to a newer entry, if to any.
     if !node.detached {
         let _place = by_key.remove(&node.key);
     }
@@ -603,7 +602,7 @@ fn take_away<K: Hash + Eq + Drop, V: Drop>(
     node
 }
 
-// Ready entries as a map; an entry that is being made, or that is detached, is not shown.
+// Prints the ready entries as a map. An entry that is being made or detached is not shown.
 impl<K: Hash + Eq + Clone + fmt::Debug, V: Drop + fmt::Debug> fmt::Debug for Table<K, V> {
     fn fmt<W: fmt::Write>(&self, f: &mut fmt::Formatter<W>) -> fmt::Result {
         let mut map = f.debug_map();

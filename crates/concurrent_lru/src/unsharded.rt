@@ -1,6 +1,7 @@
-//! One cache behind one lock, for any number of threads.
-//! Makers and the drops of values run without the lock, readers under it; callers of a value in the
-//! making wait.
+//! A cache behind one lock, for any number of threads.
+//!
+//! Values are made and dropped without the lock, and read by `read` under it. Callers that ask for
+//! a value that is being made wait for it.
 ghost use Rattle.std.specs.Prelude.{◌≡◌, ◌≢◌, ◌+◌, ◌<◌, ◌≤◌, Some, None, Ok, Err, IfOk, IfErr, IfSome};
 ghost use Rattle.std.specs.Fn.{FnOnceReturnsAt, FnOnceTakesAt};
 ghost use Rattle.concurrent_lru.specs.Doors.{IsAwake};
@@ -21,11 +22,11 @@ use std::fmt;
 use std::hash::Hash;
 use std::sync::{Arc, Wait};
 
-/// A cache that threads share. R is the right to wait, which it was given when it was made; F is
-/// its mark, which says what its values have to do with their keys.
+/// A cache that threads share. `R` is the capability to wait, passed in at creation; `F` is its
+/// mark, which relates its values to their keys.
 ///
-/// Whenever its lock is got, the cache is lawful, its total is the sum of its charges and above
-/// the capacity only where nothing is idle, and the value of every ready entry fits its key.
+/// Whenever its lock is acquired, the cache is lawful, its total is the sum of its charges and is
+/// above the capacity only if nothing is idle, and the value of every ready entry fits its key.
 #[derive(Drop)]
 pub struct LruCache<K: Hash + Eq + Clone, V, R: Wait, F: Fit<K, V> = Anything> {
     alloc: Global,
@@ -33,8 +34,8 @@ pub struct LruCache<K: Hash + Eq + Clone, V, R: Wait, F: Fit<K, V> = Anything> {
 }
 
 impl<K: Hash + Eq + Clone + Drop, V: Drop, R: Wait> LruCache<K, V, R, Anything> {
-    /// An empty cache that settles to `capacity`, the greatest total of charges that it keeps
-    /// idle entries for. Takes no memory.
+    /// Creates an empty cache. It keeps idle entries while the sum of all charges is at most
+    /// `capacity`. Takes no memory.
     pub fn new(alloc: Global, rt: R, capacity: u64) -> Self
         requires copies { CopiesAreEqual K.is_clone K.eq }
     {
@@ -43,7 +44,7 @@ impl<K: Hash + Eq + Clone + Drop, V: Drop, R: Wait> LruCache<K, V, R, Anything> 
 }
 
 impl<K: Hash + Eq + Clone + Drop, V: Drop, R: Wait, F: Fit<K, V>> LruCache<K, V, R, F> {
-    /// An empty cache with the mark F, else as `new` makes it. Takes no memory.
+    /// Creates an empty cache with the mark `F`, otherwise as `new` does. Takes no memory.
     pub fn marked(alloc: Global, rt: R, capacity: u64) -> Self
         requires copies { CopiesAreEqual K.is_clone K.eq }
     {
@@ -53,13 +54,12 @@ impl<K: Hash + Eq + Clone + Drop, V: Drop, R: Wait, F: Fit<K, V>> LruCache<K, V,
         }
     }
 
-    /// Makes room for `entries` entries in all, those that are there included, as
-    /// `State::reserve` does: until there are more, no call grows the tables under the lock where
-    /// no entry was removed since. A new entry asks for the memory of its node and of its value
-    /// all the same.
+    /// Reserves room for a total of `entries` entries, including those present, as `State::reserve`
+    /// does. Reserve ahead if calls should not grow the tables under the lock. A new entry still
+    /// allocates its node and its value.
     ///
-    /// `Memory` where the allocator refuses; no entry changes in either case, though some room
-    /// may have been made.
+    /// Returns `Memory` if the allocator refuses. No entry changes in either case, though some room
+    /// may have been reserved.
     pub fn reserve(&self, entries: usize) -> Result<(), Refusal>
         ensures { IfErr result (λ e. e ≡ Refusal.Memory) }
     {
@@ -67,10 +67,10 @@ impl<K: Hash + Eq + Clone + Drop, V: Drop, R: Wait, F: Fit<K, V>> LruCache<K, V,
         Ok(())
     }
 
-    /// A handle of the key's value, where it is ready; none where the key has no entry or its
-    /// value is still being made. Waits for no maker. `find` asks by a reference to the key.
+    /// Returns a handle of the key's value if it is ready, and `None` if the key has no entry or
+    /// its value is still being made. Never waits for a maker. `find` takes the key by reference.
     ///
-    /// `Overflow` where the entry has the greatest number of pins; `Memory` where the copy of
+    /// Returns `Overflow` if the entry has the maximum number of pins, and `Memory` if the copy of
     /// the value is refused.
     #[inline(always)]
     pub fn get(&self, key: K) -> Result<Option<CacheHandle<'_, K, V, R, F>>, Refusal>
@@ -82,9 +82,9 @@ impl<K: Hash + Eq + Clone + Drop, V: Drop, R: Wait, F: Fit<K, V>> LruCache<K, V,
         self.find(&key)
     }
 
-    /// `get` by a reference to the key, which is not copied.
+    /// `get` with the key by reference. The key is not copied.
     ///
-    /// `Overflow` and `Memory` as there.
+    /// Returns `Overflow` and `Memory` as `get` does.
     #[inline(always)]
     pub fn find(&self, key: &K) -> Result<Option<CacheHandle<'_, K, V, R, F>>, Refusal>
         ensures key { IfOk result (λ found. IfSome found (λ h. h.key ≡ key.now)) }
@@ -95,17 +95,16 @@ impl<K: Hash + Eq + Clone + Drop, V: Drop, R: Wait, F: Fit<K, V>> LruCache<K, V,
         self.door.enter().get(key)
     }
 
-    /// Reads the key's value, where it is ready, and answers what `reader` answers of it. None
-    /// where the key has no entry or its value is still being made; `reader` is then dropped
-    /// uncalled. Waits for no maker. It makes no handle, copies nothing and takes no memory.
+    /// Calls `reader` with the key's value, if it is ready, and returns its result. Returns `None`
+    /// if the key has no entry or its value is still being made; `reader` is then dropped without
+    /// being called. Never waits for a maker. It makes no handle, copies nothing and takes no
+    /// memory.
     ///
     /// It counts as a `get` whose handle is dropped at once: an idle entry becomes the newest idle
-    /// one, and a held one stays as it is. `reader` runs, or is dropped, under the lock, so it
-    /// should be short, and it must not use this cache: such a call would wait for itself.
+    /// one, and a held one stays as it is. `reader` runs, or is dropped, under the lock. It should
+    /// be short, and must not use this cache, since such a call would deadlock.
     ///
-    /// `Overflow` where the entry has the greatest number of pins, as for `get`.
-    ///
-    /// The original crate has no such call; this one is this project's own.
+    /// Returns `Overflow` if the entry has the maximum number of pins, as `get` does.
     #[inline(always)]
     pub fn read<T, G>(&self, key: &K, reader: G) -> Result<Option<T>, Refusal>
     where
@@ -117,20 +116,20 @@ impl<K: Hash + Eq + Clone + Drop, V: Drop, R: Wait, F: Fit<K, V>> LruCache<K, V,
         self.door.enter().read(key, reader)
     }
 
-    /// A handle of the key's value, which `init` makes where the key has no entry, or where the
-    /// maker before failed. Waits while another caller makes it. `get_or_try_init_by` asks by a
-    /// reference to the key.
+    /// Returns a handle of the key's value, which `init` makes if the key has no entry or if its
+    /// maker has failed. Waits while another caller makes it. `get_or_try_init_by` takes the key by
+    /// reference.
     ///
-    /// The charge is counted, and others are evicted for it, before `init` runs. A present entry
-    /// keeps its own charge and its value, and `init` is then dropped uncalled. `init` runs
-    /// without the lock, and it may use this cache, except for the key that it makes: such a call
-    /// would wait for itself.
+    /// The charge is counted, and idle entries are evicted for it, before `init` runs. An entry
+    /// that is present keeps its charge and its value, and `init` is then dropped without being
+    /// called. `init` runs without the lock. It may use this cache, except for the key that it
+    /// makes, since such a call would deadlock.
     ///
-    /// `Init` where `init` answered that error, and `Memory` where the value's shared copies are
-    /// refused after it: then the entry is gone, or left to a caller that waits for it, and what
-    /// was evicted stays evicted. `Overflow` where a new entry's charge would take the total past
-    /// `u64::MAX`, where the stamps are at their end, or where the entry has the greatest number
-    /// of pins; `Memory` where a new entry or the copy of the value is refused: then nothing
+    /// Returns `Init` if `init` returned that error, and `Memory` if the shared copies of its value
+    /// are refused: then the entry is removed, or left to a caller that waits for it, and what was
+    /// evicted stays evicted. Returns `Overflow` if the charge of a new entry would take the total
+    /// past `u64::MAX`, if there are no stamps left, or if the entry has the maximum number of
+    /// pins; and `Memory` if a new entry or the copy of the value is refused: then no entry
     /// changed.
     #[inline(always)]
     pub fn get_or_try_init<E, I>(
@@ -152,10 +151,10 @@ impl<K: Hash + Eq + Clone + Drop, V: Drop, R: Wait, F: Fit<K, V>> LruCache<K, V,
         self.get_or_try_init_by(&key, charge, init)
     }
 
-    /// `get_or_try_init` by a reference to the key, which is copied only where there is no entry
-    /// and one is made.
+    /// `get_or_try_init` with the key by reference. The key is copied only if there is no entry and
+    /// one is inserted.
     ///
-    /// `Init`, `Memory` and `Overflow` as there.
+    /// Returns `Init`, `Memory` and `Overflow` as `get_or_try_init` does.
     pub fn get_or_try_init_by<E, I>(
         &self,
         key: &K,
@@ -188,10 +187,10 @@ impl<K: Hash + Eq + Clone + Drop, V: Drop, R: Wait, F: Fit<K, V>> LruCache<K, V,
         }
     }
 
-    /// `get_or_try_init` with an `init` that always gives a value. `get_or_init_by` asks by a
-    /// reference to the key.
+    /// `get_or_try_init` with an `init` that cannot fail. `get_or_init_by` takes the key by
+    /// reference.
     ///
-    /// `Memory` and `Overflow` as there.
+    /// Returns `Memory` and `Overflow` as `get_or_try_init` does.
     #[inline(always)]
     pub fn get_or_init<I>(
         &self,
@@ -212,9 +211,9 @@ impl<K: Hash + Eq + Clone + Drop, V: Drop, R: Wait, F: Fit<K, V>> LruCache<K, V,
         self.get_or_init_by(&key, charge, init)
     }
 
-    /// `get_or_try_init_by` with an `init` that always gives a value.
+    /// `get_or_try_init_by` with an `init` that cannot fail.
     ///
-    /// `Memory` and `Overflow` as there.
+    /// Returns `Memory` and `Overflow` as `get_or_try_init` does.
     pub fn get_or_init_by<I>(
         &self,
         key: &K,
@@ -240,45 +239,40 @@ impl<K: Hash + Eq + Clone + Drop, V: Drop, R: Wait, F: Fit<K, V>> LruCache<K, V,
         }
     }
 
-    /// Evicts the entry of a key, where it is idle; else nothing happens, now or later. Takes no
-    /// memory. `advise` asks by a reference to the key.
+    /// Evicts the entry of a key if it is idle. Otherwise nothing happens, now or later. Takes no
+    /// memory. `advise` takes the key by reference.
     pub fn advice_evict(&self, key: K) {
         self.advise(&key);
     }
 
-    /// `advice_evict` by a reference to the key.
+    /// `advice_evict` with the key by reference.
     pub fn advise(&self, key: &K) {
         let _: Advised<K> = self.advised(key);
     }
 
-    /// Takes the value of a key back: whoever asks for the key after this call gets a value that is
-    /// made after it, also while others hold the old one. Copies no key and takes no memory.
+    /// Invalidates a key: whoever asks for it after this call gets a value that is made after it,
+    /// even while others hold the old one. Copies no key and takes no memory.
     ///
-    /// An entry that nobody holds is evicted. One that is held is detached from the key, whether
-    /// its value is there or still being made: no call finds it by the key any more, and the next
-    /// one makes a new entry. Its handles read the value that they had, callers that wait for its
-    /// value get that value, and when its last handle is dropped it is evicted at once. Until then
-    /// it is counted: in `total_charge` by its charge, and in `len`. Where the key has no entry,
-    /// nothing happens.
-    ///
-    /// The original crate has no such call; this one is this project's own.
+    /// An idle entry is evicted. A held entry, ready or still being made, is detached from the key:
+    /// no call finds it by the key any more, and the next one inserts a new entry. Its handles keep
+    /// the value that they have, and callers that wait for its value get it. It is evicted when its
+    /// last handle is dropped, and counts in `total_charge` and `len` until then. If the key has no
+    /// entry, nothing happens.
     pub fn invalidate(&self, key: &K) {
         let _: Invalidated<K> = self.invalidated(key);
     }
 
-    /// Puts a value in and answers its handle, whatever the key has: an `invalidate`, and a making
-    /// of the key that is done at once, with nothing in between. It is for a value that is there
-    /// before its charge is known, and for one that is to replace another.
+    /// Inserts a value, replacing what the key has, and returns its handle. It invalidates the key
+    /// and inserts the new entry in one step. It is for a value that is made before its charge is
+    /// known, and for one that replaces another.
     ///
-    /// What the key had is taken back as by `invalidate`: handles read the value that they had, and
-    /// callers that wait for a making get what that making gives. Waits for no maker.
+    /// The old entry is treated as by `invalidate`: its handles keep the value that they have, and
+    /// callers that wait for its value get that value. Never waits for a maker.
     ///
-    /// `Overflow` where the charge would take the total past `u64::MAX`, that of an idle entry of
-    /// the key not counted, or where the stamps are at their end; `Memory` where a new entry or the
-    /// value's shared copies are refused. Then nothing changed, the key keeps what it had, and the
+    /// Returns `Overflow` if the charge would take the total past `u64::MAX`, not counting an idle
+    /// entry of the key, or if there are no stamps left; and `Memory` if a new entry or the shared
+    /// copies of the value are refused. Then no entry changed, the key keeps what it had, and the
     /// value is dropped without the lock.
-    ///
-    /// The original crate has no such call; this one is this project's own.
     pub fn insert(
         &self,
         key: &K,
@@ -303,50 +297,49 @@ impl<K: Hash + Eq + Clone + Drop, V: Drop, R: Wait, F: Fit<K, V>> LruCache<K, V,
         let _: Pruned = self.pruned();
     }
 
-    /// Sets the capacity, and the cache settles to it at once: idle entries are evicted, oldest
-    /// first, while the total is above it. Takes no memory.
+    /// Sets the capacity, and evicts idle entries, oldest first, while the total is above it. Takes
+    /// no memory.
     pub fn set_capacity(&self, capacity: u64) {
         let _: Resized = self.resized(capacity);
     }
 
-    /// The greatest total of charges that idle entries are kept for. Takes no memory.
+    /// Returns the capacity. Takes no memory.
     pub fn capacity(&self) -> u64 {
         self.door.enter().capacity()
     }
 
-    /// The sum of the charges of all entries, those still being made included, and those that are
-    /// held after they were invalidated. Takes no memory.
+    /// Returns the sum of the charges of all entries, including those still being made and those
+    /// held after an `invalidate`. Takes no memory.
     pub fn total_charge(&self) -> u64 {
         self.door.enter().total()
     }
 
-    /// The sum of the charges of the entries that are held, those still being made included, and
-    /// those that are held after they were invalidated: the rest of `total_charge` is idle. No
-    /// entry is visited. Takes no memory.
+    /// Returns the sum of the charges of the held entries, including those still being made and
+    /// those held after an `invalidate`. The rest of `total_charge` is idle. Takes no memory.
     pub fn pinned_charge(&self) -> u64 {
         self.door.enter().pinned_charge()
     }
 
-    /// The number of entries, idle or held, those still being made included, and those that are
-    /// held after they were invalidated. No entry is visited. Takes no memory.
+    /// Returns the number of entries, idle or held, including those still being made and those held
+    /// after an `invalidate`. Takes no memory.
     pub fn len(&self) -> usize {
         self.door.enter().len()
     }
 
-    /// Whether there is no entry. Takes no memory.
+    /// Returns whether there are no entries. Takes no memory.
     pub fn is_empty(&self) -> bool {
         self.len() == 0
     }
 
-    /// Whether the key has a value, as `get` asks for it: an entry that is still being made does
-    /// not count. Pins nothing, so the value may be evicted before the next call. Is no use of the
-    /// entry, which keeps its place in the order of eviction. Takes no memory.
+    /// Returns whether the key has a ready value, as `get` looks for it: an entry that is still
+    /// being made does not count. Pins nothing, so the value may be evicted before the next call,
+    /// and leaves the order of eviction as it is. Takes no memory.
     pub fn contains(&self, key: &K) -> bool {
         self.door.enter().contains(key)
     }
 
-    /// What the calls of this cache did since it was made, or since `reset_counts`, as the lock was
-    /// got: so its counts add up to the entries and the charges of one moment. Takes no memory.
+    /// Returns the counts of this cache's calls since it was created or last reset. They are read
+    /// under the lock, so they add up to the entries and charges of one moment. Takes no memory.
     pub fn counts(&self) -> Counts
         ensures entries { result.evictions + result.removals ≤ result.entries_before + result.insertions }
         ensures charge { result.evicted_charge + result.removed_charge ≤ result.charge_before + result.inserted_charge }
@@ -354,9 +347,8 @@ impl<K: Hash + Eq + Clone + Drop, V: Drop, R: Wait, F: Fit<K, V>> LruCache<K, V,
         self.door.enter().counts()
     }
 
-    /// What `counts` answers; all counts are 0 afterwards, and the counting begins anew at the
-    /// entries that are there. No call is missed in between, and none is counted twice. Takes no
-    /// memory.
+    /// Returns what `counts` returns and resets all counts to 0; the counting starts again from the
+    /// entries that are present. Takes no memory.
     pub fn reset_counts(&self) -> Counts
         ensures entries { result.evictions + result.removals ≤ result.entries_before + result.insertions }
         ensures charge { result.evicted_charge + result.removed_charge ≤ result.charge_before + result.inserted_charge }
@@ -364,7 +356,7 @@ impl<K: Hash + Eq + Clone + Drop, V: Drop, R: Wait, F: Fit<K, V>> LruCache<K, V,
         self.door.enter().reset_counts()
     }
 
-    // The calls above, each with what was asked under the lock.
+    // The calls above, each returning evidence of what was done under the lock.
     pub(crate) fn reserved(&self, entries: usize) -> Result<Reserved, Refusal>
         ensures err { IfErr result (λ e. e ≡ Refusal.Memory) }
         ensures done { IfOk result (λ reserved. reserved ≡ entries) }
@@ -394,7 +386,7 @@ impl<K: Hash + Eq + Clone + Drop, V: Drop, R: Wait, F: Fit<K, V>> LruCache<K, V,
         self.door.enter().set_capacity(capacity)
     }
 
-    // How a handle that keeps the cache alive gives its pin back.
+    // Releases the pin of a handle that keeps the cache alive.
     pub(crate) fn release(&self, pin: Pin<K, V, F>) {
         self.door.enter().release(pin);
     }
@@ -413,8 +405,8 @@ impl<K: Hash + Eq + Clone + Drop, V: Drop, R: Wait, F: Fit<K, V>> LruCache<K, V,
         }
     }
 
-    // `awaited`, apart from `start`, so that what a wait needs in memory is made where one waits:
-    // beside the call of a hit it would be made for each hit too.
+    // `awaited`, kept out of `start` so that only a call that waits sets up the stack that a wait
+    // needs. Inlined beside a hit, every hit would pay for it.
     #[inline(always)]
     fn wait_for<'a>(
         &'a self,
@@ -432,8 +424,7 @@ impl<K: Hash + Eq + Clone + Drop, V: Drop, R: Wait, F: Fit<K, V>> LruCache<K, V,
         Ok(self.awaited(asleep, key, charge)?)
     }
 
-    // Waits while another caller makes the value. A waiter whose pin turns out to be none begins
-    // anew.
+    // Waits while another caller makes the value. A waiter that finds its pin gone begins again.
     #[cold]
     fn awaited<'a>(
         &'a self,
@@ -462,8 +453,8 @@ impl<K: Hash + Eq + Clone + Drop, V: Drop, R: Wait, F: Fit<K, V>> LruCache<K, V,
         unreachable!()
     }
 
-    // Stores what was made and wakes whoever waits for it. The making is given up where memory
-    // is refused.
+    // Stores a value that was made and wakes the callers that wait for it. Gives the making up if
+    // memory is refused.
     #[inline(always)]
     fn finish<'a>(
         &self,
@@ -489,7 +480,7 @@ impl<K: Hash + Eq + Clone + Drop, V: Drop, R: Wait, F: Fit<K, V>> LruCache<K, V,
     }
 }
 
-// What a caller that asked for a value has to do.
+// What a caller that asked for a value is to do.
 enum Turn<'a, K: Hash + Eq + Clone, V, R: Wait, F: Fit<K, V>> {
     // Make the value.
     Make(Maker<'a, K, V, R, F>),
@@ -497,7 +488,7 @@ enum Turn<'a, K: Hash + Eq + Clone, V, R: Wait, F: Fit<K, V>> {
     Ready(CacheHandle<'a, K, V, R, F>),
 }
 
-// Ready entries as a map, under the lock.
+// Prints the ready entries as a map, under the lock.
 impl<
     K: Hash + Eq + Clone + Drop + fmt::Debug,
     V: Drop + fmt::Debug,

@@ -1,17 +1,17 @@
-//! A count, of writes of the idle order or of looks, that takes no bytes: contracts alone see it.
+//! A ghost count, of writes of the idle order or of lookups. It has no bytes.
 ghost use Rattle.std.specs.Prelude.{◌≡◌, ◌+◌, ℕ};
 ghost use base.Fml.{ftrue};
 
 use std::marker::{Model, PhantomData};
 
-// How often `tick` was called.
+// The number of times that `tick` was called.
 #[derive(Drop)]
 pub struct Work {
     mark: PhantomData<()>,
     pub ghost count: { ℕ },
 }
 
-// It has nothing that threads could share.
+// There is nothing in it that threads could share.
 unsafe impl Send for Work {}
 
 unsafe impl Sync for Work {}

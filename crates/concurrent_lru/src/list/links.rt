@@ -1,4 +1,4 @@
-//! The idle order as links among nodes: each idle one has the pointers of its neighbours.
+//! The idle order as links among nodes: each idle one points to its neighbours.
 ghost use Rattle.std.specs.Prelude.{◌≡◌, ◌+◌, ◌∷◌, [], ◌++◌, OnOk, OnErr, IfErr};
 ghost use Rattle.concurrent_lru.specs.NodeTable.{HasValue, GivesValue, pinned_once};
 ghost use Rattle.concurrent_lru.specs.SlotPointers.{IsTied, cells_of, HasNode, LeadsTo};
@@ -10,8 +10,8 @@ use crate::list::{Node, Refusal};
 use std::alloc::Global;
 use std::sync::Arc;
 
-// The nodes, and the order of the idle ones by its two ends. It has no invariant: a method may
-// break the order for a moment.
+// The nodes, and the two ends of the order of the idle ones. It has no invariant, since a method
+// may break the order for a moment.
 pub(super) struct Order<K, V> {
     pub(super) slots: Slots<K, V>,
     pub(super) oldest: Option<usize>,
@@ -19,7 +19,7 @@ pub(super) struct Order<K, V> {
 }
 
 impl<K: Drop, V: Drop> Order<K, V> {
-    // No nodes.
+    // Creates an order with no nodes.
     pub(super) fn new(alloc: Global) -> Order<K, V>
         ensures linked { IsWellLinked result }
         ensures empty { cells_of result.slots ≡ [] }
@@ -47,7 +47,7 @@ impl<K: Drop, V: Drop> Order<K, V> {
         self.push(own, key);
     }
 
-    // Makes the node that a link leads to the newest idle one. The key is the node's own.
+    // Makes the node at the end of a link the newest idle one. The key is the node's own.
     fn push(&mut self, own: *mut Node<K, V>, key: usize)
         requires linked { IsWellLinked self.old }
         requires own { LeadsTo self.old.slots own key }
@@ -67,7 +67,7 @@ impl<K: Drop, V: Drop> Order<K, V> {
         }
     }
 
-    // Joins the neighbours of a node that was taken out, seen from the one before, or from the end.
+    // Joins the neighbours of a removed node, from the side of the one before it, or of the end.
     fn join_left(&mut self, before: Option<*mut Node<K, V>>, after: Option<*mut Node<K, V>>)
         requires tied { IsTied self.old.slots }
         requires before { IsGood (cells_of self.old.slots) before }
@@ -82,7 +82,7 @@ impl<K: Drop, V: Drop> Order<K, V> {
         }
     }
 
-    // And from the one after.
+    // Joins them from the side of the one after it.
     fn join_right(&mut self, before: Option<*mut Node<K, V>>, after: Option<*mut Node<K, V>>)
         requires { IsGood (cells_of self.old.slots) after }
         ensures oldest { self.new.oldest ≡ self.old.oldest }
@@ -95,7 +95,7 @@ impl<K: Drop, V: Drop> Order<K, V> {
         }
     }
 
-    // Takes the node that a link leads to out of the idle order.
+    // Removes the node at the end of a link from the idle order.
     fn cut(&mut self, own: *mut Node<K, V>)
         requires linked { IsWellLinked self.old }
         requires idle { ListsLink self.old own }
@@ -110,7 +110,7 @@ impl<K: Drop, V: Drop> Order<K, V> {
         self.join_right(before, after);
     }
 
-    // Takes the node under a key out of the idle order.
+    // Removes the node under a key from the idle order.
     pub(super) fn remove(&mut self, key: usize)
         requires linked { IsWellLinked self.old }
         requires idle { Lists self.old key }
@@ -124,8 +124,8 @@ impl<K: Drop, V: Drop> Order<K, V> {
         self.cut(own);
     }
 
-    // Takes the node under a key out of the idle order and makes it the newest idle one, with one
-    // look.
+    // Removes the node under a key from the idle order and makes it the newest idle one, with one
+    // lookup.
     pub(super) fn renew(&mut self, key: usize)
         requires linked { IsWellLinked self.old }
         requires idle { Lists self.old key }
@@ -140,9 +140,9 @@ impl<K: Drop, V: Drop> Order<K, V> {
         self.push(node, key);
     }
 
-    // Takes the node under a key out of the idle order with one pin, and copies its value. The node
-    // is looked up once, before the copy: a processor reads nothing behind an atomic instruction
-    // before that has ended.
+    // Removes the node under a key from the idle order, with one pin, and copies its value. The node
+    // is looked up once, before the copy, since a processor starts no later read until an atomic
+    // instruction has completed.
     pub(super) fn revive(&mut self, key: usize) -> Result<Arc<V>, Refusal>
         requires linked { IsWellLinked self.old }
         requires idle { Lists self.old key }

@@ -1,5 +1,6 @@
-//! Boxed values turned into raw pointers, and the one owner of what these point to.
-//! The owner takes no bytes: contracts alone see which value lies where, and under which key.
+//! Boxed values turned into raw pointers, and the single owner of what these point to.
+//!
+//! The owner has no bytes: only contracts see which value is where, and under which key.
 ghost use Rattle.std.specs.Prelude.{◌≡◌, ◌<◌, List as Seq, [], None, IsSome, Option as Maybe};
 ghost use Rattle.std.specs.Mem.{type_size};
 ghost use Rattle.std.specs.Borrow.{sem};
@@ -9,7 +10,7 @@ ghost use Rattle.concurrent_lru.specs.CellOwnership.{cells_own, cells_lent};
 use std::alloc::{AllocError, Allocator};
 use std::marker::{Model, PhantomData, Send, Sync};
 
-// Where a value lies. It owns nothing.
+// The address of a value. It owns nothing.
 pub(super) struct At<T> {
     pub(super) ptr: *mut T,
 }
@@ -28,12 +29,12 @@ impl<T> Clone for At<T> {
 
 impl<T> Copy for At<T> {}
 
-// Whoever has the memory may use the value; the pointer alone gives no way to it.
+// Only the holder of the memory may use the value; the pointer alone gives no access.
 unsafe impl<T> Send for At<T> {}
 
 unsafe impl<T> Sync for At<T> {}
 
-// The owner of the values that the pointers reach, each under a key.
+// The owner of the values that the pointers lead to, each under a key.
 pub(super) struct Memory<T, A: Allocator> {
     mark: PhantomData<*mut (T, A)>,
     ghost cells: { Seq (Maybe (Cell T A)) },
@@ -45,7 +46,7 @@ impl<T, A: Allocator> Model for Memory<T, A> {
     ghost also_shares = { λ m _ κ. cells_lent T.row A.row m.cells κ };
 }
 
-// It owns its values as boxes would.
+// It owns its values as boxes do.
 unsafe impl<T: Send, A: Allocator + Send> Send for Memory<T, A> {}
 
 unsafe impl<T: Sync, A: Allocator + Sync> Sync for Memory<T, A> {}
@@ -59,20 +60,20 @@ impl<T, A: Allocator> Memory<T, A> {
         Memory { mark: PhantomData }
     }
 
-    // Takes a box over, under a key that is free.
+    // Takes over a box, under a key that is free.
     pub(super) fn put(&mut self, value: Box<T, A>, key: usize) -> (At<T>, A)
     where
         T: Drop,
         requires { cell_at self.old.cells key ≡ None }
         ensures { self.new.cells ≡ put_cell key result.0.ptr result.1 value.value self.old.cells }
     {
-        // The contract alone uses it.
+        // Only the contract uses it.
         let _ = key;
         let (ptr, alloc) = Box::into_raw_with_allocator(value);
         (At { ptr }, alloc)
     }
 
-    // The value that lies there.
+    // Returns the value at an address.
     pub(super) fn get(&self, at: At<T>) -> &T
         requires { IsSome (key_at self.now.cells at.ptr) }
         ensures { AtFirst self.now.cells at.ptr (λ _ c. result.now ≡ c.value) }
@@ -80,7 +81,7 @@ impl<T, A: Allocator> Memory<T, A> {
         unsafe { &*at.ptr }
     }
 
-    // Lends the value that lies there for writing.
+    // Returns the value at an address for writing.
     pub(super) fn lend(&mut self, at: At<T>) -> &mut T
         requires { IsSome (key_at self.old.cells at.ptr) }
         ensures* writes_back { sem 𝓛 (lends_at T.row A.row A.Allocator self.entry at.ptr result) }
@@ -89,25 +90,25 @@ impl<T, A: Allocator> Memory<T, A> {
         unsafe { &mut *at.ptr }
     }
 
-    // Gives the value under a key back in its box.
+    // Returns the value under a key in its box.
     pub(super) fn take(&mut self, at: At<T>, key: usize, alloc: A) -> Box<T, A>
         requires { HoldsBy self.old.cells key at.ptr alloc }
         ensures value { IsValueAt self.old.cells key result.value }
         ensures cells { self.new.cells ≡ put_at key None self.old.cells }
     {
-        // The contract alone uses it.
+        // Only the contract uses it.
         let _ = key;
         unsafe { Box::from_raw(alloc, at.ptr) }
     }
 
-    // Tells that values of some bytes lie apart, as each is owned.
+    // Shows that values with bytes do not overlap, since each is owned.
     pub(super) fn apart(&mut self)
         requires { 0 < type_size T.row }
         ensures same { self.new ≡ self.old }
         ensures apart { AreApart self.old.cells }
     {}
 
-    // The memory of no values goes.
+    // Ends a memory that owns no values.
     pub(super) fn end(self)
         requires { (k : _) → cell_at self.cells k ≡ None }
     {

@@ -1,5 +1,6 @@
-//! The nodes under their keys: a slab of pointers alone, and the memory that these reach.
-//! A node is had for writing by a look, which is counted, or by a link that a node carries.
+//! The nodes under their keys: a slab of pointers, and the memory that they point to.
+//!
+//! A node is reached for writing by a lookup, which is counted, or by a link in another node.
 ghost use Rattle.std.specs.Prelude.{◌≡◌, ℕ, ◌+◌, ◌≤◌, [], Some, None, IsTrue, IsFalse, OnOk};
 ghost use Rattle.std.specs.Borrow.{sem};
 ghost use Rattle.slab.specs.Slab.{HasRoomFor, slab_len};
@@ -16,7 +17,7 @@ use crate::work::Work;
 use slab::Slab;
 use std::alloc::{AllocError, Global};
 
-// The nodes of a `Nodes`, and how often one was looked up for writing or taken.
+// The nodes of a `Nodes`, and how often one was looked up to be written or taken.
 pub(super) struct Slots<K, V> {
     pointers: Slab<At<Node<K, V>>>,
     memory: Memory<Node<K, V>, Global>,
@@ -50,7 +51,7 @@ impl<K: Drop, V: Drop> Slots<K, V> {
         self.pointers.reserve(more)
     }
 
-    // Keeps a node under a key that was free, and tells the key.
+    // Inserts a node under a key that was free, and returns the key.
     pub(super) fn insert(&mut self, mut node: Box<Node<K, V>>) -> usize
         requires tied { IsTied self.old }
         requires room { HasRoomFor self.old.pointers 1 }
@@ -70,7 +71,7 @@ impl<K: Drop, V: Drop> Slots<K, V> {
         self.pointers.insert_reserved(at)
     }
 
-    // Gives the node under a key back; a look, as a write is.
+    // Takes out the node under a key. This counts as a lookup, as a write does.
     pub(super) fn take(&mut self, key: usize) -> Box<Node<K, V>>
         requires tied { IsTied self.old }
         requires present { HasNode self.old key }
@@ -90,7 +91,7 @@ impl<K: Drop, V: Drop> Slots<K, V> {
         node
     }
 
-    // The node under a key, for reading.
+    // Returns the node under a key for reading.
     pub(super) fn node(&self, key: usize) -> &Node<K, V>
         requires tied { IsTied self.now }
         requires present { HasNode self.now key }
@@ -99,14 +100,14 @@ impl<K: Drop, V: Drop> Slots<K, V> {
         self.memory.get(self.pointers[key])
     }
 
-    // How many nodes there are.
+    // Returns the number of nodes.
     pub(super) fn len(&self) -> usize
         ensures { result ≡ slab_len self.now.pointers }
     {
         self.pointers.len()
     }
 
-    // Whether there is a node under a key, which may be any.
+    // Returns whether there is a node under a key, which may be any.
     pub(super) fn contains(&self, key: usize) -> bool
         requires { IsTied self.now }
         ensures yes { IsTrue result → HasNode self.now key }
@@ -115,7 +116,7 @@ impl<K: Drop, V: Drop> Slots<K, V> {
         self.pointers.contains(key)
     }
 
-    // All nodes are under keys below this one.
+    // Returns a key above those of all nodes.
     pub(super) fn end_of_keys(&self) -> usize
         requires { IsTied self.now }
         ensures { (key : ℕ) → result ≤ key → cell_at (cells_of self.now) key ≡ None }
@@ -123,7 +124,7 @@ impl<K: Drop, V: Drop> Slots<K, V> {
         self.pointers.capacity()
     }
 
-    // The way to the node under a key, for writing.
+    // Returns a pointer to the node under a key, for writing.
     pub(super) fn look(&mut self, key: usize) -> *mut Node<K, V>
         requires tied { IsTied self.old }
         requires present { HasNode self.old key }
@@ -136,7 +137,7 @@ impl<K: Drop, V: Drop> Slots<K, V> {
         self.pointers[key].ptr
     }
 
-    // The node that a link leads to, for reading.
+    // Returns the node at the end of a link for reading.
     pub(super) fn follow(&self, link: *mut Node<K, V>) -> &Node<K, V>
         requires { LeadsToNode self.now link }
         ensures { AtFirst (cells_of self.now) link (λ _ c. result.now ≡ c.value) }
@@ -144,7 +145,7 @@ impl<K: Drop, V: Drop> Slots<K, V> {
         self.memory.get(At { ptr: link })
     }
 
-    // And for writing.
+    // Returns the node at the end of a link for writing.
     pub(super) fn follow_mut(&mut self, link: *mut Node<K, V>) -> &mut Node<K, V>
         requires { LeadsToNode self.old link }
         ensures* writes_back { sem 𝓛 (lends_node K.row V.row self.entry link result) }
@@ -153,7 +154,7 @@ impl<K: Drop, V: Drop> Slots<K, V> {
         self.memory.lend(At { ptr: link })
     }
 
-    // The key of the node that a link leads to, which the node itself carries.
+    // Returns the key of the node at the end of a link. The node stores it.
     pub(super) fn slot_of(&self, link: Option<*mut Node<K, V>>) -> Option<usize>
         requires tied { IsTied self.now }
         requires good { IsGood (cells_of self.now) link }
@@ -165,7 +166,7 @@ impl<K: Drop, V: Drop> Slots<K, V> {
         }
     }
 
-    // Writes both links of the node that a link leads to.
+    // Sets both links of the node at the end of a link.
     pub(super) fn relink(
         &mut self,
         link: *mut Node<K, V>,
@@ -179,7 +180,7 @@ impl<K: Drop, V: Drop> Slots<K, V> {
         self.follow_mut(link).set_links(before, after);
     }
 
-    // Writes one of its links.
+    // Sets one link of the node at the end of a link.
     pub(super) fn set_before(&mut self, link: *mut Node<K, V>, before: Option<*mut Node<K, V>>)
         requires { LeadsToNode self.old link }
         ensures rest { OnlyWrites self.old self.new }
@@ -196,7 +197,7 @@ impl<K: Drop, V: Drop> Slots<K, V> {
         self.follow_mut(link).set_after(after);
     }
 
-    // Cuts a node's links, and tells what they were.
+    // Clears a node's links and returns them.
     pub(super) fn unlink(
         &mut self,
         link: *mut Node<K, V>,
@@ -212,7 +213,7 @@ impl<K: Drop, V: Drop> Slots<K, V> {
         (before, after)
     }
 
-    // Writes the pins of the node that a link leads to.
+    // Sets the pins of the node at the end of a link.
     pub(super) fn hold(&mut self, link: *mut Node<K, V>, pins: u32)
         requires { LeadsToNode self.old link }
         ensures rest { OnlyWrites self.old self.new }
@@ -221,7 +222,7 @@ impl<K: Drop, V: Drop> Slots<K, V> {
         self.follow_mut(link).hold(pins);
     }
 
-    // Writes the pins of the node under a key.
+    // Sets the pins of the node under a key.
     pub(super) fn set_pins(&mut self, key: usize, pins: u32)
         requires tied { IsTied self.old }
         requires present { HasNode self.old key }
@@ -232,7 +233,7 @@ impl<K: Drop, V: Drop> Slots<K, V> {
         self.hold(link, pins);
     }
 
-    // Tells the node under a key that it is detached from its key.
+    // Marks the node under a key as detached.
     pub(super) fn set_detached(&mut self, key: usize)
         requires tied { IsTied self.old }
         requires present { HasNode self.old key }
@@ -243,7 +244,7 @@ impl<K: Drop, V: Drop> Slots<K, V> {
         self.follow_mut(link).detach();
     }
 
-    // Writes the phase of the node under a key.
+    // Sets the phase of the node under a key.
     pub(super) fn set_phase(&mut self, key: usize, phase: Phase<V>)
         requires tied { IsTied self.old }
         requires present { HasNode self.old key }
@@ -254,7 +255,7 @@ impl<K: Drop, V: Drop> Slots<K, V> {
         self.follow_mut(link).set_phase(phase);
     }
 
-    // Frees every node, whatever links lead to it.
+    // Frees every node, whatever links point to it.
     pub(super) fn end(mut self)
         requires { IsTied self }
     {

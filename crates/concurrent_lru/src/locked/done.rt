@@ -1,5 +1,5 @@
-//! What was asked under the lock, and done: each is made by the one call of its name, so that no
-//! other call can stand in its place. They have no bytes.
+//! Evidence of what was done under the lock. Each value is made only by the call of its name, so no
+//! other call can take its place. The types have no bytes.
 ghost use Rattle.std.specs.Prelude.{◌≡◌};
 
 use std::marker::Model;
@@ -59,7 +59,7 @@ impl Pruned {
     }
 }
 
-/// `reserve` was called, and there is room. Clauses see the number of entries.
+/// `reserve` was called and made room. Clauses see the number of entries.
 #[derive(Drop)]
 pub struct Reserved {
     asked: Snapshot<usize>,

@@ -1,5 +1,5 @@
-//! What a caller has in an entry, as debts: types that are not `Drop`, so that the checker refuses
-//! a path on which one is forgotten. Each is taken by the call that settles it, and by no other.
+//! What a caller has in an entry, as obligations: types that are not `Drop`, so that the checker
+//! refuses a path that forgets one. Each is taken only by the call that settles it.
 ghost use Rattle.std.specs.Prelude.{◌≡◌};
 ghost use Rattle.std.specs.Arc.{arc_value};
 ghost use Rattle.std.specs.Sync.Mutex.{mutex_guard_value};
@@ -14,8 +14,8 @@ use std::marker::{Model, PhantomData};
 use std::snapshot::Snapshot;
 use std::sync::{Arc, Condvar, MutexGuard, Wait};
 
-/// A debt: the value of an entry is this caller's to make. `ready` and `fail` take it. It knows the
-/// key and the charge that were asked.
+/// An obligation: the caller is to make the value of an entry. `ready` and `fail` take it. Clauses
+/// see the key and the charge that were asked for.
 pub struct Making<K> {
     pub(super) spot: Spot,
     pub(super) asked: Snapshot<K>,
@@ -23,7 +23,7 @@ pub struct Making<K> {
 }
 
 impl<K> Making<K> {
-    // The making of the spot's entry.
+    // Creates the making of the spot's entry.
     pub(super) fn of(spot: Spot, key: &K, charge: u64) -> Self
         ensures stamp { result.spot.stamp ≡ spot.stamp }
         ensures asked { result.asked.value ≡ key.now }
@@ -37,9 +37,9 @@ impl<K> Making<K> {
     }
 }
 
-/// A debt: a pin in an entry whose value another caller makes. `sleep` takes it; a release would
-/// not, since there is no value yet. It knows the key and the charge that were asked, and what the
-/// call that answered it left under the lock.
+/// An obligation: a pin in an entry whose value another caller makes. `sleep` takes it; a release
+/// would not, since there is no value yet. Clauses see the key and the charge that were asked for,
+/// and the state in which the call that returned it left the cache.
 pub struct Waiting<K: Hash + Eq + Clone, V, F: Fit<K, V>> {
     spot: Spot,
     asked: Snapshot<K>,
@@ -48,7 +48,7 @@ pub struct Waiting<K: Hash + Eq + Clone, V, F: Fit<K, V>> {
 }
 
 impl<K: Hash + Eq + Clone, V, F: Fit<K, V>> Waiting<K, V, F> {
-    // A pin in the spot's entry.
+    // Creates a pin in the spot's entry.
     pub(super) fn of(spot: Spot, key: &K, charge: u64, left: &Locked<K, V, F>) -> Self
         ensures stamp { result.spot.stamp ≡ spot.stamp }
         ensures asked { result.asked.value ≡ key.now }
@@ -63,10 +63,10 @@ impl<K: Hash + Eq + Clone, V, F: Fit<K, V>> Waiting<K, V, F> {
         }
     }
 
-    /// Lets the lock go and sleeps, in one, until it is woken; then gets the lock again.
+    /// Releases the lock and sleeps, atomically, until it is woken; then acquires the lock again.
     ///
-    /// Nothing is known of a lock that was let go, so the guard is that of the call that answered
-    /// the pin: no wake comes between that call and the sleep.
+    /// Nothing is known of a lock once it is released, so the guard must be that of the call that
+    /// returned the pin: no wakeup comes between that call and the sleep.
     pub fn sleep<'a, R: Wait>(
         self,
         rt: &R,
@@ -96,24 +96,24 @@ impl<K: Hash + Eq + Clone, V, F: Fit<K, V>> Waiting<K, V, F> {
     }
 }
 
-/// A debt: a pin of a caller that has slept, in an entry whose value another caller made, or makes
-/// still. `poll` takes it.
+/// An obligation: a pin of a caller that has slept, in an entry whose value another caller made or
+/// is still making. `poll` takes it.
 pub struct Woken<K> {
     pub(super) spot: Spot,
     pub(super) asked: Snapshot<K>,
     pub(super) charge: u64,
 }
 
-/// A debt: a pin in a ready entry whose value was not read, since its copy was refused. `give_up`
-/// takes it.
+/// An obligation: a pin in a ready entry whose value was not read, since its copy was refused.
+/// `give_up` takes it.
 pub struct Unread {
     pub(super) spot: Spot,
 }
 
-/// A debt: a pin in a ready entry, and the value. `release` takes it.
+/// An obligation: a pin in a ready entry, and the value. `release` takes it.
 ///
-/// Clauses see the stamp of the entry, the key and the charge that were asked, and the value, which
-/// fits that key by the mark F.
+/// Clauses see the stamp of the entry, the key and the charge that were asked for, and the value,
+/// which fits that key by the mark `F`.
 pub struct Pin<K: Hash + Eq + Clone, V, F: Fit<K, V>> {
     pub(super) spot: Spot,
     pub(super) asked: Snapshot<K>,
@@ -134,7 +134,7 @@ impl<K: Hash + Eq + Clone, V, F: Fit<K, V>> Model for Pin<K, V, F> {
 }
 
 impl<K: Hash + Eq + Clone, V, F: Fit<K, V>> Pin<K, V, F> {
-    // A pin in the spot's entry. A get asks no charge.
+    // Creates a pin in the spot's entry. A `get` has no charge.
     pub(super) fn of(spot: Spot, key: &K, charge: Option<u64>, value: Arc<V>) -> Self
         requires { F.fits key.now (arc_value value) }
         ensures { result ≡ record { stamp = spot.stamp; key = key.now; charge = charge; value = arc_value value } }
@@ -148,7 +148,7 @@ impl<K: Hash + Eq + Clone, V, F: Fit<K, V>> Pin<K, V, F> {
         }
     }
 
-    /// The value. Takes no lock.
+    /// Returns the value. Acquires no lock.
     pub fn value(&self) -> &V
         ensures value { result.now ≡ self.now.value }
         ensures fits { F.fits self.now.key result.now }
@@ -157,25 +157,25 @@ impl<K: Hash + Eq + Clone, V, F: Fit<K, V>> Pin<K, V, F> {
     }
 }
 
-/// What `begin` says.
+/// The result of `begin`.
 pub enum Entered<K: Hash + Eq + Clone, V, F: Fit<K, V>> {
-    /// The caller is to make the value. What its charge evicted is beside it.
+    /// The caller is to make the value; with it, what the charge evicted.
     Make(Making<K>, Sealed<Evicted<K, V>>),
     /// Another caller is making it; ask again by `poll`.
     Wait(Waiting<K, V, F>),
-    /// The value is there.
+    /// The value is ready.
     Hit(Pin<K, V, F>),
 }
 
-/// What `poll` says.
+/// The result of `poll`.
 pub enum Polled<K: Hash + Eq + Clone, V, F: Fit<K, V>> {
-    /// The caller is to make the value, since its maker has failed.
+    /// The caller is to make the value, since its maker failed.
     Make(Making<K>),
     /// Another caller is making it; ask again by `poll`.
     Wait(Waiting<K, V, F>),
-    /// The value is there.
+    /// The value is ready.
     Hit(Pin<K, V, F>),
-    /// The value is there, and its copy is refused.
+    /// The value is ready, but its copy was refused.
     Refused(Unread),
     /// No held entry has the stamp and the key: there is no pin.
     Stray,

@@ -1,12 +1,12 @@
-//! What a call under the lock leaves to be done, as debts: to drop what it took out once the lock
-//! is let go, and to wake those that wait for what it did.
+//! What a call under the lock leaves to be done, as obligations: to drop what it took out once the
+//! lock is released, and to wake the callers that wait for what it did.
 ghost use Rattle.std.specs.Prelude.{◌≡◌};
 
 use std::marker::Model;
 use std::sync::{Condvar, MutexGuard};
 
-/// A debt: what a call under the lock took out of the cache, so that nothing of it is dropped under
-/// the lock. `open` takes it, with the guard.
+/// An obligation: what a call under the lock took out of the cache, so that nothing of it is
+/// dropped under the lock. `open` takes it, with the guard.
 ///
 /// Clauses see what was taken out.
 pub struct Sealed<T> {
@@ -27,7 +27,7 @@ impl<T> Sealed<T> {
         Sealed { inner }
     }
 
-    /// Lets the lock go, and then answers what was sealed under it.
+    /// Releases the lock, and then returns what was sealed under it.
     #[inline(always)]
     pub fn open<L: Drop>(self, guard: MutexGuard<'_, L>) -> T
         ensures { result ≡ self }
@@ -38,7 +38,7 @@ impl<T> Sealed<T> {
     }
 }
 
-/// A debt: callers may wait for what was just done. `wake` takes it.
+/// An obligation: callers may wait for what was just done. `wake` takes it.
 ///
 /// Clauses see whether there may be any.
 pub struct Waiters {
@@ -54,14 +54,14 @@ impl Model for Waiters {
 }
 
 impl Waiters {
-    // Those that wait for what a call did, or nobody.
+    // Creates the obligation to wake the callers that wait, or nobody.
     pub(super) fn of(some: bool) -> Self
         ensures { result ≡ some }
     {
         Waiters { some }
     }
 
-    /// Wakes all that wait, if there may be any.
+    /// Wakes all callers that wait, if there may be any.
     #[inline(always)]
     pub fn wake(self, woken: &Condvar) {
         let Self { some } = self;

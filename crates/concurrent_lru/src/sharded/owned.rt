@@ -1,4 +1,4 @@
-//! Handles that borrow nothing: each keeps its cache alive by an `Arc` of its own, and has the
+//! Handles that borrow nothing: each keeps its cache alive with an `Arc` of its own, and has the
 //! route to its shard.
 ghost use Rattle.std.specs.Prelude.{◌≡◌, ◌≢◌, ◌<◌, ◌%◌, Some, None, Ok, Err, IfOk, IfErr, IfSome, slice_get, vec_len};
 ghost use Rattle.std.specs.Arc.{arc_value};
@@ -19,9 +19,9 @@ use std::marker::Model;
 use std::ops::Deref;
 use std::sync::{Arc, Wait};
 
-/// A pinned value, as a `CacheHandle`, for a cache in an `Arc`: the handle keeps the cache alive.
-/// Its drop gives the pin back at the shard where it was got, and then drops its `Arc` of the
-/// cache.
+/// A pinned value of a cache in an `Arc`, like `CacheHandle`, except that the handle keeps the
+/// cache alive. Dropping it releases the pin in the shard where it was acquired, and then drops its
+/// `Arc` of the cache.
 ///
 /// Clauses see what they see of a `CacheHandle`.
 pub struct OwnedHandle<
@@ -45,7 +45,7 @@ impl<K: Hash + Eq + Clone, V, R: Wait, S: BuildHasher, F: Fit<K, V>> Model
 }
 
 impl<K: Hash + Eq + Clone, V, R: Wait, S: BuildHasher, F: Fit<K, V>> OwnedHandle<K, V, R, S, F> {
-    /// The value. Takes no lock.
+    /// Returns the value. Acquires no lock.
     pub fn value(&self) -> &V
         ensures value { result.now ≡ self.now.value }
         ensures fits { F.fits self.now.key result.now }
@@ -61,14 +61,14 @@ impl<
     S: BuildHasher + Drop,
     F: Fit<K, V>,
 > OwnedHandle<K, V, R, S, F> {
-    // A handle of a pin that was got from this shard.
+    // Creates a handle of a pin that was acquired from this shard.
     fn new(shard: OwnedShard<K, V, R, S, F>, pin: Pin<K, V, F>) -> Self
         ensures key { result.key ≡ pin.key }
         ensures charge { result.charge ≡ pin.charge }
         ensures value { result.value ≡ pin.value }
         ensures fits { F.fits pin.key pin.value }
     {
-        // That the value fits is what the pin's type says.
+        // The pin's type states that the value fits.
         let _ = pin.value();
         OwnedHandle { shard, pin }
     }
@@ -88,7 +88,7 @@ impl<K: Hash + Eq + Clone, V, R: Wait, S: BuildHasher, F: Fit<K, V>> Deref
     }
 }
 
-// As the value.
+// Prints as the value does.
 impl<K: Hash + Eq + Clone, V: fmt::Debug, R: Wait, S: BuildHasher, F: Fit<K, V>> fmt::Debug
     for OwnedHandle<K, V, R, S, F> {
     ghost debug_output = { λ h. V.debug_output h.value };
@@ -98,7 +98,7 @@ impl<K: Hash + Eq + Clone, V: fmt::Debug, R: Wait, S: BuildHasher, F: Fit<K, V>>
     }
 }
 
-// Gives the pin back under the lock of its shard, before the Arc of the cache, which may be the
+// Releases the pin under the lock of its shard before the `Arc` of the cache, which may be the
 // last, is dropped.
 impl<K: Hash + Eq + Clone + Drop, V: Drop, R: Wait + Drop, S: BuildHasher + Drop, F: Fit<K, V>> Drop
     for OwnedHandle<K, V, R, S, F> {
@@ -124,9 +124,9 @@ impl<
     S: BuildHasher + Drop,
     F: Fit<K, V>,
 > OwnedShard<K, V, R, S, F> {
-    // The shard that serves a key.
+    // Returns the shard that serves a key.
     //
-    // `Memory` where the copy of the `Arc` is refused.
+    // Returns `Memory` if the copy of the `Arc` is refused.
     fn of(cache: &Arc<LruCache<K, V, R, S, F>>, key: &K) -> Result<Self, Refusal>
         ensures cache { IfOk result (λ shard. arc_value shard.cache ≡ arc_value cache.now) }
         ensures route { IfOk result (λ shard. shard.route.index ≡ key_number S.BuildHasher S.Hasher.Hasher K.hash_input (arc_value cache.now).routes.hasher key.now % vec_len (arc_value cache.now).routes.shards) }
@@ -137,7 +137,7 @@ impl<
         Ok(OwnedShard { cache, route })
     }
 
-    // The cache of one lock that this shard is.
+    // Returns the shard, a cache of one lock.
     fn get(&self) -> &unsharded::LruCache<K, V, R, F>
         ensures { slice_get (arc_value self.now.cache).routes.shards.items self.now.route.index ≡ Some result.now }
     {
@@ -154,8 +154,8 @@ impl<
 > LruCache<K, V, R, S, F> {
     /// `find`, with a handle that borrows nothing and keeps the cache alive.
     ///
-    /// `Overflow` and `Memory` as there; `Memory` also where a copy of the `Arc` is refused, and
-    /// then nothing is pinned.
+    /// Returns `Overflow` and `Memory` as `find` does, and `Memory` also if a copy of the `Arc` is
+    /// refused; then nothing is pinned.
     pub fn get_owned(
         this: &Arc<LruCache<K, V, R, S, F>>,
         key: &K,
@@ -175,8 +175,8 @@ impl<
 
     /// `get_or_init_by`, with a handle that borrows nothing and keeps the cache alive.
     ///
-    /// `Memory` and `Overflow` as there; `Memory` also where a copy of the `Arc` is refused, and
-    /// then `init` is dropped uncalled and nothing is pinned.
+    /// Returns `Memory` and `Overflow` as `get_or_init_by` does, and `Memory` also if a copy of the
+    /// `Arc` is refused; then `init` is dropped without being called, and nothing is pinned.
     pub fn get_or_init_owned<I>(
         this: &Arc<LruCache<K, V, R, S, F>>,
         key: &K,
@@ -200,8 +200,9 @@ impl<
 
     /// `get_or_try_init_by`, with a handle that borrows nothing and keeps the cache alive.
     ///
-    /// `Init`, `Memory` and `Overflow` as there; `Memory` also where a copy of the `Arc` is
-    /// refused, and then `init` is dropped uncalled and nothing is pinned.
+    /// Returns `Init`, `Memory` and `Overflow` as `get_or_try_init_by` does, and `Memory` also if a
+    /// copy of the `Arc` is refused; then `init` is dropped without being called, and nothing is
+    /// pinned.
     pub fn get_or_try_init_owned<E, I>(
         this: &Arc<LruCache<K, V, R, S, F>>,
         key: &K,

@@ -1,22 +1,22 @@
-//! Which entry is meant, and where a look for it begins.
+//! An entry's stamp with a hint of its place.
 ghost use Rattle.std.specs.Prelude.{◌≡◌};
 
 use crate::list::Place;
 
-/// The stamp of an entry, and the place where a look for it begins.
+/// The stamp of an entry, and the place where a lookup of it begins.
 ///
-/// An entry stays at its place until it is taken away, so a look that begins there ends there.
-/// The place is a hint: any will do, and no clause sees it.
+/// An entry stays at its place until it is removed, so a lookup that begins there ends there. The
+/// place is only a hint: any place will do, and no clause sees it.
 #[derive(Clone, Copy)]
 pub struct Spot {
-    /// The number that names the entry.
+    /// The number that identifies the entry.
     pub stamp: u64,
     /// Where the entry was.
     pub place: Place,
 }
 
 impl Spot {
-    /// The entry with this stamp, of which no place is known.
+    /// Returns the spot of the entry with this stamp, with no hint of its place.
     pub fn unplaced(stamp: u64) -> Spot
         ensures { result.stamp ≡ stamp }
     {

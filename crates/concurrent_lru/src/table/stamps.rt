@@ -1,5 +1,6 @@
-//! Where the node with a stamp is: by a map of places, or with no map by a look at every node.
-//! Which of the two is said once, where a table is made.
+//! Lookup of nodes by stamp: with a map of places, or without one by visiting the nodes.
+//!
+//! Which of the two is chosen when a table is created.
 ghost use Rattle.std.specs.Prelude.{◌≡◌, ℕ, Bool, true, false, Some, None, OnOk, MatchOption, cond, nat_eq};
 ghost use Rattle.concurrent_lru.specs.NodeTable.{HasStampAt, IsNewStamp};
 ghost use Rattle.concurrent_lru.specs.Stamps.{keeps_map, mapped_place, HasRoomFor};
@@ -11,14 +12,14 @@ use std::collections::HashMap;
 // The places of nodes by their stamps.
 #[derive(Drop)]
 pub(super) enum Stamps {
-    // A look takes the same time however many nodes there are; an insert and a removal write.
+    // Finds a node through a map; an insert and a removal write to it.
     Mapped(HashMap<u64, Place>),
-    // A look visits every node; an insert and a removal write nothing.
+    // Finds a node by visiting the nodes; an insert and a removal write nothing.
     Unmapped,
 }
 
 impl Stamps {
-    // Makes room for so many more inserts.
+    // Reserves room for `more` more inserts.
     pub(super) fn reserve(&mut self, more: usize) -> Result<(), AllocError>
         ensures room { OnOk result (HasRoomFor self.new more) }
         ensures keeps { keeps_map self.new ≡ keeps_map self.old }
@@ -30,19 +31,19 @@ impl Stamps {
         }
     }
 
-    // Tells the place of a new node, for which there is room.
+    // Records the place of a new node, for which there is room.
     pub(super) fn insert(&mut self, stamp: u64, place: Place)
         requires { HasRoomFor self.old 1 }
         ensures keeps { keeps_map self.new ≡ keeps_map self.old }
         ensures places { keeps_map self.old ≡ true → (s : ℕ) → mapped_place self.new s ≡ cond (nat_eq stamp s) (Some place) (mapped_place self.old s) }
     {
         if let Stamps::Mapped(places) = self {
-            // Not refused, since there is room; no node had the stamp before.
+            // Never refused, since there is room; no node had the stamp before.
             let _before = places.insert(stamp, place);
         }
     }
 
-    // Forgets the place of a node that was taken.
+    // Removes the place of a node that was taken.
     pub(super) fn remove(&mut self, stamp: u64)
         ensures keeps { keeps_map self.new ≡ keeps_map self.old }
         ensures places { keeps_map self.old ≡ true → (s : ℕ) → mapped_place self.new s ≡ cond (nat_eq stamp s) None (mapped_place self.old s) }
@@ -53,7 +54,7 @@ impl Stamps {
         }
     }
 
-    // The place that the map has for the stamp, or else that of a node which has it.
+    // Returns the place that the map has for the stamp, or else that of a node with the stamp.
     #[inline(never)]
     pub(super) fn find<K: Drop, V: Drop>(&self, nodes: &Nodes<K, V>, stamp: u64) -> Option<Place>
         ensures mapped { keeps_map self.now ≡ true → result ≡ mapped_place self.now stamp }
