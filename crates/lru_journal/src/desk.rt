@@ -1,5 +1,6 @@
-//! What lies under the twin's lock: the journal, and the pass that knows all its records.
-//! Each call is one step, whose receipt goes to the caller's tally; what it took out is sealed.
+//! The data under the twin's lock: the journal, and the pass that knows all its records.
+//!
+//! Each call is one step, whose receipt goes to the caller's tally. What it took out is sealed.
 ghost use Rattle.std.specs.Prelude.{◌≡◌, ◌≢◌, ◌++◌, ◌∷◌, [], IfErr, IfOk, IfSome};
 ghost use Rattle.std.specs.Fn.{FnOnceReturnsAt, FnOnceTakesAt};
 ghost use Rattle.crossbeam_utils.specs.Seq.{cell_view};
@@ -47,7 +48,7 @@ impl<K: Hash + Eq + Clone, V, I: Identity> Model for Desk<K, V, I> {
     ghost invariant = { λ d. (d.keeper.table_id ≡ I.name.table) × (cell_view d.keeper ≡ knower d.journal.records) × (d.journal.began ≡ I.name.capacity) };
 }
 
-// Tells the cell of the journal's last record, and gives the tally its receipt.
+// Adds the journal's last record to the cell, and its receipt to the tally.
 fn note<K: Hash + Eq + Clone, V: Drop, I: Identity, R: Wait>(
     rt: &R,
     cell: &Cell<K>,
@@ -67,7 +68,7 @@ fn note<K: Hash + Eq + Clone, V: Drop, I: Identity, R: Wait>(
     append::<K, Brand, I, R>(rt, cell, keeper, tally, number, &records[number]);
 }
 
-// Tells the cell of the journal's last two records, and gives the tally their receipts.
+// Adds the journal's last two records to the cell, and their receipts to the tally.
 fn note_two<K: Hash + Eq + Clone, V: Drop, I: Identity, R: Wait>(
     rt: &R,
     cell: &Cell<K>,
@@ -89,7 +90,7 @@ fn note_two<K: Hash + Eq + Clone, V: Drop, I: Identity, R: Wait>(
     append::<K, Brand, I, R>(rt, cell, keeper, tally, second, &records[second]);
 }
 
-// Tells the cell of a read's records, and gives the tally their receipts.
+// Adds a read's records to the cell, and their receipts to the tally.
 fn note_read<K: Hash + Eq + Clone, V: Drop, T, I: Identity, R: Wait>(
     rt: &R,
     cell: &Cell<K>,
@@ -112,8 +113,8 @@ fn note_read<K: Hash + Eq + Clone, V: Drop, T, I: Identity, R: Wait>(
 }
 
 impl<K: Hash + Eq + Clone, V: Drop, I: Identity> Desk<K, V, I> {
-    /// One step of the journal, and its receipt: an accepted step adds its record, whose receipt
-    /// goes to the tally; a refused one leaves journal and tally as they were.
+    /// Takes one step of the journal. An accepted step adds its record, whose receipt goes to the
+    /// tally; a refused one leaves journal and tally as they were.
     pub(crate) fn call<S: Call<K, V>, R: Wait>(
         &mut self,
         rt: &R,
@@ -136,8 +137,8 @@ impl<K: Hash + Eq + Clone, V: Drop, I: Identity> Desk<K, V, I> {
         }
     }
 
-    /// A read of the journal, and the receipts of its records, which go to the tally; a refused
-    /// read leaves journal and tally as they were.
+    /// Reads from the journal. The receipts of an accepted read's records go to the tally; a
+    /// refused read leaves journal and tally as they were.
     pub(crate) fn read<T, G, R: Wait>(
         &mut self,
         rt: &R,
@@ -165,7 +166,7 @@ impl<K: Hash + Eq + Clone, V: Drop, I: Identity> Desk<K, V, I> {
         }
     }
 
-    /// The journal. The whole tally has exactly its records.
+    /// Returns the journal. The whole tally has exactly its records.
     pub(crate) fn close<R: Wait>(self, rt: &R, cell: &Cell<K>, tally: Tally<K, I>) -> Journal<K, V>
         requires cell { cell.now.table.shared.table_id ≡ I.name.table }
         requires whole { tally.parts ≡ all_parts }

@@ -1,5 +1,5 @@
-//! The lock of a twin. Each call gets it once, for one step of the journal, and lets it go: what
-//! the step took out of the cache is dropped after that.
+//! The lock of a twin. Each call acquires it once, for one step of the journal, and releases it.
+//! What the step took out of the cache is dropped after that.
 ghost use Rattle.std.specs.Prelude.{◌≡◌, ◌≢◌, IfErr, IfOk, IfSome};
 ghost use Rattle.std.specs.Fn.{FnOnceReturnsAt, FnOnceTakesAt};
 ghost use Rattle.lru_journal.specs.Records.{records_of_read};
@@ -14,7 +14,7 @@ use concurrent_lru::lru_core::Refusal;
 use std::hash::Hash;
 use std::sync::{Mutex, MutexGuard, Wait};
 
-/// The lock, the cell of the tallies, and the right to wait.
+/// The lock, the cell of the tallies, and the capability to wait.
 #[derive(Drop)]
 pub struct Door<K: Hash + Eq + Clone, V, R, I: Identity> {
     cell: Cell<K>,
@@ -23,14 +23,15 @@ pub struct Door<K: Hash + Eq + Clone, V, R, I: Identity> {
     pub ghost own: { cell.table.shared.table_id ≡ I.name.table },
 }
 
-/// A debt: the lock is got. Each call takes it, so there is one call for each lock.
+/// An obligation: the lock is held. Each call takes this value, so there is one call for each time
+/// that the lock is acquired.
 pub struct Inside<'a, K: Hash + Eq + Clone, V, R, I: Identity> {
     door: &'a Door<K, V, R, I>,
     guard: MutexGuard<'a, Desk<K, V, I>>,
 }
 
 impl<K: Hash + Eq + Clone, V, R, I: Identity> Door<K, V, R, I> {
-    /// The lock of a desk, whose tallies have this cell.
+    /// Creates the lock of a desk whose tallies have this cell.
     pub(crate) fn new(cell: Cell<K>, desk: Desk<K, V, I>, rt: R) -> Self
         requires { cell.table.shared.table_id ≡ I.name.table }
     {
@@ -41,7 +42,7 @@ impl<K: Hash + Eq + Clone, V, R, I: Identity> Door<K, V, R, I> {
         }
     }
 
-    /// The cell of the tallies. Takes no lock.
+    /// Returns the cell of the tallies. Acquires no lock.
     pub(crate) fn cell(&self) -> &Cell<K>
         ensures { result.now.table.shared.table_id ≡ I.name.table }
     {
@@ -50,7 +51,7 @@ impl<K: Hash + Eq + Clone, V, R, I: Identity> Door<K, V, R, I> {
 }
 
 impl<K: Hash + Eq + Clone, V: Drop, R: Wait + Drop, I: Identity> Door<K, V, R, I> {
-    /// Gets the lock, for one call.
+    /// Acquires the lock for one call.
     pub(crate) fn enter(&self) -> Inside<'_, K, V, R, I> {
         Inside {
             door: self,
@@ -58,7 +59,7 @@ impl<K: Hash + Eq + Clone, V: Drop, R: Wait + Drop, I: Identity> Door<K, V, R, I
         }
     }
 
-    /// The journal, as `Desk::close`.
+    /// Returns the journal, as `Desk::close` does.
     pub(crate) fn close(self, tally: Tally<K, I>) -> Journal<K, V>
         requires { tally.parts ≡ all_parts }
         ensures exactly { AreExactly result.records tally.receipts }
@@ -70,8 +71,8 @@ impl<K: Hash + Eq + Clone, V: Drop, R: Wait + Drop, I: Identity> Door<K, V, R, I
 }
 
 impl<'a, K: Hash + Eq + Clone, V: Drop, R: Wait + Drop, I: Identity> Inside<'a, K, V, R, I> {
-    /// One step of the journal, and its receipt, as `Desk::call`. What the step answered leaves
-    /// after the lock was let go.
+    /// Takes one step of the journal, as `Desk::call` does. Its answer is unsealed after the lock
+    /// is released.
     pub(crate) fn call<S: Call<K, V>>(
         self,
         tally: &mut Tally<K, I>,
@@ -86,8 +87,7 @@ impl<'a, K: Hash + Eq + Clone, V: Drop, R: Wait + Drop, I: Identity> Inside<'a, 
         answer.open(guard)
     }
 
-    /// A read of the journal, and the receipts of its records, as `Desk::read`. The reader runs
-    /// under the lock.
+    /// Reads from the journal, as `Desk::read` does. `reader` runs under the lock.
     pub(crate) fn read<T, G>(
         self,
         tally: &mut Tally<K, I>,

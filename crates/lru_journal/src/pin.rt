@@ -1,5 +1,6 @@
 //! What a caller of the twin holds of an entry: its stamp and its value.
-//! A pin is given back by `release` alone, since the record of a release has to be made.
+//!
+//! Only `release` releases a pin, since the release has to be recorded.
 ghost use Rattle.std.specs.Prelude.{◌≡◌};
 ghost use Rattle.std.specs.Arc.{arc_value};
 ghost use Rattle.lru_journal.specs.Replay.{told_of_begun, told_of_found};
@@ -26,21 +27,21 @@ impl<V> Model for Pin<V> {
 }
 
 impl<V> Pin<V> {
-    /// The pin of the entry with this stamp, of this value.
+    /// Creates the pin of the entry with this stamp and this value.
     pub fn new(stamp: u64, value: Arc<V>) -> Pin<V>
         ensures { result ≡ twin_pin stamp (arc_value value) }
     {
         Pin { stamp, value }
     }
 
-    /// The stamp of the entry.
+    /// Returns the stamp of the entry.
     pub fn stamp(&self) -> u64
         ensures { result ≡ self.now.stamp }
     {
         self.stamp
     }
 
-    /// The value. Takes no lock.
+    /// Returns the value. Acquires no lock.
     pub fn value(&self) -> &V
         ensures { result.now ≡ self.now.value }
     {
@@ -48,7 +49,7 @@ impl<V> Pin<V> {
     }
 }
 
-/// What the twin's `begin` and `poll` say.
+/// The result of the twin's `begin` and `poll`.
 #[derive(Drop)]
 pub enum Started<V> {
     /// The caller is to make the value of the entry with this stamp, and then calls `ready` or
@@ -56,7 +57,7 @@ pub enum Started<V> {
     Make(u64),
     /// Another caller is making it; ask again by `poll`.
     Wait(u64),
-    /// The value is there.
+    /// The value is ready.
     Hit(Pin<V>),
 }
 
@@ -72,7 +73,7 @@ impl<V> Started<V> {
     }
 }
 
-// What `get` finds, as a pin.
+// Converts the result of `get` to a pin.
 pub(crate) fn pin_of<V>(found: Option<(u64, Arc<V>)>) -> Option<Pin<V>>
     ensures { told_of_pin result ≡ told_of_found found }
 {

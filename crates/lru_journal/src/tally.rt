@@ -1,5 +1,6 @@
 //! The tallies of a twin, and the ruled cell that ties their receipts to its records.
-//! Passes of that cell have no bytes; the cell's one word counts the records.
+//!
+//! Passes of that cell have no bytes; its single word counts the records.
 ghost use Rattle.std.specs.Prelude.{◌≡◌, ◌+◌, ◌^◌, ◌<◌, ◌++◌, ◌∷◌, [], length, IfOk, IfErr};
 ghost use Rattle.crossbeam_utils.specs.Seq.{cell_view};
 ghost use Rattle.lru_journal.specs.Tallies.{knower, hand_with_receipt, AllBelow};
@@ -14,8 +15,8 @@ use std::collections::LinkedList;
 use std::marker::{Brand, Model, PhantomData};
 use std::sync::Wait;
 
-/// Names one twin, to contracts alone: a parameter of the twin and of its tallies, so that a
-/// tally of another twin is of another type.
+/// Identifies one twin, for contracts only. It is a parameter of the twin and of its tallies, so
+/// that a tally of another twin has another type.
 pub trait Identity {
     ghost use Rattle.lru_journal.specs.Tallies.{Name};
 
@@ -28,7 +29,7 @@ impl Identity for Brand {
     ghost name = { no_name };
 }
 
-/// The record of an accepted call, which reaches the cell's step by this type.
+/// The record of an accepted call. The cell's step receives it through this type.
 pub trait Noted<K> {
     ghost use Rattle.lru_journal.specs.declared.record.Record.{Record};
 
@@ -41,19 +42,19 @@ impl<K> Noted<K> for Brand {
     ghost made = { no_record };
 }
 
-/// What a pass knows. No value of it is ever made.
+/// What a pass knows. No value of it ever exists at run time.
 pub struct View<K> {
-    /// Whether it knows all records, as the pass under the twin's lock.
+    /// Whether it knows all records, as the pass under the twin's lock does.
     pub keeps: bool,
     /// The records that it knows.
     pub all: LinkedList<Record<K>>,
-    /// Its parts of the twin.
+    /// Its number of parts of the twin.
     pub parts: u64,
-    /// Its receipts: positions, and the records there.
+    /// Its receipts: positions with the records there.
     pub receipts: LinkedList<(u64, Record<K>)>,
 }
 
-/// The rule of the cell, whose one word is the count of records.
+/// The rule of the cell, whose single word is the number of records.
 pub struct Counted;
 
 impl<K> Protocol<[u64; 1], View<K>> for Counted {
@@ -64,7 +65,7 @@ impl<K> Protocol<[u64; 1], View<K>> for Counted {
     ghost first = { opening };
 }
 
-/// A record is added to all records, and its receipt to the tally that the keeper has taken in.
+/// Adds a record to all records, and its receipt to the tally that the keeper has taken in.
 pub struct Appends<E> {
     noted: PhantomData<E>,
 }
@@ -75,7 +76,7 @@ impl<K, E: Noted<K>> Outcome<[u64; 1], View<K>> for Appends<E> {
     ghost then = { Appended E.made };
 }
 
-/// The keeper compares the whole tally with all records.
+/// Compares the whole tally, which the keeper has taken in, with all records.
 pub struct Checks;
 
 impl<K> Outcome<[u64; 1], View<K>> for Checks {
@@ -84,7 +85,7 @@ impl<K> Outcome<[u64; 1], View<K>> for Checks {
     ghost then = { Checked };
 }
 
-/// The keeper gives the tally away, with all parts and receipts.
+/// Gives away the keeper's tally, with all parts and receipts.
 pub struct Gives;
 
 impl<K> Split<View<K>> for Gives {
@@ -95,7 +96,7 @@ impl<K> Split<View<K>> for Gives {
     ghost right = { hand_of };
 }
 
-/// One part of a tally is cut off.
+/// Splits off one part of a tally.
 pub struct OnePart;
 
 impl<K> Split<View<K>> for OnePart {
@@ -106,7 +107,7 @@ impl<K> Split<View<K>> for OnePart {
     ghost right = { one_part };
 }
 
-/// A tally's parts and receipts are taken in.
+/// Takes in a tally's parts and receipts.
 pub struct Takes;
 
 impl<K> Join<View<K>> for Takes {
@@ -123,10 +124,10 @@ pub type Cell<K> = RuledSeqCell<[u64; 1], View<K>, Counted, 1>;
 /// A pass of that cell. It has no bytes.
 pub type Knows<K> = Pass<[u64; 1], View<K>>;
 
-/// What a twin is made of: its first capacity, a new cell, and the cell's first pass.
+/// What a twin is created from: its initial capacity, a new cell, and the cell's first pass.
 ///
-/// A twin is made in a function that is generic in its `Identity`, called with `Brand`:
-/// there the call picks the opening's own name.
+/// A twin is created in a function that is generic in its `Identity` and called with `Brand`: that
+/// call picks the opening's own name.
 #[derive(Drop)]
 pub struct Opening<K> {
     pub(crate) capacity: u64,
@@ -147,8 +148,8 @@ impl<K> Model for Opening<K> {
 }
 
 impl<K> Opening<K> {
-    /// For a twin that settles to `capacity` until another is set. `Memory` where there is no room
-    /// for the cell.
+    /// Creates an opening for a twin with this capacity. Returns `Memory` if there is no room for
+    /// the cell.
     pub fn new(alloc: Global, capacity: u64) -> Result<Opening<K>, Refusal>
         ensures capacity { IfOk result (λ o. o.capacity ≡ capacity) }
         ensures memory { IfErr result (λ e. e ≡ Refusal.Memory) }
@@ -164,10 +165,10 @@ impl<K> Opening<K> {
     }
 }
 
-/// Some of the million parts of a twin, and the receipts of accepted calls: of each its record,
-/// and the position of that record among all. It has no bytes.
+/// Some of the million parts of a twin, and the receipts of accepted calls: each is a record and
+/// its position among all records. It has no bytes.
 ///
-/// Whoever calls the twin needs a tally with a part; whoever has all parts has all receipts.
+/// A caller of the twin needs a tally with a part; whoever has all parts has all receipts.
 #[derive(Drop)]
 pub struct Tally<K, I: Identity> {
     pub(crate) pass: Knows<K>,

@@ -1,5 +1,7 @@
 //! The twin: a journal that threads share, each with a tally of its own calls.
-//! A call takes the lock once, for one step of the journal, by a door that drops what it evicted.
+//!
+//! A call acquires the lock once, for one step of the journal, and drops what it evicted after
+//! releasing it.
 ghost use Rattle.std.specs.Prelude.{◌≡◌, ◌≢◌, ◌-◌, ◌<◌, [], true, IfErr, IfOk, IfSome};
 ghost use Rattle.std.specs.Arc.{arc_value};
 ghost use Rattle.std.specs.Fn.{FnOnceReturnsAt, FnOnceTakesAt};
@@ -25,11 +27,11 @@ use std::sync::{Arc, Wait};
 
 /// A journaled cache that threads share.
 ///
-/// Each call is handed the caller's tally. An accepted call adds one receipt to it, the record of
-/// its own step and reply, at a position past all that the tally had (a `read` that finds its
-/// value adds two); a refused one leaves the tally. Any call may be refused with `Memory`, where
-/// there is no room for its record or for the record's copy of the key; this comes before
-/// `Overflow` and `Stale`.
+/// Each call takes the caller's tally. An accepted call adds one receipt to it, the record of its
+/// own step and reply, at a position past all that the tally had (a `read` that finds its value
+/// adds two); a refused one leaves the tally as it was. Any call returns `Memory` if there is no
+/// room for its record or for the record's copy of the key. This check precedes `Overflow` and
+/// `Stale`.
 #[derive(Drop)]
 pub struct LruCache<K: Hash + Eq + Clone, V, R, I: Identity> {
     door: Door<K, V, R, I>,
@@ -41,8 +43,8 @@ impl<
     R: Wait + Drop,
     I: Identity,
 > LruCache<K, V, R, I> {
-    /// An empty twin that settles to the opening's capacity until another is set, and its first
-    /// tally, which has all parts. Takes no memory.
+    /// Creates an empty twin with the opening's capacity, and its first tally, which has all parts.
+    /// Takes no memory.
     pub fn new(alloc: Global, rt: R, opening: Opening<K>) -> (LruCache<K, V, R, I>, Tally<K, I>)
         requires named { opening ≡ I.name }
         requires copies { CopiesAreEqual K.is_clone K.eq }
@@ -69,9 +71,9 @@ impl<
         (twin, tally)
     }
 
-    /// Asks for the value of a key and pins its entry, which is made where there is none.
+    /// Asks for the value of a key and pins its entry, inserting one if there is none.
     ///
-    /// `Overflow` as `Journal::begin` says.
+    /// Returns `Overflow` as `Journal::begin` does.
     pub fn begin(
         &self,
         tally: &mut Tally<K, I>,
@@ -88,9 +90,9 @@ impl<
         Ok(Started::of(begun))
     }
 
-    /// Asks again for a value that was being made, by the stamp that `begin` gave.
+    /// Asks again for a value that was being made, by the stamp that `begin` returned.
     ///
-    /// `Stale` where no held entry has the stamp.
+    /// Returns `Stale` if no held entry has the stamp.
     pub fn poll(&self, tally: &mut Tally<K, I>, stamp: u64) -> Result<Started<V>, Refusal>
         ensures tallied { IsTallied tally.old (λ started r. r ≡ record_of (ask.poll stamp) (told_of_started started)) result tally.new }
         ensures parts { tally.new.parts ≡ tally.old.parts }
@@ -100,9 +102,9 @@ impl<
         Ok(Started::of(begun))
     }
 
-    /// Gives the value of an entry that is being made. A refusal hands it back.
+    /// Stores the value of an entry that is being made. A refusal returns the value.
     ///
-    /// `Stale` where no entry is being made under that stamp.
+    /// Returns `Stale` if no entry is being made under that stamp.
     pub fn ready(
         &self,
         tally: &mut Tally<K, I>,
@@ -117,9 +119,9 @@ impl<
         self.door.enter().call(tally, step::Ready { stamp, value })
     }
 
-    /// Gives a making up, and the pin with it.
+    /// Gives up making a value, and releases the maker's pin.
     ///
-    /// `Stale` where no entry is being made under that stamp.
+    /// Returns `Stale` if no entry is being made under that stamp.
     pub fn fail(&self, tally: &mut Tally<K, I>, stamp: u64) -> Result<Failed<K>, Refusal>
         ensures tallied { IsTallied tally.old (λ failed r. r ≡ record_of (ask.fail stamp) (told_of_failed failed)) result tally.new }
         ensures parts { tally.new.parts ≡ tally.old.parts }
@@ -128,9 +130,9 @@ impl<
         self.door.enter().call(tally, step::Fail { stamp })
     }
 
-    /// The value of a key that is ready, pinned once more.
+    /// Returns a pin of a key's value, or `None` if there is no ready value.
     ///
-    /// `Overflow` where the entry has the greatest number of pins.
+    /// Returns `Overflow` if the entry has the maximum number of pins.
     pub fn get(&self, tally: &mut Tally<K, I>, key: &K) -> Result<Option<Pin<V>>, Refusal>
         ensures tallied { IsTallied tally.old (λ found. IsOfCopy K.eq key.now (λ copy. record_of (ask.get copy) (told_of_pin found))) result tally.new }
         ensures parts { tally.new.parts ≡ tally.old.parts }
@@ -140,18 +142,18 @@ impl<
         Ok(pin_of(found))
     }
 
-    /// Reads the value of a key that is ready, without a pin: the stamp of its entry, and what
-    /// `reader` answers of the value. None where the key has no entry or its value is still being
-    /// made; `reader` is then dropped uncalled. It copies no value.
+    /// Calls `reader` with the value of a key, if it is ready, and returns its result with the
+    /// entry's stamp. Returns `None` if the key has no entry or its value is still being made;
+    /// `reader` is then dropped without being called. It copies no value.
     ///
-    /// It adds two receipts, one after the other: those of a `get` and of the release of its
-    /// stamp. Where nothing is found, it adds that of the `get` alone.
+    /// Adds two receipts, those of a `get` and of the release of its stamp, in this order, or that
+    /// of the `get` alone if there is no value.
     ///
-    /// `reader` runs, or is dropped, under the lock, so it should be short, and it must not use
-    /// this cache: such a call would wait for itself.
+    /// `reader` runs, or is dropped, under the lock. It should be short, and must not use this
+    /// cache, since such a call would deadlock.
     ///
-    /// `Overflow` where the entry has the greatest number of pins; `Memory` where there is no room
-    /// for two records, whether or not the value is there.
+    /// Returns `Overflow` if the entry has the maximum number of pins, and `Memory` if there is no
+    /// room for two records, whether or not there is a value.
     pub fn read<T, G>(
         &self,
         tally: &mut Tally<K, I>,
@@ -169,9 +171,9 @@ impl<
         self.door.enter().read(tally, key, reader)
     }
 
-    /// Gives a pin back. A refusal hands it back to the caller.
+    /// Releases a pin. A refusal returns the pin.
     ///
-    /// `Stale` where no held and ready entry has its stamp.
+    /// Returns `Stale` if no held and ready entry has its stamp.
     pub fn release(&self, tally: &mut Tally<K, I>, pin: Pin<V>) -> Result<(), (Refusal, Pin<V>)>
         ensures tallied { IsTallied tally.old (λ _ r. r ≡ record_of (ask.release pin.stamp) Told.Done) result tally.new }
         ensures parts { tally.new.parts ≡ tally.old.parts }
@@ -188,7 +190,7 @@ impl<
         }
     }
 
-    /// Evicts the entry of a key, where it is idle; else nothing happens.
+    /// Evicts the entry of a key if it is idle. Otherwise nothing happens.
     pub fn advice_evict(&self, tally: &mut Tally<K, I>, key: &K) -> Result<(), Refusal>
         ensures tallied { IsTallied tally.old (λ _. IsOfCopy K.eq key.now (λ copy. record_of (ask.advice_evict copy) Told.Done)) result tally.new }
         ensures parts { tally.new.parts ≡ tally.old.parts }
@@ -199,11 +201,11 @@ impl<
         Ok(())
     }
 
-    /// Takes the value of a key back: whoever asks for the key after this call gets a value that is
-    /// made after it. An idle entry is evicted; a held one is detached from its key and stays for
-    /// its holders, until the last pin is given back.
+    /// Invalidates a key: whoever asks for it after this call gets a value that is made after it.
+    /// An idle entry is evicted; a held one is detached from its key and stays for its holders
+    /// until the last pin is released.
     ///
-    /// A refusal leaves the key its value.
+    /// If the call is refused, the key keeps its value.
     pub fn invalidate(&self, tally: &mut Tally<K, I>, key: &K) -> Result<(), Refusal>
         ensures tallied { IsTallied tally.old (λ _. IsOfCopy K.eq key.now (λ copy. record_of (ask.invalidate copy) Told.Done)) result tally.new }
         ensures parts { tally.new.parts ≡ tally.old.parts }
@@ -225,10 +227,10 @@ impl<
         Ok(())
     }
 
-    /// Sets the capacity, in the units of charges, and settles to it at once: idle entries leave,
-    /// oldest release first, until the total fits or none is idle. Pinned entries stay.
+    /// Sets the capacity, in the unit of the charges, and evicts idle entries, least recently
+    /// released first, while the total is above it. Pinned entries stay.
     ///
-    /// A refusal leaves the capacity as it was.
+    /// If the call is refused, the capacity stays as it was.
     pub fn set_capacity(&self, tally: &mut Tally<K, I>, capacity: u64) -> Result<(), Refusal>
         ensures tallied { IsTallied tally.old (λ _ r. r ≡ record_of (ask.set_capacity capacity) Told.Done) result tally.new }
         ensures parts { tally.new.parts ≡ tally.old.parts }
@@ -242,7 +244,7 @@ impl<
         Ok(())
     }
 
-    /// The sum of the charges of all entries, those still being made included.
+    /// Returns the sum of the charges of all entries, including those still being made.
     pub fn total(&self, tally: &mut Tally<K, I>) -> Result<u64, Refusal>
         ensures tallied { IsTallied tally.old (λ total r. r ≡ record_of ask.total (Told.Total total)) result tally.new }
         ensures parts { tally.new.parts ≡ tally.old.parts }
@@ -251,9 +253,9 @@ impl<
         self.door.enter().call(tally, step::Total)
     }
 
-    /// The journal, for whoever has the whole tally. Its records are one legal history from the
-    /// empty cache with the opening's capacity, whichever was set since, and position by position
-    /// they are exactly the tally's receipts: each accepted call stands there once.
+    /// Returns the journal to whoever has the whole tally. Its records are one legal history from
+    /// the empty cache with the opening's capacity, whichever was set since, and position by
+    /// position they are exactly the tally's receipts: each accepted call occurs once.
     pub fn into_journal(self, tally: Tally<K, I>) -> Journal<K, V>
         requires { tally.parts ≡ all_parts }
         ensures exactly { AreExactly result.records tally.receipts }
@@ -262,14 +264,15 @@ impl<
     {
         let LruCache { door } = self;
         let journal = door.close(tally);
-        // Its invariant, as a clause.
+        // States its invariant as a clause.
         let _records = journal.records();
         journal
     }
 }
 
 impl<K: Hash + Eq + Clone, I: Identity> Tally<K, I> {
-    /// Gives one part of two or more away, without receipts. Takes no lock and no memory.
+    /// Splits off one part of a tally that has two or more, without receipts. Acquires no lock and
+    /// takes no memory.
     pub fn split<V, R>(&mut self, cache: &LruCache<K, V, R, I>) -> Tally<K, I>
         requires { 1 < self.old.parts }
         ensures given { result ≡ hand 1 [] }
@@ -282,7 +285,7 @@ impl<K: Hash + Eq + Clone, I: Identity> Tally<K, I> {
         }
     }
 
-    /// Takes in another tally's parts and receipts. Takes no lock and no memory.
+    /// Takes in another tally's parts and receipts. Acquires no lock and takes no memory.
     pub fn join<V, R>(&mut self, cache: &LruCache<K, V, R, I>, other: Tally<K, I>)
         ensures { self.new ≡ hand_with_hand self.old other }
     {

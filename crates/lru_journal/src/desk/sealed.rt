@@ -1,12 +1,12 @@
-//! What a call under the lock leaves to be dropped without it, as a debt: a type that is not
-//! `Drop`, so that the checker refuses a path on which it is let go.
+//! What a call under the lock leaves to be dropped without it, as an obligation: a type that is not
+//! `Drop`, so that the checker refuses a path that forgets it.
 ghost use Rattle.std.specs.Prelude.{◌≡◌};
 
 use std::marker::Model;
 use std::sync::MutexGuard;
 
-/// A debt: what a call under the lock took out of the cache, so that nothing of it is dropped under
-/// the lock. `open` takes it, with the guard.
+/// An obligation: what a call under the lock took out of the cache, so that nothing of it is
+/// dropped under the lock. `open` takes it, with the guard.
 ///
 /// Clauses see what was taken out.
 pub struct Sealed<T> {
@@ -27,7 +27,7 @@ impl<T> Sealed<T> {
         Sealed { inner }
     }
 
-    /// Lets the lock go, and then answers what was sealed under it.
+    /// Releases the lock, and then returns what was sealed under it.
     pub(crate) fn open<L: Drop>(self, guard: MutexGuard<'_, L>) -> T
         ensures { result ≡ self }
     {

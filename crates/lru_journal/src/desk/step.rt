@@ -1,5 +1,6 @@
 //! The steps of a journal as values, each with what is recorded of it and how it may be refused.
-//! A step is one call of the journal; what it answers goes out as it is, to be sealed.
+//!
+//! A step is one call of the journal. Its answer is returned as it is, to be sealed.
 ghost use Rattle.std.specs.Prelude.{◌<◌, IfErr};
 ghost use Rattle.lru_journal.specs.Journals.{IsRecorded};
 
@@ -10,10 +11,10 @@ use std::sync::Arc;
 
 /// A step of the journal.
 pub trait Call<K: Hash + Eq + Clone, V> {
-    /// What an accepted step answers.
+    /// The answer of an accepted step.
     type Answer;
 
-    /// What a refused step answers.
+    /// The answer of a refused step.
     type Refused;
 
     ghost use Rattle.lru_journal.specs.declared.record.Record.{Record};
