@@ -1,5 +1,4 @@
 //! Why a block was not read.
-//! Each fault leaves nothing behind: a cache that meets one has no page of that block.
 ghost use Rattle.std.specs.Prelude.{◌≢◌};
 
 use std::io::ErrorKind;
@@ -8,19 +7,19 @@ use std::{fmt, io};
 /// Why a block was not read.
 #[derive(Clone, Copy, Debug)]
 pub enum Fault {
-    /// It begins past the end of what was cut into blocks.
+    /// It begins past the end of the blocks.
     PastEnd,
     /// There is no memory for its bytes.
     Memory,
-    /// The file ended before the block did: it is shorter now than when it was opened, or it never
-    /// had the length that the system told, as some of the system's own files do not.
+    /// The file ended before the block did: it is shorter than when it was opened, or it never had
+    /// the length that the system reported, as some of the system's own files do not.
     Short,
     /// The read failed, with the system's error.
     Read(io::Error),
 }
 
 impl Fault {
-    // The fault of a read that failed.
+    // Converts the error of a read.
     pub(crate) fn of_read(error: io::Error) -> Fault
         ensures { result ≢ Fault.PastEnd }
     {

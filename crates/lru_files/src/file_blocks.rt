@@ -1,5 +1,6 @@
-//! A file as blocks of a size: the reader of a page cache over a file.
-//! Its contract says which offset and how many bytes are read for a number.
+//! A file as blocks of equal size: the reader of a page cache over a file.
+//!
+//! Its contract states which offset and how many bytes are read for a number.
 ghost use Rattle.std.specs.Prelude.{◌≡◌, ℕ, ◌<◌, ◌≤◌, ◌↔◌, IfOk, IfSome, IfNone, IsTrue};
 ghost use Rattle.lru_files.specs.Cuts.{start_of, count_of};
 
@@ -13,15 +14,15 @@ use std::fs::{File, Files, Metadata};
 use std::marker::Model;
 use std::path::AsPath;
 
-/// A file as blocks of a size: block n has the bytes from n times the size on, and the last has
-/// what is left. S is `File`, or what stands in for one.
+/// A file as blocks of `size` bytes: block n starts at byte n times `size`, and the last block may
+/// be shorter. `S` is `File` or a substitute for it.
 ///
-/// The length is that when the file was opened: what was written to its end since is in no block,
-/// and where it was cut short the blocks that lost bytes are `Short`. Bytes that were overwritten
-/// are read as they are then; a page that was read before keeps those that it has.
+/// The length is that of the file when it was opened: bytes appended since are in no block, and
+/// blocks that lost bytes when it was truncated are `Short`. Overwritten bytes are read as they are
+/// then; a page that was read before keeps its bytes.
 ///
-/// Clauses see the source, the length and the size of a block. Which bytes of a block the disk
-/// gave is a thing that no contract says.
+/// Clauses see the source, the length and the size of a block. No contract states which bytes of a
+/// block the disk returned.
 #[derive(Drop)]
 pub struct FileBlocks<S: ReadAt = File> {
     alloc: Global,
@@ -42,10 +43,11 @@ impl<S: ReadAt> Model for FileBlocks<S> {
 }
 
 impl FileBlocks<File> {
-    /// Opens a file for reading, as blocks of `size` bytes. It stays open as long as the blocks.
+    /// Opens a file for reading, as blocks of `size` bytes. It stays open as long as the blocks
+    /// exist.
     ///
-    /// `Folder` and `Special` where the path is that of no file of bytes, which is not opened;
-    /// `System` where nothing is there, where it may not be read, or where the system fails.
+    /// Returns `Folder` or `Special`, without opening it, if the path is not that of a regular
+    /// file; and `System` if there is no file, if it may not be read, or if the system fails.
     pub fn open<F: Files<File = File>, P: AsPath + Copy>(
         alloc: Global,
         files: &F,
@@ -55,7 +57,7 @@ impl FileBlocks<File> {
         requires { 0 < size }
         ensures { IfOk result (λ blocks. blocks.size ≡ size) }
     {
-        // A pipe waits for its writer when it is opened, so what it is comes first.
+        // Opening a pipe waits for its writer, so the type of the file is checked first.
         file_len(&fs::metadata(files, path)?)?;
         let file = File::open(files, path)?;
         let len = file_len(&file.metadata()?)?;
@@ -64,7 +66,7 @@ impl FileBlocks<File> {
 }
 
 impl<S: ReadAt> FileBlocks<S> {
-    /// The first `len` bytes of a source, as blocks of `size` bytes. Takes no memory.
+    /// Creates blocks of `size` bytes from the first `len` bytes of a source. Takes no memory.
     pub fn new(alloc: Global, source: S, len: u64, size: u64) -> Self
         requires { 0 < size }
         ensures { result ≡ record { source = source; len = len; size = size } }
@@ -77,31 +79,30 @@ impl<S: ReadAt> FileBlocks<S> {
         }
     }
 
-    /// The source that the blocks are read from.
+    /// Returns the source of the blocks.
     pub fn source(&self) -> &S
         ensures { result.now ≡ self.now.source }
     {
         &self.source
     }
 
-    /// How many bytes all blocks have together: the length given to `new`, or that of the file when
-    /// it was opened.
+    /// Returns the total length of all blocks in bytes: the length passed to `new`, or that of the
+    /// file when it was opened.
     pub fn len(&self) -> u64
         ensures { result ≡ self.now.len }
     {
         self.len
     }
 
-    /// Whether there is no block.
+    /// Returns whether there are no blocks.
     pub fn is_empty(&self) -> bool
         ensures { IsTrue result ↔ (self.now.len ≡ 0) }
     {
         self.len == 0
     }
 
-    /// The number of blocks: the length divided by the size of a block, rounded up. Blocks are
-    /// numbered from 0, so block n exists exactly where n is below the count; from there on each
-    /// is `PastEnd`.
+    /// Returns the number of blocks: the length divided by the size of a block, rounded up. Blocks
+    /// are numbered from 0; a number that is not below the count is `PastEnd`.
     pub fn count(&self) -> u64
         ensures count { result ≡ count_of self.now }
         ensures past { (n : ℕ) → (result ≤ n) ↔ (self.now.len ≤ start_of self.now n) }
@@ -109,7 +110,7 @@ impl<S: ReadAt> FileBlocks<S> {
         self.len.div_ceil(self.size)
     }
 
-    /// The number of bytes of each block but the last, which may be shorter.
+    /// Returns the number of bytes of each block except the last, which may be shorter.
     pub fn size(&self) -> u64
         ensures size { result ≡ self.now.size }
         ensures above { 0 < result }
@@ -117,7 +118,7 @@ impl<S: ReadAt> FileBlocks<S> {
         self.size
     }
 
-    // Where a block begins; none where that is past the end.
+    // Returns where a block begins, or `None` if that is past the end.
     fn start(&self, number: u64) -> Option<u64>
         ensures start { IfSome result (λ start. start ≡ start_of self.now number) }
         ensures inside { IfSome result (λ start. start < self.now.len) }
@@ -159,7 +160,7 @@ impl<S: ReadAt> Blocks for FileBlocks<S> {
     }
 }
 
-// The length of a file of bytes.
+// Returns the length of a regular file.
 fn file_len(metadata: &Metadata) -> Result<u64, OpenError> {
     if metadata.is_dir() {
         return Err(OpenError::Folder);

@@ -1,4 +1,4 @@
-//! Why a file was not opened as one of blocks.
+//! Why a file was not opened as blocks.
 
 use std::{fmt, io};
 
@@ -10,8 +10,8 @@ pub enum OpenError {
     /// It is neither a regular file nor a directory but a device, a pipe or a socket, which has no
     /// length.
     Special,
-    /// The system's error: `NotFound` where nothing is there, `PermissionDenied` where it may not
-    /// be read.
+    /// The system's error: `NotFound` if there is no file, `PermissionDenied` if it may not be
+    /// read.
     System(io::Error),
 }
 

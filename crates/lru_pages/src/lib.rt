@@ -1,5 +1,5 @@
-//! A cache of pages, over any reader of blocks: whoever gets the page of a number reads that block
-//! of its reader, on any thread, whatever the others do.
+//! A cache of pages over any reader of blocks: a page with some number holds that block of its
+//! reader, on any thread, whatever other threads do.
 #![tactic(auto)]
 
 mod blocks;

@@ -1,5 +1,6 @@
-//! A page: the bytes of a block, and whose block they are.
-//! Its type keeps that they are, so no page with other bytes can be made.
+//! A page: the bytes of a block, with its reader and its number.
+//!
+//! The type's invariant relates the three, so no page with other bytes can be made.
 ghost use Rattle.std.specs.Prelude.{◌≡◌, IfOk, IfErr};
 
 use crate::blocks::Blocks;
@@ -29,7 +30,7 @@ impl<'a, B: Blocks> Model for Page<'a, B> {
 }
 
 impl<'a, B: Blocks> Page<'a, B> {
-    // Reads the block of a number. The reader's fault where it has one.
+    // Reads a block. Returns the reader's fault if it has one.
     pub(crate) fn read(reader: &'a B, number: u64) -> Result<Self, B::Fault>
         ensures reader { IfOk result (λ p. p.reader ≡ reader.now) }
         ensures number { IfOk result (λ p. p.number ≡ number) }
@@ -43,14 +44,14 @@ impl<'a, B: Blocks> Page<'a, B> {
         })
     }
 
-    /// The number of the block.
+    /// Returns the number of the block.
     pub fn number(&self) -> u64
         ensures { result ≡ self.now.number }
     {
         self.number
     }
 
-    /// The bytes of the block.
+    /// Returns the bytes of the block.
     pub fn bytes(&self) -> &[u8]
         ensures bytes { result.now ≡ self.now.bytes }
         ensures block { B.is_block self.now.reader self.now.number result.now }
@@ -58,7 +59,7 @@ impl<'a, B: Blocks> Page<'a, B> {
         self.bytes.as_slice()
     }
 
-    /// The reader whose block it is.
+    /// Returns the reader of the block.
     pub fn reader(&self) -> &'a B
         ensures { result.now ≡ self.now.reader }
     {
@@ -66,7 +67,7 @@ impl<'a, B: Blocks> Page<'a, B> {
     }
 }
 
-// The number and how many bytes there are: a cache of pages is printed under its lock.
+// Prints the number and the length only, since a cache of pages is printed under its lock.
 impl<B: Blocks> fmt::Debug for Page<'_, B> {
     fn fmt<W: fmt::Write>(&self, f: &mut fmt::Formatter<W>) -> fmt::Result {
         f.debug_struct("Page")

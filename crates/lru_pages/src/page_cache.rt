@@ -1,4 +1,5 @@
-//! A cache of pages that threads share: each block is read once, while its page is there.
+//! A cache of pages that threads share: a block is read only if its page is not in the cache.
+//!
 //! It is an unsharded cache with the mark `Numbered`, in which every page has the charge 1.
 ghost use Rattle.std.specs.Prelude.{◌≡◌, Some, IfOk, IfErr, IfSome};
 ghost use Rattle.std.specs.Fn.{FnOnceReturnsAt, FnOnceTakesAt};
@@ -12,8 +13,8 @@ use std::alloc::Global;
 use std::fmt;
 use std::sync::Wait;
 
-/// A cache of the pages of a reader, for any number of threads. R is the right to wait, which it
-/// was given when it was made.
+/// A cache of the pages of a reader, for any number of threads. `R` is the capability to wait,
+/// passed in at creation.
 #[derive(Drop)]
 pub struct PageCache<'a, B: Blocks, R: Wait> {
     reader: &'a B,
@@ -21,8 +22,8 @@ pub struct PageCache<'a, B: Blocks, R: Wait> {
 }
 
 impl<'a, B: Blocks, R: Wait> PageCache<'a, B, R> {
-    /// A cache of no pages that keeps those that nobody holds while there are no more than
-    /// `capacity` in all. Takes no memory.
+    /// Creates an empty cache that keeps unused pages while there are at most `capacity` pages in
+    /// all. Takes no memory.
     pub fn new(alloc: Global, rt: R, reader: &'a B, capacity: u64) -> Self {
         PageCache {
             reader,
@@ -30,14 +31,14 @@ impl<'a, B: Blocks, R: Wait> PageCache<'a, B, R> {
         }
     }
 
-    /// A handle of the page of a number. Where it isn't there its block is read, at the charge 1
-    /// and without the lock, by one caller, for which the others that ask for it wait.
+    /// Returns a handle of a page. If the page is not in the cache, one caller reads its block, at
+    /// the charge 1 and without the lock, and other callers that ask for it wait.
     ///
-    /// `Init` with the reader's fault where the block could not be read; `Memory` where the
-    /// page's shared copies are refused after that. Then nothing of the page stays, and what was
-    /// evicted for it stays evicted. `Memory` where room for the page is refused, and `Overflow`
-    /// where the page has the greatest number of handles, where the total is at its end, or where
-    /// as many pages were read as there are stamps: then nothing changed.
+    /// Returns `Init` with the reader's fault if the block could not be read, and `Memory` if the
+    /// page's shared copies are refused after that. What was evicted for the page then stays
+    /// evicted. Returns `Memory` if room for the page is refused, and `Overflow` if the page has
+    /// the maximum number of handles, if the total is at its maximum, or if there are no stamps
+    /// left: then no page changed.
     pub fn page(
         &self,
         number: u64,
@@ -52,15 +53,15 @@ impl<'a, B: Blocks, R: Wait> PageCache<'a, B, R> {
             .get_or_try_init(number, 1, |number| Page::read(reader, *number))
     }
 
-    /// Shows the bytes of the page of a number to `visit`, where it is there, and answers what
-    /// `visit` answers. None where the page is not there or is still being read; `visit` is then
-    /// dropped uncalled. It reads no block, makes no handle and takes no memory.
+    /// Calls `visit` with the bytes of a page, if it is in the cache, and returns its result.
+    /// Returns `None` if the page is not there or is still being read; `visit` is then dropped
+    /// without being called. It reads no block, makes no handle and takes no memory.
     ///
-    /// It counts as a `page` whose handle is dropped at once: a page that nobody holds becomes the
-    /// last to be evicted. `visit` runs, or is dropped, under the lock, so it should be short, and
-    /// it must not use this cache: such a call would wait for itself.
+    /// It counts as a `page` whose handle is dropped at once: an unused page becomes the last to be
+    /// evicted. `visit` runs, or is dropped, under the lock. It should be short, and must not use
+    /// this cache, since such a call would deadlock.
     ///
-    /// `Overflow` where the page has the greatest number of handles.
+    /// Returns `Overflow` if the page has the maximum number of handles.
     pub fn read<T, G>(&self, number: u64, visit: G) -> Result<Option<T>, Refusal>
     where
         G: FnOnce(&[u8]) -> T + Drop,
@@ -77,53 +78,52 @@ impl<'a, B: Blocks, R: Wait> PageCache<'a, B, R> {
         )
     }
 
-    /// Takes the page of a number back, for a block that was written again: whoever asks for the
-    /// number after this call gets a page that is read after it. A page that nobody holds is
-    /// evicted. One that is held keeps its bytes for those that hold it, and is counted until the
-    /// last of its handles is dropped; so is one that is still being read, for those that wait for
-    /// it. Takes no memory.
+    /// Invalidates a page, for a block that was written again: whoever asks for it after this call
+    /// gets a page that is read after it. An unused page is evicted. A held page keeps its bytes
+    /// for its holders, and counts until its last handle is dropped; so does one that is still
+    /// being read, for the callers that wait for it. Takes no memory.
     pub fn invalidate(&self, number: u64) {
         self.pages.invalidate(&number);
     }
 
-    /// Evicts every page that nobody holds. Takes no memory.
+    /// Evicts every unused page. Takes no memory.
     pub fn prune(&self) {
         self.pages.prune();
     }
 
-    /// How many pages there are, those that are held and those that are being read included, also
-    /// where they were invalidated. Takes no memory.
+    /// Returns the number of pages, including those that are held, being read, or invalidated while
+    /// they were held. Takes no memory.
     pub fn total_charge(&self) -> u64 {
         self.pages.total_charge()
     }
 
-    /// What the calls of this cache did since it was made, or since `reset_counts`. `makings` is
-    /// how often the reader was asked for a block, and `failures` how often it gave none, or there
-    /// was no memory for the page. A `read` that finds no page is a miss too, though it reads no
-    /// block. Takes no memory.
+    /// Returns the counts of this cache's calls since it was created or last reset. `makings` is
+    /// how often the reader was asked for a block, and `failures` how often it returned none, or
+    /// there was no memory for the page. A `read` that finds no page counts as a miss, though it
+    /// reads no block. Takes no memory.
     pub fn counts(&self) -> Counts {
         self.pages.counts()
     }
 
-    /// What `counts` answers; the counting begins anew at the pages that are there. Takes no
-    /// memory.
+    /// Returns what `counts` returns and resets all counts to 0; the counting starts again from the
+    /// pages that are present. Takes no memory.
     pub fn reset_counts(&self) -> Counts {
         self.pages.reset_counts()
     }
 
-    /// How many pages there may be for one that nobody holds to be kept. Takes no memory.
+    /// Returns the capacity in pages. Takes no memory.
     pub fn capacity(&self) -> u64 {
         self.pages.capacity()
     }
 
-    /// Sets the capacity; pages that nobody holds are evicted at once, the longest let go first,
-    /// while there are more than it. Takes no memory.
+    /// Sets the capacity in pages, and evicts unused pages, least recently released first, while
+    /// there are more. Takes no memory.
     pub fn set_capacity(&self, capacity: u64) {
         self.pages.set_capacity(capacity);
     }
 }
 
-// Pages by their numbers, under the lock.
+// Prints the pages by number, under the lock.
 impl<B: Blocks, R: Wait> fmt::Debug for PageCache<'_, B, R> {
     fn fmt<W: fmt::Write>(&self, f: &mut fmt::Formatter<W>) -> fmt::Result {
         self.pages.fmt(f)

@@ -1,4 +1,4 @@
-//! How many uses hit at every capacity, and the charge that is made at it.
+//! The number of hits at every capacity, and the charge that is made at it.
 ghost use Rattle.std.specs.Prelude.{◌≡◌, ◌+◌, ◌<◌, ◌≤◌, ℕ, IfOk, MatchOption, length, map, sum};
 ghost use Rattle.std.specs.List.Sorted.{IsPermutation, IsNonDecreasingBy};
 ghost use Rattle.lru_sizing.specs.Curves.{hits_in, charge_made_in, reused, IsCurveOf, IsLeastFor};
@@ -6,10 +6,10 @@ ghost use Rattle.lru_sizing.specs.Curves.{hits_in, charge_made_in, reused, IsCur
 use std::alloc::{AllocError, Global};
 use std::marker::Model;
 
-/// The reuse weights of a trace in order of size, with the charge made that goes with each.
+/// The reuse weights of a trace in ascending order, with the charge made that goes with each.
 ///
-/// Clauses see how many uses there are, these weights, and for each number of hits the charge that
-/// is made for the other uses (`StepCurve` of specs/Curves.antt).
+/// Clauses see the number of uses, these weights, and for each number of hits the charge that is
+/// made for the other uses (`StepCurve` of specs/Curves.antt).
 #[derive(Drop)]
 pub struct Curve {
     uses: usize,
@@ -30,8 +30,8 @@ impl Model for Curve {
 }
 
 impl Curve {
-    /// From a trace and the reuse weights of its uses. `AllocError` where the allocator refuses
-    /// memory, of which it takes some for each use that is not the first one of its key.
+    /// Creates a curve from a trace and its reuse weights. Allocates for each use that is not the
+    /// first of its key, and returns `AllocError` if the allocator refuses.
     pub fn new<K>(
         alloc: Global,
         trace: &[(K, u64)],
@@ -57,37 +57,37 @@ impl Curve {
         })
     }
 
-    /// How many uses the trace has.
+    /// Returns the number of uses in the trace.
     pub fn uses(&self) -> usize
         ensures { result ≡ self.now.uses }
     {
         self.uses
     }
 
-    /// How many uses hit at this capacity.
+    /// Returns the number of uses that hit at this capacity.
     pub fn hits(&self, capacity: u64) -> usize
         ensures { result ≡ hits_in capacity self.now }
     {
         self.weights.partition_point(|weight| *weight <= capacity)
     }
 
-    /// How many uses miss at this capacity.
+    /// Returns the number of uses that miss at this capacity.
     pub fn misses(&self, capacity: u64) -> usize
         ensures { result + hits_in capacity self.now ≡ self.now.uses }
     {
         self.uses - self.hits(capacity)
     }
 
-    /// The sum of the charges of the uses that miss at this capacity: what is made, for the first
-    /// time or again. A `u128`, since it may pass `u64::MAX`.
+    /// Returns the sum of the charges of the uses that miss at this capacity: what is made, for the
+    /// first time or again. It may exceed `u64::MAX`.
     pub fn charge_made(&self, capacity: u64) -> u128
         ensures { result ≡ charge_made_in capacity self.now }
     {
         self.made[self.hits(capacity)]
     }
 
-    /// How many uses hit where the capacity is large enough for all keys: no capacity has more
-    /// hits.
+    /// Returns the number of uses that hit if the capacity is large enough for all keys: no
+    /// capacity has more hits.
     pub fn most_hits(&self) -> usize
         ensures most { result ≡ length self.now.weights }
         ensures bound { (capacity : ℕ) → hits_in capacity self.now ≤ result }
@@ -95,7 +95,7 @@ impl Curve {
         self.weights.len()
     }
 
-    /// The least capacity at which so many uses hit; none where no capacity has so many.
+    /// Returns the least capacity with at least `hits` hits, or `None` if no capacity has so many.
     pub fn least_capacity(&self, hits: usize) -> Option<u64>
         ensures { MatchOption result (length self.now.weights < hits) (IsLeastFor hits (λ capacity. hits_in capacity self.now)) }
     {
@@ -106,7 +106,8 @@ impl Curve {
     }
 }
 
-// The reuse weights of the uses that have one, each with the charge of the use, in order of size.
+// Returns the reuse weights of the uses that have one, each with the charge of the use, in
+// ascending order.
 fn reused<K>(
     alloc: Global,
     trace: &[(K, u64)],
@@ -126,7 +127,7 @@ fn reused<K>(
     Ok(reused)
 }
 
-// The sum of the charges of all uses, which a `u128` holds however many there are.
+// Returns the sum of the charges of all uses, which cannot exceed a `u128`.
 fn total_charge<K>(trace: &[(K, u64)]) -> u128
     ensures { result ≡ sum (map (λ u. u.1) trace.now) }
 {

@@ -1,11 +1,10 @@
-//! Estimates of the hits at every capacity, from a sample of the keys: for traces that outgrow
-//! memory. No clause says how near an estimate is.
+//! Estimates of the hits at every capacity from a sample of the keys, for traces that outgrow
+//! memory. No clause states how near an estimate is.
 //!
-//! Keys are sampled at a fixed rate by a hash of the key, so that a sampled key keeps all its uses.
-//! A reuse weight within the sample stands for one that is as many times larger as keys are left
-//! out, and so does a count of misses for one in the whole trace. Misses are scaled and hits are
-//! what is left of all uses: hits of a few hot keys, which the sample may catch or not, would sway
-//! a scaled count of hits far more.
+//! Keys are sampled at a fixed rate by a hash of the key, so a sampled key keeps all its uses. A
+//! reuse weight in the sample is scaled by the rate, and so is a count of misses. Misses are scaled
+//! and hits are the rest, because a scaled count of hits would depend on whether a few hot keys are
+//! in the sample.
 
 ghost use Rattle.std.specs.Prelude.{◌≡◌, ◌<◌, ℕ, max, IfOk, IfErr, OnOk, MatchOption, length, vec_len, map};
 ghost use Rattle.concurrent_lru.specs.Uses.{HaveOneCharge};
@@ -20,16 +19,16 @@ use std::alloc::{AllocError, Global};
 use std::hash::{DefaultHasher, Hash, Hasher};
 use std::marker::Model;
 
-/// Which keys are sampled: about one in so many.
+/// The rate at which keys are sampled.
 #[derive(Clone, Copy, Debug, PartialEq, Eq)]
 pub struct Sample {
-    /// Of how many keys about one is sampled.
+    /// About one key in this many is sampled.
     pub one_in: u64,
     ghost some: { 0 < one_in },
 }
 
 impl Sample {
-    /// About one key in `one_in`; all of them where that is 1 or 0.
+    /// Samples about one key in `one_in`, or all of them if that is 1 or 0.
     pub fn one_in(one_in: u64) -> Sample
         ensures { result.one_in ≡ max one_in 1 }
     {
@@ -38,8 +37,8 @@ impl Sample {
         }
     }
 
-    /// Whether a key is sampled. Its hash alone decides that, so equal keys are answered alike, in
-    /// any run.
+    /// Returns whether a key is sampled. Only its hash decides that, so the result is the same for
+    /// equal keys, in any run.
     pub fn takes<K: Hash>(&self, key: &K) -> bool
         ensures { result ≡ is_sampled self.now.one_in (K.hash_input key.now) }
     {
@@ -51,9 +50,8 @@ impl Sample {
 
 /// An estimate of the hits of a trace at every capacity, from the uses of the sampled keys.
 ///
-/// Clauses see of how many keys one is sampled, how many uses there are, and the curve of the
-/// sampled uses (`EstimatedCurve` of specs/Estimates.antt): they tell what is estimated, and not
-/// how near that is.
+/// Clauses see the sampling rate, the number of uses, and the curve of the sampled uses
+/// (`EstimatedCurve` of specs/Estimates.antt): they state what is estimated, not how near that is.
 #[derive(Drop)]
 pub struct Estimate {
     sample: Sample,
@@ -72,10 +70,10 @@ impl Model for Estimate {
 }
 
 impl Estimate {
-    /// From the uses whose keys the sample takes, in their order, and the number of uses of the
-    /// whole trace.
+    /// Creates an estimate from the uses whose keys are sampled, in order, and the number of uses
+    /// in the whole trace.
     ///
-    /// Refused as `reuse_weights` refuses the sampled uses: places are places among these.
+    /// Returns the errors of `reuse_weights` on the sampled uses; their indices are among these.
     pub fn new<K: Hash + Eq>(
         alloc: Global,
         sample: Sample,
@@ -96,14 +94,14 @@ impl Estimate {
         })
     }
 
-    /// How many uses the whole trace has.
+    /// Returns the number of uses in the whole trace.
     pub fn uses(&self) -> u64
         ensures { result ≡ self.now.uses }
     {
         self.uses
     }
 
-    /// About how many uses miss at this capacity.
+    /// Returns an estimate of the number of uses that miss at this capacity.
     pub fn misses(&self, capacity: u64) -> u64
         ensures { result ≡ estimated_misses capacity self.now }
     {
@@ -111,21 +109,22 @@ impl Estimate {
         misses.saturating_mul(self.sample.one_in).min(self.uses)
     }
 
-    /// About how many uses hit at this capacity.
+    /// Returns an estimate of the number of uses that hit at this capacity.
     pub fn hits(&self, capacity: u64) -> u64
         ensures { result ≡ estimated_hits capacity self.now }
     {
         self.uses.saturating_sub(self.misses(capacity))
     }
 
-    /// About how many uses hit where the capacity is large enough for all keys.
+    /// Returns an estimate of the number of uses that hit if the capacity is large enough for all
+    /// keys.
     pub fn most_hits(&self) -> u64
         ensures { result ≡ estimated_hits u64.MAX self.now }
     {
         self.hits(u64::MAX)
     }
 
-    /// About the sum of the charges of the uses that miss at this capacity.
+    /// Returns an estimate of the sum of the charges of the uses that miss at this capacity.
     pub fn charge_made(&self, capacity: u64) -> u128
         ensures { result ≡ estimated_charge_made capacity self.now }
     {
@@ -133,7 +132,8 @@ impl Estimate {
         made.saturating_mul(u128::from(self.sample.one_in))
     }
 
-    /// The least capacity at which `hits` answers so many or more; none where no capacity does.
+    /// Returns the least capacity at which `hits` returns this many or more, or `None` if there is
+    /// none.
     pub fn least_capacity(&self, hits: u64) -> Option<u64>
         ensures { MatchOption result ((capacity : ℕ) → estimated_hits capacity self.now < hits) (IsLeastFor hits (λ capacity. estimated_hits capacity self.now)) }
     {
@@ -147,7 +147,7 @@ impl Estimate {
     }
 }
 
-// What these reuse weights within the sample stand for, one for each.
+// Scales each of these reuse weights in the sample.
 fn scaled<K>(
     alloc: Global,
     sample: Sample,
@@ -166,8 +166,8 @@ fn scaled<K>(
     Ok(scaled)
 }
 
-// What a reuse weight within the sample stands for: the charges of the other keys are scaled, and
-// the use's own is not, since its key is sampled. One past the greatest number is that number.
+// Scales a reuse weight in the sample: the charges of the other keys are scaled, and the use's own
+// is not, since its key is sampled. The result saturates.
 fn scaled_weight(sample: Sample, own: u64, weight: u64) -> u64
     ensures { result ≡ scaled_weight sample.one_in own weight }
 {

@@ -3,14 +3,14 @@
 use std::alloc::{AllocError, AllocFailed};
 use std::fmt;
 
-/// Why a trace is refused. Uses are told by their places in the trace, from 0.
+/// Why a trace is refused. Uses are identified by their index in the trace, from 0.
 #[derive(Clone, Copy, Debug, PartialEq, Eq)]
 pub enum Refusal {
     /// The allocator refused memory.
     Memory,
-    /// With this use the charges of the distinct keys sum to more than `u64::MAX`.
+    /// At this use, the charges of the distinct keys sum to more than `u64::MAX`.
     Overflow(usize),
-    /// These two uses of one key, the earlier one first, have two charges.
+    /// These two uses of one key, the earlier one first, have different charges.
     TwoCharges(usize, usize),
 }
 

@@ -1,4 +1,4 @@
-//! A trace, run through the cache of one owner.
+//! A trace, replayed through the cache for a single owner.
 ghost use Rattle.std.specs.Prelude.{◌≡◌, ◌<◌, ◌≤◌, ◌+◌, [], IfOk, IfErr, OnOk, IsTrue, map};
 ghost use Rattle.std.specs.List.{AllByRecursion};
 ghost use Rattle.std.specs.FinMap as finmap;
@@ -22,14 +22,14 @@ use std::collections::HashMap;
 use std::hash::Hash;
 use std::sync::Arc;
 
-/// Whether each use of a trace hits in a cache of this capacity that starts empty: the uses are
-/// begun in a `State` one after another, and each is released before the next. The answers are
-/// those that the reuse weights tell.
+/// Returns whether each use of a trace hits in a cache of this capacity that starts empty: the uses
+/// are begun in a `State` one after another, and each is released before the next. The results are
+/// those that the reuse weights imply.
 ///
-/// Each charge is above 0, as `State` wants it, which `has_charges` tests. `TwoCharges` where two
-/// uses of one key have two charges; `Overflow` where the charges of the distinct keys up to a use
-/// sum to more than `u64::MAX`, and the cache refuses that use; `Memory` where the allocator
-/// refuses.
+/// Each charge is above 0, as `State` requires; `has_charges` tests this. Returns `TwoCharges` if
+/// two uses of one key have different charges, `Overflow` if the charges of the distinct keys up to
+/// a use sum to more than `u64::MAX`, so that the cache refuses that use, and `Memory` if the
+/// allocator refuses.
 pub fn replay<K: Hash + Eq + Clone + Drop>(
     alloc: Global,
     trace: &[(K, u64)],
@@ -56,7 +56,7 @@ pub fn replay<K: Hash + Eq + Clone + Drop>(
     Ok(hits)
 }
 
-/// Whether each charge of a trace is above 0, as `replay` wants it.
+/// Returns whether each charge of a trace is above 0, as `replay` requires.
 pub fn has_charges<K>(trace: &[(K, u64)]) -> bool
     ensures { IsTrue result → AllByRecursion (λ u. 0 < u.1) trace.now }
 {
@@ -68,7 +68,7 @@ pub fn has_charges<K>(trace: &[(K, u64)]) -> bool
     true
 }
 
-// Refuses a trace in which two uses of one key have two charges.
+// Refuses a trace in which two uses of one key have different charges.
 fn check_charges<K: Hash + Eq>(alloc: Global, trace: &[(K, u64)]) -> Result<(), Refusal>
     ensures ok { OnOk result (HaveOneCharge K.eq trace.now) }
     ensures err { IfErr result (λ e. IsRefusedFor K.eq trace.now e) }
@@ -85,8 +85,8 @@ fn check_charges<K: Hash + Eq>(alloc: Global, trace: &[(K, u64)]) -> Result<(), 
     Ok(())
 }
 
-// Uses a key in a cache that holds nothing: begins, makes the value where it is not there, and
-// releases. Whether it hit.
+// Uses a key in a cache that holds nothing: begins, makes the value if there is none, and releases.
+// Returns whether it hit.
 fn use_once<K: Hash + Eq + Clone + Drop>(
     cache: &mut State<K, ()>,
     key: &K,
@@ -114,7 +114,7 @@ fn use_once<K: Hash + Eq + Clone + Drop>(
     }
 }
 
-// Gives the value of an entry that is being made.
+// Stores the value of an entry that is being made.
 fn give<K: Hash + Eq + Clone + Drop>(cache: &mut State<K, ()>, stamp: u64, value: Arc<()>)
     requires { (e : Held K (Unit {0})) × Holds cache.old.cache stamp e making }
     ensures { Step K.eq cache.old.cache (ask.ready stamp (arc_value value)) say.done [] cache.new.cache }
@@ -125,7 +125,7 @@ fn give<K: Hash + Eq + Clone + Drop>(cache: &mut State<K, ()>, stamp: u64, value
     }
 }
 
-// Gives a pin of a ready entry back.
+// Releases a pin of a ready entry.
 fn release<K: Hash + Eq + Clone + Drop>(cache: &mut State<K, ()>, stamp: u64) -> Evicted<K, ()>
     requires { (e : Held K (Unit {0})) × (v : Unit {0}) × Holds cache.old.cache stamp e (ready v) }
     ensures { Step K.eq cache.old.cache (ask.release stamp) say.done result cache.new.cache }

@@ -10,12 +10,12 @@ use std::alloc::Global;
 use std::collections::HashMap;
 use std::hash::Hash;
 
-/// The reuse weight of each use of a trace, in order; none for the first use of a key. A use is a
-/// key and its charge.
+/// Returns the reuse weight of each use of a trace, in order, with `None` for the first use of a
+/// key. A use is a key and its charge.
 ///
-/// Takes a time that grows with the number of uses and its logarithm, and memory for each use.
-/// `TwoCharges` where two uses of one key have two charges; `Overflow` where the charges of the
-/// distinct keys sum to more than `u64::MAX`; `Memory` where the allocator refuses.
+/// Takes memory for each use. Returns `TwoCharges` if two uses of one key have different charges,
+/// `Overflow` if the charges of the distinct keys sum to more than `u64::MAX`, and `Memory` if the
+/// allocator refuses.
 pub fn reuse_weights<K: Hash + Eq>(
     alloc: Global,
     trace: &[(K, u64)],
@@ -25,7 +25,7 @@ pub fn reuse_weights<K: Hash + Eq>(
     ensures charged { OnOk result (HaveOneCharge K.eq trace.now) }
     ensures err { IfErr result (λ e. IsRefusedFor K.eq trace.now e) }
 {
-    // At the place of the last use of each key its charge, and 0 at all others.
+    // The charge of each key at the index of its last use so far, and 0 elsewhere.
     let mut charges = SumTree::zeros(alloc, trace.len())?;
     let mut last_places: HashMap<&K, usize> = HashMap::new(alloc);
     let mut total = 0;

@@ -1,17 +1,15 @@
-//! Numbers in places: any may be written, and the numbers from any place on summed, in a time that
-//! grows with the logarithm of how many places there are.
+//! A list of numbers with sums of its suffixes. A write and a sum each walk one path of a tree.
 ghost use Rattle.std.specs.Prelude.{◌≡◌, ◌+◌, ◌<◌, ◌≤◌, ◌^◌, IfOk, length, replicate, drop, slice_set, sum};
 ghost use Rattle.lru_sizing.specs.SumTrees.{IsSumTree};
 
 use std::alloc::{AllocError, Global};
 use std::marker::Model;
 
-/// A list of numbers whose sum fits a `u64`, with sums of parts of it at hand. Clauses see the
-/// list.
+/// A list of numbers whose sum fits a `u64`, with partial sums. Clauses see the list.
 ///
-/// The numbers are the second half of `nodes`. Each node of the first half, but the one at 0, is
-/// the sum of the two at twice its place and behind it. That is right for any count, so nothing is
-/// rounded up to a power of two.
+/// The numbers are the second half of `nodes`. Each node of the first half, except node 0, is the
+/// sum of the two at twice its index and after it. That holds for any count, so nothing is rounded
+/// up to a power of two.
 #[derive(Drop)]
 pub struct SumTree {
     count: usize,
@@ -31,7 +29,8 @@ impl Model for SumTree {
 }
 
 impl SumTree {
-    /// As many zeros as `count`. `AllocError` where the allocator refuses memory for them.
+    /// Creates a list of `count` zeros. Returns `AllocError` if the allocator refuses memory for
+    /// them.
     pub fn zeros(alloc: Global, count: usize) -> Result<SumTree, AllocError>
         ensures { IfOk result (λ tree. tree ≡ replicate count 0) }
     {
@@ -42,7 +41,7 @@ impl SumTree {
         Ok(SumTree { count, nodes })
     }
 
-    /// Writes a number in a place.
+    /// Sets the number at `place`.
     pub fn set(&mut self, place: usize, number: u64)
         requires within { place < length self.old }
         requires sum { sum (slice_set self.old place number) < 2 ^ 64 }
@@ -51,7 +50,7 @@ impl SumTree {
         write(&mut self.nodes, self.count, place, number);
     }
 
-    /// The sum of the numbers from a place on.
+    /// Returns the sum of the numbers from `place` on.
     pub fn sum_from(&self, place: usize) -> u64
         requires { place ≤ length self.now }
         ensures { result ≡ sum (drop place self.now) }
@@ -60,7 +59,7 @@ impl SumTree {
     }
 }
 
-// Writes the node of a place, and mends those above it.
+// Writes the node of a place, and updates those above it.
 fn write(nodes: &mut [u64], count: usize, place: usize, number: u64)
     requires within { place < count }
     requires tree { IsSumTree count nodes.old }
@@ -76,9 +75,9 @@ fn write(nodes: &mut [u64], count: usize, place: usize, number: u64)
     }
 }
 
-// The sum of the numbers from a place on. The nodes between `from` and `end` are those left to sum:
-// at each turn the ones at either side whose neighbor is not among them are summed, and then the
-// nodes above stand for all others.
+// Returns the sum of the numbers from `place` on. The nodes between `from` and `end` are those left
+// to sum: each turn sums the ones at either side whose sibling is not among them, and then their
+// parents stand for all others.
 fn sum_of_end(nodes: &[u64], count: usize, place: usize) -> u64
     requires within { place ≤ count }
     requires tree { IsSumTree count nodes.now }
