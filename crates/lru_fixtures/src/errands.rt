@@ -1,5 +1,5 @@
-//! Values that use the cache when they are dropped. A value can't name the cache that it is in, so
-//! it asks another thread, which does it while the drop waits: the drop has an errand.
+//! Values that use the cache when they are dropped. A value cannot name the cache that it is in, so
+//! it asks another thread, which does the errand while the drop waits.
 ghost use Rattle.std.specs.Prelude.{◌<◌};
 
 use crate::gates::{Cause, evict_with};
@@ -12,7 +12,7 @@ use std::sync::{Arc, Wait};
 use std::thread;
 use std::thread::Threads;
 
-/// How many values have errands. Their numbers, which are their keys too, go from 1.
+/// The number of values that have errands. Their numbers, which are also their keys, start at 1.
 pub const VALUES: usize = 5;
 
 // One value's errand.
@@ -20,7 +20,7 @@ pub const VALUES: usize = 5;
 struct Errand {
     asked: AtomicU64,
     done: AtomicU64,
-    // The place of the value's drop among all, from 1; a sum where it was dropped more than once.
+    // The position of the value's drop among all, from 1; a sum if it was dropped more than once.
     places: AtomicU64,
 }
 
@@ -34,7 +34,7 @@ impl Errand {
     }
 }
 
-/// The errands of all values, and what came of them.
+/// The errands of all values, and their outcomes.
 #[derive(Drop)]
 pub struct Errands {
     all: [Errand; VALUES],
@@ -45,7 +45,7 @@ pub struct Errands {
 }
 
 impl Errands {
-    // None is asked yet.
+    /// Creates errands that were not asked for yet.
     fn new() -> Errands {
         Errands {
             all: [
@@ -66,8 +66,8 @@ impl Errands {
         &self.all[(number.saturating_sub(1) % VALUES as u64) as usize]
     }
 
-    // A drop: waits until the errand is done. Once one was missed no drop waits any more, so that
-    // the test ends.
+    // The drop of a value: waits until its errand is done. Once one is missed, no drop waits any
+    // more, so that the test ends.
     fn drop_value(&self, number: u64) {
         let errand = self.of(number);
         raise(&errand.asked);
@@ -97,7 +97,7 @@ impl Errands {
         })
     }
 
-    // Lets those go that wait for errands, of which there will be no more.
+    // Releases the threads that wait for errands, since there will be no more.
     fn close(&self) {
         raise(&self.closed);
         for errand in &self.all {
@@ -135,7 +135,7 @@ pub trait Sends {
     /// prunes.
     fn serve(&self, errands: &Errands, number: u64);
 
-    /// Makes the values 1 to 4 in an empty cache, evicts by this cause and then by a prune. Answers
+    /// Makes the values 1 to 4 in an empty cache, and evicts by this cause and then by a prune. Returns
     /// the totals after both. Each value needs a thread that serves its errand.
     fn evict(&self, errands: &Arc<Errands>, cause: Cause) -> (u128, u128);
 }
@@ -171,13 +171,13 @@ impl<C: Cached<Sent>> Sends for C {
     }
 }
 
-// Makes a value, and answers its handle.
+// Makes a value and returns its handle.
 fn makes<C: Cached<Sent>>(cache: C, errands: &Arc<Errands>, number: u64) -> Option<C::Handle> {
     let value = Sent::new(number, errands).ok()?;
     make_value(cache, number, 1, value, &mut None).ok()
 }
 
-// Makes the values 1 to 4, and keeps the first handle where its drop is to evict.
+// Makes the values 1 to 4, and keeps the first handle if its drop is to evict.
 fn makes_four<C: Cached<Sent>>(
     cache: C,
     errands: &Arc<Errands>,
@@ -212,13 +212,13 @@ pub fn outcome_in<R: Threads + Wait + Sync, C: Sends + Sync>(
     errands.outcome(totals)
 }
 
-/// What came of a cause.
+/// The outcome of a cause.
 #[derive(Clone, Copy, Debug, PartialEq, Eq)]
 pub struct Outcome {
-    /// The total after it, and once the cache is pruned.
+    /// The total after it, and after the prune.
     pub totals: (u128, u128),
-    /// For each value the place of its drop among all, from 1; 0 where it was not dropped, and a
-    /// sum where it was dropped more than once.
+    /// For each value the position of its drop among all, from 1; 0 if it was not dropped, and a
+    /// sum if it was dropped more than once.
     pub places: [u64; VALUES],
     /// How many errands found the next value in the cache.
     pub found: u64,

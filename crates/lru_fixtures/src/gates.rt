@@ -1,5 +1,5 @@
-//! What a cache evicts is dropped without its lock: a value that is dropped waits for another
-//! thread, which gets the lock meanwhile, or gives up.
+//! Tests that a cache drops what it evicts without its lock: a value that is dropped waits for
+//! another thread, which acquires the lock meanwhile, or gives up.
 ghost use Rattle.std.specs.Prelude.{◌<◌};
 
 use crate::threaded::{make_value, try_make_value};
@@ -11,7 +11,7 @@ use std::sync::atomic::AtomicU64;
 use std::thread;
 use std::thread::Threads;
 
-/// Where the thread that drops a value and the one that wants the lock are.
+/// The progress of the thread that drops a value and of the one that acquires the lock.
 #[derive(Drop)]
 pub struct Gate {
     dropping: AtomicU64,
@@ -29,8 +29,8 @@ impl Gate {
         }
     }
 
-    // The total that the other thread was told while a value was dropped; none where it was told
-    // none, or where the lock was not free then.
+    /// Returns the total that the other thread read while a value was dropped, or `None` if it read
+    /// none or the lock was not free then.
     fn told(&self, total: Option<u128>) -> Option<u128> {
         if is_raised(&self.missed) {
             return None;
@@ -38,7 +38,7 @@ impl Gate {
         total
     }
 
-    // A drop: waits until the lock was got by the other thread.
+    // The drop of a value: waits until the other thread has acquired the lock.
     fn drop_value(&self) {
         raise(&self.dropping);
         if !meets(&self.entered) {
@@ -53,7 +53,8 @@ pub struct Slow {
 }
 
 impl Slow {
-    // A value for this gate. `AllocError` where another owner of the gate is refused.
+    /// Creates a value for this gate. Returns `AllocError` if a copy of the gate's `Arc` is
+    /// refused.
     fn at(gate: &Arc<Gate>) -> Result<Slow, AllocError> {
         Ok(Slow {
             gate: Arc::try_clone(gate)?,
@@ -71,9 +72,9 @@ impl Drop for Slow {
 /// What evicts a value.
 #[derive(Clone, Copy, Debug)]
 pub enum Cause {
-    /// Another value, for which room is made.
+    /// Another value, which needs room.
     Begin,
-    /// Another value, whose `init` fails after room was made.
+    /// Another value, whose `init` fails after room was made for it.
     Failure,
     /// The drop of its last handle, at a capacity of 0.
     Release,
@@ -106,7 +107,7 @@ pub trait Drops {
     /// by this cause, and says whether it could be made.
     fn evict(&self, gate: &Arc<Gate>, cause: Cause) -> bool;
 
-    /// The total while a value is dropped; none where no value was.
+    /// Returns the total while a value is dropped, or `None` if no value was.
     fn total_meanwhile(&self, gate: &Gate) -> Option<u128>;
 }
 
@@ -149,8 +150,8 @@ fn make_for<C: Cached<Slow>>(
     }
 }
 
-/// Evicts by this cause, which may need a handle to be let go, or a value for which room is made:
-/// its key is 5.
+/// Evicts by this cause, by dropping the handle or by making another value, of key 5, if the cause
+/// needs that.
 pub fn evict_with<V: Drop, C: Cached<V>>(
     cache: C,
     cause: Cause,

@@ -1,14 +1,16 @@
-//! An entry's making as one call, for a cache of one owner.
+//! Making an entry in one call, for a cache for a single owner.
 ghost use Rattle.std.specs.Prelude.{◌<◌};
 
 use concurrent_lru::lru_core::{Begun, Refusal, State};
 use std::hash::Hash;
 use std::sync::Arc;
 
-/// Asks for a key, and gives the value where the caller is to make it; else the value is dropped.
-/// Answers the entry's stamp, with a pin in it. What was evicted is dropped.
+/// Asks for a key, and stores the value if the caller is to make it; otherwise the value is
+/// dropped. Returns the stamp of the entry, which the caller has pinned. What was evicted is
+/// dropped.
 ///
-/// Refuses as `begin` does; `Stale` where the cache does not take the value that it asked for.
+/// Returns the errors of `begin`, and `Stale` if the cache does not take the value that it asked
+/// for.
 pub fn hold<K: Hash + Eq + Clone, V: Drop>(
     state: &mut State<K, V>,
     key: &K,
@@ -27,9 +29,9 @@ pub fn hold<K: Hash + Eq + Clone, V: Drop>(
     }
 }
 
-/// As `hold`, and gives the pin back. What that evicted is dropped.
+/// As `hold`, but releases the pin. What that evicts is dropped.
 ///
-/// Refuses as `hold` does; `Stale` where another caller is making the value.
+/// Returns the errors of `hold`, and `Stale` if another caller is making the value.
 pub fn make<K: Hash + Eq + Clone, V: Drop>(
     state: &mut State<K, V>,
     key: &K,

@@ -1,5 +1,5 @@
-//! What runs without the lock of a cache: makers, and the reading of a handle while the cache is
-//! printed. Two threads have to meet in each; where one held the lock, a limit of looks ends it.
+//! Tests of what runs without the lock of a cache: making values, and reading a handle while the
+//! cache is printed. Two threads have to meet in each; if one held the lock, a limit ends the wait.
 ghost use Rattle.std.specs.Prelude.{◌<◌};
 
 use lru_support::cached::Cached;
@@ -13,7 +13,7 @@ use std::{fmt, thread};
 /// A cache as makers ask it. It has no associated type, since the checker covers no closure of a
 /// thread over one that has.
 pub trait Makes {
-    /// Makes a key, and says whether its `init` met the other maker's.
+    /// Makes a key, and returns whether its `init` met the other maker's.
     fn meet_in_making(&self, key: u64, mine: &AtomicU64, other: &AtomicU64) -> bool;
 }
 
@@ -44,7 +44,7 @@ pub fn makers_meet<T: Threads, C: Makes + Sync>(
     )
 }
 
-// Where the thread that prints a cache and the one that reads a handle are.
+/// The progress of the thread that prints a cache and of the one that reads a handle.
 #[derive(Drop)]
 struct Print {
     started: AtomicU64,
@@ -63,7 +63,7 @@ impl Print {
     }
 }
 
-/// A value whose Debug waits until the other thread has read it.
+/// A value whose `Debug` waits until the other thread has read it.
 #[derive(Drop)]
 pub struct Shown {
     print: Arc<Print>,
@@ -71,7 +71,8 @@ pub struct Shown {
 }
 
 impl Shown {
-    // A value with a number. `AllocError` where another owner of the print is refused.
+    /// Creates a value with a number. Returns `AllocError` if a copy of the meeting's `Arc` is
+    /// refused.
     fn new(print: &Arc<Print>, number: u64) -> Result<Shown, AllocError> {
         Ok(Shown {
             print: Arc::try_clone(print)?,
@@ -90,8 +91,8 @@ impl fmt::Debug for Shown {
     }
 }
 
-// The text of a cache, and the number of a handle's value as another thread reads it meanwhile;
-// none where memory for the text is refused, and where no value is printed.
+/// Returns the text of a cache, and the number of a handle's value as another thread reads it
+/// meanwhile. Returns `None` if memory for the text is refused or no value is printed.
 fn text_and_number<T: Threads, H: Drop + Sync, C: Cached<Shown, Handle = H> + fmt::Debug + Sync>(
     rt: &T,
     alloc: Global,

@@ -14,7 +14,7 @@ pub trait Owners {
     /// What pins a value, and owns a reference to the cache.
     type Handle: Drop;
 
-    /// A handle's value.
+    /// Returns a handle's value.
     fn value_of(handle: &Self::Handle) -> u64;
 
     /// `get_owned`.

@@ -1,4 +1,5 @@
 //! The worked rows: each shows one rule of the cache at work, as a line of text.
+//!
 //! Most of them are scripts for a cache without a lock; the others have a function each.
 
 mod journal;
@@ -42,37 +43,37 @@ pub const ROWS: &[Row] = &[
     Row::ShardOfAKey,
 ];
 
-/// What a row does.
+/// The content of a row.
 #[derive(Clone, Copy)]
 pub enum Row {
     /// Runs scripts, one after another, on a cache without a lock.
     Scripts(&'static [Script]),
-    /// A present key keeps its value, and after an eviction it is made anew: so at this capacity
-    /// where each entry has this charge.
+    /// A present key keeps its value, and after an eviction it is made again: at this capacity,
+    /// with this charge for each entry.
     Values(u64, u64),
-    /// An advice evicts an entry that nobody pins, and does nothing to one that is pinned.
+    /// Advice evicts an entry that is not pinned, and does nothing to a pinned one.
     Advice,
     /// A making that fails leaves no entry, and the next one may succeed.
     FailedMaking,
-    /// A prune evicts from every shard.
+    /// A prune evicts in every shard.
     PrunedShards,
-    /// What each of so many shards gets of a capacity: the quotient, rounded up. No shards count as
-    /// one.
+    /// Each shard's share of a capacity: the quotient, rounded up. A number of 0 shards counts as
+    /// 1.
     Shares(&'static [(u64, usize)]),
-    /// A new entry evicts from its own shard alone.
+    /// A new entry evicts in its own shard only.
     ShardOfAKey,
-    /// What a thread made before it ended, another finds.
+    /// A thread finds what another made before it ended.
     TwoThreads,
-    /// What was accepted is recorded, also where nothing was found; what was refused is not.
+    /// Accepted steps are recorded, even if nothing was found; refused ones are not.
     Journal,
 }
 
 impl Row {
-    /// Does what the row does and answers what it shows, in parts with `; ` between them; a
-    /// journal's records stand below, a line each.
+    /// Runs the row and returns its text, in parts separated by `; `; a journal's records follow
+    /// below, one on each line.
     ///
-    /// A refusal is shown where a script asks for its answer, and else answered as it is;
-    /// `Memory` is never shown, and stands also for a thread that can't be started.
+    /// A refusal is shown if a script asks for it, and otherwise returned. `Memory` is never shown;
+    /// it is also returned if a thread cannot be started.
     pub fn text<R: Threads + Wait + Sync>(&self, rt: &R, alloc: Global) -> Result<String, Refusal> {
         let mut line = Line::new(alloc);
         self.write(rt, alloc, &mut line)?;

@@ -1,5 +1,5 @@
-//! Calls as rows of a table, each with the text of the answer that is wanted, and the one function
-//! that makes them.
+//! Calls as rows of a table, each with the expected text of its answer, and the function that makes
+//! them.
 ghost use Rattle.std.specs.Prelude.{◌<◌};
 
 pub mod shards;
@@ -64,17 +64,17 @@ impl<K: Copy> Call<K> {
     }
 }
 
-/// A cache that calls can be made of. `C` is what such a call is.
+/// A cache on which calls can be made. `C` is the type of such a call.
 pub trait Answers<C> {
-    /// Makes the call, and answers the text of what it returned, as `{:?}` writes it.
+    /// Makes the call, and returns the text of its result, as `{:?}` writes it.
     ///
-    /// `AllocError` where memory for a value or for the text is refused.
+    /// Returns `AllocError` if memory for a value or for the text is refused.
     fn answer(&mut self, alloc: Global, call: C) -> Result<String, AllocError>;
 }
 
-/// Makes the calls of a table in order, and fails at the first whose answer is not the one that
-/// is wanted: the failure tells the row's number, its call, what was answered and what was wanted.
-/// It fails too where memory is refused to a text.
+/// Makes the calls of a table in order, and fails at the first whose answer is not the expected
+/// one: the failure shows the row's number, its call, the answer and the expected one. It also
+/// fails if memory is refused to a text.
 pub fn answers_as_told<C: Copy + Debug + Drop, T: Answers<C>>(
     alloc: Global,
     cache: &mut T,
@@ -91,7 +91,7 @@ pub fn answers_as_told<C: Copy + Debug + Drop, T: Answers<C>>(
     Ok(())
 }
 
-/// Fails where the text of an answer is not the one that is wanted, and tells both.
+/// Fails if the text of an answer is not the expected one, and shows both.
 pub fn says<T: Debug>(alloc: Global, answer: &T, wanted: &str) -> Result<(), Fail> {
     let answer = text_of(alloc, answer)?;
     if answer.as_str() != wanted {
@@ -100,7 +100,7 @@ pub fn says<T: Debug>(alloc: Global, answer: &T, wanted: &str) -> Result<(), Fai
     Ok(())
 }
 
-/// The text of an answer. `AllocError` where memory for it is refused.
+/// Returns the text of an answer. Returns `AllocError` if memory for it is refused.
 pub fn text_of<T: Debug>(alloc: Global, answer: &T) -> Result<String, AllocError> {
     format!(in alloc; "{answer:?}")
 }

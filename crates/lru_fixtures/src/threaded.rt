@@ -1,5 +1,5 @@
-//! The two caches that threads share, asked by one thread: calls as data, a player that makes
-//! them and holds handles, and a model that says what each is to answer.
+//! The two caches that threads share, called by one thread: calls as data, a player that makes them
+//! and holds handles, and a model that computes the expected answers.
 
 mod calls;
 mod making;

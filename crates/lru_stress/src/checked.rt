@@ -14,7 +14,7 @@ use std::hash::{BuildHasherDefault, FoldHasher};
 use std::sync::Arc;
 use std::thread::Threads;
 
-/// What the cache in shards numbers its keys by.
+/// The hasher of the cache in shards.
 pub type KeyHasher = BuildHasherDefault<FoldHasher>;
 
 /// The cache of one lock.
@@ -27,7 +27,7 @@ pub type Shards<R> = sharded::LruCache<u64, Counted, R, KeyHasher>;
 #[derive(Drop)]
 struct Checked<C> {
     cache: C,
-    // What the values count in.
+    /// The book of the values.
     book: Arc<Book>,
     // How often an `init` yields.
     yields: u32,
@@ -88,7 +88,7 @@ pub fn share<R: Threads + Sync, C: Cached<Counted> + Sync>(
     Ok(counts)
 }
 
-// What is checked of a cache that no worker uses any more.
+// Checks a cache that no worker uses any more.
 fn check<C: Cached<Counted>>(cache: C, book: &Book, allowed: u128) -> Result<(), Trouble> {
     if cache.total() > allowed {
         return Err(Trouble::Failed(Check::Total));

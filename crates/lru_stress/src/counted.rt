@@ -1,4 +1,4 @@
-//! Values that count themselves, and know when they were made.
+//! Values that count themselves and record when they were made.
 
 use crate::workers::Unmade;
 use concurrent_lru::lru_core::Refusal;
@@ -10,7 +10,7 @@ use std::thread;
 /// What the values of a cache and their makers count together.
 #[derive(Drop)]
 pub struct Book {
-    // One number after another, so that of two moments it is known which was first.
+    // A counter that orders moments: of two moments, the earlier has the smaller number.
     clock: AtomicU64,
     inits: AtomicU64,
     made: AtomicU64,
@@ -18,7 +18,7 @@ pub struct Book {
 }
 
 impl Book {
-    /// Nothing was counted yet.
+    /// Creates a book with all counts at 0.
     pub fn new() -> Book {
         Book {
             clock: AtomicU64::new(0),
@@ -28,22 +28,22 @@ impl Book {
         }
     }
 
-    /// A moment that is after all that were told before it.
+    /// Returns a moment that is after all those returned before.
     pub fn now(&self) -> u64 {
         self.clock.fetch_add(1, Ordering::SeqCst)
     }
 
-    /// How often an `init` ran.
+    /// Returns how often an `init` ran.
     pub fn inits(&self) -> u64 {
         self.inits.load(Ordering::SeqCst)
     }
 
-    /// How many values were made.
+    /// Returns how many values were made.
     pub fn made(&self) -> u64 {
         self.made.load(Ordering::SeqCst)
     }
 
-    /// How many values were dropped.
+    /// Returns how many values were dropped.
     pub fn dropped(&self) -> u64 {
         self.dropped.load(Ordering::SeqCst)
     }
@@ -57,7 +57,7 @@ pub struct Counted {
 }
 
 impl Counted {
-    /// What `init` does for a call: it yields so many times, and then fails or makes the value.
+    /// The `init` of a call: yields this many times, and then fails or makes the value.
     pub fn make(book: &Arc<Book>, call: &Call, yields: u32) -> Result<Counted, Unmade> {
         book.inits.fetch_add(1, Ordering::SeqCst);
         for _ in 0..yields {
@@ -77,12 +77,12 @@ impl Counted {
         })
     }
 
-    /// The key that it was made for.
+    /// Returns the key that it was made for.
     pub fn key(&self) -> u64 {
         self.key
     }
 
-    /// Whether it was made after this moment.
+    /// Returns whether it was made after this moment.
     pub fn is_made_after(&self, moment: u64) -> bool {
         moment < self.moment
     }

@@ -1,4 +1,4 @@
-//! What a stress run tells: what it counted, or why it is not ok.
+//! The outcome of a stress run: what it counted, or why it failed.
 
 use concurrent_lru::lru_core::Refusal;
 use std::alloc::{AllocError, AllocFailed};
@@ -7,22 +7,21 @@ use std::fmt;
 /// What the three parts of a run counted together.
 #[derive(Clone, Copy)]
 pub struct Counts {
-    /// How often a value was to be made: an `init` ran, or the twin told a caller to make one.
+    /// How often a value was to be made: an `init` ran, or the twin returned `Make`.
     pub makings: u64,
-    /// How many calls were answered with a value that another call made.
+    /// How many calls returned a value that another call made.
     pub hits: u64,
     /// How many values were evicted before the end of their part. Those of the twin are not seen.
     pub evictions: u64,
-    /// How many of the hits are of a value that was made while the call was under way. Such a
-    /// caller waits for it, unless it is kept from the lock until the making is over. The twin
-    /// has none.
+    /// How many of the hits returned a value that was made during the call. Such a caller waited
+    /// for it, unless it acquired the lock only after the making. The twin has none.
     pub meetings: u64,
-    /// The greatest total that was read with a handle held; 0 where none was read.
+    /// The greatest total that was read while a handle was held; 0 if none was read.
     pub greatest: u128,
 }
 
 impl Counts {
-    /// Nothing was counted.
+    /// Returns counts of 0.
     pub fn none() -> Counts {
         Counts {
             makings: 0,
@@ -33,7 +32,7 @@ impl Counts {
         }
     }
 
-    /// What both counted.
+    /// Returns the sums of both, and the greater of the totals.
     pub fn and(self, other: Counts) -> Counts {
         Counts {
             makings: self.makings.saturating_add(other.makings),
@@ -45,22 +44,22 @@ impl Counts {
     }
 }
 
-/// What is checked. The first four are of a cache, on one lock and in shards.
+/// The checks of a run. The first four are of a cache, of one lock and in shards.
 #[derive(Clone, Copy, Debug, PartialEq, Eq)]
 pub enum Check {
-    /// A call whose making would not fail is answered with a value of its key.
+    /// A call whose making would not fail returns a value of its key.
     Answers,
-    /// After all workers have ended, the total is no greater than the capacity.
+    /// After all workers have ended, the total is at most the capacity.
     Total,
     /// After a prune the total is 0.
     Prune,
     /// After that prune as many values were dropped as were made.
     Drops,
-    /// No call of the twin is told to wait, and none is refused.
+    /// No call of the twin returns `Wait`, and none is refused.
     TwinAnswers,
-    /// The twin's journal has as many records as calls were accepted.
+    /// The twin's journal has one record for each accepted call.
     TwinRecords,
-    /// The journal's total is no greater than the capacity, and 0 after a prune.
+    /// The journal's total is at most the capacity, and 0 after a prune.
     TwinTotal,
 }
 
@@ -79,17 +78,17 @@ impl fmt::Display for Check {
     }
 }
 
-/// Why a run is not ok.
+/// Why a run failed.
 #[derive(Clone, Copy, Debug, PartialEq, Eq)]
 pub enum Trouble {
-    /// Memory was refused, or a thread could not be started.
+    /// Memory was refused, or a thread was not started.
     Refused,
     /// This check failed.
     Failed(Check),
 }
 
 impl Trouble {
-    /// The one to tell of two: a refusal before a failed check, and else the first.
+    /// Returns the one to report: a refusal before a failed check, otherwise the first.
     pub fn worse(one: Option<Trouble>, other: Option<Trouble>) -> Option<Trouble> {
         match (one, other) {
             (Some(Trouble::Failed(_)), Some(Trouble::Refused)) | (None, _) => other,

@@ -1,21 +1,22 @@
-//! The numbers of a stress run.
-//! A run of these numbers has the same calls each time, in an order that the schedule chooses.
+//! The parameters of a stress run.
+//!
+//! Runs with the same parameters make the same calls, in an order that the scheduler chooses.
 ghost use Rattle.std.specs.Prelude.{◌<◌};
 
 /// How many keys the workers of a cache share, and how many each worker of the twin has of its own.
 /// It is a constant, so that no division is made where a call is drawn.
 pub const KEYS: u64 = 100;
 
-/// How much a stress run does, and on which caches.
+/// The size of a stress run, and its caches.
 #[derive(Clone, Copy)]
 pub struct Plan {
-    /// From which all calls are drawn.
+    /// The seed of all calls.
     pub seed: u64,
-    /// How many threads share a cache.
+    /// The number of threads that share a cache.
     pub workers: u16,
-    /// How many calls a worker makes.
+    /// The number of calls of each worker.
     pub calls: u32,
-    /// The capacity of the cache of one lock and of the twin, in the units of charges.
+    /// The capacity of the cache of one lock and of the twin, in the unit of the charges.
     pub lock_capacity: u64,
     /// The capacity of the sharded cache.
     pub shards_capacity: u64,

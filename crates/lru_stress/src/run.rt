@@ -35,11 +35,10 @@ impl Part {
     }
 }
 
-/// Runs the three parts, each with fresh workers that share it, and answers what they counted
-/// together.
+/// Runs the three parts, each with new workers, and returns the sum of their counts.
 ///
-/// `Refused` where memory or a thread was refused in any part, whatever was checked; else the
-/// first check that failed.
+/// Returns `Refused` if memory or a thread was refused in any part, whatever was checked, and
+/// otherwise the first check that failed.
 pub fn run<R: Threads + Wait + Clone + Drop + Send + Sync>(
     rt: &R,
     alloc: Global,
@@ -85,7 +84,7 @@ fn in_shards<R: Threads + Wait + Clone + Drop + Send + Sync>(
     checked::share(rt, alloc, plan, &cache, allowed_in_shards(plan))
 }
 
-// The sum of what the shards settle to: each share is rounded up.
+// Returns the sum of the shards' capacities: each share is rounded up.
 fn allowed_in_shards(plan: &Plan) -> u128 {
     let share = capacity_per_shard(plan.shards_capacity, plan.shards);
     u128::from(share).saturating_mul(plan.shards as u128)

@@ -1,7 +1,6 @@
-//! A number as a word of digits.
+//! Numbers written in decimal digits.
 
-/// The number that a word is: digits from 0 to 9 alone, one at least, and no number past
-/// `u64::MAX`.
+/// Parses a number: one or more digits from 0 to 9 and nothing else, at most `u64::MAX`.
 pub fn number(word: &str) -> Option<u64> {
     if word.bytes().any(|byte| !byte.is_ascii_digit()) {
         return None;

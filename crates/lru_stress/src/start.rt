@@ -1,13 +1,14 @@
-//! Where workers wait for one another, so that they begin together.
-//! One whose thread could not be started never comes, so the waiting has an end.
+//! A barrier at which workers wait for one another, so that they begin together.
+//!
+//! A worker whose thread was not started never comes, so the wait is limited.
 
 use std::sync::atomic::{AtomicU64, Ordering};
 use std::thread;
 
-// How often a worker looks for the others before it gives up.
+// How often a worker checks for the others before it gives up.
 const LOOKS: u32 = 4_000_000;
 
-/// Counts the workers that have come.
+/// Counts the workers that have arrived.
 #[derive(Drop)]
 pub struct Start {
     wanted: u64,
@@ -16,7 +17,7 @@ pub struct Start {
 }
 
 impl Start {
-    /// A start of so many workers.
+    /// Creates a barrier for this many workers.
     pub fn of(workers: u16) -> Start {
         Start {
             wanted: u64::from(workers),
@@ -25,7 +26,7 @@ impl Start {
         }
     }
 
-    /// Comes, and says whether all others came before this one or another gave up.
+    /// Arrives, and returns whether all others arrived before this one or another gave up.
     pub fn meets_all(&self) -> bool {
         self.came.fetch_add(1, Ordering::SeqCst);
         for _ in 0..LOOKS {

@@ -12,7 +12,7 @@ use std::sync::{Arc, Wait};
 use std::thread;
 use std::thread::Threads;
 
-// What every worker has: its memory, the numbers of the run, and where all begin together.
+// What every worker has: an allocator, the plan, and the barrier.
 #[derive(Drop)]
 struct Shift<'a> {
     alloc: Global,
@@ -46,10 +46,10 @@ impl Accepted {
     }
 }
 
-/// All workers' calls of a new twin, and what was counted. Its journal is opened once all have
-/// ended.
+/// Makes all workers' calls on a new twin, and returns what was counted. Its journal is opened once
+/// all have ended.
 ///
-/// `Refused` where memory was refused to a call, or a worker had no thread of its own; else the
+/// Returns `Refused` if memory was refused to a call or a worker had no thread, and otherwise the
 /// first check that failed.
 pub fn share<I: Identity + Send + Sync, R: Threads + Wait + Clone + Drop + Send + Sync>(
     rt: &R,
@@ -76,8 +76,8 @@ pub fn share<I: Identity + Send + Sync, R: Threads + Wait + Clone + Drop + Send 
     })
 }
 
-// The calls of so many workers from one on. All but the last have a thread more, and one part of
-// the tally.
+// Makes the calls of this many workers, beginning with one. All but the last get a thread of their
+// own and one part of the tally.
 fn work_from<I: Identity + Send + Sync, R: Threads + Wait + Drop + Send + Sync>(
     rt: &R,
     cache: &LruCache<u64, u64, R, I>,
@@ -135,7 +135,7 @@ fn work<I: Identity, R: Wait + Drop>(
     Ok((tally, accepted))
 }
 
-// Begins, and ends what that asks for.
+// Begins, and completes what that asks for.
 fn use_key<I: Identity, R: Wait + Drop>(
     cache: &LruCache<u64, u64, R, I>,
     alloc: Global,
@@ -152,7 +152,7 @@ fn use_key<I: Identity, R: Wait + Drop>(
     }
 }
 
-// Gives a making up.
+// Gives up a making.
 fn fail<I: Identity, R: Wait + Drop>(
     cache: &LruCache<u64, u64, R, I>,
     tally: &mut Tally<u64, I>,
@@ -168,7 +168,7 @@ fn fail<I: Identity, R: Wait + Drop>(
     })
 }
 
-// Makes the value, which is the key, and gives its pin back.
+// Makes the value, which is the key, and releases its pin.
 fn make<I: Identity, R: Wait + Drop>(
     cache: &LruCache<u64, u64, R, I>,
     alloc: Global,
@@ -193,7 +193,7 @@ fn make<I: Identity, R: Wait + Drop>(
     })
 }
 
-// Gives the pin of a value back that was there.
+// Releases the pin of a hit.
 fn hit<I: Identity, R: Wait + Drop>(
     cache: &LruCache<u64, u64, R, I>,
     tally: &mut Tally<u64, I>,
@@ -211,7 +211,7 @@ fn hit<I: Identity, R: Wait + Drop>(
     })
 }
 
-// What is checked of the journal of all, where so many calls were accepted.
+// Checks the journal of all workers, which made this many accepted calls.
 fn check(journal: &mut Journal<u64, u64>, plan: &Plan, calls: u64) -> Result<(), Trouble> {
     if journal.records().len() as u64 != calls {
         return Err(Trouble::Failed(Check::TwinRecords));

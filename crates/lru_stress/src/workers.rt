@@ -10,7 +10,7 @@ use std::alloc::Global;
 use std::thread;
 use std::thread::Threads;
 
-/// What a call was answered.
+/// The result of a call.
 #[derive(Clone, Copy)]
 pub struct Answer {
     /// The key that the value was made for.
@@ -19,7 +19,7 @@ pub struct Answer {
     pub is_hit: bool,
     /// Whether it did so after this call began.
     pub is_meeting: bool,
-    /// The total while the handle was held, where it was read.
+    /// The total while the handle was held, if it was read.
     pub total: u128,
 }
 
@@ -38,9 +38,9 @@ impl Answer {
 /// Why a call gave no value.
 #[derive(Clone, Copy)]
 pub enum Unmade {
-    /// The making was to fail.
+    /// The making was meant to fail.
     Failed,
-    /// The cache refused the call, or memory for the value.
+    /// The cache refused the call, or memory for the value was refused.
     Refused(Refusal),
 }
 
@@ -67,11 +67,11 @@ pub struct Notes {
     /// The sum of the values' keys, of the calls whose making would not fail. Where one would,
     /// whether a value is read depends on the others; so this sum is the same on every schedule.
     pub key_sum: u64,
-    /// How many calls were answered with a value that another call made.
+    /// How many calls returned a value that another call made.
     pub hits: u64,
     /// How many of these values were made after the call began.
     pub meetings: u64,
-    /// The greatest total that was read with a handle held; 0 where none was read.
+    /// The greatest total that was read while a handle was held; 0 if none was read.
     pub greatest: u128,
     trouble: Option<Trouble>,
 }
@@ -113,7 +113,7 @@ impl Notes {
         self.trouble = Trouble::worse(self.trouble, Some(failed));
     }
 
-    // What these workers noted together.
+    // Returns the sum of these workers' notes.
     fn sum(notes: &[Notes]) -> Notes {
         let mut sum = Notes::none();
         for note in notes {

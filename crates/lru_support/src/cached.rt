@@ -1,5 +1,6 @@
-//! The two caches that threads share, asked alike: one trait for references to either.
-//! Keys are of `u64`.
+//! One trait for references to either of the two caches that threads share.
+//!
+//! Keys are `u64`.
 ghost use Rattle.std.specs.Prelude.{◌<◌};
 ghost use Rattle.std.specs.Fn.{FnOnceTakesAt};
 
@@ -10,12 +11,12 @@ use concurrent_lru::{sharded, unsharded};
 use std::hash::BuildHasher;
 use std::sync::Wait;
 
-/// A reference to a cache of values V.
+/// A reference to a cache of values `V`.
 pub trait Cached<V>: Copy {
     /// What pins a value.
     type Handle: Drop;
 
-    /// A handle's value.
+    /// Returns a handle's value.
     fn value_of(handle: &Self::Handle) -> &V;
 
     /// `get`.

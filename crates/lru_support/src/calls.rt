@@ -1,5 +1,6 @@
 //! The calls that a worker of the stress workload makes.
-//! They are drawn from a generator of its own, which no other worker's meets.
+//!
+//! Each worker draws them from a generator of its own.
 ghost use Rattle.std.specs.Prelude.{◌<◌};
 
 use rand_core::{Rng, SeedableRng};
@@ -10,9 +11,9 @@ use rand_xoshiro::Xoshiro256PlusPlus;
 pub struct Call {
     /// The key.
     pub key: u64,
-    /// What a new entry is charged.
+    /// The charge of a new entry.
     pub charge: u64,
-    /// Whether the making fails, where one is needed.
+    /// Whether the making fails, if one is needed.
     pub fails: bool,
     ghost charged: { 0 < charge },
 }
@@ -24,7 +25,7 @@ pub struct Calls {
 }
 
 impl Calls {
-    /// The calls of the worker with this number.
+    /// Creates the calls of the worker with this number.
     pub fn of_worker(seed: u64, worker: u64) -> Calls {
         let mut generator = Xoshiro256PlusPlus::seed_from_u64(seed);
         for _ in 0..worker {
@@ -33,9 +34,10 @@ impl Calls {
         Calls { generator }
     }
 
-    /// The next call: a key below `keys`, a charge from 1 to 4, and two makings in ten fail.
+    /// Returns the next call: a key below `keys`, a charge from 1 to 4, and a making that fails in
+    /// two of ten calls.
     ///
-    /// Where the caller's number of keys is a constant, so is the divisor, and no division is made.
+    /// If the caller's number of keys is a constant, so is the divisor, and no division is made.
     #[inline(always)]
     pub fn draw(&mut self, keys: u64) -> Call
         requires { 0 < keys }

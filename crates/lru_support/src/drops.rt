@@ -1,5 +1,6 @@
-//! Values that note their number when they are dropped.
-//! A log makes them, and tells which were dropped, in the order of their drops.
+//! Values that record their number when they are dropped.
+//!
+//! A log creates them, and returns the numbers in the order of the drops.
 
 use std::alloc::{AllocError, Global};
 use std::fmt;
@@ -9,7 +10,7 @@ use std::sync::{Arc, Mutex, Wait};
 #[derive(Drop)]
 struct Numbers {
     noted: Vec<u64>,
-    // Memory was refused to a number, which is then not there.
+    // Whether memory was refused for a number, which is then missing.
     is_short: bool,
 }
 
@@ -28,14 +29,14 @@ impl Numbers {
     }
 }
 
-/// Which values were dropped so far.
+/// A log of the values that were dropped.
 #[derive(Drop)]
 pub struct DropLog<R: Wait> {
     rt: R,
     numbers: Arc<Mutex<Numbers>>,
 }
 
-/// A value with a number, which it notes in its log when it is dropped.
+/// A value with a number, which it adds to its log when it is dropped.
 pub struct Logged<R: Wait> {
     rt: R,
     number: u64,
@@ -43,7 +44,7 @@ pub struct Logged<R: Wait> {
 }
 
 impl<R: Wait + Clone + Drop> DropLog<R> {
-    /// A log of no drops. `AllocError` where its memory is refused.
+    /// Creates an empty log. Returns `AllocError` if its memory is refused.
     pub fn new(alloc: Global, rt: &R) -> Result<DropLog<R>, AllocError> {
         let rt = rt.clone()?;
         let none = Numbers {
@@ -56,8 +57,8 @@ impl<R: Wait + Clone + Drop> DropLog<R> {
         })
     }
 
-    /// A value with this number, which is to note its drop here. `AllocError` where a copy of
-    /// the right to wait, or another owner of the log, is refused.
+    /// Creates a value with this number, which adds it here when it is dropped. Returns
+    /// `AllocError` if a copy of the capability to wait, or of the log's `Arc`, is refused.
     pub fn value(&self, number: u64) -> Result<Logged<R>, AllocError> {
         Ok(Logged {
             rt: self.rt.clone()?,
@@ -66,19 +67,20 @@ impl<R: Wait + Clone + Drop> DropLog<R> {
         })
     }
 
-    /// The numbers of the values that were dropped since the log was made or cleared, first
-    /// dropped first. `AllocError` where memory was refused to one of them, or to this list.
+    /// Returns the numbers of the values that were dropped since the log was created or cleared, in
+    /// order. Returns `AllocError` if memory was refused for one of them or for this list.
     pub fn numbers(&self) -> Result<Vec<u64>, AllocError> {
         self.numbers.lock(&self.rt).copy()
     }
 
-    /// Whether these were dropped since the log was made or cleared, in this order, and no others.
+    /// Returns whether exactly these were dropped since the log was created or cleared, in this
+    /// order.
     pub fn is(&self, numbers: &[u64]) -> bool {
         let noted = self.numbers.lock(&self.rt);
         !noted.is_short && noted.noted.as_slice() == numbers
     }
 
-    /// Forgets the drops so far.
+    /// Clears the log.
     pub fn clear(&self) {
         let mut noted = self.numbers.lock(&self.rt);
         noted.noted.clear();
@@ -87,13 +89,13 @@ impl<R: Wait + Clone + Drop> DropLog<R> {
 }
 
 impl<R: Wait> Logged<R> {
-    /// The number.
+    /// Returns the number.
     pub fn number(&self) -> u64 {
         self.number
     }
 }
 
-// As its number.
+// Prints as its number.
 impl<R: Wait> fmt::Debug for Logged<R> {
     fn fmt<W: fmt::Write>(&self, f: &mut fmt::Formatter<W>) -> fmt::Result {
         self.number.fmt(f)

@@ -1,10 +1,11 @@
-//! Flags that threads raise for one another, and waiting for one with an end.
-//! A test that waits so fails, in place of hanging, where the other thread never comes.
+//! Flags that threads raise for one another, with waits that end.
+//!
+//! A test that waits so fails instead of hanging if the other thread never comes.
 
 use std::sync::atomic::{AtomicU64, Ordering};
 use std::thread;
 
-// How often a thread looks for a flag before it gives up.
+// How often a thread checks a flag before it gives up.
 const LOOKS: u32 = 10_000_000;
 
 // How often a thread that pauses yields.
@@ -15,12 +16,12 @@ pub fn raise(flag: &AtomicU64) {
     flag.store(1, Ordering::SeqCst);
 }
 
-/// Whether the flag is raised.
+/// Returns whether the flag is raised.
 pub fn is_raised(flag: &AtomicU64) -> bool {
     flag.load(Ordering::SeqCst) == 1
 }
 
-/// Yields until the flag is raised, and says whether it was before the thread gave up.
+/// Yields until the flag is raised. Returns false if the thread gave up first.
 pub fn meets(flag: &AtomicU64) -> bool {
     for _ in 0..LOOKS {
         if is_raised(flag) {
@@ -31,14 +32,14 @@ pub fn meets(flag: &AtomicU64) -> bool {
     false
 }
 
-/// Yields for a while, so that another thread gets on.
+/// Yields for a while, so that other threads make progress.
 pub fn pause() {
     for _ in 0..YIELDS {
         thread::yield_now();
     }
 }
 
-/// Yields until the count is this much or more, and says whether it was before the thread gave up.
+/// Yields until the count is at least `wanted`. Returns false if the thread gave up first.
 pub fn reaches(count: &AtomicU64, wanted: u64) -> bool {
     for _ in 0..LOOKS {
         if count.load(Ordering::SeqCst) >= wanted {
@@ -49,7 +50,7 @@ pub fn reaches(count: &AtomicU64, wanted: u64) -> bool {
     false
 }
 
-/// Yields so many times.
+/// Yields this many times.
 pub fn yield_times(times: u64) {
     for _ in 0..times {
         thread::yield_now();

@@ -1,9 +1,10 @@
-//! Hashers with known numbers, so that the shard of a key can be told from the key.
-//! Each is made for keys of `u64`; other keys may all have one number.
+//! Hashers with known hashes, so that the shard of a key follows from the key.
+//!
+//! They are for keys of type `u64`; other keys may all have the same hash.
 
 use std::hash::{BuildHasher, Hasher};
 
-/// Makes hashers whose number of a `u64` is the `u64` itself.
+/// Builds hashers whose hash of a `u64` is the `u64` itself.
 #[derive(Clone, Copy)]
 pub struct ByOwnNumber;
 
@@ -17,7 +18,7 @@ impl BuildHasher for ByOwnNumber {
     }
 }
 
-/// Keeps the last `u64` that was written; other writes change nothing.
+/// Keeps the last `u64` that was written, and ignores other writes.
 #[derive(Drop)]
 pub struct OwnNumber(u64);
 
@@ -40,8 +41,8 @@ impl Hasher for OwnNumber {
     }
 }
 
-/// Makes hashers whose number of a `u64` has the low half of that `u64` as its high half, and a
-/// low half of zeros.
+/// Builds hashers whose hash of a `u64` has the low half of that `u64` as its high half, and a low
+/// half of zeros.
 #[derive(Clone, Copy)]
 pub struct ByHighHalf;
 
@@ -55,7 +56,7 @@ impl BuildHasher for ByHighHalf {
     }
 }
 
-/// Keeps the low half of the last `u64` that was written; other writes change nothing.
+/// Keeps the low half of the last `u64` that was written, and ignores other writes.
 #[derive(Drop)]
 pub struct HighHalf(u32);
 
@@ -78,7 +79,7 @@ impl Hasher for HighHalf {
     }
 }
 
-/// Makes hashers whose number of every key is 3.
+/// Builds hashers whose hash of every key is 3.
 #[derive(Clone, Copy)]
 pub struct ByThree;
 
@@ -92,7 +93,7 @@ impl BuildHasher for ByThree {
     }
 }
 
-/// Reads nothing, and keeps the number that it was made with.
+/// Ignores all writes, and keeps the hash that it was created with.
 #[derive(Drop)]
 pub struct Three(u64);
 

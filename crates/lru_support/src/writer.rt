@@ -1,10 +1,10 @@
-//! A writer over memory that takes so many bytes and refuses the rest.
+//! A writer to memory that accepts a number of bytes and refuses the rest.
 
 use std::alloc::Global;
 use std::io;
 use std::io::{ErrorKind, Write};
 
-/// What was written, and how much more would be taken.
+/// The bytes that were written, and how many more are accepted.
 #[derive(Drop)]
 pub struct Limited {
     bytes: Vec<u8>,
@@ -12,7 +12,7 @@ pub struct Limited {
 }
 
 impl Limited {
-    /// A writer that takes this many bytes. Takes no memory.
+    /// Creates a writer that accepts this many bytes. Takes no memory.
     pub fn new(alloc: Global, room: usize) -> Limited {
         Limited {
             bytes: Vec::new(alloc),
@@ -20,19 +20,20 @@ impl Limited {
         }
     }
 
-    /// What was written.
+    /// Returns the bytes that were written.
     pub fn bytes(&self) -> &[u8] {
         self.bytes.as_slice()
     }
 
-    /// How many bytes would still be taken.
+    /// Returns how many more bytes are accepted.
     pub fn room(&self) -> usize {
         self.room
     }
 }
 
 impl Write for Limited {
-    /// Takes as many bytes as there is room for; `BrokenPipe` where there is none for the first.
+    /// Writes as many bytes as there is room for. Returns `BrokenPipe` if there is none for the
+    /// first.
     fn write(&mut self, buf: &[u8]) -> io::Result<usize> {
         if self.room == 0 {
             return Err(io::Error::from(ErrorKind::BrokenPipe));

@@ -1,4 +1,4 @@
-//! The row on a cache that keeps a record of each accepted step.
+//! The row on a cache that records each accepted step.
 
 use crate::rows::line::Line;
 use concurrent_lru::lru_core::{Evicted, Refusal};
@@ -6,7 +6,7 @@ use lru_journal::journal::Journal;
 use std::alloc::Global;
 use std::sync::Arc;
 
-/// What was accepted is recorded, also where nothing was found; what was refused is not.
+/// Accepted steps are recorded, even if nothing was found; refused ones are not.
 pub fn records_accepted_steps(alloc: Global, line: &mut Line) -> Result<(), Refusal> {
     let mut journal = Journal::new(alloc, 1);
     make(alloc, &mut journal)?;
@@ -19,7 +19,7 @@ pub fn records_accepted_steps(alloc: Global, line: &mut Line) -> Result<(), Refu
     Ok(())
 }
 
-// Makes a value and gives its pin back.
+// Makes a value and releases its pin.
 fn make(alloc: Global, journal: &mut Journal<u64, u64>) -> Result<(), Refusal> {
     journal.begin(&1, 1)?;
     ready(alloc, journal)?;
@@ -27,7 +27,7 @@ fn make(alloc: Global, journal: &mut Journal<u64, u64>) -> Result<(), Refusal> {
     Ok(())
 }
 
-// Begins on another key, and looks the evicted one up.
+// Begins on another key, and looks up the evicted one.
 fn evict(alloc: Global, journal: &mut Journal<u64, u64>, line: &mut Line) -> Result<(), Refusal> {
     let (_, evicted) = journal.begin(&2, 1)?;
     show_stamps(alloc, evicted, line)?;
@@ -35,7 +35,7 @@ fn evict(alloc: Global, journal: &mut Journal<u64, u64>, line: &mut Line) -> Res
     Ok(())
 }
 
-// Gives the evicted one's pin back, which is stale.
+// Releases the pin of the evicted entry, which is stale.
 fn release_again(
     alloc: Global,
     journal: &mut Journal<u64, u64>,

@@ -1,5 +1,6 @@
-//! The line of a row: its parts, with `; ` between them.
-//! A call that adds a part answers `Memory` where there is no room for its text.
+//! The line of a row: its parts, separated by `; `.
+//!
+//! A call that adds a part returns `Memory` if there is no room for its text.
 
 use concurrent_lru::lru_core::{Begun, Failed, Refusal};
 use std::alloc::Global;
@@ -12,14 +13,14 @@ pub struct Line {
 }
 
 impl Line {
-    /// A line with no parts. Takes no memory.
+    /// Creates a line with no parts. Takes no memory.
     pub fn new(alloc: Global) -> Line {
         Line {
             text: String::new(alloc),
         }
     }
 
-    /// The text of the line.
+    /// Returns the text of the line.
     pub fn into_text(self) -> String {
         self.text
     }
@@ -42,7 +43,7 @@ impl Line {
         }
     }
 
-    /// Adds whether a look-up found an entry.
+    /// Adds whether a lookup found an entry.
     pub fn show_found(&mut self, is_found: bool) -> Result<(), Refusal> {
         self.show(if is_found { "some" } else { "none" })
     }
@@ -57,7 +58,7 @@ impl Line {
         self.show(format_args!("{numbers:?}"))
     }
 
-    /// Adds what `begin` or `poll` said.
+    /// Adds the result of `begin` or `poll`.
     pub fn show_begun<V>(&mut self, begun: &Begun<V>) -> Result<(), Refusal> {
         match begun {
             Begun::Make(stamp) => self.show(format_args!("make {stamp}")),
@@ -66,7 +67,7 @@ impl Line {
         }
     }
 
-    /// Adds what `fail` did with the entry.
+    /// Adds the result of `fail`.
     pub fn show_failed<K>(&mut self, failed: &Failed<K>) -> Result<(), Refusal> {
         self.show(match failed {
             Failed::Left => "left",
@@ -74,7 +75,7 @@ impl Line {
         })
     }
 
-    /// Adds a refusal. `Memory` is answered instead.
+    /// Adds a refusal. Returns `Memory` instead of adding it.
     pub fn show_refusal(&mut self, refusal: Refusal) -> Result<(), Refusal> {
         match refusal {
             Refusal::Memory => Err(refusal),

@@ -1,5 +1,6 @@
-//! Rows on a cache behind its lock, and on the handles that it gives.
-//! All of them make values by one call: each closure that is handed to a cache is proved anew.
+//! Rows on a cache behind its lock, and on its handles.
+//!
+//! All of them make values by one call, since each closure passed to a cache needs a proof.
 ghost use Rattle.std.specs.Prelude.{◌<◌};
 
 use crate::rows::line::Line;
@@ -8,8 +9,8 @@ use concurrent_lru::unsharded::{CacheHandle, GetError, LruCache};
 use std::alloc::Global;
 use std::sync::Wait;
 
-/// A present key keeps its value, whatever its later makers would give; after an eviction it is
-/// made anew. A charge of 0 counts as 1.
+/// A present key keeps its value, whatever its later makers would return; after an eviction it is
+/// made again. A charge of 0 counts as 1.
 pub fn makes_values<R: Wait>(
     rt: &R,
     alloc: Global,
@@ -24,7 +25,7 @@ pub fn makes_values<R: Wait>(
     Ok(())
 }
 
-/// An advice evicts an entry that nobody pins, and does nothing to one that is pinned.
+/// Advice evicts an entry that is not pinned, and does nothing to a pinned one.
 pub fn evicts_on_advice<R: Wait>(rt: &R, alloc: Global, line: &mut Line) -> Result<(), Refusal> {
     let cache = LruCache::new(alloc, rt, 5);
     advise(&cache, line)
@@ -49,13 +50,13 @@ pub fn keeps_no_failed_making<R: Wait>(
     Ok(())
 }
 
-/// Makes a key's value, where it is not there, and drops the handle.
+/// Makes a key's value, if there is none, and drops the handle.
 pub fn make<R: Wait>(cache: &LruCache<u64, u64, R>, key: u64, value: u64) -> Result<(), Refusal> {
     drop(handle(cache, key, 1, Some(value))?);
     Ok(())
 }
 
-/// Shows what a look-up finds.
+/// Shows what a lookup finds.
 pub fn show_found_value<R: Wait>(
     cache: &LruCache<u64, u64, R>,
     key: u64,
@@ -80,8 +81,7 @@ fn show_value<R: Wait>(
     }
 }
 
-// No call may leave the function while its handle
-// is there: such a path is dear to prove.
+// No call may leave the function while its handle exists: such a path is expensive to prove.
 fn advise<R: Wait>(cache: &LruCache<u64, u64, R>, line: &mut Line) -> Result<(), Refusal> {
     let pinned = handle(cache, 1, 3, Some(1))?;
     let while_pinned = is_found_after_advice(cache, 1);
@@ -98,8 +98,8 @@ fn is_found_after_advice<R: Wait>(
     Ok(cache.get(key)?.is_some())
 }
 
-// A handle of a key's value, which is made where it is not there; none where its making failed,
-// as it does with no value. A charge of 0 counts as 1.
+// Returns a handle of a key's value, which is made if there is none, or `None` if its making
+// failed, as it does with no value. A charge of 0 counts as 1.
 fn handle<'a, R: Wait>(
     cache: &'a LruCache<u64, u64, R>,
     key: u64,

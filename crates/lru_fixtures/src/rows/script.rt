@@ -1,5 +1,6 @@
-//! Scripts: what is done with a cache without a lock, and what of it is shown.
-//! The value of a key is the key itself. A charge of 0 counts as 1, the least there is.
+//! Scripts: calls of a cache without a lock, and what is shown of them.
+//!
+//! The value of a key is the key itself. A charge of 0 counts as 1, the minimum.
 ghost use Rattle.std.specs.Prelude.{◌<◌};
 
 use crate::rows::line::Line;
@@ -7,7 +8,7 @@ use concurrent_lru::lru_core::{Begun, Evicted, Failed, Refusal, State};
 use std::alloc::Global;
 use std::sync::Arc;
 
-/// A new cache, and what is done with it.
+/// A new cache, and the acts on it.
 #[derive(Clone, Copy)]
 pub struct Script {
     pub cache: Cache,
@@ -19,32 +20,32 @@ pub struct Script {
 pub enum Cache {
     /// One with this capacity.
     Of(u64),
-    /// One of capacity 10 whose stamps are at their end.
+    /// One of capacity 10 with no stamps left.
     AtLastStamp,
-    /// One of capacity 10 whose entries have one pin each at most.
+    /// One of capacity 10 whose entries have at most one pin each.
     OfOnePin,
 }
 
-/// Something that is done with a cache. A refusal ends the script, where the act does not show it.
+/// An act on a cache. A refusal ends the script unless the act shows it.
 #[derive(Clone, Copy)]
 pub enum Act {
-    /// Makes the value of a key at a charge, where it is not there, and gives the pin back.
+    /// Makes the value of a key at a charge, if there is none, and releases the pin.
     Make(u64, u64),
     /// The same, but keeps the pin.
     Hold(u64, u64),
-    /// Gives a pin of the entry with this stamp back.
+    /// Releases a pin of the entry with this stamp.
     Release(u64),
     /// Sets the capacity.
     SetCapacity(u64),
-    /// Begins to make the value of a key at a charge and gives the making up. Shows the keys that
+    /// Begins to make the value of a key at a charge, and gives up the making. Shows the keys that
     /// were evicted so far, and whether the making succeeded.
     MakeInVain(u64, u64),
-    /// Looks a key up and gives the pin back, as by a handle that is dropped at once. Shows
-    /// whether it was found, or the refusal.
+    /// Looks up a key and releases the pin, like a handle that is dropped at once. Shows whether it
+    /// was found, or the refusal.
     Find(u64),
     /// Shows the keys that were evicted so far.
     Evicted,
-    /// Evicts all idle entries, and shows their keys alone.
+    /// Evicts all idle entries, and shows only their keys.
     Prune,
     /// Shows the total.
     Total,
@@ -52,11 +53,11 @@ pub enum Act {
     Begin(u64, u64),
     /// Asks again for the entry with this stamp. Shows the answer or the refusal.
     Poll(u64),
-    /// Gives the entry with this stamp its value. Shows whether it came back.
+    /// Stores the value of the entry with this stamp. Shows whether it was returned.
     Ready(u64),
-    /// Gives the making of the entry with this stamp up. Shows the answer or the refusal.
+    /// Gives up the making of the entry with this stamp. Shows the answer or the refusal.
     Fail(u64),
-    /// Gives a pin of the entry with this stamp back. Shows the keys that this evicts, or the
+    /// Releases a pin of the entry with this stamp. Shows the keys that this evicts, or the
     /// refusal.
     GiveBack(u64),
 }
@@ -129,7 +130,7 @@ impl Stage {
         Ok(())
     }
 
-    // Pins the entry of a key, whose value is made where it was not there, and answers its stamp.
+    // Pins the entry of a key, making its value if there is none, and returns its stamp.
     fn hold(&mut self, key: u64, charge: u64) -> Result<u64, Refusal> {
         match self.begin(key, charge)? {
             Begun::Make(stamp) => self.ready(stamp, key),
@@ -235,7 +236,7 @@ impl Stage {
 
 /// Adds the keys of evicted entries to a list, oldest first.
 ///
-/// `Memory` where there is no room for one; the list may then have those before it.
+/// Returns `Memory` if there is no room for one; the list may then have those before it.
 pub fn push_keys(keys: &mut Vec<u64>, evicted: Evicted<u64, u64>) -> Result<(), Refusal> {
     for gone in evicted {
         keys.push(gone.key)?;

@@ -13,7 +13,7 @@ pub const EVICTS_THE_OLDEST: &[Script] = &[Script {
     ],
 }];
 
-/// A pinned entry stays, whatever comes, and leaves as the newest once it is released.
+/// A pinned entry stays, whatever is inserted, and becomes the newest idle one when it is released.
 pub const KEEPS_WHAT_IS_PINNED: &[Script] = &[Script {
     cache: Cache::Of(2),
     acts: &[
@@ -34,7 +34,7 @@ pub const KEEPS_WHAT_IS_PINNED: &[Script] = &[Script {
     ],
 }];
 
-/// The charge counts from the beginning of a making, so one that fails has evicted others.
+/// The charge counts from the start of a making, so one that fails has evicted others.
 pub const EVICTS_BEFORE_A_FAILED_MAKING: &[Script] = &[Script {
     cache: Cache::Of(2),
     acts: &[
@@ -47,7 +47,7 @@ pub const EVICTS_BEFORE_A_FAILED_MAKING: &[Script] = &[Script {
     ],
 }];
 
-/// An entry larger than the capacity lives while it is pinned.
+/// An entry larger than the capacity stays while it is pinned.
 pub const KEEPS_A_LARGE_ENTRY_WHILE_PINNED: &[Script] = &[Script {
     cache: Cache::Of(5),
     acts: &[
@@ -65,7 +65,7 @@ pub const KEEPS_THE_FIRST_CHARGE: &[Script] = &[Script {
     acts: &[Act::Make(1, 3), Act::Make(1, 7), Act::Total],
 }];
 
-/// Of two entries that were pinned at once, the one that was released first leaves first.
+/// Of two entries that were pinned together, the one that was released first is evicted first.
 pub const EVICTS_BY_LAST_RELEASE: &[Script] = &[Script {
     cache: Cache::Of(2),
     acts: &[
@@ -97,7 +97,7 @@ const THREE_AND_A_PRUNE: &[Act] = &[
     Act::Prune,
 ];
 
-/// A look-up makes an entry the newest, where it is still there to be found.
+/// A lookup makes an entry the newest, if it is still there.
 pub const HOLDS_WHAT_WAS_LOOKED_UP: &[Script] = &[
     Script {
         cache: Cache::Of(3),
@@ -117,7 +117,7 @@ const A_LOOK_UP_BETWEEN: &[Act] = &[
     Act::Prune,
 ];
 
-/// A charge that would take the total past its end is refused before anything is evicted.
+/// A charge that would take the total past its maximum is refused before anything is evicted.
 pub const REFUSES_PAST_THE_GREATEST_TOTAL: &[Script] = &[Script {
     cache: Cache::Of(u64::MAX),
     acts: &[
@@ -128,8 +128,8 @@ pub const REFUSES_PAST_THE_GREATEST_TOTAL: &[Script] = &[Script {
     ],
 }];
 
-/// A maker that fails leaves the making to the next that asks; stamps that no longer fit are
-/// stale.
+/// A maker that fails leaves the making to the next caller that polls; stamps of entries that have
+/// left are stale.
 pub const HANDS_A_MAKING_OVER: &[Script] = &[Script {
     cache: Cache::Of(10),
     acts: &[
@@ -146,13 +146,13 @@ pub const HANDS_A_MAKING_OVER: &[Script] = &[Script {
     ],
 }];
 
-/// At capacity 0 an entry leaves with its release.
+/// At capacity 0 an entry is evicted when it is released.
 pub const HOLDS_NOTHING_WITHOUT_CAPACITY: &[Script] = &[Script {
     cache: Cache::Of(0),
     acts: &[Act::Make(1, 1), Act::Evicted, Act::Find(1)],
 }];
 
-/// The last stamp is never given, and an entry takes no more pins than the cache allows.
+/// The last stamp is never given out, and an entry takes no more pins than the cache allows.
 pub const REFUSES_PAST_THE_LAST_STAMP_AND_PIN: &[Script] = &[
     Script {
         cache: Cache::AtLastStamp,
@@ -164,7 +164,7 @@ pub const REFUSES_PAST_THE_LAST_STAMP_AND_PIN: &[Script] = &[
     },
 ];
 
-/// A smaller capacity evicts the oldest at once, and a larger one brings none of them back.
+/// A smaller capacity evicts the oldest entries at once, and a larger one brings none of them back.
 pub const SETTLES_TO_A_NEW_CAPACITY: &[Script] = &[Script {
     cache: Cache::Of(9),
     acts: &[

@@ -1,4 +1,4 @@
-//! Rows on caches side by side, each with its share of the capacity and its own keys.
+//! Rows on a cache in shards, each with its share of the capacity and its own keys.
 
 use crate::rows::line::Line;
 use crate::rows::script::push_keys;
@@ -11,7 +11,7 @@ use std::sync::{Arc, Wait};
 
 type Hasher = BuildHasherDefault<FoldHasher>;
 
-/// A prune evicts from every shard.
+/// A prune evicts in every shard.
 pub fn prunes_every_shard<R: Wait>(rt: &R, alloc: Global, line: &mut Line) -> Result<(), Refusal> {
     let hasher: Hasher = BuildHasherDefault::new();
     let cache: LruCache<&'static str, u64, &R, Hasher> = LruCache::with_shards_hasher(
@@ -38,8 +38,8 @@ fn show_found<R: Wait>(
     line.show_found(is_found)
 }
 
-/// What each of so many shards gets of a capacity: the quotient, rounded up. No shards count as
-/// one.
+/// Shows each shard's share of a capacity: the quotient, rounded up. A number of 0 shards counts as
+/// 1.
 pub fn divides_its_capacity(shares: &[(u64, usize)], line: &mut Line) -> Result<(), Refusal> {
     for (capacity, shards) in shares {
         line.show(capacity_per_shard(*capacity, (*shards).max(1)))?;
@@ -47,7 +47,7 @@ pub fn divides_its_capacity(shares: &[(u64, usize)], line: &mut Line) -> Result<
     Ok(())
 }
 
-/// A new entry evicts from its own shard alone.
+/// A new entry evicts in its own shard only.
 pub fn evicts_in_the_shard_of_a_key(alloc: Global, line: &mut Line) -> Result<(), Refusal> {
     let mut shards = Shards::new(alloc, 2, 2, ByOwnNumber)?;
     let mut evicted = Vec::new(alloc);
@@ -62,7 +62,7 @@ pub fn evicts_in_the_shard_of_a_key(alloc: Global, line: &mut Line) -> Result<()
     Ok(())
 }
 
-// Makes the value of a new key, gives the pin back at once and notes what was evicted.
+// Makes the value of a new key, releases the pin at once and records what was evicted.
 fn make(
     alloc: Global,
     shards: &mut Shards<u64, u64, ByOwnNumber>,

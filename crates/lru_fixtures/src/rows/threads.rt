@@ -9,7 +9,7 @@ use std::sync::Wait;
 use std::thread;
 use std::thread::Threads;
 
-/// What a thread made before it ended, another finds.
+/// A thread finds what another made before it ended.
 ///
 /// A thread that cannot be started counts as a refusal of memory.
 pub fn finds_what_another_thread_made<R: Threads + Wait + Sync>(

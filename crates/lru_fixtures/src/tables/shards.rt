@@ -1,4 +1,4 @@
-//! Calls of pure shards as rows of a table.
+//! Calls of `Shards` as rows of a table.
 ghost use Rattle.std.specs.Prelude.{◌<◌};
 
 use crate::tables::{Answers, text_of};
@@ -11,8 +11,8 @@ use std::sync::Arc;
 /// A call of shards whose keys and values are numbers. A shard comes before a stamp.
 #[derive(Clone, Copy, Debug)]
 pub enum ShardCall {
-    /// Makes a key's value, the key itself, with the charge 1, and gives it back at once. Answers
-    /// the shard, and what the begin and the release evicted.
+    /// Makes a key's value, the key itself, with the charge 1, and releases it at once. The answer
+    /// is the shard, and what the begin and the release evicted.
     Use(u64),
     /// `begin` with a key and a charge.
     Begin(u64, u64),
@@ -74,7 +74,7 @@ impl<S: BuildHasher + Drop> Answers<ShardCall> for Shards<u64, u64, S> {
     }
 }
 
-// What `Use` answers. A stored value that comes back is `Stale`.
+// The answer to `Use`. A stored value that comes back is `Stale`.
 fn used<S: BuildHasher + Drop>(
     alloc: Global,
     shards: &mut Shards<u64, u64, S>,
@@ -86,7 +86,7 @@ fn used<S: BuildHasher + Drop>(
     Ok((shard, at_begin, at_release))
 }
 
-// Stores a value that is to be made. Answers the stamp of the entry.
+// Stores a value that is to be made, and returns the stamp of the entry.
 fn stored<S: BuildHasher + Drop>(
     alloc: Global,
     shards: &mut Shards<u64, u64, S>,

@@ -1,33 +1,34 @@
-//! Calls of a cache that threads share, as data, and what each is answered.
-//! The answer tells whether an `init` ran, and with which key.
+//! Calls of a cache that threads share, as data, and their answers.
+//!
+//! An answer shows whether an `init` ran, and with which key.
 
 use concurrent_lru::lru_core::Refusal;
 
-/// What becomes of the handle that a call gives.
+/// What is done with the handle that a call returns.
 #[derive(Clone, Copy, Debug)]
 pub enum Then {
-    /// It is let go at once.
+    /// It is dropped at once.
     AtOnce,
-    /// It is kept in this slot, and what the slot had is let go.
+    /// It is kept in this slot, and the previous content of the slot is dropped.
     Keep(usize),
     /// It is forgotten, and its pin with it.
     Forget,
 }
 
-/// A call. Keys come first, then charges, then the value that an `init` would give.
+/// A call. Keys come first, then charges, then the value that an `init` would return.
 #[derive(Clone, Copy, Debug)]
 pub enum Call {
     /// `get` with a key.
     Get(u64, Then),
-    /// `read` with a key, by a reader that tells the value.
+    /// `read` with a key, by a reader that copies the value.
     Read(u64),
-    /// `get_or_init` with a key, a charge, and an `init` that gives this value.
+    /// `get_or_init` with a key, a charge, and an `init` that returns this value.
     Init(u64, u64, u64, Then),
-    /// `get_or_try_init` with a key, a charge, and an `init` that gives this value.
+    /// `get_or_try_init` with a key, a charge, and an `init` that returns this value.
     TryInit(u64, u64, u64, Then),
     /// `get_or_try_init` with a key, a charge, and an `init` that fails.
     Fail(u64, u64, Then),
-    /// The drop of what this slot has.
+    /// Drops what is in this slot.
     LetGo(usize),
     /// `advice_evict` with a key.
     AdviceEvict(u64),
@@ -49,7 +50,7 @@ pub enum Call {
     Show,
 }
 
-/// What a call is answered.
+/// The answer to a call.
 #[derive(Clone, Copy, Debug)]
 pub enum Said {
     /// A handle, and `init` ran: its key, and the handle's value.
@@ -58,7 +59,7 @@ pub enum Said {
     Read(u64),
     /// A handle of this value, and no `init` ran.
     Found(u64),
-    /// A handle of this value, which was put in.
+    /// A handle of this value, which was inserted.
     Put(u64),
     /// No handle and no value.
     Absent,

@@ -1,12 +1,13 @@
-//! The makings of a cache that threads share, as one thread asks for them.
-//! An `init` notes the key that it ran with.
+//! The makings of a cache that threads share, requested by one thread.
+//!
+//! An `init` records the key that it ran with.
 ghost use Rattle.std.specs.Prelude.{◌<◌};
 
 use concurrent_lru::lru_core::Refusal;
 use concurrent_lru::unsharded::GetError;
 use lru_support::cached::Cached;
 
-/// Why a call gave no handle.
+/// Why a call returned no handle.
 #[derive(Drop)]
 pub enum NoHandle {
     /// The cache refused it.
@@ -31,7 +32,7 @@ impl From<GetError<u64>> for NoHandle {
     }
 }
 
-/// `get_or_init`, whose `init` notes its key in `ran` and gives the value.
+/// `get_or_init`, whose `init` records its key in `ran` and returns the value.
 pub fn make_value<V: Drop, C: Cached<V>>(
     cache: C,
     key: u64,
@@ -48,7 +49,7 @@ pub fn make_value<V: Drop, C: Cached<V>>(
     Ok(handle)
 }
 
-/// `get_or_try_init`, whose `init` notes its key in `ran`, and gives the value or, where there is
+/// `get_or_try_init`, whose `init` records its key in `ran`, and returns the value or, if there is
 /// none, its key as the error.
 pub fn try_make_value<V: Drop, C: Cached<V>>(
     cache: C,

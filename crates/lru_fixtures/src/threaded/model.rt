@@ -1,5 +1,6 @@
-//! What a cache that threads share is to answer one thread: a cache of one owner, asked by steps.
-//! An `init` that does not run is dropped with its value; a value is dropped where it is evicted.
+//! A model of a cache that threads share, used by one thread: a cache for a single owner.
+//!
+//! An `init` that does not run is dropped with its value; a value is dropped when it is evicted.
 ghost use Rattle.std.specs.Prelude.{◌<◌};
 
 use crate::tables::{Answers, text_of};
@@ -9,13 +10,13 @@ use concurrent_lru::lru_core::{Begun, Evicted};
 use std::alloc::{AllocError, Global};
 use std::sync::Arc;
 
-// How many handles a model can hold, as many as a player.
+// The number of handles that a model can hold, the same as a player.
 const SLOTS: usize = 4;
 
 // No model has more shards than this.
 const SHARDS: usize = 64;
 
-/// A cache of one owner, its ready entries by shard, key and value, the pins that are held in
+/// A cache for a single owner, its ready entries by shard, key and value, the pins that are held in
 /// slots, and the values that were dropped by the last call.
 #[derive(Drop)]
 pub struct Model<P> {
@@ -26,7 +27,7 @@ pub struct Model<P> {
 }
 
 impl<P: Owned> Model<P> {
-    /// A model of an empty cache. Takes no memory.
+    /// Creates a model of an empty cache. Takes no memory.
     pub fn new(alloc: Global, owned: P) -> Model<P> {
         Model {
             owned,
@@ -60,7 +61,7 @@ impl<P: Owned> Model<P> {
                 let evicted = self.owned.resized(capacity);
                 self.note(evicted)
             }
-            // There is memory for the little that is asked for, and room changes no answer.
+            // The model has enough memory for what tests ask, and reserved room changes no answer.
             Call::Reserve(_) => Ok(Said::Done),
             _ => Ok(Said::Number(self.total())),
         }
@@ -77,7 +78,7 @@ impl<P: Owned> Model<P> {
         }
     }
 
-    // A read is a get whose handle is dropped at once.
+    // A `read` is a `get` whose handle is dropped at once.
     fn read(&mut self, key: u64) -> Result<Said, AllocError> {
         match self.get(key, Then::AtOnce)? {
             Said::Found(value) => Ok(Said::Read(value)),
@@ -125,7 +126,7 @@ impl<P: Owned> Model<P> {
                 self.keep(shard, stamp, then)?;
                 Ok(Said::Found(*found))
             }
-            // No player says so of an `init`: one thread meets no making of another.
+            // No player returns this for an `init`: one thread finds no making of another.
             Begun::Wait(_) => Ok(Said::Absent),
         }
     }
@@ -149,8 +150,8 @@ impl<P: Owned> Model<P> {
         Ok(Said::Made(key, value))
     }
 
-    // The steps of an insert, one after another. No model comes to the end of its numbers, so none
-    // of them is refused.
+    // Takes the steps of an insert, one after another. No model reaches the limits of its numbers,
+    // so none of them is refused.
     fn put_in(
         &mut self,
         alloc: Global,
@@ -183,7 +184,7 @@ impl<P: Owned> Model<P> {
         Ok(())
     }
 
-    // Does with a pin what the call says of its handle.
+    // Does with a pin what the call does with its handle.
     fn keep(&mut self, shard: usize, stamp: u64, then: Then) -> Result<(), AllocError> {
         match then {
             Then::AtOnce => self.release(shard, stamp),
@@ -236,7 +237,7 @@ impl<P: Owned> Model<P> {
         total
     }
 
-    // What was evicted is dropped, oldest first.
+    // Drops what was evicted, oldest first.
     fn note(&mut self, evicted: Evicted<u64, u64>) -> Result<Said, AllocError> {
         for gone in evicted {
             self.dropped.push(*gone.value)?;
@@ -245,7 +246,7 @@ impl<P: Owned> Model<P> {
         Ok(Said::Done)
     }
 
-    // Takes out an entry that has left, where it was not invalidated before.
+    // Removes an entry that has left, unless it was invalidated before.
     fn remove(&mut self, key: u64, value: u64) {
         for index in 0..self.entries.len() {
             if self.entries[index].1 == key && self.entries[index].2 == value {
@@ -255,7 +256,7 @@ impl<P: Owned> Model<P> {
         }
     }
 
-    // Takes out the entry of a key, where it has one: the text of a cache shows what keys find.
+    // Removes the entry of a key, if it has one: the text of a cache shows what keys find.
     fn hide(&mut self, key: u64) {
         for index in 0..self.entries.len() {
             if self.entries[index].1 == key {
@@ -266,7 +267,7 @@ impl<P: Owned> Model<P> {
     }
 }
 
-// As a player of the cache: `Show` has the entries in the order of shards and keys.
+// Answers as a player of the cache does: `Show` has the entries in the order of shards and keys.
 impl<P: Owned> Answers<Call> for Model<P> {
     fn answer(&mut self, alloc: Global, call: Call) -> Result<String, AllocError> {
         if let Call::Show = call {

@@ -1,5 +1,4 @@
-//! The two caches of one owner, asked alike: one trait for both. A cache that is no shards has
-//! shard 0 alone.
+//! One trait for the two caches for a single owner. A cache without shards has only shard 0.
 ghost use Rattle.std.specs.Prelude.{◌<◌};
 
 use concurrent_lru::lru_core::{Begun, Evicted, Failed, Refusal, State};
@@ -7,9 +6,9 @@ use concurrent_lru::sharded::Shards;
 use std::hash::BuildHasher;
 use std::sync::Arc;
 
-/// A cache of one owner, whose keys and values are numbers.
+/// A cache for a single owner, whose keys and values are numbers.
 pub trait Owned {
-    /// `begin`. The key's shard comes first.
+    /// `begin`. Returns the key's shard first.
     fn started(
         &mut self,
         key: u64,
@@ -17,7 +16,7 @@ pub trait Owned {
     ) -> Result<(usize, Begun<u64>, Evicted<u64, u64>), Refusal>
         requires { 0 < charge };
 
-    /// `get`. The key's shard comes first, and then the stamp.
+    /// `get`. Returns the key's shard first, and then the stamp.
     fn found(&mut self, key: u64) -> Result<Option<(usize, u64, Arc<u64>)>, Refusal>;
 
     /// `ready`.
@@ -38,10 +37,10 @@ pub trait Owned {
     /// `set_capacity`, of all shards.
     fn resized(&mut self, capacity: u64) -> Evicted<u64, u64>;
 
-    /// `prune` of a shard; `Stale` where there is no such shard.
+    /// `prune` of a shard. Returns `Stale` if there is no such shard.
     fn pruned(&mut self, shard: usize) -> Result<Evicted<u64, u64>, Refusal>;
 
-    /// `total` of a shard; `Stale` where there is no such shard.
+    /// `total` of a shard. Returns `Stale` if there is no such shard.
     fn total_of(&self, shard: usize) -> Result<u64, Refusal>;
 }
 

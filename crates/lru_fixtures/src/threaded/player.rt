@@ -1,4 +1,4 @@
-//! One thread that makes calls of a cache, and holds handles in slots.
+//! A single thread that makes calls of a cache, and holds handles in slots.
 ghost use Rattle.std.specs.Prelude.{◌<◌};
 
 use crate::tables::{Answers, answers_as_told, text_of};
@@ -11,10 +11,10 @@ use std::sync::Wait;
 use std::test::Fail;
 use std::{fmt, mem};
 
-// How many handles a player can hold.
+// The number of handles that a player can hold.
 const SLOTS: usize = 4;
 
-/// A cache, the log of its values, and the handles of it that are held in slots, at first none.
+/// A cache, the log of its values, and the handles that are held in slots, initially none.
 #[derive(Drop)]
 pub struct Player<'l, R: Wait, C: Cached<Logged<R>>> {
     cache: C,
@@ -23,7 +23,7 @@ pub struct Player<'l, R: Wait, C: Cached<Logged<R>>> {
 }
 
 impl<'l, R: Wait + Clone + Drop, C: Cached<Logged<R>>> Player<'l, R, C> {
-    /// A player that holds nothing yet. `AllocError` where there is no room for its slots.
+    /// Creates a player that holds nothing. Returns `AllocError` if there is no room for its slots.
     pub fn new(
         alloc: Global,
         cache: C,
@@ -36,7 +36,7 @@ impl<'l, R: Wait + Clone + Drop, C: Cached<Logged<R>>> Player<'l, R, C> {
         Ok(Player { cache, log, slots })
     }
 
-    /// Makes a call. `AllocError` where memory for a value is refused; then no call was made.
+    /// Makes a call. Returns `AllocError` if memory for a value is refused; then no call was made.
     pub fn take(&mut self, call: Call) -> Result<Said, AllocError> {
         match call {
             Call::Init(key, charge, number, then) => {
@@ -62,14 +62,15 @@ impl<'l, R: Wait + Clone + Drop, C: Cached<Logged<R>>> Player<'l, R, C> {
         }
     }
 
-    // What the slot had is let go; a slot that is not there keeps nothing.
+    // Puts a handle in a slot and drops what the slot had. A slot that does not exist keeps
+    // nothing.
     fn put(&mut self, slot: usize, handle: Option<C::Handle>) {
         if let Some(place) = self.slots.get_mut(slot) {
             *place = handle;
         }
     }
 
-    // Does with a handle what the call says. Answers the number of its value.
+    // Does with a handle what the call asks, and returns the number of its value.
     fn keep(&mut self, handle: C::Handle, then: Then) -> u64 {
         let number = C::value_of(&handle).number();
         match then {
@@ -133,7 +134,7 @@ impl<'l, R: Wait + Clone + Drop, C: Cached<Logged<R>>> Player<'l, R, C> {
     }
 }
 
-// What a handle says, of a value that an `init` made of this key, or that was there.
+// The answer for a handle, whose value an `init` made for this key, or was already there.
 fn said(ran: Option<u64>, number: u64) -> Said {
     match ran {
         Some(key) => Said::Made(key, number),
@@ -153,7 +154,7 @@ pub fn play<R: Wait + Clone + Drop, C: Cached<Logged<R>> + fmt::Debug>(
     answers_as_told(alloc, &mut player, table)
 }
 
-// Makes a call that gives no handle.
+// Makes a call that returns no handle.
 fn asked<V, C: Cached<V>>(cache: C, call: Call) -> Said {
     match call {
         Call::AdviceEvict(key) => cache.advise(key),
@@ -171,7 +172,7 @@ fn asked<V, C: Cached<V>>(cache: C, call: Call) -> Said {
     Said::Done
 }
 
-// The text of what was said, and then of the values that were dropped, if any were.
+// Prints the answer, followed by the values that were dropped, if any.
 impl<'l, R: Wait + Clone + Drop, C: Cached<Logged<R>> + fmt::Debug> Answers<Call>
     for Player<'l, R, C> {
     fn answer(&mut self, alloc: Global, call: Call) -> Result<String, AllocError> {

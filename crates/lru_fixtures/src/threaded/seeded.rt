@@ -1,4 +1,4 @@
-//! Long runs of calls that seeds decide, each answered as a model answers it.
+//! Long runs of calls drawn from seeds, whose answers are compared with those of a model.
 
 use crate::tables::{Answers, text_of};
 use crate::threaded::calls::{Call, Then};
@@ -14,7 +14,7 @@ use std::fmt;
 use std::sync::Wait;
 use std::test::Fail;
 
-// How many calls a run has.
+// The number of calls of a run.
 const CALLS: u64 = 2_000;
 
 const CAPACITIES: [u64; 4] = [0, 1, 10, 37];
@@ -24,8 +24,8 @@ pub fn capacity_of(seed: u64) -> u64 {
     CAPACITIES[(seed % 4) as usize]
 }
 
-// The next call, whose value would be its number. The numbers of 16 keys differ in their high
-// half alone, in their low half alone, or in both.
+// Returns the next call, whose value is its number. The numbers of 16 keys differ in their high
+// half only, in their low half only, or in both.
 fn draw(generator: &mut Xoshiro256PlusPlus, number: u64) -> Call {
     let kind = generator.next_u64() % 34;
     let key = generator.next_u64() % 4 * 4_294_967_296 + generator.next_u64() % 4;
@@ -88,7 +88,8 @@ fn answer_alike<C: Answers<Call>, M: Answers<Call>>(
     Ok(())
 }
 
-// Makes one call of both. Answers what they answered, or what they show after it, where it differs.
+// Makes one call on both. Returns their answers, or the entries that they show after it, if these
+// differ.
 fn difference<C: Answers<Call>, M: Answers<Call>>(
     alloc: Global,
     cache: &mut C,
@@ -109,7 +110,8 @@ fn difference<C: Answers<Call>, M: Answers<Call>>(
     Ok(None)
 }
 
-// The entries that the text of a cache shows, as the text of a list of shards, keys and values.
+// Returns the entries that the text of a cache shows, as the text of a list of shards, keys and
+// values.
 fn entries_shown<C: Answers<Call>>(alloc: Global, cache: &mut C) -> Result<String, AllocError> {
     let text = cache.answer(alloc, Call::Show)?;
     text_of(alloc, &entries_of(alloc, text.as_str())?)
@@ -126,7 +128,7 @@ fn entries_of(alloc: Global, text: &str) -> Result<Vec<(usize, u64, u64)>, Alloc
     Ok(entries)
 }
 
-// The entries of one shard.
+// Adds the entries of one shard.
 fn push_entries(
     entries: &mut Vec<(usize, u64, u64)>,
     shard: usize,
@@ -140,7 +142,7 @@ fn push_entries(
     Ok(())
 }
 
-// A key and its value; none where there are no two numbers.
+// Parses a key and its value. Returns `None` if there are not two numbers.
 fn numbers_of(entry: &str) -> Option<(u64, u64)> {
     let (key, value) = entry.split_once(": ")?;
     let value = value.trim_end_matches(']').trim_end_matches('}');
