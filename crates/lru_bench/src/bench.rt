@@ -1,4 +1,4 @@
-//! A plan run from its first workload to its last, one after another.
+//! Runs the workloads of a plan one after another.
 
 use crate::failure::Failure;
 use crate::keys::Keys;
@@ -62,7 +62,7 @@ pub fn run<R: Threads + Wait + Clock + RandomSource + Sync, O: Write>(
     Ok(())
 }
 
-// The look-ups of the first workload in a map, with no cache and no lock.
+// The lookups of the first workload in a map, with no cache and no lock.
 fn use_map<R: Clock, O: Write>(
     alloc: Global,
     entries: NonZeroU64,
@@ -77,8 +77,7 @@ fn use_map<R: Clock, O: Write>(
     report.end(&work, begin, sum)
 }
 
-// The parts of the cache, as a `get` of a present key and a `get_or_init` of an absent one need
-// them.
+// The parts of the cache that a `get` of a present key and a `get_or_init` of an absent one need.
 fn use_parts<R: Wait + Clock, O: Write>(
     rt: &R,
     alloc: Global,
@@ -97,7 +96,7 @@ fn use_parts<R: Wait + Clock, O: Write>(
     report.end(&work("miss_evict"), begin, sum)
 }
 
-// The three workloads of one thread, on one cache that is full from the start.
+// The three workloads of a single thread, on one cache that is full from the start.
 fn use_alone<R: Wait + Clock, O: Write>(
     rt: &R,
     alloc: Global,
@@ -198,9 +197,9 @@ fn stress_shards<
     report.end(&work, begin, sum)
 }
 
-/// Runs the workload of reads that mostly hit, and writes a line for each cache, each way to ask it
-/// and each number of threads. What was written before a failure stays written. Where the times are
-/// shown, each hit ratio goes to `err`.
+/// Runs the workload of reads that mostly hit, and writes a line for each cache, each kind of call
+/// and each number of threads. What was written before a failure stays written. If the times are
+/// shown, each hit ratio is written to `err`.
 pub fn run_mostly<R: Threads + Wait + Clock + RandomSource + Sync, O: Write, E: Write>(
     rt: &R,
     alloc: Global,
@@ -278,7 +277,7 @@ fn mostly_in_shards<
     ask_mostly(rt, &asked, READ_IN_SHARDS, mostly, threads, report, err)
 }
 
-// The workload on an empty cache, which is filled before the time begins.
+// Runs the workload on an empty cache, which is filled before the timing begins.
 fn ask_mostly<R: Threads + Wait + Clock + Sync, A: Asked + Sync, O: Write, E: Write>(
     rt: &R,
     asked: &A,

@@ -1,4 +1,4 @@
-//! Keys that were drawn before the clock starts, which workers go through from places of their own.
+//! Keys drawn before the timing starts, which each worker reads from a position of its own.
 
 use crate::failure::Failure;
 use crate::keys::Keys;
@@ -7,17 +7,17 @@ use std::fs::{File, Files};
 use std::io::Read;
 use std::num::NonZeroU64;
 
-// How far one worker's first draw is from the next worker's.
+// The distance between the first draws of two successive workers.
 const APART: usize = 131_072;
 
-/// Drawn keys in their order. After the last the first comes again.
+/// Drawn keys in order. After the last the first follows again.
 #[derive(Drop)]
 pub struct Draws {
     keys: Vec<u64>,
 }
 
 impl Draws {
-    /// So many keys, drawn evenly from those below `entries`.
+    /// Draws `count` keys uniformly from those below `entries`.
     pub fn even(alloc: Global, entries: NonZeroU64, count: u32) -> Result<Draws, AllocError> {
         let mut drawn = Keys::of(entries);
         let mut keys = Vec::new(alloc);
@@ -27,9 +27,10 @@ impl Draws {
         Ok(Draws { keys })
     }
 
-    /// The keys of a file: numbers of four bytes each, the least byte first.
+    /// Reads the keys of a file: 4-byte little-endian numbers.
     ///
-    /// `Keys` where it has none, or its last is cut off; `System` where it can't be read.
+    /// Returns `Keys` if there are none or the last is incomplete, and `System` if the file cannot
+    /// be read.
     pub fn of_file<R: Files>(rt: &R, alloc: Global, path: &str) -> Result<Draws, Failure> {
         let mut file = File::open(rt, path)?;
         let mut bytes = Vec::new(alloc);
@@ -37,7 +38,7 @@ impl Draws {
         Draws::of_bytes(alloc, &bytes)
     }
 
-    // The keys of these bytes.
+    // Parses the keys in these bytes.
     fn of_bytes(alloc: Global, bytes: &[u8]) -> Result<Draws, Failure> {
         if bytes.is_empty() || bytes.len() % 4 != 0 {
             return Err(Failure::Keys);
@@ -51,12 +52,12 @@ impl Draws {
         Ok(Draws { keys })
     }
 
-    /// All keys, in their order.
+    /// Returns all keys in order.
     pub fn keys(&self) -> &[u64] {
         self.keys.as_slice()
     }
 
-    /// The draws of a worker, from its own place on.
+    /// Returns the draws of a worker, from its own position on.
     pub fn of_worker(&self, worker: u32) -> Drawing<'_> {
         let place = (worker as usize).wrapping_mul(APART);
         Drawing {
@@ -66,7 +67,7 @@ impl Draws {
     }
 }
 
-/// The draws of a worker, one after another.
+/// The draws of a worker.
 #[derive(Drop)]
 pub struct Drawing<'a> {
     keys: &'a [u64],
@@ -74,7 +75,7 @@ pub struct Drawing<'a> {
 }
 
 impl Drawing<'_> {
-    /// The next key; none where there are no keys at all.
+    /// Returns the next key, or `None` if there are no keys at all.
     pub fn draw(&mut self) -> Option<u64> {
         if self.place >= self.keys.len() {
             self.place = 0;
@@ -105,7 +106,7 @@ mod tests {
     #[test]
     fn a_worker_goes_round(rt: HostRuntime) -> Result<(), Fail> {
         let draws = Draws::of_bytes(rt.alloc(), &[7, 0, 0, 0, 8, 0, 0, 0, 9, 0, 0, 0])?;
-        // 131,072 is 2 more than a multiple of 3.
+        // 131,072 is 2 modulo 3.
         let mut drawing = draws.of_worker(1);
         for key in [9, 7, 8, 9] {
             assert_eq!(rt; drawing.draw(), Some(key));

@@ -1,5 +1,6 @@
-//! Why the program ends early.
-//! Each failure has its line on standard error, and its status.
+//! Why the program fails.
+//!
+//! Each failure has its line on standard error, and its exit status.
 
 use crate::plan::MOST_ENTRIES;
 use concurrent_lru::lru_core::Refusal;
@@ -8,26 +9,25 @@ use std::alloc::{AllocError, AllocFailed};
 use std::io;
 use std::io::{ErrorKind, Write};
 
-/// Why the program does not end with status 0.
+/// Why the program fails.
 #[derive(Clone, Copy, Debug, PartialEq, Eq)]
 pub enum Failure {
-    /// The words are none that the program knows.
+    /// The arguments are invalid.
     Usage,
-    /// A word that should be a number of entries is none, or one that is out of bounds.
+    /// An argument is not a number of entries, or it is out of range.
     Entries,
-    /// A call of the cache was refused; a growth of the program's own counts as one too.
+    /// A call of the cache was refused, or memory for the program's own data.
     Refused(Refusal),
-    /// The file of keys has none, or its last is cut off.
+    /// The file of keys has none, or its last is incomplete.
     Keys,
     /// A call of the stress workload got no value, or that of another key.
     Answers,
-    /// A file could not be read, a write failed, or the clock or the system's random numbers did.
+    /// Reading a file, a write, the clock or the system's random numbers failed.
     System,
 }
 
 impl Failure {
-    /// The failure of reading the words with this error: one that is no text is no word that the
-    /// program knows.
+    /// Converts the error of reading the arguments. An argument that is not text is a usage error.
     pub fn of_words(error: &io::Error) -> Failure {
         match error.kind() {
             ErrorKind::OutOfMemory => Failure::Refused(Refusal::Memory),
@@ -35,8 +35,8 @@ impl Failure {
         }
     }
 
-    /// Writes the failure to `err`, in one line, and answers the status to end with: 2 for the
-    /// wrong words, else 1.
+    /// Writes the failure to `err` in one line, and returns the exit status: 2 for invalid
+    /// arguments, otherwise 1.
     pub fn report<E: Write>(self, err: &mut E) -> u8 {
         let told = match self {
             Failure::Usage => writeln!(

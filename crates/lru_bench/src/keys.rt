@@ -1,5 +1,7 @@
-//! The keys that a workload asks for, drawn evenly, and those that leave the parts for absent ones.
-//! Both come by rules that cost next to nothing beside what is timed.
+//! The keys that a workload asks for, drawn uniformly, and those that are evicted from the parts
+//! for absent ones.
+//!
+//! Generating both costs next to nothing compared with what is timed.
 ghost use Rattle.std.specs.Prelude.{◌<◌};
 
 use std::num::NonZeroU64;
@@ -13,7 +15,7 @@ pub struct Keys {
 }
 
 impl Keys {
-    /// The keys from 0 up to `entries`, from the generator's first state on.
+    /// Creates a generator of keys below `entries`, in its initial state.
     pub fn of(entries: NonZeroU64) -> Keys {
         Keys {
             entries: entries.get(),
@@ -21,7 +23,7 @@ impl Keys {
         }
     }
 
-    /// The next key.
+    /// Returns the next key.
     pub fn draw(&mut self) -> u64
         ensures { result < self.old.entries }
     {
@@ -37,23 +39,23 @@ impl Keys {
 /// The first key that no cache is filled with.
 pub const FIRST_ABSENT: u64 = 10_000_000;
 
-// A prime, so that its multiples meet each place once before they come back to 0.
+// A prime, so that its multiples reach each place once before they return to 0.
 const STRIDE: u64 = 618_970_019;
 
-/// The keys that leave for absent ones, which come in their order: first those from 0 up to the
-/// number of entries, and then, round after round, those that came in the round before. In a round
-/// each leaves once, in an order that looks random.
+/// The keys that are evicted for absent ones, which come in ascending order: first those from 0 up
+/// to the number of entries, and then, round after round, those that came in the round before. In a
+/// round each is evicted once, in an order that looks random.
 #[derive(Drop)]
 pub struct Leaving {
     entries: u64,
     stride: u64,
-    // The least key of the round, and how far the next one is from it.
+    // The least key of the round, and the distance of the next one from it.
     first: u64,
     place: u64,
 }
 
 impl Leaving {
-    /// Those of so many entries.
+    /// Creates the keys for this many entries.
     pub fn of(entries: NonZeroU64) -> Leaving {
         Leaving {
             entries: entries.get(),
@@ -63,7 +65,7 @@ impl Leaving {
         }
     }
 
-    /// The next one.
+    /// Returns the next key.
     pub fn draw(&mut self) -> u64 {
         let key = self.first.wrapping_add(self.place);
         self.place = self.next_place();
@@ -73,7 +75,7 @@ impl Leaving {
         key
     }
 
-    // A stride on, and round the end.
+    // One stride on, modulo the number of entries.
     fn next_place(&self) -> u64 {
         let room = self.entries.wrapping_sub(self.place);
         if self.stride < room {
@@ -83,7 +85,7 @@ impl Leaving {
         }
     }
 
-    // The least key of the next round.
+    // Returns the least key of the next round.
     fn next_first(&self) -> u64 {
         if self.first < FIRST_ABSENT {
             FIRST_ABSENT

@@ -1,5 +1,5 @@
-//! A benchmark of the cache: it times its workloads on one lock and on shards, or prints what
-//! they read. All but the words and the two streams of the system stands in `program`.
+//! A benchmark of the cache: times its workloads on one lock and on shards, or prints what they
+//! read. Everything but the access to the process is done by `program`.
 #![tactic(auto)]
 
 mod bench;

@@ -1,5 +1,5 @@
 //! The workload of reads that mostly hit: workers that share a cache ask it for drawn keys, by
-//! `get_or_init` alone, or by `read` and by `get_or_init` only where nothing is found.
+//! `get_or_init` alone, or by `read` and, if nothing is found, by `get_or_init`.
 
 use crate::draws::Draws;
 use concurrent_lru::lru_core::Refusal;
@@ -9,21 +9,21 @@ use std::sync::atomic::{AtomicU64, Ordering};
 use std::thread::Threads;
 use std::{fmt, thread};
 
-/// What an operation read, and whether the value was there.
+/// The result of an operation: the value, and whether it was present.
 #[derive(Clone, Copy)]
 pub struct Found {
     value: u64,
     hit: bool,
 }
 
-/// A cache and how it is asked. The value of a key is the key. It has no associated type, since the
-/// checker covers no closure of a thread over one that has.
+/// A cache and the kind of call on it. The value of a key is the key. It has no associated type,
+/// since the checker does not support thread closures over a type that has one.
 pub trait Asked {
-    /// Reads the value of a key, which is made where it is not there.
+    /// Reads the value of a key, which is made if there is none.
     fn ask(&self, key: u64) -> Result<Found, Refusal>;
 }
 
-/// A cache that is asked by `get_or_init`.
+/// A cache that is called by `get_or_init`.
 #[derive(Drop)]
 pub struct ByInit<C> {
     /// A reference to the cache.
@@ -36,7 +36,7 @@ impl<C: Cached<u64>> Asked for ByInit<C> {
     }
 }
 
-/// A cache that is asked by `read`, and by `get_or_init` where nothing is found.
+/// A cache that is called by `read` and, if nothing is found, by `get_or_init`.
 #[derive(Drop)]
 pub struct ByRead<C> {
     /// A reference to the cache.
@@ -62,7 +62,7 @@ fn make<C: Cached<u64>>(cache: C, key: u64) -> Result<Found, Refusal> {
     Ok(Found { value, hit: !made })
 }
 
-/// What came of a run: the sum of the values, which no schedule changes, and how many were there.
+/// The result of a run: the sum of the values, which is the same on every schedule, and the hits.
 #[derive(Clone, Copy)]
 pub struct Told {
     /// The sum of the values that were read.
@@ -71,7 +71,7 @@ pub struct Told {
     pub hits: u64,
 }
 
-/// Asks for all keys once, in their order.
+/// Asks for all keys once, in order.
 pub fn ask_all<A: Asked>(asked: &A, draws: &Draws) -> Result<(), Refusal> {
     for key in draws.keys() {
         let _found = asked.ask(*key)?;
@@ -79,9 +79,9 @@ pub fn ask_all<A: Asked>(asked: &A, draws: &Draws) -> Result<(), Refusal> {
     Ok(())
 }
 
-/// Asks for `operations` keys in each of some threads.
+/// Asks for `operations` keys on each of some threads.
 ///
-/// `Memory` where a thread could not be started, or a call was refused.
+/// Returns `Memory` if a thread could not be started or a call was refused.
 pub fn read_mostly<R: Threads + Wait + Sync, A: Asked + Sync>(
     rt: &R,
     asked: &A,
@@ -112,7 +112,7 @@ pub fn read_mostly<R: Threads + Wait + Sync, A: Asked + Sync>(
     }
 }
 
-// One worker's operations.
+// Runs one worker's operations.
 fn work<A: Asked>(asked: &A, draws: &Draws, worker: u32, operations: u32) -> Result<Told, Refusal> {
     let mut drawing = draws.of_worker(worker);
     let mut told = Told { sum: 0, hits: 0 };
@@ -127,14 +127,14 @@ fn work<A: Asked>(asked: &A, draws: &Draws, worker: u32, operations: u32) -> Res
     Ok(told)
 }
 
-/// The part of operations that found their value, in ten-thousandths.
+/// The fraction of operations that found their value, in ten-thousandths.
 #[derive(Clone, Copy)]
 pub struct HitRatio {
     parts: u64,
 }
 
 impl HitRatio {
-    /// So many of so many, rounded down; 0 of none.
+    /// Returns `hits` divided by `operations`, rounded down, or 0 if there were none.
     pub fn of(hits: u64, operations: u64) -> HitRatio {
         let parts = hits
             .saturating_mul(10_000)

@@ -1,5 +1,6 @@
-//! The parts that the cache is made of, with no rule of a cache: a lock, a map from keys to places,
-//! a slab of boxed values. What these take alone is what no body of the cache does without.
+//! The parts that the cache is built from, without its rules: a lock, a map from keys to places,
+//! and a slab of boxed values. Their cost is the part of the cache's cost that no implementation
+//! avoids.
 
 use concurrent_lru::lru_core::Refusal;
 use lru_stress::workers::{Answer, Shared, Unmade};
@@ -9,20 +10,20 @@ use std::alloc::Global;
 use std::collections::HashMap;
 use std::sync::{Arc, Mutex, MutexGuard, Wait};
 
-// How many shards the cache has where nothing else is said.
+// The default number of shards.
 const SHARDS: u64 = 16;
 
-// No workload has this key.
+// A key that no workload has.
 const NO_KEY: u64 = u64::MAX;
 
-// A key, and its value once that is there.
+// A key, and its value once there is one.
 #[derive(Drop)]
 struct Slot {
     key: u64,
     value: Option<Arc<u64>>,
 }
 
-// What is under the lock.
+// The data under the lock.
 #[derive(Drop)]
 struct Stored {
     places: HashMap<u64, usize>,
@@ -30,7 +31,7 @@ struct Stored {
 }
 
 impl Stored {
-    // The place of a key, and a copy of its value.
+    // Returns the place of a key, and a copy of its value.
     #[inline(always)]
     fn copy(&self, key: u64) -> Result<Option<(usize, Arc<u64>)>, Refusal> {
         let Some(place) = self.places.get(&key) else {
@@ -45,7 +46,7 @@ impl Stored {
         }
     }
 
-    // Whether the place has the key.
+    // Returns whether the place has the key.
     #[inline(always)]
     fn has(&self, place: usize, key: u64) -> bool {
         match self.slots.get(place) {
@@ -54,13 +55,13 @@ impl Stored {
         }
     }
 
-    // Takes a key away, and what was under it.
+    // Removes a key, and returns its slot.
     fn take(&mut self, key: u64) -> Option<Box<Slot>> {
         let place = self.places.remove(&key)?;
         self.slots.try_remove(place)
     }
 
-    // Keeps a key that has no value yet, and tells its place.
+    // Inserts a key that has no value yet, and returns its place.
     fn keep(&mut self, alloc: Global, key: u64) -> Result<usize, Refusal> {
         let slot = Box::new(alloc, Slot { key, value: None })?;
         let place = self.slots.insert(slot)?;
@@ -76,7 +77,7 @@ impl Stored {
     }
 }
 
-/// Values under one lock. Each call gets it as often as the cache's call does.
+/// Values under one lock. Each call acquires it as often as the cache's call does.
 #[derive(Drop)]
 pub struct Parts<R: Wait> {
     alloc: Global,
@@ -85,7 +86,7 @@ pub struct Parts<R: Wait> {
 }
 
 impl<R: Wait + Drop> Parts<R> {
-    // No values.
+    // Creates an empty set of values.
     fn new(alloc: Global, rt: R) -> Parts<R> {
         let stored = Stored {
             places: HashMap::new(alloc),
@@ -98,7 +99,7 @@ impl<R: Wait + Drop> Parts<R> {
         }
     }
 
-    /// The keys from 0 up to `keys`, each with itself as its value.
+    /// Creates the keys from 0 up to `keys`, each with itself as its value.
     pub fn filled(alloc: Global, rt: R, keys: u64) -> Result<Parts<R>, Refusal> {
         let filled = Parts::new(alloc, rt);
         for key in 0..keys {
@@ -115,8 +116,8 @@ impl<R: Wait + Drop> Parts<R> {
         }
     }
 
-    /// The value of a key: takes the lock to look it up and to copy its Arc, and again, as the drop
-    /// of a handle does.
+    /// Returns the value of a key. Acquires the lock to look it up and to copy its `Arc`, and again
+    /// as the drop of a handle does.
     #[inline(always)]
     pub fn hit(&self, key: u64) -> Result<Option<u64>, Refusal> {
         let Some((place, value)) = self.enter().copy(key)? else {
@@ -126,8 +127,8 @@ impl<R: Wait + Drop> Parts<R> {
         Ok(self.enter().has(place, key).then_some(read))
     }
 
-    /// Makes a value for a key, and removes another key for it: takes the lock for that, to store
-    /// the value, and again, as the drop of a handle does.
+    /// Makes a value for a key and removes another key for it. Acquires the lock for that, to store
+    /// the value, and again as the drop of a handle does.
     pub fn miss(&self, old: u64, key: u64) -> Result<u64, Refusal> {
         let (place, _gone) = self.change(old, key)?;
         let value = Arc::new(self.alloc, key)?;
@@ -137,7 +138,7 @@ impl<R: Wait + Drop> Parts<R> {
         Ok(read)
     }
 
-    // Keeps a key, for which another goes.
+    // Inserts a key and removes another for it.
     fn change(&self, old: u64, key: u64) -> Result<(usize, Option<Box<Slot>>), Refusal> {
         let mut stored = self.enter();
         let place = stored.keep(self.alloc, key)?;
@@ -160,14 +161,14 @@ impl<R: Wait + Drop> Shared for Parts<R> {
     }
 }
 
-/// Such values under as many locks as the cache in shards has.
+/// Such values under as many locks as the sharded cache has.
 #[derive(Drop)]
 pub struct PartsInShards<R: Wait> {
     shards: Vec<Parts<R>>,
 }
 
 impl<R: Wait + Clone + Drop> PartsInShards<R> {
-    /// The keys from 0 up to `keys`, each with itself as its value.
+    /// Creates the keys from 0 up to `keys`, each with itself as its value.
     pub fn filled(alloc: Global, rt: &R, keys: u64) -> Result<PartsInShards<R>, Refusal> {
         let mut shards = Vec::new(alloc);
         for _ in 0..SHARDS {

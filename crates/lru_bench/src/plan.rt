@@ -1,4 +1,4 @@
-//! How much of each workload is run, and what is shown of it.
+//! The sizes of the workloads, and what is shown of them.
 
 use crate::draws::Draws;
 use crate::failure::Failure;
@@ -6,14 +6,14 @@ use crate::keys::FIRST_ABSENT;
 use std::alloc::{AllocError, Global};
 use std::num::NonZeroU64;
 
-/// The most entries that `time` fills a cache with: with more, keys that should be absent would be
-/// there.
+/// The maximum number of entries that `time` fills a cache with: with more, keys that should be
+/// absent would be present.
 pub const MOST_ENTRIES: u64 = FIRST_ABSENT;
 
 /// What a line ends with.
 #[derive(Clone, Copy, Debug, PartialEq, Eq)]
 pub enum Shown {
-    /// The sum of the values that were read, which no schedule changes.
+    /// The sum of the values that were read, which is the same on every schedule.
     Sum,
     /// The nanoseconds that an operation took.
     Time,
@@ -22,18 +22,18 @@ pub enum Shown {
 /// The sizes of the workloads.
 #[derive(Drop)]
 pub struct Plan {
-    /// How many entries the cache of one thread has, run after run.
+    /// The numbers of entries of the cache of a single thread, one for each run.
     pub entries: Vec<NonZeroU64>,
-    /// How many operations a workload of one thread is.
+    /// The number of operations of a workload of a single thread.
     pub operations: u32,
-    /// How many calls a worker of the stress workload makes.
+    /// The number of calls of a worker of the stress workload.
     pub calls: u32,
     /// What is shown.
     pub shown: Shown,
 }
 
 impl Plan {
-    /// Small workloads, whose sums are shown.
+    /// Returns small workloads, whose sums are shown.
     pub fn check(alloc: Global) -> Result<Plan, Failure> {
         Ok(Plan {
             entries: sizes(alloc, &[8, 100])?,
@@ -43,10 +43,10 @@ impl Plan {
         })
     }
 
-    /// Workloads that are long enough to be timed, on caches of so many entries, or of 1,000 and
-    /// of 1,000,000 where no word says how many.
+    /// Returns workloads that are long enough to be timed, on caches with these numbers of entries,
+    /// or with 1,000 and 1,000,000 if there are no arguments.
     ///
-    /// `Entries` at a word that is not the digits of a number from 1 to `MOST_ENTRIES`.
+    /// Returns `Entries` if an argument is not a number from 1 to `MOST_ENTRIES` in digits.
     pub fn time(alloc: Global, words: &[String]) -> Result<Plan, Failure> {
         let mut entries = parsed(alloc, words)?;
         if words.is_empty() {
@@ -68,14 +68,14 @@ pub struct Mostly {
     pub draws: Draws,
     /// The capacity of each cache.
     pub capacity: u64,
-    /// How many operations a worker makes.
+    /// The number of operations of a worker.
     pub operations: u32,
     /// What is shown.
     pub shown: Shown,
 }
 
 impl Mostly {
-    /// A small workload, whose sums are shown.
+    /// Returns a small workload, whose sums are shown.
     pub fn check(alloc: Global) -> Result<Mostly, Failure> {
         let entries = NonZeroU64::new(200).ok_or(Failure::Usage)?;
         Ok(Mostly {
@@ -86,7 +86,7 @@ impl Mostly {
         })
     }
 
-    /// A workload on these keys that is long enough to be timed.
+    /// Returns a workload on these keys that is long enough to be timed.
     pub fn time(draws: Draws) -> Mostly {
         Mostly {
             draws,
@@ -97,7 +97,7 @@ impl Mostly {
     }
 }
 
-// Those of the numbers that are above 0.
+// Returns those of the numbers that are above 0.
 fn sizes(alloc: Global, numbers: &[u64]) -> Result<Vec<NonZeroU64>, AllocError> {
     numbers
         .iter()
@@ -105,7 +105,7 @@ fn sizes(alloc: Global, numbers: &[u64]) -> Result<Vec<NonZeroU64>, AllocError> 
         .collect(alloc)
 }
 
-// The numbers that the words are.
+// Parses the arguments as numbers.
 fn parsed(alloc: Global, words: &[String]) -> Result<Vec<NonZeroU64>, Failure> {
     let mut entries = Vec::new(alloc);
     for word in words {
@@ -117,8 +117,7 @@ fn parsed(alloc: Global, words: &[String]) -> Result<Vec<NonZeroU64>, Failure> {
     Ok(entries)
 }
 
-// The number of entries that a word is, where it is within bounds. A sign is no digit, though
-// `parse` takes one.
+// Parses a number of entries within the range. A sign is not a digit, though `parse` accepts one.
 fn number(word: &str) -> Option<NonZeroU64> {
     if word.starts_with('+') {
         return None;
@@ -133,7 +132,7 @@ fn number(word: &str) -> Option<NonZeroU64> {
 mod tests {
     use super::*;
 
-    // The numbers of entries that `time` takes from its words.
+    // Returns the numbers of entries that `time` parses from its arguments.
     fn entries(alloc: Global, words: &[&str]) -> Result<Vec<u64>, Failure> {
         let words: Vec<String> = words
             .iter()

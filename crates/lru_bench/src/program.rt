@@ -1,5 +1,4 @@
-//! What the program does with its words.
-//! It writes to two writers that are handed in, so that tests run it over memory.
+//! The program, over streams that the caller provides, so that tests run it in memory.
 
 use crate::bench;
 use crate::draws::Draws;
@@ -63,7 +62,7 @@ fn run<R: Threads + Wait + Clock + RandomSource + Files + Sync, O: Write, E: Wri
     bench::run_mostly(rt, alloc, &Mostly::check(alloc)?, out, err)
 }
 
-// What the words ask for.
+// Returns the plan that the arguments ask for.
 fn plan(alloc: Global, words: &[String]) -> Result<Plan, Failure> {
     match words {
         [word] if word.as_str() == "check" => Plan::check(alloc),
@@ -72,7 +71,7 @@ fn plan(alloc: Global, words: &[String]) -> Result<Plan, Failure> {
     }
 }
 
-// Writes how many processors there are, where the system says it.
+// Writes the number of processors, if the system reports it.
 fn tell_machine<R: Threads, E: Write>(rt: &R, err: &mut E) -> Result<(), Failure> {
     if let Ok(processors) = thread::available_parallelism(rt) {
         writeln!(err, "processors {processors}")?;

@@ -1,4 +1,4 @@
-//! The lines of the output: a workload, and what came of it.
+//! The lines of the output: a workload and its result.
 
 use crate::failure::Failure;
 use crate::plan::Shown;
@@ -16,15 +16,15 @@ pub struct Work {
     pub name: &'static str,
     /// The capacity of the cache.
     pub entries: u64,
-    /// How many threads shared the operations.
+    /// The number of threads that shared the operations.
     pub threads: u32,
-    /// How many operations each thread had.
+    /// The number of operations of each thread.
     pub operations: u32,
 }
 
 impl Work {
-    /// A workload of this name, on this cache of this capacity, of so many threads with so many
-    /// operations each.
+    /// Creates a workload of this name on this cache, with a capacity, a number of threads and a
+    /// number of operations of each.
     pub fn new(
         system: &'static str,
         name: &'static str,
@@ -61,12 +61,12 @@ pub struct Report<'a, R, O> {
 }
 
 impl<'a, R: Clock, O: Write> Report<'a, R, O> {
-    /// A report of no line yet.
+    /// Creates a report without lines.
     pub fn new(rt: &'a R, out: &'a mut O, shown: Shown) -> Report<'a, R, O> {
         Report { rt, out, shown }
     }
 
-    /// The time now, at which a workload begins.
+    /// Returns the time at which a workload begins.
     pub fn start(&self) -> Result<Instant, Failure> {
         Ok(Instant::now(self.rt)?)
     }
@@ -89,8 +89,8 @@ pub struct PerOperation {
 }
 
 impl PerOperation {
-    /// The time that a workload took, divided by the operations of all its threads and rounded
-    /// down; 0 where it had none.
+    /// Returns the time that a workload took divided by the operations of all its threads, rounded
+    /// down, or 0 if it had none.
     pub fn of(taken: Duration, work: &Work) -> PerOperation {
         let nanoseconds = u64::try_from(taken.as_nanos()).unwrap_or(u64::MAX);
         let operations = u64::from(work.operations).saturating_mul(u64::from(work.threads));

@@ -9,7 +9,7 @@ use lru_support::calls::Call;
 use std::alloc::Global;
 use std::thread::Threads;
 
-// From which all calls are drawn.
+// The seed of all calls.
 const SEED: u64 = 1;
 
 /// A reference to a cache of one lock or in shards. The value of a key is the key.
@@ -28,7 +28,7 @@ impl<C: Cached<u64>> Shared for Keyed<C> {
     }
 }
 
-// What `init` answers: the key, or that it fails.
+// The `init` of a call: returns the key, or fails.
 fn make(call: &Call) -> Result<u64, Unmade> {
     if call.fails {
         Err(Unmade::Failed)

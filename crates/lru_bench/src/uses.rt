@@ -1,6 +1,7 @@
-//! The workloads of one thread, on a full cache on one lock. Each handle is dropped at once. And
-//! the look-ups of the first on a map alone, and hits and misses on the parts of the cache, which
-//! show what the cache adds to them.
+//! The workloads of a single thread, on a full cache on one lock. Each handle is dropped at once.
+//!
+//! The lookups of the first on a map alone, and hits and misses on the parts of the cache, show
+//! what the cache adds to them.
 
 use crate::keys::{FIRST_ABSENT, Keys, Leaving};
 use crate::parts::Parts;
@@ -19,7 +20,7 @@ pub fn fill<R: Wait>(cache: &LruCache<u64, u64, R>, entries: u64) -> Result<(), 
     Ok(())
 }
 
-/// A map from the keys from 0 up to `entries` to themselves.
+/// Creates a map from the keys from 0 up to `entries` to themselves.
 pub fn map_of(alloc: Global, entries: u64) -> Result<HashMap<u64, u64>, AllocError> {
     let mut map = HashMap::new(alloc);
     for key in 0..entries {
@@ -28,7 +29,7 @@ pub fn map_of(alloc: Global, entries: u64) -> Result<HashMap<u64, u64>, AllocErr
     Ok(map)
 }
 
-/// Looks present keys up in a map, and answers the sum of their values.
+/// Looks up present keys in a map, and returns the sum of their values.
 pub fn look_up(map: &HashMap<u64, u64>, keys: &mut Keys, operations: u32) -> u64 {
     let mut sum: u64 = 0;
     for _ in 0..operations {
@@ -39,7 +40,7 @@ pub fn look_up(map: &HashMap<u64, u64>, keys: &mut Keys, operations: u32) -> u64
     sum
 }
 
-/// Looks present keys up by `get`, and answers the sum of their values.
+/// Looks up present keys by `get`, and returns the sum of their values.
 pub fn hit_get<R: Wait>(
     cache: &LruCache<u64, u64, R>,
     keys: &mut Keys,
@@ -54,7 +55,7 @@ pub fn hit_get<R: Wait>(
     Ok(sum)
 }
 
-/// Reads present keys by `read`, and answers the sum of their values.
+/// Reads present keys by `read`, and returns the sum of their values.
 pub fn hit_read<R: Wait>(
     cache: &LruCache<u64, u64, R>,
     keys: &mut Keys,
@@ -69,8 +70,8 @@ pub fn hit_read<R: Wait>(
     Ok(sum)
 }
 
-/// Asks for present keys by `get_or_init`, and answers the sum of their values. One that had to
-/// be made would count as 0.
+/// Asks for present keys by `get_or_init`, and returns the sum of their values. One that had to be
+/// made would count as 0.
 pub fn hit_init<R: Wait>(
     cache: &LruCache<u64, u64, R>,
     keys: &mut Keys,
@@ -84,7 +85,7 @@ pub fn hit_init<R: Wait>(
     Ok(sum)
 }
 
-/// Makes absent keys, for each of which an idle one is evicted, and answers the sum of their
+/// Makes absent keys, for each of which an idle one is evicted, and returns the sum of their
 /// values.
 pub fn miss_evict<R: Wait>(cache: &LruCache<u64, u64, R>, operations: u32) -> Result<u64, Refusal> {
     let mut sum: u64 = 0;
@@ -95,7 +96,7 @@ pub fn miss_evict<R: Wait>(cache: &LruCache<u64, u64, R>, operations: u32) -> Re
     Ok(sum)
 }
 
-/// `hit_get` by the parts alone.
+/// `hit_get` on the parts alone.
 pub fn hit_parts<R: Wait + Drop>(
     parts: &Parts<R>,
     keys: &mut Keys,
@@ -110,8 +111,8 @@ pub fn hit_parts<R: Wait + Drop>(
     Ok(sum)
 }
 
-/// `miss_evict` by the parts alone. The keys leave in an order that looks random, as the order of
-/// the last uses does.
+/// `miss_evict` on the parts alone. The keys are evicted in an order that looks random, as the
+/// order of the last uses does.
 pub fn miss_parts<R: Wait + Drop>(
     parts: &Parts<R>,
     entries: NonZeroU64,

@@ -1,5 +1,5 @@
-//! Prints a file piece by piece: each piece asks for its page, so a page that was kept serves more
-//! than one.
+//! Prints a file piece by piece. Each piece asks for its page, so a page in the cache serves
+//! several.
 
 use crate::counted::Counted;
 use crate::failure::Failure;
@@ -11,26 +11,26 @@ use std::io::Write;
 use std::os::unix::fs::FileExt;
 use std::sync::Wait;
 
-/// How many bytes a block has, but for the last.
+/// The number of bytes of each block except the last.
 pub const BLOCK: u64 = 512;
 
-/// How many bytes a piece has, but for the last.
+/// The number of bytes of each piece except the last.
 pub const PIECE: usize = 128;
 
-// How many pieces a block has.
+// The number of pieces of a block.
 const PIECES: u64 = 4;
 
-/// What it took to print a file.
+/// The counts of printing a file.
 #[derive(Clone, Copy, Debug, PartialEq, Eq)]
 pub struct Counts {
-    /// How many blocks were read from the file.
+    /// The number of blocks that were read from the file.
     pub read: u64,
-    /// How often a page was found in memory.
+    /// The number of times that a page was found in the cache.
     pub found: u64,
 }
 
-/// Prints the file of a path to `out`, through a cache of `pages` pages; one that has no length is
-/// printed past the cache, to its end.
+/// Prints the file at a path to `out`, through a cache of `pages` pages. A file that has no length
+/// is printed without the cache, to its end.
 pub fn cat<'a, R: Wait, F: Files<File = File>, O: Write>(
     rt: &R,
     files: &F,
@@ -71,8 +71,8 @@ fn print_pages<'a, R: Wait, O: Write>(
     })
 }
 
-// Prints a file whose length is 0: one that is empty, or one of the system's own, as those of
-// /proc, which have bytes all the same. Each read counts as a block.
+// Prints a file whose length is 0: one that is empty, or one of the system's own, such as those of
+// /proc, which do have bytes. Each read counts as a block.
 fn print_to_the_end<'a, O: Write>(
     path: &'a str,
     file: &File,

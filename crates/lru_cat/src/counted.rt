@@ -1,9 +1,9 @@
-//! A reader that counts the blocks that were asked of it.
+//! A reader that counts the blocks that were requested.
 
 use lru_pages::Blocks;
 use std::sync::atomic::{AtomicU64, Ordering};
 
-/// A reader of blocks, and how many were asked of it.
+/// A reader of blocks, and how many were requested.
 #[derive(Drop)]
 pub struct Counted<B> {
     blocks: B,
@@ -11,7 +11,7 @@ pub struct Counted<B> {
 }
 
 impl<B: Blocks> Counted<B> {
-    /// A reader that nothing was asked of.
+    /// Creates a reader with a count of 0.
     pub fn new(blocks: B) -> Counted<B> {
         Counted {
             blocks,
@@ -19,7 +19,7 @@ impl<B: Blocks> Counted<B> {
         }
     }
 
-    /// How many blocks were asked of it.
+    /// Returns how many blocks were requested.
     pub fn asked(&self) -> u64 {
         self.asked.load(Ordering::SeqCst)
     }

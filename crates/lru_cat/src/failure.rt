@@ -1,5 +1,6 @@
-//! Why the program ends early.
-//! Each failure has its line on standard error, and its status.
+//! Why the program fails.
+//!
+//! Each failure has its line on standard error, and its exit status.
 
 use concurrent_lru::unsharded::GetError;
 use lru_files::{Fault, OpenError};
@@ -7,16 +8,16 @@ use std::alloc::AllocError;
 use std::io::{ErrorKind, Write};
 use std::{fmt, io};
 
-/// Why the program does not end with status 0. Where it is about the file, it has the path.
+/// Why the program fails. If it is about the file, it has the path.
 #[derive(Debug, Drop)]
 pub enum Failure<'a> {
-    /// The words are none that the program knows.
+    /// The arguments are invalid.
     Usage,
-    /// A word is not UTF-8, as every word and path of this program is.
+    /// An argument is not UTF-8.
     NotText,
-    /// There is no memory, for the program's own or for a page.
+    /// There is no memory for the program's own data or for a page.
     Memory,
-    /// A number of the cache is at its end.
+    /// A number of the cache is at its maximum.
     Overflow,
     /// The file was not opened.
     Open(&'a str, OpenError),
@@ -27,7 +28,7 @@ pub enum Failure<'a> {
 }
 
 impl<'a> Failure<'a> {
-    /// The failure of reading the words with this error.
+    /// Converts the error of reading the arguments.
     pub fn of_words(error: &io::Error) -> Failure<'a> {
         match error.kind() {
             ErrorKind::OutOfMemory => Failure::Memory,
@@ -35,7 +36,7 @@ impl<'a> Failure<'a> {
         }
     }
 
-    /// The failure of a page of the file of this path.
+    /// Converts the error of a page of the file at this path.
     pub fn of_page(path: &'a str, error: GetError<Fault>) -> Failure<'a> {
         match error {
             GetError::Memory => Failure::Memory,
@@ -45,8 +46,8 @@ impl<'a> Failure<'a> {
         }
     }
 
-    /// Writes the failure to `err`, in one line, and answers the status to end with: 2 for the
-    /// wrong words, else 1.
+    /// Writes the failure to `err` in one line, and returns the exit status: 2 for invalid
+    /// arguments, otherwise 1.
     pub fn report<E: Write>(self, err: &mut E) -> u8 {
         let told = writeln!(err, "{self}");
         match (self, told) {

@@ -1,5 +1,5 @@
-//! Prints a file through a cache of its pages, and tells how many blocks were read and how many
-//! were found in memory. All but the words and the two streams of the system stands in `program`.
+//! Prints a file through a cache of its pages, and reports how many blocks were read and how many
+//! pages were found in the cache. Everything but the access to the process is done by `program`.
 #![tactic(auto)]
 
 mod cat;
@@ -28,8 +28,8 @@ fn main(rt: HostRuntime) -> ExitCode {
     ExitCode::from(status)
 }
 
-// The words after the program's name. `OutOfMemory` where memory for one is refused; another error
-// where one is not UTF-8.
+// Returns the arguments after the program's name. Returns `OutOfMemory` if memory for one is
+// refused, and another error if one is not UTF-8.
 fn words<R: Env + AllocGlobal>(rt: &R) -> io::Result<Vec<String>> {
     Ok(env::args(rt)?.skip(1).collect(rt.alloc())?)
 }

@@ -1,5 +1,4 @@
-//! What the program does with its words.
-//! It writes to two writers that are handed in, so that tests run it over memory.
+//! The program, over streams that the caller provides, so that tests run it in memory.
 
 use crate::cat::cat;
 use crate::failure::Failure;
@@ -8,16 +7,16 @@ use std::fs::{File, Files};
 use std::io::Write;
 use std::sync::Wait;
 
-// How many pages are kept where the words don't say.
+// The default number of pages.
 const PAGES: u64 = 16;
 
-/// Runs the program on the words after its name and answers the status to end with.
+/// Runs the program on its arguments and returns the exit status.
 ///
-/// A path writes the file to `out`, through a cache of 16 pages, or of as many as the number after
-/// it says, which is digits from 0 to 9 alone. How many blocks were read and how many answers came
-/// from memory goes to `err` then: status 0. Any other words write the usage line to `err`: status
-/// 2. A file that cannot be opened or read, whose path the line on `err` names, a write that fails
-/// and want of memory end with status 1; what was read before is written then.
+/// A path writes the file to `out`, through a cache of 16 pages, or of the number given after the
+/// path in digits. How many blocks were read and how many pages came from the cache is then written
+/// to `err`. The status is 0. Any other arguments write the usage line to `err`, with status 2. A
+/// file that cannot be opened or read, whose path is written to `err`, a write that fails, and a
+/// lack of memory end with status 1; what was read before has then been written.
 pub fn program<R: Wait, F: Files<File = File>, O: Write, E: Write>(
     rt: &R,
     files: &F,
@@ -54,7 +53,7 @@ fn run<'a, R: Wait, F: Files<File = File>, O: Write, E: Write>(
     Ok(())
 }
 
-// A number of pages. A sign is no digit, though `parse` takes one.
+// Parses a number of pages. A sign is not a digit, though `parse` accepts one.
 fn number<'a>(text: &str) -> Result<u64, Failure<'a>> {
     if text.starts_with('+') {
         return Err(Failure::Usage);

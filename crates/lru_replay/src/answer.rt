@@ -1,23 +1,23 @@
-//! What the cache answers to a step.
+//! The answers of the cache to steps.
 
 use std::fmt;
 
-/// What a step was answered. A value is told by its number.
+/// The answer to a step. A value is shown by its number.
 #[derive(Clone, Copy)]
 pub enum Answer {
     /// A handle of the value that this step made.
     Made(u64),
-    /// A handle of a value that was there.
+    /// A handle of a value that was present.
     Hit(u64),
     /// This step's `init` failed.
     Failed,
-    /// A look-up found this value.
+    /// A lookup found this value.
     Found(u64),
-    /// A look-up found nothing.
+    /// A lookup found nothing.
     Nothing,
     /// The sum of the charges.
     Total(u64),
-    /// The step answers nothing.
+    /// The step has no answer.
     Done,
 }
 

@@ -1,21 +1,21 @@
-//! What is wrong with a line that is no step that can be run: what was expected, and where.
+//! The error of a line that is not a valid step: what was expected, and where.
 
 use std::fmt;
 
-/// The most bytes of a line that is read, its end not counted.
+/// The maximum number of bytes of a line, not counting its end.
 pub const MOST_BYTES: u64 = 1_000;
 
-/// What the words of a line are not.
+/// The error in the words of a line.
 #[derive(Clone, Copy)]
 pub struct Wrong<'a> {
     /// What was expected.
     pub expected: Expected,
-    /// The word that is something else; none where the line as a whole is.
+    /// The word that was found instead; `None` if the error is in the line as a whole.
     pub word: Option<&'a str>,
 }
 
 impl<'a> Wrong<'a> {
-    /// This word is not what was expected.
+    /// Creates the error of a word.
     pub fn word(expected: Expected, word: &'a str) -> Wrong<'a> {
         Wrong {
             expected,
@@ -23,7 +23,7 @@ impl<'a> Wrong<'a> {
         }
     }
 
-    /// The line as a whole is not what was expected.
+    /// Creates the error of a line as a whole.
     pub fn line(expected: Expected) -> Wrong<'a> {
         Wrong {
             expected,
@@ -32,12 +32,12 @@ impl<'a> Wrong<'a> {
     }
 }
 
-/// What was expected where a line is no step that can be run.
+/// What was expected of a line.
 #[derive(Clone, Copy)]
 pub enum Expected {
-    /// Text, and no more than `MOST_BYTES` of it.
+    /// Text of at most `MOST_BYTES` bytes.
     Text,
-    /// A first step that makes a cache.
+    /// A first step that creates a cache.
     First,
     /// The name of a step.
     Step,
@@ -53,11 +53,11 @@ pub enum Expected {
     Advice,
     /// The words of an `invalidate`.
     Invalidate,
-    /// The one word of a `prune`.
+    /// The single word of a `prune`.
     Prune,
-    /// The one word of a `total`.
+    /// The single word of a `total`.
     Total,
-    /// Decimal digits, of a number that a `u64` holds.
+    /// Decimal digits of a number that fits a `u64`.
     Number,
     /// A number above 0.
     Charge,
@@ -68,7 +68,7 @@ pub enum Expected {
 }
 
 impl Expected {
-    // One text for all that are told: a `write!` in each arm is dear to prove.
+    // A single text for each case: a `write!` in each arm is expensive to prove.
     fn text(self) -> &'static str {
         match self {
             Expected::Text => "text of at most 1000 bytes",

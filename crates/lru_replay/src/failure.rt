@@ -1,5 +1,6 @@
-//! Why the program ends early.
-//! Each failure has its line on standard error, and its status.
+//! Why the program fails.
+//!
+//! Each failure has its line on standard error, and its exit status.
 
 use crate::expected::Expected;
 use concurrent_lru::lru_core::Refusal;
@@ -7,16 +8,16 @@ use std::alloc::{AllocError, AllocFailed};
 use std::io;
 use std::io::{ErrorKind, Write};
 
-/// Why the program does not end with status 0.
+/// Why the program fails.
 #[derive(Drop)]
 pub enum Failure {
-    /// There are words after the program's name.
+    /// There are arguments.
     Usage,
-    /// The line with this number, counted from 1, is no step that can be run: what was expected,
-    /// and what stands there instead, where it can be shown.
+    /// The line with this number, counted from 1, is not a valid step: what was expected, and what
+    /// was found instead, if it can be shown.
     Line(u64, Expected, Option<String>),
-    /// What the line with this number asks was refused. Memory for reading it and the end of the
-    /// program's numbers count too.
+    /// The step on the line with this number was refused. This includes a lack of memory for
+    /// reading it, and running out of line or value numbers.
     Step(u64, Refusal),
     /// Memory was refused before any line was read.
     Refused(Refusal),
@@ -27,7 +28,7 @@ pub enum Failure {
 }
 
 impl Failure {
-    /// The failure of a read with this error.
+    /// Converts the error of a read.
     pub fn of_reading(error: &io::Error) -> Failure {
         match error.kind() {
             ErrorKind::OutOfMemory => Failure::Refused(Refusal::Memory),
@@ -35,7 +36,7 @@ impl Failure {
         }
     }
 
-    /// The failure of reading the words with this error: one that is no text is a wrong word.
+    /// Converts the error of reading the arguments. An argument that is not text is a usage error.
     pub fn of_words(error: &io::Error) -> Failure {
         match error.kind() {
             ErrorKind::OutOfMemory => Failure::Refused(Refusal::Memory),
@@ -43,7 +44,7 @@ impl Failure {
         }
     }
 
-    /// The same failure; a refusal as that of the line with this number.
+    /// Returns the same failure; a refusal becomes that of the line with this number.
     pub fn at_line(self, number: u64) -> Failure {
         match self {
             Failure::Refused(refusal) => Failure::Step(number, refusal),
@@ -51,8 +52,8 @@ impl Failure {
         }
     }
 
-    /// Writes the failure to `err`, in one line, and answers the status to end with: 2 for words,
-    /// else 1.
+    /// Writes the failure to `err` in one line, and returns the exit status: 2 for a usage error,
+    /// otherwise 1.
     pub fn report<E: Write>(self, err: &mut E) -> u8 {
         let is_usage = matches!(self, Failure::Usage);
         let told = match self {

@@ -1,5 +1,6 @@
 //! The lines of the input, read one at a time as steps.
-//! A line takes no more memory than the longest that is read.
+//!
+//! A line takes no more memory than the longest line that is read.
 
 use crate::expected::{Expected, MOST_BYTES};
 use crate::failure::Failure;
@@ -9,7 +10,7 @@ use concurrent_lru::lru_core::Refusal;
 use std::alloc::Global;
 use std::io::{BufRead, Read};
 
-/// A reader of steps, a line each.
+/// A reader of steps, one on each line.
 #[derive(Drop)]
 pub struct Lines<I> {
     alloc: Global,
@@ -19,7 +20,7 @@ pub struct Lines<I> {
 }
 
 impl<I: BufRead> Lines<I> {
-    /// The lines of an input. Reads nothing yet.
+    /// Creates a reader of an input. Reads nothing yet.
     pub fn new(alloc: Global, input: I) -> Lines<I> {
         Lines {
             alloc,
@@ -29,15 +30,15 @@ impl<I: BufRead> Lines<I> {
         }
     }
 
-    /// The number of the line that was asked for last, from 1; 0 where none was.
+    /// Returns the number of the last line that was requested, from 1, or 0 if there was none.
     pub fn number(&self) -> u64 {
         self.number
     }
 
-    /// The step on the next line, or none at the end of the input.
+    /// Returns the step on the next line, or `None` at the end of the input.
     ///
-    /// `Line` where the line is none, `Read` where the input fails, and `Refused` where memory
-    /// is refused or the lines have no more numbers. The line is then read all the same.
+    /// Returns `Line` if the line is not a step, `Read` if the input fails, and `Refused` if memory
+    /// is refused or the line numbers run out. The line is consumed in these cases as well.
     pub fn next(&mut self) -> Result<Option<Step>, Failure> {
         let Some(number) = self.number.checked_add(1) else {
             return Err(Failure::Refused(Refusal::Overflow));
@@ -49,13 +50,13 @@ impl<I: BufRead> Lines<I> {
         self.step().map(|step| Some(step))
     }
 
-    /// The failure of the line that was read last, which as a whole is not what was expected.
+    /// Returns the failure of the last line, which as a whole is not what was expected.
     pub fn is_not(&self, expected: Expected) -> Failure {
         self.wrong(expected, self.text())
     }
 
-    // Reads a line with its end, or what there is of it up to one byte past the longest, and
-    // says whether there was any.
+    // Reads a line with its end, but at most one byte more than the maximum. Returns whether there
+    // was any input.
     fn read(&mut self) -> Result<bool, Failure> {
         self.line.clear();
         let mut input = self.input.by_ref().take(MOST_BYTES + 1);
@@ -65,7 +66,7 @@ impl<I: BufRead> Lines<I> {
         }
     }
 
-    // The step that the line spells.
+    // Parses the line.
     fn step(&self) -> Result<Step, Failure> {
         let Some(text) = self.text() else {
             return Err(self.wrong(Expected::Text, None));
@@ -77,7 +78,7 @@ impl<I: BufRead> Lines<I> {
         }
     }
 
-    // The line without its end; none where it is too long, or no text.
+    // Returns the line without its end, or `None` if it is too long or not text.
     fn text(&self) -> Option<&str> {
         let line = match self.line.as_slice() {
             [line @ .., b'\n'] => line,
@@ -89,7 +90,7 @@ impl<I: BufRead> Lines<I> {
         str::from_utf8(line).ok()
     }
 
-    // The failure of the line, in which this stands where something else was expected.
+    // Returns the failure of the line, in which this was found instead of what was expected.
     fn wrong(&self, expected: Expected, found: Option<&str>) -> Failure {
         let Some(found) = found else {
             return Failure::Line(self.number, expected, None);

@@ -1,5 +1,5 @@
-//! A thin program over the cache: it runs the steps on its standard input, one a line, and
-//! prints each step with its answer and the values that it dropped.
+//! Runs the steps on standard input, one on each line, on a cache, and prints each step with its
+//! answer and the values that it dropped.
 #![tactic(auto)]
 
 mod answer;

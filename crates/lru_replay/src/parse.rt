@@ -1,5 +1,6 @@
-//! From the words of a line to the step that they spell.
-//! Each function reads what is spelled by the rules of `Spelling`, and nothing else.
+//! Parsing the words of a line into a step.
+//!
+//! Each function accepts what the rules of `Spelling` spell, and nothing else.
 ghost use Rattle.std.specs.Prelude.{◌≡◌, ℕ, IfOk, Ok};
 ghost use Rattle.lru_replay.specs.Spelling.{Writes, WritesCharge, SpellsOutcome, SpellsSlot, SpellsMaking, Spells};
 ghost use Rattle.lru_replay.specs.declared.step.Slot.{Slot};
@@ -10,10 +11,10 @@ ghost use Rattle.lru_replay.specs.declared.step.Step.{Step};
 use crate::expected::{Expected, Wrong};
 use crate::step::{Fate, Making, Outcome, Slot, Step};
 
-/// The step that the words of a line spell.
+/// Parses the words of a line.
 ///
-/// The error tells what was expected: at the first word that is wrong, where the step has a name
-/// and as many words as it takes; at the name where no step has it; else of the line as a whole.
+/// The error is at the first wrong word if the step has a name and the right number of words; at
+/// the name if there is no such step; and otherwise in the line as a whole.
 pub fn parse<'a>(words: &[&'a str]) -> Result<Step, Wrong<'a>>
     ensures read { IfOk result (Spells words.now) }
     ensures all { (step : Step) → Spells words.now step → result ≡ Ok step }
@@ -43,7 +44,7 @@ pub fn parse<'a>(words: &[&'a str]) -> Result<Step, Wrong<'a>>
     }
 }
 
-// What is wrong with a line with this first word, whose words are not as its step takes them.
+// Returns the error of a line with this first word, whose other words its step does not accept.
 fn wrong_of<'a>(name: &'a str) -> Wrong<'a> {
     match name {
         "new" => Wrong::line(Expected::New),
@@ -69,7 +70,7 @@ fn parse_making<'a>(key: &'a str, charge: &'a str, outcome: &'a str) -> Result<M
     })
 }
 
-// A sign is no digit.
+// A sign is not a digit.
 fn parse_number<'a>(word: &'a str) -> Result<u64, Wrong<'a>>
     ensures read { IfOk result (Writes word.now) }
     ensures all { (number : ℕ) → Writes word.now number → result ≡ Ok number }

@@ -1,5 +1,4 @@
-//! What the program does with its input.
-//! It reads and writes what is handed in, so that tests run it over memory.
+//! The program, over streams that the caller provides, so that tests run it in memory.
 
 use crate::failure::Failure;
 use crate::lines::Lines;
@@ -8,14 +7,15 @@ use std::alloc::Global;
 use std::io::{BufRead, Write};
 use std::sync::Wait;
 
-/// Runs the steps of `input` and answers the status to end with.
+/// Runs the steps of `input` and returns the exit status.
 ///
-/// Each step goes to `out` with its answer and its drops, a line each, before the next line is
-/// read: status 0 at the end of the input. A line that is no step ends the run: its number, what
-/// was expected and what stands there go to `err`, and the status is 1. So do the line's number,
-/// `refused` and the refusal's number where a step is refused. Where a read of `input` or a write
-/// to `out` fails, a line with the system's error goes to `err`, and the status is 1. There are no
-/// words after the program's name: any write the usage line to `err`, and the status is 2.
+/// Each step is written to `out` with its answer and its drops, on one line, before the next line
+/// is read. The status is 0 at the end of the input. A line that is not a step ends the run with
+/// status 1: its number, what was expected and what was found are written to `err`. A step that is
+/// refused ends it with status 1 as well: the line's number, `refused` and the refusal's code are
+/// written to `err`. If a read of `input` or a write to `out` fails, the system's error is written
+/// to `err`, and the status is 1. The program takes no arguments: if there are any, the usage line
+/// is written to `err`, and the status is 2.
 pub fn program<R: Wait + Clone + Drop, I: BufRead + Drop, O: Write, E: Write>(
     alloc: Global,
     rt: &R,

@@ -1,5 +1,6 @@
-//! The steps, run on one cache after the other.
-//! Each step that makes a cache begins a session, and ends the one before.
+//! Running the steps, on one cache after the other.
+//!
+//! Each step that creates a cache begins a session and ends the one before.
 
 use crate::answer::Answer;
 use crate::expected::Expected;
@@ -13,10 +14,11 @@ use std::alloc::Global;
 use std::io::{BufRead, Write};
 use std::sync::Wait;
 
-/// Runs every step and writes each with its answer and its drops, a line each.
+/// Runs every step and writes each with its answer and its drops, one on each line.
 ///
-/// `Line` where a line is no step, or the first makes no cache; `Read` and `Write` where the
-/// input or the output fails; `Refused` where a call is refused. What was written before stays.
+/// Returns `Line` if a line is not a step or the first step creates no cache, `Read` or `Write` if
+/// the input or the output fails, and `Refused` if a call is refused. What was written before
+/// stays.
 pub fn replay<R: Wait + Clone + Drop, I: BufRead, O: Write>(
     alloc: Global,
     rt: &R,
@@ -37,8 +39,8 @@ pub fn replay<R: Wait + Clone + Drop, I: BufRead, O: Write>(
     Err(Failure::Refused(Refusal::Overflow))
 }
 
-// Makes a cache and runs the steps on it, up to the next step that makes one, whose capacity it
-// answers, or to the end of the input.
+// Creates a cache and runs the steps on it, up to the end of the input or the next step that
+// creates one, whose capacity it returns.
 fn run_session<R: Wait + Clone + Drop, I: BufRead, O: Write>(
     alloc: Global,
     rt: &R,
@@ -50,7 +52,7 @@ fn run_session<R: Wait + Clone + Drop, I: BufRead, O: Write>(
     run_steps(&session, capacity, lines, out)
 }
 
-// Steps are numbered from 0, which is the one that made the cache.
+// Steps are numbered from 0, which is the step that created the cache.
 fn run_steps<'a, R: Wait + Clone + Drop, I: BufRead, O: Write>(
     session: &'a Session<R>,
     capacity: u64,

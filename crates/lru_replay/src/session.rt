@@ -1,4 +1,4 @@
-//! One cache, and what each step does with it and the slots.
+//! A cache, and the effect of each step on it and on the slots.
 
 use crate::answer::Answer;
 use crate::slots::Slots;
@@ -12,12 +12,12 @@ use std::sync::Wait;
 /// A handle of a value of the cache.
 pub type Handle<'a, R> = CacheHandle<'a, u64, Logged<R>, R>;
 
-// Why an `init` gave no value.
+// Why an `init` returned no value.
 #[derive(Drop)]
 enum NotMade {
-    // The step asks that it fails.
+    // The step asked for the failure.
     Asked,
-    // Memory was refused to the value.
+    // Memory for the value was refused.
     Memory,
 }
 
@@ -27,7 +27,7 @@ impl From<AllocError> for NotMade {
     }
 }
 
-/// A cache, whose values note their drops.
+/// A cache whose values record their drops.
 #[derive(Drop)]
 pub struct Session<R: Wait> {
     log: DropLog<R>,
@@ -35,9 +35,9 @@ pub struct Session<R: Wait> {
 }
 
 impl<R: Wait + Clone + Drop> Session<R> {
-    /// An empty cache with this capacity.
+    /// Creates an empty cache with this capacity.
     ///
-    /// `Memory` where the log of the drops is refused.
+    /// Returns `Memory` if the log of the drops is refused.
     pub fn new(alloc: Global, rt: &R, capacity: u64) -> Result<Session<R>, Refusal> {
         Ok(Session {
             log: DropLog::new(alloc, rt)?,
@@ -45,19 +45,19 @@ impl<R: Wait + Clone + Drop> Session<R> {
         })
     }
 
-    /// The numbers of the values that were dropped since this was asked last, first dropped
-    /// first. `Memory` where one of them, or this list, was refused memory.
+    /// Returns the numbers of the values that were dropped since the last call, in order. Returns
+    /// `Memory` if memory for one of them, or for this list, was refused.
     pub fn take_drops(&self) -> Result<Vec<u64>, Refusal> {
         let numbers = self.log.numbers()?;
         self.log.clear();
         Ok(numbers)
     }
 
-    /// Runs a step. A value that it makes gets this number. The step that made the cache has
-    /// nothing left to do.
+    /// Runs a step. A value that it makes gets this number. The step that created the cache does
+    /// nothing here.
     ///
-    /// The refusal of a call is answered as it is, and so is that of the value's own memory; the
-    /// slots are then as they were.
+    /// Returns the refusal of a call, or of the value's own memory; the slots then stay as they
+    /// were.
     pub fn run<'a>(
         &'a self,
         slots: &mut Slots<Handle<'a, R>>,
@@ -123,7 +123,7 @@ impl<R: Wait + Clone + Drop> Session<R> {
     }
 }
 
-// Drops a handle, or keeps it; what its slot kept before is dropped then.
+// Drops a handle or keeps it, in which case the previous content of its slot is dropped.
 fn settle<T: Drop>(slots: &mut Slots<T>, handle: T, fate: Fate) {
     match fate {
         Fate::Drop => drop(handle),

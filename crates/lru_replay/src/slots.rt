@@ -1,4 +1,4 @@
-//! The four slots, each of which keeps one thing or nothing.
+//! The four slots, each of which holds one item or nothing.
 ghost use Rattle.std.specs.Prelude.{◌≡◌, ◌≢◌};
 ghost use Rattle.lru_replay.specs.Slots.{kept_in};
 ghost use Rattle.lru_replay.specs.declared.step.Slot.{Slot};
@@ -6,7 +6,7 @@ ghost use Rattle.lru_replay.specs.declared.step.Slot.{Slot};
 use crate::step::Slot;
 use std::mem;
 
-/// Four slots for things of one type.
+/// Four slots for items of one type.
 #[derive(Drop)]
 pub struct Slots<T> {
     pub zero: Option<T>,
@@ -16,7 +16,7 @@ pub struct Slots<T> {
 }
 
 impl<T> Slots<T> {
-    /// Empty slots.
+    /// Creates empty slots.
     pub fn new() -> Slots<T>
         ensures { (slot : Slot) → kept_in result slot ≡ None }
     {
@@ -28,7 +28,7 @@ impl<T> Slots<T> {
         }
     }
 
-    /// Puts a thing, or nothing, in a slot, and answers what the slot kept before.
+    /// Puts an item, or nothing, in a slot and returns the previous content.
     pub fn replace(&mut self, slot: Slot, kept: Option<T>) -> Option<T>
         ensures before { result ≡ kept_in self.old slot }
         ensures after { kept_in self.new slot ≡ kept }

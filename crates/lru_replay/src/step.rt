@@ -1,10 +1,11 @@
-//! The steps: what a line asks of the cache.
-//! The text of each is the line that asks for it.
+//! The steps, which are the calls that a line can ask for.
+//!
+//! A step prints as the line that asks for it.
 ghost use Rattle.std.specs.Prelude.{◌<◌};
 
 use std::fmt;
 
-/// One of the four places that keep a handle each.
+/// One of the four slots, each of which keeps a handle.
 #[derive(Clone, Copy)]
 pub enum Slot {
     Zero,
@@ -13,25 +14,25 @@ pub enum Slot {
     Three,
 }
 
-/// What becomes of the handle that a step gets.
+/// What is done with the handle that a step gets.
 #[derive(Clone, Copy)]
 pub enum Fate {
     /// It is dropped at once.
     Drop,
-    /// It is kept in this slot; what the slot kept before is dropped after the call.
+    /// It is kept in this slot; the previous content of the slot is dropped after the call.
     Keep(Slot),
 }
 
 /// What `init` does, if it is called.
 #[derive(Clone, Copy)]
 pub enum Outcome {
-    /// It gives a value with the step's number.
+    /// It returns a value with the step's number.
     Gives,
-    /// It answers an error.
+    /// It returns an error.
     Fails,
 }
 
-/// A value to be had: its key, its charge, which is above 0, and what making it comes to.
+/// A value to make: its key, its charge, which is above 0, and what its `init` does.
 #[derive(Clone, Copy)]
 pub struct Making {
     pub key: u64,
@@ -40,22 +41,22 @@ pub struct Making {
     ghost charged: { 0 < charge },
 }
 
-/// What a line asks for.
+/// A step.
 #[derive(Clone, Copy)]
 pub enum Step {
-    /// A new cache with this capacity. The cache before and the slots are gone.
+    /// Creates a cache with this capacity. The previous cache and the slots are dropped.
     New(u64),
-    /// A handle of a value, which is made where it is not there.
+    /// Gets a handle of a value, which is made if there is none.
     Init(Making, Fate),
-    /// A handle of the value of this key, where it is there.
+    /// Gets a handle of the value of this key, if there is one.
     Get(u64, Fate),
-    /// The slot is emptied.
+    /// Empties the slot.
     Release(Slot),
-    /// The entry of this key is evicted, where it is idle.
+    /// Evicts the entry of this key if it is idle.
     Advice(u64),
-    /// The value of this key is taken back: later steps do not find it.
+    /// Invalidates this key: later steps do not find its present value.
     Invalidate(u64),
-    /// Every idle entry is evicted.
+    /// Evicts every idle entry.
     Prune,
     /// The sum of the charges of all entries.
     Total,

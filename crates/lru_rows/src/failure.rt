@@ -1,5 +1,6 @@
-//! Why the program ends early.
-//! Each failure has its line on standard error, and its status.
+//! Why the program fails.
+//!
+//! Each failure has its line on standard error, and its exit status.
 
 use concurrent_lru::lru_core::Refusal;
 use lru_stress::outcome::Trouble;
@@ -7,12 +8,12 @@ use std::alloc::{AllocError, AllocFailed};
 use std::io;
 use std::io::{ErrorKind, Write};
 
-/// Why the program does not end with status 0.
+/// Why the program fails.
 #[derive(Clone, Copy)]
 pub enum Failure {
-    /// The words are none that the program knows.
+    /// The arguments are invalid.
     Usage,
-    /// A call was refused where no row asks for it; memory of the program's own counts too.
+    /// A call was refused that no row expects to be, or memory for the program's own data.
     Refused(Refusal),
     /// A check of the stress workload failed.
     Stress,
@@ -21,8 +22,7 @@ pub enum Failure {
 }
 
 impl Failure {
-    /// The failure of reading the words with this error: one that is no text is no word that the
-    /// program knows.
+    /// Converts the error of reading the arguments. An argument that is not text is a usage error.
     pub fn of_words(error: &io::Error) -> Failure {
         match error.kind() {
             ErrorKind::OutOfMemory => Failure::Refused(Refusal::Memory),
@@ -30,8 +30,8 @@ impl Failure {
         }
     }
 
-    /// Writes the failure to `err`, in one line, and answers the status to end with: 2 for the
-    /// wrong words, else 1.
+    /// Writes the failure to `err` in one line, and returns the exit status: 2 for invalid
+    /// arguments, otherwise 1.
     pub fn report<E: Write>(self, err: &mut E) -> u8 {
         let told = match self {
             Failure::Usage => writeln!(err, "usage: rows | stress SEED"),

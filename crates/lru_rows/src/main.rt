@@ -1,5 +1,5 @@
-//! A thin program over the cache: it prints worked rows, each of which shows one rule at work.
-//! All but the words and the two streams of the system stands in `program`.
+//! Prints worked rows, each of which shows one rule of the cache at work. Everything but the access
+//! to the process is done by `program`.
 #![tactic(auto)]
 
 mod failure;

@@ -1,5 +1,4 @@
-//! What the program does with its words.
-//! It writes to two writers that are handed in, so that tests run it over memory.
+//! The program, over streams that the caller provides, so that tests run it in memory.
 
 use crate::failure::Failure;
 use lru_fixtures::rows::{ROWS, Row};
@@ -10,15 +9,17 @@ use std::io::Write;
 use std::sync::Wait;
 use std::thread::Threads;
 
-/// Runs the program on the words after its name and answers the status to end with.
+/// Runs the program on its arguments and returns the exit status.
 ///
-/// `rows` writes the worked rows to `out`: status 0. `stress SEED`, where SEED is digits from 0
-/// to 9 alone and no number past `u64::MAX`, runs the stress workload from this seed, and writes
-/// `stress ok` to `out`: status 0. Where a check of it fails, `stress failed` goes to `err`, and
-/// the status is 1. Any other words write the usage line to `err`: status 2. Where a call is
-/// refused that no row asks to be, or a thread can't be started, `refused` and the refusal's
-/// number go to `err`, and the status is 1. Where a write to `out` fails, a line with the system's
-/// error goes to `err`, and the status is 1.
+/// - `rows` writes the worked rows to `out`. Status 0.
+/// - `stress SEED`, with a seed in digits that fits a `u64`, runs the stress workload from this
+///   seed and writes `stress ok` to `out`. Status 0. If a check of it fails, `stress failed` is
+///   written to `err`. Status 1.
+/// - Any other arguments write the usage line to `err`. Status 2.
+///
+/// If a call is refused that no row expects to be, or a thread cannot be started, `refused` and the
+/// refusal's code are written to `err`; if a write to `out` fails, the system's error. The status
+/// is 1 in both cases.
 pub fn program<R: Threads + Wait + Clone + Drop + Send + Sync, O: Write, E: Write>(
     rt: &R,
     alloc: Global,
@@ -45,7 +46,7 @@ fn run<R: Threads + Wait + Clone + Drop + Send + Sync, O: Write>(
     }
 }
 
-// Runs the stress workload, and says that it was ok.
+// Runs the stress workload and writes that it succeeded.
 fn write_stress<R: Threads + Wait + Clone + Drop + Send + Sync, O: Write>(
     rt: &R,
     alloc: Global,

@@ -1,14 +1,15 @@
-//! Why the program ends early.
-//! Each failure has its line on standard error, and its status.
+//! Why the program fails.
+//!
+//! Each failure has its line on standard error, and its exit status.
 
 use lru_stress::outcome::{Check, Trouble};
 use std::io;
 use std::io::{ErrorKind, Write};
 
-/// Why the program does not end with status 0.
+/// Why the program fails.
 #[derive(Clone, Copy)]
 pub enum Failure {
-    /// The words are none that the program knows.
+    /// The arguments are invalid.
     Usage,
     /// Memory or a thread was refused.
     Refused,
@@ -19,8 +20,7 @@ pub enum Failure {
 }
 
 impl Failure {
-    /// The failure of reading the words with this error: one that is no text is no word that the
-    /// program knows.
+    /// Converts the error of reading the arguments. An argument that is not text is a usage error.
     pub fn of_words(error: &io::Error) -> Failure {
         match error.kind() {
             ErrorKind::OutOfMemory => Failure::Refused,
@@ -28,7 +28,7 @@ impl Failure {
         }
     }
 
-    /// The failure of the round of a seed.
+    /// Converts the failure of the round of a seed.
     pub fn of_round(seed: u64, trouble: Trouble) -> Failure {
         match trouble {
             Trouble::Refused => Failure::Refused,
@@ -36,8 +36,8 @@ impl Failure {
         }
     }
 
-    /// Tells the failure on `err`, in one line, and answers the status to end with: 2 for the
-    /// wrong words, else 1.
+    /// Writes the failure to `err` in one line, and returns the exit status: 2 for invalid
+    /// arguments, otherwise 1.
     pub fn report<E: Write>(self, err: &mut E) -> u8 {
         let told = match self {
             Failure::Usage => writeln!(err, "usage: lru_soak SEED MINUTES"),

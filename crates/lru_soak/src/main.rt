@@ -1,5 +1,5 @@
-//! A soak: the stress workload from one seed after another, until the time is over. All but the
-//! words and the two streams of the system stands in `program`.
+//! A soak test: runs the stress workload from one seed after another until the time is over.
+//! Everything but the access to the process is done by `program`.
 #![tactic(auto)]
 
 mod failure;

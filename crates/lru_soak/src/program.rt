@@ -1,5 +1,4 @@
-//! What the program does with its words.
-//! It writes to two writers that are handed in, so that tests run it over memory.
+//! The program, over streams that the caller provides, so that tests run it in memory.
 
 use crate::failure::Failure;
 use crate::soak::soak;
@@ -11,14 +10,15 @@ use std::sync::Wait;
 use std::thread::Threads;
 use std::time::Duration;
 
-/// Runs the program on the words after its name and answers the status to end with.
+/// Runs the program on its arguments and returns the exit status.
 ///
-/// `SEED MINUTES`, both digits from 0 to 9 alone and no number past `u64::MAX`, runs the stress
-/// workload from this seed, the one after it, and so on, until so many minutes are over, and
-/// writes a line for each round and how many there were to `out`: status 0. A round that was begun
-/// is ended. The first check that fails ends the run, with a line on `err` that names the seed:
-/// status 1. A refusal of memory or of a thread writes `refused 1` to `err`, and a failure of the
-/// clock or of a write a line: status 1. Any other words write the usage line to `err`: status 2.
+/// `SEED MINUTES`, both in digits that fit a `u64`, runs the stress workload from this seed, the
+/// one after it, and so on, until this many minutes are over, and writes a line for each round and
+/// the number of rounds to `out`. The status is 0. A round that was started is completed. The first
+/// check that fails ends the run, with a line on `err` that shows the seed; the status is 1. If
+/// memory or a thread is refused, `refused 1` is written to `err`, and if the clock or a write
+/// fails, a line about it; the status is 1. Any other arguments write the usage line to `err`; the
+/// status is 2.
 pub fn program<R: Threads + Wait + Clock + Clone + Drop + Send + Sync, O: Write, E: Write>(
     rt: &R,
     alloc: Global,
@@ -44,7 +44,7 @@ fn run<R: Threads + Wait + Clock + Clone + Drop + Send + Sync, O: Write>(
     soak(rt, alloc, seed, minutes, out)
 }
 
-// The seed and the time that the words ask for.
+// Parses the seed and the time.
 fn asked(words: &[String]) -> Option<(u64, Duration)> {
     let [seed, minutes] = words else {
         return None;

@@ -11,7 +11,7 @@ use std::sync::Wait;
 use std::thread::Threads;
 use std::time::{Duration, Instant};
 
-// How often an `init` yields, so that others meet it.
+// How often an `init` yields, so that other threads meet it.
 const YIELDS: u32 = 2;
 
 /// Runs rounds from this seed on until the time is over, and writes a line for each.
@@ -35,7 +35,7 @@ pub fn soak<R: Threads + Wait + Clock + Clone + Drop + Send + Sync, O: Write>(
     Ok(())
 }
 
-// The round of a seed: each `init` yields, and the total is read with each handle held.
+// Runs the round of a seed: each `init` yields, and the total is read while each handle is held.
 fn round<R: Threads + Wait + Clone + Drop + Send + Sync, O: Write>(
     rt: &R,
     alloc: Global,

@@ -1,4 +1,4 @@
-//! The program over memory: what it writes where, and its status.
+//! Runs of the program in memory: its output and its status.
 
 use super::program;
 use lru_support::words::words;
@@ -49,7 +49,7 @@ fn tells_that_a_file_is_not_there(rt: HostRuntime) -> Result<(), Fail> {
     Ok(())
 }
 
-// That the sums are right is the stored output's to say.
+// Whether the sums are right is checked by the stored output.
 #[test]
 fn ends_at_a_failed_write(rt: HostRuntime) -> Result<(), Fail> {
     let alloc = rt.alloc();

@@ -1,4 +1,4 @@
-//! The program over memory: what it writes where, and its status.
+//! Runs of the program in memory: its output and its status.
 
 use super::program;
 use std::alloc::{AllocError, Allocator, Global};
@@ -10,7 +10,7 @@ use std::{env, fs, io};
 
 const USAGE: &str = "usage: lru_cat FILE [PAGES]\n";
 
-// What a run wrote, and how it ended.
+// The output of a run, and how it ended.
 #[derive(Drop)]
 struct Ended {
     status: u8,
@@ -76,12 +76,12 @@ fn opens_nothing_but_files(rt: HostRuntime) -> Result<(), Fail> {
     Ok(())
 }
 
-// The bytes of a file of a length.
+// Returns the bytes of a file of this length.
 fn bytes_of(alloc: Global, len: usize) -> Result<Vec<u8>, AllocError> {
     (0..len).map(|at| (at % 251) as u8).collect(alloc)
 }
 
-// What is printed of a file with these bytes.
+// Returns what is printed of a file with these bytes.
 fn printed<R: Wait, F: Files<File = File>>(
     rt: &R,
     files: &F,
@@ -94,7 +94,7 @@ fn printed<R: Wait, F: Files<File = File>>(
     Ok(run(rt, files, alloc, &[file, pages])?)
 }
 
-// Files of some lengths, how many pages are kept, and what is told.
+// The length of a file, the number of pages that are kept, and the counts.
 const LENGTHS: [(usize, &str, &str); 7] = [
     (0, "2", "0 blocks read, 0 answers from memory\n"),
     (1, "2", "1 blocks read, 0 answers from memory\n"),
@@ -119,8 +119,8 @@ fn prints_a_file_and_counts(rt: HostRuntime) -> Result<(), Fail> {
     Ok(())
 }
 
-// A file of the system's own has no length, and bytes all the same. This one has those of more
-// than one block.
+// A file of the system's own has the length 0, but does have bytes. This one has more than one
+// block of them.
 #[test]
 fn prints_a_file_that_has_no_length(rt: HostRuntime) -> Result<(), Fail> {
     let (alloc, path) = (rt.alloc(), "/proc/self/limits");
@@ -190,8 +190,8 @@ impl Files for Forbidden {
     }
 }
 
-// What is not a regular file is told before it is opened, since a pipe, for which a link stands
-// here, would wait for a writer then.
+// A file that is not regular is reported before it is opened, since opening a pipe, for which a
+// link stands here, would wait for a writer.
 #[test]
 fn tells_why_a_path_is_not_opened(rt: HostRuntime) -> Result<(), Fail> {
     let cases = [
@@ -211,7 +211,7 @@ fn tells_why_a_path_is_not_opened(rt: HostRuntime) -> Result<(), Fail> {
     Ok(())
 }
 
-// A writer that takes nothing.
+// A writer that accepts nothing.
 #[derive(Drop)]
 struct Full;
 

@@ -1,4 +1,4 @@
-//! The program over memory: what it writes where, and its status.
+//! Runs of the program in memory: its output and its status.
 
 use super::program;
 use lru_support::words::words;
@@ -62,7 +62,7 @@ const UNREAD: &str = "lru_replay: cannot read standard input: broken pipe\n";
 
 const UNWRITTEN: &str = "lru_replay: cannot write standard output: broken pipe\n";
 
-// Lines that are no steps, and what is said of each.
+// Lines that are not steps, and their messages.
 const WRONG: [(&str, &str); 21] = [
     (
         "",
@@ -114,7 +114,7 @@ const WRONG: [(&str, &str); 21] = [
 // More bytes than any test writes.
 const ROOM: usize = 9_999;
 
-// A reader of some bytes that fails where they end.
+// A reader of some bytes that fails after the last.
 #[derive(Drop)]
 struct Broken<'a>(&'a [u8]);
 
@@ -127,8 +127,8 @@ impl<'a> Read for Broken<'a> {
     }
 }
 
-// Runs the program, whose first writer takes so many bytes, and checks its status and what it
-// wrote.
+// Runs the program with a first writer that accepts this many bytes, and checks its status and its
+// output.
 fn ends<R: Wait + Clone + Drop, I: BufRead + Drop>(
     rt: &R,
     alloc: Global,

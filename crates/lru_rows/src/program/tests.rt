@@ -1,4 +1,4 @@
-//! The program over memory: what it writes where, and its status.
+//! Runs of the program in memory: its output and its status.
 
 use super::program;
 use crate::failure::Failure;
@@ -70,8 +70,7 @@ impl<'a> Env for Arguments<'a> {
     }
 }
 
-// Runs the program with room for so many bytes on each of its writers. Each word stands after a
-// slash.
+// Runs the program with writers that accept this many bytes. A slash precedes each argument.
 fn run<R: Threads + Wait + Clone + Drop + Send + Sync>(
     rt: &R,
     alloc: Global,
@@ -88,7 +87,7 @@ fn run<R: Threads + Wait + Clone + Drop + Send + Sync>(
     Ok((status, out, err))
 }
 
-// The words, how many bytes the two writers take, the status, and what was written.
+// The arguments, how many bytes the two writers accept, the status, and the output.
 const ENDS: [(&str, (usize, usize), u8, &str, &str); 18] = [
     ("/rows", (9_999, 9_999), 0, ROWS, ""),
     ("", (9_999, 9_999), 2, "", USAGE),

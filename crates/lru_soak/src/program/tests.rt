@@ -1,4 +1,4 @@
-//! The program over memory: what it writes where, and its status.
+//! Runs of the program in memory: its output and its status.
 
 use super::program;
 use crate::failure::Failure;
@@ -9,7 +9,7 @@ use std::test::Fail;
 
 const USAGE: &str = "usage: lru_soak SEED MINUTES\n";
 
-// The words, the status, and what was written to the two streams.
+// The arguments, the status, and the output on the two streams.
 const ENDS: [(&[&str], u8, &str, &str); 7] = [
     (&["1", "0"], 0, "rounds 0\n", ""),
     (&["18446744073709551615", "0"], 0, "rounds 0\n", ""),

@@ -1,10 +1,10 @@
-//! What the workload counts, with numbers of its own.
+//! The counts of the workload, with plans of the test's own.
 
 use lru_stress::plan::Plan;
 use lru_stress::run::run;
 
-// The seed, the capacity of each cache, and how many makings, hits and evictions there are where
-// one worker makes 2,000 calls, and the greatest total: as the rules of the cache have it.
+// The seed, the capacity of each cache, the numbers of makings, hits and evictions of one worker
+// that makes 2,000 calls, and the greatest total, as the rules of the cache imply them.
 const ALONE: [(u64, u64, [u64; 3], u128); 4] = [
     (1, 100, [3504, 2496, 1754], 100),
     (1, 40, [4947, 1053, 2544], 40),
