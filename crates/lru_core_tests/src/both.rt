@@ -1,4 +1,4 @@
-//! The cache beside the plain one: each call is made of both, which are to answer alike.
+//! The cache beside the plain one: each call is made on both, whose answers are compared.
 ghost use Rattle.std.specs.Prelude.{◌<◌};
 
 use crate::plain::Plain;
@@ -13,12 +13,12 @@ use std::process::Abort;
 pub(crate) struct Both {
     alloc: Global,
     state: State<u64, u64>,
-    /// The plain one, which tells its next stamp and its last pin.
+    /// The plain one, which also has its next stamp and its last pin.
     pub(crate) plain: Plain,
 }
 
 impl Both {
-    /// Two empty caches, made with the same limits.
+    /// Creates two empty caches with the same limits.
     pub(crate) fn with_limits(
         alloc: Global,
         capacity: u64,
@@ -34,8 +34,8 @@ impl Both {
         }
     }
 
-    /// Makes the call of both. Where they answer differently, the test ends with what they
-    /// answered, the call, and the place where it stands.
+    /// Makes the call on both. If the answers differ, the test ends with both of them, the call,
+    /// and its place.
     pub(crate) fn take(&mut self, rt: &impl Abort, place: &impl Debug, call: Call) {
         let answer = self.state.answer(self.alloc, call).expect(rt, "memory");
         let wanted = self.plain.answer(self.alloc, call).expect(rt, "memory");

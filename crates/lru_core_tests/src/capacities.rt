@@ -1,4 +1,4 @@
-//! A capacity set at run time: what leaves at once, what stays, and what comes back.
+//! A capacity that is set later: what is evicted at once, what stays, and what comes back.
 
 use concurrent_lru::lru_core::{State, Step};
 use lru_fixtures::tables::Call::{Begin, Capacity, Prune, Ready, Release, SetCapacity};

@@ -1,4 +1,4 @@
-//! A cache that is closed while pins are still counted.
+//! A cache that is closed while there are still pins.
 
 use concurrent_lru::lru_core::State;
 use lru_fixtures::tables::Call::{
@@ -8,7 +8,7 @@ use lru_fixtures::tables::{Call, answers_as_told, says};
 use std::test;
 
 // Idle are 1 and 0. Held are 2, which is ready, 3 and 4, which were invalidated, 3 with a value and
-// 4 without one, 5, which is being made, and 6, whose maker has failed.
+// 4 without one, 5, which is being made, and 6, whose maker failed.
 const BEFORE: [(Call, &str); 20] = [
     (Begin(1, 1), "Ok((Make(0), []))"),
     (Ready(0, 10), "Ok(())"),
@@ -32,7 +32,7 @@ const BEFORE: [(Call, &str); 20] = [
     (Total, "28"),
 ];
 
-// No entry is there, by its key or by its stamp, and a new one gets the next stamp.
+// There is no entry, by its key or by its stamp, and a new one gets the next stamp.
 const AFTER: [(Call, &str); 12] = [
     (Total, "0"),
     (Show, "{}"),
@@ -61,7 +61,7 @@ fn hands_out_every_value(rt: HostRuntime) -> Result<(), test::Fail> {
         "(Some(Gone { stamp: 1, key: 2, charge: 2, value: 11 }), \
          Some(Gone { stamp: 0, key: 1, charge: 1, value: 10 }))",
     )?;
-    // The order of the held ones is not promised.
+    // The order of the held ones is unspecified.
     let mut held = Vec::new(alloc);
     for gone in taken {
         held.push((gone.stamp, gone.key, gone.charge, *gone.value))?;

@@ -1,5 +1,5 @@
-//! How many entries there are, how much of the total is pinned, and which keys have a value, in
-//! each state that an entry can be in.
+//! The number of entries, the pinned part of the total, and which keys have a value, in each state
+//! of an entry.
 
 use concurrent_lru::lru_core::{Evicted, Refusal, State};
 use lru_fixtures::makes::make;
@@ -11,14 +11,14 @@ use std::alloc::Global;
 use std::sync::Arc;
 use std::test;
 
-// Calls of a cache of the capacity 3, in order: after each, how many entries there are, and
-// whether the keys 1 and 2 have a value.
+// Calls on a cache of the capacity 3, in order: after each, the number of entries, and whether the
+// keys 1 and 2 have a value.
 const STATES: [(Call, usize, [bool; 2]); 20] = [
     (Total, 0, [false, false]),
-    // Being made, by one caller and then with another that waits.
+    // Being made by one caller, and then with another that waits.
     (Begin(1, 1), 1, [false, false]),
     (Begin(1, 1), 1, [false, false]),
-    // Given up, and left to the one that waits, who takes it over.
+    // Given up, and left to the waiting caller, which takes it over.
     (Fail(0), 1, [false, false]),
     (Poll(0), 1, [false, false]),
     // Held, idle, and held again.
@@ -29,17 +29,17 @@ const STATES: [(Call, usize, [bool; 2]); 20] = [
     // Evicted for another.
     (Begin(2, 3), 1, [false, false]),
     (Ready(1, 20), 1, [false, true]),
-    // A making beside it, until it is given up with no one else waiting.
+    // A making beside it, until it is given up while nobody waits.
     (Begin(1, 1), 2, [false, true]),
     (Fail(2), 1, [false, true]),
-    // What is held is neither pruned nor evicted by advice; what is idle is.
+    // A held entry is neither pruned nor evicted by advice; an idle one is.
     (Prune, 1, [false, true]),
     (AdviceEvict(2), 1, [false, true]),
     (Release(1), 1, [false, true]),
     (Prune, 0, [false, false]),
     (Begin(1, 9), 1, [false, false]),
     (Ready(3, 11), 1, [true, false]),
-    // Above the capacity, it leaves with its last pin.
+    // Above the capacity, it is evicted with its last pin.
     (Release(3), 0, [false, false]),
 ];
 
@@ -57,7 +57,7 @@ fn entries_are_counted_and_values_found(rt: HostRuntime) -> Result<(), test::Fai
     Ok(())
 }
 
-// Calls of a cache of the capacity 9, in order: after each, the total and how much of it is pinned.
+// Calls on a cache of the capacity 9, in order: after each, the total and its pinned part.
 const PINNED: [(Call, u64, u64); 16] = [
     (Total, 0, 0),
     // Being made, held, idle, and held again.
@@ -73,12 +73,12 @@ const PINNED: [(Call, u64, u64); 16] = [
     (Begin(1, 4), 7, 7),
     (Ready(1, 11), 7, 7),
     (Release(1), 7, 3),
-    // Until its last pin is given back.
+    // It counts until its last pin is released.
     (Release(0), 4, 0),
     // A making that is given up.
     (Begin(2, 5), 9, 5),
     (Fail(2), 4, 0),
-    // What is idle is evicted.
+    // An idle entry is evicted.
     (SetCapacity(3), 0, 0),
     (Begin(3, 2), 2, 2),
 ];
@@ -98,7 +98,7 @@ fn pinned_charges_are_summed(rt: HostRuntime) -> Result<(), test::Fail> {
     Ok(())
 }
 
-// A cache that keeps three idle entries, of the keys 7, 8 and 9.
+// Creates a cache with three idle entries, of the keys 7, 8 and 9.
 fn with_three(alloc: Global) -> Result<State<u64, u64>, Refusal> {
     let mut state = State::new(alloc, 3);
     for key in [7, 8, 9] {
@@ -129,7 +129,7 @@ fn evicted_entries_are_counted(rt: HostRuntime) -> Result<(), test::Fail> {
     Ok(())
 }
 
-// A chain may go to another thread, as a caller sends it that drops it elsewhere.
+// A chain may move to another thread, so that a caller can drop it elsewhere.
 fn crosses<T: Send>(value: T) -> T {
     value
 }

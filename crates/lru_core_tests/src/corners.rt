@@ -1,5 +1,5 @@
-//! Capacities, charges and stamps at the ends of their numbers, each with each of the others:
-//! one list of calls, answered as a plain cache answers it.
+//! Capacities, charges and stamps at the limits of their numbers, in all combinations: one list of
+//! calls, whose answers are compared with those of a plain cache.
 
 use crate::both::Both;
 use lru_fixtures::tables::Call;
@@ -12,8 +12,7 @@ const ENDS: [u64; 4] = [0, 1, u64::MAX - 1, u64::MAX];
 // A charge is above 0.
 const CHARGES: [u64; 3] = [1, u64::MAX - 1, u64::MAX];
 
-// How many corners there are: four ends for each of three numbers, and three for each of two
-// charges.
+// The number of corners: four limits for each of three numbers, and three for each of two charges.
 const CORNERS: u32 = 4 * 4 * 4 * 3 * 3;
 
 // The numbers of a run.
@@ -27,7 +26,7 @@ struct Corner {
 }
 
 impl Corner {
-    // Each number below `CORNERS` has a corner of its own; from there on they come again.
+    // Each number below `CORNERS` has a corner of its own; larger ones repeat them.
     fn of(number: u32) -> Corner {
         let charge = |which: u32| CHARGES[(which % 3) as usize];
         let end = |which: u32| ENDS[(which % 4) as usize];
@@ -39,7 +38,7 @@ impl Corner {
         }
     }
 
-    // Two keys are asked for, made, let go and asked for again, where the numbers allow it; each
+    // Two keys are asked for, made, released and asked for again, if the numbers allow it; each
     // stamp is tried in every call, whether or not an entry has it.
     fn calls(self) -> [Call; 51] {
         let (one, two) = self.charges;
@@ -107,7 +106,7 @@ impl Corner {
 fn answers_at_every_corner_as_a_plain_cache_does(rt: HostRuntime) {
     for number in 0..2 * CORNERS {
         let corner = Corner::of(number);
-        // An entry takes one pin or two.
+        // An entry takes one or two pins.
         let most_pins = 1 + number / CORNERS;
         let mut both = Both::with_limits(
             rt.alloc(),

@@ -1,16 +1,16 @@
-//! What was evicted is a chain: it keeps its values until it is dropped, and ends oldest first,
-//! however long it is.
+//! What was evicted is a chain: it keeps its values until it is dropped, and drops them oldest
+//! first, however long it is.
 
 use concurrent_lru::lru_core::State;
 use lru_fixtures::makes::make;
 use std::cell::Cell;
 use std::sync::Arc;
 
-// More entries than a drop that calls itself has stack for.
+// More entries than the stack would hold if the drop were recursive.
 const MANY: u64 = 100_000;
 
-// A value with a place in the order of drops. It counts its drop where those before it were
-// dropped, and where they were not nothing is counted any more.
+// A value with a position in the order of drops. Its drop is counted if those before it were
+// dropped; otherwise nothing is counted any more.
 struct InOrder<'a> {
     place: u64,
     dropped: &'a Cell<u64>,

@@ -1,4 +1,4 @@
-//! The ends of numbers, and stamps that fit no entry.
+//! The limits of numbers, and stamps of no entry.
 
 use concurrent_lru::lru_core::State;
 use lru_fixtures::tables::Call::{

@@ -1,5 +1,5 @@
-//! The README's example of a cache for one owner: two values are made, and the second leaves no
-//! room for the first.
+//! The README's example of a cache for a single owner: two values are made, and the second leaves
+//! no room for the first.
 
 use concurrent_lru::lru_core::{Begun, State};
 use std::sync::Arc;
@@ -9,7 +9,7 @@ use std::test::Fail;
 fn one_owner_makes_two_values(rt: HostRuntime) -> Result<(), Fail> {
     let mut state: State<u64, u64> = State::new(rt.alloc(), 1);
     for key in [1, 2] {
-        // What the begin evicts is handed out, and dropped where the caller likes.
+        // What the begin evicts is returned, and dropped where the caller chooses.
         let (begun, _evicted) = state.begin(&key, 1)?;
         if let Begun::Make(stamp) = begun {
             assert!(rt; state.ready(stamp, Arc::new(rt.alloc(), key * 10)?).is_ok());

@@ -9,7 +9,7 @@ use lru_fixtures::tables::Call::{
 use lru_fixtures::tables::{Call, answers_as_told};
 use std::test;
 
-// No entry; an idle one; and again none.
+// No entry, an idle one, and again none.
 const IDLE: [(Call, &str); 9] = [
     (Invalidate(1), "[]"),
     (Begin(1, 3), "Ok((Make(0), []))"),
@@ -31,7 +31,8 @@ fn an_idle_entry_is_evicted(rt: HostRuntime) -> Result<(), test::Fail> {
     answers_as_told(alloc, &mut State::new(alloc, 10), &IDLE)
 }
 
-// A detached entry is not found by its key, and calls by its stamp find it until its last pin goes.
+// A detached entry is not found by its key; calls by its stamp find it until its last pin is
+// released.
 const READY: [(Call, &str); 14] = [
     (Begin(1, 3), "Ok((Make(0), []))"),
     (Ready(0, 20), "Ok(())"),
@@ -115,8 +116,8 @@ fn the_new_entry_is_released_first(rt: HostRuntime) -> Result<(), test::Fail> {
     answers_as_told(alloc, &mut State::new(alloc, 10), &NEW_FIRST)
 }
 
-// Entries that are detached while their value is made, and while nobody makes it: one of those that
-// wait makes it, for the holders alone.
+// Entries that are detached while their value is made, and while nobody makes it: one of the
+// waiting callers makes it, for the holders only.
 const MAKINGS: [(Call, &str); 19] = [
     (Begin(1, 3), "Ok((Make(0), []))"),
     (Begin(1, 3), "Ok((Wait(0), []))"),
@@ -148,8 +149,8 @@ fn a_making_is_detached(rt: HostRuntime) -> Result<(), test::Fail> {
     answers_as_told(alloc, &mut State::new(alloc, 10), &MAKINGS)
 }
 
-// A detached entry leaves at its last release, whatever the capacity, and evicts nothing else;
-// while it is held, the idle entries make room for it, oldest first.
+// A detached entry is evicted at its last release, whatever the capacity, and evicts nothing else;
+// while it is held, idle entries are evicted for it, oldest first.
 const CROWDED: [(Call, &str); 14] = [
     (Begin(1, 3), "Ok((Make(0), []))"),
     (Ready(0, 1), "Ok(())"),
@@ -179,7 +180,7 @@ fn a_detached_entry_counts_while_it_is_held(rt: HostRuntime) -> Result<(), test:
     answers_as_told(alloc, &mut State::new(alloc, 9), &CROWDED)
 }
 
-// At the capacity 0 nothing becomes idle; what is detached is evicted once, as it would be anyway.
+// At the capacity 0 nothing becomes idle; a detached entry is evicted once.
 const NO_CAPACITY: [(Call, &str); 5] = [
     (Begin(1, 1), "Ok((Make(0), []))"),
     (Ready(0, 7), "Ok(())"),
@@ -197,7 +198,7 @@ fn a_cache_of_no_capacity_detaches(rt: HostRuntime) -> Result<(), test::Fail> {
     answers_as_told(alloc, &mut State::new(alloc, 0), &NO_CAPACITY)
 }
 
-// The greatest number of pins is that of one entry: a new entry of the key begins at one again.
+// The maximum number of pins is for each entry: a new entry of the key begins at one again.
 const PINS: [(Call, &str); 7] = [
     (Begin(1, 1), "Ok((Make(0), []))"),
     (Begin(1, 1), "Err(Overflow)"),
@@ -214,7 +215,7 @@ fn a_new_entry_has_pins_of_its_own(rt: HostRuntime) -> Result<(), test::Fail> {
     answers_as_told(alloc, &mut State::with_limits(alloc, 10, 0, 1), &PINS)
 }
 
-// A value is put in where there is none, over an idle one, over a held one, and over a making.
+// A value is inserted if there is none, over an idle one, over a held one, and over a making.
 const INSERTS: [(Call, &str); 14] = [
     (
         Insert(1, 3, 20),
@@ -253,8 +254,8 @@ fn a_value_is_put_in_over_another(rt: HostRuntime) -> Result<(), test::Fail> {
     answers_as_told(alloc, &mut State::new(alloc, 10), &INSERTS)
 }
 
-// The charge of an idle entry makes room for the new one, and that of a held one does not. What is
-// refused leaves the key its value.
+// The charge of an idle entry makes room for the new one, and that of a held one does not. After a
+// refusal the key keeps its value.
 const OVERFLOWS: [(Call, &str); 9] = [
     (
         Insert(1, u64::MAX, 20),

@@ -1,4 +1,4 @@
-//! Keys of other kinds: texts, whose copies take memory, and keys that all hash alike.
+//! Keys of other kinds: text, whose copies allocate, and keys that all have the same hash.
 
 use concurrent_lru::lru_core::State;
 use lru_fixtures::makes::make;
@@ -26,10 +26,10 @@ fn keeps_keys_of_text(rt: HostRuntime) -> Result<(), Fail> {
     )
 }
 
-// As many entries as a map whose keys all hash alike leaves time for.
+// As many entries as a map can have in reasonable time if all its keys have the same hash.
 const MANY: u64 = 1_000;
 
-// A key whose hash feeds nothing, so that all keys hash alike.
+// A key whose hash writes nothing, so that all keys have the same hash.
 #[derive(Clone, Copy, PartialEq, Eq)]
 #[derive_where(Hash)]
 struct Careless {

@@ -1,5 +1,5 @@
-//! Nodes by place and the order of the idle ones: each public call on its happy path, and the
-//! end of many nodes, idle and held.
+//! Nodes by place and the order of the idle ones: each public call succeeding, and the drop of many
+//! nodes, idle and held.
 
 use concurrent_lru::list::{Node, Nodes, Phase, Refusal};
 use concurrent_lru::lru_core::State;
@@ -60,7 +60,7 @@ fn numbers_its_refusals(rt: HostRuntime) {
     assert_eq!(rt; Refusal::Stale.code(), 3);
 }
 
-// Makes the keys below `keys`, all with one value, and gives each pin back.
+// Makes the keys below `keys`, all with one value, and releases each pin.
 fn make_all(rt: &impl Abort, state: &mut State<u64, u64>, keys: u64, value: &Arc<u64>) {
     for key in 0..keys {
         let value = value.clone().expect(rt, "room for an owner");
@@ -68,7 +68,7 @@ fn make_all(rt: &impl Abort, state: &mut State<u64, u64>, keys: u64, value: &Arc
     }
 }
 
-// Makes as many keys more, and keeps each pin.
+// Makes the same number of further keys, and keeps each pin.
 fn hold_all(rt: &impl Abort, state: &mut State<u64, u64>, keys: u64, value: &Arc<u64>) {
     for key in keys..keys.saturating_mul(2) {
         let value = value.clone().expect(rt, "room for an owner");
@@ -76,7 +76,7 @@ fn hold_all(rt: &impl Abort, state: &mut State<u64, u64>, keys: u64, value: &Arc
     }
 }
 
-// More nodes of each kind than a drop that calls itself has stack for.
+// More nodes of each kind than the stack would hold if the drop were recursive.
 const MANY: u64 = 100_000;
 
 #[test]

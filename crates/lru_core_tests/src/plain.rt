@@ -1,5 +1,6 @@
-//! The same cache written as plainly as can be: a list of entries, which is walked at each call.
-//! What it answers is what the cache is expected to answer.
+//! The same cache in the plainest form: a list of entries, which is scanned at each call.
+//!
+//! Its answers are those expected of the cache.
 
 use concurrent_lru::lru_core::Refusal;
 use lru_fixtures::tables::{Answers, Call, text_of};
@@ -9,7 +10,7 @@ use std::fmt;
 /// The keys are the numbers below this one.
 pub(crate) const KEYS: usize = 12;
 
-// How far a value is.
+// The state of a value.
 #[derive(Clone, Copy, PartialEq, Eq)]
 enum Phase {
     Making,
@@ -23,14 +24,14 @@ struct Entry {
     key: u64,
     charge: u64,
     pins: u32,
-    // Whether its key finds it no more.
+    // Whether its key no longer finds it.
     detached: bool,
     phase: Phase,
-    // When its last pin was given back: the number of that release.
+    // When its last pin was released: the number of that release.
     rested: u64,
 }
 
-// What `begin` and `poll` say.
+// The result of `begin` and `poll`.
 #[derive(Clone, Copy, Debug)]
 enum Begun {
     Make(u64),
@@ -38,7 +39,7 @@ enum Begun {
     Hit(u64, u64),
 }
 
-// What `fail` says.
+// The result of `fail`.
 #[derive(Clone, Copy, Debug)]
 enum Failed {
     Left,
@@ -54,7 +55,7 @@ struct Gone {
     value: u64,
 }
 
-// What `insert` says.
+// The result of `insert`.
 #[derive(Clone, Copy, Debug)]
 struct Inserted {
     stamp: u64,
@@ -72,7 +73,7 @@ impl fmt::Debug for Evicted {
     }
 }
 
-// The one of both that is idle for longer. The first is idle, where there is one.
+// Returns the one of both that has been idle for longer. The first is idle, if there is one.
 fn older(idle: Option<Entry>, other: Entry) -> Option<Entry> {
     if other.pins > 0 || !matches!(other.phase, Phase::Ready(_)) {
         return idle;
@@ -90,14 +91,14 @@ pub(crate) struct Plain {
     most_pins: u32,
     /// The stamp of the next new entry.
     pub(crate) next: u64,
-    /// The stamp of the entry that the last call gave a pin, where it gave one.
+    /// The stamp of the entry that the last call pinned, if it pinned one.
     pub(crate) pinned: Option<u64>,
     releases: u64,
     entries: Vec<Entry>,
 }
 
 impl Plain {
-    /// An empty cache, as `State::with_limits` makes one.
+    /// Creates an empty cache, as `State::with_limits` does.
     pub(crate) fn with_limits(
         alloc: Global,
         capacity: u64,
@@ -140,7 +141,7 @@ impl Plain {
         total
     }
 
-    // Writes what the entry of a stamp is now.
+    // Replaces the entry of a stamp.
     fn put(&mut self, entry: Entry) {
         for place in &mut self.entries {
             if place.stamp == entry.stamp {
@@ -149,7 +150,7 @@ impl Plain {
         }
     }
 
-    // Takes the entry of a stamp away.
+    // Removes the entry of a stamp.
     fn remove(&mut self, stamp: u64) {
         for index in 0..self.entries.len() {
             if self.entries[index].stamp == stamp {
@@ -159,14 +160,14 @@ impl Plain {
         }
     }
 
-    // Gives an entry one pin more.
+    // Adds a pin to an entry.
     fn pin(&mut self, mut entry: Entry) {
         entry.pins = entry.pins.saturating_add(1);
         self.put(entry);
         self.pinned = Some(entry.stamp);
     }
 
-    // Takes an idle entry away.
+    // Removes an idle entry.
     fn evict(&mut self, entry: Entry) -> Option<Gone> {
         match entry.phase {
             Phase::Ready(value) if entry.pins == 0 => {
@@ -182,14 +183,14 @@ impl Plain {
         }
     }
 
-    // Takes an idle entry away, and tells of it alone.
+    // Removes an idle entry, and returns it alone.
     fn evict_alone(&mut self, entry: Entry) -> Evicted {
         let mut evicted = [None; KEYS];
         evicted[0] = self.evict(entry);
         Evicted(evicted)
     }
 
-    // The idle entry whose last pin was given back before those of the others.
+    // Returns the idle entry whose last pin was released first.
     fn oldest(&self) -> Option<Entry> {
         let mut oldest: Option<Entry> = None;
         for entry in &self.entries {
@@ -198,7 +199,7 @@ impl Plain {
         oldest
     }
 
-    // Evicts the oldest idle entry, where the total is above `capacity`.
+    // Evicts the oldest idle entry if the total is above `capacity`.
     fn evict_oldest(&mut self, capacity: u64) -> Option<Gone> {
         if self.total() <= capacity {
             return None;
@@ -271,7 +272,7 @@ impl Plain {
         }
     }
 
-    // The entry with this stamp, where it is being made.
+    // Returns the entry with this stamp if it is being made.
     fn being_made(&self, stamp: u64) -> Option<Entry> {
         match self.of_stamp(stamp) {
             Some(entry) if entry.phase == Phase::Making => Some(entry),
@@ -312,7 +313,7 @@ impl Plain {
         Ok(Some((entry.stamp, value)))
     }
 
-    // A get whose pin is given back at once. It leaves no pin, and evicts nothing.
+    // A get whose pin is released at once. It leaves no pin, and evicts nothing.
     fn read(&mut self, key: u64) -> Result<Option<(u64, u64)>, Refusal> {
         let Some((stamp, value)) = self.get(key)? else {
             return Ok(None);

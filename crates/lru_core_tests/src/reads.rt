@@ -1,12 +1,13 @@
-//! Reads of one owner: what they answer in each phase of an entry, and what is evicted after them.
+//! Reads of a single owner: their results in each phase of an entry, and what is evicted after
+//! them.
 
 use concurrent_lru::lru_core::{Begun, Evicted, Failed, Refusal, State};
 use std::alloc::{AllocError, Global};
 use std::sync::Arc;
 use std::test::Fail;
 
-// Makes the value of an absent key, ten times the key, and leaves it pinned once under the stamp
-// that is answered.
+// Makes the value of an absent key, ten times the key, and leaves it pinned once. Returns its
+// stamp.
 fn make(alloc: Global, state: &mut State<u64, u64>, key: u64) -> Result<u64, Refusal> {
     let (begun, _evicted) = state.begin(&key, 1)?;
     let Begun::Make(stamp) = begun else {
@@ -19,7 +20,7 @@ fn make(alloc: Global, state: &mut State<u64, u64>, key: u64) -> Result<u64, Ref
     }
 }
 
-// A state with the keys 1, 2 and 3, under the stamps 0, 1 and 2, all idle and 1 the oldest.
+// Creates a state with the keys 1, 2 and 3, with the stamps 0, 1 and 2, all idle and 1 the oldest.
 fn three_idle(alloc: Global) -> Result<State<u64, u64>, Refusal> {
     let mut state = State::new(alloc, 3);
     for key in [1, 2, 3] {
@@ -29,7 +30,7 @@ fn three_idle(alloc: Global) -> Result<State<u64, u64>, Refusal> {
     Ok(state)
 }
 
-// The keys of entries that were evicted, in their order.
+// Returns the keys of evicted entries in order.
 fn keys_of(alloc: Global, evicted: Evicted<u64, u64>) -> Result<Vec<u64>, AllocError> {
     let mut keys = Vec::new(alloc);
     for gone in evicted {
@@ -38,7 +39,7 @@ fn keys_of(alloc: Global, evicted: Evicted<u64, u64>) -> Result<Vec<u64>, AllocE
     Ok(keys)
 }
 
-// A read's key, and the order in which the three leave after it.
+// The key of a read, and the order in which the three are evicted after it.
 const ORDERS: [(u64, [u64; 3]); 4] = [
     (1, [2, 3, 1]),
     (2, [1, 3, 2]),
@@ -88,7 +89,7 @@ fn a_read_leaves_a_held_entry_as_it_is(rt: HostRuntime) -> Result<(), Fail> {
         Ok(Some((0, 11)))
     );
     drop(pinned);
-    // The one pin that is left is the get's.
+    // The only pin that is left is the get's.
     let _evicted = state.release(0)?;
     assert!(rt; matches!(state.release(0), Err(Refusal::Stale)));
     assert_eq!(rt; keys_of(alloc, state.prune())?.as_slice(), [1].as_slice());

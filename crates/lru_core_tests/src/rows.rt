@@ -1,4 +1,4 @@
-//! The worked row on a making that changes hands, with its steps taken as one list.
+//! The worked row on a making that is handed over, with its steps taken as one list.
 
 use concurrent_lru::lru_core::{State, Step};
 use lru_fixtures::tables::says;

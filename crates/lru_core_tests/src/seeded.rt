@@ -1,4 +1,4 @@
-//! Long runs of calls that seeds decide, each answered as a plain cache answers it.
+//! Long runs of calls drawn from seeds, whose answers are compared with those of a plain cache.
 ghost use Rattle.std.specs.Prelude.{◌<◌};
 
 use crate::both::Both;
@@ -43,7 +43,7 @@ fn draw(generator: &mut Xoshiro256PlusPlus, kinds: u64, next: u64) -> Call
     }
 }
 
-// Two empty caches at capacity 10, which give an entry three pins at most.
+// Creates two empty caches at capacity 10, whose entries have at most three pins.
 fn both_of_ten(alloc: Global) -> Both {
     Both::with_limits(alloc, 10, 0, 3)
 }
@@ -62,7 +62,8 @@ fn answer_alike(rt: &impl Abort, alloc: Global, kinds: u64)
     }
 }
 
-// Few pins are ever given back here, so entries are full of pins more often than they are idle.
+// Few pins are ever released here, so entries reach the maximum number of pins more often than they
+// are idle.
 #[test]
 fn answers_as_a_plain_cache_does(rt: HostRuntime) {
     answer_alike(&rt, rt.alloc(), KINDS);
@@ -73,7 +74,7 @@ fn answers_alike_to_the_first_kinds(rt: HostRuntime) {
     answer_alike(&rt, rt.alloc(), FIRST_KINDS);
 }
 
-// With three pins held, the oldest is given back, so that there are idle entries to choose from.
+// Once three pins are held, the oldest is released, so that there are idle entries to choose from.
 #[test]
 fn answers_alike_where_pins_are_given_back(rt: HostRuntime) {
     for seed in 1..=20u64 {

@@ -1,4 +1,4 @@
-//! Each public call of the core on its happy path, and the text of a cache.
+//! Each public call of the core succeeding, and the text of a cache.
 
 use concurrent_lru::lru_core::{State, Step};
 use lru_fixtures::tables::Call::{

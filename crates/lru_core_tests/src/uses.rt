@@ -1,4 +1,4 @@
-//! Whole runs of uses, each key released at once, against a table and a plain function.
+//! Whole runs of uses, each key released at once, compared with a table and a plain function.
 ghost use Rattle.std.specs.Prelude.{◌<◌};
 
 use concurrent_lru::lru_core::{Evicted, State};
@@ -46,7 +46,7 @@ const USES: [(Call, &str); 20] = [
     (Release(5), "Ok([])"),
 ];
 
-// How many rows each use ends after, and what is idle then, oldest first.
+// The number of rows after which each use ends, and what is idle then, oldest first.
 const IDLE: [(usize, &str); 7] = [
     (3, "[Gone { stamp: 0, key: 1, charge: 2, value: 1 }]"),
     (
@@ -80,7 +80,7 @@ fn evicts_as_the_table_says(rt: HostRuntime) -> Result<(), Fail> {
     Ok(())
 }
 
-// The charge of each of the keys 1, 2 and 3.
+// Returns the charge of each of the keys 1, 2 and 3.
 fn charge_of(key: u64) -> u64
     ensures { 0 < result }
 {
@@ -91,7 +91,7 @@ fn charge_of(key: u64) -> u64
     }
 }
 
-// The list of five uses of the keys 1, 2 and 3 with this number, below 3 to the fifth.
+// Returns the list of five uses of the keys 1, 2 and 3 with this number, below 3 to the fifth.
 fn five_uses(number: u64) -> [u64; 5] {
     [
         1 + number % 3,
@@ -102,8 +102,8 @@ fn five_uses(number: u64) -> [u64; 5] {
     ]
 }
 
-// The used keys by their last uses, from the newest back as far as their charges fit, newest
-// first; 0 stands where there are fewer than three.
+// Returns the used keys by their last uses, from the newest back as far as their charges fit,
+// newest first, padded with 0.
 fn longest_tail(uses: &[u64; 5], capacity: u64) -> [u64; 3] {
     let mut tail = [0; 3];
     let mut count = 0;
@@ -125,7 +125,7 @@ fn longest_tail(uses: &[u64; 5], capacity: u64) -> [u64; 3] {
     tail
 }
 
-// The keys of up to three evicted entries, newest first, as `longest_tail` writes them.
+// Returns the keys of up to three evicted entries, newest first, as `longest_tail` does.
 fn keys_of(rt: &impl Abort, mut evicted: Evicted<u64, u64>) -> [u64; 3] {
     let mut keys = [0; 3];
     for _ in 0..3 {

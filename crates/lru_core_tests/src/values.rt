@@ -1,4 +1,4 @@
-//! What a cache answers and refuses, as text.
+//! The answers and refusals of a cache, as text.
 
 use concurrent_lru::lru_core::{Refusal, State};
 use concurrent_lru::unsharded::GetError;
@@ -8,7 +8,7 @@ use std::error::Error;
 use std::sync::Arc;
 use std::test::Fail;
 
-// A cache that keeps two idle entries, of the keys 7 and 8.
+// Creates a cache with two idle entries, of the keys 7 and 8.
 fn with_two(alloc: Global) -> Result<State<u64, u64>, Refusal> {
     let mut state = State::new(alloc, 2);
     for key in [7, 8] {
@@ -17,7 +17,7 @@ fn with_two(alloc: Global) -> Result<State<u64, u64>, Refusal> {
     Ok(state)
 }
 
-// The text of an error.
+// Returns the text of an error.
 fn text_of<E: Error>(alloc: Global, error: E) -> Result<String, AllocError> {
     format!(in alloc; "{error}")
 }

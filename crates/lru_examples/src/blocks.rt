@@ -4,14 +4,14 @@ use concurrent_lru::unsharded::LruCache;
 use std::sync::Wait;
 use std::test::Fail;
 
-/// A part of a database that keeps its files apart from those of the others.
+/// A part of a database with files of its own.
 #[derive(Clone, Copy, Debug, PartialEq, Eq, Hash)]
 enum Family {
     Rows,
     Index,
 }
 
-/// Where a block lies: in which family, and at which offset of its file.
+/// The location of a block: its family, and its offset in the family's file.
 #[derive(Clone, Copy, Debug, PartialEq, Eq, Hash)]
 struct Block {
     family: Family,
@@ -20,7 +20,7 @@ struct Block {
 
 const BLOCK_LEN: usize = 64;
 
-// What would be a read from a disk.
+// Stands for a read from a disk.
 fn load(block: &Block) -> [u8; BLOCK_LEN] {
     let fill = match block.family {
         Family::Rows => b'r',
@@ -29,7 +29,7 @@ fn load(block: &Block) -> [u8; BLOCK_LEN] {
     [fill; BLOCK_LEN]
 }
 
-// The first byte of a block, which is loaded where it is not in the cache.
+// Returns the first byte of a block, which is loaded if it is not in the cache.
 fn first_byte<R: Wait>(
     cache: &LruCache<Block, [u8; BLOCK_LEN], R>,
     block: Block,
@@ -40,7 +40,7 @@ fn first_byte<R: Wait>(
 
 #[test]
 fn two_families_share_a_capacity(rt: HostRuntime) -> Result<(), Fail> {
-    // Room for two blocks, of whichever family.
+    // Room for two blocks of either family.
     let cache = LruCache::new(rt.alloc(), &rt, 2 * BLOCK_LEN as u64);
     let row = Block {
         family: Family::Rows,
@@ -52,7 +52,7 @@ fn two_families_share_a_capacity(rt: HostRuntime) -> Result<(), Fail> {
     };
     assert_eq!(rt; first_byte(&cache, row)?, b'r');
     assert_eq!(rt; first_byte(&cache, leaf)?, b'i');
-    // A scan over the rows evicts what was used longest ago, of either family.
+    // A scan over the rows evicts the least recently used blocks of either family.
     let next = Block { offset: 64, ..row };
     assert_eq!(rt; first_byte(&cache, next)?, b'r');
     assert!(rt; !cache.contains(&row));

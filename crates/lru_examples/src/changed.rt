@@ -1,4 +1,4 @@
-//! A value that has changed is taken back, and a value that is at hand is put in.
+//! A value that has changed is invalidated, and a value that was already made is inserted.
 
 use concurrent_lru::unsharded::LruCache;
 use std::test::Fail;
@@ -8,14 +8,13 @@ fn a_changed_value_is_not_handed_out(rt: HostRuntime) -> Result<(), Fail> {
     let cache = LruCache::new(rt.alloc(), &rt, 100);
     let old = cache.get_or_init(1, 1, |_| 10)?;
 
-    // Whoever asks from now on does not get the value that `old` still reads.
+    // Later calls do not get the value that `old` still reads.
     cache.invalidate(&1);
     assert!(rt; cache.get(1)?.is_none());
     assert_eq!(rt; *old, 10);
     assert_eq!(rt; *cache.get_or_init(1, 1, |_| 11)?, 11);
 
-    // A value that is at hand replaces what is there. The old one counts until its handle is
-    // dropped.
+    // An inserted value replaces the present one. The old one counts until its handle is dropped.
     let new = cache.insert(&1, 2, 12)?;
     assert_eq!(rt; *new, 12);
     assert_eq!(rt; cache.total_charge(), 3);

@@ -49,7 +49,7 @@ fn ask<W: Wait>(cache: &LruCache<u64, u64, W>, made: &AtomicU64) {
             made.fetch_add(1, Ordering::SeqCst);
             *key * 2
         });
-        // Refused only where there is no memory, and then nothing is kept.
+        // Refused only if there is no memory, and then nothing is kept.
         drop(handle);
     }
 }

@@ -7,7 +7,7 @@ use std::test::Fail;
 
 const BLOCK_LEN: usize = 4;
 
-/// Bytes that are read by blocks of four.
+/// Bytes that are read in blocks of four.
 #[derive(Drop)]
 struct Bytes<'a> {
     alloc: Global,
@@ -24,7 +24,7 @@ enum Fault {
 impl Blocks for Bytes<'_> {
     type Fault = Fault;
 
-    // A contract may tell more: which bytes are which block. Here any are.
+    // A contract may state more: which bytes are which block. Here any are.
     ghost is_block = { λ _ _ _. ⊤ };
 
     fn block(&self, number: u64) -> Result<Vec<u8>, Fault> {
@@ -47,7 +47,7 @@ fn pages_are_read_once(rt: HostRuntime) -> Result<(), Fail> {
     let pages = PageCache::new(rt.alloc(), &rt, &reader, 2);
     let page = pages.page(1)?;
     assert_eq!(rt; page.bytes(), b" two".as_slice());
-    // In memory already: `read` shows its bytes, and reads no block.
+    // In the cache already: `read` passes its bytes to the closure, and reads no block.
     assert_eq!(rt; pages.read(1, |bytes| bytes.len())?, Some(4));
     assert!(rt; pages.page(4).is_err());
     Ok(())

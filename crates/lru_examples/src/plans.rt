@@ -1,11 +1,11 @@
-//! Compiled queries by their text: asked for by reference, so that a hit copies no text.
+//! Compiled queries by their text, looked up by reference, so that a hit copies no text.
 
 use concurrent_lru::unsharded::{CacheHandle, GetError, LruCache};
 use std::alloc::Global;
 use std::sync::Wait;
 use std::test::Fail;
 
-/// A compiled query: how many rows it asks for.
+/// A compiled query: the number of rows that it asks for.
 #[derive(Drop)]
 struct Plan {
     limit: u64,
@@ -16,7 +16,7 @@ struct Plan {
 enum Unplanned {
     /// It has no limit.
     NoLimit,
-    /// Its limit is no number.
+    /// Its limit is not a number.
     NotANumber,
 }
 
@@ -30,7 +30,7 @@ fn compile(query: &String) -> Result<Plan, Unplanned> {
     }
 }
 
-// The charge of a plan is the length of its query, and above 0 for an empty query too.
+// The charge of a plan is the length of its query, or 1 for an empty query.
 fn plan_of<'a, R: Wait>(
     plans: &'a LruCache<String, Plan, R>,
     query: &String,
@@ -44,7 +44,7 @@ fn plans_are_found_by_their_query(rt: HostRuntime) -> Result<(), Fail> {
     let plans = LruCache::new(rt.alloc(), &rt, 1_000);
     let query = String::from_str(rt.alloc(), "select name limit 10")?;
     assert_eq!(rt; plan_of(&plans, &query)?.limit, 10);
-    // The second look-up is a hit, and copies no text.
+    // The second lookup is a hit, and copies no text.
     assert_eq!(rt; plans.read(&query, |plan| plan.limit)?, Some(10));
     assert_eq!(rt; plans.total_charge(), 20);
 

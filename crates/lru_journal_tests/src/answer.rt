@@ -1,30 +1,32 @@
-//! What a journal and its twin answer to a call, as plain data, so that answers stand in tables.
-//! The calls are those of `lru_fixtures`; what is told is in the words of the records.
+//! The answers of a journal and its twin to a call, as plain data, so that they can stand in
+//! tables.
+//!
+//! The calls are those of `lru_fixtures`; the replies are those of the records.
 
 use concurrent_lru::lru_core::{Begun, Failed, Refusal};
 use lru_journal::journal::{Pin, Started, Told};
 use std::sync::Arc;
 
-/// The value of the pin that a release is handed. A release goes by the pin's stamp alone.
+/// The value of the pin that a release is passed. A release uses only the pin's stamp.
 pub(crate) const PINNED: u64 = 77;
 
-/// What a call is answered.
+/// The answer to a call.
 #[derive(Clone, Copy, Debug, PartialEq, Eq)]
 pub(crate) enum Answer {
-    /// What was told.
+    /// The reply.
     Says(Told),
-    /// What was told, and what came with it: the value of the entry, or the key of a removed one.
+    /// The reply with the value of the entry, or the key of a removed one.
     Gives(Told, u64),
     /// A refusal.
     Refused(Refusal),
-    /// To `Ready` and `Release`: a refusal, and the stamp and the value that came back with it.
+    /// To `Ready` and `Release`: a refusal, and the stamp and the value that were returned with it.
     Back(Refusal, u64, u64),
     /// The call was not made: a `Begin` at charge 0, or one that journals do not have.
     Unmade,
 }
 
 impl Answer {
-    /// The answer to a call that may be refused.
+    /// Returns the answer to a call that may be refused.
     pub(crate) fn of<T>(told: Result<T, Refusal>) -> Answer
     where
         Answer: From<T>,
@@ -74,7 +76,7 @@ impl From<Option<(u64, Arc<u64>)>> for Answer {
     }
 }
 
-// What a read answers: no pin, and the value that its reader copied.
+// The answer to a read: no pin, and the value that its reader copied.
 impl From<Option<(u64, u64)>> for Answer {
     fn from(found: Option<(u64, u64)>) -> Answer {
         match found {

@@ -1,4 +1,4 @@
-//! A twin, asked call by call by a caller with a tally.
+//! Calls on a twin by a caller with a tally.
 ghost use Rattle.std.specs.Prelude.{◌≡◌, ◌<◌};
 
 use crate::answer::{Answer, PINNED};
@@ -7,7 +7,7 @@ use lru_journal::journal::{Identity, LruCache, Pin, Tally, Told};
 use std::alloc::{AllocError, Global};
 use std::sync::{Arc, Wait};
 
-/// What the twin answers to a call. `AllocError` where a value's memory is refused.
+/// Makes a call on the twin. Returns `AllocError` if a value's memory is refused.
 pub(crate) fn ask<R: Wait + Drop, I: Identity>(
     alloc: Global,
     cache: &LruCache<u64, u64, R, I>,
@@ -26,7 +26,7 @@ pub(crate) fn ask<R: Wait + Drop, I: Identity>(
     }
 }
 
-// What is answered to a call that hands over plain numbers.
+// Makes a call whose arguments are plain numbers.
 fn ask_plainly<R: Wait + Drop, I: Identity>(
     cache: &LruCache<u64, u64, R, I>,
     tally: &mut Tally<u64, I>,

@@ -1,5 +1,8 @@
-//! What a journal and its twin answer, evict and record, as tables, each from the empty cache.
-//! A row has a call, its answer, the stamps and keys of what leaves, and the text of its record.
+//! The answers, evictions and records of a journal and its twin, as tables, each from the empty
+//! cache.
+//!
+//! A row has a call, its answer, the stamps and keys of what is evicted, and the text of its
+//! record.
 
 use crate::answer::Answer::{Back, Gives, Refused, Says};
 use crate::answer::PINNED;
@@ -27,8 +30,8 @@ fn accepted_steps_are_recorded_and_refused_ones_are_not(rt: HostRuntime) -> Resu
     ask_all(&rt, rt.alloc(), 1, &ACCEPTED_OR_REFUSED)
 }
 
-// Each refusal but for want of memory, before, while and after the entry is made. The refused
-// begin used no stamp up. The total is past the capacity, so the release evicts.
+// Each refusal other than `Memory`, before, while and after the entry is made. The refused begin
+// uses up no stamp. The total is above the capacity, so the release evicts.
 static REFUSED: [Row; 16] = [
     (Poll(0), Refused(Stale), &[], ""),
     (Ready(0, 7), Back(Stale, 0, 7), &[], ""),
@@ -112,7 +115,7 @@ fn a_hit_gives_the_value_that_was_given(rt: HostRuntime) -> Result<(), test::Fai
     ask_all(&rt, rt.alloc(), 10, &HITS)
 }
 
-// Advice evicts the idle entry of its own key, and no other.
+// Advice evicts only the idle entry of its own key.
 static ADVICE_AND_PRUNE: [Row; 19] = [
     (Begin(1, 1), Says(Make(0)), &[], "begin 1 1 -> make 0"),
     (Ready(0, 1), Says(Done), &[], "ready 0 -> done"),
@@ -140,8 +143,8 @@ fn advice_evicts_one_key_and_a_prune_all_that_is_idle(rt: HostRuntime) -> Result
     ask_all(&rt, rt.alloc(), 10, &ADVICE_AND_PRUNE)
 }
 
-// An entry that is held, and one that waits for its maker, are detached from their key; idle ones
-// are evicted.
+// A held entry, and one that waits for its maker, are detached from their key; idle ones are
+// evicted.
 static TAKEN_BACK: [Row; 18] = [
     (Invalidate(1), Says(Done), &[], "invalidate 1 -> done"),
     (Begin(1, 1), Says(Make(0)), &[], "begin 1 1 -> make 0"),

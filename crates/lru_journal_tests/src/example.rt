@@ -1,5 +1,5 @@
-//! All that a user writes to open a twin: a function that is generic in the twin's identity,
-//! and one line that names it (proofs/example/opens_a_twin/Invariants.antt).
+//! All that a user writes to open a twin: a function that is generic in the twin's identity, and
+//! one line that names it (proofs/example/opens_a_twin/Invariants.antt).
 ghost use Rattle.std.specs.Prelude.{◌≡◌};
 
 use lru_journal::journal::{Identity, LruCache, Opening, Started};

@@ -1,5 +1,6 @@
 //! Tests of the journal and of its twin, at concrete types.
-//! The library is empty: what its modules have is read for the tests alone.
+//!
+//! The library is empty: its modules contain only tests.
 #![tactic(auto)]
 
 #[cfg(test)]

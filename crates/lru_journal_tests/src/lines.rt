@@ -1,9 +1,9 @@
-//! Records as text, one line a record.
+//! Records as text, one on each line.
 
 use lru_journal::journal::Record;
 use std::alloc::{AllocError, Global};
 
-/// The records' texts, each with a line feed behind it.
+/// Returns the records' texts, each followed by a line feed.
 pub(crate) fn lines(alloc: Global, records: &[Record<u64>]) -> Result<String, AllocError> {
     let mut text = String::new(alloc);
     for line in records {

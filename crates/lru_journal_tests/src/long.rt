@@ -1,15 +1,15 @@
-//! A journal of many records ends, and its entries with it, idle and held.
+//! The drop of a journal of many records, and of its entries, idle and held.
 
 use lru_journal::journal::Journal;
 use std::process::Abort;
 use std::sync::Arc;
 use std::test::Fail;
 
-// Half of the keys are let go. An idle key leaves three records and a held one two, so there are
-// more records than a drop that calls itself has stack for.
+// Half of the keys are released. An idle key leaves three records and a held one two, so there are
+// more records than the stack would hold if the drop were recursive.
 const KEYS: u64 = 40_000;
 
-// Makes a key's value, as the step of that number makes it, and keeps the pin.
+// Makes a key's value and keeps the pin. The key is also the stamp.
 fn hold(rt: &impl Abort, journal: &mut Journal<u64, u64>, key: u64, value: &Arc<u64>) {
     let value = value.clone().expect(rt, "room for an owner");
     assert!(rt; journal.begin(&key, 1).is_ok());

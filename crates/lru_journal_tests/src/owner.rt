@@ -1,4 +1,4 @@
-//! A journal for one owner, asked call by call, and what each call evicts.
+//! Calls on a journal for a single owner, and what each call evicts.
 ghost use Rattle.std.specs.Prelude.{◌<◌};
 
 use crate::answer::{Answer, PINNED};
@@ -8,7 +8,7 @@ use lru_journal::journal::{Journal, Told};
 use std::alloc::{AllocError, Global};
 use std::sync::Arc;
 
-/// What a journal answers to a call, and what left the cache.
+/// The answer of a journal to a call, and what left the cache.
 #[derive(Drop)]
 pub(crate) struct Heard {
     pub(crate) answer: Answer,
@@ -26,7 +26,7 @@ impl Heard {
         }
     }
 
-    /// The stamps and keys of the entries that left, oldest first.
+    /// Returns the stamps and keys of the entries that left, oldest first.
     pub(crate) fn gone(self, alloc: Global) -> Result<Vec<(u64, u64)>, AllocError> {
         match self.evicted {
             Some(evicted) => all_of(alloc, evicted),
@@ -52,7 +52,7 @@ impl From<Answer> for Heard {
     }
 }
 
-/// What the journal answers to a call. `AllocError` where a value's memory is refused.
+/// Makes a call on the journal. Returns `AllocError` if a value's memory is refused.
 pub(crate) fn ask(
     alloc: Global,
     journal: &mut Journal<u64, u64>,
@@ -74,7 +74,7 @@ pub(crate) fn ask(
     }
 }
 
-// What is answered to a call that evicts nothing.
+// Makes a call that evicts nothing.
 fn ask_in_place(journal: &mut Journal<u64, u64>, call: Call) -> Answer {
     match call {
         Call::Poll(stamp) => Answer::of(journal.poll(stamp)),
@@ -106,7 +106,7 @@ fn ready(journal: &mut Journal<u64, u64>, stamp: u64, value: Arc<u64>) -> Answer
     }
 }
 
-// A journal is handed the stamp alone: the value stays with whoever has the pin.
+// A journal is passed only the stamp: the value stays with the holder of the pin.
 fn release(journal: &mut Journal<u64, u64>, stamp: u64) -> Heard {
     match journal.release(stamp) {
         Ok(evicted) => Heard {

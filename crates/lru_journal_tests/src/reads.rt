@@ -10,7 +10,7 @@ use std::process::Abort;
 use std::sync::{Arc, Wait};
 use std::test::Fail;
 
-// What a reader is told before and after the value of key 1 is stored, in records.
+// What a reader finds before and after the value of key 1 is stored, in records.
 const LINES: &str = "begin 1 3 -> make 0\n\
     get 1 -> none\n\
     ready 0 -> done\n\

@@ -1,5 +1,6 @@
-//! Long runs of calls that seeds decide, asked of a twin and of a journal for one owner.
-//! The twin answers each call as the journal does, and its records are the journal's.
+//! Long runs of calls drawn from seeds, made on a twin and on a journal for a single owner.
+//!
+//! The twin's answers are the journal's, and so are its records.
 ghost use Rattle.std.specs.Prelude.{◌≡◌};
 
 use crate::answer::Answer;
@@ -16,8 +17,8 @@ use std::test::Fail;
 
 const CAPACITY: u64 = 8;
 
-// What decides the next call: a generator, the stamps of the last pins that were got, and what is
-// due of the calls by which the pin before these is given back.
+// The state that determines the next call: a generator, the stamps of the last pins, and the calls
+// that remain to be made to release the pin before these.
 #[derive(Drop)]
 struct Draws {
     generator: Xoshiro256PlusPlus,
@@ -45,7 +46,7 @@ impl Draws {
         }
     }
 
-    // A call at one of six keys or of the last pins.
+    // Returns a call on one of six keys or of the last pins.
     fn draw(&mut self) -> Call {
         let kind = self.generator.next_u64() % 18;
         let key = self.generator.next_u64() % 6;
@@ -75,7 +76,7 @@ impl Draws {
         calls[kind as usize]
     }
 
-    // Keeps the stamp where the call got a pin, and lets the oldest pin be given back.
+    // Keeps the stamp if the call returned a pin, and has the oldest pin released.
     fn note(&mut self, call: Call, answer: Answer) {
         if let Call::Begin(..) | Call::Get(_) = call
             && let Answer::Says(Told::Make(stamp) | Told::Wait(stamp))
@@ -88,7 +89,7 @@ impl Draws {
     }
 }
 
-// A pin is given back after a poll, which takes a failed making over, and a ready.
+// A pin is released after a poll, which takes over a failed making, and a ready.
 fn next_due(call: Call) -> Option<Call> {
     match call {
         Call::Poll(stamp) => Some(Call::Ready(stamp, stamp)),
@@ -128,7 +129,7 @@ fn compare<I: Identity, R: Wait + Abort>(
     compare_records(rt, alloc, recorded.records(), journal.records(), seed)
 }
 
-// Record by record, as texts.
+// Compares the records one by one, as text.
 fn compare_records<R: Abort>(
     rt: &R,
     alloc: Global,

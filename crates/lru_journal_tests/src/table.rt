@@ -1,4 +1,5 @@
-//! Tables of calls: each is asked of a journal and of its twin, and the records of both are read.
+//! Tables of calls: each is made on a journal and on its twin, and the records of both are
+//! compared.
 ghost use Rattle.std.specs.Prelude.{◌≡◌};
 
 use crate::answer::Answer;
@@ -11,12 +12,12 @@ use std::process::Abort;
 use std::sync::Wait;
 use std::test::Fail;
 
-/// A call, what both answer, the stamps and keys of what leaves the cache, oldest first, and the
-/// text of its record, which is empty where the call leaves none.
+/// A call, the answer of both, the stamps and keys of what leaves the cache, oldest first, and the
+/// text of its record, which is empty if the call adds none.
 pub(crate) type Row = (Call, Answer, &'static [(u64, u64)], &'static str);
 
-/// Makes each call of a journal and of a twin, both empty and at this capacity at first, and
-/// compares what they answer and record. A row that differs ends the test with its number.
+/// Makes each call on a journal and on a twin, both initially empty and at this capacity, and
+/// compares their answers and records. A row that differs ends the test with its number.
 pub(crate) fn ask_all<R: Wait + Abort>(
     rt: &R,
     alloc: Global,

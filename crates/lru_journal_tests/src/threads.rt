@@ -22,7 +22,7 @@ fn two_callers_make_one_history(rt: HostRuntime) -> Result<(), Fail> {
 }
 
 // Makes the value of a key that no other caller asks for, asks for it twice more while it is
-// pinned, and gives the three pins back. The records tell what each call was answered.
+// pinned, and releases the three pins. The records show the answer to each call.
 fn use_key<I: Identity, R: Wait + Drop>(
     alloc: Global,
     cache: &LruCache<u64, u64, R, I>,
@@ -47,7 +47,7 @@ fn use_key<I: Identity, R: Wait + Drop>(
     Ok(())
 }
 
-// Uses ten keys from this one on, one after the other.
+// Uses ten keys from this one on, one after another.
 fn use_ten_keys<I: Identity, R: Wait + Drop>(
     cache: &LruCache<u64, u64, R, I>,
     alloc: Global,
@@ -62,7 +62,7 @@ fn use_ten_keys<I: Identity, R: Wait + Drop>(
     Ok(tally)
 }
 
-// The two callers, each on a thread of its own.
+// Runs the two callers, each on a thread of its own.
 fn use_on_two_threads<I: Identity + Send + Sync, R: Threads + Wait + Sync>(
     rt: &R,
     cache: &LruCache<u64, u64, &R, I>,
@@ -109,7 +109,7 @@ fn use_twenty_keys<I: Identity + Send + Sync, R: Threads + Wait + Abort + Sync>(
     Ok(())
 }
 
-// How many records there are of each kind.
+// Returns the number of records of each kind.
 fn counts_of(records: &[Record<u64>]) -> [u32; 6] {
     let mut counts = [0u32; 6];
     for record in records {
@@ -119,8 +119,8 @@ fn counts_of(records: &[Record<u64>]) -> [u32; 6] {
     counts
 }
 
-// The kind of a record: a making, a ready, a hit, a find, a release, or a step or a reply that no
-// use has.
+// Returns the kind of a record: a making, a ready, a hit, a find, a release, or a step or a reply
+// that no use has.
 fn kind_of(record: &Record<u64>) -> usize
     ensures { result < 6 }
 {
@@ -134,8 +134,8 @@ fn kind_of(record: &Record<u64>) -> usize
     }
 }
 
-// Whether the records have the begin of a key, the ready of its stamp and a release, in this order
-// and each answered as its caller saw it.
+// Returns whether the records have the begin of a key, the ready of its stamp and a release, in
+// this order and each with the reply that its caller saw.
 fn has_use_of(records: &[Record<u64>], key: u64) -> bool {
     let mut made = None;
     let mut is_ready = false;

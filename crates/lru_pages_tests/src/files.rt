@@ -13,18 +13,18 @@ use std::sync::atomic::{AtomicU64, Ordering};
 use std::test::Fail;
 use std::{env, fs, io, thread};
 
-// How many bytes a block has.
+// The number of bytes of a block.
 const SIZE: usize = 32;
 
 // How often a thread reads all blocks.
 const ROUNDS: u32 = 20;
 
-// So many bytes; no block of the first 251 is like another.
+// Returns this many bytes; the first 251 blocks all differ.
 fn bytes(alloc: Global, count: u32) -> Result<Vec<u8>, AllocError> {
     (0..count).map(|at| (at % 251) as u8).collect(alloc)
 }
 
-// Whether each page has the bytes of its block of the whole file.
+// Returns whether each page has the bytes of its block of the whole file.
 fn are_right<R: Wait>(pages: &PageCache<'_, FileBlocks, R>, whole: &[u8]) -> bool {
     for (number, block) in whole.chunks(SIZE).enumerate() {
         match pages.page(number as u64) {
@@ -35,7 +35,7 @@ fn are_right<R: Wait>(pages: &PageCache<'_, FileBlocks, R>, whole: &[u8]) -> boo
     true
 }
 
-// Whether they have, every time.
+// Returns whether they have, every time.
 fn stay_right<R: Wait>(pages: &PageCache<'_, FileBlocks, R>, whole: &[u8]) -> bool {
     for _ in 0..ROUNDS {
         if !are_right(pages, whole) {
@@ -59,10 +59,10 @@ fn four_threads_read_a_file(rt: HostRuntime) -> Result<(), Fail> {
     Ok(())
 }
 
-// What a page is answered.
+// The answer to a request for a page.
 #[derive(Clone, Copy, Debug, PartialEq, Eq)]
 enum Told {
-    // So many bytes, the last of which is this one.
+    // This many bytes, the last of which is this one.
     Bytes(usize, Option<u8>),
     PastEnd,
     Short,
@@ -74,7 +74,7 @@ enum Told {
 }
 
 impl Told {
-    // The answer to a page, whose handle is let go at once.
+    // Requests a page, whose handle is dropped at once.
     fn of<S: ReadAt, R: Wait>(pages: &PageCache<'_, FileBlocks<S>, R>, number: u64) -> Told {
         match pages.page(number) {
             Ok(page) => Told::bytes(page.value().bytes()),
@@ -97,7 +97,7 @@ impl Told {
     }
 }
 
-// A source whose byte at each place is the place's number below 251.
+// A source whose byte at each position is the position modulo 251.
 #[derive(Drop)]
 struct Places;
 
@@ -110,7 +110,8 @@ impl ReadAt for Places {
     }
 }
 
-// The page of a number, of so many bytes in blocks of a size, and how many pages there are then.
+// Requests a page of this many bytes in blocks of a size. Returns the answer and the number of
+// pages then.
 fn told_of<R: Wait + Drop>(
     alloc: Global,
     rt: R,
@@ -159,7 +160,8 @@ fn a_block_past_all_memory_leaves_nothing(rt: HostRuntime) {
     );
 }
 
-// The page of block 1 once the file has so many bytes, and how many pages there are then.
+// Requests the page of block 1 once the file has this many bytes. Returns the answer and the number
+// of pages then.
 fn told_at<R: Wait>(file: &File, pages: &PageCache<'_, FileBlocks, R>, len: u64) -> (Told, u64) {
     match file.set_len(len) {
         Ok(()) => (Told::of(pages, 1), pages.total_charge()),
@@ -181,7 +183,7 @@ fn a_file_that_was_cut_short_gives_no_page(rt: HostRuntime) {
     let steps = [
         (40, Told::Short, 0),
         (64, Told::Bytes(32, Some(0)), 1),
-        // The page is there still.
+        // The page is still in the cache.
         (40, Told::Bytes(32, Some(0)), 1),
     ];
     for (len, told, total) in steps {
@@ -194,7 +196,7 @@ fn a_file_that_was_cut_short_gives_no_page(rt: HostRuntime) {
     let _removed = fs::remove_file(&rt, path.as_path());
 }
 
-// A source whose first read fails, and whose second finds it to be short.
+// A source whose first read fails, and whose second finds that it is short.
 #[derive(Drop)]
 struct Worn {
     reads: AtomicU64,

@@ -1,11 +1,11 @@
-//! A reader over memory: its blocks are four equal bytes, and it keeps which were asked for.
+//! A reader over memory: its blocks are four equal bytes, and it records which were requested.
 ghost use Rattle.std.specs.Prelude.{◌≡◌, ◌+◌, ◌≤◌, ℕ, replicate};
 
 use lru_pages::Blocks;
 use std::alloc::Global;
 use std::sync::{Mutex, Wait};
 
-/// How many blocks there are.
+/// The number of blocks.
 pub(crate) const COUNT: u8 = 8;
 
 /// Blocks of four bytes each: block n has `first` and n.
@@ -28,7 +28,7 @@ pub(crate) enum Fault {
 }
 
 impl<R: Wait> Fours<R> {
-    /// A reader that nobody has asked.
+    /// Creates a reader without requests.
     pub(crate) fn new(alloc: Global, rt: R, first: u8) -> Fours<R>
         requires { first + 8 ≤ 256 }
     {
@@ -40,7 +40,7 @@ impl<R: Wait> Fours<R> {
         }
     }
 
-    /// Whether these blocks were asked for, in this order, and no others.
+    /// Returns whether exactly these blocks were requested, in this order.
     pub(crate) fn was_asked(&self, numbers: &[u64]) -> bool {
         self.asked.lock(&self.rt).as_slice() == numbers
     }

@@ -1,5 +1,6 @@
 //! Tests of page caches, over readers in memory and over files, and of a pool of open files.
-//! They stand apart from the cache, so that its crate is proved once.
+//!
+//! They are apart from the cache, so that its crate is proved once.
 #![tactic(auto)]
 
 #[cfg(test)]

@@ -1,4 +1,4 @@
-//! Pages of readers over memory: which blocks are read, which are found, what a fault leaves.
+//! Pages of readers over memory: which blocks are read, which are found, and what a fault leaves.
 
 use crate::fours::{Fault, Fours};
 use concurrent_lru::unsharded::GetError;
@@ -6,28 +6,28 @@ use lru_pages::PageCache;
 use std::sync::Wait;
 use std::test::Fail;
 
-// A step of a run, and what comes of it. Each handle is let go at once.
+// A step of a run, and its result. Each handle is dropped at once.
 #[derive(Clone, Copy, Debug)]
 enum Step {
     // The page of the number has four bytes that are this one.
     Gives(u64, u8),
-    // The page of the number is there, and has four bytes that are this one.
+    // The page of the number is in the cache, and has four bytes that are this one.
     Shows(u64, u8),
-    // The page of the number is not there.
+    // The page of the number is not in the cache.
     Hides(u64),
     // There is no such block.
     Lacks(u64),
-    // There are so many pages.
+    // There are this many pages.
     Holds(u64),
-    // All pages leave.
+    // All pages are evicted.
     Prune,
-    // No more than so many stay.
+    // At most this many stay.
     SetCapacity(u64),
-    // So many may stay.
+    // The capacity is this many.
     Capacity(u64),
 }
 
-// Whether a step goes as it says.
+// Returns whether a step has its result.
 fn goes<R: Wait>(pages: &PageCache<'_, Fours<R>, R>, step: Step) -> bool {
     match step {
         Step::Gives(number, byte) => gives(pages, number, byte),
@@ -47,7 +47,7 @@ fn goes<R: Wait>(pages: &PageCache<'_, Fours<R>, R>, step: Step) -> bool {
     }
 }
 
-/// Whether the page of a number has four bytes that are this one.
+/// Returns whether the page of a number has four bytes that are this one.
 pub(crate) fn gives<R: Wait>(pages: &PageCache<'_, Fours<R>, R>, number: u64, byte: u8) -> bool {
     match pages.page(number) {
         Ok(page) => page.value().number() == number && page.value().bytes() == [byte; 4].as_slice(),
@@ -55,7 +55,7 @@ pub(crate) fn gives<R: Wait>(pages: &PageCache<'_, Fours<R>, R>, number: u64, by
     }
 }
 
-// Whether the page of a number has four bytes that are this one, where it is there.
+// Returns whether the page of a number has four bytes that are this one, if it is in the cache.
 fn shown<R: Wait>(pages: &PageCache<'_, Fours<R>, R>, number: u64, byte: u8) -> Option<bool> {
     pages
         .read(number, |bytes| bytes == [byte; 4].as_slice())
@@ -109,7 +109,7 @@ fn reads_and_finds_are_counted(rt: HostRuntime) -> Result<(), Fail> {
     }
     let counts = pages.counts();
     assert_eq!(rt; (counts.hits, counts.misses, counts.waits), (2, 5, 0));
-    // Each block that the reader was asked for is a making; a read that finds no page is none.
+    // Each block that the reader was asked for is a making; a read that finds no page is not.
     assert!(rt; reader.was_asked([1, 2, 9, 3].as_slice()));
     assert_eq!(rt; (counts.makings, counts.failures), (4, 1));
     assert_eq!(rt;
@@ -130,7 +130,7 @@ fn a_page_that_is_there_is_shown_without_a_handle(rt: HostRuntime) -> Result<(),
         Step::Hides(1),
         Step::Gives(1, 1),
         Step::Gives(2, 2),
-        // It counts as a use, so that the other page leaves.
+        // It counts as a use, so the other page is evicted.
         Step::Shows(1, 1),
         Step::Gives(3, 3),
         Step::Hides(2),
@@ -190,7 +190,7 @@ fn a_capacity_of_pages_grows(rt: HostRuntime) -> Result<(), Fail> {
     for step in steps {
         assert!(rt; goes(&pages, step), "at {step:?}");
     }
-    // At the fourth page the second left, which was let go the longest ago.
+    // At the fourth page the second was evicted, the least recently released one.
     assert!(rt; reader.was_asked([1, 2, 3, 4, 2].as_slice()));
     Ok(())
 }
@@ -224,7 +224,7 @@ fn pages_that_are_held_pass_the_capacity(rt: HostRuntime) -> Result<(), Fail> {
     assert_eq!(rt; (pages.total_charge(), pages.capacity()), (3, 1));
     pages.prune();
     assert_eq!(rt; pages.total_charge(), 3);
-    // Each leaves as it is let go, until no more are there than the capacity says.
+    // Each is evicted when it is released, until there are no more than the capacity.
     drop(one);
     assert_eq!(rt; pages.total_charge(), 2);
     drop(two);

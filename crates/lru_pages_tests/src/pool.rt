@@ -1,4 +1,4 @@
-//! The second example of the README, whole: a pool of open files, by their paths.
+//! The second example of the README in full: a pool of open files by path.
 
 use concurrent_lru::unsharded::{CacheHandle, GetError, LruCache};
 use std::alloc::{AllocError, Global};
@@ -11,8 +11,8 @@ use std::sync::Wait;
 use std::test::Fail;
 use std::{env, fs, io};
 
-/// Open files by their paths: one that is being read stays open, and one that nobody reads does as
-/// long as no more than `capacity` are open in all.
+/// Open files by path: one that is being read stays open, and an unused one does while at most
+/// `capacity` are open in all.
 #[derive(Drop)]
 struct Pool<'a, F: Files<File = File>, R: Wait> {
     alloc: Global,
@@ -29,8 +29,8 @@ impl<'a, F: Files<File = File>, R: Wait> Pool<'a, F, R> {
         }
     }
 
-    // A handle of the file of a path, which is opened where it isn't open. The system's error
-    // where it can't be; nothing of it stays then.
+    // Returns a handle of the file at a path, which is opened if it is not open. Returns the
+    // system's error if it cannot be opened; nothing of it stays then.
     fn file(
         &self,
         path: Path<'_>,
@@ -43,7 +43,7 @@ impl<'a, F: Files<File = File>, R: Wait> Pool<'a, F, R> {
             .get_or_try_init(key, 1, |path| File::open(files, path.as_str()))
     }
 
-    // The first byte of the file of a path, where it can be opened and read.
+    // Returns the first byte of the file at a path, if it can be opened and read.
     fn first(&self, path: Path<'_>) -> Option<u8> {
         match self.file(path) {
             Ok(file) => first(file.value()),
@@ -51,7 +51,7 @@ impl<'a, F: Files<File = File>, R: Wait> Pool<'a, F, R> {
         }
     }
 
-    // Another file has this path now: the one that had it is closed, unless it is being read.
+    // Another file has this path now: closes the one that had it, unless it is being read.
     fn forget(&self, path: Path<'_>) -> Result<(), AllocError> {
         self.open
             .advice_evict(String::from_str(self.alloc, path.as_str())?);
@@ -59,7 +59,7 @@ impl<'a, F: Files<File = File>, R: Wait> Pool<'a, F, R> {
     }
 }
 
-// The first byte of a file, where it can be read.
+// Returns the first byte of a file, if it can be read.
 fn first(file: &File) -> Option<u8> {
     let mut byte = [0];
     match file.read_exact_at(&mut byte, 0) {
@@ -68,7 +68,7 @@ fn first(file: &File) -> Option<u8> {
     }
 }
 
-// Two files, and the paths that they have.
+// Creates two files, and returns their paths.
 fn two_files<F: Files + Env + AllocGlobal>(rt: &F) -> io::Result<(PathBuf, PathBuf)> {
     let folder = env::temp_dir(rt)?;
     let fruit = folder.join(rt.alloc(), "lru_pages_tests_fruit")?;
@@ -84,12 +84,12 @@ fn a_pool_of_open_files(rt: HostRuntime) -> Result<(), Fail> {
     let pool = Pool::new(rt.alloc(), &rt, &rt, 1);
     let held = pool.file(fruit.as_path())?;
     assert_eq!(rt; pool.first(roots.as_path()), Some(b'c'));
-    // The other was closed when it was let go; the one that is held is there for the next read.
+    // The other was closed when it was released; the held one is there for the next read.
     assert_eq!(rt; pool.open.total_charge(), 1);
     assert_eq!(rt; first(held.value()), Some(b'a'));
     drop(held);
 
-    // A renamed file: the pool has the one that had the path before, until it is told.
+    // A renamed file: the pool has the one that had the path before, until it is invalidated.
     fs::rename(&rt, roots.as_path(), fruit.as_path())?;
     assert_eq!(rt; pool.first(fruit.as_path()), Some(b'a'));
     pool.forget(fruit.as_path())?;

@@ -1,11 +1,11 @@
-//! Files of the tests, in the system's folder for such: each has a name of its own.
+//! Files of the tests, in the system's temporary directory, each with a name of its own.
 
 use std::fs::Files;
 use std::path::PathBuf;
 use std::rt::Env;
 use std::{env, fs, io};
 
-/// Writes a file of a test, and answers its path.
+/// Writes a file of a test, and returns its path.
 pub(crate) fn file<R: Env + Files + AllocGlobal>(
     rt: &R,
     name: &str,

@@ -7,10 +7,10 @@ use std::sync::Wait;
 use std::test::Fail;
 use std::thread;
 
-// How often a thread reads all pages.
+// The number of times that a thread reads all pages.
 const ROUNDS: u32 = 100;
 
-// Whether each page has its block's bytes.
+// Returns whether each page has its block's bytes.
 fn are_right<R: Wait>(pages: &PageCache<'_, Fours<R>, R>) -> bool {
     for byte in 0..COUNT {
         if !gives(pages, u64::from(byte), byte) {
@@ -20,7 +20,7 @@ fn are_right<R: Wait>(pages: &PageCache<'_, Fours<R>, R>) -> bool {
     true
 }
 
-// Whether they have, every time.
+// Returns whether they have, every time.
 fn stay_right<R: Wait>(pages: &PageCache<'_, Fours<R>, R>) -> bool {
     for _ in 0..ROUNDS {
         if !are_right(pages) {

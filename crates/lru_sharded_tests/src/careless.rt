@@ -1,5 +1,5 @@
-//! A hasher that has one number for every key: all entries are in one shard, and the others stay
-//! empty. Handles that are forgotten keep their pins there.
+//! A hasher that returns the same hash for every key: all entries are in one shard, and the others
+//! stay empty. Handles that are forgotten keep their pins there.
 
 use concurrent_lru::sharded::LruCache;
 use lru_fixtures::threaded::Call::{AdviceEvict, Get, Init, Prune, SetCapacity, Show, Total};
@@ -11,7 +11,7 @@ use std::alloc::Global;
 use std::sync::Wait;
 use std::test::Fail;
 
-// Makes the calls of a table of an empty cache of four shards, which share the capacity 8.
+// Makes the calls of a table on an empty cache of four shards, which share the capacity 8.
 fn plays<R: Wait + Clone + Drop>(
     rt: &R,
     alloc: Global,

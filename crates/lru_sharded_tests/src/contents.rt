@@ -1,4 +1,4 @@
-//! How many entries all shards have, how much of their totals is pinned, and which keys have a
+//! The number of entries of all shards, the pinned part of their totals, and which keys have a
 //! value.
 
 use concurrent_lru::sharded::{LruCache, Refusal, Shards};
@@ -10,9 +10,8 @@ use lru_fixtures::tables::shards::ShardCall::{
 use lru_support::hashers::ByOwnNumber;
 use std::test;
 
-// Calls of two shards that keep two entries each, in order, and after each how many entries there
-// are, the sum of the pinned charges, and whether the keys 1 and 2, of the shards 1 and 0, have a
-// value.
+// Calls on two shards that keep two entries each, in order, and after each the number of entries,
+// the sum of the pinned charges, and whether the keys 1 and 2, of the shards 1 and 0, have a value.
 const STATES: [(ShardCall, usize, u128, [bool; 2]); 9] = [
     (Prune(0), 0, 0, [false, false]),
     (Begin(1, 1), 1, 1, [false, false]),

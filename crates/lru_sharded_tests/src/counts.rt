@@ -34,7 +34,7 @@ fn the_counts_of_all_shards_are_summed(rt: HostRuntime) -> Result<(), Refusal> {
     assert_eq!(rt; (counts.evictions, counts.evicted_charge), (2, 2));
     assert_eq!(rt; (counts.removals, counts.removed_charge), (1, 1));
     assert_eq!(rt; (cache.len(), cache.total_charge()), (5, 5));
-    // Each shard tells what it had, and begins anew at what it has.
+    // Each shard returns what it had, and starts again from what it has.
     assert_eq!(rt; cache.reset_counts(), counts);
     let anew = Counts {
         entries_before: 5,
@@ -49,7 +49,7 @@ fn the_counts_of_all_shards_are_summed(rt: HostRuntime) -> Result<(), Refusal> {
     Ok(())
 }
 
-// Each shard refuses, replaces and takes back by itself.
+// Each shard refuses, replaces and invalidates independently.
 #[test]
 fn what_each_shard_is_asked_is_counted_there(rt: HostRuntime) {
     let made: Result<LruCache<u64, u64, &HostRuntime, ByOwnNumber>, _> =
@@ -65,7 +65,7 @@ fn what_each_shard_is_asked_is_counted_there(rt: HostRuntime) {
     assert_eq!(rt; (full.refusals, full.misses, full.makings), (3, 0, 0));
     assert_eq!(rt; (full.insertions, full.evictions), (2, 0));
     assert_eq!(rt; full.inserted_charge, 2 + u128::from(u64::MAX));
-    // What is held is evicted later; what is idle at once.
+    // A held entry is evicted later; an idle one at once.
     cache.invalidate(&0);
     assert_eq!(rt; cache.counts().evictions, 0);
     cache.invalidate(&4);

@@ -6,10 +6,10 @@ use std::sync::Wait;
 use std::test::Fail;
 use std::thread;
 
-// What may be sent to another thread and shared with it.
+// Accepts what may be sent to another thread and shared with it.
 fn crosses<T: Send + Sync>(_value: &T) {}
 
-// Caches and handles do, where their keys, values, hashers, marks and rights do.
+// Caches and handles may, if their keys, values, hashers, marks and capabilities may.
 fn caches_cross<
     K: Hash + Eq + Clone + Drop + Send + Sync,
     V: Drop + Send + Sync,
@@ -28,7 +28,7 @@ fn sharded_caches_and_handles_cross_threads(rt: HostRuntime) -> Result<(), Fail>
     let handle = cache.get_or_init(1, 3, |_| 5)?;
     caches_cross(&cache, &handle);
     let shared = &cache;
-    // One thread gives the pin back, with which the entry goes, while this one waits for it.
+    // One thread releases the pin, which evicts the entry, while this one waits for it.
     let (total, _) = thread::join(
         &rt,
         move || {

@@ -1,5 +1,5 @@
 //! Values whose drops use a sharded cache, and other shards than their own: whatever evicts them,
-//! no lock is held, and the books are right afterwards.
+//! no lock is held, and the totals are right afterwards.
 
 use concurrent_lru::sharded::LruCache;
 use lru_fixtures::errands::{Outcome, Sent, causes, outcome_in};
@@ -16,7 +16,7 @@ const CLEARED: Outcome = Outcome {
     found: 1,
 };
 
-// What comes of a cause in a new cache of two shards, which share this capacity.
+// Returns the outcome of a cause in a new cache of two shards, which share this capacity.
 fn outcome<R: Wait + Threads + Send + Sync>(
     rt: &R,
     alloc: Global,

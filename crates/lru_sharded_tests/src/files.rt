@@ -1,5 +1,5 @@
-//! A pool of open files: each is opened once, stays open while it is pinned or idle, and is
-//! closed by a prune.
+//! A pool of open files: each is opened once, stays open while it is pinned or idle, and is closed
+//! by a prune.
 
 use concurrent_lru::sharded::LruCache;
 use std::fs::File;

@@ -22,7 +22,7 @@ fn makers_run_without_the_lock_of_their_shard(rt: HostRuntime) {
         ByOwnNumber,
     );
     let cache = made.expect(&rt, "memory");
-    // Of one shard, and of two.
+    // Keys of one shard, and of two.
     for keys in [(1, 3), (5, 6)] {
         assert_eq!(rt; makers_meet(&rt, &&cache, keys), (true, true), "{keys:?}");
     }

@@ -1,4 +1,4 @@
-//! Values of shards that are taken back while they are held.
+//! Values of shards that are invalidated while they are held.
 ghost use Rattle.std.specs.Prelude.{◌<◌};
 
 use crate::{pure, threaded};
@@ -11,7 +11,7 @@ use lru_fixtures::threaded::Then::{AtOnce, Keep};
 use lru_support::hashers::ByOwnNumber;
 use std::test;
 
-// The shard of the key alone detaches; stamps of the other shard stay as they were.
+// Only the shard of the key detaches; stamps of the other shard stay valid.
 const PURE: [(ShardCall, &str); 13] = [
     (ShardCall::Begin(1, 3), "Ok((1, Make(0), []))"),
     (ShardCall::Ready(1, 0, 20), "Ok(())"),
@@ -59,7 +59,7 @@ fn a_held_value_is_replaced(rt: HostRuntime) -> Result<(), test::Fail> {
     threaded::plays(&rt, rt.alloc(), 20, 2, &THREADED)
 }
 
-// A value that is put in replaces that of its key alone; the old one, if held, is read still.
+// An inserted value replaces only that of its key; the old one can still be read if it is held.
 const PUT_IN: [(Call, &str); 10] = [
     (Insert(1, 3, 1, Keep(0)), "Put(1)"),
     (Insert(2, 3, 2, AtOnce), "Put(2)"),

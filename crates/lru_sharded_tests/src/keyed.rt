@@ -1,4 +1,4 @@
-//! Keys of text, and numbers that no test chose.
+//! Keys of text, and hashes that no test chose.
 
 use concurrent_lru::sharded::LruCache;
 use std::alloc::Global;
@@ -7,7 +7,7 @@ use std::sync::Wait;
 
 type ByText<R> = LruCache<String, u64, R, BuildHasherDefault<FoldHasher>>;
 
-// The value of a key, where it is ready.
+// Returns the value of a key, if it is ready.
 fn found<R: Wait>(alloc: Global, cache: &ByText<R>, key: &str) -> Option<u64> {
     match cache.get(String::from_str(alloc, key).ok()?) {
         Ok(Some(handle)) => Some(*handle.value()),
@@ -33,7 +33,7 @@ fn a_value_is_found_until_it_is_pruned(rt: HostRuntime) {
     assert_eq!(rt; found(alloc, &cache, "foo"), None);
 }
 
-// Whether the value of each key below 100 could be made, as the key.
+// Returns whether the value of each key below 100 could be made, as the key.
 fn makes_hundred<R: Wait, S: BuildHasher>(cache: &LruCache<u64, u64, R, S>) -> bool {
     (0..100u64).all(|key| match cache.get_or_init(key, 1, |key| *key) {
         Ok(handle) => *handle.value() == key,

@@ -1,4 +1,4 @@
-//! Keys by reference, asked at the shard that serves them.
+//! Keys by reference, in the shard that serves them.
 
 use concurrent_lru::sharded::LruCache;
 use lru_support::hashers::ByOwnNumber;

@@ -1,5 +1,7 @@
-//! Tests of the cache in shards: pure shards, tables of calls of one thread, and what threads do
-//! together. They stand apart from the cache, so that its crate is proved once.
+//! Tests of the sharded cache: `Shards`, tables of calls of one thread, and what threads do
+//! together.
+//!
+//! They are apart from the cache, so that its crate is proved once.
 #![tactic(auto)]
 
 #[cfg(test)]

@@ -4,8 +4,8 @@ use concurrent_lru::sharded::LruCache;
 use lru_fixtures::makings::{makes_three_deep, values_of_three};
 use lru_support::hashers::ByOwnNumber;
 
-// The capacity of two shards, and the values that stay. Each that was made within another is let
-// go first; the keys 1 and 3 have one shard.
+// The capacity of two shards, and the values that stay. Each value that was made within another is
+// released first; the keys 1 and 3 have the same shard.
 const LEFT: [(u64, [Option<u64>; 3]); 3] = [
     (4, [Some(111), Some(11), Some(1)]),
     (2, [Some(111), Some(11), None]),

@@ -1,5 +1,5 @@
-//! Owned handles of a cache in shards: each keeps the cache alive, and gives its pin back at its
-//! own shard.
+//! Owned handles of a sharded cache: each keeps the cache alive, and releases its pin in its own
+//! shard.
 
 use concurrent_lru::sharded::{LruCache, OwnedHandle, Refusal};
 use lru_fixtures::owners::{DROPPED_IN_TURN, counts_of_calls, drops_two_handles, fails_once};
@@ -10,7 +10,7 @@ use std::thread;
 
 type Cache<R> = LruCache<u64, u64, R, ByOwnNumber>;
 
-// A cache of three shards that keeps nothing idle; the key says its shard.
+// Creates a cache of three shards that keeps nothing idle; the key determines its shard.
 fn keeps_nothing<R: Wait + Clone + Drop>(alloc: Global, rt: R) -> Result<Arc<Cache<R>>, Refusal> {
     let cache = LruCache::with_shards_hasher(alloc, rt, 0, 3, ByOwnNumber)?;
     Ok(Arc::new(alloc, cache)?)
@@ -22,7 +22,7 @@ fn an_entry_stays_until_its_owned_handles_are_dropped(rt: HostRuntime) {
     assert_eq!(rt; drops_two_handles(&shared), Some(DROPPED_IN_TURN));
 }
 
-// Each shard numbers its entries by itself, so each of these has the stamp 0 in its own.
+// Each shard numbers its entries independently, so each of these has the stamp 0 in its own.
 #[test]
 fn each_owned_handle_gives_its_pin_back_at_its_own_shard(rt: HostRuntime) {
     let shared = keeps_nothing(rt.alloc(), &rt).expect(&rt, "memory");
@@ -50,7 +50,7 @@ fn an_owned_init_may_fail(rt: HostRuntime) {
     assert_eq!(rt; Arc::strong_count(&shared), 1);
 }
 
-// A handle whose cache has no other owner.
+// Returns a handle whose cache has no other owner.
 fn alone<R: Wait + Clone + Drop>(
     alloc: Global,
     rt: R,
@@ -67,7 +67,7 @@ fn an_owned_handle_keeps_its_cache_alive(rt: HostRuntime) {
     assert_eq!(rt; text.as_str(), "5");
 }
 
-// What a handle reads, and lets go.
+// Reads a handle and drops it.
 fn read_last<R: Wait + Drop>(handle: OwnedHandle<u64, u64, R, ByOwnNumber>) -> u64 {
     *handle
 }
@@ -92,7 +92,7 @@ fn owners_of_a_value_share_its_handle(rt: HostRuntime) {
     assert_eq!(rt; shared.total_charge(), 0);
 }
 
-// Each call counts as the one that it is named after, at the shard of its key.
+// Each call counts as the one that it is named after, in the shard of its key.
 #[test]
 fn owned_calls_are_counted(rt: HostRuntime) {
     let shared = keeps_nothing(rt.alloc(), &rt).expect(&rt, "memory");

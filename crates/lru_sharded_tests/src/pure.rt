@@ -1,4 +1,4 @@
-//! Single calls of the pure shards.
+//! Single calls of `Shards`.
 ghost use Rattle.std.specs.Prelude.{◌<◌};
 
 use concurrent_lru::sharded::Shards;
@@ -13,7 +13,7 @@ use std::alloc::Global;
 use std::hash::BuildHasher;
 use std::test;
 
-/// Makes the calls of a table of so many empty shards, which share this capacity.
+/// Makes the calls of a table on this many empty shards, which share this capacity.
 pub(crate) fn plays<S: BuildHasher + Drop>(
     alloc: Global,
     capacity: u64,

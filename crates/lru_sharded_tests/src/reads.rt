@@ -27,7 +27,7 @@ fn make(
     Ok(())
 }
 
-// The keys that a shard evicts when it is pruned, in their order.
+// Returns the keys that a prune of a shard evicts, in order.
 fn pruned(
     alloc: Global,
     shards: &mut Shards<u64, u64, ByOwnNumber>,

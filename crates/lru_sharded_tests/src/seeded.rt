@@ -1,4 +1,4 @@
-//! Long runs of calls that seeds decide, each answered as the shards of one owner answer it.
+//! Long runs of calls drawn from seeds, whose answers are compared with those of `Shards`.
 
 use concurrent_lru::sharded::{LruCache, Shards};
 use lru_fixtures::threaded::{agree, capacity_of};

@@ -1,4 +1,4 @@
-//! The sharded cache, asked by one thread: worked rows, its total, its capacity and its text.
+//! The sharded cache used by one thread: worked rows, its total, its capacity and its text.
 ghost use Rattle.std.specs.Prelude.{◌<◌};
 
 use concurrent_lru::sharded::LruCache;
@@ -14,7 +14,7 @@ use std::alloc::Global;
 use std::sync::Wait;
 use std::test;
 
-/// Makes the calls of a table of an empty cache of so many shards, which share this capacity.
+/// Makes the calls of a table on an empty cache of this many shards, which share this capacity.
 pub(crate) fn plays<R: Wait + Clone + Drop>(
     rt: &R,
     alloc: Global,
@@ -53,7 +53,7 @@ fn each_shard_evicts_for_itself(rt: HostRuntime) -> Result<(), test::Fail> {
     plays(&rt, rt.alloc(), 2, 2, &EACH_FOR_ITSELF)
 }
 
-// The shards are pruned one after another, the first first.
+// The shards are pruned in order.
 const PRUNED: [(Call, &str); 14] = [
     (Init(0, 2, 0, AtOnce), "Made(0, 0)"),
     (Init(1, 2, 1, AtOnce), "Made(1, 1)"),
@@ -90,7 +90,7 @@ fn the_total_passes_the_end_of_one_shard(rt: HostRuntime) -> Result<(), test::Fa
     plays(&rt, rt.alloc(), u64::MAX, 2, &BEYOND)
 }
 
-// Two shares of half of 2^64, and the sum of sixteen is 2^64 too.
+// Two shares of half of 2^64; the sum of sixteen is also 2^64.
 const WIDE: [(Call, &str); 6] = [
     (Capacity, "Number(18446744073709551616)"),
     (SetCapacity(u64::MAX - 1), "Done"),

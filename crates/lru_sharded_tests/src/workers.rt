@@ -1,4 +1,4 @@
-//! Four threads at one sharded cache with a mark, each of which proves what it reads.
+//! Four threads that use one sharded cache with a mark, each of which proves what it reads.
 
 use concurrent_lru::sharded::LruCache;
 use lru_fixtures::marks::{Twice, reads_doubles};
@@ -9,7 +9,7 @@ use std::thread;
 
 type Doubles<R> = LruCache<u64, u64, R, BuildHasherDefault<FoldHasher>, Twice>;
 
-// Whether the value of a key was there, and is twice the key by its handle's contract.
+// Returns whether the value of a key was there, and is twice the key by its handle's contract.
 fn proves_its_double<R: Wait>(cache: &Doubles<R>, key: u64) -> bool {
     match cache.get(key) {
         Ok(Some(handle)) => {

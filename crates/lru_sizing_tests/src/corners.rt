@@ -1,4 +1,4 @@
-//! Traces at the ends: none, one key, charges past the end, two charges of one key.
+//! Edge cases of traces: no use, one key, charges past the limit, two charges of one key.
 
 use lru_sizing::curve::Curve;
 use lru_sizing::estimate::{Estimate, Sample};
@@ -8,7 +8,7 @@ use lru_sizing::reuse_weights::reuse_weights;
 use std::alloc::Global;
 use std::test::Fail;
 
-// The curve of a trace, or why there is none.
+// Returns the curve of a trace, or its refusal.
 fn curve_of(alloc: Global, trace: &[(u64, u64)]) -> Result<Curve, Refusal> {
     let weights = reuse_weights(alloc, trace)?;
     if weights.len() != trace.len() {
@@ -17,7 +17,7 @@ fn curve_of(alloc: Global, trace: &[(u64, u64)]) -> Result<Curve, Refusal> {
     Ok(Curve::new(alloc, trace, &weights)?)
 }
 
-// How many uses of a trace hit at a capacity in a replay, or why none was run.
+// Returns how many uses of a trace hit at a capacity in a replay, or its refusal.
 fn replayed(alloc: Global, trace: &[(u64, u64)], capacity: u64) -> Result<usize, Refusal> {
     if !has_charges(trace) {
         return Err(Refusal::Overflow(usize::MAX));
@@ -67,7 +67,7 @@ fn at_the_end_of_a_sum(rt: HostRuntime) -> Result<(), Fail> {
     assert_eq!(rt; curve.charge_made(0), 3 * u128::from(u64::MAX));
     let past = [(1, u64::MAX), (1, u64::MAX), (2, 1)];
     assert!(rt; matches!(curve_of(rt.alloc(), &past), Err(Refusal::Overflow(2))));
-    // A cache that keeps the first key refuses the second; one that doesn't answers all uses.
+    // A cache that keeps the first key refuses the second; one that does not accepts all uses.
     assert_eq!(rt;
         replayed(rt.alloc(), &past, u64::MAX),
         Err(Refusal::Overflow(2))
@@ -90,7 +90,7 @@ fn with_two_charges_of_one_key(rt: HostRuntime) {
 fn without_a_charge(rt: HostRuntime) -> Result<(), Fail> {
     let trace = [(1, 2), (2, 0), (1, 2), (2, 0)];
     assert!(rt; !has_charges(&trace));
-    // What weighs nothing hits at any capacity.
+    // A use of charge 0 hits at any capacity.
     let curve = curve_of(rt.alloc(), &trace).map_err(|_| "refused")?;
     assert_eq!(rt; curve.least_capacity(1), Some(2));
     assert_eq!(rt; curve.hits(1), 0);

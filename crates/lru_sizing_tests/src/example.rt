@@ -26,7 +26,7 @@ fn hits_once_twice_and_three_times(rt: HostRuntime) -> Result<(), Fail> {
     let curve = Curve::new(rt.alloc(), &TRACE, &weights)?;
     assert_eq!(rt; curve.uses(), 7);
     assert_eq!(rt; curve.most_hits(), 3);
-    // Capacity, hits, and the charge made: all of 21 but what hits.
+    // Capacity, hits, and the charge made: all of 21 except what hits.
     let rows = [
         (0, 0, 21),
         (4, 0, 21),

@@ -1,4 +1,4 @@
-//! Every trace of five uses of three keys, at every capacity up to that of all keys and one more.
+//! Every trace of five uses of three keys, at every capacity up to one more than that of all keys.
 
 use crate::model::{first_difference, weight_by_definition};
 use lru_sizing::reuse_weights::reuse_weights;
@@ -10,12 +10,12 @@ const CHARGES: [u64; 3] = [1, 2, 4];
 
 const CAPACITIES: [u64; 9] = [0, 1, 2, 3, 4, 5, 6, 7, 8];
 
-// The use of a key, of which there are three.
+// Returns the use of one of the three keys.
 fn used(key: u64) -> (u64, u64) {
     (key % 3, CHARGES[(key % 3) as usize])
 }
 
-// One of the 243 traces.
+// Returns one of the 243 traces.
 fn five_uses(number: u64) -> [(u64, u64); 5] {
     [
         used(number),
@@ -26,7 +26,7 @@ fn five_uses(number: u64) -> [(u64, u64); 5] {
     ]
 }
 
-// The first place at which a reuse weight is not the one by definition, if there is one.
+// Returns the first index at which a reuse weight is not the one by definition, if there is one.
 fn wrong_weight(alloc: Global, trace: &[(u64, u64)]) -> Result<Option<usize>, &'static str> {
     let weights = reuse_weights(alloc, trace).map_err(|_| "refused")?;
     for (place, weight) in weights.iter().enumerate() {

@@ -1,5 +1,7 @@
-//! Tests of sizing: the reuse weights, the curve and the replay of traces, against plain models.
-//! The library is empty: what its modules have is read for the tests alone.
+//! Tests of sizing: the reuse weights, the curve and the replay of traces, compared with plain
+//! models.
+//!
+//! The library is empty: its modules contain only tests.
 #![tactic(auto)]
 
 #[cfg(test)]

@@ -1,5 +1,5 @@
-//! Plain models to compare with: a list of the resident keys, and sums by definition. And the
-//! comparison of a trace with them at given capacities.
+//! Plain models to compare with: a list of the resident keys, and sums by definition. Compares a
+//! trace with them at given capacities.
 
 use lru_sizing::curve::Curve;
 use lru_sizing::refusal::Refusal;
@@ -7,8 +7,8 @@ use lru_sizing::replay::{has_charges, replay};
 use lru_sizing::reuse_weights::reuse_weights;
 use std::alloc::{AllocError, Global};
 
-/// Whether each use of a trace hits at a capacity, by a list of resident keys with their charges,
-/// the one used last at its end.
+/// Returns whether each use of a trace hits at a capacity, by a list of resident keys with their
+/// charges, least recently used first.
 pub fn hits_of_a_list(
     alloc: Global,
     trace: &[(u64, u64)],
@@ -26,7 +26,7 @@ pub fn hits_of_a_list(
     Ok(hits)
 }
 
-// Drops the oldest while the charges pass the capacity.
+// Drops the oldest while the charges exceed the capacity.
 fn shrink(resident: &mut Vec<(u64, u64)>, capacity: u64) {
     let mut sum = 0u64;
     let mut kept = 0usize;
@@ -45,7 +45,7 @@ fn shrink(resident: &mut Vec<(u64, u64)>, capacity: u64) {
     }
 }
 
-/// The reuse weight of the use at a place, by its definition.
+/// Returns the reuse weight of the use at an index, by its definition.
 pub fn weight_by_definition(
     alloc: Global,
     trace: &[(u64, u64)],
@@ -68,8 +68,8 @@ pub fn weight_by_definition(
     Ok(None)
 }
 
-/// At which of these capacities a trace is answered differently by the reuse weights, the curve,
-/// the replay and the list of resident keys, if at any.
+/// Returns the first of these capacities at which the reuse weights, the curve, the replay and the
+/// list of resident keys do not agree on a trace, if there is one.
 pub fn first_difference(
     alloc: Global,
     trace: &[(u64, u64)],
@@ -91,7 +91,7 @@ pub fn first_difference(
     Ok(None)
 }
 
-// Whether each use hits, as the reuse weights tell it.
+// Returns whether each use hits, by its reuse weight.
 fn told_hits(
     alloc: Global,
     weights: &[Option<u64>],
@@ -103,7 +103,7 @@ fn told_hits(
         .collect(alloc)
 }
 
-// Whether a curve tells of a capacity what these hits come to.
+// Returns whether a curve has, at a capacity, the numbers that follow from these hits.
 fn is_told(curve: &Curve, trace: &[(u64, u64)], hits: &[bool], capacity: u64) -> bool {
     let mut count = 0usize;
     let mut made = 0u128;

@@ -1,5 +1,5 @@
-//! Estimates from a sample of the keys, measured against the exact curve of a trace whose keys are
-//! used as often as Zipf's law says: the k-th about 1/k times as often as the first.
+//! Estimates from a sample of the keys, compared with the exact curve of a trace whose keys are
+//! used according to Zipf's law: the k-th about 1/k times as often as the first.
 
 use lru_sizing::curve::Curve;
 use lru_sizing::estimate::{Estimate, Sample};
@@ -14,7 +14,7 @@ const KEYS: u64 = 10_000;
 
 const USES: u32 = 50_000;
 
-// For each key, how often it and those before it are used, out of as often as the last says.
+// Returns for each key how often it and those before it are used, out of the last of these numbers.
 fn shares(alloc: Global) -> Result<Vec<u64>, AllocError> {
     let mut sum = 0u64;
     let mut shares = Vec::new(alloc);
@@ -25,7 +25,7 @@ fn shares(alloc: Global) -> Result<Vec<u64>, AllocError> {
     Ok(shares)
 }
 
-// A trace by Zipf's law. A key has a charge from 1 to 4.
+// Returns a trace by Zipf's law. A key has a charge from 1 to 4.
 fn zipf(alloc: Global, seed: u64) -> Result<Vec<(u64, u64)>, AllocError> {
     let shares = shares(alloc)?;
     let all = shares.last().copied().unwrap_or(1).max(1);
@@ -39,7 +39,7 @@ fn zipf(alloc: Global, seed: u64) -> Result<Vec<(u64, u64)>, AllocError> {
     Ok(trace)
 }
 
-// The uses whose keys a sample takes.
+// Returns the uses whose keys are sampled.
 fn sampled(
     alloc: Global,
     trace: &[(u64, u64)],
@@ -54,8 +54,8 @@ fn sampled(
     Ok(uses)
 }
 
-// By how many uses in 10,000 an estimate of one key in `one_in` is wrong: in the mean over 20
-// capacities, and at most.
+// Returns the error of an estimate of one key in `one_in`, in uses per 10,000: the mean over 20
+// capacities, and the maximum.
 fn errors(alloc: Global, trace: &[(u64, u64)], one_in: u64) -> Result<(u64, u64), Refusal> {
     let weights = reuse_weights(alloc, trace)?;
     if weights.len() != trace.len() {

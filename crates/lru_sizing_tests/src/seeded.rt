@@ -1,4 +1,4 @@
-//! Traces that seeds decide, each at 12 capacities.
+//! Traces drawn from seeds, each at 12 capacities.
 
 use crate::model::first_difference;
 use lru_sizing::refusal::Refusal;
@@ -9,8 +9,8 @@ use std::ops::RangeInclusive;
 
 const CAPACITIES: [u64; 12] = [0, 1, 2, 5, 10, 20, 50, 100, 150, 200, 300, 1_000];
 
-// So many uses of up to 100 keys, of which small ones are used more often than large ones. A key
-// has a charge from 1 to 7.
+// Returns this many uses of up to 100 keys, of which small ones are used more often than large
+// ones. A key has a charge from 1 to 7.
 fn draw(alloc: Global, seed: u64, uses: usize) -> Result<Vec<(u64, u64)>, AllocError> {
     let mut generator = Xoshiro256PlusPlus::seed_from_u64(seed);
     let mut trace = Vec::new(alloc);
@@ -22,7 +22,7 @@ fn draw(alloc: Global, seed: u64, uses: usize) -> Result<Vec<(u64, u64)>, AllocE
     Ok(trace)
 }
 
-// The seed among these whose trace is answered differently, if there is one.
+// Returns the first seed among these whose trace gives different results, if there is one.
 fn first_seed(alloc: Global, seeds: RangeInclusive<u64>) -> Result<Option<u64>, Refusal> {
     for seed in seeds {
         let trace = draw(alloc, seed, 2_000)?;
