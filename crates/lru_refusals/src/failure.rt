@@ -1,14 +1,15 @@
-//! Why the program ends early.
-//! Each failure has its line on standard error, if any, and its status.
+//! Why the program fails.
+//!
+//! Each failure has its line on standard error, if any, and its exit status.
 
 use concurrent_lru::lru_core::Refusal;
 use std::io;
 use std::io::{ErrorKind, Write};
 
-/// Why the program does not end with status 0.
+/// Why the program fails.
 #[derive(Clone, Copy)]
 pub enum Failure {
-    /// The words are none that the program knows.
+    /// The arguments are invalid.
     Usage,
     /// A request of the program's own was refused.
     Memory,
@@ -17,7 +18,7 @@ pub enum Failure {
 }
 
 impl Failure {
-    /// The failure of reading the words with this error: one that is no text is no script.
+    /// Converts the error of reading the arguments. An argument that is not text is a usage error.
     pub fn of_words(error: &io::Error) -> Failure {
         match error.kind() {
             ErrorKind::OutOfMemory => Failure::Memory,
@@ -25,8 +26,8 @@ impl Failure {
         }
     }
 
-    /// Tells the failure on `err`, in one line, and answers the status to end with: 2 for the
-    /// wrong words, else 1. A failed write is not told.
+    /// Writes the failure to `err` in one line, and returns the exit status: 2 for invalid
+    /// arguments, otherwise 1. A failed write is not reported.
     pub fn report<E: Write>(self, err: &mut E) -> u8 {
         let told = match self {
             Failure::Usage => writeln!(err, "usage: lru_refusals [SCRIPT]"),

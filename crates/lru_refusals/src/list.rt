@@ -1,4 +1,4 @@
-//! Steps of a cache without a lock, or of shards, as one list, which asks for the room of its
+//! Steps of a cache without a lock, or of shards, as one list, which reserves the room of its
 //! answers first.
 ghost use Rattle.concurrent_lru.specs.Results.{IsCharged, request_of};
 
@@ -14,9 +14,9 @@ type Answers = Result<Vec<Answer<u64, u64>>, Refusal>;
 
 type ShardAnswers = Result<Vec<(usize, Answer<u64, u64>)>, Refusal>;
 
-/// Runs a list of steps, once more where it was refused for want of room: then nothing ran. Where
-/// its first begin was refused, the other answers are those of the list with a look-up in its
-/// place, which changes nothing, or a line tells what they are; and the list is run once more too.
+/// Runs a list of steps, and again if it was refused for lack of room: then no step was taken. If
+/// its first begin was refused, the other answers are those of the list with a lookup in its place,
+/// which changes nothing, or a line shows what they are; and the list is run again.
 pub fn play<O: Write, E: Write>(alloc: Global, told: &mut Told<'_, O, E>) -> Result<(), Refusal> {
     told.name("State");
     let answers = run_from(alloc, Step::Begin(1, 3))?;
@@ -30,8 +30,8 @@ pub fn play<O: Write, E: Write>(alloc: Global, told: &mut Told<'_, O, E>) -> Res
     Ok(())
 }
 
-/// Runs a list of steps of shards, once more where it was refused for want of room. No step of it
-/// takes memory.
+/// Runs a list of steps of shards, and again if it was refused for lack of room. No step of it
+/// allocates.
 pub fn play_shards<O: Write, E: Write>(
     alloc: Global,
     told: &mut Told<'_, O, E>,
@@ -46,7 +46,7 @@ pub fn play_shards<O: Write, E: Write>(
     Ok(())
 }
 
-// Whether the room or the first begin was refused.
+// Returns whether the room or the first begin was refused.
 fn is_refused<O: Write, E: Write>(
     alloc: Global,
     answers: &Answers,
@@ -69,7 +69,7 @@ fn is_refused<O: Write, E: Write>(
     }
 }
 
-// The answers of a cache that is empty at first, to this step and then to some others.
+// Returns the answers of an initially empty cache to this step and to some others.
 fn run_from(alloc: Global, step: Step<u64, u64>) -> Result<Answers, AllocError>
     requires { IsCharged (request_of step) }
 {
@@ -91,7 +91,7 @@ fn run_from(alloc: Global, step: Step<u64, u64>) -> Result<Answers, AllocError>
     Ok(state.run(steps))
 }
 
-// The answers of two shards that are empty.
+// Returns the answers of two empty shards.
 fn run_shards(alloc: Global) -> Result<ShardAnswers, Refusal> {
     let steps = vec![in alloc;
         ShardStep::Get(1),

@@ -1,6 +1,6 @@
-//! Runs scripts of calls, each of which is made again where it is refused for want of memory, and
-//! prints every answer: so a run in which a request was refused prints what a run of ample memory
-//! does. All but the words and the two streams of the system stands in `program`.
+//! Runs scripts of calls, each of which is repeated if it is refused for lack of memory, and prints
+//! every answer, so that a run in which a request was refused prints what a run with enough memory
+//! prints. Everything but the access to the process is done by `program`.
 #![tactic(auto)]
 
 mod asked;

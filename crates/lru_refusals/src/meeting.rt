@@ -1,5 +1,6 @@
-//! Two threads that ask for one key at once: where the one that makes its value is refused memory
-//! for it, the one that waits takes the making over. What is told is the same on any schedule.
+//! Two threads that ask for one key at the same time: if the one that makes its value is refused
+//! memory for it, the one that waits takes over the making. The output is the same on every
+//! schedule.
 
 use crate::threaded::value_found;
 use crate::told::Told;
@@ -11,13 +12,13 @@ use std::sync::atomic::{AtomicU64, Ordering};
 use std::thread;
 use std::thread::Threads;
 
-// How often a maker looks whether the other thread has come, and how often it yields then, so that
+// How often a maker checks whether the other thread has come, and how often it yields then, so that
 // the other is asleep.
 const LOOKS: u32 = 100_000;
 
 const YIELDS: u32 = 200;
 
-/// Has two threads ask for one key, each once more where it is refused, and tells what they got.
+/// Has two threads ask for one key, each again if it is refused, and writes what they got.
 pub fn play<R: Threads + Wait + Sync + Send, O: Write, E: Write>(
     rt: &R,
     alloc: Global,
@@ -65,7 +66,7 @@ fn asks<R: Wait>(cache: &LruCache<u64, u64, R>, came: &AtomicU64) -> Asked {
     }
 }
 
-// The value of the key, if it was given, and whether `init` ran.
+// Returns the value of the key, if there is one, and whether `init` ran.
 fn ask<R: Wait>(cache: &LruCache<u64, u64, R>, came: &AtomicU64) -> (Option<u64>, bool) {
     let mut ran = false;
     let made = cache.get_or_init(1, 3, |_| {
@@ -79,7 +80,7 @@ fn ask<R: Wait>(cache: &LruCache<u64, u64, R>, came: &AtomicU64) -> (Option<u64>
     }
 }
 
-// Waits until both threads have come, and then a while.
+// Waits until both threads have come, and then for a while.
 fn meet(came: &AtomicU64) {
     for _ in 0..LOOKS {
         if came.load(Ordering::SeqCst) > 1 {

@@ -1,5 +1,4 @@
-//! What the program does with its words.
-//! It writes to two writers that are handed in.
+//! The program, over streams that the caller provides.
 
 use crate::failure::Failure;
 use crate::scripts::SCRIPTS;
@@ -9,12 +8,13 @@ use std::io::Write;
 use std::sync::Wait;
 use std::thread::Threads;
 
-/// Runs the program on the words after its name and answers the status to end with.
+/// Runs the program on its arguments and returns the exit status.
 ///
-/// The name of a script runs it, and no word runs all of them: the answers go to `out`, and each
-/// call that was refused for want of memory, and made again, has a line on `err`: status 0. Any
-/// other words write the usage line to `err`: status 2. Where a request of the program's own is
-/// refused, `refused 1` goes to `err`, and the status is 1. A failed write ends with status 1.
+/// The name of a script runs it, and no argument runs all of them: the answers are written to
+/// `out`, and a line for each call that was refused for lack of memory, and repeated, to `err`. The
+/// status is 0. Any other arguments write the usage line to `err`, with status 2. If a request of
+/// the program's own is refused, `refused 1` is written to `err`, and the status is 1. A failed
+/// write ends with status 1.
 pub fn program<R: Threads + Wait + Sync + Send, O: Write, E: Write>(
     rt: &R,
     alloc: Global,
@@ -49,7 +49,7 @@ fn run<R: Threads + Wait + Sync + Send, O: Write, E: Write>(
     Ok(())
 }
 
-// Runs the scripts of this name, or all of them. Answers whether there is one.
+// Runs the scripts of this name, or all of them. Returns whether there is one.
 fn run_scripts<R: Threads + Wait + Sync + Send, O: Write, E: Write>(
     rt: &R,
     alloc: Global,

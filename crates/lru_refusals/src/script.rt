@@ -1,4 +1,4 @@
-//! A script: a cache, and what is asked of it.
+//! A script: a cache, and the calls on it.
 
 use crate::shards::ShardCall;
 use crate::state::Limits;
@@ -12,7 +12,7 @@ use std::io::Write;
 use std::sync::Wait;
 use std::thread::Threads;
 
-/// A script. Its cache is empty at first.
+/// A script. Its cache is initially empty.
 #[derive(Clone, Copy)]
 pub enum Script {
     /// Calls of a cache without a lock, of a capacity.
@@ -29,9 +29,9 @@ pub enum Script {
     Journal(u64, &'static [Call<&'static str>]),
     /// Calls of a twin of a capacity: those of one caller, and then those of another.
     Twin(u64, &'static [Call<&'static str>], &'static [Call<&'static str>]),
-    /// Calls of a cache of one lock and a capacity.
+    /// Calls of a cache of one lock, with a capacity.
     Unsharded(u64, &'static [SharedCall]),
-    /// Calls of a cache of a capacity in so many shards.
+    /// Calls of a cache in this many shards, with a capacity.
     Sharded(u64, usize, &'static [SharedCall]),
     /// An entry that takes the room of two, on a cache of one lock.
     OverTwo,
@@ -40,9 +40,9 @@ pub enum Script {
 }
 
 impl Script {
-    /// Runs the script and tells the answers.
+    /// Runs the script and writes the answers.
     ///
-    /// `Memory` where a request of the script's own is refused, or a call twice.
+    /// Returns `Memory` if a request of the script's own, or a call twice, is refused.
     pub fn run<R: Threads + Wait + Sync + Send, O: Write, E: Write>(
         self,
         rt: &R,

@@ -80,7 +80,7 @@ pub const SCRIPTS: &[(&str, Script)] = &[
     ("sharded-many", Script::Sharded(160, 16, VALUES)),
 ];
 
-// A pinned entry stays, whatever comes, and leaves as the newest once it is released.
+// A pinned entry stays, whatever is inserted, and becomes the newest idle one when it is released.
 const PINNED: &[Call] = &[
     Begin("1", 1),
     Ready(0, 1),
@@ -108,7 +108,7 @@ const PINNED: &[Call] = &[
     Release(7),
 ];
 
-// A maker that fails leaves the making to the next that asks.
+// A maker that fails leaves the making to the next caller that polls.
 const HANDED_OVER: &[Call] = &[
     Begin("1", 3),
     Get("1"),
@@ -129,7 +129,7 @@ const AT_LAST_STAMP: Limits = Limits {
     room: 0,
 };
 
-// A begin that was refused for want of memory has not used up the last stamp but one.
+// A begin that was refused for lack of memory does not use up a stamp.
 const LAST_STAMP: &[Call] = &[
     Begin("1", 1),
     Begin("2", 1),
@@ -155,7 +155,7 @@ const ONE_PIN: &[Call] = &[
     Get("1"),
 ];
 
-// Stamps that no longer fit.
+// Stamps of entries that have left or are in another phase.
 const STRAYS: &[Call] = &[
     Begin("1", 1),
     Begin("1", 1),
@@ -178,7 +178,7 @@ const STRAYS: &[Call] = &[
     Prune,
 ];
 
-// What is there is found without a request.
+// A present value is found without an allocation.
 const HITS: &[Call] = &[
     Begin("1", 1),
     Ready(0, 1),
@@ -191,8 +191,8 @@ const HITS: &[Call] = &[
     AdviceEvict("1"),
 ];
 
-// The old value is detached or evicted before the new one is there. The charge of an idle one does
-// not count beside that of the new one; that of a held one does.
+// The old value is detached or evicted before the new one is inserted. The charge of an idle one
+// does not count together with that of the new one; that of a held one does.
 const PUT_IN: &[Call] = &[
     Insert("1", 1, 10),
     Insert("1", 2, 11),
@@ -240,7 +240,7 @@ const CAPACITIES: &[Call] = &[
     Prune,
 ];
 
-// Nine entries where there is no room, and nine where there is.
+// Nine entries without room, and nine with reserved room.
 const GROWTHS: &[Call] = &[
     Begin("1", 1),
     Begin("2", 1),
@@ -280,7 +280,7 @@ const WITH_ROOM: Limits = Limits {
     room: 5,
 };
 
-// Room for as many entries as a map of 16 places takes: for one more, it grows.
+// Room for as many entries as a map of 16 places holds: one more makes it grow.
 const WITH_MUCH_ROOM: Limits = Limits {
     capacity: 40,
     first_stamp: 0,
@@ -307,7 +307,7 @@ const FILLED: &[Call] = &[
     Total,
 ];
 
-// A new entry evicts from its own shard alone.
+// A new entry evicts in its own shard only.
 const SHARDS: &[ShardCall] = &[
     (1, Begin(1, 1)),
     (1, Ready(0, 1)),
@@ -331,8 +331,8 @@ const SHARDS: &[ShardCall] = &[
     (1, Total),
 ];
 
-// An entry that is held when its key is taken back is evicted with its last pin; others leave at
-// once. The shard of the key alone looks for it.
+// An entry that is held when its key is invalidated is evicted with its last pin; others are
+// evicted at once. Only the shard of the key looks for it.
 const SHARDS_TAKEN_BACK: &[ShardCall] = &[
     (1, Begin(1, 1)),
     (1, Ready(0, 10)),
@@ -406,7 +406,7 @@ const FAILS: &[Call] = &[
     Begin("1", 1),
 ];
 
-// A read finds what is ready, makes it the newest, and leaves no pin.
+// A read finds a ready value, makes its entry the newest, and leaves no pin.
 const READS: &[Call] = &[
     Read("1"),
     Begin("1", 1),
@@ -424,7 +424,7 @@ const READS: &[Call] = &[
     Total,
 ];
 
-// An entry whose key is taken back while a caller waits for it is made for that caller, beside the
+// An entry whose key is invalidated while a caller waits for it is made for that caller, beside the
 // new one of the key.
 const TAKEN_BACK: &[Call] = &[
     Invalidate("1"),
@@ -510,7 +510,7 @@ const TWIN_HITS: &[Call] = &[
     Total,
 ];
 
-// What the second caller finds is what the first one made.
+// The second caller finds what the first one made.
 const FIRST_CALLER: &[Call] = &[
     Begin("1", 1),
     Ready(0, 7),

@@ -29,7 +29,7 @@ pub fn play<O: Write, E: Write>(
     crate::asked::play(alloc, &mut shards, calls, told)
 }
 
-// New shards, asked for again where they are refused.
+// Creates new shards, and tries again if they are refused.
 fn make<O: Write, E: Write>(
     alloc: Global,
     capacity: u64,

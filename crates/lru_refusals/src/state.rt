@@ -101,7 +101,7 @@ fn ask_with_key<O: Write, E: Write>(
     Ok(false)
 }
 
-// Puts a value in; one that comes back for want of memory is put in once more.
+// Inserts a value, and again if it was refused for lack of memory.
 fn insert<O: Write, E: Write>(
     state: &mut State<String, u64>,
     call: Call<&'static str>,

@@ -20,7 +20,7 @@ pub struct Shared<C>(pub C);
 
 type Sharded<R> = sharded::LruCache<u64, u64, R, BuildHasherDefault<FoldHasher>>;
 
-/// Makes calls of a new cache with one lock.
+/// Makes calls on a new cache with one lock.
 pub fn play_unsharded<R: Wait + Drop, O: Write, E: Write>(
     rt: R,
     alloc: Global,
@@ -33,8 +33,8 @@ pub fn play_unsharded<R: Wait + Drop, O: Write, E: Write>(
     play(alloc, &mut Shared(&cache), calls, told)
 }
 
-/// Makes calls of a new cache in shards, which is asked for again where it is refused. No shards
-/// count as 1.
+/// Makes calls on a new sharded cache, whose creation is tried again if it is refused. A number of
+/// 0 shards counts as 1.
 pub fn play_sharded<R: Wait + Copy + Drop, O: Write, E: Write>(
     rt: R,
     alloc: Global,
@@ -64,9 +64,9 @@ fn make<R: Wait + Clone + Drop>(
     sharded::LruCache::with_shards_hasher(alloc, rt, capacity, shards.max(1), hasher)
 }
 
-/// Makes two idle entries and one that takes the room of both. Where that is refused for want of
-/// memory, its `init` ran, and nothing is left, or it did not, and both are as they were; or a line
-/// tells what is left. Then it is made again.
+/// Makes two idle entries and one that takes the room of both. If that is refused for lack of
+/// memory, either its `init` ran and nothing is left, or it did not and both are as they were;
+/// otherwise a line shows what is left. Then it is made again.
 pub fn play_over_two<R: Wait + Drop, O: Write, E: Write>(
     rt: R,
     alloc: Global,
@@ -113,7 +113,7 @@ fn make_over_two<C: Cached<u64>, O: Write, E: Write>(cache: C, told: &mut Told<'
     drop(make_value(cache, 3, 2, 3, &mut ran));
 }
 
-/// The value that a `get` finds.
+/// Returns the value that a `get` finds.
 pub fn value_found<C: Cached<u64>>(cache: C, key: u64) -> Result<Option<u64>, Refusal> {
     match cache.found(key)? {
         Some(handle) => Ok(Some(*C::value_of(&handle))),
@@ -121,7 +121,7 @@ pub fn value_found<C: Cached<u64>>(cache: C, key: u64) -> Result<Option<u64>, Re
     }
 }
 
-// What a making gives: a value, or none where its `init` failed.
+// Returns the value of a making, or `None` if its `init` failed.
 fn value_made<C: Cached<u64>>(made: Result<C::Handle, NoHandle>) -> Result<Option<u64>, Refusal> {
     match made {
         Ok(handle) => Ok(Some(*C::value_of(&handle))),
@@ -165,7 +165,7 @@ fn ask<C: Cached<u64>, O: Write, E: Write>(
     told.answer(&call, &value_made::<C>(made))
 }
 
-// The value that an insert puts in.
+// Returns the value that an insert stores.
 fn value_put<C: Cached<u64>>(cache: C, key: u64, charge: u64, value: u64) -> Result<u64, Refusal>
     requires { 0 < charge }
 {

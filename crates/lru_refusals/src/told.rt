@@ -1,11 +1,11 @@
-//! What a run tells: the answers on one writer, and on another each call that was refused for want
-//! of memory. Telling asks for no memory.
+//! The output of a run: the answers on one writer, and each call that was refused for lack of
+//! memory on another. Writing does not allocate.
 
 use concurrent_lru::lru_core::Refusal;
 use std::fmt::{Debug, Display};
 use std::io::Write;
 
-/// The two writers, and of which cache the calls are.
+/// The two writers, and the cache of the calls.
 #[derive(Drop)]
 pub struct Told<'a, O, E> {
     cache: &'static str,
@@ -15,7 +15,7 @@ pub struct Told<'a, O, E> {
 }
 
 impl<'a, O: Write, E: Write> Told<'a, O, E> {
-    /// Nothing is told yet.
+    /// Creates an output to which nothing was written yet.
     pub fn new(out: &'a mut O, err: &'a mut E) -> Told<'a, O, E> {
         Told {
             cache: "",
@@ -25,12 +25,12 @@ impl<'a, O: Write, E: Write> Told<'a, O, E> {
         }
     }
 
-    /// Whether every write was taken.
+    /// Returns whether every write succeeded.
     pub fn is_whole(&self) -> bool {
         self.is_whole
     }
 
-    /// Begins a script, with a line that names it.
+    /// Begins a script with a line that names it.
     pub fn begin(&mut self, script: &str) {
         let written = writeln!(self.out, "script {script}");
         self.is_whole &= written.is_ok();
@@ -41,8 +41,8 @@ impl<'a, O: Write, E: Write> Told<'a, O, E> {
         self.cache = cache;
     }
 
-    /// Tells a call and its answer, or on the other writer that it was refused for want of memory:
-    /// then it answers true, and the call is to be made again.
+    /// Writes a call and its answer. If it was refused for lack of memory, writes that to the other
+    /// writer and returns true: the call is to be made again.
     pub fn answer<C: Debug, T: Debug>(&mut self, call: &C, answer: &Result<T, Refusal>) -> bool {
         if let Err(Refusal::Memory) = answer {
             self.memory(call);
@@ -52,8 +52,8 @@ impl<'a, O: Write, E: Write> Told<'a, O, E> {
         false
     }
 
-    /// As `answer`, of a call that hands a value over. It answers the value that came back for want
-    /// of memory, with which the call is to be made again.
+    /// As `answer`, for a call that passes a value in. Returns the value that came back for lack of
+    /// memory, with which the call is to be made again.
     pub fn handed_over<C: Debug, T: Debug + Drop, V: Debug + Drop>(
         &mut self,
         call: &C,
@@ -71,19 +71,19 @@ impl<'a, O: Write, E: Write> Told<'a, O, E> {
         }
     }
 
-    /// Tells a call and what it returned.
+    /// Writes a call and what it returned.
     pub fn line<C: Debug, T: Debug>(&mut self, call: &C, returned: &T) {
         let written = writeln!(self.out, "{call:?}: {returned:?}");
         self.is_whole &= written.is_ok();
     }
 
-    /// Tells a record.
+    /// Writes a record.
     pub fn record<T: Display>(&mut self, record: &T) {
         let written = writeln!(self.out, "{record}");
         self.is_whole &= written.is_ok();
     }
 
-    /// Tells that a call was refused for want of memory.
+    /// Writes that a call was refused for lack of memory.
     pub fn memory<C: Debug>(&mut self, call: &C) {
         let written = writeln!(self.err, "memory {} {call:?}", self.cache);
         self.is_whole &= written.is_ok();

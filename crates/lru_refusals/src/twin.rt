@@ -26,7 +26,7 @@ pub fn play<R: Wait, O: Write, E: Write>(
     play_twin::<Brand, R, O, E>(rt, alloc, opening, first, second, told)
 }
 
-// What a twin is made of, asked for again where it is refused.
+// Creates an opening for a twin, and tries again if it is refused.
 fn open<O: Write, E: Write>(
     alloc: Global,
     capacity: u64,
@@ -146,7 +146,7 @@ fn ask_with_key<R: Wait + Drop, I: Identity, O: Write, E: Write>(
     }
 }
 
-// Gives a pin back; one that comes back for want of memory is given once more.
+// Releases a pin, and again if it was refused for lack of memory.
 fn give_back<R: Wait + Drop, I: Identity, O: Write, E: Write>(
     cache: &LruCache<String, u64, R, I>,
     tally: &mut Tally<String, I>,
@@ -187,7 +187,7 @@ fn ask_plainly<R: Wait + Drop, I: Identity, O: Write, E: Write>(
     }
 }
 
-// What a begin or a poll says, its stamp, and the value of a hit.
+// Returns the result of a begin or a poll, its stamp, and the value of a hit.
 fn seen(
     started: Result<Started<u64>, Refusal>,
 ) -> Result<(&'static str, u64, Option<u64>), Refusal> {
@@ -199,7 +199,7 @@ fn seen(
     }
 }
 
-// The stamp and the value of a pin that a get found.
+// Returns the stamp and the value of a pin that a get found.
 fn found(got: Result<Option<Pin<u64>>, Refusal>) -> Result<Option<(u64, u64)>, Refusal> {
     match got {
         Ok(Some(pin)) => Ok(Some((pin.stamp(), *pin.value()))),
@@ -208,7 +208,7 @@ fn found(got: Result<Option<Pin<u64>>, Refusal>) -> Result<Option<(u64, u64)>, R
     }
 }
 
-// A pin that was not taken, as its stamp.
+// Returns a pin that was not taken as its stamp.
 fn back(released: Result<(), (Refusal, Pin<u64>)>) -> Result<(), (Refusal, u64)> {
     match released {
         Ok(()) => Ok(()),

@@ -1,4 +1,4 @@
-//! A capacity set at run time, and room made ahead.
+//! A capacity that is set later, and reserved room.
 
 use crate::play::plays;
 use lru_fixtures::threaded::Call;

@@ -1,4 +1,4 @@
-//! A capacity set while values are held, made and waited for.
+//! A capacity that is set while values are held, made and waited for.
 
 use concurrent_lru::unsharded::LruCache;
 use lru_fixtures::makings::{Meeting, comes_second, value_found};
@@ -27,7 +27,7 @@ const LET_GO: [(Call, &str); 3] = [
     (Total, "Number(0)"),
 ];
 
-// Sets the capacity to 0 while another thread asks the total, and answers what it was told.
+// Sets the capacity to 0 while another thread reads the total, and returns that total.
 fn shrinks_beside<V: Drop + Send + Sync, R: Wait + Send + Sync, T: Threads>(
     rt: &T,
     cache: &LruCache<u64, V, R>,
@@ -36,7 +36,7 @@ fn shrinks_beside<V: Drop + Send + Sync, R: Wait + Send + Sync, T: Threads>(
     total
 }
 
-// Plays the tables, and between them sets the capacity to 0.
+// Plays the tables, and sets the capacity to 0 between them.
 fn plays_around_a_change<R: Wait + Threads + Abort + Clone + Drop + Send + Sync>(
     rt: &R,
     alloc: Global,
@@ -55,7 +55,7 @@ fn a_held_value_outlives_its_capacity(rt: HostRuntime) -> Result<(), Fail> {
     plays_around_a_change(&rt, rt.alloc())
 }
 
-// The value of key 1, made as 5 once the capacity has shrunk.
+// Returns the value of key 1, made as 5 once the capacity has shrunk.
 fn makes_meanwhile<R: Wait>(
     cache: &LruCache<u64, u64, R>,
     meeting: &Meeting,
@@ -73,7 +73,7 @@ fn makes_meanwhile<R: Wait>(
     }
 }
 
-// Sets the capacity to 0 while the first caller makes the value and the second waits, and says
+// Sets the capacity to 0 while the first caller makes the value and the second waits, and returns
 // the total then.
 fn shrinks_meanwhile<R: Wait>(
     cache: &LruCache<u64, u64, R>,
@@ -107,6 +107,6 @@ fn makers_and_waiters_outlive_a_change(rt: HostRuntime) {
         ),
     );
     assert_eq!(rt; (made, waited, total), (Some(5), Some(5), Some(3)));
-    // The last of the two handles was let go at capacity 0.
+    // The last of the two handles was dropped at capacity 0.
     assert_eq!(rt; (cache.total_charge(), value_found(&cache, 1)), (0, None));
 }

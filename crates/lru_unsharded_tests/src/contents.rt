@@ -1,10 +1,10 @@
-//! How many entries there are, how much of the total is pinned, and which keys have a value, asked
-//! of a cache that threads share.
+//! The number of entries, the pinned part of the total, and which keys have a value, read from a
+//! cache that threads share.
 
 use concurrent_lru::unsharded::{LruCache, Refusal};
 use std::sync::Wait;
 
-// How many entries there are, whether there is none, and whether the keys 1 and 2 have a value.
+// Returns the number of entries, whether there are none, and whether the keys 1 and 2 have a value.
 fn seen<R: Wait>(cache: &LruCache<u64, u64, R>) -> (usize, bool, [bool; 2]) {
     (
         cache.len(),
@@ -52,7 +52,7 @@ fn pinned_charges_are_summed(rt: HostRuntime) -> Result<(), Refusal> {
     let new = cache.get_or_init(1, 4, |key| *key)?;
     assert_eq!(rt; (cache.total_charge(), cache.pinned_charge()), (9, 7));
     drop(new);
-    // What was invalidated counts until its last handle is dropped.
+    // An invalidated entry counts until its last handle is dropped.
     assert_eq!(rt; (cache.total_charge(), cache.pinned_charge()), (9, 3));
     drop(old);
     assert_eq!(rt; (cache.total_charge(), cache.pinned_charge()), (6, 0));

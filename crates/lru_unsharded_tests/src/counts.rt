@@ -1,4 +1,4 @@
-//! Counts of what calls did: each kind of call, that they add up, and what a reset answers, also
+//! Counts of what calls did: each kind of call, that they add up, and what a reset returns, also
 //! while other threads use the cache.
 
 use crate::makings::{MEETINGS, one_fails_and_one_makes};
@@ -11,7 +11,8 @@ use std::test::Fail;
 use std::thread;
 use std::thread::Threads;
 
-// Whether the counts of a cache that no other thread uses add up to its entries and its total.
+// Returns whether the counts of a cache that no other thread uses add up to its entries and its
+// total.
 fn adds_up<R: Wait>(cache: &LruCache<u64, u64, R>) -> bool {
     let counts = cache.counts();
     let entries = (cache.len() as u64)
@@ -27,17 +28,17 @@ fn adds_up<R: Wait>(cache: &LruCache<u64, u64, R>) -> bool {
 // A call of one thread.
 #[derive(Clone, Copy, Debug)]
 enum Call {
-    // `get`, whose handle is let go at once.
+    // `get`, whose handle is dropped at once.
     Get(u64),
     // `read`.
     Read(u64),
-    // `get_or_init` at a charge, whose handle is let go at once.
+    // `get_or_init` at a charge, whose handle is dropped at once.
     Make(u64, u64),
     // `get_or_try_init` at a charge, whose `init` fails.
     Fail(u64, u64),
-    // `insert` at a charge, whose handle is let go at once.
+    // `insert` at a charge, whose handle is dropped at once.
     Insert(u64, u64),
-    // `contains`, and each call that asks for a number.
+    // `contains`, and each call that returns a number.
     Look(u64),
     AdviceEvict(u64),
     Invalidate(u64),
@@ -46,7 +47,7 @@ enum Call {
     Reserve(usize),
 }
 
-// Makes a call. Whatever it answers is told by the counts.
+// Makes a call. The counts show its result.
 fn make_call<R: Wait>(cache: &LruCache<u64, u64, R>, call: Call) {
     match call {
         Call::Get(key) => {
@@ -75,7 +76,7 @@ fn make_call<R: Wait>(cache: &LruCache<u64, u64, R>, call: Call) {
     }
 }
 
-// Makes each call that only looks.
+// Makes each call that only reads.
 fn look<R: Wait>(cache: &LruCache<u64, u64, R>, key: u64) {
     let _ = (cache.contains(&key), cache.len(), cache.is_empty());
     let _ = (
@@ -85,7 +86,7 @@ fn look<R: Wait>(cache: &LruCache<u64, u64, R>, key: u64) {
     );
 }
 
-// Hits, misses, refusals, makings, failures, insertions, evictions and removals.
+// Returns hits, misses, refusals, makings, failures, insertions, evictions and removals.
 fn numbers(counts: &Counts) -> [u64; 8] {
     [
         counts.hits,
@@ -127,13 +128,13 @@ const CALLS: [(Call, [u64; 8]); 21] = [
     (Call::Look(1), [4, 3, 0, 1, 0, 1, 0, 0]),
     (Call::Look(2), [4, 3, 0, 1, 0, 1, 0, 0]),
     (Call::Reserve(3), [4, 3, 0, 1, 0, 1, 0, 0]),
-    // What is refused is no call that asked for a value.
+    // A refused `reserve` is not a call that asked for a value.
     (Call::Reserve(usize::MAX), [4, 3, 0, 1, 0, 1, 0, 0]),
     (Call::Fail(2, 3), [4, 4, 0, 2, 1, 2, 0, 1]),
     (Call::Make(3, 2), [4, 5, 0, 3, 1, 3, 0, 1]),
     (Call::Make(4, 2), [4, 6, 0, 4, 1, 4, 0, 1]),
     (Call::Make(5, u64::MAX), [4, 6, 1, 4, 1, 4, 0, 1]),
-    // Two entries leave at once.
+    // Two entries are evicted at once.
     (Call::Make(6, 4), [4, 7, 1, 5, 1, 5, 2, 1]),
     (Call::AdviceEvict(4), [4, 7, 1, 5, 1, 5, 3, 1]),
     (Call::SetCapacity(3), [4, 7, 1, 5, 1, 5, 4, 1]),
@@ -153,7 +154,7 @@ fn each_call_counts_what_it_answers(rt: HostRuntime) -> Result<(), Fail> {
     Ok(())
 }
 
-// Values that are put in, on a cache of capacity 6: none of these asks for a value or makes one.
+// Inserted values, on a cache of capacity 6: none of these calls asks for a value or makes one.
 const PUT_IN: [(Call, [u64; 8]); 10] = [
     (Call::Insert(1, 2), [0, 0, 0, 0, 0, 1, 0, 0]),
     (Call::Get(1), [1, 0, 0, 0, 0, 1, 0, 0]),
@@ -166,7 +167,7 @@ const PUT_IN: [(Call, [u64; 8]); 10] = [
     (Call::Insert(3, u64::MAX), [1, 0, 2, 0, 0, 4, 2, 0]),
     (Call::Make(3, 9), [2, 0, 2, 0, 0, 4, 2, 0]),
     (Call::Prune, [2, 0, 2, 0, 0, 4, 4, 0]),
-    // It is evicted as its handle is let go.
+    // It is evicted when its handle is dropped.
     (Call::Insert(4, 7), [2, 0, 2, 0, 0, 5, 5, 0]),
 ];
 
@@ -218,7 +219,7 @@ fn a_prune_counts_each_entry_that_it_evicts(rt: HostRuntime) {
     let counts = cache.counts();
     assert_eq!(rt; (counts.evictions, counts.evicted_charge), (5, 15));
     assert!(rt; adds_up(&cache));
-    // The drop of the last handle settles the cache: here it evicts the entry itself.
+    // The drop of the last handle evicts down to the capacity: here it evicts the entry itself.
     cache.set_capacity(0);
     drop(held);
     let counts = cache.counts();
@@ -226,7 +227,7 @@ fn a_prune_counts_each_entry_that_it_evicts(rt: HostRuntime) {
     assert!(rt; adds_up(&cache));
 }
 
-// An idle entry is evicted at once, and a held one as its last handle is let go.
+// An idle entry is evicted at once, and a held one when its last handle is dropped.
 #[test]
 fn an_invalidated_entry_is_evicted_once(rt: HostRuntime) {
     let cache: LruCache<u64, u64, &HostRuntime> = LruCache::new(rt.alloc(), &rt, 100);
@@ -239,7 +240,7 @@ fn an_invalidated_entry_is_evicted_once(rt: HostRuntime) {
     cache.invalidate(&2);
     assert_eq!(rt; cache.counts().evictions, 1);
     assert!(rt; adds_up(&cache));
-    // A new entry of the key, beside the one that is held.
+    // A new entry of the key, beside the held one.
     make_call(&cache, Call::Make(2, 7));
     drop(held);
     assert_eq!(rt; cache.counts().evictions, 1);
@@ -263,7 +264,7 @@ fn a_reset_answers_what_was_counted(rt: HostRuntime) {
     let counts = cache.counts();
     assert_eq!(rt; (counts.hits, counts.misses, counts.insertions), (1, 2, 2));
     assert_eq!(rt; cache.reset_counts(), counts);
-    // The entries that are there are those before.
+    // The entries that are present count as those before.
     let anew = cache.counts();
     assert_eq!(rt; (anew.hits, anew.misses, anew.insertions), (0, 0, 0));
     assert_eq!(rt; (anew.entries_before, anew.charge_before), (2, 20));
@@ -317,8 +318,8 @@ fn the_hit_ratio_is_of_hits_and_misses(rt: HostRuntime) {
     assert_eq!(rt; more.hit_ratio(), Some(1.0));
 }
 
-// The counts after two callers asked for one value, the second while the first made it; none where
-// the second came too late.
+// Returns the counts after two callers asked for one value, the second while the first made it, or
+// `None` if the second came too late.
 fn counts_of_meeting<R: Wait + Threads + Clone + Drop + Send + Sync>(
     rt: &R,
     alloc: Global,
@@ -348,8 +349,8 @@ fn a_caller_that_waits_is_counted(rt: HostRuntime) {
     );
 }
 
-// The counts after the first caller failed and the second, which waited, made the value; none where
-// the second came too late.
+// Returns the counts after the first caller failed and the second, which waited, made the value, or
+// `None` if the second came too late.
 fn counts_of_failure<R: Wait + Threads + Clone + Drop + Send + Sync>(
     rt: &R,
     alloc: Global,
@@ -375,7 +376,7 @@ fn a_making_that_is_taken_over_is_counted(rt: HostRuntime) {
     assert_eq!(rt; (counts.insertions, counts.removals), (1, 0));
 }
 
-// Whether each of some calls of one thread is answered.
+// Returns whether each of some calls of one thread succeeded.
 fn works<R: Wait>(cache: &LruCache<u64, u64, R>, seed: u64) -> bool {
     for turn in 0..1_000u64 {
         let key = turn.wrapping_mul(seed.wrapping_add(7)) % 20;

@@ -8,7 +8,7 @@ use std::sync::{Arc, Wait};
 use std::thread;
 use std::thread::Threads;
 
-// What two threads read of a handle that they share.
+// Returns what two threads read of a handle that they share.
 fn read_by_two<R: Wait + Sync, T: Threads>(
     rt: &T,
     handle: &CacheHandle<'_, u64, u64, R>,
@@ -19,7 +19,7 @@ where
     thread::join(rt, || *handle.value(), || *handle.value())
 }
 
-// The total once another thread has let a handle go.
+// Returns the total once another thread has dropped a handle.
 fn let_go_by_another<R: Wait + Send + Sync, T: Threads>(
     rt: &T,
     cache: &LruCache<u64, u64, R>,
@@ -46,7 +46,7 @@ fn threads_share_a_handle_and_hand_it_on(rt: HostRuntime) {
     assert_eq!(rt; let_go_by_another(&rt, &cache, handle), 0);
 }
 
-// Makes key 1 with the value 7, and says whether it could.
+// Makes key 1 with the value 7, and returns whether it succeeded.
 fn makes_one<R: Wait>(cache: &LruCache<u64, u64, R>) -> bool {
     cache.get_or_init(1, 1, |_| 7).is_ok()
 }
@@ -63,10 +63,10 @@ fn one_thread_finds_what_another_made(rt: HostRuntime) {
     assert_eq!(rt; finder.join(&rt), Some(7));
 }
 
-// What may be sent to another thread and shared with it.
+// Accepts what may be sent to another thread and shared with it.
 fn crosses<T: Send + Sync>(_value: &T) {}
 
-// Caches and handles do, where their keys, values, marks and rights do.
+// Caches and handles may, if their keys, values, marks and capabilities may.
 fn caches_cross<
     K: Hash + Eq + Clone + Drop + Send + Sync,
     V: Drop + Send + Sync,

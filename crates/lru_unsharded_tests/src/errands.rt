@@ -1,5 +1,5 @@
-//! Values whose drops use the cache: whatever evicts them, no lock is held, and the books are right
-//! afterwards.
+//! Values whose drops use the cache: whatever evicts them, no lock is held, and the totals are
+//! right afterwards.
 
 use concurrent_lru::unsharded::LruCache;
 use lru_fixtures::errands::{Outcome, Sent, causes, outcome_in};
@@ -15,7 +15,7 @@ const CLEARED: Outcome = Outcome {
     found: 0,
 };
 
-// What comes of a cause in a new cache of this capacity.
+// Returns the outcome of a cause in a new cache of this capacity.
 fn outcome<R: Wait + Threads + Send + Sync>(
     rt: &R,
     alloc: Global,

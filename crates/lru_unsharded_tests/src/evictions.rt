@@ -1,4 +1,4 @@
-//! Which values are evicted, in which order, as their drops tell it.
+//! Which values are evicted, and in which order, as their drops show.
 
 use crate::play::plays;
 use lru_fixtures::threaded::Call;

@@ -1,5 +1,6 @@
-//! What runs without the lock: makers, drops, and the reading of a handle.
-//! In each gate two threads have to meet; where one held the lock, a limit of looks would end it.
+//! What runs without the lock: makers, drops, and reading a handle.
+//!
+//! In each test two threads have to meet; if one held the lock, a limit would end the wait.
 
 use concurrent_lru::unsharded::LruCache;
 use lru_fixtures::gates::{CAUSES, Cause, Slow, total_in_drop};
@@ -15,7 +16,7 @@ fn makers_run_without_the_lock(rt: HostRuntime) {
     assert_eq!(rt; makers_meet(&rt, &&cache, (1, 2)), (true, true));
 }
 
-// The total while a new cache of this capacity drops a value.
+// Returns the total while a new cache of this capacity drops a value.
 fn total_of<R: Wait + Threads + Clone + Drop + Sync + Send>(
     rt: &R,
     alloc: Global,

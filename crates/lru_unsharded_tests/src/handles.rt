@@ -36,7 +36,7 @@ fn prints_its_ready_entries(rt: HostRuntime) -> Result<(), test::Fail> {
     plays(&rt, rt.alloc(), 10, &PRINTED)
 }
 
-// The text of an empty cache while its first value is made.
+// Returns the text of an empty cache while its first value is made.
 fn text_in_a_making<R: Wait>(alloc: Global, cache: &LruCache<u64, u64, R>) -> Option<String> {
     let mut text = None;
     let made = cache.get_or_init(1, 1, |_| {

@@ -1,4 +1,4 @@
-//! Values that are taken back while handles read them, and while callers wait for them.
+//! Values that are invalidated while handles read them, and while callers wait for them.
 
 use crate::play::plays;
 use concurrent_lru::unsharded::LruCache;
@@ -10,7 +10,7 @@ use lru_support::flags::{meets, pause, raise};
 use std::sync::Wait;
 use std::{test, thread};
 
-// Two values of one key are held at once, and the old one is let go first.
+// Two values of one key are held at the same time, and the old one is released first.
 const OLD_FIRST: [(Call, &str); 13] = [
     (Init(1, 3, 1, Keep(0)), "Made(1, 1)"),
     (Invalidate(1), "Done"),
@@ -32,7 +32,7 @@ fn a_held_value_is_replaced(rt: HostRuntime) -> Result<(), test::Fail> {
     plays(&rt, rt.alloc(), 10, &OLD_FIRST)
 }
 
-// The new one is let go first, and stays idle while the old one is held.
+// The new one is released first, and stays idle while the old one is held.
 const NEW_FIRST: [(Call, &str); 7] = [
     (Init(1, 3, 1, Keep(0)), "Made(1, 1)"),
     (Invalidate(1), "Done"),
@@ -48,8 +48,9 @@ fn a_new_value_outlives_the_old_one(rt: HostRuntime) -> Result<(), test::Fail> {
     plays(&rt, rt.alloc(), 10, &NEW_FIRST)
 }
 
-// The cases of a storage engine's own cache test, with a charge beside each value: a present key is
-// replaced, what is held is read still, and what nobody holds leaves in the order of its releases.
+// The cases of a storage engine's own cache test, with a charge for each value: a present key is
+// replaced, a held value can still be read, and unused ones are evicted in the order of their
+// releases.
 const HIT_AND_MISS: [(Call, &str); 9] = [
     (Get(100, AtOnce), "Absent"),
     (Insert(100, 1, 101, AtOnce), "Put(101)"),
@@ -119,7 +120,7 @@ fn what_is_used_or_held_outlives_the_rest(rt: HostRuntime) -> Result<(), test::F
     plays(&rt, rt.alloc(), 3, &EVICTED)
 }
 
-// Light entries and heavy ones: what stays weighs no more than the capacity, and the oldest leave.
+// Light entries and heavy ones: what stays is within the capacity, and the oldest are evicted.
 const HEAVY: [(Call, &str); 10] = [
     (Insert(1, 1, 101, AtOnce), "Put(101)"),
     (Insert(2, 10, 102, AtOnce), "Put(102)"),
@@ -138,7 +139,7 @@ fn heavy_entries_leave_room_for_few(rt: HostRuntime) -> Result<(), test::Fail> {
     plays(&rt, rt.alloc(), 22, &HEAVY)
 }
 
-// Held values may pass the capacity, and a prune leaves what is held.
+// Held values may exceed the capacity, and a prune leaves held entries.
 const CROWDED: [(Call, &str); 14] = [
     (Insert(1, 2, 1, Keep(0)), "Put(1)"),
     (Insert(2, 2, 2, Keep(1)), "Put(2)"),
@@ -161,7 +162,7 @@ fn the_use_may_pass_the_capacity(rt: HostRuntime) -> Result<(), test::Fail> {
     plays(&rt, rt.alloc(), 4, &CROWDED)
 }
 
-// A cache of no capacity keeps nothing that nobody holds.
+// A cache of capacity 0 keeps nothing that is unused.
 const NO_CAPACITY: [(Call, &str); 4] = [
     (Insert(1, 1, 100, AtOnce), "Put(100), drops [100]"),
     (Get(1, AtOnce), "Absent"),
@@ -182,7 +183,7 @@ fn a_handle_reads_its_own_value(rt: HostRuntime) {
     assert_eq!(rt; (cache.total_charge(), cache.len()), (1, 1));
 }
 
-// The value of key 1, made as 5 and taken back before it is there.
+// Returns the value of key 1, made as 5 and invalidated before it is ready.
 fn makes_and_takes_back<R: Wait>(cache: &LruCache<u64, u64, R>, meeting: &Meeting) -> Option<u64> {
     let mut met = false;
     let made = cache.get_or_init(1, 3, |_| {
@@ -198,7 +199,8 @@ fn makes_and_takes_back<R: Wait>(cache: &LruCache<u64, u64, R>, meeting: &Meetin
     }
 }
 
-// The value of key 1 to a caller that comes meanwhile, and whether this caller made it, as 6.
+// Returns the value of key 1 for a caller that comes meanwhile, and whether this caller made it, as
+// 6.
 fn comes_meanwhile<R: Wait>(
     cache: &LruCache<u64, u64, R>,
     meeting: &Meeting,
@@ -218,8 +220,8 @@ fn comes_meanwhile<R: Wait>(
     }
 }
 
-// Whoever waited for the old making has its outcome, and no value stays; whoever came later made
-// the value anew, and that one stays.
+// A caller that waited for the old making has its value, which does not stay; a caller that came
+// later made a new value, which does.
 #[test]
 fn a_waiter_has_the_outcome_of_its_making(rt: HostRuntime) {
     for _ in 0..50u32 {

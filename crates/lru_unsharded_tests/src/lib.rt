@@ -1,5 +1,6 @@
 //! Tests of the cache of one lock: tables of calls of one thread, and what threads do together.
-//! They stand apart from the cache, so that its crate is proved once.
+//!
+//! They are apart from the cache, so that its crate is proved once.
 #![tactic(auto)]
 
 #[cfg(test)]

@@ -17,7 +17,7 @@ fn one_value_for_two_callers(rt: HostRuntime) {
     assert_eq!(rt; value_beside_total(&rt, &&cache), (Some(5), 3));
 }
 
-// Fails to make key 1 once the other caller comes, and says whether it did.
+/// Fails to make key 1 once the other caller comes, and returns whether it did.
 fn fails_first<R: Wait>(cache: &LruCache<u64, u64, R>, meeting: &Meeting) -> bool {
     let made = cache.get_or_try_init(1, 3, |_| -> Result<u64, u8> {
         raise(&meeting.started);
@@ -28,7 +28,7 @@ fn fails_first<R: Wait>(cache: &LruCache<u64, u64, R>, meeting: &Meeting) -> boo
     matches!(&made, Err(GetError::Init(9)))
 }
 
-// The value of key 1, which this caller makes as 5 where the other has failed.
+/// Returns the value of key 1, which this caller makes as 5 if the other has failed.
 fn takes_over<R: Wait>(cache: &LruCache<u64, u64, R>, meeting: &Meeting) -> Option<u64> {
     if !meets(&meeting.started) {
         return None;
@@ -72,8 +72,8 @@ fn total_after_failure<R: Wait + Threads + Clone + Drop + Send + Sync>(
     }
 }
 
-// Who waited while the making failed takes over the entry that is there, and its charge with it;
-// only who came later makes one of its own.
+// A caller that waited while the making failed takes over the present entry, and its charge with
+// it; only one that came later makes an entry of its own.
 #[test]
 fn another_takes_a_failed_making_over(rt: HostRuntime) {
     let mut total = total_after_failure(&rt, rt.alloc());
@@ -85,7 +85,7 @@ fn another_takes_a_failed_making_over(rt: HostRuntime) {
     assert_eq!(rt; total, Some(3));
 }
 
-// The value of key 1, whose `init` asks for key 2, made as 6.
+// Returns the value of key 1, whose `init` asks for key 2, made as 6.
 fn makes_by_another_key<R: Wait>(cache: &LruCache<u64, u64, R>) -> Option<u64> {
     let made = cache.get_or_try_init(1, 1, |_| -> Result<u64, GetError<u8>> {
         let inner = cache.get_or_try_init(2, 1, |_| -> Result<u64, u8> { Ok(6) })?;

@@ -3,7 +3,8 @@
 use concurrent_lru::unsharded::LruCache;
 use lru_fixtures::makings::{makes_three_deep, values_of_three};
 
-// The capacity, and the values that stay. Each that was made within another is let go first.
+// The capacity, and the values that stay. Each value that was made within another is released
+// first.
 const LEFT: [(u64, [Option<u64>; 3]); 4] = [
     (3, [Some(111), Some(11), Some(1)]),
     (2, [Some(111), Some(11), None]),

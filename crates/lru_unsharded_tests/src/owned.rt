@@ -1,4 +1,4 @@
-//! Handles are read as their values, and owned ones keep their cache alive.
+//! Handles read as their values, and owned ones keep their cache alive.
 
 use concurrent_lru::unsharded::{LruCache, OwnedHandle};
 use lru_fixtures::owners::{DROPPED_IN_TURN, counts_of_calls, drops_two_handles, fails_once};
@@ -32,7 +32,7 @@ fn an_owned_init_may_fail(rt: HostRuntime) {
     assert_eq!(rt; Arc::strong_count(&shared), 1);
 }
 
-// A handle whose cache has no other owner.
+// Returns a handle whose cache has no other owner.
 fn alone<R: Wait + Drop>(alloc: Global, rt: R) -> Option<OwnedHandle<u64, u64, R>> {
     let cache = keeps_nothing(alloc, rt)?;
     LruCache::get_or_init_owned(&cache, &1, 3, |_| 5).ok()
@@ -47,7 +47,7 @@ fn an_owned_handle_keeps_its_cache_alive(rt: HostRuntime) {
     assert_eq!(rt; text.as_str(), "5");
 }
 
-// What a handle reads, and lets go.
+// Reads a handle and drops it.
 fn read_last<R: Wait + Drop>(handle: OwnedHandle<u64, u64, R>) -> u64 {
     *handle
 }

@@ -1,4 +1,4 @@
-//! A table of calls, made of a new cache by one thread.
+//! A table of calls on a new cache by one thread.
 
 use concurrent_lru::unsharded::LruCache;
 use lru_fixtures::threaded::{Call, play};
@@ -7,7 +7,7 @@ use std::alloc::Global;
 use std::sync::Wait;
 use std::test::Fail;
 
-/// Makes the calls of a table on an empty cache of this capacity, whose values note their drops.
+/// Makes the calls of a table on an empty cache of this capacity, whose values record their drops.
 pub(crate) fn plays<R: Wait + Clone + Drop>(
     rt: &R,
     alloc: Global,

@@ -1,11 +1,11 @@
-//! The first example of the README, whole: a pool that opens connections on demand, pins two, and
+//! The first example of the README in full: a pool that opens connections on demand, pins two, and
 //! closes one to make room.
 
 use concurrent_lru::lru_core::Refusal;
 use concurrent_lru::unsharded::{GetError, LruCache};
 use std::sync::Wait;
 
-/// Something that is dear to open.
+/// Something that is expensive to open.
 #[derive(Drop)]
 struct Connection {
     port: u64,
@@ -14,7 +14,7 @@ struct Connection {
 /// Why there is no connection.
 #[derive(Debug, Drop, PartialEq, Eq)]
 enum Failure {
-    /// The cache has no memory, or a number of it is at its end.
+    /// The cache has no memory, or a number of it is at its maximum.
     Refused(Refusal),
     /// Nobody listens there.
     Closed(u64),
@@ -43,8 +43,8 @@ fn open(port: u64) -> Result<Connection, Failure> {
     Ok(Connection { port })
 }
 
-// Holds two connections at once, and answers their ports. R is the right to wait at the pool's
-// lock: only `main` and tests have it, so what uses a cache is generic in it.
+// Holds two connections at the same time, and returns their ports. `R` is the capability to wait
+// for the pool's lock: only `main` and tests have it, so code that uses a cache is generic in it.
 fn web_and_mail<R: Wait>(pool: &LruCache<u64, Connection, R>) -> Result<(u64, u64), Failure> {
     let web = pool.get_or_try_init(80, 1, |port| open(*port))?;
     let mail = pool.get_or_try_init(25, 1, |port| open(*port))?;
@@ -53,14 +53,14 @@ fn web_and_mail<R: Wait>(pool: &LruCache<u64, Connection, R>) -> Result<(u64, u6
 
 #[test]
 fn a_pool_of_connections(rt: HostRuntime) -> Result<(), Failure> {
-    // Keeps idle connections as long as no more than one is open in all.
+    // Keeps idle connections while at most one is open in all.
     let pool = LruCache::new(rt.alloc(), &rt, 1);
     assert_eq!(rt; web_and_mail(&pool), Ok((80, 25)));
-    // In use, both were open; the one that was let go first was closed to make room.
+    // In use, both were open; the one that was released first was closed to make room.
     assert!(rt; pool.get(25)?.is_none());
     assert!(rt; pool.get(80)?.is_some());
     assert_eq!(rt; web_and_mail(&pool), Ok((80, 25)));
-    // Room is made before the connection is tried, so one that fails may close another.
+    // Room is made before the connection is opened, so one that fails may close another.
     let closed = pool.get_or_try_init(0, 1, |port| open(*port)).err();
     assert!(rt; matches!(&closed, Some(GetError::Init(Failure::Closed(0)))));
     assert_eq!(rt; pool.total_charge(), 0);

@@ -1,4 +1,4 @@
-//! Worked rows: values made, found, evicted, advised away and failed.
+//! Worked rows: values that are made, found, evicted, evicted by advice, and failed.
 
 use crate::play::plays;
 use lru_fixtures::threaded::Call;

@@ -1,4 +1,4 @@
-//! Long runs of calls that seeds decide, each answered as the cache of one owner answers it.
+//! Long runs of calls drawn from seeds, whose answers are compared with those of `State`.
 
 use concurrent_lru::lru_core::State;
 use concurrent_lru::unsharded::LruCache;

@@ -1,5 +1,6 @@
-//! Callers that wait for one making, which may be given up before a value is there.
-//! Where a caller is never woken, the test ends by a limit.
+//! Callers that wait for one making, which may be given up before there is a value.
+//!
+//! If a caller is never woken, a limit ends the test.
 
 use concurrent_lru::unsharded::LruCache;
 use lru_support::flags::{reaches, yield_times};
@@ -12,8 +13,8 @@ use std::thread::Threads;
 
 const ROUNDS: u64 = 2_000;
 
-// A round: so many callers ask for one value at once, one of whom makes it, and the first so many
-// makings fail. The number decides how often each yields.
+// A round: this many callers ask for one value at the same time, one of which makes it, and the
+// first makings fail. The number determines how often each yields.
 #[derive(Clone, Copy, Debug)]
 struct Round {
     number: u64,
@@ -22,7 +23,7 @@ struct Round {
 }
 
 impl Round {
-    // How often a caller yields before it comes, and before the value that it makes is there.
+    // How often a caller yields before it comes, and before the value that it makes is ready.
     fn yields_of(&self, caller: u64) -> u64 {
         self.number
             .wrapping_mul(37)
@@ -31,7 +32,7 @@ impl Round {
     }
 }
 
-// How many callers have come, got the value and ended, and how often `init` ran.
+// The number of callers that have come, got the value and ended, and how often `init` ran.
 #[derive(Drop)]
 struct Counts {
     came: AtomicU64,
@@ -51,8 +52,8 @@ impl Counts {
     }
 }
 
-// Asks for the value once, and says whether it was given. The making goes on until all callers
-// have come and some yields are over.
+// Asks for the value once, and returns whether it got it. The making goes on until all callers have
+// come and some yields are over.
 fn gets<R: Wait>(
     cache: &LruCache<u64, u64, R>,
     counts: &Counts,
@@ -72,7 +73,7 @@ fn gets<R: Wait>(
     matches!(&made, Ok(handle) if *handle.value() == 5)
 }
 
-// Asks for the value until it is given.
+// Asks for the value until it gets it.
 fn asks<R: Wait>(cache: &LruCache<u64, u64, R>, counts: &Counts, round: Round, yields: u64) {
     yield_times(yields);
     counts.came.fetch_add(1, Ordering::SeqCst);
@@ -85,7 +86,7 @@ fn asks<R: Wait>(cache: &LruCache<u64, u64, R>, counts: &Counts, round: Round, y
     counts.ended.fetch_add(1, Ordering::SeqCst);
 }
 
-// Has all callers ask at once, each with yields of its own.
+// Has all callers ask at the same time, each with yields of its own.
 fn asks_at_once<R: Wait + Threads + Abort + Sync, W: Wait + Send + Sync>(
     rt: &R,
     cache: &LruCache<u64, u64, W>,
@@ -104,8 +105,8 @@ fn asks_at_once<R: Wait + Threads + Abort + Sync, W: Wait + Send + Sync>(
     });
 }
 
-// Asks for a value of a new cache. Answers how often `init` ran, how many got the value, and the
-// total once the cache is pruned; none where memory is refused.
+// Asks for a value of a new cache. Returns how often `init` ran, how many got the value, and the
+// total once the cache is pruned, or `None` if memory is refused.
 fn play<R: Wait + Threads + Abort + Clone + Drop + Send + Sync>(
     rt: &R,
     alloc: Global,
@@ -122,7 +123,7 @@ fn play<R: Wait + Threads + Abort + Clone + Drop + Send + Sync>(
     ))
 }
 
-// Plays all rounds of so many callers and failures.
+// Plays all rounds of this many callers and failures.
 fn all_get_the_value<R: Wait + Threads + Abort + Clone + Drop + Send + Sync>(
     rt: &R,
     alloc: Global,

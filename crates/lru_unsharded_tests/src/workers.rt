@@ -1,4 +1,4 @@
-//! Four threads at one cache with a mark, each of which proves what it reads.
+//! Four threads that use one cache with a mark, each of which proves what it reads.
 
 use concurrent_lru::unsharded::LruCache;
 use lru_fixtures::marks::{Twice, reads_doubles};

@@ -14,7 +14,7 @@ pub const VALUES: &[Call] = &[
     Total,
 ];
 
-/// After an eviction the value is made anew.
+// After an eviction the value is made again.
 pub const LARGE_VALUES: &[Call] = &[
     Init(1, 3, 1, AtOnce),
     Init(2, 3, 2, AtOnce),
@@ -51,7 +51,7 @@ pub const READ_VALUES: &[Call] = &[
     Total,
 ];
 
-/// A key that was taken back is found no more, and made anew.
+// The value of an invalidated key is no longer found, and is made again.
 pub const TAKEN_VALUES: &[Call] = &[
     Invalidate(1),
     Init(1, 1, 10, AtOnce),
@@ -65,8 +65,8 @@ pub const TAKEN_VALUES: &[Call] = &[
     Total,
 ];
 
-/// A value that is put in replaces the one that the key has, whose charge does not count beside its
-/// own. One that is refused leaves all as it was.
+// An inserted value replaces that of the key, whose charge does not count together with its own.
+// One that is refused leaves everything as it was.
 pub const PUT_VALUES: &[Call] = &[
     Insert(1, 1, 10, AtOnce),
     Insert(1, 2, 11, AtOnce),
@@ -96,7 +96,7 @@ pub const ROOM: &[Call] = &[
     Total,
 ];
 
-/// Room for as many entries as a map of 32 places takes, or two of 16: for one more, it grows.
+// Room for as many entries as a map of 32 places holds, or two of 16: one more makes it grow.
 pub const MUCH_ROOM: &[Call] = &[
     Reserve(28),
     Init(1, 1, 1, AtOnce),
