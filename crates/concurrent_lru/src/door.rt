@@ -33,7 +33,7 @@ const LOOKS: u32 = 7;
 
 const FIRST_PAUSES: u32 = 64;
 
-/// The lock, its condition variable, and the capability to wait.
+/// The lock, its condition variable, and the right to wait.
 #[derive(Drop)]
 pub struct Door<K: Hash + Eq + Clone, V, R: Wait, F: Fit<K, V>> {
     rt: R,
@@ -41,22 +41,22 @@ pub struct Door<K: Hash + Eq + Clone, V, R: Wait, F: Fit<K, V>> {
     woken: Condvar,
 }
 
-/// An obligation: the lock is held. Each call takes this value, so there is one call for each time
-/// that the lock is acquired.
+/// A debt: the lock is held. Each call takes this value, so there is one call for each time that
+/// the lock is acquired.
 pub struct Inside<'a, K: Hash + Eq + Clone, V, R: Wait, F: Fit<K, V>> {
     door: &'a Door<K, V, R, F>,
     guard: MutexGuard<'a, Locked<K, V, F>>,
 }
 
-/// An obligation: the caller is to make a value, and stores it, or gives it up, at the door where
-/// it was asked for.
+/// A debt: the caller is to make a value, and stores it, or gives it up, at the door where it was
+/// asked for.
 pub struct Maker<'a, K: Hash + Eq + Clone, V, R: Wait, F: Fit<K, V>> {
     door: &'a Door<K, V, R, F>,
     making: Making<K>,
 }
 
-/// An obligation: a pin in an entry whose value another caller makes, and the held lock. Only the
-/// wait releases that lock, so that no wakeup is missed.
+/// A debt: a pin in an entry whose value another caller makes, and the held lock. Only the wait
+/// releases that lock, so that no wakeup is missed.
 pub struct Asleep<'a, K: Hash + Eq + Clone, V, R: Wait, F: Fit<K, V>> {
     inside: Inside<'a, K, V, R, F>,
     waiting: Waiting<K, V, F>,
@@ -84,7 +84,7 @@ impl<K: Hash + Eq + Clone + Drop, V: Drop, R: Wait, F: Fit<K, V>> Door<K, V, R, 
         }
     }
 
-    /// Returns the capability to wait.
+    /// Returns the right to wait.
     pub fn rt(&self) -> &R {
         &self.rt
     }

@@ -1,8 +1,8 @@
 //! The data under the lock: the core's state, whose ready values fit their keys, with counts of its
 //! calls.
 //!
-//! Each call is one step of the core. What it leaves to be done is returned as an obligation, a
-//! type that is not `Drop`.
+//! Each call is one step of the core. What it leaves to be done is returned as a debt, a type that
+//! is not `Drop`.
 ghost use Rattle.std.specs.Prelude.{◌≡◌, ◌≢◌, ◌<◌, true, [], Err, Some, None, IsTrue, IsFalse, IfOk, IfErr, IfSome, OnErr};
 ghost use Rattle.std.specs.Arc.{arc_value};
 ghost use Rattle.std.specs.Fn.{FnOnceReturnsAt, FnOnceTakesAt};

@@ -211,7 +211,7 @@ impl<K: Hash + Eq + Clone, V: Drop, S: BuildHasher + Drop> Shards<K, V, S> {
     }
 
     /// `poll` in a shard. Returns `Stale` also if there is no such shard, and `Memory` as
-    /// `State::poll`.
+    /// `State::poll` does.
     pub fn poll(&mut self, shard: usize, stamp: u64) -> Result<Begun<V>, Refusal>
         ensures step { StandsAt K.eq self.old shard (ask.poll stamp) (outcome_of_poll result) self.new }
         ensures lawful { AreLawful K.eq self.new }

@@ -477,7 +477,7 @@ impl<K: Hash + Eq + Clone, V: Drop> Table<K, V> {
         self.evict_down_to(capacity)
     }
 
-    // Evicts until a total that is above the capacity is at most the capacity or nothing is idle.
+    // Evicts from a table whose total is above the capacity.
     #[inline(never)]
     fn evict_down_to(&mut self, capacity: u64) -> Evicted<K, V>
         ensures held { self.new.held ≡ self.old.held }

@@ -22,8 +22,8 @@ use std::fmt;
 use std::hash::Hash;
 use std::sync::{Arc, Wait};
 
-/// A cache that threads share. `R` is the capability to wait, passed in at creation; `F` is its
-/// mark, which relates its values to their keys.
+/// A cache that threads share. `R` is the right to wait, passed in at creation; `F` is its mark,
+/// which relates its values to their keys.
 ///
 /// Whenever its lock is acquired, the cache is lawful, its total is the sum of its charges and is
 /// above the capacity only if nothing is idle, and the value of every ready entry fits its key.

@@ -14,7 +14,7 @@ use concurrent_lru::lru_core::Refusal;
 use std::hash::Hash;
 use std::sync::{Mutex, MutexGuard, Wait};
 
-/// The lock, the cell of the tallies, and the capability to wait.
+/// The lock, the cell of the tallies, and the right to wait.
 #[derive(Drop)]
 pub struct Door<K: Hash + Eq + Clone, V, R, I: Identity> {
     cell: Cell<K>,
@@ -23,8 +23,8 @@ pub struct Door<K: Hash + Eq + Clone, V, R, I: Identity> {
     pub ghost own: { cell.table.shared.table_id ≡ I.name.table },
 }
 
-/// An obligation: the lock is held. Each call takes this value, so there is one call for each time
-/// that the lock is acquired.
+/// A debt: the lock is held. Each call takes this value, so there is one call for each time that
+/// the lock is acquired.
 pub struct Inside<'a, K: Hash + Eq + Clone, V, R, I: Identity> {
     door: &'a Door<K, V, R, I>,
     guard: MutexGuard<'a, Desk<K, V, I>>,

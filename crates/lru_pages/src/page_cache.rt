@@ -13,8 +13,8 @@ use std::alloc::Global;
 use std::fmt;
 use std::sync::Wait;
 
-/// A cache of the pages of a reader, for any number of threads. `R` is the capability to wait,
-/// passed in at creation.
+/// A cache of the pages of a reader, for any number of threads. `R` is the right to wait, passed in
+/// at creation.
 #[derive(Drop)]
 pub struct PageCache<'a, B: Blocks, R: Wait> {
     reader: &'a B,

@@ -16,8 +16,8 @@ pub enum Failure {
     /// The line with this number, counted from 1, is not a valid step: what was expected, and what
     /// was found instead, if it can be shown.
     Line(u64, Expected, Option<String>),
-    /// The step on the line with this number was refused. This includes a lack of memory for
-    /// reading it, and running out of line or value numbers.
+    /// The step on the line with this number was refused. This includes running out of memory or of
+    /// line and step numbers while reading it.
     Step(u64, Refusal),
     /// Memory was refused before any line was read.
     Refused(Refusal),

@@ -9,7 +9,7 @@ use std::thread;
 // Accepts what may be sent to another thread and shared with it.
 fn crosses<T: Send + Sync>(_value: &T) {}
 
-// Caches and handles may, if their keys, values, hashers, marks and capabilities may.
+// Caches and handles may, if their keys, values, hashers, marks and rights may.
 fn caches_cross<
     K: Hash + Eq + Clone + Drop + Send + Sync,
     V: Drop + Send + Sync,

@@ -58,7 +58,7 @@ impl<R: Wait + Clone + Drop> DropLog<R> {
     }
 
     /// Creates a value with this number, which adds it here when it is dropped. Returns
-    /// `AllocError` if a copy of the capability to wait, or of the log's `Arc`, is refused.
+    /// `AllocError` if a copy of the right to wait, or of the log's `Arc`, is refused.
     pub fn value(&self, number: u64) -> Result<Logged<R>, AllocError> {
         Ok(Logged {
             rt: self.rt.clone()?,

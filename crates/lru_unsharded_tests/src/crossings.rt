@@ -66,7 +66,7 @@ fn one_thread_finds_what_another_made(rt: HostRuntime) {
 // Accepts what may be sent to another thread and shared with it.
 fn crosses<T: Send + Sync>(_value: &T) {}
 
-// Caches and handles may, if their keys, values, marks and capabilities may.
+// Caches and handles may, if their keys, values, marks and rights may.
 fn caches_cross<
     K: Hash + Eq + Clone + Drop + Send + Sync,
     V: Drop + Send + Sync,

@@ -43,8 +43,8 @@ fn open(port: u64) -> Result<Connection, Failure> {
     Ok(Connection { port })
 }
 
-// Holds two connections at the same time, and returns their ports. `R` is the capability to wait
-// for the pool's lock: only `main` and tests have it, so code that uses a cache is generic in it.
+// Holds two connections at the same time, and returns their ports. `R` is the right to wait for the
+// pool's lock: only `main` and tests have it, so code that uses a cache is generic in it.
 fn web_and_mail<R: Wait>(pool: &LruCache<u64, Connection, R>) -> Result<(u64, u64), Failure> {
     let web = pool.get_or_try_init(80, 1, |port| open(*port))?;
     let mail = pool.get_or_try_init(25, 1, |port| open(*port))?;

@@ -1,5 +1,5 @@
-//! What a caller has in an entry, as obligations: types that are not `Drop`, so that the checker
-//! refuses a path that forgets one. Each is taken only by the call that settles it.
+//! What a caller has in an entry, as debts: types that are not `Drop`, so that the checker refuses
+//! a path that forgets one. Each is taken only by the call that settles it.
 ghost use Rattle.std.specs.Prelude.{◌≡◌};
 ghost use Rattle.std.specs.Arc.{arc_value};
 ghost use Rattle.std.specs.Sync.Mutex.{mutex_guard_value};
@@ -14,8 +14,8 @@ use std::marker::{Model, PhantomData};
 use std::snapshot::Snapshot;
 use std::sync::{Arc, Condvar, MutexGuard, Wait};
 
-/// An obligation: the caller is to make the value of an entry. `ready` and `fail` take it. Clauses
-/// see the key and the charge that were asked for.
+/// A debt: the caller is to make the value of an entry. `ready` and `fail` take it. Clauses see the
+/// key and the charge that were asked for.
 pub struct Making<K> {
     pub(super) spot: Spot,
     pub(super) asked: Snapshot<K>,
@@ -37,9 +37,9 @@ impl<K> Making<K> {
     }
 }
 
-/// An obligation: a pin in an entry whose value another caller makes. `sleep` takes it; a release
-/// would not, since there is no value yet. Clauses see the key and the charge that were asked for,
-/// and the state in which the call that returned it left the cache.
+/// A debt: a pin in an entry whose value another caller makes. `sleep` takes it; a release would
+/// not, since there is no value yet. Clauses see the key and the charge that were asked for, and
+/// the state in which the call that returned it left the cache.
 pub struct Waiting<K: Hash + Eq + Clone, V, F: Fit<K, V>> {
     spot: Spot,
     asked: Snapshot<K>,
@@ -96,21 +96,21 @@ impl<K: Hash + Eq + Clone, V, F: Fit<K, V>> Waiting<K, V, F> {
     }
 }
 
-/// An obligation: a pin of a caller that has slept, in an entry whose value another caller made or
-/// is still making. `poll` takes it.
+/// A debt: a pin of a caller that has slept, in an entry whose value another caller made or is
+/// still making. `poll` takes it.
 pub struct Woken<K> {
     pub(super) spot: Spot,
     pub(super) asked: Snapshot<K>,
     pub(super) charge: u64,
 }
 
-/// An obligation: a pin in a ready entry whose value was not read, since its copy was refused.
-/// `give_up` takes it.
+/// A debt: a pin in a ready entry whose value was not read, since its copy was refused. `give_up`
+/// takes it.
 pub struct Unread {
     pub(super) spot: Spot,
 }
 
-/// An obligation: a pin in a ready entry, and the value. `release` takes it.
+/// A debt: a pin in a ready entry, and the value. `release` takes it.
 ///
 /// Clauses see the stamp of the entry, the key and the charge that were asked for, and the value,
 /// which fits that key by the mark `F`.

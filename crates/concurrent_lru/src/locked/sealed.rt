@@ -1,12 +1,12 @@
-//! What a call under the lock leaves to be done, as obligations: to drop what it took out once the
-//! lock is released, and to wake the callers that wait for what it did.
+//! What a call under the lock leaves to be done, as debts: to drop what it took out once the lock
+//! is released, and to wake the callers that wait for what it did.
 ghost use Rattle.std.specs.Prelude.{◌≡◌};
 
 use std::marker::Model;
 use std::sync::{Condvar, MutexGuard};
 
-/// An obligation: what a call under the lock took out of the cache, so that nothing of it is
-/// dropped under the lock. `open` takes it, with the guard.
+/// A debt: what a call under the lock took out of the cache, so that nothing of it is dropped under
+/// the lock. `open` takes it, with the guard.
 ///
 /// Clauses see what was taken out.
 pub struct Sealed<T> {
@@ -38,7 +38,7 @@ impl<T> Sealed<T> {
     }
 }
 
-/// An obligation: callers may wait for what was just done. `wake` takes it.
+/// A debt: callers may wait for what was just done. `wake` takes it.
 ///
 /// Clauses see whether there may be any.
 pub struct Waiters {
@@ -54,7 +54,7 @@ impl Model for Waiters {
 }
 
 impl Waiters {
-    // Creates the obligation to wake the callers that wait, or nobody.
+    // Creates the debt to wake the callers that wait, or nobody.
     pub(super) fn of(some: bool) -> Self
         ensures { result ≡ some }
     {

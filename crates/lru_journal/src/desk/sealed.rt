@@ -1,12 +1,12 @@
-//! What a call under the lock leaves to be dropped without it, as an obligation: a type that is not
+//! What a call under the lock leaves to be dropped without it, as a debt: a type that is not
 //! `Drop`, so that the checker refuses a path that forgets it.
 ghost use Rattle.std.specs.Prelude.{◌≡◌};
 
 use std::marker::Model;
 use std::sync::MutexGuard;
 
-/// An obligation: what a call under the lock took out of the cache, so that nothing of it is
-/// dropped under the lock. `open` takes it, with the guard.
+/// A debt: what a call under the lock took out of the cache, so that nothing of it is dropped under
+/// the lock. `open` takes it, with the guard.
 ///
 /// Clauses see what was taken out.
 pub struct Sealed<T> {
