@@ -130,7 +130,7 @@ impl<K: Hash + Eq + Clone + Drop, V: Drop, R: Wait, F: Fit<K, V>> LruCache<K, V,
     /// evicted stays evicted. Returns `Overflow` if the charge of a new entry would take the total
     /// past `u64::MAX`, if there are no stamps left, or if the entry has the maximum number of
     /// pins; and `Memory` if a new entry or the copy of the value is refused: then no entry
-    /// changed.
+    /// changed, except that a call that waited has released its pin.
     #[inline(always)]
     pub fn get_or_try_init<E, I>(
         &self,
