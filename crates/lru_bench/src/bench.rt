@@ -126,7 +126,7 @@ fn use_alone<R: Wait + Clock, O: Write>(
     report.end(&work("miss_evict"), begin, sum)
 }
 
-// The stress workload on this cache of this capacity.
+// Runs the stress workload on this cache of this capacity.
 fn stressed(system: &'static str, capacity: u64, workers: u16, calls: u32) -> Work {
     Work::new(system, "stress", capacity, u32::from(workers), calls)
 }

@@ -20,7 +20,7 @@ pub enum Failure {
     Refused(Refusal),
     /// The file of keys has none, or its last is incomplete.
     Keys,
-    /// A call of the stress workload got no value, or that of another key.
+    /// A call of the stress workload returned no value, or that of another key.
     Answers,
     /// Reading a file, a write, the clock or the system's random numbers failed.
     System,

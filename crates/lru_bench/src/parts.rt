@@ -146,7 +146,8 @@ impl<R: Wait + Drop> Parts<R> {
     }
 }
 
-// What a look answers a worker of the stress workload, each of whose keys is there.
+// Returns the answer to a worker of the stress workload, each of whose keys is there, for the
+// result of a lookup.
 fn answer(found: Result<Option<u64>, Refusal>) -> Result<Answer, Unmade> {
     match found {
         Ok(Some(key)) => Ok(Answer::of_key(key)),

@@ -13,19 +13,21 @@ use std::sync::Wait;
 use std::thread;
 use std::thread::Threads;
 
-/// Runs the program on the words after its name and answers the status to end with.
+/// Runs the program on its arguments and returns the exit status.
 ///
-/// `check` runs each workload small and writes the sums of the values that it read to `out`, a
-/// line each, which never change: status 0. `time`, with the numbers of entries after it or with
-/// none, runs them long and writes how many nanoseconds an operation took, and to `err` how many
-/// processors there are: status 0. A word after it that is not a number from 1 to 10,000,000 is
-/// refused by a line on `err`, before anything is run: status 2. `mostly`, with the path of a file
-/// of keys, does so for the workload of reads that mostly hit, on that file's keys, and writes each
-/// hit ratio to `err`. Any other words write the usage line to `err`: status 2. Where a call is
-/// refused, `refused` and the refusal's number go to `err`, and the status is 1. Where a call of
-/// the stress workload gets no value, or that of another key, `stress failed` goes to `err`, and
-/// the status is 1. Where the system fails, as at a write, a line says so on `err`, and the status
-/// is 1.
+/// - `check` runs small workloads and writes the sums of the values that they read to `out`, one on
+///   each line; these are always the same. Status 0.
+/// - `time`, with numbers of entries after it or none, runs long workloads and writes the
+///   nanoseconds of an operation to `out`, and the number of processors to `err`. Status 0. If an
+///   argument is not a number from 1 to 10,000,000, a line goes to `err` before anything is run.
+///   Status 2.
+/// - `mostly`, with the path of a file of keys, does the same for the workload of reads that mostly
+///   hit, on that file's keys, and writes each hit ratio to `err`.
+/// - Any other arguments write the usage line to `err`. Status 2.
+///
+/// If a call is refused, `refused` and the refusal's code are written to `err`; if a call of the
+/// stress workload returns no value, or that of another key, `stress failed`; if the system fails,
+/// as at a write, a line about it. The status is 1 in each case.
 pub fn program<R: Threads + Wait + Clock + RandomSource + Files + Sync, O: Write, E: Write>(
     rt: &R,
     alloc: Global,

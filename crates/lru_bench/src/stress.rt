@@ -12,7 +12,7 @@ use std::thread::Threads;
 // The seed of all calls.
 const SEED: u64 = 1;
 
-/// A reference to a cache of one lock or in shards. The value of a key is the key.
+/// A reference to an unsharded or a sharded cache. The value of a key is the key.
 #[derive(Drop)]
 pub struct Keyed<C> {
     /// The reference.
@@ -37,11 +37,12 @@ fn make(call: &Call) -> Result<u64, Unmade> {
     }
 }
 
-/// Has each of some workers make `calls` calls, one after another with no rest, and answers the sum
-/// of what was read by the calls whose making would not fail. It is the same on every schedule.
+/// Has each of several workers make `calls` calls one after another, without yielding, and returns
+/// the sum of what was read by the calls whose making would not fail. The sum is the same on every
+/// schedule.
 ///
-/// `Refused` where a thread could not be started, or memory was refused to a call; else `Failed`
-/// where a call was not answered as it should be.
+/// Returns `Refused` if a thread could not be started or memory was refused to a call, and else
+/// `Failed` if a call had the wrong answer.
 pub fn stress<R: Threads + Sync, C: Shared + Sync>(
     rt: &R,
     alloc: Global,

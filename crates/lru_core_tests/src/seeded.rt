@@ -9,14 +9,14 @@ use rand_xoshiro::Xoshiro256PlusPlus;
 use std::alloc::Global;
 use std::process::Abort;
 
-// How many kinds of calls are drawn: all of them, or the first ones alone, in which no key is taken
-// back, no value put in or read without a pin, and the capacity stays.
+// How many kinds of calls are drawn: all of them, or only the first ones, in which no key is
+// invalidated, no value inserted or read without a pin, and the capacity stays.
 const KINDS: u64 = 14;
 
 const FIRST_KINDS: u64 = 9;
 
-// The next call of one of so many kinds, whose stamp is among the last that were given out: `next`
-// is the one after them.
+// Draws the next call, of one of `kinds` kinds. Its stamp is among the last that were given out;
+// `next` is the one after them.
 fn draw(generator: &mut Xoshiro256PlusPlus, kinds: u64, next: u64) -> Call
     requires { 0 < kinds }
 {
@@ -48,7 +48,7 @@ fn both_of_ten(alloc: Global) -> Both {
     Both::with_limits(alloc, 10, 0, 3)
 }
 
-// Makes 2,000 calls of so many kinds from each seed.
+// Makes 2,000 calls of `kinds` kinds from each seed.
 fn answer_alike(rt: &impl Abort, alloc: Global, kinds: u64)
     requires { 0 < kinds }
 {

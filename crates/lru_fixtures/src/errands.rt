@@ -80,8 +80,8 @@ impl Errands {
             .fetch_add(before.wrapping_add(1), Ordering::SeqCst);
     }
 
-    // What came of a cause, with the totals that `evict` answered; none where an errand was not
-    // done, as where a value is dropped under the lock.
+    // Returns the outcome of a cause, with the totals that `evict` returned, or `None` if an errand
+    // was not run, as when a value is dropped under the lock.
     fn outcome(&self, totals: (u128, u128)) -> Option<Outcome> {
         if is_raised(&self.missed) {
             return None;
@@ -128,15 +128,15 @@ impl Drop for Sent {
     }
 }
 
-/// A cache whose values have errands. It has no associated type, since the checker covers no
-/// closure of a thread over one that has.
+/// A cache whose values have errands. It has no associated type, since the checker supports no
+/// closure of a thread over a type that has one.
 pub trait Sends {
     /// Waits for the errand of a value, and does it: gets the next value, evicts it by advice, and
     /// prunes.
     fn serve(&self, errands: &Errands, number: u64);
 
-    /// Makes the values 1 to 4 in an empty cache, and evicts by this cause and then by a prune. Returns
-    /// the totals after both. Each value needs a thread that serves its errand.
+    /// Makes the values 1 to 4 in an empty cache, and evicts by this cause and then by a prune.
+    /// Returns the totals after both. Each value needs a thread that serves its errand.
     fn evict(&self, errands: &Arc<Errands>, cause: Cause) -> (u128, u128);
 }
 
@@ -193,8 +193,8 @@ fn makes_four<C: Cached<Sent>>(
     kept
 }
 
-/// What comes of a cause in an empty cache; none where an errand was not done, or where memory for
-/// the errands is refused.
+/// Returns the outcome of a cause in an empty cache, or `None` if an errand was not run or memory
+/// for the errands is refused.
 pub fn outcome_in<R: Threads + Wait + Sync, C: Sends + Sync>(
     rt: &R,
     alloc: Global,
@@ -224,9 +224,9 @@ pub struct Outcome {
     pub found: u64,
 }
 
-/// What evicts, the capacity that it needs, and what comes of it, where a prune and a smaller
-/// capacity have this outcome. Where the first value alone is evicted, its errand evicts the
-/// second, and so on, so the drops end last first.
+/// Returns each cause of evictions with the capacity that it needs and its outcome, given the
+/// outcome of a prune and of a smaller capacity. If only the first value is evicted, its errand
+/// evicts the second, and so on, so the drops end last first.
 pub fn causes(cleared: Outcome) -> [(Cause, u64, Outcome); 6] {
     let one_by_one = Outcome {
         totals: (0, 0),
@@ -238,7 +238,7 @@ pub fn causes(cleared: Outcome) -> [(Cause, u64, Outcome); 6] {
         places: [4, 3, 2, 1, 5],
         found: 3,
     };
-    // Each is evicted as it is let go, the first one last.
+    // Each is evicted when it is released, the first one last.
     let let_go = Outcome {
         totals: (0, 0),
         places: [4, 1, 2, 3, 0],

@@ -20,7 +20,7 @@ pub struct Gate {
 }
 
 impl Gate {
-    // Neither is there yet.
+    // Creates a gate that neither has reached.
     fn new() -> Gate {
         Gate {
             dropping: AtomicU64::new(0),
@@ -88,8 +88,8 @@ pub enum Cause {
     Capacity,
 }
 
-/// What evicts a value, the capacity of one lock or of each shard before, and the total while the
-/// value is dropped.
+/// Each cause of an eviction, with the capacity of the cache or of each shard before it and the
+/// total while the value is dropped.
 pub const CAUSES: [(Cause, u64, u128); 7] = [
     (Cause::Begin, 1, 1),
     (Cause::Failure, 1, 1),
@@ -100,11 +100,11 @@ pub const CAUSES: [(Cause, u64, u128); 7] = [
     (Cause::Capacity, 1, 0),
 ];
 
-/// A cache whose values drop slowly. It has no associated type, since the checker covers no closure
-/// of a thread over one that has.
+/// A cache whose values drop slowly. It has no associated type, since the checker supports no
+/// closure of a thread over a type that has one.
 pub trait Drops {
-    /// Makes a value of key 1 with the charge 1 in a cache that keeps no other beside it, evicts it
-    /// by this cause, and says whether it could be made.
+    /// Makes a value of key 1 with the charge 1 in a cache that has no other entry, evicts it by
+    /// this cause, and returns whether it could be made.
     fn evict(&self, gate: &Arc<Gate>, cause: Cause) -> bool;
 
     /// Returns the total while a value is dropped, or `None` if no value was.
@@ -134,8 +134,8 @@ impl<C: Cached<Slow>> Drops for C {
     }
 }
 
-// Makes the value of key 1. Answers its handle where the drop of that is to evict it, and else lets
-// the handle go; none where the value could not be made.
+// Makes the value of key 1. Returns its handle if dropping the handle is to evict it, and otherwise
+// drops the handle; returns `None` if the value could not be made.
 fn make_for<C: Cached<Slow>>(
     cache: C,
     gate: &Arc<Gate>,
@@ -174,8 +174,8 @@ pub fn evict_with<V: Drop, C: Cached<V>>(
     }
 }
 
-/// The total while an empty cache drops a value that this cause evicts; none where the value could
-/// not be made, or was not dropped, or where the lock was not free then.
+/// Returns the total while an empty cache drops a value that this cause evicts, or `None` if the
+/// value could not be made or was not dropped, or if the lock was not free then.
 pub fn total_in_drop<T: Threads, C: Drops + Sync>(
     rt: &T,
     alloc: Global,

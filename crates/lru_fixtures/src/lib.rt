@@ -1,6 +1,6 @@
-//! What tests and programs of the caches share: values that use the cache in their drops, meetings
-//! of threads, callers of one value, workers, marks, tables of calls, the seeded runs, and the
-//! worked rows.
+//! What the tests and programs of the caches share: values that use the cache in their drops,
+//! meetings of threads, callers of one value, workers, marks, tables of calls, the seeded runs, and
+//! the worked rows.
 #![tactic(auto)]
 
 pub mod errands;

@@ -8,17 +8,17 @@ use std::sync::atomic::AtomicU64;
 use std::thread;
 use std::thread::Threads;
 
-/// Where two callers of a value are: the first makes it, and the second comes.
+/// The progress of two callers of a value: the first makes it, and the second comes.
 #[derive(Drop)]
 pub struct Meeting {
-    /// Raised once the first makes the value.
+    /// Set once the first makes the value.
     pub started: AtomicU64,
-    /// Raised before the second asks for it.
+    /// Set before the second asks for it.
     pub coming: AtomicU64,
 }
 
 impl Meeting {
-    /// Neither is there yet.
+    /// Creates a meeting that neither has reached.
     pub fn new() -> Meeting {
         Meeting {
             started: AtomicU64::new(0),
@@ -27,7 +27,7 @@ impl Meeting {
     }
 }
 
-/// The value of key 1, made as 5 at the charge 3 while the other caller comes.
+/// Returns the value of key 1, made as 5 with the charge 3 while the other caller comes.
 pub fn makes_first<C: Cached<u64>>(cache: C, meeting: &Meeting) -> Option<u64> {
     let mut met = false;
     let made = cache.made(1, 3, |_| {
@@ -42,7 +42,7 @@ pub fn makes_first<C: Cached<u64>>(cache: C, meeting: &Meeting) -> Option<u64> {
     }
 }
 
-/// The value of key 1, asked for while it is made; none where this caller made it anew.
+/// Returns the value of key 1, asked for while it is made, or `None` if this caller made it again.
 pub fn comes_second<C: Cached<u64>>(cache: C, meeting: &Meeting) -> Option<u64> {
     if !meets(&meeting.started) {
         return None;
@@ -59,7 +59,7 @@ pub fn comes_second<C: Cached<u64>>(cache: C, meeting: &Meeting) -> Option<u64> 
     }
 }
 
-/// The value of a key, where it is ready.
+/// Returns the value of a key, if it is ready.
 pub fn value_found<C: Cached<u64>>(cache: C, key: u64) -> Option<u64> {
     match cache.found(key) {
         Ok(Some(handle)) => Some(*C::value_of(&handle)),
@@ -67,8 +67,8 @@ pub fn value_found<C: Cached<u64>>(cache: C, key: u64) -> Option<u64> {
     }
 }
 
-/// A cache as two callers ask it. It has no associated type, since the checker covers no closure of
-/// a thread over one that has.
+/// A cache as two callers ask it. It has no associated type, since the checker supports no closure
+/// of a thread over a type that has one.
 pub trait Asked {
     /// `makes_first`.
     fn make_first(&self, meeting: &Meeting) -> Option<u64>;
@@ -76,7 +76,7 @@ pub trait Asked {
     /// `comes_second`.
     fn come_second(&self, meeting: &Meeting) -> Option<u64>;
 
-    /// The value of key 1, where it is ready.
+    /// Returns the value of key 1, if it is ready.
     fn find(&self) -> Option<u64>;
 
     /// `total_charge`.
@@ -101,7 +101,7 @@ impl<C: Cached<u64>> Asked for C {
     }
 }
 
-/// What two callers of key 1 get, the second of which comes while the first makes it.
+/// Returns what two callers of key 1 get, the second of which comes while the first makes it.
 pub fn values_of_two<T: Threads, C: Asked + Sync>(rt: &T, cache: &C) -> (Option<u64>, Option<u64>) {
     let meeting = Meeting::new();
     let met = &meeting;
@@ -112,13 +112,13 @@ pub fn values_of_two<T: Threads, C: Asked + Sync>(rt: &T, cache: &C) -> (Option<
     )
 }
 
-/// The value of key 1 where it is ready, and the total, asked by two threads.
+/// Returns the value of key 1, if it is ready, and the total, each read by a thread of its own.
 pub fn value_beside_total<T: Threads, C: Asked + Sync>(rt: &T, cache: &C) -> (Option<u64>, u128) {
     thread::join(rt, move || cache.find(), move || cache.charged())
 }
 
-/// Makes key 1, whose `init` makes key 2, whose `init` makes key 3. A value has a digit more than
-/// the one that it was made of. 0 where a key could not be made.
+/// Makes key 1, whose `init` makes key 2, whose `init` makes key 3. Each value has one digit more
+/// than the value that it was made of. Returns 0 if a key could not be made.
 pub fn makes_three_deep<C: Cached<u64>>(cache: C) -> u64 {
     match cache.made(1, 1, |_| one_digit_more(makes_two_deep(cache))) {
         Ok(handle) => *C::value_of(&handle),
@@ -144,7 +144,7 @@ fn one_digit_more(digits: u64) -> u64 {
     digits.saturating_mul(10).saturating_add(1)
 }
 
-/// The values of the keys 1 to 3, each where it is ready.
+/// Returns the values of the keys 1 to 3, each if it is ready.
 pub fn values_of_three<C: Cached<u64>>(cache: C) -> [Option<u64>; 3] {
     [
         value_found(cache, 1),
@@ -153,8 +153,9 @@ pub fn values_of_three<C: Cached<u64>>(cache: C) -> [Option<u64>; 3] {
     ]
 }
 
-/// What a handle of key 1 reads after its value was taken back, what is found then and whether the
-/// key has a value, and what is made anew. None where a value could not be made.
+/// Returns what a handle of key 1 reads after its value was invalidated, what is found then,
+/// whether the key has a value, and what is made again. Returns `None` if a value could not be
+/// made.
 pub fn reads_around<C: Cached<u64>>(cache: C) -> Option<(u64, Option<u64>, bool, u64)> {
     let old = cache.made(1, 1, |_| 5).ok()?;
     cache.take_back(1);

@@ -1,5 +1,5 @@
-//! Marks of caches: which value fits which key. And the caches that threads share, with a mark,
-//! asked alike.
+//! Marks of caches: which value fits which key. And one test of the caches with a mark that threads
+//! share.
 ghost use Rattle.std.specs.Prelude.{◌≡◌, ◌*◌, ◌<◌, IfSome};
 ghost use Rattle.std.proofs.Common.{rules};
 
@@ -20,8 +20,8 @@ impl Fit<u64, u64> for Twice {
 
 /// A cache with this mark, which threads share.
 pub trait Doubles {
-    /// The value of a key, by `get_or_init`, whose `init` doubles the key. None where the call is
-    /// refused.
+    /// Returns the value of a key, by `get_or_init`, whose `init` doubles the key, or `None` if the
+    /// call is refused.
     fn double(&self, key: u64) -> Option<u64>
         requires { key < 100 }
         ensures { IfSome result (λ value. value ≡ 2 * key) };
@@ -51,7 +51,8 @@ impl<R: Wait, S: BuildHasher> Doubles for sharded::LruCache<u64, u64, R, S, Twic
     }
 }
 
-/// Reads each key below 50, 20 times, and says whether it could and each value was twice its key.
+/// Reads each key below 50, 20 times, and returns whether each value could be read and was twice
+/// its key.
 pub fn reads_doubles<C: Doubles>(cache: &C) -> bool {
     for _ in 0..20u32 {
         for key in 0..50u64 {

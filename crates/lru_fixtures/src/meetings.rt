@@ -10,8 +10,8 @@ use std::sync::atomic::AtomicU64;
 use std::thread::Threads;
 use std::{fmt, thread};
 
-/// A cache as makers ask it. It has no associated type, since the checker covers no closure of a
-/// thread over one that has.
+/// A cache as makers ask it. It has no associated type, since the checker supports no closure of a
+/// thread over a type that has one.
 pub trait Makes {
     /// Makes a key, and returns whether its `init` met the other maker's.
     fn meet_in_making(&self, key: u64, mine: &AtomicU64, other: &AtomicU64) -> bool;
@@ -29,7 +29,7 @@ impl<C: Cached<u64>> Makes for C {
     }
 }
 
-/// Whether each of two makers of these keys met the other.
+/// Returns whether each of two makers of these keys met the other.
 pub fn makers_meet<T: Threads, C: Makes + Sync>(
     rt: &T,
     cache: &C,
@@ -53,7 +53,7 @@ struct Print {
 }
 
 impl Print {
-    // Neither is there yet.
+    // Creates a meeting that neither has reached.
     fn new() -> Print {
         Print {
             started: AtomicU64::new(0),
@@ -116,9 +116,9 @@ fn number_meanwhile<C: Cached<Shown>>(handle: &C::Handle, print: &Print) -> Opti
     Some(number)
 }
 
-/// The text of an empty cache once key 1 has a value, whose number is 7, and that number as another
-/// thread reads it of a handle while the cache is printed. None where the two did not meet, or
-/// where memory is refused.
+/// Returns the text of an empty cache once key 1 has a value, whose number is 7, and that number as
+/// another thread reads it through a handle while the cache is printed. Returns `None` if the two
+/// did not meet or memory is refused.
 pub fn text_while_read<
     T: Threads,
     H: Drop + Sync,

@@ -1,5 +1,5 @@
 //! Caches that have several owners, asked for handles that own a reference to them: one trait for
-//! both, and what their handles do.
+//! both caches, and what their handles do.
 ghost use Rattle.std.specs.Prelude.{◌<◌};
 
 use concurrent_lru::counts::Counts;
@@ -11,7 +11,7 @@ use std::sync::{Arc, Wait};
 
 /// An owner of a cache whose keys and values are numbers.
 pub trait Owners {
-    /// What pins a value, and owns a reference to the cache.
+    /// Pins a value, and owns a reference to the cache.
     type Handle: Drop;
 
     /// Returns a handle's value.
@@ -20,11 +20,11 @@ pub trait Owners {
     /// `get_owned`.
     fn get_owned(&self, key: u64) -> Result<Option<Self::Handle>, Refusal>;
 
-    /// `get_or_init_owned`, whose `init` gives this value.
+    /// `get_or_init_owned`, whose `init` returns this value.
     fn get_or_init_owned(&self, key: u64, charge: u64, value: u64) -> Result<Self::Handle, Refusal>
         requires { 0 < charge };
 
-    /// `get_or_try_init_owned`, whose `init` gives this value or fails with this error.
+    /// `get_or_try_init_owned`, whose `init` returns this value or this error.
     fn get_or_try_init_owned(
         &self,
         key: u64,
@@ -33,7 +33,7 @@ pub trait Owners {
     ) -> Result<Self::Handle, GetError<u64>>
         requires { 0 < charge };
 
-    /// How many owners the cache has.
+    /// Returns the number of owners of the cache.
     fn owners(&self) -> usize;
 
     /// `total_charge` and `pinned_charge`.
@@ -128,20 +128,20 @@ impl<R: Wait + Drop, S: BuildHasher + Drop> Owners for Arc<sharded::LruCache<u64
     }
 }
 
-/// What is seen of an entry with two handles, and of the cache that they own.
+/// What is observed of an entry with two handles, and of the cache that they own.
 #[derive(Clone, Copy, Debug, PartialEq, Eq)]
 pub struct TwoHandles {
     /// The values that the two read.
     pub values: (u64, u64),
-    /// How many owners the cache has while both are there.
+    /// The number of owners of the cache while both exist.
     pub owners: usize,
     /// The total and the pinned charge once the first is dropped.
     pub one_dropped: (u128, u128),
-    /// The total and the number of owners once both are.
+    /// The total and the number of owners once both are dropped.
     pub both_dropped: (u128, usize),
 }
 
-/// What `drops_two_handles` sees of a cache that keeps nothing idle and has one owner besides.
+/// What `drops_two_handles` observes in a cache that keeps nothing idle and has one other owner.
 pub const DROPPED_IN_TURN: TwoHandles = TwoHandles {
     values: (5, 5),
     owners: 3,
@@ -149,8 +149,8 @@ pub const DROPPED_IN_TURN: TwoHandles = TwoHandles {
     both_dropped: (0, 1),
 };
 
-/// Makes key 1 as 5, at the charge 3, in an empty cache, and finds it; then drops the two handles,
-/// one after the other. None where a call answers otherwise.
+/// Makes key 1 as 5, with the charge 3, in an empty cache, and gets it; then drops the two handles,
+/// one after the other. Returns `None` if a call answers otherwise.
 pub fn drops_two_handles<C: Owners>(cache: &C) -> Option<TwoHandles> {
     let Ok(None) = cache.get_owned(1) else {
         return None;
@@ -174,8 +174,8 @@ pub fn drops_two_handles<C: Owners>(cache: &C) -> Option<TwoHandles> {
     })
 }
 
-/// Fails to make key 1 with the error 9, and then makes it as 4. Answers the error and the total
-/// after it, and the value that was made.
+/// Fails to make key 1 with the error 9, and then makes it as 4. Returns the error, the total after
+/// it, and the value that was made.
 pub fn fails_once<C: Owners>(cache: &C) -> (Option<u64>, u128, Option<u64>) {
     let error = match cache.get_or_try_init_owned(1, 3, Err(9)) {
         Err(GetError::Init(error)) => Some(error),
@@ -190,8 +190,8 @@ pub fn fails_once<C: Owners>(cache: &C) -> (Option<u64>, u128, Option<u64>) {
 }
 
 /// Makes each call once on a key that is there and once on one that is not, in an empty cache that
-/// keeps nothing idle. Answers the counts with the handle of the made entry held, and those once it
-/// is dropped. None where a call answers otherwise.
+/// keeps nothing idle. Returns the counts while the handle of the made entry is held, and those
+/// once it is dropped, or `None` if a call answers otherwise.
 pub fn counts_of_calls<C: Owners>(cache: &C) -> Option<(Counts, Counts)> {
     let Ok(None) = cache.get_owned(1) else {
         return None;

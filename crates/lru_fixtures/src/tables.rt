@@ -10,7 +10,7 @@ use std::fmt::Debug;
 use std::sync::Arc;
 use std::test::Fail;
 
-/// A call of a cache of one owner whose values are numbers.
+/// A call of a cache with one owner, whose values are numbers.
 #[derive(Clone, Copy, Debug)]
 pub enum Call<K = u64> {
     /// `begin` with a key and a charge, which is above 0.
@@ -50,7 +50,7 @@ pub enum Call<K = u64> {
 }
 
 impl<K: Copy> Call<K> {
-    /// The key that the call names, where it names one.
+    /// Returns the key that the call names, if it names one.
     pub fn key(self) -> Option<K> {
         match self {
             Call::Begin(key, _)

@@ -1,5 +1,5 @@
-//! What each of some workers does at one cache: it reads keys of which the cache keeps too few,
-//! resets the counts, or is counted.
+//! What each of several workers does with one cache: it reads keys of which the cache keeps too
+//! few, resets the counts, or is counted.
 ghost use Rattle.std.specs.Prelude.{◌<◌};
 
 use concurrent_lru::counts::Counts;
@@ -8,16 +8,17 @@ use std::alloc::{AllocError, Global};
 use std::thread;
 use std::thread::Threads;
 
-// More keys than the cache keeps, so that some are evicted and made anew all the time.
+// More keys than the cache keeps, so that some are evicted and made again all the time.
 const KEYS: u64 = 20;
 
 const ROUNDS: u32 = 100;
 
-/// The capacity, of one lock or of two shards, at which workers meet evictions all the time.
+/// The capacity, of an unsharded cache or of two shards, at which workers cause evictions all the
+/// time.
 pub const CAPACITY: u64 = 8;
 
-/// Asks each of the 20 keys 100 times, and says whether each value, read where it is ready and
-/// asked for otherwise, is ten times the key.
+/// Asks for each of the 20 keys 100 times, and returns whether each value, read if it is ready and
+/// made otherwise, is ten times the key.
 pub fn stays_right<C: Cached<u64>>(cache: C) -> bool {
     for _ in 0..ROUNDS {
         for key in 0..KEYS {
@@ -46,16 +47,17 @@ const RESETS: u32 = 2_000;
 
 const ASKS: u64 = 20_000;
 
-/// A cache as workers ask it that count calls. It has no associated type, since the checker covers
-/// no closure of a thread over one that has.
+/// A cache as workers ask it that count calls. It has no associated type, since the checker
+/// supports no closure of a thread over a type that has one.
 pub trait Counting {
-    /// Resets the counts 2,000 times, and answers of how many calls the resets told.
+    /// Resets the counts 2,000 times, and returns how many calls the resets reported.
     fn reset_often(&self) -> u64;
 
-    /// Asks for 20,000 values, none of which is there. Answers 0, since no reset tells it of calls.
+    /// Asks for 20,000 values, none of which is there. Returns 0, since no reset reports calls to
+    /// it.
     fn ask_often(&self) -> u64;
 
-    /// The calls that hit, missed or waited since the last reset.
+    /// Returns the number of calls that hit, missed or waited since the last reset.
     fn asked(&self) -> u64;
 }
 
@@ -81,7 +83,7 @@ impl<C: Cached<u64>> Counting for C {
     }
 }
 
-// The calls that hit, missed or waited.
+// Returns the number of calls that hit, missed or waited.
 fn asked_in(counts: &Counts) -> u64 {
     counts
         .hits
@@ -89,8 +91,8 @@ fn asked_in(counts: &Counts) -> u64 {
         .wrapping_add(counts.waits)
 }
 
-/// Of how many calls one worker's resets and the counts after them tell, where three others ask an
-/// empty cache 20,000 times each meanwhile.
+/// Returns how many calls one worker's resets and the counts after them report, while three others
+/// ask an empty cache 20,000 times each.
 pub fn asked_between_resets<T: Threads + Sync, C: Counting + Sync>(
     rt: &T,
     alloc: Global,

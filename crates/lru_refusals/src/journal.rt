@@ -10,7 +10,7 @@ use std::alloc::Global;
 use std::io::Write;
 use std::sync::Arc;
 
-/// Makes calls of a journal that is empty at first, and tells its records.
+/// Makes calls of a journal that is empty at first, and prints its records.
 pub fn play<O: Write, E: Write>(
     alloc: Global,
     capacity: u64,
@@ -70,7 +70,7 @@ fn ask_with_key<O: Write, E: Write>(
     }
 }
 
-// Makes a call that hands over plain numbers.
+// Makes a call that passes only numbers.
 fn ask_plainly<O: Write, E: Write>(
     journal: &mut Journal<String, u64>,
     call: Call<&'static str>,

@@ -15,19 +15,19 @@ use std::thread::Threads;
 /// A script. Its cache is initially empty.
 #[derive(Clone, Copy)]
 pub enum Script {
-    /// Calls of a cache without a lock, of a capacity.
+    /// Calls of a cache without a lock, with a capacity.
     State(u64, &'static [Call<&'static str>]),
-    /// Calls of a cache without a lock, of these limits.
+    /// Calls of a cache without a lock, with these limits.
     Limited(Limits, &'static [Call<&'static str>]),
     /// A list of steps of a cache without a lock.
     List,
     /// A list of steps of shards.
     ShardList,
-    /// Calls of so many shards of a capacity.
+    /// Calls of shards, with a capacity and a number of shards.
     Shards(u64, usize, &'static [ShardCall]),
-    /// Calls of a journal of a capacity.
+    /// Calls of a journal, with a capacity.
     Journal(u64, &'static [Call<&'static str>]),
-    /// Calls of a twin of a capacity: those of one caller, and then those of another.
+    /// Calls of a twin, with a capacity: those of one caller, and then those of another.
     Twin(u64, &'static [Call<&'static str>], &'static [Call<&'static str>]),
     /// Calls of a cache of one lock, with a capacity.
     Unsharded(u64, &'static [SharedCall]),

@@ -355,9 +355,8 @@ const SHARDS_TAKEN_BACK: &[ShardCall] = &[
     (1, Total),
 ];
 
-// The tables of a journal and of a twin have each call once where its record needs new room: there
-// is none at first, then it lasts for four records, and then for eight. A read asks for the room of
-// two.
+// The tables of a journal and of a twin have each call once when its record needs new room: there
+// is none at first, then it lasts for four records, and then for eight. A read needs room for two.
 const EVICTS: &[Call] = &[
     Begin("1", 1),
     Ready(0, 1),
@@ -455,9 +454,9 @@ const FINDS_NOTHING: &[Call] = &[
     Prune,
 ];
 
-// What is refused for another cause than memory asks for the room of its record first, and is
-// refused for that where there is none: each such call comes where the records before it fill
-// their room, of 4, 8, 16 and 32.
+// A call that is refused for another reason than memory first reserves room for its record, and is
+// refused for that if there is none: each such call comes when the records before it fill their
+// room, of 4, 8, 16 and 32.
 const REFUSES: &[Call] = &[
     Poll(0),
     Begin("1", u64::MAX),

@@ -1,4 +1,4 @@
-//! Calls of shards without a lock, whose keys are numbers: the shard of a key can be told from it.
+//! Calls of shards without a lock, whose keys are numbers: the shard of a key follows from it.
 ghost use Rattle.std.specs.Prelude.{◌<◌};
 
 use crate::asked::{Asked, NO_SUCH_CALL};
@@ -11,12 +11,12 @@ use std::alloc::Global;
 use std::io::Write;
 use std::sync::Arc;
 
-/// A call, and the shard that it names, where it has no key.
+/// A call, and the shard that it names if it has no key.
 pub type ShardCall = (usize, Call<u64>);
 
 type NewShards = Result<Shards<u64, u64, ByOwnNumber>, Refusal>;
 
-/// Makes calls of new shards. No shards count as 1.
+/// Makes calls of new shards. A number of 0 shards counts as 1.
 pub fn play<O: Write, E: Write>(
     alloc: Global,
     capacity: u64,

@@ -1,4 +1,4 @@
-//! Calls of a cache without a lock, whose keys are texts: copies of them ask for memory.
+//! Calls of a cache without a lock, whose keys are texts: copying them allocates memory.
 ghost use Rattle.std.specs.Prelude.{◌<◌};
 
 use crate::asked::{Asked, NO_SUCH_CALL};
@@ -9,8 +9,8 @@ use std::alloc::Global;
 use std::io::Write;
 use std::sync::Arc;
 
-/// The limits of a new cache: its capacity, its first stamp, the most pins of an entry (none count
-/// as 1), and for how many entries it makes room first.
+/// The limits of a new cache: its capacity, its first stamp, the maximum number of pins of an entry
+/// (0 counts as 1), and the number of entries that it reserves room for first.
 #[derive(Clone, Copy)]
 pub struct Limits {
     pub capacity: u64,
@@ -20,7 +20,7 @@ pub struct Limits {
 }
 
 impl Limits {
-    /// This capacity, no other limit and no room.
+    /// Returns limits with this capacity only, and with no room reserved.
     pub fn of(capacity: u64) -> Limits {
         Limits {
             capacity,
@@ -40,7 +40,7 @@ impl Limits {
     }
 }
 
-/// Makes room in a new cache, and makes calls of it.
+/// Reserves room in a new cache, and makes calls of it.
 pub fn play<O: Write, E: Write>(
     alloc: Global,
     limits: Limits,
@@ -117,7 +117,7 @@ fn insert<O: Write, E: Write>(
     }
 }
 
-// Makes a call that hands over plain numbers.
+// Makes a call that passes only numbers.
 fn ask_plainly<O: Write, E: Write>(
     state: &mut State<String, u64>,
     call: Call<&'static str>,

@@ -1,4 +1,4 @@
-//! Calls of a cache that threads share, as one thread makes them, and what they tell of a value.
+//! Calls of a cache that threads share, as one thread makes them, and what they print of a value.
 //! Each handle is dropped at once, whatever the call says of it, and a charge of 0 counts as 1.
 ghost use Rattle.std.specs.Prelude.{◌<◌};
 

@@ -12,7 +12,7 @@ use std::marker::Brand;
 use std::sync::{Arc, Wait};
 
 /// Makes calls of a twin that is empty at first, some by one caller and then some by another, and
-/// tells its records. Each caller has a part of the tally.
+/// prints its records. Each caller has a part of the tally.
 pub fn play<R: Wait, O: Write, E: Write>(
     rt: &R,
     alloc: Global,
@@ -73,7 +73,7 @@ fn tell_records<O: Write, E: Write>(records: &[Record<String>], told: &mut Told<
     }
 }
 
-// As `asked::play`, with a caller's tally.
+// Does what `asked::play` does, with a caller's tally.
 fn play_calls<R: Wait + Drop, I: Identity, O: Write, E: Write>(
     alloc: Global,
     cache: &LruCache<String, u64, R, I>,
@@ -165,7 +165,7 @@ fn give_back<R: Wait + Drop, I: Identity, O: Write, E: Write>(
     }
 }
 
-// Makes a call that hands over plain numbers.
+// Makes a call that passes only numbers.
 fn ask_plainly<R: Wait + Drop, I: Identity, O: Write, E: Write>(
     cache: &LruCache<String, u64, R, I>,
     tally: &mut Tally<String, I>,

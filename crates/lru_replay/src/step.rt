@@ -58,7 +58,7 @@ pub enum Step {
     Invalidate(u64),
     /// Evicts every idle entry.
     Prune,
-    /// The sum of the charges of all entries.
+    /// Returns the sum of the charges of all entries.
     Total,
 }
 

@@ -1,5 +1,6 @@
 //! What runs without the lock of a shard: makers, and drops.
-//! In each gate two threads have to meet; where one held the lock, a limit of looks would end it.
+//!
+//! In each test two threads have to meet; if one held the lock, a limit would end the wait.
 
 use concurrent_lru::sharded::LruCache;
 use lru_fixtures::gates::{CAUSES, Cause, Slow, total_in_drop};
@@ -28,7 +29,7 @@ fn makers_run_without_the_lock_of_their_shard(rt: HostRuntime) {
     }
 }
 
-// The total while a new cache of two shards, which have this capacity each, drops a value.
+// Returns the total while a new cache of two shards, with this capacity each, drops a value.
 fn total_of<R: Wait + Threads + Sync + Send>(
     rt: &R,
     alloc: Global,

@@ -13,7 +13,7 @@ fn one_value_for_two_callers(rt: HostRuntime) {
     assert_eq!(rt; values_of_two(&rt, &&cache), (Some(5), Some(5)));
     // The charge is the maker's.
     assert_eq!(rt; value_beside_total(&rt, &&cache), (Some(5), 3));
-    // The second waited, or came later and hit; the third found the value.
+    // The second waited, or came later and hit; the third hit.
     let counts = cache.counts();
     assert_eq!(rt;
         (counts.misses, counts.makings, counts.insertions),

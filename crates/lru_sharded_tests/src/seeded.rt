@@ -8,7 +8,7 @@ use std::alloc::Global;
 use std::sync::Wait;
 use std::test::Fail;
 
-// Makes the calls of a seed, of a cache of three shards.
+// Makes a seed's calls on a cache with three shards.
 fn agrees<R: Wait + Clone + Drop>(rt: &R, alloc: Global, seed: u64) -> Result<(), Fail> {
     let capacity = capacity_of(seed);
     let log = DropLog::new(alloc, rt)?;

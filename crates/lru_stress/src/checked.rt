@@ -1,4 +1,4 @@
-//! A cache of one lock or in shards whose values count themselves, and what is checked of it.
+//! Unsharded and sharded caches whose values count themselves, and what is checked of them.
 ghost use Rattle.std.specs.Prelude.{◌<◌};
 
 use crate::counted::{Book, Counted};
@@ -57,11 +57,11 @@ impl<C: Cached<Counted>> Shared for Checked<C> {
     }
 }
 
-/// All workers' calls of an empty cache, whose total may be so much in the end, and what was
-/// counted.
+/// Has all workers make their calls on an empty cache, whose total may be at most `most` in the
+/// end, and returns what was counted.
 ///
-/// `Refused` where memory was refused to a call, or a worker had no thread of its own; else the
-/// first check that failed.
+/// Returns `Refused` if memory was refused to a call or a worker could not have its own thread, and
+/// else the first check that failed.
 pub fn share<R: Threads + Sync, C: Cached<Counted> + Sync>(
     rt: &R,
     alloc: Global,

@@ -1,6 +1,6 @@
-//! The stress workload: workers that share a cache or a twin, and all that is checked and counted
-//! of what they did. Programs and tests run it with numbers of their own, and a benchmark has the
-//! workers share caches of its own.
+//! The stress workload: workers that share a cache or a twin, and everything that is checked and
+//! counted of what they did. Programs and tests run it with their own numbers, and a benchmark has
+//! the workers share its own caches.
 #![tactic(auto)]
 
 mod checked;

@@ -3,8 +3,8 @@
 //! Runs with the same parameters make the same calls, in an order that the scheduler chooses.
 ghost use Rattle.std.specs.Prelude.{◌<◌};
 
-/// How many keys the workers of a cache share, and how many each worker of the twin has of its own.
-/// It is a constant, so that no division is made where a call is drawn.
+/// The number of keys that the workers of a cache share, and that each worker of the twin has of
+/// its own. It is a constant, so that drawing a call takes no division.
 pub const KEYS: u64 = 100;
 
 /// The size of a stress run, and its caches.
@@ -32,8 +32,8 @@ pub struct Plan {
 }
 
 impl Plan {
-    /// 8 workers with 10,000 calls each, which yield after each 1,000, at the capacity 100 on one
-    /// lock and 128 in 16 shards. No `init` yields, and no total is read.
+    /// Returns a plan of 8 workers with 10,000 calls each, which yield after each 1,000, with the
+    /// capacity 100 under one lock and 128 in 16 shards. No `init` yields, and no total is read.
     pub fn new(seed: u64) -> Plan {
         Plan {
             seed,

@@ -109,7 +109,7 @@ fn work_from<I: Identity + Send + Sync, R: Threads + Wait + Drop + Send + Sync>(
     Ok((all, accepted.and(more)))
 }
 
-// A worker's calls.
+// Makes a worker's calls.
 fn work<I: Identity, R: Wait + Drop>(
     cache: &LruCache<u64, u64, R, I>,
     shift: &Shift<'_>,

@@ -24,7 +24,7 @@ pub struct Answer {
 }
 
 impl Answer {
-    /// An answer of which nothing is known but the key that the value was made for.
+    /// Returns an answer of which only the key that the value was made for is known.
     pub fn of_key(key: u64) -> Answer {
         Answer {
             key,
@@ -35,7 +35,7 @@ impl Answer {
     }
 }
 
-/// Why a call gave no value.
+/// Why a call returned no value.
 #[derive(Clone, Copy)]
 pub enum Unmade {
     /// The making was meant to fail.
@@ -54,8 +54,8 @@ impl From<GetError<Unmade>> for Unmade {
     }
 }
 
-/// A cache as its workers ask it. It has no associated type, since the checker covers no closure of
-/// a thread over one that has.
+/// A cache as its workers ask it. It has no associated type, since the checker supports no closure
+/// of a thread over a type that has one.
 pub trait Shared {
     /// Asks for a value, and drops its handle at once.
     fn fetch(&self, call: &Call) -> Result<Answer, Unmade>;
@@ -64,8 +64,9 @@ pub trait Shared {
 /// What workers note of their calls' answers.
 #[derive(Clone, Copy)]
 pub struct Notes {
-    /// The sum of the values' keys, of the calls whose making would not fail. Where one would,
-    /// whether a value is read depends on the others; so this sum is the same on every schedule.
+    /// The sum of the values' keys, over the calls whose making would not fail. If it would,
+    /// whether a value is read depends on the other workers, so only this sum is the same on every
+    /// schedule.
     pub key_sum: u64,
     /// How many calls returned a value that another call made.
     pub hits: u64,
@@ -127,10 +128,11 @@ impl Notes {
     }
 }
 
-/// Has all workers make their calls of a cache at once, and answers what they noted together.
+/// Has all workers make their calls on a cache at once, and returns what they noted together.
 ///
-/// `Refused` where memory was refused to a call, or a worker had no thread of its own; else
-/// `Failed(Answers)` where a call whose making would not fail got no value, or that of another key.
+/// Returns `Refused` if memory was refused to a call or a worker could not have its own thread, and
+/// else `Failed(Answers)` if a call whose making would not fail returned no value, or that of
+/// another key.
 pub fn share<R: Threads + Sync, C: Shared + Sync>(
     rt: &R,
     alloc: Global,
@@ -152,7 +154,7 @@ pub fn share<R: Threads + Sync, C: Shared + Sync>(
     }
 }
 
-// A worker's calls.
+// Makes a worker's calls.
 fn work<C: Shared>(cache: &C, plan: &Plan, worker: usize, start: &Start) -> Notes {
     let mut notes = Notes::none();
     if !start.meets_all() {

@@ -40,8 +40,8 @@ fn takes_over<R: Wait>(cache: &LruCache<u64, u64, R>, meeting: &Meeting) -> Opti
     }
 }
 
-/// Whether the first caller failed at the charge 3, and the second, which asked meanwhile with the
-/// charge 7, made the value.
+/// Returns whether the first caller failed with the charge 3, and the second, which asked meanwhile
+/// with the charge 7, made the value.
 pub(crate) fn one_fails_and_one_makes<R: Wait + Threads + Send + Sync>(
     rt: &R,
     cache: &LruCache<u64, u64, R>,
@@ -55,11 +55,11 @@ pub(crate) fn one_fails_and_one_makes<R: Wait + Threads + Send + Sync>(
     failed && made == Some(5)
 }
 
-/// How often two callers meet again, at most, where the second came too late to wait.
+/// How often, at most, two callers meet again because the second came too late to wait.
 pub(crate) const MEETINGS: u32 = 50;
 
-// The total after the first caller failed and the second made the value; none where one of them did
-// otherwise.
+// Returns the total after the first caller failed and the second made the value, or `None` if
+// either did otherwise.
 fn total_after_failure<R: Wait + Threads + Clone + Drop + Send + Sync>(
     rt: &R,
     alloc: Global,

@@ -13,7 +13,7 @@ fn a_handle_is_read_as_its_value(rt: HostRuntime) {
     assert_eq!(rt; *handle, 5);
 }
 
-// A cache that keeps nothing idle.
+// Creates a cache that keeps nothing idle.
 fn keeps_nothing<R: Wait + Drop>(alloc: Global, rt: R) -> Option<Arc<LruCache<u64, u64, R>>> {
     Arc::new(alloc, LruCache::new(alloc, rt, 0)).ok()
 }

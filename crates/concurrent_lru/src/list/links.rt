@@ -140,9 +140,9 @@ impl<K: Drop, V: Drop> Order<K, V> {
         self.push(node, key);
     }
 
-    // Removes the node under a key from the idle order, with one pin, and copies its value. The node
-    // is looked up once, before the copy, since a processor starts no later read until an atomic
-    // instruction has completed.
+    // Removes the node under a key from the idle order, with one pin, and copies its value. The
+    // node is looked up once, before the copy, since a processor starts no later read until an
+    // atomic instruction has completed.
     pub(super) fn revive(&mut self, key: usize) -> Result<Arc<V>, Refusal>
         requires linked { IsWellLinked self.old }
         requires idle { Lists self.old key }

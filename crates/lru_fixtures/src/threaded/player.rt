@@ -142,8 +142,8 @@ fn said(ran: Option<u64>, number: u64) -> Said {
     }
 }
 
-/// Makes the calls of a table of an empty cache, whose values note their drops in the log, and
-/// fails at the first whose answer is not the one that is wanted.
+/// Makes the calls of a table on an empty cache, whose values log their drops, and fails at the
+/// first call that does not have the expected answer.
 pub fn play<R: Wait + Clone + Drop, C: Cached<Logged<R>> + fmt::Debug>(
     alloc: Global,
     cache: C,

@@ -19,7 +19,7 @@ const CALLS: u64 = 2_000;
 
 const CAPACITIES: [u64; 4] = [0, 1, 10, 37];
 
-/// The capacity of the cache of a seed's run.
+/// Returns the capacity of the cache of a seed's run.
 pub fn capacity_of(seed: u64) -> u64 {
     CAPACITIES[(seed % 4) as usize]
 }
@@ -54,10 +54,10 @@ fn draw(generator: &mut Xoshiro256PlusPlus, number: u64) -> Call {
     }
 }
 
-/// Makes the calls that a seed decides, of an empty cache that threads share, whose values note
-/// their drops in the log, and of an empty one of one owner. Fails at the first call where their
-/// answers differ, or the entries that the text of the cache shows in each shard: the failure tells
-/// the seed, the call, what was answered and what was wanted.
+/// Makes the calls that a seed determines on an empty cache that threads share, whose values log
+/// their drops, and on an empty one with one owner. Fails at the first call where their answers
+/// differ, or the entries that the cache's text shows in each shard; the failure tells the seed,
+/// the call, the answer and the expected answer.
 pub fn agree<R: Wait + Clone + Drop, C: Cached<Logged<R>> + fmt::Debug, P: Owned + Drop>(
     alloc: Global,
     seed: u64,

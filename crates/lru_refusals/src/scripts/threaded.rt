@@ -83,7 +83,7 @@ pub const PUT_VALUES: &[Call] = &[
     Total,
 ];
 
-/// Room that is made ahead, and then a smaller capacity.
+/// Room reserved ahead, and then a smaller capacity.
 pub const ROOM: &[Call] = &[
     Reserve(9),
     Init(1, 1, 1, AtOnce),
