@@ -4,7 +4,7 @@ use Rattle.std.specs.Prelude.{◌≡◌, ℕ, ◌+◌, ◌*◌, ◌<◌, ◌≤�
 use Rattle.std.specs.Option.{option_map_or}
 use Rattle.std.specs.Coded.{Coded, code_by, coded×}
 use Rattle.concurrent_lru.specs.Cache.{Cache, Idle, charges, held_at, sum_of, count_of, cache_code, IsLawful}
-use Rattle.concurrent_lru.specs.Counts.{counts_code, end_of_u64, inserted, one_failure, one_hit, one_making, one_miss, one_refusal, one_wait, removed}
+use Rattle.concurrent_lru.specs.Counts.{counts_code, end_of_u64, inserted, one_failure, one_hit, one_making, one_miss, one_refusal, one_wait, removed, entries_in, charge_in}
 use Rattle.concurrent_lru.specs.Request as ask
 use Rattle.concurrent_lru.specs.Request.{Request}
 use Rattle.concurrent_lru.specs.Reply as say
@@ -85,12 +85,12 @@ module _ {K V : Type 0} where
   -- those inserted, less those evicted and those removed, and so are the charges. None of these
   -- numbers is at its end.
   pub record AddUp (c : Cache K V) (n : Counts) : Type 0 where
-    pub entries : count_of c + n.evictions + n.removals ≡ n.entries_before + n.insertions
-    pub charge : sum_of c + n.evicted_charge + n.removed_charge ≡ n.charge_before + n.inserted_charge
+    pub entries : count_of c + n.evictions + n.removals ≡ entries_in n
+    pub charge : sum_of c + n.evicted_charge + n.removed_charge ≡ charge_in n
     -- each entry took a stamp, and a charge that fits a u64
     pub stamps : c.next < 2 ^ 64
-    pub entries_fit : n.entries_before + n.insertions ≤ c.next
-    pub charge_fits : n.charge_before + n.inserted_charge ≤ c.next * end_of_u64
+    pub entries_fit : entries_in n ≤ c.next
+    pub charge_fits : charge_in n ≤ c.next * end_of_u64
 
   -- what holds of a cache of one owner with its counts
   pub record IsSoundlyCounted (E : K → K → Bool) (c : Cache K V) (n : Counts) : Type 0 where

@@ -60,6 +60,13 @@ counts_from entries charge = record {
   charge_before = charge;
 }
 
+-- the entries that were there before the counts began and those inserted since; their charge
+abbrev pub entries_in : Counts → ℕ
+entries_in n = n.entries_before + n.insertions
+
+abbrev pub charge_in : Counts → ℕ
+charge_in n = n.charge_before + n.inserted_charge
+
 -- the sum of two caches' counts, up to the ends of their types
 abbrev pub added : Counts → Counts → Counts
 added n m = record {

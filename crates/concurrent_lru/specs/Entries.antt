@@ -161,8 +161,3 @@ module _ {K V : Type 0} where
     pub held : mid.held ≡ old.held
     pub work : mid.work ≡ old.work + 1
     pub added : AddsNew E mid s k m new
-
-  -- the cache is lawful, and an entry may have a pin
-  pub record IsSound (E : K → K → Bool) (cache : Cache K V) : Type 0 where
-    pub lawful : IsLawful E cache
-    pub pins_above : 0 < cache.most_pins

@@ -5,8 +5,7 @@ use Rattle.std.specs.Ordering.{nat_cmp}
 use Rattle.std.specs.FinMap as finmap
 use Rattle.std.specs.HashMap as hash
 use Rattle.std.specs.HashMap.{HashMap}
-use Rattle.concurrent_lru.specs.Cache.{charges}
-use Rattle.concurrent_lru.specs.Keys.{CopiesAreEqual}
+use Rattle.concurrent_lru.specs.Cache.{charges, CopiesAreEqual}
 use Rattle.concurrent_lru.specs.NodeTable.{Entry, NodeTable}
 use Rattle.concurrent_lru.specs.Representation.{IsRepresentation, idle_in, held_in}
 use Rattle.concurrent_lru.specs.Entries.{Entries, charges_of}

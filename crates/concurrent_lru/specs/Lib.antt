@@ -1,6 +1,5 @@
 -- The definitions that the contracts of the cache cite.
 pub mod Cache
-pub mod Keys
 pub mod Request
 pub mod Reply
 pub mod Messages
@@ -29,7 +28,6 @@ pub mod Inserts
 pub mod Reads
 pub mod Ready
 pub mod TakeAll
-pub mod OtherPins
 pub mod Pins
 pub mod Debts
 pub mod Doors

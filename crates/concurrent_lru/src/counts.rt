@@ -3,7 +3,7 @@
 //! They are plain numbers, kept beside the cache under its lock.
 ghost use Rattle.std.specs.Prelude.{◌≡◌, ◌+◌, ◌-◌, ◌<◌, ◌≤◌, ◌^◌};
 ghost use Rattle.std.specs.Fmt.{WritesOnOk};
-ghost use Rattle.concurrent_lru.specs.Counts.{added, asked_text, counts_from, entries_text, hit_ratio_of, inserted, makings_text, one_failure, one_hit, one_making, one_miss, one_refusal, one_wait};
+ghost use Rattle.concurrent_lru.specs.Counts.{added, asked_text, counts_from, entries_text, hit_ratio_of, inserted, makings_text, one_failure, one_hit, one_making, one_miss, one_refusal, one_wait, entries_in, charge_in};
 
 use std::fmt;
 use std::num::nearest_u64_to_f64;
@@ -156,11 +156,11 @@ impl Counts {
     // Counts evictions that left `entries` entries of `charge`. Whatever came and is neither left
     // nor removed has been evicted.
     pub(crate) fn evict(&mut self, entries: u64, charge: u64)
-        requires entries { entries + self.old.removals ≤ self.old.entries_before + self.old.insertions }
-        requires entries_fit { self.old.entries_before + self.old.insertions < 2 ^ 64 }
-        requires charge { charge + self.old.removed_charge ≤ self.old.charge_before + self.old.inserted_charge }
-        requires charge_fits { self.old.charge_before + self.old.inserted_charge < 2 ^ 128 }
-        ensures { self.new ≡ record self.old { evictions = self.old.entries_before + self.old.insertions - self.old.removals - entries; evicted_charge = self.old.charge_before + self.old.inserted_charge - self.old.removed_charge - charge } }
+        requires entries { entries + self.old.removals ≤ entries_in self.old }
+        requires entries_fit { entries_in self.old < 2 ^ 64 }
+        requires charge { charge + self.old.removed_charge ≤ charge_in self.old }
+        requires charge_fits { charge_in self.old < 2 ^ 128 }
+        ensures { self.new ≡ record self.old { evictions = entries_in self.old - self.old.removals - entries; evicted_charge = charge_in self.old - self.old.removed_charge - charge } }
     {
         self.evictions = self.entries_before + self.insertions - self.removals - entries;
         self.evicted_charge = self.charge_before + self.inserted_charge
@@ -172,9 +172,9 @@ impl Counts {
     // evicted has been removed.
     pub(crate) fn remove(&mut self, charge: u64)
         requires entries { self.old.removals + 1 < 2 ^ 64 }
-        requires charge { charge + self.old.evicted_charge ≤ self.old.charge_before + self.old.inserted_charge }
-        requires charge_fits { self.old.charge_before + self.old.inserted_charge < 2 ^ 128 }
-        ensures { self.new ≡ record self.old { removals = self.old.removals + 1; removed_charge = self.old.charge_before + self.old.inserted_charge - self.old.evicted_charge - charge } }
+        requires charge { charge + self.old.evicted_charge ≤ charge_in self.old }
+        requires charge_fits { charge_in self.old < 2 ^ 128 }
+        ensures { self.new ≡ record self.old { removals = self.old.removals + 1; removed_charge = charge_in self.old - self.old.evicted_charge - charge } }
     {
         self.removals += 1;
         self.removed_charge = self.charge_before + self.inserted_charge

@@ -6,10 +6,9 @@ ghost use Rattle.std.specs.Prelude.{◌≡◌, ◌≢◌, ◌<◌, [], Some, Non
 ghost use Rattle.std.specs.Arc.{arc_value};
 ghost use Rattle.std.specs.Fn.{FnOnceReturnsAt, FnOnceTakesAt};
 ghost use Rattle.std.specs.Sync.Mutex.{mutex_guard_value};
-ghost use Rattle.concurrent_lru.specs.Cache.{sum_of, IsLawful};
+ghost use Rattle.concurrent_lru.specs.Cache.{sum_of, IsLawful, CopiesAreEqual, IsSettled};
 ghost use Rattle.concurrent_lru.specs.CountedCalls.{AddUp};
 ghost use Rattle.concurrent_lru.specs.Doors.{IsAwake, IsMetFor};
-ghost use Rattle.concurrent_lru.specs.Keys.{CopiesAreEqual};
 ghost use Rattle.concurrent_lru.specs.Pins.{IsHandleFor, made_key, made_charge, awaited_key, awaited_charge};
 ghost use Rattle.concurrent_lru.specs.Ready.{ValuesFit};
 
@@ -94,7 +93,7 @@ impl<K: Hash + Eq + Clone + Drop, V: Drop, R: Wait, F: Fit<K, V>> Door<K, V, R, 
     #[inline(always)]
     pub fn enter(&self) -> Inside<'_, K, V, R, F>
         ensures lawful { IsLawful K.eq (mutex_guard_value result.guard).cache }
-        ensures settled { (mutex_guard_value result.guard).cache.capacity < sum_of (mutex_guard_value result.guard).cache → (mutex_guard_value result.guard).cache.idle ≡ [] }
+        ensures settled { IsSettled (mutex_guard_value result.guard).cache }
         ensures kept { ValuesFit F.fits (mutex_guard_value result.guard).cache }
         ensures adds_up { AddUp (mutex_guard_value result.guard).cache (mutex_guard_value result.guard).counts }
     {

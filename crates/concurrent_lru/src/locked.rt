@@ -6,13 +6,11 @@
 ghost use Rattle.std.specs.Prelude.{◌≡◌, ◌≢◌, ◌<◌, true, [], Err, Some, None, IsTrue, IsFalse, IfOk, IfErr, IfSome, OnErr};
 ghost use Rattle.std.specs.Arc.{arc_value};
 ghost use Rattle.std.specs.Fn.{FnOnceReturnsAt, FnOnceTakesAt};
-ghost use Rattle.concurrent_lru.specs.Cache.{count_of, empty_cache, most_pins_by_default, pinned_of, sum_of, IsLawful};
+ghost use Rattle.concurrent_lru.specs.Cache.{count_of, empty_cache, most_pins_by_default, pinned_of, sum_of, IsLawful, CopiesAreEqual, HasNoOtherPin, IsSettled};
 ghost use Rattle.concurrent_lru.specs.CountedCalls.{counted, counted_look, replaced, AddUp};
 ghost use Rattle.concurrent_lru.specs.Counts.{counts_from, one_refusal};
 ghost use Rattle.concurrent_lru.specs.Debts.{outcome_of_locked_begin, outcome_of_locked_poll, outcome_of_locked_get, AsksOnEntry, AsksOnPoll, IfEntered, IfPolled};
 ghost use Rattle.concurrent_lru.specs.Inserts.{Replaces, RefusesToReplace};
-ghost use Rattle.concurrent_lru.specs.Keys.{CopiesAreEqual};
-ghost use Rattle.concurrent_lru.specs.OtherPins.{HasNoOtherPin};
 ghost use Rattle.concurrent_lru.specs.Pins.{made_stamp, made_key, made_charge, woken_stamp, woken_key, woken_charge, unread_stamp};
 ghost use Rattle.concurrent_lru.specs.Reads.{Reads};
 ghost use Rattle.concurrent_lru.specs.Ready.{ValuesFit, HasEqualKeyAt, HasReadyKey};
@@ -24,11 +22,12 @@ ghost use Rattle.concurrent_lru.specs.ThreadedCalls.{IfHit};
 
 mod done;
 mod pins;
-mod sealed;
+mod waiters;
 
 pub use self::done::{Advised, Invalidated, Pruned, Reserved, Resized};
 pub use self::pins::{Entered, Making, Pin, Polled, Unread, Waiting, Woken};
-pub use self::sealed::{Sealed, Waiters};
+pub use self::waiters::Waiters;
+use crate::sealed::Sealed;
 use crate::counted::CountedState;
 use crate::counts::Counts;
 use crate::fit::Fit;
@@ -99,7 +98,7 @@ impl<K: Hash + Eq + Clone + Drop, V: Drop, F: Fit<K, V>> Locked<K, V, F> {
     /// Does nothing. Its contract states what holds whenever the lock is acquired.
     pub fn show(&self)
         ensures lawful { IsLawful K.eq self.now.cache }
-        ensures settled { self.now.cache.capacity < sum_of self.now.cache → self.now.cache.idle ≡ [] }
+        ensures settled { IsSettled self.now.cache }
         ensures kept { ValuesFit F.fits self.now.cache }
         ensures adds_up { AddUp self.now.cache self.now.counts }
     {

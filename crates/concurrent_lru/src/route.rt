@@ -2,7 +2,7 @@
 //!
 //! A single shard is reached only by its key or by a route, so no call goes to another shard.
 ghost use Rattle.std.specs.Prelude.{◌≡◌, ◌<◌, ◌+◌, ◌-◌, ◌/◌, ◌%◌, Some, IfErr, IfOk, slice_get, vec_len};
-ghost use Rattle.concurrent_lru.specs.Keys.{CopiesAreEqual};
+ghost use Rattle.concurrent_lru.specs.Cache.{CopiesAreEqual};
 ghost use Rattle.concurrent_lru.specs.Sharded.{key_number};
 
 use crate::counts::Counts;

@@ -5,8 +5,7 @@ ghost use Rattle.std.specs.Prelude.{◌≡◌, ◌+◌, ◌-◌, ◌/◌, ◌%�
 ghost use Rattle.std.specs.Arc.{arc_value};
 ghost use Rattle.std.specs.Fn.{FnOnceReturnsAt, FnOnceTakesAt};
 ghost use Rattle.std.specs.List.{AllByRecursion, AllZip};
-ghost use Rattle.concurrent_lru.specs.Cache.{count_of, empty_cache, most_pins_by_default, pinned_of};
-ghost use Rattle.concurrent_lru.specs.Keys.{CopiesAreEqual};
+ghost use Rattle.concurrent_lru.specs.Cache.{count_of, empty_cache, most_pins_by_default, pinned_of, CopiesAreEqual};
 ghost use Rattle.concurrent_lru.specs.Parts.{EachTakes, StandsAt, RunsApart};
 ghost use Rattle.concurrent_lru.specs.Reads.{FindsAt, ReadsAt};
 ghost use Rattle.concurrent_lru.specs.Request as ask;

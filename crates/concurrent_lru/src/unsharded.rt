@@ -5,7 +5,8 @@
 ghost use Rattle.std.specs.Prelude.{◌≡◌, ◌≢◌, ◌+◌, ◌<◌, ◌≤◌, Some, None, Ok, Err, IfOk, IfErr, IfSome};
 ghost use Rattle.std.specs.Fn.{FnOnceReturnsAt, FnOnceTakesAt};
 ghost use Rattle.concurrent_lru.specs.Doors.{IsAwake};
-ghost use Rattle.concurrent_lru.specs.Keys.{CopiesAreEqual};
+ghost use Rattle.concurrent_lru.specs.Cache.{CopiesAreEqual};
+ghost use Rattle.concurrent_lru.specs.Counts.{charge_in, entries_in};
 ghost use Rattle.concurrent_lru.specs.Pins.{IsHandleFor, made_key, made_charge, awaited_key, awaited_charge};
 ghost use Rattle.concurrent_lru.specs.ThreadedCalls.{IsTurnFor, IfInit};
 
@@ -341,8 +342,8 @@ impl<K: Hash + Eq + Clone + Drop, V: Drop, R: Wait, F: Fit<K, V>> LruCache<K, V,
     /// Returns the counts of this cache's calls since it was created or last reset. They are read
     /// under the lock, so they add up to the entries and charges of one moment. Takes no memory.
     pub fn counts(&self) -> Counts
-        ensures entries { result.evictions + result.removals ≤ result.entries_before + result.insertions }
-        ensures charge { result.evicted_charge + result.removed_charge ≤ result.charge_before + result.inserted_charge }
+        ensures entries { result.evictions + result.removals ≤ entries_in result }
+        ensures charge { result.evicted_charge + result.removed_charge ≤ charge_in result }
     {
         self.door.enter().counts()
     }
@@ -350,8 +351,8 @@ impl<K: Hash + Eq + Clone + Drop, V: Drop, R: Wait, F: Fit<K, V>> LruCache<K, V,
     /// Returns what `counts` returns and resets all counts to 0; the counting starts again from the
     /// entries that are present. Takes no memory.
     pub fn reset_counts(&self) -> Counts
-        ensures entries { result.evictions + result.removals ≤ result.entries_before + result.insertions }
-        ensures charge { result.evicted_charge + result.removed_charge ≤ result.charge_before + result.inserted_charge }
+        ensures entries { result.evictions + result.removals ≤ entries_in result }
+        ensures charge { result.evicted_charge + result.removed_charge ≤ charge_in result }
     {
         self.door.enter().reset_counts()
     }

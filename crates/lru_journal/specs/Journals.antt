@@ -2,8 +2,7 @@
 use Rattle.std.specs.Prelude.{◌≡◌, ℕ, ◌⊎◌, Bool, List, [], ◌∷◌, ◌++◌, Option, Result, Ok, Err, IfOk, OnErr}
 use Rattle.std.specs.declared.sync.Arc.{Arc}
 use Rattle.std.specs.declared.alloc.Global.{Global}
-use Rattle.concurrent_lru.specs.Cache.{Cache, empty_cache, most_pins_by_default, IsLawful}
-use Rattle.concurrent_lru.specs.Keys.{CopiesAreEqual}
+use Rattle.concurrent_lru.specs.Cache.{Cache, empty_cache, most_pins_by_default, IsLawful, CopiesAreEqual}
 use Rattle.concurrent_lru.specs.Request.{Request}
 use Rattle.concurrent_lru.specs.Reads.{Reads}
 use Rattle.concurrent_lru.specs.Reply as say

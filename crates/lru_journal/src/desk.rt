@@ -9,10 +9,9 @@ ghost use Rattle.lru_journal.specs.Records.{records_of_read};
 ghost use Rattle.lru_journal.specs.Replay.{AreOfCopy};
 ghost use Rattle.lru_journal.specs.Tallies.{knower, all_parts, AreExactly, AreTallied, Receives, ReceivesAll, IsTallied};
 
-mod sealed;
 pub mod step;
 
-pub use self::sealed::Sealed;
+use concurrent_lru::sealed::Sealed;
 use self::step::Call;
 use crate::journal::Journal;
 use crate::record::Record;

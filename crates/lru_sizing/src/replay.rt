@@ -3,8 +3,7 @@ ghost use Rattle.std.specs.Prelude.{◌≡◌, ◌<◌, ◌≤◌, ◌+◌, [], 
 ghost use Rattle.std.specs.List.{AllByRecursion};
 ghost use Rattle.std.specs.FinMap as finmap;
 ghost use Rattle.std.specs.Arc.{arc_value};
-ghost use Rattle.concurrent_lru.specs.Cache.{Held, making, ready};
-ghost use Rattle.concurrent_lru.specs.Keys.{CopiesAreEqual};
+ghost use Rattle.concurrent_lru.specs.Cache.{Held, making, ready, CopiesAreEqual};
 ghost use Rattle.concurrent_lru.specs.Reply as say;
 ghost use Rattle.concurrent_lru.specs.Request as ask;
 ghost use Rattle.concurrent_lru.specs.Runs.{Refuses};

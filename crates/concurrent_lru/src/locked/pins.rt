@@ -6,7 +6,7 @@ ghost use Rattle.std.specs.Sync.Mutex.{mutex_guard_value};
 
 use crate::fit::Fit;
 use crate::locked::Locked;
-use crate::locked::sealed::Sealed;
+use crate::sealed::Sealed;
 use crate::lru_core::Evicted;
 use crate::table::Spot;
 use std::hash::Hash;

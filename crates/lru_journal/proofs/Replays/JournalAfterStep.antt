@@ -6,8 +6,7 @@ use Rattle.std.specs.declared.alloc.Global.{Global}
 use Rattle.std.specs.FinMap.{FinMap}
 use Rattle.std.specs.Ordering.{nat_cmp}
 use Rattle.concurrent_lru.proofs.Steps.EmptyCache.{empty_lawful}
-use Rattle.concurrent_lru.specs.Cache.{Cache, Held, Idle, IsLawful, empty_cache, most_pins_by_default}
-use Rattle.concurrent_lru.specs.Keys.{CopiesAreEqual}
+use Rattle.concurrent_lru.specs.Cache.{Cache, Held, Idle, IsLawful, empty_cache, most_pins_by_default, CopiesAreEqual}
 use Rattle.concurrent_lru.specs.Request as ask
 use Rattle.concurrent_lru.specs.Request.{Request}
 use Rattle.concurrent_lru.specs.Reply.{Reply}

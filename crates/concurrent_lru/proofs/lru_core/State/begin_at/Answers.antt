@@ -1,10 +1,10 @@
 use Rattle.std.proofs.Common.{[], refl, sym, ap, ◌∙◌, subst, arith, inl, inr}
 use Rattle.std.specs.Prelude.{is_some}
 use Rattle.std.specs.Arc.{arc_value}
-use Rattle.concurrent_lru.specs.Cache.{making, untaken}
+use Rattle.concurrent_lru.specs.Cache.{making, untaken, IsSound}
 use Rattle.concurrent_lru.specs.Steps.{IsAbsent, Joins, Hits}
 use Rattle.concurrent_lru.specs.NodeTable.{entry_of, phase_of, value_in}
-use Rattle.concurrent_lru.specs.Entries.{cache_with, IsSound}
+use Rattle.concurrent_lru.specs.Entries.{cache_with}
 use Rattle.concurrent_lru.specs.Request as ask
 use Rattle.concurrent_lru.specs.Runs.{Stands, Overflows, TakesMemory}
 use Rattle.concurrent_lru.specs.Results.{outcome_of_begin, begun_without_place}

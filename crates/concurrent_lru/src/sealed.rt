@@ -1,12 +1,12 @@
-//! What a call under the lock leaves to be dropped without it, as a debt: a type that is not
-//! `Drop`, so that the checker refuses a path that forgets it.
+//! What a call under a lock leaves to be dropped without it, as a debt: a type that is not `Drop`,
+//! so that the checker refuses a path that forgets it.
 ghost use Rattle.std.specs.Prelude.{◌≡◌};
 
 use std::marker::Model;
 use std::sync::MutexGuard;
 
-/// A debt: what a call under the lock took out of the cache, so that nothing of it is dropped under
-/// the lock. `open` takes it, with the guard.
+/// A debt: what a call under a lock took out of what the lock guards, so that nothing of it is
+/// dropped under the lock. `open` takes it, with the guard.
 ///
 /// Clauses see what was taken out.
 pub struct Sealed<T> {
@@ -20,15 +20,16 @@ impl<T> Model for Sealed<T> {
 }
 
 impl<T> Sealed<T> {
-    // Seals what a call took out.
-    pub(super) fn of(inner: T) -> Self
+    /// Seals what a call took out.
+    pub fn of(inner: T) -> Self
         ensures { result ≡ inner }
     {
         Sealed { inner }
     }
 
     /// Releases the lock, and then returns what was sealed under it.
-    pub(crate) fn open<L: Drop>(self, guard: MutexGuard<'_, L>) -> T
+    #[inline(always)]
+    pub fn open<L: Drop>(self, guard: MutexGuard<'_, L>) -> T
         ensures { result ≡ self }
     {
         drop(guard);
