@@ -57,7 +57,7 @@ impl<C: Cached<Counted>> Shared for Checked<C> {
     }
 }
 
-/// Has all workers make their calls on an empty cache, whose total may be at most `most` in the
+/// Has all workers make their calls on an empty cache, whose total may be at most `allowed` in the
 /// end, and returns what was counted.
 ///
 /// Returns `Refused` if memory was refused to a call or a worker could not have its own thread, and
