@@ -7,7 +7,7 @@ ghost use Rattle.std.specs.HashMap as hash;
 ghost use Rattle.std.specs.HashMap.{spare};
 ghost use Rattle.concurrent_lru.specs.Cache.{count_of, idle_at, pinned_of, IsFront, CopiesAreEqual};
 ghost use Rattle.std.specs.FinMap as map;
-ghost use Rattle.concurrent_lru.specs.NodeTable.{Entry, entry_of, chain_of, phase_of, value_of, ContainsNode, LacksIdle, IsNewStamp};
+ghost use Rattle.concurrent_lru.specs.NodeTable.{Entry, entry_of, new_entry, chain_of, phase_of, value_of, ContainsNode, LacksIdle, IsNewStamp};
 ghost use Rattle.concurrent_lru.specs.Representation.{as_idle, held_entry, GetsEntry};
 ghost use Rattle.concurrent_lru.specs.Entries.{cache_of, charges_of, ContainsEntry, ContainsNoStamp, ContainsNoKey, IsPlaceOfKey, ContainsPlace, ContainsIdleAt, ContainsHeldAt, ContainsFoundAt, GetsAt, LacksMakingAt, IsReadyAt, ReadiesAt, Rewrites, RevivesAt, RestsAt, AddsOverHeld, AddsOverIdle, pins_at, value_at, held_with_pins, new_held};
 ghost use Rattle.concurrent_lru.specs.Reads.{RenewsAt};
@@ -181,9 +181,7 @@ impl<K: Hash + Eq + Clone, V: Drop> Table<K, V> {
         ensures refusal { IfErr result (λ e. e ≡ Refusal.Memory) }
         ensures work { self.new.work ≡ self.old.work }
     {
-        let own = key.clone()?;
-        let kept = key.clone()?;
-        let node = Box::new(alloc, Node::new(stamp, own, charge))?;
+        let (node, kept) = new_entry(alloc, stamp, key, charge)?;
         make_room(&mut self.nodes, &mut self.by_key, &mut self.by_stamp, 1)?;
         Ok(put(
             &mut self.nodes,
@@ -215,9 +213,7 @@ impl<K: Hash + Eq + Clone, V: Drop> Table<K, V> {
         ensures err { OnErr result (self.new ≡ self.old) }
         ensures refusal { IfErr result (λ e. e ≡ Refusal.Memory) }
     {
-        let own = key.clone()?;
-        let kept = key.clone()?;
-        let node = Box::new(alloc, Node::new(stamp, own, charge))?;
+        let (node, kept) = new_entry(alloc, stamp, key, charge)?;
         make_room(&mut self.nodes, &mut self.by_key, &mut self.by_stamp, 1)?;
         forget_key(&self.nodes, &mut self.by_key, place);
         self.nodes.set_detached(place);
@@ -253,9 +249,7 @@ impl<K: Hash + Eq + Clone, V: Drop> Table<K, V> {
         ensures err { OnErr result (self.new ≡ self.old) }
         ensures refusal { IfErr result (λ e. e ≡ Refusal.Memory) }
     {
-        let own = key.clone()?;
-        let kept = key.clone()?;
-        let node = Box::new(alloc, Node::new(stamp, own, charge))?;
+        let (node, kept) = new_entry(alloc, stamp, key, charge)?;
         make_room(&mut self.nodes, &mut self.by_key, &mut self.by_stamp, 1)?;
         self.nodes.remove(place);
         let old = take_away(
@@ -495,6 +489,26 @@ impl<K: Hash + Eq + Clone, V: Drop> Table<K, V> {
         }
         reversed(newest_first)
     }
+}
+
+// The node of a new entry, and the copy of its key that finds its place.
+#[inline(always)]
+fn new_entry<K: Hash + Eq + Clone, V: Drop>(
+    alloc: Global,
+    stamp: u64,
+    key: &K,
+    charge: u64,
+) -> Result<(Box<Node<K, V>>, K), Refusal>
+    ensures entry { IfOk result (λ r. entry_of r.0.value ≡ new_entry stamp (entry_of r.0.value).key charge) }
+    ensures alone { IfOk result (λ r. chain_of r.0.value ≡ []) }
+    ensures own { IfOk result (λ r. K.is_clone key.now (entry_of r.0.value).key) }
+    ensures kept { IfOk result (λ r. K.is_clone key.now r.1) }
+    ensures refusal { IfErr result (λ e. e ≡ Refusal.Memory) }
+{
+    let own = key.clone()?;
+    let kept = key.clone()?;
+    let node = Box::new(alloc, Node::new(stamp, own, charge))?;
+    Ok((node, kept))
 }
 
 // Reserves room for `more` more entries, so that their inserts cannot fail.

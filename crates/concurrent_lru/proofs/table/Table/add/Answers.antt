@@ -26,7 +26,7 @@ put-requires-clause-fresh g c =
     let r = stored_same {t' = c.make_room.new.nodes} {by_key' = c.make_room.new.by_key} {by_stamp' = c.make_room.new.by_stamp} c.self.invariant.stored c.make_room.ensures.nodes c.make_room.ensures.idle c.make_room.ensures.by_key c.make_room.ensures.keeps c.make_room.ensures.by_stamp in
     let grown = entries_same c.self.inside.nodes c.make_room.new.nodes c.make_room.ensures.nodes c.make_room.ensures.idle c.make_room.ensures.work in
     let lacks = subst (λ t. ContainsNoStamp t c.args.stamp) (sym (grown ∙ c.self.view_is)) c.requires.fresh in
-    let entry : entry_of c.in_ok-node.node.value ≡ new_entry c.args.stamp c.in_ok-own.own c.args.charge = ap entry_of c.in_ok-node.ensures.ok ∙ c.new.ensures.entry in
+    let entry : entry_of c.in_ok-node.node.value ≡ new_entry c.args.stamp (entry_of c.in_ok-node.node.value).key c.args.charge = c.in_ok-node.ensures.entry in
     subst (IsNewStamp c.make_room.new.nodes) (sym (ap (λ x. x.stamp) entry)) (fresh_among r c.args.stamp lacks)
 
 pub invariant_of-self-2 : goal.invariant_of-self-2
@@ -34,14 +34,14 @@ invariant_of-self-2 g c =
     let r = stored_same {t' = c.make_room.new.nodes} {by_key' = c.make_room.new.by_key} {by_stamp' = c.make_room.new.by_stamp} c.self.invariant.stored c.make_room.ensures.nodes c.make_room.ensures.idle c.make_room.ensures.by_key c.make_room.ensures.keeps c.make_room.ensures.by_stamp in
     let grown = entries_same c.self.inside.nodes c.make_room.new.nodes c.make_room.ensures.nodes c.make_room.ensures.idle c.make_room.ensures.work in
     let lacks = subst (λ t. ContainsNoStamp t c.args.stamp) (sym (grown ∙ c.self.view_is)) c.requires.fresh in
-    let entry : entry_of c.in_ok-node.node.value ≡ new_entry c.args.stamp c.in_ok-own.own c.args.charge = ap entry_of c.in_ok-node.ensures.ok ∙ c.new.ensures.entry in
-    let kept = c.self.invariant.stored.copies c.args.key.now c.in_ok-kept.kept c.in_ok-kept.ensures.cases in
+    let entry : entry_of c.in_ok-node.node.value ≡ new_entry c.args.stamp (entry_of c.in_ok-node.node.value).key c.args.charge = c.in_ok-node.ensures.entry in
+    let kept = c.self.invariant.stored.copies c.args.key.now c.in_ok-node.kept c.in_ok-node.ensures.kept in
     let absent = subst (λ t. ContainsNoKey g.K.PartialEq.eq t c.args.key.now) (sym c.self.view_is) c.requires.absent in
-    let added : IsAdded g.K.PartialEq.eq c.make_room.new.nodes c.put.new.nodes c.make_room.new.by_key c.put.new.by_key c.make_room.new.by_stamp c.put.new.by_stamp c.put.result (new_entry c.args.stamp c.in_ok-own.own c.args.charge) c.in_ok-kept.kept =
-    put_added g.met.K.Eq.laws r c.in_ok-own.ensures.cases c.in_ok-kept.ensures.cases c.put.ensures.free
-    (c.put.ensures.nodes ∙ ap (insert c.make_room.new.nodes.nodes c.put.result) entry) c.put.ensures.idle (c.make_room.ensures.by_key c.in_ok-kept.kept ∙ alike_get g.met.K.Eq.laws c.self.inside.by_key c.in_ok-kept.kept c.args.key.now kept ∙ lacks_key c.self.invariant.stored c.args.key.now absent) (fresh_among r c.args.stamp lacks) c.put.ensures.by_key c.put.ensures.keeps
+    let added : IsAdded g.K.PartialEq.eq c.make_room.new.nodes c.put.new.nodes c.make_room.new.by_key c.put.new.by_key c.make_room.new.by_stamp c.put.new.by_stamp c.put.result (new_entry c.args.stamp (entry_of c.in_ok-node.node.value).key c.args.charge) c.in_ok-node.kept =
+    put_added g.met.K.Eq.laws r c.in_ok-node.ensures.own c.in_ok-node.ensures.kept c.put.ensures.free
+    (c.put.ensures.nodes ∙ ap (insert c.make_room.new.nodes.nodes c.put.result) entry) c.put.ensures.idle (c.make_room.ensures.by_key c.in_ok-node.kept ∙ alike_get g.met.K.Eq.laws c.self.inside.by_key c.in_ok-node.kept c.args.key.now kept ∙ lacks_key c.self.invariant.stored c.args.key.now absent) (fresh_among r c.args.stamp lacks) c.put.ensures.by_key c.put.ensures.keeps
     (λ kept q. c.put.ensures.by_stamp kept q ∙ ap (λ n. cond (eqb n q) (Some c.put.result) (mapped_place c.make_room.new.by_stamp q)) (ap (λ x. x.stamp) entry)) in
-    let sum = sum_with (entries_of c.make_room.new.nodes) (entries_of c.put.new.nodes) c.args.stamp (new_held c.in_ok-own.own c.args.charge) (idle_with g.met.K.Eq.laws r added) (held_with g.met.K.Eq.laws r added) (unheld r c.args.stamp lacks) in
+    let sum = sum_with (entries_of c.make_room.new.nodes) (entries_of c.put.new.nodes) c.args.stamp (new_held (entry_of c.in_ok-node.node.value).key c.args.charge) (idle_with g.met.K.Eq.laws r added) (held_with g.met.K.Eq.laws r added) (unheld r c.args.stamp lacks) in
     record {
       stored = stored_with g.met.K.Eq.laws r added;
       sums = c.put.ensures.total ∙ ap (λ n. c.self.inside.total + n) (ap (λ x. x.charge) entry) ∙ ap (λ n. n + c.args.charge) (c.self.invariant.sums ∙ ap charges_of (sym grown)) ∙ sym sum;
@@ -53,12 +53,12 @@ returns-clause-idle g c =
     let r = stored_same {t' = c.make_room.new.nodes} {by_key' = c.make_room.new.by_key} {by_stamp' = c.make_room.new.by_stamp} c.self.invariant.stored c.make_room.ensures.nodes c.make_room.ensures.idle c.make_room.ensures.by_key c.make_room.ensures.keeps c.make_room.ensures.by_stamp in
     let grown = entries_same c.self.inside.nodes c.make_room.new.nodes c.make_room.ensures.nodes c.make_room.ensures.idle c.make_room.ensures.work in
     let lacks = subst (λ t. ContainsNoStamp t c.args.stamp) (sym (grown ∙ c.self.view_is)) c.requires.fresh in
-    let entry : entry_of c.in_ok-node.node.value ≡ new_entry c.args.stamp c.in_ok-own.own c.args.charge = ap entry_of c.in_ok-node.ensures.ok ∙ c.new.ensures.entry in
-    let kept = c.self.invariant.stored.copies c.args.key.now c.in_ok-kept.kept c.in_ok-kept.ensures.cases in
+    let entry : entry_of c.in_ok-node.node.value ≡ new_entry c.args.stamp (entry_of c.in_ok-node.node.value).key c.args.charge = c.in_ok-node.ensures.entry in
+    let kept = c.self.invariant.stored.copies c.args.key.now c.in_ok-node.kept c.in_ok-node.ensures.kept in
     let absent = subst (λ t. ContainsNoKey g.K.PartialEq.eq t c.args.key.now) (sym c.self.view_is) c.requires.absent in
-    let added : IsAdded g.K.PartialEq.eq c.make_room.new.nodes c.put.new.nodes c.make_room.new.by_key c.put.new.by_key c.make_room.new.by_stamp c.put.new.by_stamp c.put.result (new_entry c.args.stamp c.in_ok-own.own c.args.charge) c.in_ok-kept.kept =
-    put_added g.met.K.Eq.laws r c.in_ok-own.ensures.cases c.in_ok-kept.ensures.cases c.put.ensures.free
-    (c.put.ensures.nodes ∙ ap (insert c.make_room.new.nodes.nodes c.put.result) entry) c.put.ensures.idle (c.make_room.ensures.by_key c.in_ok-kept.kept ∙ alike_get g.met.K.Eq.laws c.self.inside.by_key c.in_ok-kept.kept c.args.key.now kept ∙ lacks_key c.self.invariant.stored c.args.key.now absent) (fresh_among r c.args.stamp lacks) c.put.ensures.by_key c.put.ensures.keeps
+    let added : IsAdded g.K.PartialEq.eq c.make_room.new.nodes c.put.new.nodes c.make_room.new.by_key c.put.new.by_key c.make_room.new.by_stamp c.put.new.by_stamp c.put.result (new_entry c.args.stamp (entry_of c.in_ok-node.node.value).key c.args.charge) c.in_ok-node.kept =
+    put_added g.met.K.Eq.laws r c.in_ok-node.ensures.own c.in_ok-node.ensures.kept c.put.ensures.free
+    (c.put.ensures.nodes ∙ ap (insert c.make_room.new.nodes.nodes c.put.result) entry) c.put.ensures.idle (c.make_room.ensures.by_key c.in_ok-node.kept ∙ alike_get g.met.K.Eq.laws c.self.inside.by_key c.in_ok-node.kept c.args.key.now kept ∙ lacks_key c.self.invariant.stored c.args.key.now absent) (fresh_among r c.args.stamp lacks) c.put.ensures.by_key c.put.ensures.keeps
     (λ kept q. c.put.ensures.by_stamp kept q ∙ ap (λ n. cond (eqb n q) (Some c.put.result) (mapped_place c.make_room.new.by_stamp q)) (ap (λ x. x.stamp) entry)) in
     idle_with g.met.K.Eq.laws r added ∙ ap (λ t. t.idle) (grown ∙ c.self.view_is)
 
@@ -67,14 +67,14 @@ returns-clause-ok g c =
     let r = stored_same {t' = c.make_room.new.nodes} {by_key' = c.make_room.new.by_key} {by_stamp' = c.make_room.new.by_stamp} c.self.invariant.stored c.make_room.ensures.nodes c.make_room.ensures.idle c.make_room.ensures.by_key c.make_room.ensures.keeps c.make_room.ensures.by_stamp in
     let grown = entries_same c.self.inside.nodes c.make_room.new.nodes c.make_room.ensures.nodes c.make_room.ensures.idle c.make_room.ensures.work in
     let lacks = subst (λ t. ContainsNoStamp t c.args.stamp) (sym (grown ∙ c.self.view_is)) c.requires.fresh in
-    let entry : entry_of c.in_ok-node.node.value ≡ new_entry c.args.stamp c.in_ok-own.own c.args.charge = ap entry_of c.in_ok-node.ensures.ok ∙ c.new.ensures.entry in
-    let kept = c.self.invariant.stored.copies c.args.key.now c.in_ok-kept.kept c.in_ok-kept.ensures.cases in
+    let entry : entry_of c.in_ok-node.node.value ≡ new_entry c.args.stamp (entry_of c.in_ok-node.node.value).key c.args.charge = c.in_ok-node.ensures.entry in
+    let kept = c.self.invariant.stored.copies c.args.key.now c.in_ok-node.kept c.in_ok-node.ensures.kept in
     let absent = subst (λ t. ContainsNoKey g.K.PartialEq.eq t c.args.key.now) (sym c.self.view_is) c.requires.absent in
-    let added : IsAdded g.K.PartialEq.eq c.make_room.new.nodes c.put.new.nodes c.make_room.new.by_key c.put.new.by_key c.make_room.new.by_stamp c.put.new.by_stamp c.put.result (new_entry c.args.stamp c.in_ok-own.own c.args.charge) c.in_ok-kept.kept =
-    put_added g.met.K.Eq.laws r c.in_ok-own.ensures.cases c.in_ok-kept.ensures.cases c.put.ensures.free
-    (c.put.ensures.nodes ∙ ap (insert c.make_room.new.nodes.nodes c.put.result) entry) c.put.ensures.idle (c.make_room.ensures.by_key c.in_ok-kept.kept ∙ alike_get g.met.K.Eq.laws c.self.inside.by_key c.in_ok-kept.kept c.args.key.now kept ∙ lacks_key c.self.invariant.stored c.args.key.now absent) (fresh_among r c.args.stamp lacks) c.put.ensures.by_key c.put.ensures.keeps
+    let added : IsAdded g.K.PartialEq.eq c.make_room.new.nodes c.put.new.nodes c.make_room.new.by_key c.put.new.by_key c.make_room.new.by_stamp c.put.new.by_stamp c.put.result (new_entry c.args.stamp (entry_of c.in_ok-node.node.value).key c.args.charge) c.in_ok-node.kept =
+    put_added g.met.K.Eq.laws r c.in_ok-node.ensures.own c.in_ok-node.ensures.kept c.put.ensures.free
+    (c.put.ensures.nodes ∙ ap (insert c.make_room.new.nodes.nodes c.put.result) entry) c.put.ensures.idle (c.make_room.ensures.by_key c.in_ok-node.kept ∙ alike_get g.met.K.Eq.laws c.self.inside.by_key c.in_ok-node.kept c.args.key.now kept ∙ lacks_key c.self.invariant.stored c.args.key.now absent) (fresh_among r c.args.stamp lacks) c.put.ensures.by_key c.put.ensures.keeps
     (λ kept q. c.put.ensures.by_stamp kept q ∙ ap (λ n. cond (eqb n q) (Some c.put.result) (mapped_place c.make_room.new.by_stamp q)) (ap (λ x. x.stamp) entry)) in (
-      c.in_ok-own.own,
-      c.self.invariant.stored.copies c.args.key.now c.in_ok-own.own c.in_ok-own.ensures.cases,
-      held_with g.met.K.Eq.laws r added ∙ ap (λ t. insert t.held c.args.stamp (new_held c.in_ok-own.own c.args.charge)) (grown ∙ c.self.view_is),
+      (entry_of c.in_ok-node.node.value).key,
+      c.self.invariant.stored.copies c.args.key.now (entry_of c.in_ok-node.node.value).key c.in_ok-node.ensures.own,
+      held_with g.met.K.Eq.laws r added ∙ ap (λ t. insert t.held c.args.stamp (new_held (entry_of c.in_ok-node.node.value).key c.args.charge)) (grown ∙ c.self.view_is),
     )

@@ -51,7 +51,7 @@ put-requires-clause-fresh g c =
     let h = subst (λ t. ContainsFoundAt t c.args.place) (sym (grown ∙ c.self.view_is)) c.requires.held in
     let n = some_node r c.args.place (h.0, h.1) in
     let writes = detached_writes c.make_room.new.nodes c.set_detached.new.self c.args.place n.0 n.1 c.set_detached.ensures.nodes in
-    let entry : entry_of c.in_ok-node.node.value ≡ new_entry c.args.stamp c.in_ok-own.own c.args.charge = ap entry_of c.in_ok-node.ensures.ok ∙ c.new.ensures.entry in
+    let entry : entry_of c.in_ok-node.node.value ≡ new_entry c.args.stamp (entry_of c.in_ok-node.node.value).key c.args.charge = c.in_ok-node.ensures.entry in
     subst (IsNewStamp c.set_detached.new.self) (sym (ap (λ x. x.stamp) entry)) (fresh_written c.args.stamp writes (fresh_among r c.args.stamp lacks))
 
 pub invariant_of-self-2 : goal.invariant_of-self-2
@@ -62,20 +62,20 @@ invariant_of-self-2 g c =
     let h = subst (λ t. ContainsFoundAt t c.args.place) (sym (grown ∙ c.self.view_is)) c.requires.held in
     let n = some_node r c.args.place (h.0, h.1) in
     let writes = detached_writes c.make_room.new.nodes c.set_detached.new.self c.args.place n.0 n.1 c.set_detached.ensures.nodes in
-    let entry : entry_of c.in_ok-node.node.value ≡ new_entry c.args.stamp c.in_ok-own.own c.args.charge = ap entry_of c.in_ok-node.ensures.ok ∙ c.new.ensures.entry in
+    let entry : entry_of c.in_ok-node.node.value ≡ new_entry c.args.stamp (entry_of c.in_ok-node.node.value).key c.args.charge = c.in_ok-node.ensures.entry in
     let pinned = held_node r c.args.place n.0 (found_place r c.args.place h) n.1 in
     let forgets = c.forget_key.ensures.forgotten n.0 n.1 in
     let between = stored_detached g.met.K.Eq.laws r writes c.set_detached.ensures.idle pinned (found_node r c.args.place n.0 h n.1) forgets in
     let changed = entries_detached r writes c.set_detached.ensures.idle pinned c.set_detached.ensures.work in
-    let kept = c.self.invariant.stored.copies c.args.key.now c.in_ok-kept.kept c.in_ok-kept.ensures.cases in
+    let kept = c.self.invariant.stored.copies c.args.key.now c.in_ok-node.kept c.in_ok-node.ensures.kept in
     let equal = c.requires.keyed n.0 (subst (λ t. GetsAt t c.args.place n.0) (grown ∙ c.self.view_is) (node_is_at r c.args.place n.0 n.1)) in
-    let added : IsAdded g.K.PartialEq.eq c.set_detached.new.self c.put.new.nodes c.forget_key.new.by_key c.put.new.by_key c.make_room.new.by_stamp c.put.new.by_stamp c.put.result (new_entry c.args.stamp c.in_ok-own.own c.args.charge) c.in_ok-kept.kept =
-    put_added g.met.K.Eq.laws between c.in_ok-own.ensures.cases c.in_ok-kept.ensures.cases c.put.ensures.free
-    (c.put.ensures.nodes ∙ ap (insert c.set_detached.new.self.nodes c.put.result) entry) c.put.ensures.idle (forgotten g.met.K.Eq.laws c.make_room.new.by_key c.forget_key.new.by_key n.0.key c.in_ok-kept.kept c.args.key.now equal kept forgets) (fresh_written c.args.stamp writes (fresh_among r c.args.stamp lacks)) c.put.ensures.by_key c.put.ensures.keeps
+    let added : IsAdded g.K.PartialEq.eq c.set_detached.new.self c.put.new.nodes c.forget_key.new.by_key c.put.new.by_key c.make_room.new.by_stamp c.put.new.by_stamp c.put.result (new_entry c.args.stamp (entry_of c.in_ok-node.node.value).key c.args.charge) c.in_ok-node.kept =
+    put_added g.met.K.Eq.laws between c.in_ok-node.ensures.own c.in_ok-node.ensures.kept c.put.ensures.free
+    (c.put.ensures.nodes ∙ ap (insert c.set_detached.new.self.nodes c.put.result) entry) c.put.ensures.idle (forgotten g.met.K.Eq.laws c.make_room.new.by_key c.forget_key.new.by_key n.0.key c.in_ok-node.kept c.args.key.now equal kept forgets) (fresh_written c.args.stamp writes (fresh_among r c.args.stamp lacks)) c.put.ensures.by_key c.put.ensures.keeps
     (λ kept q. c.put.ensures.by_stamp kept q ∙ ap (λ n. cond (eqb n q) (Some c.put.result) (mapped_place c.make_room.new.by_stamp q)) (ap (λ x. x.stamp) entry)) in
     let free = unheld_written r (entries_of c.set_detached.new.self) (held_entry (entry_detached n.0)) c.args.place n.0 n.1 c.args.stamp lacks changed in
     let before = sum_written (entries_of c.make_room.new.nodes) (entries_of c.set_detached.new.self) n.0.stamp (held_entry n.0) (held_entry (entry_detached n.0)) (ap (λ t. t.idle) changed) (ap (λ t. t.held) changed) (held_found r c.args.place n.0 n.1 pinned) refl in
-    let sum = sum_with (entries_of c.set_detached.new.self) (entries_of c.put.new.nodes) c.args.stamp (new_held c.in_ok-own.own c.args.charge) (idle_with g.met.K.Eq.laws between added) (held_with g.met.K.Eq.laws between added) free in
+    let sum = sum_with (entries_of c.set_detached.new.self) (entries_of c.put.new.nodes) c.args.stamp (new_held (entry_of c.in_ok-node.node.value).key c.args.charge) (idle_with g.met.K.Eq.laws between added) (held_with g.met.K.Eq.laws between added) free in
     record {
       stored = stored_with g.met.K.Eq.laws between added;
       sums = c.put.ensures.total ∙ ap (λ n. c.self.inside.total + n) (ap (λ x. x.charge) entry) ∙ ap (λ n. n + c.args.charge) (c.self.invariant.sums ∙ ap charges_of (sym grown) ∙ sym before) ∙ sym sum;
@@ -90,16 +90,16 @@ returns-clause-ok g c =
     let h = subst (λ t. ContainsFoundAt t c.args.place) (sym (grown ∙ c.self.view_is)) c.requires.held in
     let n = some_node r c.args.place (h.0, h.1) in
     let writes = detached_writes c.make_room.new.nodes c.set_detached.new.self c.args.place n.0 n.1 c.set_detached.ensures.nodes in
-    let entry : entry_of c.in_ok-node.node.value ≡ new_entry c.args.stamp c.in_ok-own.own c.args.charge = ap entry_of c.in_ok-node.ensures.ok ∙ c.new.ensures.entry in
+    let entry : entry_of c.in_ok-node.node.value ≡ new_entry c.args.stamp (entry_of c.in_ok-node.node.value).key c.args.charge = c.in_ok-node.ensures.entry in
     let pinned = held_node r c.args.place n.0 (found_place r c.args.place h) n.1 in
     let forgets = c.forget_key.ensures.forgotten n.0 n.1 in
     let between = stored_detached g.met.K.Eq.laws r writes c.set_detached.ensures.idle pinned (found_node r c.args.place n.0 h n.1) forgets in
     let changed = entries_detached r writes c.set_detached.ensures.idle pinned c.set_detached.ensures.work in
-    let kept = c.self.invariant.stored.copies c.args.key.now c.in_ok-kept.kept c.in_ok-kept.ensures.cases in
+    let kept = c.self.invariant.stored.copies c.args.key.now c.in_ok-node.kept c.in_ok-node.ensures.kept in
     let equal = c.requires.keyed n.0 (subst (λ t. GetsAt t c.args.place n.0) (grown ∙ c.self.view_is) (node_is_at r c.args.place n.0 n.1)) in
-    let added : IsAdded g.K.PartialEq.eq c.set_detached.new.self c.put.new.nodes c.forget_key.new.by_key c.put.new.by_key c.make_room.new.by_stamp c.put.new.by_stamp c.put.result (new_entry c.args.stamp c.in_ok-own.own c.args.charge) c.in_ok-kept.kept =
-    put_added g.met.K.Eq.laws between c.in_ok-own.ensures.cases c.in_ok-kept.ensures.cases c.put.ensures.free
-    (c.put.ensures.nodes ∙ ap (insert c.set_detached.new.self.nodes c.put.result) entry) c.put.ensures.idle (forgotten g.met.K.Eq.laws c.make_room.new.by_key c.forget_key.new.by_key n.0.key c.in_ok-kept.kept c.args.key.now equal kept forgets) (fresh_written c.args.stamp writes (fresh_among r c.args.stamp lacks)) c.put.ensures.by_key c.put.ensures.keeps
+    let added : IsAdded g.K.PartialEq.eq c.set_detached.new.self c.put.new.nodes c.forget_key.new.by_key c.put.new.by_key c.make_room.new.by_stamp c.put.new.by_stamp c.put.result (new_entry c.args.stamp (entry_of c.in_ok-node.node.value).key c.args.charge) c.in_ok-node.kept =
+    put_added g.met.K.Eq.laws between c.in_ok-node.ensures.own c.in_ok-node.ensures.kept c.put.ensures.free
+    (c.put.ensures.nodes ∙ ap (insert c.set_detached.new.self.nodes c.put.result) entry) c.put.ensures.idle (forgotten g.met.K.Eq.laws c.make_room.new.by_key c.forget_key.new.by_key n.0.key c.in_ok-node.kept c.args.key.now equal kept forgets) (fresh_written c.args.stamp writes (fresh_among r c.args.stamp lacks)) c.put.ensures.by_key c.put.ensures.keeps
     (λ kept q. c.put.ensures.by_stamp kept q ∙ ap (λ n. cond (eqb n q) (Some c.put.result) (mapped_place c.make_room.new.by_stamp q)) (ap (λ x. x.stamp) entry)) in
     subst (λ t. AddsOverHeld g.K.PartialEq.eq t c.args.place c.args.stamp c.args.key.now c.args.charge (entries_of c.put.new.nodes)) (grown ∙ c.self.view_is) (record {
       mid = entries_of c.set_detached.new.self;
@@ -111,8 +111,8 @@ returns-clause-ok g c =
         changed = changed;
       };
       added = record {
-        copy = c.in_ok-own.own;
-        same_key = c.self.invariant.stored.copies c.args.key.now c.in_ok-own.own c.in_ok-own.ensures.cases;
+        copy = (entry_of c.in_ok-node.node.value).key;
+        same_key = c.self.invariant.stored.copies c.args.key.now (entry_of c.in_ok-node.node.value).key c.in_ok-node.ensures.own;
         idle = idle_with g.met.K.Eq.laws between added;
         held = held_with g.met.K.Eq.laws between added;
         work = c.put.ensures.work;

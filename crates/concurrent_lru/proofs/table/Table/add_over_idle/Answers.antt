@@ -74,7 +74,7 @@ put-new-requires-clause-fresh g c =
       keeps = c.take_away-old.ensures.keeps;
       stamps_now = c.take_away-old.ensures.by_stamp;
     } in
-    let entry : entry_of c.in_ok-node.node.value ≡ new_entry c.args.stamp c.in_ok-own.own c.args.charge = ap entry_of c.in_ok-node.ensures.ok ∙ c.new.ensures.entry in
+    let entry : entry_of c.in_ok-node.node.value ≡ new_entry c.args.stamp (entry_of c.in_ok-node.node.value).key c.args.charge = c.in_ok-node.ensures.entry in
     subst (IsNewStamp c.take_away-old.new.nodes) (sym (ap (λ x. x.stamp) entry)) (fresh_taken c.make_room.new.nodes c.take_away-old.new.nodes c.args.place c.args.stamp taken.nodes (fresh_among r c.args.stamp lacks))
 
 pub put-new-requires-clause-fits : goal.put-new-requires-clause-fits
@@ -94,7 +94,7 @@ put-new-requires-clause-fits g c =
       stamps_now = c.take_away-old.ensures.by_stamp;
     } in
     let here = subst (λ t. GetsAt t c.args.place e) (grown ∙ c.self.view_is) (node_is_at r c.args.place e taken.at) in
-    let entry : entry_of c.in_ok-node.node.value ≡ new_entry c.args.stamp c.in_ok-own.own c.args.charge = ap entry_of c.in_ok-node.ensures.ok ∙ c.new.ensures.entry in
+    let entry : entry_of c.in_ok-node.node.value ≡ new_entry c.args.stamp (entry_of c.in_ok-node.node.value).key c.args.charge = c.in_ok-node.ensures.entry in
     let fits : charges_of c.args.self.now + c.args.charge < 2 ^ 64 + e.charge = c.requires.fits e here in
     let all : c.self.inside.total ≡ charges_of c.args.self.now = c.self.invariant.sums ∙ ap charges_of c.self.view_is in
     let total = c.take_away-old.ensures.total in
@@ -120,20 +120,20 @@ invariant_of-self-2 g c =
       stamps_now = c.take_away-old.ensures.by_stamp;
     } in
     let here = subst (λ t. GetsAt t c.args.place e) (grown ∙ c.self.view_is) (node_is_at r c.args.place e taken.at) in
-    let entry : entry_of c.in_ok-node.node.value ≡ new_entry c.args.stamp c.in_ok-own.own c.args.charge = ap entry_of c.in_ok-node.ensures.ok ∙ c.new.ensures.entry in
+    let entry : entry_of c.in_ok-node.node.value ≡ new_entry c.args.stamp (entry_of c.in_ok-node.node.value).key c.args.charge = c.in_ok-node.ensures.entry in
     let like = idle_like r c.args.place e taken.at rests in
     let between = stored_without g.met.K.Eq.laws r taken in
-    let kept = c.self.invariant.stored.copies c.args.key.now c.in_ok-kept.kept c.in_ok-kept.ensures.cases in
+    let kept = c.self.invariant.stored.copies c.args.key.now c.in_ok-node.kept c.in_ok-node.ensures.kept in
     let equal = c.requires.keyed e here in
     let forgets = forgets_taken r taken rests in
-    let added : IsAdded g.K.PartialEq.eq c.take_away-old.new.nodes c.put-new.new.nodes c.take_away-old.new.by_key c.put-new.new.by_key c.take_away-old.new.by_stamp c.put-new.new.by_stamp c.put-new.result (new_entry c.args.stamp c.in_ok-own.own c.args.charge) c.in_ok-kept.kept =
-    put_added g.met.K.Eq.laws between c.in_ok-own.ensures.cases c.in_ok-kept.ensures.cases c.put-new.ensures.free
-    (c.put-new.ensures.nodes ∙ ap (insert c.take_away-old.new.nodes.nodes c.put-new.result) entry) c.put-new.ensures.idle (forgotten g.met.K.Eq.laws c.make_room.new.by_key c.take_away-old.new.by_key e.key c.in_ok-kept.kept c.args.key.now equal kept forgets) (fresh_taken c.make_room.new.nodes c.take_away-old.new.nodes c.args.place c.args.stamp taken.nodes (fresh_among r c.args.stamp lacks)) c.put-new.ensures.by_key c.put-new.ensures.keeps
+    let added : IsAdded g.K.PartialEq.eq c.take_away-old.new.nodes c.put-new.new.nodes c.take_away-old.new.by_key c.put-new.new.by_key c.take_away-old.new.by_stamp c.put-new.new.by_stamp c.put-new.result (new_entry c.args.stamp (entry_of c.in_ok-node.node.value).key c.args.charge) c.in_ok-node.kept =
+    put_added g.met.K.Eq.laws between c.in_ok-node.ensures.own c.in_ok-node.ensures.kept c.put-new.ensures.free
+    (c.put-new.ensures.nodes ∙ ap (insert c.take_away-old.new.nodes.nodes c.put-new.result) entry) c.put-new.ensures.idle (forgotten g.met.K.Eq.laws c.make_room.new.by_key c.take_away-old.new.by_key e.key c.in_ok-node.kept c.args.key.now equal kept forgets) (fresh_taken c.make_room.new.nodes c.take_away-old.new.nodes c.args.place c.args.stamp taken.nodes (fresh_among r c.args.stamp lacks)) c.put-new.ensures.by_key c.put-new.ensures.keeps
     (λ kept q. c.put-new.ensures.by_stamp kept q ∙ ap (λ n. cond (eqb n q) (Some c.put-new.result) (mapped_place c.take_away-old.new.by_stamp q)) (ap (λ x. x.stamp) entry)) in
     let free = ap (λ h. get h c.args.stamp) (held_same g.met.K.Eq.laws r taken rests) ∙ unheld r c.args.stamp lacks in
     let less = sum_evicted (entries_of c.make_room.new.nodes) (entries_of c.take_away-old.new.nodes) e.stamp (record { stamp = e.stamp; key = e.key; charge = e.charge; value = like.0 }) (stamps_apart c.make_room.new.nodes _ r.represents) (idle_without g.met.K.Eq.laws r taken rests) (held_same g.met.K.Eq.laws r taken rests) ((idle_found r c.args.place e taken.at rests).1 ∙ as_idle-ready e like.0 like.2) in
     let total : c.take_away-old.new.total ≡ charges_of (entries_of c.take_away-old.new.nodes) = less_alike _ _ _ _ e.charge c.take_away-old.ensures.total less (c.self.invariant.sums ∙ ap charges_of (sym grown)) in
-    let sum = sum_with (entries_of c.take_away-old.new.nodes) (entries_of c.put-new.new.nodes) c.args.stamp (new_held c.in_ok-own.own c.args.charge) (idle_with g.met.K.Eq.laws between added) (held_with g.met.K.Eq.laws between added) free in
+    let sum = sum_with (entries_of c.take_away-old.new.nodes) (entries_of c.put-new.new.nodes) c.args.stamp (new_held (entry_of c.in_ok-node.node.value).key c.args.charge) (idle_with g.met.K.Eq.laws between added) (held_with g.met.K.Eq.laws between added) free in
     record {
       stored = stored_with g.met.K.Eq.laws between added;
       sums = c.put-new.ensures.total ∙ ap (λ n. c.take_away-old.new.total + n) (ap (λ x. x.charge) entry) ∙ ap (λ n. n + c.args.charge) total ∙ sym sum;
@@ -177,15 +177,15 @@ returns-clause-ok g c =
       stamps_now = c.take_away-old.ensures.by_stamp;
     } in
     let here = subst (λ t. GetsAt t c.args.place e) (grown ∙ c.self.view_is) (node_is_at r c.args.place e taken.at) in
-    let entry : entry_of c.in_ok-node.node.value ≡ new_entry c.args.stamp c.in_ok-own.own c.args.charge = ap entry_of c.in_ok-node.ensures.ok ∙ c.new.ensures.entry in
+    let entry : entry_of c.in_ok-node.node.value ≡ new_entry c.args.stamp (entry_of c.in_ok-node.node.value).key c.args.charge = c.in_ok-node.ensures.entry in
     let like = idle_like r c.args.place e taken.at rests in
     let between = stored_without g.met.K.Eq.laws r taken in
-    let kept = c.self.invariant.stored.copies c.args.key.now c.in_ok-kept.kept c.in_ok-kept.ensures.cases in
+    let kept = c.self.invariant.stored.copies c.args.key.now c.in_ok-node.kept c.in_ok-node.ensures.kept in
     let equal = c.requires.keyed e here in
     let forgets = forgets_taken r taken rests in
-    let added : IsAdded g.K.PartialEq.eq c.take_away-old.new.nodes c.put-new.new.nodes c.take_away-old.new.by_key c.put-new.new.by_key c.take_away-old.new.by_stamp c.put-new.new.by_stamp c.put-new.result (new_entry c.args.stamp c.in_ok-own.own c.args.charge) c.in_ok-kept.kept =
-    put_added g.met.K.Eq.laws between c.in_ok-own.ensures.cases c.in_ok-kept.ensures.cases c.put-new.ensures.free
-    (c.put-new.ensures.nodes ∙ ap (insert c.take_away-old.new.nodes.nodes c.put-new.result) entry) c.put-new.ensures.idle (forgotten g.met.K.Eq.laws c.make_room.new.by_key c.take_away-old.new.by_key e.key c.in_ok-kept.kept c.args.key.now equal kept forgets) (fresh_taken c.make_room.new.nodes c.take_away-old.new.nodes c.args.place c.args.stamp taken.nodes (fresh_among r c.args.stamp lacks)) c.put-new.ensures.by_key c.put-new.ensures.keeps
+    let added : IsAdded g.K.PartialEq.eq c.take_away-old.new.nodes c.put-new.new.nodes c.take_away-old.new.by_key c.put-new.new.by_key c.take_away-old.new.by_stamp c.put-new.new.by_stamp c.put-new.result (new_entry c.args.stamp (entry_of c.in_ok-node.node.value).key c.args.charge) c.in_ok-node.kept =
+    put_added g.met.K.Eq.laws between c.in_ok-node.ensures.own c.in_ok-node.ensures.kept c.put-new.ensures.free
+    (c.put-new.ensures.nodes ∙ ap (insert c.take_away-old.new.nodes.nodes c.put-new.result) entry) c.put-new.ensures.idle (forgotten g.met.K.Eq.laws c.make_room.new.by_key c.take_away-old.new.by_key e.key c.in_ok-node.kept c.args.key.now equal kept forgets) (fresh_taken c.make_room.new.nodes c.take_away-old.new.nodes c.args.place c.args.stamp taken.nodes (fresh_among r c.args.stamp lacks)) c.put-new.ensures.by_key c.put-new.ensures.keeps
     (λ kept q. c.put-new.ensures.by_stamp kept q ∙ ap (λ n. cond (eqb n q) (Some c.put-new.result) (mapped_place c.take_away-old.new.by_stamp q)) (ap (λ x. x.stamp) entry)) in
     subst (λ t. AddsOverIdle g.K.PartialEq.eq t c.args.place (entry_of c.take_away-old.result.value) c.args.stamp c.args.key.now c.args.charge (entries_of c.put-new.new.nodes)) (grown ∙ c.self.view_is) (record {
       mid = entries_of c.take_away-old.new.nodes;
@@ -195,8 +195,8 @@ returns-clause-ok g c =
       held = held_same g.met.K.Eq.laws r taken rests;
       work = c.take_away-old.ensures.work ∙ c.remove.ensures.work;
       added = record {
-        copy = c.in_ok-own.own;
-        same_key = c.self.invariant.stored.copies c.args.key.now c.in_ok-own.own c.in_ok-own.ensures.cases;
+        copy = (entry_of c.in_ok-node.node.value).key;
+        same_key = c.self.invariant.stored.copies c.args.key.now (entry_of c.in_ok-node.node.value).key c.in_ok-node.ensures.own;
         idle = idle_with g.met.K.Eq.laws between added;
         held = held_with g.met.K.Eq.laws between added;
         work = c.put-new.ensures.work;
