@@ -1,6 +1,4 @@
 //! An entry's stamp with a hint of its place.
-ghost use Rattle.std.specs.Prelude.{◌≡◌};
-
 use crate::list::Place;
 
 /// The stamp of an entry, and the place where a lookup of it begins.
@@ -13,16 +11,4 @@ pub struct Spot {
     pub stamp: u64,
     /// Where the entry was.
     pub place: Place,
-}
-
-impl Spot {
-    /// Returns the spot of the entry with this stamp, with no hint of its place.
-    pub fn unplaced(stamp: u64) -> Spot
-        ensures { result.stamp ≡ stamp }
-    {
-        Spot {
-            stamp,
-            place: Place::first(),
-        }
-    }
 }

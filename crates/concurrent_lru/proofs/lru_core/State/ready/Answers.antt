@@ -5,4 +5,4 @@ use Rattle.concurrent_lru.specs.Runs.{Stands}
 use Rattle.concurrent_lru.proofs.lru_core.State.ready.Goals as goal
 
 pub returns-clause-step : goal.returns-clause-step
-returns-clause-step g c = subst (λ s. Stands g.K.PartialEq.eq c.args.self.now.cache (ask.ready s c.args.value.value) (outcome_of_ready c.ready_at.result) c.ready_at.new.self.cache) c.unplaced.ensures c.ready_at.ensures.step
+returns-clause-step g c = subst (λ s. Stands g.K.PartialEq.eq c.args.self.now.cache (ask.ready s c.args.value.value) (outcome_of_ready c.ready_at.result) c.ready_at.new.self.cache) c.spot-spot.ensures c.ready_at.ensures.step

@@ -5,4 +5,4 @@ use Rattle.concurrent_lru.specs.Runs.{Stands}
 use Rattle.concurrent_lru.proofs.lru_core.State.release.Goals as goal
 
 pub returns-clause-step : goal.returns-clause-step
-returns-clause-step g c = subst (λ s. Stands g.K.PartialEq.eq c.args.self.now.cache (ask.release s) (outcome_of_release c.release_at.result) c.release_at.new.self.cache) c.unplaced.ensures c.release_at.ensures.step
+returns-clause-step g c = subst (λ s. Stands g.K.PartialEq.eq c.args.self.now.cache (ask.release s) (outcome_of_release c.release_at.result) c.release_at.new.self.cache) c.spot-spot.ensures c.release_at.ensures.step

@@ -1,0 +1,8 @@
+use Rattle.std.proofs.Common.{Ok, sym, subst}
+use Rattle.std.specs.Arc.{arc_value}
+use Rattle.concurrent_lru.specs.Inserts.{Inserts}
+use Rattle.concurrent_lru.proofs.lru_core.State.insert.Goals as goal
+
+pub returns-in-Ok-clause-step : goal.returns-in-Ok-clause-step
+returns-in-Ok-clause-step g c =
+    subst (λ new. Inserts g.K.PartialEq.eq c.args.self.now.cache c.args.key.now c.args.charge (arc_value c.args.value) (Ok c.in-Ok.inserted) new.cache) (sym c.self.view_is) c.in-Ok.ensures.step
