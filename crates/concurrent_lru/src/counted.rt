@@ -351,10 +351,7 @@ fn count_look<T>(counts: &mut Counts, found: &Result<Option<T>, Refusal>)
 // Counts the result of a begin, except an insertion: a hit, a wait, a refusal, or a miss that
 // starts a making.
 #[inline(always)]
-fn count_begin<K, V>(
-    counts: &mut Counts,
-    begun: &Result<(Begun<V>, Evicted<K, V>, Place), Refusal>,
-)
+fn count_begin<K, V>(counts: &mut Counts, begun: &Result<(Begun<V>, Evicted<K, V>, Place), Refusal>)
     ensures { counts.new ≡ counted_begin (begun_without_place begun.now) counts.old }
 {
     match begun {
@@ -371,10 +368,7 @@ fn count_begin<K, V>(
 // Whether a begin inserted an entry, which then has the stamp that was the next one. A making that
 // is taken over has an earlier stamp.
 #[inline(always)]
-fn is_insertion<K, V>(
-    begun: &Result<(Begun<V>, Evicted<K, V>, Place), Refusal>,
-    next: u64,
-) -> bool
+fn is_insertion<K, V>(begun: &Result<(Begun<V>, Evicted<K, V>, Place), Refusal>, next: u64) -> bool
     ensures { result ≡ is_insertion (begun_without_place begun.now) next }
 {
     match begun {

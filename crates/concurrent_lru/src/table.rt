@@ -165,13 +165,7 @@ impl<K: Hash + Eq + Clone, V: Drop> Table<K, V> {
     ///
     /// Returns `Memory` if a copy of the key or a growth is refused; then nothing changes.
     #[inline(never)]
-    pub fn add(
-        &mut self,
-        alloc: Global,
-        stamp: u64,
-        key: &K,
-        charge: u64,
-    ) -> Result<Place, Refusal>
+    pub fn add(&mut self, alloc: Global, stamp: u64, key: &K, charge: u64) -> Result<Place, Refusal>
         requires absent { ContainsNoKey K.eq self.old key.now }
         requires fresh { ContainsNoStamp self.old stamp }
         requires fits { charges_of self.old + charge < 2 ^ 64 }

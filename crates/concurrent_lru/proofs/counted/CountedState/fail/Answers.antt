@@ -14,7 +14,7 @@ invariant_of-self-in-Left g c =
     let old = c.self.inside.state.cache in
     let new = c.fail_at.new.self.cache in
     let step = subst (λ o. Stands g.K.PartialEq.eq old (ask.fail c.args.spot.now.stamp) (outcome_of_fail (Ok o)) new) c.in-Left.is c.in_ok-fail_at.ensures.step in
-    soundly_counted {E = g.K.PartialEq.eq} old new c.self.inside.counts c.fail-in-Left.new.self (ask.fail c.args.spot.now.stamp) (outcome_of_fail (Ok failed.Left)) c.self.invariant step c.in_ok-fail_at.ensures.lawful c.fail-in-Left.ensures
+    soundly_counted {E = g.K.PartialEq.eq} old new c.self.inside.counts c.fail.new.self (ask.fail c.args.spot.now.stamp) (outcome_of_fail (Ok failed.Left)) c.self.invariant step c.in_ok-fail_at.ensures.lawful c.fail.ensures
 
 pub remove-requires-clause-entries : goal.remove-requires-clause-entries
 remove-requires-clause-entries g c =
