@@ -12,6 +12,8 @@ use crate::uses::{
 };
 use concurrent_lru::{sharded, unsharded};
 use lru_stress::plan::KEYS;
+use lru_stress::workers::Shared;
+use lru_support::cached::Cached;
 use std::alloc::Global;
 use std::hash::RandomState;
 use std::io::Write;
@@ -55,9 +57,9 @@ pub fn run<R: Threads + Wait + Clock + RandomSource + Sync, O: Write>(
         use_alone(rt, alloc, *entries, plan.operations, &mut report)?;
     }
     for workers in [1, 2, 4, 8] {
-        stress_parts(rt, rt, alloc, workers, plan.calls, &mut report)?;
-        stress_lock(rt, rt, alloc, workers, plan.calls, &mut report)?;
-        stress_shards(rt, rt, alloc, workers, plan.calls, &mut report)?;
+        stress_parts(rt, rt, alloc, (workers, plan.calls), &mut report)?;
+        stress_lock(rt, rt, alloc, (workers, plan.calls), &mut report)?;
+        stress_shards(rt, rt, alloc, (workers, plan.calls), &mut report)?;
     }
     Ok(())
 }
@@ -71,10 +73,8 @@ fn use_map<R: Clock, O: Write>(
 ) -> Result<(), Failure> {
     let map = map_of(alloc, entries.get())?;
     let mut keys = Keys::of(entries);
-    let begin = report.start()?;
-    let sum = look_up(&map, &mut keys, operations);
     let work = Work::new(IN_A_MAP, "hit_get", entries.get(), 1, operations);
-    report.end(&work, begin, sum)
+    report.time(&work, || Ok(look_up(&map, &mut keys, operations)?))
 }
 
 // The parts of the cache that a `get` of a present key and a `get_or_init` of an absent one need.
@@ -88,15 +88,17 @@ fn use_parts<R: Wait + Clock, O: Write>(
     let parts = Parts::filled(alloc, rt, entries.get())?;
     let mut keys = Keys::of(entries);
     let work = |name| Work::new(PARTS_ON_ONE_LOCK, name, entries.get(), 1, operations);
-    let begin = report.start()?;
-    let sum = hit_parts(&parts, &mut keys, operations)?;
-    report.end(&work("hit_get"), begin, sum)?;
-    let begin = report.start()?;
-    let sum = miss_parts(&parts, entries, operations)?;
-    report.end(&work("miss_evict"), begin, sum)
+    report.time(
+        &work("hit_get"),
+        || Ok(hit_parts(&parts, &mut keys, operations)?),
+    )?;
+    report.time(
+        &work("miss_evict"),
+        || Ok(miss_parts(&parts, entries, operations)?),
+    )
 }
 
-// The three workloads of a single thread, on one cache that is full from the start.
+// The workloads of one thread, on one cache that is full from the start.
 fn use_alone<R: Wait + Clock, O: Write>(
     rt: &R,
     alloc: Global,
@@ -112,23 +114,32 @@ fn use_alone<R: Wait + Clock, O: Write>(
     fill(&cache, entries.get())?;
     let mut keys = Keys::of(entries);
     let work = |name| Work::new(ON_ONE_LOCK, name, entries.get(), 1, operations);
-    let begin = report.start()?;
-    let sum = hit_get(&cache, &mut keys, operations)?;
-    report.end(&work("hit_get"), begin, sum)?;
-    let begin = report.start()?;
-    let sum = hit_read(&cache, &mut keys, operations)?;
-    report.end(&work("hit_read"), begin, sum)?;
-    let begin = report.start()?;
-    let sum = hit_init(&cache, &mut keys, operations)?;
-    report.end(&work("hit_init"), begin, sum)?;
-    let begin = report.start()?;
-    let sum = miss_evict(&cache, operations)?;
-    report.end(&work("miss_evict"), begin, sum)
+    report.time(
+        &work("hit_get"),
+        || Ok(hit_get(&cache, &mut keys, operations)?),
+    )?;
+    report.time(
+        &work("hit_read"),
+        || Ok(hit_read(&cache, &mut keys, operations)?),
+    )?;
+    report.time(
+        &work("hit_init"),
+        || Ok(hit_init(&cache, &mut keys, operations)?),
+    )?;
+    report.time(&work("miss_evict"), || Ok(miss_evict(&cache, operations)?))
 }
 
-// Runs the stress workload on this cache of this capacity.
-fn stressed(system: &'static str, capacity: u64, workers: u16, calls: u32) -> Work {
-    Work::new(system, "stress", capacity, u32::from(workers), calls)
+// The stress workload on the cache of this name, which has this capacity.
+fn stress_cache<R: Threads + Clock + Sync, C: Shared + Sync, O: Write>(
+    rt: &R,
+    alloc: Global,
+    cache: &C,
+    (system, capacity): (&'static str, u64),
+    (workers, calls): (u16, u32),
+    report: &mut Report<'_, R, O>,
+) -> Result<(), Failure> {
+    let work = Work::new(system, "stress", capacity, workers, calls);
+    report.time(&work, || Ok(stress(rt, alloc, cache, workers, calls)?))
 }
 
 // The parts of the cache under the calls of the stress workload, each of a present key.
@@ -136,28 +147,34 @@ fn stress_parts<R: Threads + Wait + Clock + Sync, W: Wait + Clone + Drop + Sync,
     rt: &R,
     wait: W,
     alloc: Global,
-    workers: u16,
-    calls: u32,
+    work: (u16, u32),
     report: &mut Report<'_, R, O>,
 ) -> Result<(), Failure> {
     let shards = PartsInShards::filled(alloc, &wait, KEYS)?;
     let parts = Parts::filled(alloc, wait, KEYS)?;
-    let begin = report.start()?;
-    let sum = stress(rt, alloc, &parts, workers, calls)?;
-    let work = stressed(PARTS_ON_ONE_LOCK, LOCK_CAPACITY, workers, calls);
-    report.end(&work, begin, sum)?;
-    let begin = report.start()?;
-    let sum = stress(rt, alloc, &shards, workers, calls)?;
-    let work = stressed(PARTS_IN_SHARDS, SHARDS_CAPACITY, workers, calls);
-    report.end(&work, begin, sum)
+    stress_cache(
+        rt,
+        alloc,
+        &parts,
+        (PARTS_ON_ONE_LOCK, LOCK_CAPACITY),
+        work,
+        report,
+    )?;
+    stress_cache(
+        rt,
+        alloc,
+        &shards,
+        (PARTS_IN_SHARDS, SHARDS_CAPACITY),
+        work,
+        report,
+    )
 }
 
 fn stress_lock<R: Threads + Wait + Clock + Sync, W: Wait + Drop + Sync, O: Write>(
     rt: &R,
     wait: W,
     alloc: Global,
-    workers: u16,
-    calls: u32,
+    work: (u16, u32),
     report: &mut Report<'_, R, O>,
 ) -> Result<(), Failure> {
     let cache: unsharded::LruCache<u64, u64, W> = unsharded::LruCache::new(
@@ -166,10 +183,14 @@ fn stress_lock<R: Threads + Wait + Clock + Sync, W: Wait + Drop + Sync, O: Write
         LOCK_CAPACITY,
     );
     let asked = Keyed { cache: &cache };
-    let begin = report.start()?;
-    let sum = stress(rt, alloc, &asked, workers, calls)?;
-    let work = stressed(ON_ONE_LOCK, LOCK_CAPACITY, workers, calls);
-    report.end(&work, begin, sum)
+    stress_cache(
+        rt,
+        alloc,
+        &asked,
+        (ON_ONE_LOCK, LOCK_CAPACITY),
+        work,
+        report,
+    )
 }
 
 fn stress_shards<
@@ -180,8 +201,7 @@ fn stress_shards<
     rt: &R,
     wait: W,
     alloc: Global,
-    workers: u16,
-    calls: u32,
+    work: (u16, u32),
     report: &mut Report<'_, R, O>,
 ) -> Result<(), Failure> {
     let cache: sharded::LruCache<u64, u64, W> = sharded::LruCache::new(
@@ -191,10 +211,14 @@ fn stress_shards<
         RandomState::new(rt)?,
     )?;
     let asked = Keyed { cache: &cache };
-    let begin = report.start()?;
-    let sum = stress(rt, alloc, &asked, workers, calls)?;
-    let work = stressed(IN_SHARDS, SHARDS_CAPACITY, workers, calls);
-    report.end(&work, begin, sum)
+    stress_cache(
+        rt,
+        alloc,
+        &asked,
+        (IN_SHARDS, SHARDS_CAPACITY),
+        work,
+        report,
+    )
 }
 
 /// Runs the workload of reads that mostly hit, and writes a line for each cache, each kind of call
@@ -225,24 +249,15 @@ fn mostly_on_one_lock<
     wait: W,
     alloc: Global,
     mostly: &Mostly,
-    threads: u32,
+    threads: u16,
     report: &mut Report<'_, R, O>,
     err: &mut E,
 ) -> Result<(), Failure> {
-    let cache: unsharded::LruCache<u64, u64, W> = unsharded::LruCache::new(
-        alloc,
-        wait.clone()?,
-        mostly.capacity,
-    );
-    let asked = ByInit { cache: &cache };
-    ask_mostly(rt, &asked, ON_ONE_LOCK, mostly, threads, report, err)?;
-    let cache: unsharded::LruCache<u64, u64, W> = unsharded::LruCache::new(
-        alloc,
-        wait,
-        mostly.capacity,
-    );
-    let asked = ByRead { cache: &cache };
-    ask_mostly(rt, &asked, READ_ON_ONE_LOCK, mostly, threads, report, err)
+    let new = |wait| unsharded::LruCache::new(alloc, wait, mostly.capacity);
+    let first: unsharded::LruCache<u64, u64, W> = new(wait.clone()?);
+    let second: unsharded::LruCache<u64, u64, W> = new(wait);
+    let systems = (ON_ONE_LOCK, READ_ON_ONE_LOCK);
+    ask_both_ways(rt, (&first, &second), systems, mostly, threads, report, err)
 }
 
 fn mostly_in_shards<
@@ -255,26 +270,39 @@ fn mostly_in_shards<
     wait: W,
     alloc: Global,
     mostly: &Mostly,
-    threads: u32,
+    threads: u16,
     report: &mut Report<'_, R, O>,
     err: &mut E,
 ) -> Result<(), Failure> {
-    let cache: sharded::LruCache<u64, u64, W> = sharded::LruCache::new(
-        alloc,
-        wait.clone()?,
-        mostly.capacity,
-        RandomState::new(rt)?,
-    )?;
-    let asked = ByInit { cache: &cache };
-    ask_mostly(rt, &asked, IN_SHARDS, mostly, threads, report, err)?;
-    let cache: sharded::LruCache<u64, u64, W> = sharded::LruCache::new(
-        alloc,
-        wait,
-        mostly.capacity,
-        RandomState::new(rt)?,
-    )?;
-    let asked = ByRead { cache: &cache };
-    ask_mostly(rt, &asked, READ_IN_SHARDS, mostly, threads, report, err)
+    let first = new_in_shards(rt, wait.clone()?, alloc, mostly.capacity)?;
+    let second = new_in_shards(rt, wait, alloc, mostly.capacity)?;
+    let systems = (IN_SHARDS, READ_IN_SHARDS);
+    ask_both_ways(rt, (&first, &second), systems, mostly, threads, report, err)
+}
+
+fn new_in_shards<R: RandomSource, W: Wait + Clone + Drop>(
+    rt: &R,
+    wait: W,
+    alloc: Global,
+    capacity: u64,
+) -> Result<sharded::LruCache<u64, u64, W>, Failure> {
+    Ok(sharded::LruCache::new(alloc, wait, capacity, RandomState::new(rt)?)?)
+}
+
+// The workload on two empty caches, which are asked by `get_or_init` alone, and by `read` first.
+fn ask_both_ways<R: Threads + Wait + Clock + Sync, C: Cached<u64> + Sync, O: Write, E: Write>(
+    rt: &R,
+    caches: (C, C),
+    systems: (&'static str, &'static str),
+    mostly: &Mostly,
+    threads: u16,
+    report: &mut Report<'_, R, O>,
+    err: &mut E,
+) -> Result<(), Failure> {
+    let by_init = ByInit { cache: caches.0 };
+    ask_mostly(rt, &by_init, systems.0, mostly, threads, report, err)?;
+    let by_read = ByRead { cache: caches.1 };
+    ask_mostly(rt, &by_read, systems.1, mostly, threads, report, err)
 }
 
 // Runs the workload on an empty cache, which is filled before the timing begins.
@@ -283,7 +311,7 @@ fn ask_mostly<R: Threads + Wait + Clock + Sync, A: Asked + Sync, O: Write, E: Wr
     asked: &A,
     system: &'static str,
     mostly: &Mostly,
-    threads: u32,
+    threads: u16,
     report: &mut Report<'_, R, O>,
     err: &mut E,
 ) -> Result<(), Failure> {
@@ -295,12 +323,15 @@ fn ask_mostly<R: Threads + Wait + Clock + Sync, A: Asked + Sync, O: Write, E: Wr
         mostly.operations,
     );
     ask_all(asked, &mostly.draws)?;
-    let begin = report.start()?;
-    let told = read_mostly(rt, asked, &mostly.draws, threads, mostly.operations)?;
-    report.end(&work, begin, told.sum)?;
+    let mut hits = 0;
+    report.time(&work, || {
+        let told = read_mostly(rt, asked, &mostly.draws, threads, mostly.operations)?;
+        hits = told.hits;
+        Ok(told.sum)
+    })?;
     if mostly.shown == Shown::Time {
         let operations = u64::from(threads).saturating_mul(u64::from(mostly.operations));
-        writeln!(err, "# hits {work} {}", HitRatio::of(told.hits, operations))?;
+        writeln!(err, "# hits {work} {}", HitRatio::of(hits, operations))?;
     }
     Ok(())
 }

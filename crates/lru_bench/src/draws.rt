@@ -58,8 +58,8 @@ impl Draws {
     }
 
     /// Returns the draws of a worker, from its own position on.
-    pub fn of_worker(&self, worker: u32) -> Drawing<'_> {
-        let place = (worker as usize).wrapping_mul(APART);
+    pub fn of_worker(&self, worker: u16) -> Drawing<'_> {
+        let place = usize::from(worker).wrapping_mul(APART);
         Drawing {
             keys: self.keys(),
             place: place.checked_rem(self.keys.len()).unwrap_or(0),

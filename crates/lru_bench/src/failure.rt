@@ -7,7 +7,7 @@ use concurrent_lru::lru_core::Refusal;
 use lru_stress::outcome::Trouble;
 use std::alloc::{AllocError, AllocFailed};
 use std::io;
-use std::io::{ErrorKind, Write};
+use std::io::Write;
 
 /// Why the program fails.
 #[derive(Clone, Copy, Debug, PartialEq, Eq)]
@@ -27,14 +27,6 @@ pub enum Failure {
 }
 
 impl Failure {
-    /// Converts the error of reading the arguments. An argument that is not text is a usage error.
-    pub fn of_words(error: &io::Error) -> Failure {
-        match error.kind() {
-            ErrorKind::OutOfMemory => Failure::Refused(Refusal::Memory),
-            _ => Failure::Usage,
-        }
-    }
-
     /// Writes the failure to `err` in one line, and returns the exit status: 2 for invalid
     /// arguments, otherwise 1.
     pub fn report<E: Write>(self, err: &mut E) -> u8 {

@@ -86,7 +86,7 @@ pub fn read_mostly<R: Threads + Wait + Sync, A: Asked + Sync>(
     rt: &R,
     asked: &A,
     draws: &Draws,
-    threads: u32,
+    threads: u16,
     operations: u32,
 ) -> Result<Told, Refusal> {
     let (sum, hits, ended) = (AtomicU64::new(0), AtomicU64::new(0), AtomicU64::new(0));
@@ -113,7 +113,7 @@ pub fn read_mostly<R: Threads + Wait + Sync, A: Asked + Sync>(
 }
 
 // Runs one worker's operations.
-fn work<A: Asked>(asked: &A, draws: &Draws, worker: u32, operations: u32) -> Result<Told, Refusal> {
+fn work<A: Asked>(asked: &A, draws: &Draws, worker: u16, operations: u32) -> Result<Told, Refusal> {
     let mut drawing = draws.of_worker(worker);
     let mut told = Told { sum: 0, hits: 0 };
     for _ in 0..operations {

@@ -17,7 +17,7 @@ pub struct Work {
     /// The capacity of the cache.
     pub entries: u64,
     /// The number of threads that shared the operations.
-    pub threads: u32,
+    pub threads: u16,
     /// The number of operations of each thread.
     pub operations: u32,
 }
@@ -29,7 +29,7 @@ impl Work {
         system: &'static str,
         name: &'static str,
         entries: u64,
-        threads: u32,
+        threads: u16,
         operations: u32,
     ) -> Work {
         Work {
@@ -66,13 +66,16 @@ impl<'a, R: Clock, O: Write> Report<'a, R, O> {
         Report { rt, out, shown }
     }
 
-    /// Returns the time at which a workload begins.
-    pub fn start(&self) -> Result<Instant, Failure> {
-        Ok(Instant::now(self.rt)?)
-    }
-
-    /// Writes the line of a workload that has just ended.
-    pub fn end(&mut self, work: &Work, begin: Instant, sum: u64) -> Result<(), Failure> {
+    /// Runs a workload, which answers the sum of the values that it read, and writes its line.
+    pub fn time<F: FnOnce() -> Result<u64, Failure> + Drop>(
+        &mut self,
+        work: &Work,
+        run: F,
+    ) -> Result<(), Failure>
+        requires { F.IsAlwaysCallable run }
+    {
+        let begin = Instant::now(self.rt)?;
+        let sum = run()?;
         let taken = begin.elapsed(self.rt)?;
         match self.shown {
             Shown::Sum => writeln!(self.out, "{work} {sum}")?,

@@ -29,15 +29,27 @@ pub fn map_of(alloc: Global, entries: u64) -> Result<HashMap<u64, u64>, AllocErr
     Ok(map)
 }
 
-/// Looks up present keys in a map, and returns the sum of their values.
-pub fn look_up(map: &HashMap<u64, u64>, keys: &mut Keys, operations: u32) -> u64 {
+// The sum of what an operation reads, made so many times: each is given its number, from 0.
+#[inline(always)]
+fn sum_of<F: FnMut(u64) -> Result<u64, Refusal> + Drop>(
+    operations: u32,
+    mut operation: F,
+) -> Result<u64, Refusal>
+    requires { F.IsAlwaysCallable operation }
+{
     let mut sum: u64 = 0;
-    for _ in 0..operations {
-        if let Some(value) = map.get(&keys.draw()) {
-            sum = sum.wrapping_add(*value);
-        }
+    for number in 0..operations {
+        sum = sum.wrapping_add(operation(u64::from(number))?);
     }
-    sum
+    Ok(sum)
+}
+
+/// Looks up present keys in a map, and returns the sum of their values.
+pub fn look_up(map: &HashMap<u64, u64>, keys: &mut Keys, operations: u32) -> Result<u64, Refusal> {
+    sum_of(operations, |_| match map.get(&keys.draw()) {
+        Some(value) => Ok(*value),
+        None => Ok(0),
+    })
 }
 
 /// Looks up present keys by `get`, and returns the sum of their values.
@@ -46,13 +58,10 @@ pub fn hit_get<R: Wait>(
     keys: &mut Keys,
     operations: u32,
 ) -> Result<u64, Refusal> {
-    let mut sum: u64 = 0;
-    for _ in 0..operations {
-        if let Some(handle) = cache.get(keys.draw())? {
-            sum = sum.wrapping_add(*handle.value());
-        }
-    }
-    Ok(sum)
+    sum_of(operations, |_| match cache.get(keys.draw())? {
+        Some(handle) => Ok(*handle.value()),
+        None => Ok(0),
+    })
 }
 
 /// Reads present keys by `read`, and returns the sum of their values.
@@ -61,13 +70,9 @@ pub fn hit_read<R: Wait>(
     keys: &mut Keys,
     operations: u32,
 ) -> Result<u64, Refusal> {
-    let mut sum: u64 = 0;
-    for _ in 0..operations {
-        if let Some(value) = cache.read(&keys.draw(), |value| *value)? {
-            sum = sum.wrapping_add(value);
-        }
-    }
-    Ok(sum)
+    sum_of(operations, |_| {
+        Ok(cache.read(&keys.draw(), |value| *value)?.unwrap_or(0))
+    })
 }
 
 /// Asks for present keys by `get_or_init`, and returns the sum of their values. One that had to be
@@ -77,23 +82,18 @@ pub fn hit_init<R: Wait>(
     keys: &mut Keys,
     operations: u32,
 ) -> Result<u64, Refusal> {
-    let mut sum: u64 = 0;
-    for _ in 0..operations {
-        let handle = cache.get_or_init(keys.draw(), 1, |_| 0)?;
-        sum = sum.wrapping_add(*handle.value());
-    }
-    Ok(sum)
+    sum_of(operations, |_| {
+        Ok(*cache.get_or_init(keys.draw(), 1, |_| 0)?.value())
+    })
 }
 
 /// Makes absent keys, for each of which an idle one is evicted, and returns the sum of their
 /// values.
 pub fn miss_evict<R: Wait>(cache: &LruCache<u64, u64, R>, operations: u32) -> Result<u64, Refusal> {
-    let mut sum: u64 = 0;
-    for number in 0..operations {
-        let handle = cache.get_or_init(FIRST_ABSENT + u64::from(number), 1, |key| *key)?;
-        sum = sum.wrapping_add(*handle.value());
-    }
-    Ok(sum)
+    sum_of(operations, |number| {
+        let key = FIRST_ABSENT.wrapping_add(number);
+        Ok(*cache.get_or_init(key, 1, |key| *key)?.value())
+    })
 }
 
 /// `hit_get` on the parts alone.
@@ -102,13 +102,7 @@ pub fn hit_parts<R: Wait + Drop>(
     keys: &mut Keys,
     operations: u32,
 ) -> Result<u64, Refusal> {
-    let mut sum: u64 = 0;
-    for _ in 0..operations {
-        if let Some(value) = parts.hit(keys.draw())? {
-            sum = sum.wrapping_add(value);
-        }
-    }
-    Ok(sum)
+    sum_of(operations, |_| Ok(parts.hit(keys.draw())?.unwrap_or(0)))
 }
 
 /// `miss_evict` on the parts alone. The keys are evicted in an order that looks random, as the
@@ -119,9 +113,7 @@ pub fn miss_parts<R: Wait + Drop>(
     operations: u32,
 ) -> Result<u64, Refusal> {
     let mut leaving = Leaving::of(entries);
-    let mut sum: u64 = 0;
-    for number in 0..u64::from(operations) {
-        sum = sum.wrapping_add(parts.miss(leaving.draw(), FIRST_ABSENT + number)?);
-    }
-    Ok(sum)
+    sum_of(operations, |number| {
+        parts.miss(leaving.draw(), FIRST_ABSENT.wrapping_add(number))
+    })
 }

@@ -5,7 +5,7 @@
 use concurrent_lru::unsharded::GetError;
 use lru_files::{Fault, OpenError};
 use std::alloc::AllocError;
-use std::io::{ErrorKind, Write};
+use std::io::Write;
 use std::{fmt, io};
 
 /// Why the program fails. If it is about the file, it has the path.
@@ -28,14 +28,6 @@ pub enum Failure<'a> {
 }
 
 impl<'a> Failure<'a> {
-    /// Converts the error of reading the arguments.
-    pub fn of_words(error: &io::Error) -> Failure<'a> {
-        match error.kind() {
-            ErrorKind::OutOfMemory => Failure::Memory,
-            _ => Failure::NotText,
-        }
-    }
-
     /// Converts the error of a page of the file at this path.
     pub fn of_page(path: &'a str, error: GetError<Fault>) -> Failure<'a> {
         match error {
@@ -86,6 +78,8 @@ impl<'a> From<io::Error> for Failure<'a> {
 #[cfg(test)]
 mod tests {
     use super::*;
+    use lru_support::words::failure_of;
+    use std::io::ErrorKind;
     use std::test::Fail;
 
     #[test]
@@ -94,12 +88,12 @@ mod tests {
         let cases = [
             (Failure::from(AllocError), 1, "there is no memory\n"),
             (
-                Failure::of_words(&io::Error::from(AllocError)),
+                failure_of(&io::Error::from(AllocError), Failure::NotText),
                 1,
                 "there is no memory\n",
             ),
             (
-                Failure::of_words(&io::Error::from(ErrorKind::InvalidData)),
+                failure_of(&io::Error::from(ErrorKind::InvalidData), Failure::NotText),
                 2,
                 "an argument is not valid UTF-8\n",
             ),

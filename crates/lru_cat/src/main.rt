@@ -8,13 +8,12 @@ mod failure;
 mod program;
 
 use failure::Failure;
+use lru_support::words;
 use program::program;
 use std::process::ExitCode;
-use std::rt::Env;
-use std::{env, io};
 
 fn main(rt: HostRuntime) -> ExitCode {
-    let status = match words(&rt) {
+    let status = match words::after_name(&rt, Failure::NotText) {
         Ok(words) => program(
             &rt,
             &rt,
@@ -23,13 +22,7 @@ fn main(rt: HostRuntime) -> ExitCode {
             &mut rt.stdout(),
             &mut rt.stderr(),
         ),
-        Err(error) => Failure::of_words(&error).report(&mut rt.stderr()),
+        Err(failure) => failure.report(&mut rt.stderr()),
     };
     ExitCode::from(status)
-}
-
-// Returns the arguments after the program's name. Returns `OutOfMemory` if memory for one is
-// refused, and another error if one is not UTF-8.
-fn words<R: Env + AllocGlobal>(rt: &R) -> io::Result<Vec<String>> {
-    Ok(env::args(rt)?.skip(1).collect(rt.alloc())?)
 }

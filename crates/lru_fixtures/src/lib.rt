@@ -1,6 +1,6 @@
-//! What the tests and programs of the caches share: values that use the cache in their drops,
-//! meetings of threads, callers of one value, workers, marks, tables of calls, the seeded runs, and
-//! the worked rows.
+//! What tests and programs of the caches share: values that use the cache in their drops, meetings
+//! of threads, callers of one value, workers, marks, tables of calls, steps in one list, the seeded
+//! runs, and the worked rows.
 #![tactic(auto)]
 
 pub mod errands;
@@ -11,6 +11,7 @@ pub mod marks;
 pub mod meetings;
 pub mod owners;
 pub mod rows;
+pub mod steps;
 pub mod tables;
 pub mod threaded;
 pub mod workers;

@@ -53,8 +53,8 @@ pub trait Counting {
     /// Resets the counts 2,000 times, and returns how many calls the resets reported.
     fn reset_often(&self) -> u64;
 
-    /// Asks for 20,000 values, none of which is there. Returns 0, since no reset reports calls to
-    /// it.
+    /// Asks for 20,000 values, none of which is there, and answers how many of these calls found
+    /// nothing.
     fn ask_often(&self) -> u64;
 
     /// Returns the number of calls that hit, missed or waited since the last reset.
@@ -72,10 +72,13 @@ impl<C: Cached<u64>> Counting for C {
     }
 
     fn ask_often(&self) -> u64 {
+        let mut asked: u64 = 0;
         for key in 0..ASKS {
-            let _ = self.seen(key, |value| *value);
+            if let Ok(None) = self.seen(key, |value| *value) {
+                asked = asked.wrapping_add(1);
+            }
         }
-        0
+        asked
     }
 
     fn asked(&self) -> u64 {
@@ -91,14 +94,28 @@ fn asked_in(counts: &Counts) -> u64 {
         .wrapping_add(counts.waits)
 }
 
-/// Returns how many calls one worker's resets and the counts after them report, while three others
-/// ask an empty cache 20,000 times each.
+/// The calls that workers made of a cache, and those of which its counts told.
+#[derive(Clone, Copy, Debug, PartialEq, Eq)]
+pub struct Asked {
+    /// How many calls found nothing, as those who made them say.
+    pub made: u64,
+    /// How many calls the resets and the counts after the last of them told of.
+    pub told: u64,
+}
+
+/// What `asked_between_resets` comes to where each call is told of once.
+pub const EACH_ONCE: Asked = Asked {
+    made: 60_000,
+    told: 60_000,
+};
+
+/// Has three workers ask an empty cache 20,000 times each, while a fourth resets its counts.
 pub fn asked_between_resets<T: Threads + Sync, C: Counting + Sync>(
     rt: &T,
     alloc: Global,
     cache: &C,
-) -> Result<u64, AllocError> {
-    let told = thread::map_indices(
+) -> Result<Asked, AllocError> {
+    let numbers = thread::map_indices(
         rt,
         alloc,
         4,
@@ -107,9 +124,15 @@ pub fn asked_between_resets<T: Threads + Sync, C: Counting + Sync>(
             _ => cache.ask_often(),
         },
     )?;
-    let mut asked = cache.asked();
-    for part in &told {
-        asked = asked.wrapping_add(*part);
+    let mut asked = Asked {
+        made: 0,
+        told: cache.asked(),
+    };
+    for (worker, number) in numbers.iter().enumerate() {
+        match worker {
+            0 => asked.told = asked.told.wrapping_add(*number),
+            _ => asked.made = asked.made.wrapping_add(*number),
+        }
     }
     Ok(asked)
 }

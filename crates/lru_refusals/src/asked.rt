@@ -3,11 +3,10 @@
 
 use crate::told::Told;
 use concurrent_lru::lru_core::Refusal;
+use lru_fixtures::tables;
 use std::alloc::Global;
 use std::io::Write;
-
-/// What is printed for a call that the cache does not have.
-pub const NO_SUCH_CALL: &str = "no such call";
+use std::sync::Arc;
 
 /// A cache that calls can be made on. `S` is the type of a call.
 pub trait Asked<S> {
@@ -37,4 +36,57 @@ pub fn play<S: Copy + Drop, A: Asked<S>, O: Write, E: Write>(
         }
     }
     Ok(())
+}
+
+/// A call of a cache whose keys are texts.
+pub type TextCall = tables::Call<&'static str>;
+
+/// A cache whose keys are texts: copies of them ask for memory.
+pub trait AskedByText {
+    /// Makes a call that has this key. Answers as `Asked::ask` does.
+    fn ask_with_key<O: Write, E: Write>(
+        &mut self,
+        alloc: Global,
+        call: TextCall,
+        key: &String,
+        told: &mut Told<'_, O, E>,
+    ) -> Result<bool, Refusal>;
+
+    /// Stores the value of this stamp; one that comes back for want of memory is stored once more.
+    fn store<O: Write, E: Write>(
+        &mut self,
+        call: TextCall,
+        stamp: u64,
+        value: Arc<u64>,
+        told: &mut Told<'_, O, E>,
+    );
+
+    /// Makes a call that hands over plain numbers. Answers as `Asked::ask` does.
+    fn ask_plainly<O: Write, E: Write>(
+        &mut self,
+        alloc: Global,
+        call: TextCall,
+        told: &mut Told<'_, O, E>,
+    ) -> Result<bool, Refusal>;
+}
+
+impl<A: AskedByText> Asked<TextCall> for A {
+    fn ask<O: Write, E: Write>(
+        &mut self,
+        alloc: Global,
+        call: TextCall,
+        told: &mut Told<'_, O, E>,
+    ) -> Result<bool, Refusal> {
+        if let Some(key) = call.key() {
+            let key = String::from_str(alloc, key)?;
+            return self.ask_with_key(alloc, call, &key, told);
+        }
+        match call {
+            tables::Call::Ready(stamp, value) => {
+                self.store(call, stamp, Arc::new(alloc, value)?, told);
+                Ok(false)
+            }
+            _ => self.ask_plainly(alloc, call, told),
+        }
+    }
 }

@@ -3,8 +3,8 @@
 //! Each failure has its line on standard error, if any, and its exit status.
 
 use concurrent_lru::lru_core::Refusal;
-use std::io;
-use std::io::{ErrorKind, Write};
+use std::alloc::AllocError;
+use std::io::Write;
 
 /// Why the program fails.
 #[derive(Clone, Copy)]
@@ -18,14 +18,6 @@ pub enum Failure {
 }
 
 impl Failure {
-    /// Converts the error of reading the arguments. An argument that is not text is a usage error.
-    pub fn of_words(error: &io::Error) -> Failure {
-        match error.kind() {
-            ErrorKind::OutOfMemory => Failure::Memory,
-            _ => Failure::Usage,
-        }
-    }
-
     /// Writes the failure to `err` in one line, and returns the exit status: 2 for invalid
     /// arguments, otherwise 1. A failed write is not reported.
     pub fn report<E: Write>(self, err: &mut E) -> u8 {
@@ -38,6 +30,12 @@ impl Failure {
             (Failure::Usage, Ok(())) => 2,
             _ => 1,
         }
+    }
+}
+
+impl From<AllocError> for Failure {
+    fn from(_: AllocError) -> Failure {
+        Failure::Memory
     }
 }
 

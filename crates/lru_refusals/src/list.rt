@@ -1,14 +1,13 @@
 //! Steps of a cache without a lock, or of shards, as one list, which reserves the room of its
 //! answers first.
-ghost use Rattle.concurrent_lru.specs.Results.{IsCharged, request_of};
 
 use crate::told::Told;
-use concurrent_lru::lru_core::{Answer, Refusal, State, Step};
+use concurrent_lru::lru_core::{Answer, Refusal, Step};
 use concurrent_lru::sharded::{ShardStep, Shards};
+use lru_fixtures::steps::hand_over_after;
 use lru_support::hashers::ByOwnNumber;
-use std::alloc::{AllocError, Global};
+use std::alloc::Global;
 use std::io::Write;
-use std::sync::Arc;
 
 type Answers = Result<Vec<Answer<u64, u64>>, Refusal>;
 
@@ -19,13 +18,13 @@ type ShardAnswers = Result<Vec<(usize, Answer<u64, u64>)>, Refusal>;
 /// which changes nothing, or a line shows what they are; and the list is run again.
 pub fn play<O: Write, E: Write>(alloc: Global, told: &mut Told<'_, O, E>) -> Result<(), Refusal> {
     told.name("State");
-    let answers = run_from(alloc, Step::Begin(1, 3))?;
+    let answers = hand_over_after(alloc, Step::Begin(1, 3))?;
     if !is_refused(alloc, &answers, told)? {
         told.line(&"run", &answers);
         return Ok(());
     }
     drop(answers);
-    let again = run_from(alloc, Step::Begin(1, 3))?;
+    let again = hand_over_after(alloc, Step::Begin(1, 3))?;
     told.line(&"run", &again);
     Ok(())
 }
@@ -59,7 +58,7 @@ fn is_refused<O: Write, E: Write>(
         }
         Ok(answers) if matches!(answers.first(), Some(Answer::Refused(Refusal::Memory))) => {
             told.memory(&"Begin in a run");
-            let others = run_from(alloc, Step::Get(1))?;
+            let others = hand_over_after(alloc, Step::Get(1))?;
             if !matches!(&others, Ok(others) if answers.get(1..) == others.get(1..)) {
                 told.line(&"others", answers);
             }
@@ -67,28 +66,6 @@ fn is_refused<O: Write, E: Write>(
         }
         _ => Ok(false),
     }
-}
-
-// Returns the answers of an initially empty cache to this step and to some others.
-fn run_from(alloc: Global, step: Step<u64, u64>) -> Result<Answers, AllocError>
-    requires { IsCharged (request_of step) }
-{
-    let (first, second) = (Arc::new(alloc, 1)?, Arc::new(alloc, 2)?);
-    let steps = vec![in alloc;
-        step,
-        Step::Get(1),
-        Step::Begin(1, 7),
-        Step::Fail(0),
-        Step::Poll(0),
-        Step::Ready(0, first),
-        Step::Ready(0, second),
-        Step::Total,
-        Step::Release(0),
-        Step::Release(0),
-        Step::Invalidate(1),
-    ]?;
-    let mut state: State<u64, u64> = State::new(alloc, 10);
-    Ok(state.run(steps))
 }
 
 // Returns the answers of two empty shards.

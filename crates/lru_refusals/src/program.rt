@@ -73,3 +73,6 @@ fn is_asked(wanted: Option<&str>, name: &str) -> bool {
         None => true,
     }
 }
+
+#[cfg(test)]
+mod tests;

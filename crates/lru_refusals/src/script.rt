@@ -1,12 +1,12 @@
 //! A script: a cache, and the calls on it.
 
+use crate::asked::TextCall;
 use crate::shards::ShardCall;
 use crate::state::Limits;
 use crate::told::Told;
 use crate::{journal, list, meeting, shards, state, threaded, twin};
 use concurrent_lru::lru_core::Refusal;
-use lru_fixtures::tables::Call;
-use lru_fixtures::threaded::Call as SharedCall;
+use lru_fixtures::threaded::Call;
 use std::alloc::Global;
 use std::io::Write;
 use std::sync::Wait;
@@ -16,9 +16,9 @@ use std::thread::Threads;
 #[derive(Clone, Copy)]
 pub enum Script {
     /// Calls of a cache without a lock, with a capacity.
-    State(u64, &'static [Call<&'static str>]),
+    State(u64, &'static [TextCall]),
     /// Calls of a cache without a lock, with these limits.
-    Limited(Limits, &'static [Call<&'static str>]),
+    Limited(Limits, &'static [TextCall]),
     /// A list of steps of a cache without a lock.
     List,
     /// A list of steps of shards.
@@ -26,13 +26,13 @@ pub enum Script {
     /// Calls of shards, with a capacity and a number of shards.
     Shards(u64, usize, &'static [ShardCall]),
     /// Calls of a journal, with a capacity.
-    Journal(u64, &'static [Call<&'static str>]),
+    Journal(u64, &'static [TextCall]),
     /// Calls of a twin, with a capacity: those of one caller, and then those of another.
-    Twin(u64, &'static [Call<&'static str>], &'static [Call<&'static str>]),
+    Twin(u64, &'static [TextCall], &'static [TextCall]),
     /// Calls of a cache of one lock, with a capacity.
-    Unsharded(u64, &'static [SharedCall]),
+    Unsharded(u64, &'static [Call]),
     /// Calls of a cache in this many shards, with a capacity.
-    Sharded(u64, usize, &'static [SharedCall]),
+    Sharded(u64, usize, &'static [Call]),
     /// An entry that takes the room of two, on a cache of one lock.
     OverTwo,
     /// Two threads that ask for one key.

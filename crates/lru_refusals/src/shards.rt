@@ -1,7 +1,7 @@
 //! Calls of shards without a lock, whose keys are numbers: the shard of a key follows from it.
 ghost use Rattle.std.specs.Prelude.{◌<◌};
 
-use crate::asked::{Asked, NO_SUCH_CALL};
+use crate::asked::Asked;
 use crate::told::Told;
 use concurrent_lru::lru_core::Refusal;
 use concurrent_lru::sharded::Shards;
@@ -91,9 +91,6 @@ fn ask_plainly<O: Write, E: Write>(
             told.answer(&call, &shards.set_capacity_shard(shard, capacity))
         }
         Call::Total => told.answer(&call, &shards.total_shard(shard)),
-        _ => {
-            told.line(&call, &NO_SUCH_CALL);
-            false
-        }
+        _ => told.no_such_call(&call),
     }
 }

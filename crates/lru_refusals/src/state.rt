@@ -1,7 +1,7 @@
 //! Calls of a cache without a lock, whose keys are texts: copying them allocates memory.
 ghost use Rattle.std.specs.Prelude.{◌<◌};
 
-use crate::asked::{Asked, NO_SUCH_CALL};
+use crate::asked::{AskedByText, TextCall};
 use crate::told::Told;
 use concurrent_lru::lru_core::{Refusal, State};
 use lru_fixtures::tables::Call;
@@ -44,7 +44,7 @@ impl Limits {
 pub fn play<O: Write, E: Write>(
     alloc: Global,
     limits: Limits,
-    calls: &[Call<&'static str>],
+    calls: &[TextCall],
     told: &mut Told<'_, O, E>,
 ) -> Result<(), Refusal> {
     told.name("State");
@@ -55,56 +55,63 @@ pub fn play<O: Write, E: Write>(
     crate::asked::play(alloc, &mut state, calls, told)
 }
 
-impl Asked<Call<&'static str>> for State<String, u64> {
-    fn ask<O: Write, E: Write>(
+impl AskedByText for State<String, u64> {
+    fn ask_with_key<O: Write, E: Write>(
         &mut self,
         alloc: Global,
-        call: Call<&'static str>,
+        call: TextCall,
+        key: &String,
         told: &mut Told<'_, O, E>,
     ) -> Result<bool, Refusal> {
-        if let Some(key) = call.key() {
-            let key = String::from_str(alloc, key)?;
-            return ask_with_key(alloc, self, call, &key, told);
-        }
         match call {
-            Call::Ready(stamp, value) => {
-                let value = Arc::new(alloc, value)?;
-                told.line(&call, &self.ready(stamp, value));
-                Ok(false)
+            Call::Begin(_, charge) => {
+                return Ok(told.answer(&call, &self.begin(key, charge.max(1))));
             }
-            _ => Ok(ask_plainly(self, call, told)),
+            Call::Get(_) => return Ok(told.answer(&call, &self.get(key))),
+            Call::Read(_) => return Ok(told.answer(&call, &self.read(key, |value| *value))),
+            Call::Insert(_, charge, value) => {
+                let value = Arc::new(alloc, value)?;
+                insert(self, call, key, charge.max(1), value, told);
+            }
+            Call::Invalidate(_) => told.line(&call, &self.invalidate(key)),
+            _ => told.line(&call, &self.advice_evict(key)),
         }
+        Ok(false)
     }
-}
 
-// Makes a call that has this key.
-fn ask_with_key<O: Write, E: Write>(
-    alloc: Global,
-    state: &mut State<String, u64>,
-    call: Call<&'static str>,
-    key: &String,
-    told: &mut Told<'_, O, E>,
-) -> Result<bool, Refusal> {
-    match call {
-        Call::Begin(_, charge) => {
-            return Ok(told.answer(&call, &state.begin(key, charge.max(1))));
-        }
-        Call::Get(_) => return Ok(told.answer(&call, &state.get(key))),
-        Call::Read(_) => return Ok(told.answer(&call, &state.read(key, |value| *value))),
-        Call::Insert(_, charge, value) => {
-            let value = Arc::new(alloc, value)?;
-            insert(state, call, key, charge.max(1), value, told);
-        }
-        Call::Invalidate(_) => told.line(&call, &state.invalidate(key)),
-        _ => told.line(&call, &state.advice_evict(key)),
+    fn store<O: Write, E: Write>(
+        &mut self,
+        call: TextCall,
+        stamp: u64,
+        value: Arc<u64>,
+        told: &mut Told<'_, O, E>,
+    ) {
+        told.line(&call, &self.ready(stamp, value));
     }
-    Ok(false)
+
+    fn ask_plainly<O: Write, E: Write>(
+        &mut self,
+        _alloc: Global,
+        call: TextCall,
+        told: &mut Told<'_, O, E>,
+    ) -> Result<bool, Refusal> {
+        match call {
+            Call::Poll(stamp) => return Ok(told.answer(&call, &self.poll(stamp))),
+            Call::Fail(stamp) => return Ok(told.answer(&call, &self.fail(stamp))),
+            Call::Release(stamp) => return Ok(told.answer(&call, &self.release(stamp))),
+            Call::Prune => told.line(&call, &self.prune()),
+            Call::SetCapacity(capacity) => told.line(&call, &self.set_capacity(capacity)),
+            Call::Total => told.line(&call, &self.total()),
+            _ => return Ok(told.no_such_call(&call)),
+        }
+        Ok(false)
+    }
 }
 
 // Inserts a value, and again if it was refused for lack of memory.
 fn insert<O: Write, E: Write>(
     state: &mut State<String, u64>,
-    call: Call<&'static str>,
+    call: TextCall,
     key: &String,
     charge: u64,
     value: Arc<u64>,
@@ -115,22 +122,4 @@ fn insert<O: Write, E: Write>(
     if let Some(value) = told.handed_over(&call, state.insert(key, charge, value)) {
         told.line(&call, &state.insert(key, charge, value));
     }
-}
-
-// Makes a call that passes only numbers.
-fn ask_plainly<O: Write, E: Write>(
-    state: &mut State<String, u64>,
-    call: Call<&'static str>,
-    told: &mut Told<'_, O, E>,
-) -> bool {
-    match call {
-        Call::Poll(stamp) => return told.answer(&call, &state.poll(stamp)),
-        Call::Fail(stamp) => return told.answer(&call, &state.fail(stamp)),
-        Call::Release(stamp) => return told.answer(&call, &state.release(stamp)),
-        Call::Prune => told.line(&call, &state.prune()),
-        Call::SetCapacity(capacity) => told.line(&call, &state.set_capacity(capacity)),
-        Call::Total => told.line(&call, &state.total()),
-        _ => told.line(&call, &NO_SUCH_CALL),
-    }
-    false
 }

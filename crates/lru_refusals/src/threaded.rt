@@ -2,7 +2,7 @@
 //! Each handle is dropped at once, whatever the call says of it, and a charge of 0 counts as 1.
 ghost use Rattle.std.specs.Prelude.{◌<◌};
 
-use crate::asked::{Asked, NO_SUCH_CALL, play};
+use crate::asked::{Asked, play};
 use crate::told::Told;
 use concurrent_lru::lru_core::Refusal;
 use concurrent_lru::{sharded, unsharded};
@@ -188,7 +188,7 @@ fn ask_for_none<C: Cached<u64>, O: Write, E: Write>(
         Call::Invalidate(key) => cache.take_back(key),
         Call::Prune => cache.clear(),
         Call::Total => told.line(&call, &cache.total()),
-        _ => told.line(&call, &NO_SUCH_CALL),
+        _ => return told.no_such_call(&call),
     }
     false
 }

@@ -77,10 +77,18 @@ impl<'a, O: Write, E: Write> Told<'a, O, E> {
         self.is_whole &= written.is_ok();
     }
 
-    /// Writes a record.
-    pub fn record<T: Display>(&mut self, record: &T) {
-        let written = writeln!(self.out, "{record}");
-        self.is_whole &= written.is_ok();
+    /// Tells that the cache does not have a call, which is not to be made again.
+    pub fn no_such_call<C: Debug>(&mut self, call: &C) -> bool {
+        self.line(call, &"no such call");
+        false
+    }
+
+    /// Tells records, a line each.
+    pub fn records<T: Display>(&mut self, records: &[T]) {
+        for record in records {
+            let written = writeln!(self.out, "{record}");
+            self.is_whole &= written.is_ok();
+        }
     }
 
     /// Writes that a call was refused for lack of memory.

@@ -1,11 +1,11 @@
 //! Calls of a twin, whose keys are texts, and then its records.
-ghost use Rattle.std.specs.Prelude.{◌≡◌, ◌<◌};
+ghost use Rattle.std.specs.Prelude.{◌≡◌};
 
-use crate::asked::NO_SUCH_CALL;
+use crate::asked::{self, AskedByText, TextCall};
 use crate::told::Told;
 use concurrent_lru::lru_core::Refusal;
 use lru_fixtures::tables::Call;
-use lru_journal::journal::{Identity, LruCache, Opening, Pin, Record, Started, Tally};
+use lru_journal::journal::{Identity, LruCache, Opening, Pin, Started, Tally};
 use std::alloc::Global;
 use std::io::Write;
 use std::marker::Brand;
@@ -17,8 +17,8 @@ pub fn play<R: Wait, O: Write, E: Write>(
     rt: &R,
     alloc: Global,
     capacity: u64,
-    first: &[Call<&'static str>],
-    second: &[Call<&'static str>],
+    first: &[TextCall],
+    second: &[TextCall],
     told: &mut Told<'_, O, E>,
 ) -> Result<(), Refusal> {
     told.name("twin");
@@ -45,145 +45,122 @@ fn play_twin<I: Identity, R: Wait, O: Write, E: Write>(
     rt: &R,
     alloc: Global,
     opening: Opening<String>,
-    first: &[Call<&'static str>],
-    second: &[Call<&'static str>],
+    first: &[TextCall],
+    second: &[TextCall],
     told: &mut Told<'_, O, E>,
 ) -> Result<(), Refusal>
     requires { opening ≡ I.name }
 {
     let (cache, mut whole) = LruCache::<String, u64, &R, I>::new(alloc, rt, opening);
-    let mut one = whole.split(&cache);
-    let mut two = whole.split(&cache);
-    let mut ended = play_calls(alloc, &cache, &mut one, first, told);
+    let mut one = Caller::new(&cache, whole.split(&cache));
+    let mut two = Caller::new(&cache, whole.split(&cache));
+    let mut ended = asked::play(alloc, &mut one, first, told);
     if ended.is_ok() {
-        ended = play_calls(alloc, &cache, &mut two, second, told);
+        ended = asked::play(alloc, &mut two, second, told);
     }
-    whole.join(&cache, one);
-    whole.join(&cache, two);
+    whole.join(&cache, one.tally());
+    whole.join(&cache, two.tally());
     let journal = cache.into_journal(whole);
     if ended.is_ok() {
-        tell_records(journal.records(), told);
+        told.records(journal.records());
     }
     ended
 }
 
-fn tell_records<O: Write, E: Write>(records: &[Record<String>], told: &mut Told<'_, O, E>) {
-    for record in records {
-        told.record(record);
-    }
+// A caller of a twin, with one part of its tally.
+struct Caller<'c, R: Wait, I: Identity> {
+    cache: &'c LruCache<String, u64, R, I>,
+    tally: Tally<String, I>,
+    ghost one_part: { tally.parts ≡ 1 },
 }
 
-// Does what `asked::play` does, with a caller's tally.
-fn play_calls<R: Wait + Drop, I: Identity, O: Write, E: Write>(
-    alloc: Global,
-    cache: &LruCache<String, u64, R, I>,
-    tally: &mut Tally<String, I>,
-    calls: &[Call<&'static str>],
-    told: &mut Told<'_, O, E>,
-) -> Result<(), Refusal>
-    ensures { tally.new.parts ≡ tally.old.parts }
-{
-    for call in calls {
-        if ask(alloc, cache, tally, *call, told)? {
-            ask(alloc, cache, tally, *call, told)?;
-        }
+impl<'c, R: Wait + Drop, I: Identity> Caller<'c, R, I> {
+    fn new(cache: &'c LruCache<String, u64, R, I>, tally: Tally<String, I>) -> Caller<'c, R, I>
+        requires { tally.parts ≡ 1 }
+    {
+        Caller { cache, tally }
     }
-    Ok(())
-}
 
-fn ask<R: Wait + Drop, I: Identity, O: Write, E: Write>(
-    alloc: Global,
-    cache: &LruCache<String, u64, R, I>,
-    tally: &mut Tally<String, I>,
-    call: Call<&'static str>,
-    told: &mut Told<'_, O, E>,
-) -> Result<bool, Refusal>
-    ensures { tally.new.parts ≡ tally.old.parts }
-{
-    if let Some(key) = call.key() {
-        let key = String::from_str(alloc, key)?;
-        return Ok(ask_with_key(cache, tally, call, &key, told));
+    fn tally(self) -> Tally<String, I>
+        ensures { result.parts ≡ 1 }
+    {
+        let Self { cache: _, tally } = self;
+        tally
     }
-    match call {
-        Call::Ready(stamp, value) => {
-            let value = Arc::new(alloc, value)?;
-            if let Some(value) = told.handed_over(&call, cache.ready(tally, stamp, value)) {
-                told.line(&call, &cache.ready(tally, stamp, value));
+
+    // Releases a pin, and again if it was refused for lack of memory.
+    fn give_back<O: Write, E: Write>(
+        &mut self,
+        call: TextCall,
+        pin: Pin<u64>,
+        told: &mut Told<'_, O, E>,
+    ) {
+        match self.cache.release(&mut self.tally, pin) {
+            Err((Refusal::Memory, pin)) => {
+                told.memory(&call);
+                told.line(&call, &back(self.cache.release(&mut self.tally, pin)));
             }
-            Ok(false)
+            answer => told.line(&call, &back(answer)),
         }
-        Call::Release(stamp) => {
+    }
+}
+
+impl<'c, R: Wait + Drop, I: Identity> AskedByText for Caller<'c, R, I> {
+    fn ask_with_key<O: Write, E: Write>(
+        &mut self,
+        _alloc: Global,
+        call: TextCall,
+        key: &String,
+        told: &mut Told<'_, O, E>,
+    ) -> Result<bool, Refusal> {
+        let (cache, tally) = (self.cache, &mut self.tally);
+        Ok(match call {
+            Call::Begin(_, charge) => {
+                told.answer(&call, &seen(cache.begin(tally, key, charge.max(1))))
+            }
+            Call::Get(_) => told.answer(&call, &found(cache.get(tally, key))),
+            Call::Read(_) => told.answer(&call, &cache.read(tally, key, |value| *value)),
+            Call::AdviceEvict(_) => told.answer(&call, &cache.advice_evict(tally, key)),
+            Call::Invalidate(_) => told.answer(&call, &cache.invalidate(tally, key)),
+            _ => told.no_such_call(&call),
+        })
+    }
+
+    fn store<O: Write, E: Write>(
+        &mut self,
+        call: TextCall,
+        stamp: u64,
+        value: Arc<u64>,
+        told: &mut Told<'_, O, E>,
+    ) {
+        let (cache, tally) = (self.cache, &mut self.tally);
+        if let Some(value) = told.handed_over(&call, cache.ready(tally, stamp, value)) {
+            told.line(&call, &cache.ready(tally, stamp, value));
+        }
+    }
+
+    fn ask_plainly<O: Write, E: Write>(
+        &mut self,
+        alloc: Global,
+        call: TextCall,
+        told: &mut Told<'_, O, E>,
+    ) -> Result<bool, Refusal> {
+        if let Call::Release(stamp) = call {
             let value = Arc::new(alloc, stamp)?;
-            give_back(cache, tally, call, Pin::new(stamp, value), told);
-            Ok(false)
+            self.give_back(call, Pin::new(stamp, value), told);
+            return Ok(false);
         }
-        _ => Ok(ask_plainly(cache, tally, call, told)),
-    }
-}
-
-// Makes a call that has this key.
-fn ask_with_key<R: Wait + Drop, I: Identity, O: Write, E: Write>(
-    cache: &LruCache<String, u64, R, I>,
-    tally: &mut Tally<String, I>,
-    call: Call<&'static str>,
-    key: &String,
-    told: &mut Told<'_, O, E>,
-) -> bool
-    ensures { tally.new.parts ≡ tally.old.parts }
-{
-    match call {
-        Call::Begin(_, charge) => {
-            told.answer(&call, &seen(cache.begin(tally, key, charge.max(1))))
-        }
-        Call::Get(_) => told.answer(&call, &found(cache.get(tally, key))),
-        Call::Read(_) => told.answer(&call, &cache.read(tally, key, |value| *value)),
-        Call::AdviceEvict(_) => told.answer(&call, &cache.advice_evict(tally, key)),
-        Call::Invalidate(_) => told.answer(&call, &cache.invalidate(tally, key)),
-        _ => {
-            told.line(&call, &NO_SUCH_CALL);
-            false
-        }
-    }
-}
-
-// Releases a pin, and again if it was refused for lack of memory.
-fn give_back<R: Wait + Drop, I: Identity, O: Write, E: Write>(
-    cache: &LruCache<String, u64, R, I>,
-    tally: &mut Tally<String, I>,
-    call: Call<&'static str>,
-    pin: Pin<u64>,
-    told: &mut Told<'_, O, E>,
-)
-    ensures { tally.new.parts ≡ tally.old.parts }
-{
-    match cache.release(tally, pin) {
-        Err((Refusal::Memory, pin)) => {
-            told.memory(&call);
-            told.line(&call, &back(cache.release(tally, pin)));
-        }
-        answer => told.line(&call, &back(answer)),
-    }
-}
-
-// Makes a call that passes only numbers.
-fn ask_plainly<R: Wait + Drop, I: Identity, O: Write, E: Write>(
-    cache: &LruCache<String, u64, R, I>,
-    tally: &mut Tally<String, I>,
-    call: Call<&'static str>,
-    told: &mut Told<'_, O, E>,
-) -> bool
-    ensures { tally.new.parts ≡ tally.old.parts }
-{
-    match call {
-        Call::Poll(stamp) => told.answer(&call, &seen(cache.poll(tally, stamp))),
-        Call::Fail(stamp) => told.answer(&call, &cache.fail(tally, stamp)),
-        Call::Prune => told.answer(&call, &cache.prune(tally)),
-        Call::SetCapacity(capacity) => told.answer(&call, &cache.set_capacity(tally, capacity)),
-        Call::Total => told.answer(&call, &cache.total(tally)),
-        _ => {
-            told.line(&call, &NO_SUCH_CALL);
-            false
-        }
+        let (cache, tally) = (self.cache, &mut self.tally);
+        Ok(match call {
+            Call::Poll(stamp) => told.answer(&call, &seen(cache.poll(tally, stamp))),
+            Call::Fail(stamp) => told.answer(&call, &cache.fail(tally, stamp)),
+            Call::Prune => told.answer(&call, &cache.prune(tally)),
+            Call::SetCapacity(capacity) => {
+                told.answer(&call, &cache.set_capacity(tally, capacity))
+            }
+            Call::Total => told.answer(&call, &cache.total(tally)),
+            _ => told.no_such_call(&call),
+        })
     }
 }
 

@@ -36,12 +36,9 @@ impl Failure {
         }
     }
 
-    /// Converts the error of reading the arguments. An argument that is not text is a usage error.
-    pub fn of_words(error: &io::Error) -> Failure {
-        match error.kind() {
-            ErrorKind::OutOfMemory => Failure::Refused(Refusal::Memory),
-            _ => Failure::Usage,
-        }
+    /// The failure of an input with more lines, or a cache with more steps, than there are numbers.
+    pub fn out_of_numbers() -> Failure {
+        Failure::Refused(Refusal::Overflow)
     }
 
     /// Returns the same failure; a refusal becomes that of the line with this number.

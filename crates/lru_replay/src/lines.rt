@@ -6,17 +6,15 @@ use crate::expected::{Expected, MOST_BYTES};
 use crate::failure::Failure;
 use crate::parse::parse;
 use crate::step::Step;
-use concurrent_lru::lru_core::Refusal;
+use lru_support::lines;
 use std::alloc::Global;
-use std::io::{BufRead, Read};
+use std::io::BufRead;
 
 /// A reader of steps, one on each line.
 #[derive(Drop)]
 pub struct Lines<I> {
     alloc: Global,
-    input: I,
-    line: Vec<u8>,
-    number: u64,
+    lines: lines::Lines<I>,
 }
 
 impl<I: BufRead> Lines<I> {
@@ -24,46 +22,31 @@ impl<I: BufRead> Lines<I> {
     pub fn new(alloc: Global, input: I) -> Lines<I> {
         Lines {
             alloc,
-            input,
-            line: Vec::new(alloc),
-            number: 0,
+            lines: lines::Lines::new(alloc, input),
         }
     }
 
     /// Returns the number of the last line that was requested, from 1, or 0 if there was none.
     pub fn number(&self) -> u64 {
-        self.number
+        self.lines.number()
     }
 
-    /// Returns the step on the next line, or `None` at the end of the input.
+    /// The step on the next line, or none at the end of the input.
     ///
-    /// Returns `Line` if the line is not a step, `Read` if the input fails, and `Refused` if memory
-    /// is refused or the line numbers run out. The line is consumed in these cases as well.
+    /// `Line` where the line is none, `Read` where the input fails, and `Refused` where memory
+    /// is refused. The line is then read all the same.
     pub fn next(&mut self) -> Result<Option<Step>, Failure> {
-        let Some(number) = self.number.checked_add(1) else {
-            return Err(Failure::Refused(Refusal::Overflow));
-        };
-        self.number = number;
-        if !self.read()? {
-            return Ok(None);
+        // A line with its end, or what there is of it up to one byte past the longest.
+        match self.lines.read(MOST_BYTES + 1) {
+            Ok(true) => self.step().map(|step| Some(step)),
+            Ok(false) => Ok(None),
+            Err(error) => Err(Failure::of_reading(&error)),
         }
-        self.step().map(|step| Some(step))
     }
 
     /// Returns the failure of the last line, which as a whole is not what was expected.
     pub fn is_not(&self, expected: Expected) -> Failure {
         self.wrong(expected, self.text())
-    }
-
-    // Reads a line with its end, but at most one byte more than the maximum. Returns whether there
-    // was any input.
-    fn read(&mut self) -> Result<bool, Failure> {
-        self.line.clear();
-        let mut input = self.input.by_ref().take(MOST_BYTES + 1);
-        match input.read_until(b'\n', &mut self.line) {
-            Ok(count) => Ok(count > 0),
-            Err(error) => Err(Failure::of_reading(&error)),
-        }
     }
 
     // Parses the line.
@@ -80,7 +63,7 @@ impl<I: BufRead> Lines<I> {
 
     // Returns the line without its end, or `None` if it is too long or not text.
     fn text(&self) -> Option<&str> {
-        let line = match self.line.as_slice() {
+        let line = match self.lines.line() {
             [line @ .., b'\n'] => line,
             line => line,
         };
@@ -93,10 +76,10 @@ impl<I: BufRead> Lines<I> {
     // Returns the failure of the line, in which this was found instead of what was expected.
     fn wrong(&self, expected: Expected, found: Option<&str>) -> Failure {
         let Some(found) = found else {
-            return Failure::Line(self.number, expected, None);
+            return Failure::Line(self.number(), expected, None);
         };
         match String::from_str(self.alloc, found) {
-            Ok(found) => Failure::Line(self.number, expected, Some(found)),
+            Ok(found) => Failure::Line(self.number(), expected, Some(found)),
             Err(error) => Failure::from(error),
         }
     }

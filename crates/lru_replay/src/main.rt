@@ -25,11 +25,11 @@ fn main(rt: HostRuntime) -> ExitCode {
         input,
         LineWriter::new(alloc, rt.stdout())?,
     )));
-    let status = match (words::after_name(&rt), streams) {
+    let status = match (words::after_name(&rt, Failure::Usage), streams) {
         (Ok(words), Ok((input, mut out))) => {
             program(alloc, &rt, &words, input, &mut out, &mut rt.stderr())
         }
-        (Err(error), _) => Failure::of_words(&error).report(&mut rt.stderr()),
+        (Err(failure), _) => failure.report(&mut rt.stderr()),
         (_, Err(error)) => Failure::of_reading(&error).report(&mut rt.stderr()),
     };
     ExitCode::from(status)

@@ -9,7 +9,6 @@ use crate::lines::Lines;
 use crate::session::{Handle, Session};
 use crate::slots::Slots;
 use crate::step::Step;
-use concurrent_lru::lru_core::Refusal;
 use std::alloc::Global;
 use std::io::{BufRead, Write};
 use std::sync::Wait;
@@ -36,7 +35,7 @@ pub fn replay<R: Wait + Clone + Drop, I: BufRead, O: Write>(
             Some(next) => capacity = next,
         }
     }
-    Err(Failure::Refused(Refusal::Overflow))
+    Err(Failure::out_of_numbers())
 }
 
 // Creates a cache and runs the steps on it, up to the end of the input or the next step that
@@ -70,7 +69,7 @@ fn run_steps<'a, R: Wait + Clone + Drop, I: BufRead, O: Write>(
             Some(next) => next,
         };
     }
-    Err(Failure::Refused(Refusal::Overflow))
+    Err(Failure::out_of_numbers())
 }
 
 // Writes a step with its answer and its drops.

@@ -6,7 +6,7 @@ use concurrent_lru::lru_core::Refusal;
 use lru_stress::outcome::Trouble;
 use std::alloc::{AllocError, AllocFailed};
 use std::io;
-use std::io::{ErrorKind, Write};
+use std::io::Write;
 
 /// Why the program fails.
 #[derive(Clone, Copy)]
@@ -22,14 +22,6 @@ pub enum Failure {
 }
 
 impl Failure {
-    /// Converts the error of reading the arguments. An argument that is not text is a usage error.
-    pub fn of_words(error: &io::Error) -> Failure {
-        match error.kind() {
-            ErrorKind::OutOfMemory => Failure::Refused(Refusal::Memory),
-            _ => Failure::Usage,
-        }
-    }
-
     /// Writes the failure to `err` in one line, and returns the exit status: 2 for invalid
     /// arguments, otherwise 1.
     pub fn report<E: Write>(self, err: &mut E) -> u8 {
@@ -79,13 +71,15 @@ impl From<io::Error> for Failure {
 mod tests {
     use super::*;
     use lru_stress::outcome::Check;
+    use lru_support::words::failure_of;
+    use std::io::ErrorKind;
     use std::test::Fail;
 
     #[test]
     fn has_a_line_and_a_status(rt: HostRuntime) -> Result<(), Fail> {
         let cases = [
             (
-                Failure::of_words(&io::Error::from(ErrorKind::OutOfMemory)),
+                failure_of(&io::Error::from(ErrorKind::OutOfMemory), Failure::Usage),
                 "refused 1\n",
                 1,
             ),

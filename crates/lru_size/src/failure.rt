@@ -71,14 +71,6 @@ pub enum Failure {
 }
 
 impl Failure {
-    /// Converts an error from reading the arguments.
-    pub fn from_args_error(error: &io::Error) -> Failure {
-        match error.kind() {
-            ErrorKind::OutOfMemory => Failure::OutOfMemory,
-            _ => Failure::NotUtf8,
-        }
-    }
-
     /// Converts an error from reading standard input.
     pub fn from_read_error(error: &io::Error) -> Failure {
         match error.kind() {

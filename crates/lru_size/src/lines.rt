@@ -2,6 +2,7 @@
 ghost use Rattle.std.specs.Prelude.{◌<◌};
 
 use crate::failure::{Expected, Failure};
+use lru_support::lines;
 use std::alloc::Global;
 use std::io::BufRead;
 
@@ -21,9 +22,7 @@ pub struct Use<'a> {
 #[derive(Drop)]
 pub struct Lines<I> {
     alloc: Global,
-    input: I,
-    line: Vec<u8>,
-    number: u64,
+    lines: lines::Lines<I>,
 }
 
 impl<I: BufRead> Lines<I> {
@@ -31,15 +30,13 @@ impl<I: BufRead> Lines<I> {
     pub fn new(alloc: Global, input: I) -> Lines<I> {
         Lines {
             alloc,
-            input,
-            line: Vec::new(alloc),
-            number: 0,
+            lines: lines::Lines::new(alloc, input),
         }
     }
 
     /// Returns the number of the current line. The first line has the number 1.
     pub fn number(&self) -> u64 {
-        self.number
+        self.lines.number()
     }
 
     /// Reads the next line, which becomes the current one. Returns `false` at the end of the input.
@@ -48,15 +45,9 @@ impl<I: BufRead> Lines<I> {
     ///
     /// `Read` if the input cannot be read, and `OutOfMemory` if memory runs out.
     pub fn advance(&mut self) -> Result<bool, Failure> {
-        self.line.clear();
-        match self.input.read_until(b'\n', &mut self.line) {
-            Ok(0) => Ok(false),
-            Ok(_) => {
-                self.number = self.number.saturating_add(1);
-                Ok(true)
-            }
-            Err(error) => Err(Failure::from_read_error(&error)),
-        }
+        self.lines
+            .read(u64::MAX)
+            .map_err(|error| Failure::from_read_error(&error))
     }
 
     /// Parses the current line: a key, and its charge unless that is 1.
@@ -65,7 +56,7 @@ impl<I: BufRead> Lines<I> {
     ///
     /// `Line` if the line is not a use, and `OutOfMemory` if memory runs out.
     pub fn parse(&self) -> Result<Use<'_>, Failure> {
-        let Ok(text) = str::from_utf8(&self.line) else {
+        let Ok(text) = str::from_utf8(self.lines.line()) else {
             return Err(self.error(Expected::Utf8, None));
         };
         let mut words = text.split_ascii_whitespace();
@@ -97,14 +88,14 @@ impl<I: BufRead> Lines<I> {
     fn error(&self, expected: Expected, found: Option<&str>) -> Failure {
         let Some(found) = found else {
             return Failure::Line {
-                line: self.number,
+                line: self.number(),
                 expected,
                 found: None,
             };
         };
         match String::from_str(self.alloc, found) {
             Ok(found) => Failure::Line {
-                line: self.number,
+                line: self.number(),
                 expected,
                 found: Some(found),
             },

@@ -30,7 +30,7 @@ fn main(rt: HostRuntime) -> ExitCode {
         BufWriter::new(alloc, rt.stdout())?,
     )));
     let mut err = rt.stderr();
-    let status = match (words::after_name(&rt), buffers) {
+    let status = match (words::after_name(&rt, Failure::NotUtf8), buffers) {
         (Ok(args), Ok((input, mut out))) => {
             let err_is_terminal = err.as_fd().is_terminal();
             let streams = Streams {
@@ -41,7 +41,7 @@ fn main(rt: HostRuntime) -> ExitCode {
             };
             program(alloc, &rt, &args, streams)
         }
-        (Err(error), _) => Failure::from_args_error(&error).report(&mut err),
+        (Err(failure), _) => failure.report(&mut err),
         (_, Err(error)) => Failure::from_read_error(&error).report(&mut err),
     };
     ExitCode::from(status)

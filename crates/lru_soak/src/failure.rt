@@ -3,8 +3,9 @@
 //! Each failure has its line on standard error, and its exit status.
 
 use lru_stress::outcome::{Check, Trouble};
+use std::alloc::AllocError;
 use std::io;
-use std::io::{ErrorKind, Write};
+use std::io::Write;
 
 /// Why the program fails.
 #[derive(Clone, Copy)]
@@ -20,14 +21,6 @@ pub enum Failure {
 }
 
 impl Failure {
-    /// Converts the error of reading the arguments. An argument that is not text is a usage error.
-    pub fn of_words(error: &io::Error) -> Failure {
-        match error.kind() {
-            ErrorKind::OutOfMemory => Failure::Refused,
-            _ => Failure::Usage,
-        }
-    }
-
     /// Converts the failure of the round of a seed.
     pub fn of_round(seed: u64, trouble: Trouble) -> Failure {
         match trouble {
@@ -49,6 +42,12 @@ impl Failure {
             (Failure::Usage, Ok(())) => 2,
             _ => 1,
         }
+    }
+}
+
+impl From<AllocError> for Failure {
+    fn from(_: AllocError) -> Failure {
+        Failure::Refused
     }
 }
 

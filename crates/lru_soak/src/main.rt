@@ -12,9 +12,9 @@ use program::program;
 use std::process::ExitCode;
 
 fn main(rt: HostRuntime) -> ExitCode {
-    let status = match words::after_name(&rt) {
+    let status = match words::after_name(&rt, Failure::Usage) {
         Ok(words) => program(&rt, rt.alloc(), &words, &mut rt.stdout(), &mut rt.stderr()),
-        Err(error) => Failure::of_words(&error).report(&mut rt.stderr()),
+        Err(failure) => failure.report(&mut rt.stderr()),
     };
     ExitCode::from(status)
 }

@@ -7,6 +7,9 @@ ghost use Rattle.std.specs.Prelude.{◌<◌};
 /// its own. It is a constant, so that drawing a call takes no division.
 pub const KEYS: u64 = 100;
 
+/// How many calls a worker makes where nothing else is said.
+pub const CALLS: u32 = 10_000;
+
 /// The size of a stress run, and its caches.
 #[derive(Clone, Copy)]
 pub struct Plan {
@@ -38,7 +41,7 @@ impl Plan {
         Plan {
             seed,
             workers: 8,
-            calls: 10_000,
+            calls: CALLS,
             lock_capacity: 100,
             shards_capacity: 128,
             shards: 16,

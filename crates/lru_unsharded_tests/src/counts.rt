@@ -4,7 +4,7 @@
 use crate::makings::{MEETINGS, one_fails_and_one_makes};
 use concurrent_lru::unsharded::{Counts, GetError, LruCache};
 use lru_fixtures::makings::values_of_two;
-use lru_fixtures::workers::asked_between_resets;
+use lru_fixtures::workers::{EACH_ONCE, asked_between_resets};
 use std::alloc::Global;
 use std::sync::Wait;
 use std::test::Fail;
@@ -412,6 +412,6 @@ fn four_threads_counts_add_up(rt: HostRuntime) -> Result<(), Fail> {
 #[test]
 fn each_call_is_counted_in_one_reset(rt: HostRuntime) -> Result<(), Fail> {
     let cache: LruCache<u64, u64, &HostRuntime> = LruCache::new(rt.alloc(), &rt, 8);
-    assert_eq!(rt; asked_between_resets(&rt, rt.alloc(), &&cache)?, 60_000);
+    assert_eq!(rt; asked_between_resets(&rt, rt.alloc(), &&cache)?, EACH_ONCE);
     Ok(())
 }

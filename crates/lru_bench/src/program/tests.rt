@@ -1,6 +1,7 @@
 //! Runs of the program in memory: its output and its status.
 
 use super::program;
+use lru_support::output::Output;
 use lru_support::words::words;
 use lru_support::writer::Limited;
 use std::test::Fail;
@@ -58,12 +59,10 @@ fn ends_at_a_failed_write(rt: HostRuntime) -> Result<(), Fail> {
     let status = program(&rt, alloc, &words, &mut whole, &mut err);
     assert_eq!(rt; status, 0);
     assert_eq!(rt; str::from_utf8(&err)?, "");
-    for room in [0, 1, 200, whole.len().saturating_sub(1)] {
-        let (mut out, mut err) = (Limited::new(alloc, room), Vec::new(alloc));
+    for room in [0, 1, 200, whole.len().saturating_sub(1), whole.len()] {
+        let (mut out, mut err) = (Limited::new(alloc, room), Limited::new(alloc, 9_999));
         let status = program(&rt, alloc, &words, &mut out, &mut err);
-        assert_eq!(rt; status, 1, "at {room} bytes");
-        assert_eq!(rt; str::from_utf8(&err)?, SYSTEM, "at {room} bytes");
-        assert_eq!(rt; Some(out.bytes()), whole.get(..room), "at {room} bytes");
+        Output { status, out, err }.ends_at(room, str::from_utf8(&whole)?, SYSTEM)?;
     }
     Ok(())
 }

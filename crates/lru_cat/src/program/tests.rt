@@ -1,14 +1,19 @@
 //! Runs of the program in memory: its output and its status.
 
 use super::program;
+use lru_support::output::Output;
+use lru_support::words::words;
+use lru_support::writer::Limited;
 use std::alloc::{AllocError, Allocator, Global};
 use std::fs::{File, Files, Metadata, OpenOptions};
-use std::io::{ErrorKind, Write};
+use std::io::ErrorKind;
 use std::sync::Wait;
 use std::test::Fail;
 use std::{env, fs, io};
 
 const USAGE: &str = "usage: lru_cat FILE [PAGES]\n";
+
+const UNWRITTEN: &str = "lru_cat: cannot write standard output: broken pipe\n";
 
 // The output of a run, and how it ended.
 #[derive(Drop)]
@@ -22,14 +27,10 @@ fn run<R: Wait, F: Files<File = File>>(
     rt: &R,
     files: &F,
     alloc: Global,
-    words: &[&str],
+    asked: &[&str],
 ) -> Result<Ended, AllocError> {
-    let words: Vec<String> = words
-        .iter()
-        .map(|word| String::from_str(alloc, *word))
-        .try_collect(alloc)?;
     let (mut out, mut err) = (Vec::new(alloc), Vec::new(alloc));
-    let status = program(rt, files, alloc, &words, &mut out, &mut err);
+    let status = program(rt, files, alloc, &words(alloc, asked)?, &mut out, &mut err);
     Ok(Ended { status, out, err })
 }
 
@@ -211,33 +212,18 @@ fn tells_why_a_path_is_not_opened(rt: HostRuntime) -> Result<(), Fail> {
     Ok(())
 }
 
-// A writer that accepts nothing.
-#[derive(Drop)]
-struct Full;
-
-impl Write for Full {
-    fn write(&mut self, _buf: &[u8]) -> io::Result<usize> {
-        Err(io::Error::from(ErrorKind::StorageFull))
-    }
-
-    fn flush(&mut self) -> io::Result<()> {
-        Ok(())
-    }
-}
-
 #[test]
 fn ends_at_a_failed_write(rt: HostRuntime) -> Result<(), Fail> {
     let alloc = rt.alloc();
     let mut path = env::temp_dir(&rt)?;
     path.push("lru_cat_ends")?;
     fs::write(&rt, path.as_path(), "some bytes")?;
-    let words = vec![in alloc; String::from_str(alloc, path.as_str())?]?;
-    let mut err = Vec::new(alloc);
-    assert_eq!(rt; program(&rt, &rt, alloc, &words, &mut Full, &mut err), 1);
-    assert_eq!(rt;
-        str::from_utf8(&err)?,
-        "lru_cat: cannot write standard output: no storage space\n"
-    );
+    let asked = words(alloc, &[path.as_str()])?;
+    for room in [0, 1, 9] {
+        let (mut out, mut err) = (Limited::new(alloc, room), Limited::new(alloc, 9_999));
+        let status = program(&rt, &rt, alloc, &asked, &mut out, &mut err);
+        Output { status, out, err }.ends_at(room, "some bytes", UNWRITTEN)?;
+    }
     fs::remove_file(&rt, path.as_path())?;
     Ok(())
 }

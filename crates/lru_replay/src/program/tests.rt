@@ -1,11 +1,12 @@
 //! Runs of the program in memory: its output and its status.
 
 use super::program;
+use lru_support::output::{Output, ends_at_failed_writes};
+use lru_support::reader::Broken;
 use lru_support::words::words;
 use lru_support::writer::Limited;
 use std::alloc::Global;
-use std::io;
-use std::io::{BufRead, BufReader, ErrorKind, Read};
+use std::io::{BufRead, BufReader};
 use std::sync::Wait;
 use std::test::Fail;
 
@@ -114,32 +115,18 @@ const WRONG: [(&str, &str); 21] = [
 // More bytes than any test writes.
 const ROOM: usize = 9_999;
 
-// A reader of some bytes that fails after the last.
-#[derive(Drop)]
-struct Broken<'a>(&'a [u8]);
-
-impl<'a> Read for Broken<'a> {
-    fn read(&mut self, buf: &mut [u8]) -> io::Result<usize> {
-        if self.0.is_empty() {
-            return Err(io::Error::from(ErrorKind::BrokenPipe));
-        }
-        self.0.read(buf)
-    }
-}
-
-// Runs the program with a first writer that accepts this many bytes, and checks its status and its
-// output.
+// Runs the program, whose first writer takes so many bytes.
 fn ends<R: Wait + Clone + Drop, I: BufRead + Drop>(
     rt: &R,
     alloc: Global,
     asked: &[&str],
     input: I,
     room: usize,
-) -> Result<(u8, Limited, Limited), Fail> {
+) -> Result<Output, Fail> {
     let asked = words(alloc, asked)?;
     let (mut out, mut err) = (Limited::new(alloc, room), Limited::new(alloc, ROOM));
     let status = program(alloc, rt, &asked, input, &mut out, &mut err);
-    Ok((status, out, err))
+    Ok(Output { status, out, err })
 }
 
 #[test]
@@ -161,10 +148,8 @@ fn answers_each_step(rt: HostRuntime) -> Result<(), Fail> {
         ),
     ];
     for (input, told, said, wanted) in cases {
-        let (status, out, err) = ends(&rt, rt.alloc(), &[], input.as_bytes(), ROOM)?;
-        assert_eq!(rt; str::from_utf8(err.bytes())?, said, "at {input}");
-        assert_eq!(rt; str::from_utf8(out.bytes())?, told, "at {input}");
-        assert_eq!(rt; status, wanted, "at {input}");
+        let ended = ends(&rt, rt.alloc(), &[], input.as_bytes(), ROOM)?;
+        ended.ends_with(&input, wanted, told, said)?;
     }
     Ok(())
 }
@@ -173,10 +158,8 @@ fn answers_each_step(rt: HostRuntime) -> Result<(), Fail> {
 fn takes_no_words(rt: HostRuntime) -> Result<(), Fail> {
     let cases: [&[&str]; 3] = [&["steps"], &[""], &["-h", "now"]];
     for asked in cases {
-        let (status, out, err) = ends(&rt, rt.alloc(), asked, STEPS.as_bytes(), ROOM)?;
-        assert_eq!(rt; str::from_utf8(err.bytes())?, USAGE, "at {asked:?}");
-        assert!(rt; out.bytes().is_empty(), "at {asked:?}");
-        assert_eq!(rt; status, 2, "at {asked:?}");
+        let ended = ends(&rt, rt.alloc(), asked, STEPS.as_bytes(), ROOM)?;
+        ended.ends_with(&asked, 2, "", USAGE)?;
     }
     Ok(())
 }
@@ -187,14 +170,8 @@ fn tells_what_a_line_should_be(rt: HostRuntime) -> Result<(), Fail> {
     for (line, said) in WRONG {
         let input = format!(in alloc; "new 1\n{line}\nprune\n")?;
         let said = format!(in alloc; "line 2: expected {said}\n")?;
-        let (status, out, err) = ends(&rt, alloc, &[], input.as_str().as_bytes(), ROOM)?;
-        assert_eq!(rt; str::from_utf8(err.bytes())?, said.as_str(), "at {line}");
-        assert_eq!(rt;
-            str::from_utf8(out.bytes())?,
-            "new 1 => done []\n",
-            "at {line}"
-        );
-        assert_eq!(rt; status, 1, "at {line}");
+        let ended = ends(&rt, alloc, &[], input.as_str().as_bytes(), ROOM)?;
+        ended.ends_with(&line, 1, "new 1 => done []\n", said.as_str())?;
     }
     Ok(())
 }
@@ -208,52 +185,39 @@ fn reads_lines_up_to_their_limit(rt: HostRuntime) -> Result<(), Fail> {
         (9_999, "line 1: expected text of at most 1000 bytes\n"),
     ] {
         let input = format!(in alloc; "new {:0>zeros$}1\n", "")?;
-        let (status, _, err) = ends(&rt, alloc, &[], input.as_str().as_bytes(), ROOM)?;
-        assert_eq!(rt; str::from_utf8(err.bytes())?, told, "at {zeros} zeros");
-        assert_eq!(rt; status == 0, told.is_empty(), "at {zeros} zeros");
+        let ended = ends(&rt, alloc, &[], input.as_str().as_bytes(), ROOM)?;
+        assert_eq!(rt; ended.err()?, told, "at {zeros} zeros");
+        assert_eq!(rt; ended.status == 0, told.is_empty(), "at {zeros} zeros");
     }
     Ok(())
 }
 
 #[test]
 fn ends_at_a_failed_write(rt: HostRuntime) -> Result<(), Fail> {
-    for room in 0..=ANSWERS.len() {
-        let (status, out, err) = ends(&rt, rt.alloc(), &[], STEPS.as_bytes(), room)?;
-        let (wanted, said) = if room < ANSWERS.len() {
-            (1, UNWRITTEN)
-        } else {
-            (0, "")
-        };
-        assert_eq!(rt; status, wanted, "at {room} bytes");
-        assert_eq!(rt; str::from_utf8(err.bytes())?, said, "at {room} bytes");
-        assert_eq!(rt;
-            Some(out.bytes()),
-            ANSWERS.as_bytes().get(..room),
-            "at {room} bytes"
-        );
-    }
-    Ok(())
+    ends_at_failed_writes(ANSWERS, UNWRITTEN, |room| {
+        ends(&rt, rt.alloc(), &[], STEPS.as_bytes(), room)
+    })
 }
 
 #[test]
 fn ends_at_a_failed_read(rt: HostRuntime) -> Result<(), Fail> {
     let alloc = rt.alloc();
     let input = BufReader::new(alloc, Broken("new 1\nprune".as_bytes()))?;
-    let (status, out, err) = ends(&rt, alloc, &[], input, ROOM)?;
-    assert_eq!(rt; str::from_utf8(out.bytes())?, "new 1 => done []\n");
-    assert_eq!(rt; str::from_utf8(err.bytes())?, UNREAD);
-    assert_eq!(rt; status, 1);
+    let ended = ends(&rt, alloc, &[], input, ROOM)?;
+    assert_eq!(rt; ended.out()?, "new 1 => done []\n");
+    assert_eq!(rt; ended.err()?, UNREAD);
+    assert_eq!(rt; ended.status, 1);
     Ok(())
 }
 
 #[test]
 fn reads_text_alone(rt: HostRuntime) -> Result<(), Fail> {
     let input: &[u8] = b"new \xff\n";
-    let (status, _, err) = ends(&rt, rt.alloc(), &[], input, ROOM)?;
+    let ended = ends(&rt, rt.alloc(), &[], input, ROOM)?;
     assert_eq!(rt;
-        str::from_utf8(err.bytes())?,
+        ended.err()?,
         "line 1: expected text of at most 1000 bytes\n"
     );
-    assert_eq!(rt; status, 1);
+    assert_eq!(rt; ended.status, 1);
     Ok(())
 }

@@ -2,6 +2,7 @@
 
 use super::program;
 use crate::failure::Failure;
+use lru_support::output::{Output, ends_at_failed_writes};
 use lru_support::words::after_name;
 use lru_support::writer::Limited;
 use std::alloc::Global;
@@ -41,6 +42,9 @@ get 1 -> none
 row 22: [0]; some; some; none
 ";
 
+// How many calls a worker of the stress workload makes: few, so that a test's time is enough.
+const CALLS: u32 = 200;
+
 const USAGE: &str = "usage: rows | stress SEED\n";
 
 const UNWRITTEN: &str = "lru_rows: cannot write standard output: broken pipe\n";
@@ -76,20 +80,29 @@ fn run<R: Threads + Wait + Clone + Drop + Send + Sync>(
     alloc: Global,
     asked: &str,
     room: (usize, usize),
-) -> Result<(u8, Limited, Limited), Fail> {
+) -> Result<Output, Fail> {
     let asked: Vec<String> = asked
         .split('/')
         .skip(1)
         .map(|word| String::from_str(alloc, word))
         .try_collect(alloc)?;
     let (mut out, mut err) = (Limited::new(alloc, room.0), Limited::new(alloc, room.1));
-    let status = program(rt, alloc, &asked, &mut out, &mut err);
-    Ok((status, out, err))
+    let status = program(rt, alloc, CALLS, &asked, &mut out, &mut err);
+    Ok(Output { status, out, err })
 }
 
 // The arguments, how many bytes the two writers accept, the status, and the output.
-const ENDS: [(&str, (usize, usize), u8, &str, &str); 18] = [
+const ENDS: [(&str, (usize, usize), u8, &str, &str); 23] = [
     ("/rows", (9_999, 9_999), 0, ROWS, ""),
+    ("/stress/1", (9_999, 9_999), 0, "stress ok\n", ""),
+    (
+        "/stress/18446744073709551615",
+        (9_999, 9_999),
+        0,
+        "stress ok\n",
+        "",
+    ),
+    ("/stress/007", (9_999, 9_999), 0, "stress ok\n", ""),
     ("", (9_999, 9_999), 2, "", USAGE),
     ("/", (9_999, 9_999), 2, "", USAGE),
     ("/row", (9_999, 9_999), 2, "", USAGE),
@@ -107,43 +120,34 @@ const ENDS: [(&str, (usize, usize), u8, &str, &str); 18] = [
     ("/Stress/1", (9_999, 9_999), 2, "", USAGE),
     ("", (9_999, 0), 1, "", ""),
     ("/rows", (0, 9_999), 1, "", UNWRITTEN),
+    ("/rows", (0, 0), 1, "", ""),
+    ("/stress/1", (9, 9_999), 1, "stress ok", UNWRITTEN),
 ];
 
 #[test]
 fn ends_with_a_status(rt: HostRuntime) -> Result<(), Fail> {
     for (asked, room, wanted, told, said) in ENDS {
-        let (status, out, err) = run(&rt, rt.alloc(), asked, room)?;
-        assert_eq!(rt; status, wanted, "at {asked:?}");
-        assert_eq!(rt; str::from_utf8(out.bytes())?, told, "at {asked:?}");
-        assert_eq!(rt; str::from_utf8(err.bytes())?, said, "at {asked:?}");
+        run(&rt, rt.alloc(), asked, room)?.ends_with(&asked, wanted, told, said)?;
     }
     Ok(())
 }
 
 #[test]
 fn ends_at_a_failed_write(rt: HostRuntime) -> Result<(), Fail> {
-    for room in 0..=ROWS.len() {
-        let (status, out, err) = run(&rt, rt.alloc(), "/rows", (room, 9_999))?;
-        let (wanted, said) = if room < ROWS.len() {
-            (1, UNWRITTEN)
-        } else {
-            (0, "")
-        };
-        assert_eq!(rt; status, wanted, "at {room} bytes");
-        assert_eq!(rt; str::from_utf8(err.bytes())?, said, "at {room} bytes");
-        assert_eq!(rt;
-            Some(out.bytes()),
-            ROWS.as_bytes().get(..room),
-            "at {room} bytes"
-        );
-    }
-    Ok(())
+    ends_at_failed_writes(
+        ROWS,
+        UNWRITTEN,
+        |room| run(&rt, rt.alloc(), "/rows", (room, 9_999)),
+    )
 }
 
 #[test]
 fn reads_its_words(rt: HostRuntime) -> Result<(), Fail> {
     let args: &[&[u8]] = &[b"lru_rows", b"rows", b""];
-    let read = after_name(&(Arguments(args), rt.alloc()))?;
+    let read = after_name(&(Arguments(args), rt.alloc()), Failure::Usage);
+    let Ok(read) = read else {
+        return Err(Fail::from("the words were not read"));
+    };
     assert_eq!(rt; read.len(), 2);
     assert_eq!(rt; read[0].as_str(), "rows");
     assert_eq!(rt; read[1].as_str(), "");
@@ -153,7 +157,6 @@ fn reads_its_words(rt: HostRuntime) -> Result<(), Fail> {
 #[test]
 fn knows_no_word_that_is_no_text(rt: HostRuntime) {
     let args: &[&[u8]] = &[b"lru_rows", &[0xff]];
-    let read = after_name(&(Arguments(args), rt.alloc()));
-    let failure = read.err().map(|error| Failure::of_words(&error));
-    assert!(rt; matches!(failure, Some(Failure::Usage)));
+    let read = after_name(&(Arguments(args), rt.alloc()), Failure::Usage);
+    assert!(rt; matches!(read.err(), Some(Failure::Usage)));
 }

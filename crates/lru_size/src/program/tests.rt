@@ -1,14 +1,16 @@
 //! Runs of the program in memory.
 
 use super::{Streams, program};
+use lru_support::output::{Output, ends_at_failed_writes};
+use lru_support::reader::Broken;
 use lru_support::words::words;
 use lru_support::writer::Limited;
 use std::alloc::Global;
+use std::env;
 use std::fs::{self, File, Files};
-use std::io::{BufRead, BufReader, ErrorKind, Read};
+use std::io::{BufRead, BufReader};
 use std::rt::Env;
 use std::test::Fail;
-use std::{env, io};
 
 // The trace of docs/PROMISES.md.
 const TRACE: &[u8] = b"a 2\nb 3\na 2\nc 2\nb 3\nd 7\nc 2\n";
@@ -27,37 +29,6 @@ const UNWRITTEN: &str = "lru_size: cannot write standard output: broken pipe\n";
 
 // More bytes than any test writes.
 const ROOM: usize = 99_999;
-
-// A reader of some bytes that fails after the last.
-#[derive(Drop)]
-struct Broken<'a>(&'a [u8]);
-
-impl<'a> Read for Broken<'a> {
-    fn read(&mut self, buf: &mut [u8]) -> io::Result<usize> {
-        if self.0.is_empty() {
-            return Err(io::Error::from(ErrorKind::BrokenPipe));
-        }
-        self.0.read(buf)
-    }
-}
-
-// The exit status of a run, and what it wrote.
-#[derive(Drop)]
-struct Output {
-    status: u8,
-    out: Limited,
-    err: Limited,
-}
-
-impl Output {
-    fn out(&self) -> Result<&str, Fail> {
-        Ok(str::from_utf8(self.out.bytes())?)
-    }
-
-    fn err(&self) -> Result<&str, Fail> {
-        Ok(str::from_utf8(self.err.bytes())?)
-    }
-}
 
 // Runs the program with a standard output that takes `room` bytes.
 fn run<F: Files<File = File>, I: BufRead + Drop>(
@@ -249,17 +220,9 @@ fn fails_if_the_output_cannot_be_written(rt: HostRuntime) -> Result<(), Fail> {
     let args = ["--capacities", "5", "--csv", "-"];
     let whole = run(rt.alloc(), &rt, &args, TRACE, ROOM)?;
     assert_eq!(rt; whole.status, 0);
-    for room in 0..whole.out()?.len() {
-        let output = run(rt.alloc(), &rt, &args, TRACE, room)?;
-        assert_eq!(rt; output.status, 1, "at {room} bytes");
-        assert_eq!(rt; output.err()?, UNWRITTEN, "at {room} bytes");
-        assert_eq!(rt;
-            Some(output.out.bytes()),
-            whole.out.bytes().get(..room),
-            "at {room} bytes"
-        );
-    }
-    Ok(())
+    ends_at_failed_writes(whole.out()?, UNWRITTEN, |room| {
+        run(rt.alloc(), &rt, &args, TRACE, room)
+    })
 }
 
 #[test]

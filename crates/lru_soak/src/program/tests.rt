@@ -3,9 +3,14 @@
 use super::program;
 use crate::failure::Failure;
 use lru_stress::outcome::{Check, Trouble};
+use lru_support::output::{Output, ends_at_failed_writes};
 use lru_support::words::words;
 use lru_support::writer::Limited;
+use std::alloc::Global;
+use std::rt::Clock;
+use std::sync::Wait;
 use std::test::Fail;
+use std::thread::Threads;
 
 const USAGE: &str = "usage: lru_soak SEED MINUTES\n";
 
@@ -20,30 +25,35 @@ const ENDS: [(&[&str], u8, &str, &str); 7] = [
     (&["1", "-1"], 2, "", USAGE),
 ];
 
+// More bytes than any test writes.
+const ROOM: usize = 9_999;
+
+// Runs the program, whose first writer takes so many bytes.
+fn run<R: Threads + Wait + Clock + Clone + Drop + Send + Sync>(
+    rt: &R,
+    alloc: Global,
+    asked: &[&str],
+    room: usize,
+) -> Result<Output, Fail> {
+    let asked = words(alloc, asked)?;
+    let (mut out, mut err) = (Limited::new(alloc, room), Limited::new(alloc, ROOM));
+    let status = program(rt, alloc, &asked, &mut out, &mut err);
+    Ok(Output { status, out, err })
+}
+
 #[test]
 fn ends_with_a_status(rt: HostRuntime) -> Result<(), Fail> {
-    let alloc = rt.alloc();
     for (asked, wanted, told, said) in ENDS {
-        let asked = words(alloc, asked)?;
-        let (mut out, mut err) = (Vec::new(alloc), Vec::new(alloc));
-        let status = program(&rt, alloc, &asked, &mut out, &mut err);
-        assert_eq!(rt; status, wanted, "at {asked:?}");
-        assert_eq!(rt; str::from_utf8(&out)?, told, "at {asked:?}");
-        assert_eq!(rt; str::from_utf8(&err)?, said, "at {asked:?}");
+        run(&rt, rt.alloc(), asked, ROOM)?.ends_with(&asked, wanted, told, said)?;
     }
     Ok(())
 }
 
 #[test]
 fn ends_at_a_failed_write(rt: HostRuntime) -> Result<(), Fail> {
-    let alloc = rt.alloc();
-    let asked = words(alloc, &["1", "0"])?;
-    let (mut out, mut err) = (Limited::new(alloc, 3), Vec::new(alloc));
-    let status = program(&rt, alloc, &asked, &mut out, &mut err);
-    assert_eq!(rt; status, 1);
-    assert_eq!(rt; str::from_utf8(out.bytes())?, "rou");
-    assert_eq!(rt; str::from_utf8(&err)?, "a write or the clock failed\n");
-    Ok(())
+    ends_at_failed_writes("rounds 0\n", "a write or the clock failed\n", |room| {
+        run(&rt, rt.alloc(), &["1", "0"], room)
+    })
 }
 
 #[test]

@@ -1,0 +1,54 @@
+//! The calls of shards without a lock.
+
+use crate::shards::ShardCall;
+use lru_fixtures::tables::Call::{
+    Begin, Fail, Get, Invalidate, Poll, Prune, Read, Ready, Release, SetCapacity, Total,
+};
+
+/// A new entry evicts in its own shard only.
+pub const SHARDS: &[ShardCall] = &[
+    (1, Begin(1, 1)),
+    (1, Ready(0, 1)),
+    (1, Release(0)),
+    (0, Begin(0, 1)),
+    (0, Ready(0, 0)),
+    (0, Release(0)),
+    (0, Begin(2, 1)),
+    (0, Ready(1, 2)),
+    (0, Release(1)),
+    (1, Get(1)),
+    (0, Get(2)),
+    (0, Get(0)),
+    (1, Poll(0)),
+    (1, Begin(3, 1)),
+    (1, Fail(1)),
+    (2, Release(0)),
+    (0, SetCapacity(0)),
+    (0, Release(1)),
+    (1, Prune),
+    (1, Total),
+];
+
+/// An entry that is held when its key is taken back is evicted with its last pin; others leave at
+/// once. The shard of the key alone looks for it.
+pub const SHARDS_TAKEN_BACK: &[ShardCall] = &[
+    (1, Begin(1, 1)),
+    (1, Ready(0, 10)),
+    (0, Begin(0, 1)),
+    (0, Ready(0, 20)),
+    (0, Release(0)),
+    (1, Invalidate(3)),
+    (1, Invalidate(1)),
+    (1, Read(1)),
+    (0, Read(0)),
+    (1, Begin(1, 2)),
+    (1, Total),
+    (1, Release(0)),
+    (1, Ready(1, 11)),
+    (1, Read(1)),
+    (1, Release(1)),
+    (1, Invalidate(1)),
+    (0, Invalidate(0)),
+    (0, Total),
+    (1, Total),
+];
