@@ -1,6 +1,6 @@
 """Refuses each request for memory of the programs in turn, and checks that nothing is lost.
 
-The program `lru_refusals` runs scripts of calls, repeats each call that was refused for want of memory, and prints every
+The program `lru_no_memory` runs scripts of calls, repeats each call that was refused for want of memory, and prints every
 answer. Each of its scripts is run here with its first request refused, then with its second, and so on, until a run makes
 no further request. A run passes if it prints what it prints with ample memory. A run that ends with status 1 and `refused 1`,
 after printing a beginning of that, met the refusal in a request of the script's own, and passes too. Anything else fails:
@@ -12,7 +12,7 @@ The file `expected` keeps the table of which calls were refused, by script and n
 request more or fewer changes the table, such as one that grows a table for which room was to be made; that is a failure.
 Where the new table is right, `--write` keeps it.
 
-The programs are those that the gate proves. The library `refuse.c`, loaded before the C library, refuses the one request.
+The programs are those that the gate proves. The library `deny.c`, loaded before the C library, refuses the one request.
 """
 import argparse
 import collections
@@ -34,7 +34,7 @@ EXPECTED = HERE / "expected"
 UNTOLD = ["unsharded-two-threads"]
 # what a program says where a request of its own is refused, unless it says `refused 1`
 OWN = {"lru_size": "lru_size: out of memory\n"}
-# what refuse.c writes where it refuses
+# what deny.c writes where it refuses
 MARK = b"this request is refused\n"
 
 
@@ -72,8 +72,8 @@ def library(folder):
     """The library that refuses a request, made by the kit's compiler."""
     page = subprocess.run(["rt", "doc"], capture_output=True, text=True, check=True).stdout.strip()
     clang = pathlib.Path(page).parent / "toolchain/bin/clang"
-    made = pathlib.Path(folder) / "refuse.so"
-    linked = ["-shared", "-fPIC", "-O1", "-nostdlib", "-fuse-ld=lld", "-o", str(made), str(HERE / "refuse.c")]
+    made = pathlib.Path(folder) / "deny.so"
+    linked = ["-shared", "-fPIC", "-O1", "-nostdlib", "-fuse-ld=lld", "-o", str(made), str(HERE / "deny.c")]
     subprocess.run([str(clang), *linked], check=True)
     return str(made)
 
@@ -116,7 +116,7 @@ def try_each(program, words, refuse, numbers=None, path=os.devnull):
 
 def wrong_ends(program):
     """The words, where the program was to write, and how it ended, of each run that did not end as it should."""
-    usage = "usage: lru_refusals [SCRIPT]\n"
+    usage = "usage: lru_no_memory [SCRIPT]\n"
     cases = [([word], None, 2, usage) for word in ("", "state", "state-hits ")]
     cases += [(["state-hits", "state-hits"], None, 2, usage), (["state"], "stderr", 1, ""), (["state-hits"], "stdout", 1, "")]
     wrong = []
@@ -167,7 +167,7 @@ def main():
     words.add_argument("--write", action="store_true", help="keep the table of the calls that were refused")
     asked = words.parse_args()
     os.chdir(HERE.parent.parent)
-    scripted, rows = built("lru_refusals", "state-hits"), built("lru_rows", "rows")
+    scripted, rows = built("lru_no_memory", "state-hits"), built("lru_rows", "rows")
     # the words and the input with which the gate runs it
     sizing, trace = pathlib.Path("crates/lru_size/args").read_text(encoding="utf-8").split(), "crates/lru_size/stdin"
     size = built("lru_size", *sizing, path=trace)

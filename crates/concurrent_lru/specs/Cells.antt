@@ -1,4 +1,4 @@
--- The values that a `Memory` owns, each in a cell under a key.
+-- The values that a `Memory` owns, each in the cell of a slot.
 use Rattle.std.specs.Prelude.{◌≡◌, ℕ, zero, suc, List, [], ◌∷◌, Option, Some, None, Bool, true, false, cond, ◌&&◌, ◌==◌, slice_index_or}
 use denote.RawPtr.{Ptr, block_ptr, null_ptr}
 
@@ -15,61 +15,61 @@ same_ptr (block_ptr block offset) null_ptr = false
 same_ptr null_ptr (block_ptr other place) = false
 same_ptr null_ptr null_ptr = true
 
--- a key, seen from one cell further on
-abbrev pub next_key : Option ℕ → Option ℕ
-next_key None = None
-next_key (Some key) = Some (suc key)
+-- a slot, seen from one cell further on
+abbrev pub next_slot : Option ℕ → Option ℕ
+next_slot None = None
+next_slot (Some slot) = Some (suc slot)
 
 module _ {X : Type 0} where
-  -- what is under a key
+  -- what is in a slot
   abbrev pub cell_at : List (Option X) → ℕ → Option X
-  cell_at cells key = slice_index_or cells key None
+  cell_at cells slot = slice_index_or cells slot None
 
-  -- the same cells with this under the key
+  -- the same cells with this in the slot
   abbrev pub put_at : ℕ → Option X → List (Option X) → List (Option X)
   put_at zero x [] = x ∷ []
   put_at zero x (c ∷ cells) = x ∷ cells
-  put_at (suc key) x [] = None ∷ put_at key x []
-  put_at (suc key) x (c ∷ cells) = c ∷ put_at key x cells
+  put_at (suc slot) x [] = None ∷ put_at slot x []
+  put_at (suc slot) x (c ∷ cells) = c ∷ put_at slot x cells
 
 module _ {T A : Type 0} where
   abbrev pub cell : Ptr → A → T → Cell T A
   cell p a x = record { at = p; alloc = a; value = x }
 
-  -- the cells with x under the key, which lies at p and which this handle frees
+  -- the cells with x in the slot, which lies at p and which this handle frees
   abbrev pub put_cell : ℕ → Ptr → A → T → List (Option (Cell T A)) → List (Option (Cell T A))
-  put_cell key p a x cells = put_at key (Some (cell p a x)) cells
+  put_cell slot p a x cells = put_at slot (Some (cell p a x)) cells
 
-  -- the value under the key is x, if one is there
+  -- the value in the slot is x, if one is there
   abbrev pub IsValueAt : List (Option (Cell T A)) → ℕ → T → Type 0
-  IsValueAt cells key x = (c : Cell T A) → cell_at cells key ≡ Some c → x ≡ c.value
+  IsValueAt cells slot x = (c : Cell T A) → cell_at cells slot ≡ Some c → x ≡ c.value
 
-  -- the value under the key lies at p, and this handle frees it
+  -- the value in the slot lies at p, and this handle frees it
   abbrev pub HoldsBy : List (Option (Cell T A)) → ℕ → Ptr → A → Type 0
-  HoldsBy cells key p a = (c : Cell T A) × (cell_at cells key ≡ Some c) × (c.at ≡ p) × (c.alloc ≡ a)
+  HoldsBy cells slot p a = (c : Cell T A) × (cell_at cells slot ≡ Some c) × (c.at ≡ p) × (c.alloc ≡ a)
 
   -- where the value of a cell lies
   abbrev pub ptr_in : Option (Cell T A) → Option Ptr
   ptr_in None = None
   ptr_in (Some c) = Some c.at
 
-  -- the first key whose value lies at p
-  abbrev pub key_at : List (Option (Cell T A)) → Ptr → Option ℕ
-  key_at [] p = None
-  key_at (None ∷ cells) p = next_key (key_at cells p)
-  key_at (Some c ∷ cells) p = cond (same_ptr c.at p) (Some 0) (next_key (key_at cells p))
+  -- the first slot whose value lies at p
+  abbrev pub slot_at : List (Option (Cell T A)) → Ptr → Option ℕ
+  slot_at [] p = None
+  slot_at (None ∷ cells) p = next_slot (slot_at cells p)
+  slot_at (Some c ∷ cells) p = cond (same_ptr c.at p) (Some 0) (next_slot (slot_at cells p))
 
-  -- a value lies at p, and P holds of its key
-  abbrev pub AtKey : List (Option (Cell T A)) → Ptr → (ℕ → Type 0) → Type 0
-  AtKey cells p P = (key : ℕ) × (key_at cells p ≡ Some key) × P key
+  -- a value lies at p, and P holds of its slot
+  abbrev pub AtSlot : List (Option (Cell T A)) → Ptr → (ℕ → Type 0) → Type 0
+  AtSlot cells p P = (slot : ℕ) × (slot_at cells p ≡ Some slot) × P slot
 
-  -- P holds of the key of the value that lies at p
-  abbrev pub OfKey : List (Option (Cell T A)) → Ptr → (ℕ → Type 0) → Type 0
-  OfKey cells p P = (key : ℕ) → key_at cells p ≡ Some key → P key
+  -- P holds of the slot of the value that lies at p
+  abbrev pub OfSlot : List (Option (Cell T A)) → Ptr → (ℕ → Type 0) → Type 0
+  OfSlot cells p P = (slot : ℕ) → slot_at cells p ≡ Some slot → P slot
 
-  -- P holds of the first value that lies at p, with its key
+  -- P holds of the first value that lies at p, with its slot
   abbrev pub AtFirst : List (Option (Cell T A)) → Ptr → (ℕ → Cell T A → Type 0) → Type 0
-  AtFirst cells p P = (key : ℕ) (c : Cell T A) → key_at cells p ≡ Some key → cell_at cells key ≡ Some c → P key c
+  AtFirst cells p P = (slot : ℕ) (c : Cell T A) → slot_at cells p ≡ Some slot → cell_at cells slot ≡ Some c → P slot c
 
   -- the same cells with w as the first value that lies at p
   abbrev pub write_to : Ptr → T → List (Option (Cell T A)) → List (Option (Cell T A))

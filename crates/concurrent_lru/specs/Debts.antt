@@ -30,7 +30,7 @@ module _ {K V F : Type 0} where
   outcome_of_locked_poll (poll.Wait w) = accepted (say.wait (awaited_stamp w)) []
   outcome_of_locked_poll (poll.Hit p) = accepted (say.hit p.stamp p.value) []
   outcome_of_locked_poll (poll.Refused u) = refused Memory
-  outcome_of_locked_poll poll.Stray = refused Stale
+  outcome_of_locked_poll poll.NoPin = refused Stale
 
   -- the debts are of a caller that asked for this key, with this charge, from a call that left this
   -- cache under the lock
@@ -44,7 +44,7 @@ module _ {K V F : Type 0} where
   AsksOnPoll (poll.Wait w) k c new = (awaited_key w ≡ k) × (awaited_charge w ≡ c) × (cache_left_by w ≡ new)
   AsksOnPoll (poll.Hit p) k c new = (p.key ≡ k) × (p.charge ≡ Some c)
   AsksOnPoll (poll.Refused u) k c new = ⊤
-  AsksOnPoll poll.Stray k c new = ⊤
+  AsksOnPoll poll.NoPin k c new = ⊤
 
   -- P of the value, where the answer is a hit
   abbrev pub IfEntered : Entered K V F → (V → Type 0) → Type 0
@@ -57,4 +57,4 @@ module _ {K V F : Type 0} where
   IfPolled (poll.Wait w) P = ⊤
   IfPolled (poll.Hit p) P = P p.value
   IfPolled (poll.Refused u) P = ⊤
-  IfPolled poll.Stray P = ⊤
+  IfPolled poll.NoPin P = ⊤

@@ -20,7 +20,7 @@ pub mod Entries
 pub mod Counted
 pub mod Counts
 pub mod CountedCalls
-pub mod Stamps
+pub mod StampIndex
 pub mod Indexes
 pub mod Chain
 pub mod Results

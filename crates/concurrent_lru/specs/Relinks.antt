@@ -2,7 +2,7 @@
 use Rattle.std.specs.Prelude.{◌≡◌, ◌≢◌, ℕ, List, Option, Some, None}
 use Rattle.std.specs.declared.alloc.Global.{Global}
 use denote.RawPtr.{Ptr}
-use Rattle.concurrent_lru.specs.Cells.{Cell, cell_at, key_at, AtKey}
+use Rattle.concurrent_lru.specs.Cells.{Cell, cell_at, slot_at, AtSlot}
 use Rattle.concurrent_lru.specs.NodeTable.{Entry, entry_of, chain_of}
 use Rattle.concurrent_lru.specs.declared.list.Node.{Node, out-Node}
 
@@ -13,9 +13,9 @@ abbrev pub NodeCells : Type 0 → Type 0 → Type 0
 NodeCells K V = List (Option (NodeCell K V))
 
 module _ {K V : Type 0} where
-  -- a node's own key, and its links to its neighbours
+  -- a node's own slot, and its links to its neighbours
   abbrev pub place_of : Node K V → ℕ
-  place_of n = (out-Node K V n).place
+  place_of n = (out-Node K V n).slot
 
   abbrev pub before_link : Node K V → Option Ptr
   before_link n = (out-Node K V n).before
@@ -26,16 +26,16 @@ module _ {K V : Type 0} where
   abbrev pub HasCell : NodeCells K V → ℕ → Type 0
   HasCell cs k = (c : NodeCell K V) × (cell_at cs k ≡ Some c)
 
-  -- the key of the node that a link leads to
-  abbrev pub key_in : NodeCells K V → Option Ptr → Option ℕ
-  key_in cs None = None
-  key_in cs (Some p) = key_at cs p
+  -- the slot of the node that a link leads to
+  abbrev pub slot_in : NodeCells K V → Option Ptr → Option ℕ
+  slot_in cs None = None
+  slot_in cs (Some p) = slot_at cs p
 
-  -- the same node under its own key
-  pub record IsPlaced (old new : Node K V) (key : ℕ) : Type 0 where
+  -- the same node in its own slot
+  pub record IsPlaced (old new : Node K V) (slot : ℕ) : Type 0 where
     pub entry : entry_of new ≡ entry_of old
     pub chain : chain_of new ≡ chain_of old
-    pub place : place_of new ≡ key
+    pub place : place_of new ≡ slot
 
   -- the same node with other links
   pub record IsRelinked (old new : Node K V) (b a : Option Ptr) : Type 0 where
@@ -45,7 +45,7 @@ module _ {K V : Type 0} where
     pub before : before_link new ≡ b
     pub after : after_link new ≡ a
 
-  -- the node under the key has these links, and nothing else changed
+  -- the node in the slot has these links, and nothing else changed
   pub record Relinks (cs ds : NodeCells K V) (k : ℕ) (b a : Option Ptr) : Type 0 where
     pub others : (j : ℕ) → j ≢ k → cell_at ds j ≡ cell_at cs j
     pub old : NodeCell K V
@@ -86,7 +86,7 @@ module _ {K V : Type 0} where
   abbrev pub after_at : NodeCells K V → ℕ → Option Ptr
   after_at cs k = after_in (cell_at cs k)
 
-  -- the links of the node under the key were cut, and led to b and a
+  -- the links of the node in the slot were cut, and led to b and a
   pub record Unlinks (cs ds : NodeCells K V) (k : ℕ) (b a : Option Ptr) : Type 0 where
     pub cut : Relinks cs ds k None None
     pub was_before : b ≡ before_at cs k
@@ -94,10 +94,10 @@ module _ {K V : Type 0} where
 
   -- the places before and after were joined, seen from the one before, where there is one
   abbrev pub LeftJoined : NodeCells K V → NodeCells K V → Option ℕ → Option ℕ → Option Ptr → Option Ptr → Type 0
-  LeftJoined cs ds o p None a = (ds ≡ cs) × (p ≡ key_in cs a)
-  LeftJoined cs ds o p (Some l) a = AtKey cs l (λ k. Relinks cs ds k (before_at cs k) a) × (p ≡ o)
+  LeftJoined cs ds o p None a = (ds ≡ cs) × (p ≡ slot_in cs a)
+  LeftJoined cs ds o p (Some l) a = AtSlot cs l (λ k. Relinks cs ds k (before_at cs k) a) × (p ≡ o)
 
   -- and from the one after
   abbrev pub RightJoined : NodeCells K V → NodeCells K V → Option Ptr → Option Ptr → Option Ptr → Option Ptr → Type 0
   RightJoined cs ds n m b None = (ds ≡ cs) × (m ≡ b)
-  RightJoined cs ds n m b (Some l) = AtKey cs l (λ k. Relinks cs ds k b (after_at cs k)) × (m ≡ n)
+  RightJoined cs ds n m b (Some l) = AtSlot cs l (λ k. Relinks cs ds k b (after_at cs k)) × (m ≡ n)

@@ -3,7 +3,7 @@ use Rattle.std.specs.Prelude.{◌≡◌, ◌≢◌, ℕ, Option, Some, None, IsS
 use Rattle.std.specs.Borrow.{Fml, RattleType, MutBor, Lends}
 use Rattle.slab.specs.Slab.{get}
 use denote.RawPtr.{Ptr}
-use Rattle.concurrent_lru.specs.Cells.{cell_at, ptr_in, key_at, IsValueAt}
+use Rattle.concurrent_lru.specs.Cells.{cell_at, ptr_in, slot_at, IsValueAt}
 use Rattle.concurrent_lru.specs.CellLends.{with_value}
 use Rattle.concurrent_lru.specs.Relinks.{NodeCell, NodeCells, place_of}
 use Rattle.concurrent_lru.specs.declared.list.memory.At.{At}
@@ -22,36 +22,36 @@ module _ {K V : Type 0} where
   abbrev pub cells_of : Slots K V → NodeCells K V
   cells_of s = s.memory.cells
 
-  -- a node is under the key
+  -- a node is in the slot
   abbrev pub HasNode : Slots K V → ℕ → Type 0
-  HasNode s key = IsSome (cell_at (cells_of s) key)
+  HasNode s slot = IsSome (cell_at (cells_of s) slot)
 
-  -- the link leads to a node, or to the one under the key
+  -- the link leads to a node, or to the one in the slot
   abbrev pub LeadsToNode : Slots K V → Ptr → Type 0
-  LeadsToNode s link = IsSome (key_at (cells_of s) link)
+  LeadsToNode s link = IsSome (slot_at (cells_of s) link)
 
   abbrev pub LeadsTo : Slots K V → Ptr → ℕ → Type 0
-  LeadsTo s link key = key_at (cells_of s) link ≡ Some key
+  LeadsTo s link slot = slot_at (cells_of s) link ≡ Some slot
 
-  -- the node under the key is n, if one is there
+  -- the node in the slot is n, if one is there
   abbrev pub IsNodeAt : Slots K V → ℕ → Node K V → Type 0
-  IsNodeAt s key n = IsValueAt (cells_of s) key n
+  IsNodeAt s slot n = IsValueAt (cells_of s) slot n
 
-  -- under every other key there is what there was
+  -- in every other slot there is what there was
   abbrev pub KeepsOthers : Slots K V → Slots K V → ℕ → Type 0
-  KeepsOthers old new key = (k : ℕ) → k ≢ key → cell_at (cells_of new) k ≡ cell_at (cells_of old) k
+  KeepsOthers old new slot = (k : ℕ) → k ≢ slot → cell_at (cells_of new) k ≡ cell_at (cells_of old) k
 
-  -- the own key of a node that is there
+  -- the own slot of a node that is there
   abbrev pub place_in : Option (NodeCell K V) → Option ℕ
   place_in None = None
   place_in (Some c) = Some (place_of c.value)
 
-  -- each pointer is that of the node under its key, no two are the same, and each node has its own
-  -- key
+  -- each pointer is that of the node in its slot, no two are the same, and each node has its own
+  -- slot
   pub record IsTied (s : Slots K V) : Type 0 where
-    pub pointers : (key : ℕ) → ptr_in (cell_at (cells_of s) key) ≡ ptr_of (get s.pointers key)
-    pub apart : (key : ℕ) (p : Ptr) → ptr_in (cell_at (cells_of s) key) ≡ Some p → key_at (cells_of s) p ≡ Some key
-    pub placed : (key place : ℕ) → place_in (cell_at (cells_of s) key) ≡ Some place → place ≡ key
+    pub pointers : (slot : ℕ) → ptr_in (cell_at (cells_of s) slot) ≡ ptr_of (get s.pointers slot)
+    pub apart : (slot : ℕ) (p : Ptr) → ptr_in (cell_at (cells_of s) slot) ≡ Some p → slot_at (cells_of s) p ≡ Some slot
+    pub placed : (slot place : ℕ) → place_in (cell_at (cells_of s) slot) ≡ Some place → place ≡ slot
 
   -- the slots with this node at a pointer
   abbrev pub with_node : Slots K V → Ptr → Node K V → Slots K V

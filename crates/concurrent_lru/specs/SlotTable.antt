@@ -7,9 +7,9 @@ use denote.RawPtr.{Ptr}
 use Rattle.slab.specs.Slab.{slab_len}
 use Rattle.concurrent_lru.specs.Order.{Link, link, IsOrder, order}
 use Rattle.concurrent_lru.specs.Slots.{map_of_slots}
-use Rattle.concurrent_lru.specs.Cells.{cell_at, key_at, AtKey, OfKey}
+use Rattle.concurrent_lru.specs.Cells.{cell_at, slot_at, AtSlot, OfSlot}
 use Rattle.concurrent_lru.specs.NodeTable.{NodeTable, Entry, entry_of, chain_of}
-use Rattle.concurrent_lru.specs.Relinks.{NodeCell, NodeCells, LeftJoined, RightJoined, before_link, after_link, key_in, before_at, after_at}
+use Rattle.concurrent_lru.specs.Relinks.{NodeCell, NodeCells, LeftJoined, RightJoined, before_link, after_link, slot_in, before_at, after_at}
 use Rattle.concurrent_lru.specs.SlotPointers.{IsTied, cells_of}
 use Rattle.concurrent_lru.specs.declared.list.links.Order.{Order}
 use Rattle.concurrent_lru.specs.declared.list.slots.Slots.{Slots}
@@ -17,7 +17,7 @@ use Rattle.concurrent_lru.specs.declared.list.slots.Slots.{Slots}
 module _ {K V : Type 0} where
   abbrev pub link_of : NodeCells K V → Option (NodeCell K V) → Option Link
   link_of cs None = None
-  link_of cs (Some c) = Some (link (key_in cs (before_link c.value)) (key_in cs (after_link c.value)))
+  link_of cs (Some c) = Some (link (slot_in cs (before_link c.value)) (slot_in cs (after_link c.value)))
 
   abbrev pub entry_in : Option (NodeCell K V) → Option (Entry K V)
   entry_in None = None
@@ -32,7 +32,7 @@ module _ {K V : Type 0} where
   -- the link leads to a node
   abbrev pub IsGood : NodeCells K V → Option Ptr → Type 0
   IsGood cs None = Unit {0}
-  IsGood cs (Some p) = IsSome (key_at cs p)
+  IsGood cs (Some p) = IsSome (slot_at cs p)
 
   abbrev pub IsGoodAt : NodeCells K V → ℕ → Type 0
   IsGoodAt cs k = IsGood cs (before_at cs k) × IsGood cs (after_at cs k)
@@ -50,7 +50,7 @@ module _ {K V : Type 0} where
   abbrev pub order_with : Slots K V → Option ℕ → Option Ptr → Order K V
   order_with s oldest newest = record { slots = s; oldest = oldest; newest = newest }
 
-  -- the entries by key, and the keys of the idle ones, oldest first
+  -- the entries by slot, and the slots of the idle ones, oldest first
   abbrev pub nodes_of : Order K V → FinMap nat_cmp (Entry K V)
   nodes_of o = map_of_slots (map entry_in (cells_of o.slots))
 
@@ -63,33 +63,33 @@ module _ {K V : Type 0} where
   -- each link leads to the neighbour, and nothing hangs on a node
   pub record IsWellLinked (o : Order K V) : Type 0 where
     pub tied : IsTied o.slots
-    pub ordered : IsOrder (link_at (cells_of o.slots)) o.oldest (key_in (cells_of o.slots) o.newest) (idle_of o)
+    pub ordered : IsOrder (link_at (cells_of o.slots)) o.oldest (slot_in (cells_of o.slots) o.newest) (idle_of o)
     pub good : AreGood (cells_of o.slots) (idle_of o)
     pub last_good : IsGood (cells_of o.slots) o.newest
     pub ends : (k : ℕ) → IsEnd (cell_at (cells_of o.slots) k)
 
-  -- the key is in the order, or is not
+  -- the slot is in the order, or is not
   abbrev pub Lists : Order K V → ℕ → Type 0
-  Lists o key = list_any (nat_eq key) (idle_of o) ≡ true
+  Lists o slot = list_any (nat_eq slot) (idle_of o) ≡ true
 
   abbrev pub Omits : Order K V → ℕ → Type 0
-  Omits o key = list_any (nat_eq key) (idle_of o) ≡ false
+  Omits o slot = list_any (nat_eq slot) (idle_of o) ≡ false
 
   -- the link leads to a node that is in the order
   abbrev pub ListsLink : Order K V → Ptr → Type 0
-  ListsLink o p = AtKey (cells_of o.slots) p (Lists o)
+  ListsLink o p = AtSlot (cells_of o.slots) p (Lists o)
 
-  -- what is idle without the key
+  -- what is idle without the slot
   abbrev pub idle_without : Order K V → ℕ → List ℕ
-  idle_without o key = filter (λ q. not (q == key)) (idle_of o)
+  idle_without o slot = filter (λ q. not (q == slot)) (idle_of o)
 
   -- the node that the link leads to was taken out of the order
   abbrev pub LosesLink : Order K V → Order K V → Ptr → Type 0
-  LosesLink old new p = OfKey (cells_of old.slots) p (λ key. idle_of new ≡ idle_without old key)
+  LosesLink old new p = OfSlot (cells_of old.slots) p (λ slot. idle_of new ≡ idle_without old slot)
 
-  -- the entry under a key
+  -- the entry in a slot
   abbrev pub entry_at : Order K V → ℕ → Option (Entry K V)
-  entry_at o key = entry_in (cell_at (cells_of o.slots) key)
+  entry_at o slot = entry_in (cell_at (cells_of o.slots) slot)
 
   -- nothing changed but the count of looks
   abbrev pub OnlyLooked : Order K V → Order K V → Type 0

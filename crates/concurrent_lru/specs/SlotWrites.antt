@@ -1,7 +1,7 @@
 -- What a write to one node leaves of the slots.
 use Rattle.std.specs.Prelude.{◌≡◌, ℕ, Option}
 use denote.RawPtr.{Ptr}
-use Rattle.concurrent_lru.specs.Cells.{AtKey, OfKey}
+use Rattle.concurrent_lru.specs.Cells.{AtSlot, OfSlot}
 use Rattle.concurrent_lru.specs.NodeTable.{Entry}
 use Rattle.concurrent_lru.specs.Relinks.{Relinks, Unlinks, Revalues, before_at, after_at}
 use Rattle.concurrent_lru.specs.SlotPointers.{cells_of}
@@ -17,23 +17,23 @@ module _ {K V : Type 0} where
 
   -- the node at p has these links
   abbrev pub SetsLinks : Slots K V → Slots K V → Ptr → Option Ptr → Option Ptr → Type 0
-  SetsLinks old new p before after = AtKey (cells_of old) p (λ key. Relinks (cells_of old) (cells_of new) key before after)
+  SetsLinks old new p before after = AtSlot (cells_of old) p (λ slot. Relinks (cells_of old) (cells_of new) slot before after)
 
   -- one of its links is this, and the other is as it was
   abbrev pub SetsBefore : Slots K V → Slots K V → Ptr → Option Ptr → Type 0
-  SetsBefore old new p before = AtKey (cells_of old) p (λ key. Relinks (cells_of old) (cells_of new) key before (after_at (cells_of old) key))
+  SetsBefore old new p before = AtSlot (cells_of old) p (λ slot. Relinks (cells_of old) (cells_of new) slot before (after_at (cells_of old) slot))
 
   abbrev pub SetsAfter : Slots K V → Slots K V → Ptr → Option Ptr → Type 0
-  SetsAfter old new p after = AtKey (cells_of old) p (λ key. Relinks (cells_of old) (cells_of new) key (before_at (cells_of old) key) after)
+  SetsAfter old new p after = AtSlot (cells_of old) p (λ slot. Relinks (cells_of old) (cells_of new) slot (before_at (cells_of old) slot) after)
 
   -- the links of the node at p were cut, and led to before and after
   abbrev pub CutsLinks : Slots K V → Slots K V → Ptr → Option Ptr → Option Ptr → Type 0
-  CutsLinks old new p before after = OfKey (cells_of old) p (λ key. Unlinks (cells_of old) (cells_of new) key before after)
+  CutsLinks old new p before after = OfSlot (cells_of old) p (λ slot. Unlinks (cells_of old) (cells_of new) slot before after)
 
-  -- the entry of the node under the key went through f
+  -- the entry of the node in the slot went through f
   abbrev pub Rewrites : Slots K V → Slots K V → ℕ → (Entry K V → Entry K V) → Type 0
-  Rewrites old new key f = Revalues (cells_of old) (cells_of new) key f
+  Rewrites old new slot f = Revalues (cells_of old) (cells_of new) slot f
 
   -- and so did the entry of the node at p
   abbrev pub RewritesLink : Slots K V → Slots K V → Ptr → (Entry K V → Entry K V) → Type 0
-  RewritesLink old new p f = OfKey (cells_of old) p (λ key. Rewrites old new key f)
+  RewritesLink old new p f = OfSlot (cells_of old) p (λ slot. Rewrites old new slot f)

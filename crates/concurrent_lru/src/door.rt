@@ -8,7 +8,7 @@ ghost use Rattle.std.specs.Fn.{FnOnceReturnsAt, FnOnceTakesAt};
 ghost use Rattle.std.specs.Sync.Mutex.{mutex_guard_value};
 ghost use Rattle.concurrent_lru.specs.Cache.{sum_of, IsLawful, CopiesAreEqual, IsSettled};
 ghost use Rattle.concurrent_lru.specs.CountedCalls.{AddUp};
-ghost use Rattle.concurrent_lru.specs.Doors.{IsAwake, IsMetFor};
+ghost use Rattle.concurrent_lru.specs.Doors.{IsAwake, IsLookupFor};
 ghost use Rattle.concurrent_lru.specs.Pins.{IsHandleFor, made_key, made_charge, awaited_key, awaited_charge};
 ghost use Rattle.concurrent_lru.specs.Ready.{ValuesFit};
 
@@ -16,7 +16,8 @@ use crate::counts::Counts;
 use crate::fit::Fit;
 use crate::handle::CacheHandle;
 use crate::locked::{
-    Advised, Entered, Invalidated, Locked, Making, Pin, Polled, Pruned, Reserved, Resized, Waiting,
+    Advised, Entered, HeldPin, Invalidated, Locked, Making, Polled, Pruned, Reserved, Resized,
+    Waiting,
 };
 use crate::lru_core::Refusal;
 use std::alloc::Global;
@@ -28,7 +29,7 @@ use std::{fmt, hint};
 // of some tens of nanoseconds. A try takes the lock's cache line from the holder, so the first
 // pause is as long as several calls, and waiters leave the lock to a thread that makes many calls
 // in a row.
-const LOOKS: u32 = 7;
+const SPINS: u32 = 7;
 
 const FIRST_PAUSES: u32 = 64;
 
@@ -42,7 +43,7 @@ pub struct Door<K: Hash + Eq + Clone, V, R: Wait, F: Fit<K, V>> {
 
 /// A debt: the lock is held. Each call takes this value, so there is one call for each time that
 /// the lock is acquired.
-pub struct Inside<'a, K: Hash + Eq + Clone, V, R: Wait, F: Fit<K, V>> {
+pub struct Guard<'a, K: Hash + Eq + Clone, V, R: Wait, F: Fit<K, V>> {
     door: &'a Door<K, V, R, F>,
     guard: MutexGuard<'a, Locked<K, V, F>>,
 }
@@ -56,17 +57,17 @@ pub struct Maker<'a, K: Hash + Eq + Clone, V, R: Wait, F: Fit<K, V>> {
 
 /// A debt: a pin in an entry whose value another caller makes, and the held lock. Only the wait
 /// releases that lock, so that no wakeup is missed.
-pub struct Asleep<'a, K: Hash + Eq + Clone, V, R: Wait, F: Fit<K, V>> {
-    inside: Inside<'a, K, V, R, F>,
+pub struct WaitGuard<'a, K: Hash + Eq + Clone, V, R: Wait, F: Fit<K, V>> {
+    guard: Guard<'a, K, V, R, F>,
     waiting: Waiting<K, V, F>,
 }
 
 /// The result of `begin`, and of each wakeup after it.
-pub enum Met<'a, K: Hash + Eq + Clone, V, R: Wait, F: Fit<K, V>> {
+pub enum Lookup<'a, K: Hash + Eq + Clone, V, R: Wait, F: Fit<K, V>> {
     /// The caller is to make the value.
     Make(Maker<'a, K, V, R, F>),
     /// Another caller is making it.
-    Wait(Asleep<'a, K, V, R, F>),
+    Wait(WaitGuard<'a, K, V, R, F>),
     /// The value is ready.
     Hit(CacheHandle<'a, K, V, R, F>),
 }
@@ -91,7 +92,7 @@ impl<K: Hash + Eq + Clone + Drop, V: Drop, R: Wait, F: Fit<K, V>> Door<K, V, R, 
     /// Acquires the lock. All calls acquire it here, so these clauses hold of every state they
     /// meet.
     #[inline(always)]
-    pub fn enter(&self) -> Inside<'_, K, V, R, F>
+    pub fn lock(&self) -> Guard<'_, K, V, R, F>
         ensures lawful { IsLawful K.eq (mutex_guard_value result.guard).cache }
         ensures settled { IsSettled (mutex_guard_value result.guard).cache }
         ensures kept { ValuesFit F.fits (mutex_guard_value result.guard).cache }
@@ -99,18 +100,18 @@ impl<K: Hash + Eq + Clone + Drop, V: Drop, R: Wait, F: Fit<K, V>> Door<K, V, R, 
     {
         let guard = match self.locked.try_lock() {
             Some(guard) => guard,
-            None => self.contend(),
+            None => self.lock_slow(),
         };
         guard.show();
-        Inside { door: self, guard }
+        Guard { door: self, guard }
     }
 
     // Acquires a lock that another call holds. Calls are shorter than a sleep and a wakeup, so this
     // tries for a while, less and less often, before it sleeps.
     #[cold]
-    fn contend(&self) -> MutexGuard<'_, Locked<K, V, F>> {
-        for look in 0..LOOKS {
-            pause(FIRST_PAUSES << look);
+    fn lock_slow(&self) -> MutexGuard<'_, Locked<K, V, F>> {
+        for spin in 0..SPINS {
+            pause(FIRST_PAUSES << spin);
             if let Some(guard) = self.locked.try_lock() {
                 return guard;
             }
@@ -126,7 +127,7 @@ fn pause(turns: u32) {
     }
 }
 
-impl<'a, K: Hash + Eq + Clone + Drop, V: Drop, R: Wait, F: Fit<K, V>> Inside<'a, K, V, R, F> {
+impl<'a, K: Hash + Eq + Clone + Drop, V: Drop, R: Wait, F: Fit<K, V>> Guard<'a, K, V, R, F> {
     /// `Locked::reserve`.
     pub fn reserve(self, entries: usize) -> Result<Reserved, Refusal>
         ensures err { IfErr result (λ e. e ≡ Refusal.Memory) }
@@ -167,28 +168,28 @@ impl<'a, K: Hash + Eq + Clone + Drop, V: Drop, R: Wait, F: Fit<K, V>> Inside<'a,
 
     /// `Locked::begin`. What it evicts is dropped without the lock.
     #[inline(always)]
-    pub fn begin(self, key: &K, charge: u64) -> Result<Met<'a, K, V, R, F>, Refusal>
+    pub fn begin(self, key: &K, charge: u64) -> Result<Lookup<'a, K, V, R, F>, Refusal>
         requires charged { 0 < charge }
-        ensures met { IfOk result (λ met. IsMetFor F.fits met key.now charge) }
+        ensures lookup { IfOk result (λ lookup. IsLookupFor F.fits lookup key.now charge) }
         ensures never_stale { IfErr result (λ e. e ≢ Refusal.Stale) }
     {
         let Self { door, mut guard } = self;
         match guard.begin(key, charge)? {
             Entered::Make(making, evicted) => {
                 drop(evicted.open(guard));
-                Ok(Met::Make(Maker { door, making }))
+                Ok(Lookup::Make(Maker { door, making }))
             }
             Entered::Wait(waiting) => {
-                let inside = Inside { door, guard };
-                Ok(Met::Wait(Asleep { inside, waiting }))
+                let guard = Guard { door, guard };
+                Ok(Lookup::Wait(WaitGuard { guard, waiting }))
             }
-            Entered::Hit(pin) => Ok(Met::Hit(CacheHandle::new(door, pin))),
+            Entered::Hit(pin) => Ok(Lookup::Hit(CacheHandle::new(door, pin))),
         }
     }
 
     /// `Locked::release`. The pin's `Arc`, and then what was evicted, are dropped without the lock.
     #[inline(always)]
-    pub fn release(self, pin: Pin<K, V, F>) {
+    pub fn release(self, pin: HeldPin<K, V, F>) {
         let Self { door: _, mut guard } = self;
         let released = guard.release(pin);
         // If it is refused as `Stale`, there is no pin to release and nothing was evicted.
@@ -320,7 +321,7 @@ impl<'a, K: Hash + Eq + Clone + Drop, V: Drop, R: Wait, F: Fit<K, V>> Maker<'a, 
         ensures value { result.value ≡ arc_value stored }
     {
         let Self { door, making } = self;
-        let Inside { door: _, mut guard } = door.enter();
+        let Guard { door: _, mut guard } = door.lock();
         let (pin, back, readers) = guard.ready(making, key, stored, read);
         readers.wake(&door.woken);
         // If the `Arc` comes back, no entry takes the value, and the handle reads the other `Arc`.
@@ -333,7 +334,7 @@ impl<'a, K: Hash + Eq + Clone + Drop, V: Drop, R: Wait, F: Fit<K, V>> Maker<'a, 
         requires { made_key self.making ≡ key.now }
     {
         let Self { door, making } = self;
-        let Inside { door: _, mut guard } = door.enter();
+        let Guard { door: _, mut guard } = door.lock();
         let (failed, heirs) = guard.fail(making, key);
         heirs.wake(&door.woken);
         // If it is refused as `Stale`, there is no making to give up.
@@ -341,36 +342,36 @@ impl<'a, K: Hash + Eq + Clone + Drop, V: Drop, R: Wait, F: Fit<K, V>> Maker<'a, 
     }
 }
 
-impl<'a, K: Hash + Eq + Clone + Drop, V: Drop, R: Wait, F: Fit<K, V>> Asleep<'a, K, V, R, F> {
+impl<'a, K: Hash + Eq + Clone + Drop, V: Drop, R: Wait, F: Fit<K, V>> WaitGuard<'a, K, V, R, F> {
     /// Waits to be woken, and then calls `Locked::poll`. Returns `None` if there is no pin, since
     /// the entry of its stamp does not have this key.
     ///
     /// Returns `Memory` if the value is ready and its copy is refused; the pin is then released.
-    pub fn wait(self, key: &K) -> Result<Option<Met<'a, K, V, R, F>>, Refusal>
+    pub fn wait(self, key: &K) -> Result<Option<Lookup<'a, K, V, R, F>>, Refusal>
         requires asked { awaited_key self.waiting ≡ key.now }
         requires awake { IsAwake self }
-        ensures met { IfOk result (λ woken. IfSome woken (λ met. IsMetFor F.fits met key.now (awaited_charge self.entry.waiting))) }
+        ensures lookup { IfOk result (λ woken. IfSome woken (λ lookup. IsLookupFor F.fits lookup key.now (awaited_charge self.entry.waiting))) }
         ensures refused { IfErr result (λ e. e ≡ Refusal.Memory) }
     {
         let Self {
-            inside: Inside { door, guard },
+            guard: Guard { door, guard },
             waiting,
         } = self;
         let (mut guard, woken) = waiting.sleep(&door.rt, &door.woken, guard);
         match guard.poll(woken, key) {
-            Polled::Make(making) => Ok(Some(Met::Make(Maker { door, making }))),
+            Polled::Make(making) => Ok(Some(Lookup::Make(Maker { door, making }))),
             Polled::Wait(waiting) => {
-                let inside = Inside { door, guard };
-                Ok(Some(Met::Wait(Asleep { inside, waiting })))
+                let guard = Guard { door, guard };
+                Ok(Some(Lookup::Wait(WaitGuard { guard, waiting })))
             }
-            Polled::Hit(pin) => Ok(Some(Met::Hit(CacheHandle::new(door, pin)))),
+            Polled::Hit(pin) => Ok(Some(Lookup::Hit(CacheHandle::new(door, pin)))),
             Polled::Refused(unread) => {
                 let given_up = guard.give_up(unread);
                 // If it is refused as `Stale`, there is no pin to release.
                 drop(given_up.open(guard));
                 Err(Refusal::Memory)
             }
-            Polled::Stray => Ok(None),
+            Polled::NoPin => Ok(None),
         }
     }
 }
@@ -382,7 +383,7 @@ impl<
     V: Drop + fmt::Debug,
     R: Wait,
     F: Fit<K, V>,
-> Inside<'a, K, V, R, F> {
+> Guard<'a, K, V, R, F> {
     /// Writes the ready entries.
     pub fn print<W: fmt::Write>(self, f: &mut fmt::Formatter<W>) -> fmt::Result {
         let Self { door: _, guard } = self;

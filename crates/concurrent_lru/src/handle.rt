@@ -5,7 +5,7 @@ ghost use Rattle.std.specs.Prelude.{◌≡◌};
 
 use crate::door::Door;
 use crate::fit::{Anything, Fit};
-use crate::locked::Pin;
+use crate::locked::HeldPin;
 use std::fmt;
 use std::hash::Hash;
 use std::marker::Model;
@@ -19,7 +19,7 @@ use std::sync::Wait;
 /// which fits that key by the mark `F`.
 pub struct CacheHandle<'a, K: Hash + Eq + Clone, V, R: Wait, F: Fit<K, V> = Anything> {
     door: &'a Door<K, V, R, F>,
-    pin: Pin<K, V, F>,
+    pin: HeldPin<K, V, F>,
 }
 
 impl<'a, K: Hash + Eq + Clone, V, R: Wait, F: Fit<K, V>> Model for CacheHandle<'a, K, V, R, F> {
@@ -32,7 +32,7 @@ impl<'a, K: Hash + Eq + Clone, V, R: Wait, F: Fit<K, V>> Model for CacheHandle<'
 
 impl<'a, K: Hash + Eq + Clone, V, R: Wait, F: Fit<K, V>> CacheHandle<'a, K, V, R, F> {
     // Creates a handle of a pin, with the door where the pin was acquired and is released.
-    pub(crate) fn new(door: &'a Door<K, V, R, F>, pin: Pin<K, V, F>) -> Self
+    pub(crate) fn new(door: &'a Door<K, V, R, F>, pin: HeldPin<K, V, F>) -> Self
         ensures key { result.key ≡ pin.key }
         ensures charge { result.charge ≡ pin.charge }
         ensures value { result.value ≡ pin.value }
@@ -54,7 +54,7 @@ impl<'a, K: Hash + Eq + Clone, V, R: Wait, F: Fit<K, V>> CacheHandle<'a, K, V, R
 
 impl<'a, K: Hash + Eq + Clone + Drop, V: Drop, R: Wait, F: Fit<K, V>> CacheHandle<'a, K, V, R, F> {
     // Returns the pin alone, for a handle that keeps the cache alive by other means.
-    pub(crate) fn into_pin(self) -> Pin<K, V, F>
+    pub(crate) fn into_pin(self) -> HeldPin<K, V, F>
         ensures key { result.key ≡ self.entry.key }
         ensures charge { result.charge ≡ self.entry.charge }
         ensures value { result.value ≡ self.entry.value }
@@ -94,6 +94,6 @@ impl<K: Hash + Eq + Clone + Drop, V: Drop, R: Wait, F: Fit<K, V>> Drop
     #[inline(always)]
     fn drop(self) {
         let Self { door, pin } = self;
-        door.enter().release(pin);
+        door.lock().release(pin);
     }
 }

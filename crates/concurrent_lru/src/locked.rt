@@ -25,14 +25,14 @@ mod pins;
 mod waiters;
 
 pub use self::done::{Advised, Invalidated, Pruned, Reserved, Resized};
-pub use self::pins::{Entered, Making, Pin, Polled, Unread, Waiting, Woken};
+pub use self::pins::{Entered, HeldPin, Making, Polled, Unread, Waiting, Woken};
 pub use self::waiters::Waiters;
-use crate::sealed::Sealed;
 use crate::counted::CountedState;
 use crate::counts::Counts;
 use crate::fit::Fit;
 use crate::list::Place;
 use crate::lru_core::{Begun, Evicted, Failed, Inserted, Refusal};
+use crate::sealed::Sealed;
 use crate::table::Spot;
 use std::alloc::Global;
 use std::fmt;
@@ -78,7 +78,7 @@ impl<K: Hash + Eq + Clone + Drop, V: Drop, F: Fit<K, V>> Locked<K, V, F> {
         ensures counts { result.counts ≡ counts_from 0 0 }
     {
         Locked {
-            state: CountedState::without_map_of_stamps(alloc, capacity),
+            state: CountedState::without_stamp_map(alloc, capacity),
             mark: PhantomData,
         }
     }
@@ -131,7 +131,7 @@ impl<K: Hash + Eq + Clone + Drop, V: Drop, F: Fit<K, V>> Locked<K, V, F> {
         ensures hit { IfOk result (λ e. IfEntered e (F.fits key.now)) }
         ensures never_stale { IfErr result (λ e. e ≢ Refusal.Stale) }
     {
-        let (begun, evicted, place) = self.begun(key, charge)?;
+        let (begun, evicted, place) = self.begin_core(key, charge)?;
         match begun {
             Begun::Make(stamp) => {
                 let making = Making::of(Spot { stamp, place }, key, charge);
@@ -146,14 +146,18 @@ impl<K: Hash + Eq + Clone + Drop, V: Drop, F: Fit<K, V>> Locked<K, V, F> {
             Begun::Hit(stamp, value) => {
                 prove!(evicted.is_empty());
                 let spot = Spot { stamp, place };
-                Ok(Entered::Hit(Pin::of(spot, key, Some(charge), value)))
+                Ok(Entered::Hit(HeldPin::of(spot, key, Some(charge), value)))
             }
         }
     }
 
     // The core's `begin`, with its own result, and the place of the entry.
     #[inline(always)]
-    fn begun(&mut self, key: &K, charge: u64) -> Result<(Begun<V>, Evicted<K, V>, Place), Refusal>
+    fn begin_core(
+        &mut self,
+        key: &K,
+        charge: u64,
+    ) -> Result<(Begun<V>, Evicted<K, V>, Place), Refusal>
         requires charged { 0 < charge }
         ensures step { Stands K.eq self.old.cache (ask.begin key.now charge) (outcome_of_begin (begun_without_place result)) self.new.cache }
         ensures counted { self.new.counts ≡ counted self.old.cache (ask.begin key.now charge) (outcome_of_begin (begun_without_place result)) self.old.counts }
@@ -165,7 +169,7 @@ impl<K: Hash + Eq + Clone + Drop, V: Drop, F: Fit<K, V>> Locked<K, V, F> {
 
     /// The core's `get`. The value found fits the key.
     #[inline(always)]
-    pub fn get(&mut self, key: &K) -> Result<Option<Pin<K, V, F>>, Refusal>
+    pub fn get(&mut self, key: &K) -> Result<Option<HeldPin<K, V, F>>, Refusal>
         ensures step { Stands K.eq self.old.cache (ask.get key.now) (outcome_of_locked_get result) self.new.cache }
         ensures counted { self.new.counts ≡ counted self.old.cache (ask.get key.now) (outcome_of_locked_get result) self.old.counts }
         ensures asked { IfOk result (λ found. IfSome found (λ p. (p.key ≡ key.now) × (p.charge ≡ None))) }
@@ -176,7 +180,7 @@ impl<K: Hash + Eq + Clone + Drop, V: Drop, F: Fit<K, V>> Locked<K, V, F> {
             None => Ok(None),
             Some((stamp, value, place)) => {
                 let spot = Spot { stamp, place };
-                Ok(Some(Pin::of(spot, key, None, value)))
+                Ok(Some(HeldPin::of(spot, key, None, value)))
             }
         }
     }
@@ -219,7 +223,7 @@ impl<K: Hash + Eq + Clone + Drop, V: Drop, F: Fit<K, V>> Locked<K, V, F> {
         requires asked { woken_key woken ≡ key.now }
         ensures step { HasEqualKeyAt K.eq self.old.cache (woken_stamp woken) key.now → Stands K.eq self.old.cache (ask.poll (woken_stamp woken)) (outcome_of_locked_poll result) self.new.cache }
         ensures counted { self.new.counts ≡ counted self.old.cache (ask.poll (woken_stamp woken)) (outcome_of_locked_poll result) self.old.counts }
-        ensures stray { (HasEqualKeyAt K.eq self.old.cache (woken_stamp woken) key.now → ⊥) → (result ≡ Polled.Stray) × (self.new ≡ self.old) }
+        ensures no_entry { (HasEqualKeyAt K.eq self.old.cache (woken_stamp woken) key.now → ⊥) → (result ≡ Polled.NoPin) × (self.new ≡ self.old) }
         ensures asked { AsksOnPoll result key.now (woken_charge woken) self.new }
         ensures hit { IfPolled result (F.fits key.now) }
     {
@@ -228,21 +232,21 @@ impl<K: Hash + Eq + Clone + Drop, V: Drop, F: Fit<K, V>> Locked<K, V, F> {
             asked: _,
             charge,
         } = woken;
-        match self.polled(&spot, key) {
+        match self.poll_core(&spot, key) {
             Ok(Begun::Make(_)) => Polled::Make(Making::of(spot, key, charge)),
             Ok(Begun::Wait(_)) => Polled::Wait(Waiting::of(spot, key, charge, self)),
-            Ok(Begun::Hit(_, value)) => Polled::Hit(Pin::of(spot, key, Some(charge), value)),
+            Ok(Begun::Hit(_, value)) => Polled::Hit(HeldPin::of(spot, key, Some(charge), value)),
             Err(Refusal::Memory) => Polled::Refused(Unread { spot }),
             // A poll never overflows, so this is `Stale`, and there is no pin to release.
-            Err(_) => Polled::Stray,
+            Err(_) => Polled::NoPin,
         }
     }
 
     // The core's `poll`, if the spot's entry has the key, with its own result.
-    fn polled(&mut self, spot: &Spot, key: &K) -> Result<Begun<V>, Refusal>
+    fn poll_core(&mut self, spot: &Spot, key: &K) -> Result<Begun<V>, Refusal>
         ensures step { HasEqualKeyAt K.eq self.old.cache spot.now.stamp key.now → Stands K.eq self.old.cache (ask.poll spot.now.stamp) (outcome_of_poll result) self.new.cache }
         ensures counted { self.new.counts ≡ counted self.old.cache (ask.poll spot.now.stamp) (outcome_of_poll result) self.old.counts }
-        ensures stray { (HasEqualKeyAt K.eq self.old.cache spot.now.stamp key.now → ⊥) → (result ≡ Err Refusal.Stale) × (self.new ≡ self.old) }
+        ensures no_entry { (HasEqualKeyAt K.eq self.old.cache spot.now.stamp key.now → ⊥) → (result ≡ Err Refusal.Stale) × (self.new ≡ self.old) }
         ensures hit { IfOk result (λ b. IfHit b (F.fits key.now)) }
     {
         if !self.has_key(spot, key) {
@@ -263,13 +267,13 @@ impl<K: Hash + Eq + Clone + Drop, V: Drop, F: Fit<K, V>> Locked<K, V, F> {
         key: &K,
         stored: Arc<V>,
         read: Arc<V>,
-    ) -> (Pin<K, V, F>, Sealed<Result<(), Arc<V>>>, Waiters)
+    ) -> (HeldPin<K, V, F>, Sealed<Result<(), Arc<V>>>, Waiters)
         requires asked { made_key making ≡ key.now }
         requires fits { F.fits key.now (arc_value stored) }
         requires same { arc_value read ≡ arc_value stored }
         ensures step { HasEqualKeyAt K.eq self.old.cache (made_stamp making) key.now → Stands K.eq self.old.cache (ask.ready (made_stamp making) (arc_value stored)) (outcome_of_ready result.1) self.new.cache }
         ensures counts { self.new.counts ≡ self.old.counts }
-        ensures stray { (HasEqualKeyAt K.eq self.old.cache (made_stamp making) key.now → ⊥) → (result.1 ≡ Err stored) × (self.new ≡ self.old) }
+        ensures no_entry { (HasEqualKeyAt K.eq self.old.cache (made_stamp making) key.now → ⊥) → (result.1 ≡ Err stored) × (self.new ≡ self.old) }
         ensures back { IfErr result.1 (λ a. arc_value a ≡ arc_value stored) }
         ensures pin { result.0 ≡ record { stamp = made_stamp making; key = key.now; charge = Some (made_charge making); value = arc_value stored } }
         ensures quiet { IsFalse result.2 → HasNoOtherPin self.old.cache (made_stamp making) }
@@ -280,7 +284,7 @@ impl<K: Hash + Eq + Clone + Drop, V: Drop, F: Fit<K, V>> Locked<K, V, F> {
             charge,
         } = making;
         let (back, shared) = self.state.ready_keyed(&spot, key, stored);
-        let pin = Pin::of(spot, key, Some(charge), read);
+        let pin = HeldPin::of(spot, key, Some(charge), read);
         (pin, Sealed::of(back), Waiters::of(shared))
     }
 
@@ -296,7 +300,7 @@ impl<K: Hash + Eq + Clone + Drop, V: Drop, F: Fit<K, V>> Locked<K, V, F> {
         requires asked { made_key making ≡ key.now }
         ensures step { HasEqualKeyAt K.eq self.old.cache (made_stamp making) key.now → Stands K.eq self.old.cache (ask.fail (made_stamp making)) (outcome_of_fail result.0) self.new.cache }
         ensures counted { self.new.counts ≡ counted self.old.cache (ask.fail (made_stamp making)) (outcome_of_fail result.0) self.old.counts }
-        ensures stray { (HasEqualKeyAt K.eq self.old.cache (made_stamp making) key.now → ⊥) → (result.0 ≡ Err Refusal.Stale) × (self.new ≡ self.old) }
+        ensures no_entry { (HasEqualKeyAt K.eq self.old.cache (made_stamp making) key.now → ⊥) → (result.0 ≡ Err Refusal.Stale) × (self.new ≡ self.old) }
         ensures quiet { IsFalse result.1 → HasNoOtherPin self.old.cache (made_stamp making) }
     {
         let Making {
@@ -316,12 +320,15 @@ impl<K: Hash + Eq + Clone + Drop, V: Drop, F: Fit<K, V>> Locked<K, V, F> {
     ///
     /// Returns `Stale` if no held and ready entry has the stamp.
     #[inline(always)]
-    pub fn release(&mut self, pin: Pin<K, V, F>) -> Sealed<(Arc<V>, Result<Evicted<K, V>, Refusal>)>
+    pub fn release(
+        &mut self,
+        pin: HeldPin<K, V, F>,
+    ) -> Sealed<(Arc<V>, Result<Evicted<K, V>, Refusal>)>
         ensures step { Stands K.eq self.old.cache (ask.release pin.stamp) (outcome_of_release result.1) self.new.cache }
         ensures counted { self.new.counts ≡ counted self.old.cache (ask.release pin.stamp) (outcome_of_release result.1) self.old.counts }
         ensures value { arc_value result.0 ≡ pin.value }
     {
-        let Pin {
+        let HeldPin {
             spot,
             asked: _,
             charge: _,
@@ -371,7 +378,7 @@ impl<K: Hash + Eq + Clone + Drop, V: Drop, F: Fit<K, V>> Locked<K, V, F> {
         stored: Arc<V>,
         read: Arc<V>,
     ) -> Result<
-        (Pin<K, V, F>, Sealed<(Evicted<K, V>, Evicted<K, V>)>),
+        (HeldPin<K, V, F>, Sealed<(Evicted<K, V>, Evicted<K, V>)>),
         (Refusal, Sealed<(Arc<V>, Arc<V>)>),
     >
         requires charged { 0 < charge }
@@ -393,7 +400,7 @@ impl<K: Hash + Eq + Clone + Drop, V: Drop, F: Fit<K, V>> Locked<K, V, F> {
             replaced,
             evicted,
         } = inserted;
-        let pin = Pin::of(Spot { stamp, place }, key, Some(charge), read);
+        let pin = HeldPin::of(Spot { stamp, place }, key, Some(charge), read);
         Ok((pin, Sealed::of((replaced, evicted))))
     }
 

@@ -5,7 +5,7 @@ ghost use Rattle.concurrent_lru.specs.ThreadedCalls.{IfInit};
 
 use crate::fit::{Anything, Fit};
 use crate::get_error::GetError;
-use crate::locked::Pin;
+use crate::locked::HeldPin;
 use crate::lru_core::Refusal;
 use crate::unsharded::LruCache;
 use std::fmt;
@@ -20,7 +20,7 @@ use std::sync::{Arc, Wait};
 /// Clauses see what they see of a `CacheHandle`.
 pub struct OwnedHandle<K: Hash + Eq + Clone, V, R: Wait, F: Fit<K, V> = Anything> {
     cache: Arc<LruCache<K, V, R, F>>,
-    pin: Pin<K, V, F>,
+    pin: HeldPin<K, V, F>,
 }
 
 impl<K: Hash + Eq + Clone, V, R: Wait, F: Fit<K, V>> Model for OwnedHandle<K, V, R, F> {
@@ -43,7 +43,7 @@ impl<K: Hash + Eq + Clone, V, R: Wait, F: Fit<K, V>> OwnedHandle<K, V, R, F> {
 
 impl<K: Hash + Eq + Clone + Drop, V: Drop, R: Wait + Drop, F: Fit<K, V>> OwnedHandle<K, V, R, F> {
     // Creates a handle of a pin that was acquired from this cache.
-    fn new(cache: Arc<LruCache<K, V, R, F>>, pin: Pin<K, V, F>) -> Self
+    fn new(cache: Arc<LruCache<K, V, R, F>>, pin: HeldPin<K, V, F>) -> Self
         ensures key { result.key ≡ pin.key }
         ensures charge { result.charge ≡ pin.charge }
         ensures value { result.value ≡ pin.value }

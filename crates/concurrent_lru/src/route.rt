@@ -105,40 +105,44 @@ impl<K: Hash + Eq + Clone + Drop, V: Drop, R: Wait, S: BuildHasher, F: Fit<K, V>
         ensures { IfErr result (λ e. e ≡ Refusal.Memory) }
     {
         for shard in &self.shards {
-            let _: Reserved = self.reserved(shard, entries)?;
+            let _: Reserved = self.reserve_share(shard, entries)?;
         }
         Ok(())
     }
 
     // Reserves room in one shard for its share of `entries` entries.
-    fn reserved(&self, shard: &LruCache<K, V, R, F>, entries: usize) -> Result<Reserved, Refusal>
+    fn reserve_share(
+        &self,
+        shard: &LruCache<K, V, R, F>,
+        entries: usize,
+    ) -> Result<Reserved, Refusal>
         ensures err { IfErr result (λ e. e ≡ Refusal.Memory) }
         ensures done { IfOk result (λ reserved. reserved ≡ (entries + vec_len self.now.shards - 1) / vec_len self.now.shards) }
     {
         // Unwrapped and wrapped again, since the clause on the share is found by the cases of `?`.
-        let reserved = shard.reserved(entries.div_ceil(self.shards.len()))?;
+        let reserved = shard.reserve_with_evidence(entries.div_ceil(self.shards.len()))?;
         Ok(reserved)
     }
 
     /// Calls `prune` of each shard, one after another.
     pub fn prune(&self) {
         for shard in &self.shards {
-            let _: Pruned = shard.pruned();
+            let _: Pruned = shard.prune_with_evidence();
         }
     }
 
     /// Calls `set_capacity` of each shard, one after another, with its share of the capacity.
     pub fn set_capacity(&self, capacity: u64) {
         for shard in &self.shards {
-            let _: Resized = self.resized(shard, capacity);
+            let _: Resized = self.set_capacity_share(shard, capacity);
         }
     }
 
     // Sets the capacity of one shard to its share.
-    fn resized(&self, shard: &LruCache<K, V, R, F>, capacity: u64) -> Resized
+    fn set_capacity_share(&self, shard: &LruCache<K, V, R, F>, capacity: u64) -> Resized
         ensures { result ≡ (capacity + vec_len self.now.shards - 1) / vec_len self.now.shards }
     {
-        shard.resized(capacity_per_shard(capacity, self.shards.len()))
+        shard.set_capacity_with_evidence(capacity_per_shard(capacity, self.shards.len()))
     }
 
     /// Returns the sum of the shards' capacities, read one after another.

@@ -349,7 +349,7 @@ impl<K: Hash + Eq + Clone + Drop, V: Drop, R: Wait, S: BuildHasher, F: Fit<K, V>
 
     /// `advice_evict` with the key by reference.
     pub fn advise(&self, key: &K) {
-        let _: Advised<K> = self.routes.of(key).advised(key);
+        let _: Advised<K> = self.routes.of(key).advise_with_evidence(key);
     }
 
     /// Invalidates a key in its shard: whoever asks for it after this call gets a value that is
@@ -357,7 +357,7 @@ impl<K: Hash + Eq + Clone + Drop, V: Drop, R: Wait, S: BuildHasher, F: Fit<K, V>
     /// stays for its holders only, and is evicted when its last handle is dropped. Copies no key
     /// and takes no memory.
     pub fn invalidate(&self, key: &K) {
-        let _: Invalidated<K> = self.routes.of(key).invalidated(key);
+        let _: Invalidated<K> = self.routes.of(key).invalidate_with_evidence(key);
     }
 
     /// Inserts a value into the key's shard, replacing what the key has, and returns its handle, as

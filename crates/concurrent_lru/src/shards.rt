@@ -301,9 +301,11 @@ impl<K: Hash + Eq + Clone, V: Drop, S: BuildHasher + Drop> Shards<K, V, S> {
         let share = capacity_per_shard(capacity, self.shards.len());
         let mut newest_first = Evicted::none();
         for shard in 0..self.shards.len() {
-            newest_first = self.set_capacity_at(shard, share).turned_onto(newest_first);
+            newest_first = self
+                .set_capacity_at(shard, share)
+                .prepend_reversed_to(newest_first);
         }
-        newest_first.turned_onto(Evicted::none())
+        newest_first.prepend_reversed_to(Evicted::none())
     }
 
     /// `total` of a shard. Returns `Stale` if there is no such shard. Takes no memory.

@@ -11,17 +11,17 @@ ghost use Rattle.concurrent_lru.specs.NodeTable.{Entry, entry_of, new_entry, cha
 ghost use Rattle.concurrent_lru.specs.Representation.{as_idle, held_entry, GetsEntry};
 ghost use Rattle.concurrent_lru.specs.Entries.{cache_of, charges_of, ContainsEntry, ContainsNoStamp, ContainsNoKey, IsPlaceOfKey, ContainsPlace, ContainsIdleAt, ContainsHeldAt, ContainsFoundAt, GetsAt, LacksMakingAt, IsReadyAt, ReadiesAt, Rewrites, RevivesAt, RestsAt, AddsOverHeld, AddsOverIdle, pins_at, value_at, held_with_pins, new_held};
 ghost use Rattle.concurrent_lru.specs.Reads.{RenewsAt};
-ghost use Rattle.concurrent_lru.specs.Stamps.{keeps_map, mapped_place, HasRoomFor};
+ghost use Rattle.concurrent_lru.specs.StampIndex.{keeps_map, mapped_place, HasRoomFor};
 ghost use Rattle.concurrent_lru.specs.Steps.{without, held_in_phase, held_detached};
 ghost use Rattle.concurrent_lru.specs.TakeAll.{TakesHeld, TakesHeldAt};
 
 mod spot;
-mod stamps;
+mod stamp_index;
 
 pub use self::spot::Spot;
-use crate::eviction::{Evicted, reversed};
+use crate::eviction::{Evicted, reverse};
 use crate::list::{Node, Nodes, Phase, Place, Refusal};
-use crate::table::stamps::Stamps;
+use crate::table::stamp_index::StampIndex;
 use std::alloc::Global;
 use std::collections::HashMap;
 use std::fmt;
@@ -35,7 +35,7 @@ use std::sync::Arc;
 pub struct Table<K: Hash + Eq + Clone, V> {
     nodes: Nodes<K, V>,
     by_key: HashMap<K, Place>,
-    by_stamp: Stamps,
+    by_stamp: StampIndex,
     total: u64,
     // The idle entries' part of the total.
     idle_charge: u64,
@@ -64,24 +64,24 @@ impl<K: Hash + Eq + Clone, V: Drop> Table<K, V> {
         ensures stamps { result.stamps ≡ map.empty }
         ensures work { result.work ≡ 0 }
     {
-        Table::found_by(alloc, Stamps::Mapped(HashMap::new(alloc)))
+        Table::with_stamp_index(alloc, StampIndex::Mapped(HashMap::new(alloc)))
     }
 
     // Creates a table with no entries and no map by stamp: adding or removing an entry costs one
     // write less, but a lookup by stamp visits every node unless it begins at its entry's place.
     // For callers that keep the places of what they pinned. Takes no memory.
-    pub(crate) fn without_map_of_stamps(alloc: Global) -> Table<K, V>
+    pub(crate) fn without_stamp_map(alloc: Global) -> Table<K, V>
         requires { CopiesAreEqual K.is_clone K.eq }
         ensures idle { result.idle ≡ [] }
         ensures held { result.held ≡ map.empty }
         ensures stamps { result.stamps ≡ map.empty }
         ensures work { result.work ≡ 0 }
     {
-        Table::found_by(alloc, Stamps::Unmapped)
+        Table::with_stamp_index(alloc, StampIndex::Unmapped)
     }
 
     // Creates a table with no entries that finds stamps with `by_stamp`.
-    fn found_by(alloc: Global, by_stamp: Stamps) -> Table<K, V>
+    fn with_stamp_index(alloc: Global, by_stamp: StampIndex) -> Table<K, V>
         requires copies { CopiesAreEqual K.is_clone K.eq }
         requires unmapped { (s : ℕ) → mapped_place by_stamp s ≡ None }
         ensures idle { result.idle ≡ [] }
@@ -285,12 +285,12 @@ impl<K: Hash + Eq + Clone, V: Drop> Table<K, V> {
             return self.revive(place);
         }
         let value = node.share_value()?;
-        self.hold(place, pins + 1);
+        self.set_pins(place, pins + 1);
         Ok(value)
     }
 
     /// Sets the number of pins of a held entry, which stays held. Takes no memory.
-    pub fn hold(&mut self, place: Place, pins: u32)
+    pub fn set_pins(&mut self, place: Place, pins: u32)
         requires held { ContainsHeldAt self.old place }
         requires some { 0 < pins }
         ensures { Rewrites (held_with_pins pins) self.old place self.new }
@@ -481,7 +481,7 @@ impl<K: Hash + Eq + Clone, V: Drop> Table<K, V> {
                 }
             }
         }
-        reversed(newest_first)
+        reverse(newest_first)
     }
 }
 
@@ -509,7 +509,7 @@ fn new_entry<K: Hash + Eq + Clone, V: Drop>(
 fn make_room<K: Hash + Eq + Drop, V: Drop>(
     nodes: &mut Nodes<K, V>,
     by_key: &mut HashMap<K, Place>,
-    by_stamp: &mut Stamps,
+    by_stamp: &mut StampIndex,
     more: usize,
 ) -> Result<(), Refusal>
     ensures ok { OnOk result ((more ≤ nodes.new.spare) × (more ≤ spare by_key.new) × HasRoomFor by_stamp.new more) }
@@ -532,7 +532,7 @@ fn make_room<K: Hash + Eq + Drop, V: Drop>(
 fn put<K: Hash + Eq + Drop, V: Drop>(
     nodes: &mut Nodes<K, V>,
     by_key: &mut HashMap<K, Place>,
-    by_stamp: &mut Stamps,
+    by_stamp: &mut StampIndex,
     total: &mut u64,
     node: Box<Node<K, V>>,
     kept: K,
@@ -579,7 +579,7 @@ fn forget_key<K: Hash + Eq + Drop, V: Drop>(
 fn take_away<K: Hash + Eq + Drop, V: Drop>(
     nodes: &mut Nodes<K, V>,
     by_key: &mut HashMap<K, Place>,
-    by_stamp: &mut Stamps,
+    by_stamp: &mut StampIndex,
     total: &mut u64,
     place: Place,
 ) -> Box<Node<K, V>>

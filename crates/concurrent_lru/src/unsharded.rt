@@ -11,11 +11,11 @@ ghost use Rattle.concurrent_lru.specs.Pins.{IsHandleFor, made_key, made_charge, 
 ghost use Rattle.concurrent_lru.specs.ThreadedCalls.{IsTurnFor, IfInit};
 
 pub use crate::counts::Counts;
-use crate::door::{Asleep, Door, Maker, Met};
+use crate::door::{Door, Lookup, Maker, WaitGuard};
 pub use crate::fit::{Anything, Fit};
 pub use crate::get_error::GetError;
 pub use crate::handle::CacheHandle;
-use crate::locked::{Advised, Invalidated, Pin, Pruned, Reserved, Resized};
+use crate::locked::{Advised, HeldPin, Invalidated, Pruned, Reserved, Resized};
 pub use crate::lru_core::Refusal;
 pub use crate::owned::OwnedHandle;
 use std::alloc::Global;
@@ -64,7 +64,7 @@ impl<K: Hash + Eq + Clone + Drop, V: Drop, R: Wait, F: Fit<K, V>> LruCache<K, V,
     pub fn reserve(&self, entries: usize) -> Result<(), Refusal>
         ensures { IfErr result (λ e. e ≡ Refusal.Memory) }
     {
-        let _: Reserved = self.reserved(entries)?;
+        let _: Reserved = self.reserve_with_evidence(entries)?;
         Ok(())
     }
 
@@ -93,7 +93,7 @@ impl<K: Hash + Eq + Clone + Drop, V: Drop, R: Wait, F: Fit<K, V>> LruCache<K, V,
         ensures fits { IfOk result (λ found. IfSome found (λ h. F.fits key.now h.value)) }
         ensures never_stale { IfErr result (λ e. e ≢ Refusal.Stale) }
     {
-        self.door.enter().get(key)
+        self.door.lock().get(key)
     }
 
     /// Calls `reader` with the key's value, if it is ready, and returns its result. Returns `None`
@@ -114,7 +114,7 @@ impl<K: Hash + Eq + Clone + Drop, V: Drop, R: Wait, F: Fit<K, V>> LruCache<K, V,
         ensures fits { IfOk result (λ found. IfSome found (λ t. (v : V) × F.fits key.now v × FnOnceReturnsAt G.FnOnce reader v t)) }
         ensures refused { IfErr result (λ e. e ≡ Refusal.Overflow) }
     {
-        self.door.enter().read(key, reader)
+        self.door.lock().read(key, reader)
     }
 
     /// Returns a handle of the key's value, which `init` makes if the key has no entry or if its
@@ -248,7 +248,7 @@ impl<K: Hash + Eq + Clone + Drop, V: Drop, R: Wait, F: Fit<K, V>> LruCache<K, V,
 
     /// `advice_evict` with the key by reference.
     pub fn advise(&self, key: &K) {
-        let _: Advised<K> = self.advised(key);
+        let _: Advised<K> = self.advise_with_evidence(key);
     }
 
     /// Invalidates a key: whoever asks for it after this call gets a value that is made after it,
@@ -260,7 +260,7 @@ impl<K: Hash + Eq + Clone + Drop, V: Drop, R: Wait, F: Fit<K, V>> LruCache<K, V,
     /// last handle is dropped, and counts in `total_charge` and `len` until then. If the key has no
     /// entry, nothing happens.
     pub fn invalidate(&self, key: &K) {
-        let _: Invalidated<K> = self.invalidated(key);
+        let _: Invalidated<K> = self.invalidate_with_evidence(key);
     }
 
     /// Inserts a value, replacing what the key has, and returns its handle. It invalidates the key
@@ -290,41 +290,41 @@ impl<K: Hash + Eq + Clone + Drop, V: Drop, R: Wait, F: Fit<K, V>> LruCache<K, V,
     {
         let stored = Arc::new(self.alloc, value)?;
         let read = Arc::try_clone(&stored)?;
-        self.door.enter().insert(key, charge, stored, read)
+        self.door.lock().insert(key, charge, stored, read)
     }
 
     /// Evicts every idle entry, oldest first. Takes no memory.
     pub fn prune(&self) {
-        let _: Pruned = self.pruned();
+        let _: Pruned = self.prune_with_evidence();
     }
 
     /// Sets the capacity, and evicts idle entries, oldest first, while the total is above it. Takes
     /// no memory.
     pub fn set_capacity(&self, capacity: u64) {
-        let _: Resized = self.resized(capacity);
+        let _: Resized = self.set_capacity_with_evidence(capacity);
     }
 
     /// Returns the capacity. Takes no memory.
     pub fn capacity(&self) -> u64 {
-        self.door.enter().capacity()
+        self.door.lock().capacity()
     }
 
     /// Returns the sum of the charges of all entries, including those still being made and those
     /// held after an `invalidate`. Takes no memory.
     pub fn total_charge(&self) -> u64 {
-        self.door.enter().total()
+        self.door.lock().total()
     }
 
     /// Returns the sum of the charges of the held entries, including those still being made and
     /// those held after an `invalidate`. The rest of `total_charge` is idle. Takes no memory.
     pub fn pinned_charge(&self) -> u64 {
-        self.door.enter().pinned_charge()
+        self.door.lock().pinned_charge()
     }
 
     /// Returns the number of entries, idle or held, including those still being made and those held
     /// after an `invalidate`. Takes no memory.
     pub fn len(&self) -> usize {
-        self.door.enter().len()
+        self.door.lock().len()
     }
 
     /// Returns whether there are no entries. Takes no memory.
@@ -336,7 +336,7 @@ impl<K: Hash + Eq + Clone + Drop, V: Drop, R: Wait, F: Fit<K, V>> LruCache<K, V,
     /// being made does not count. Pins nothing, so the value may be evicted before the next call,
     /// and leaves the order of eviction as it is. Takes no memory.
     pub fn contains(&self, key: &K) -> bool {
-        self.door.enter().contains(key)
+        self.door.lock().contains(key)
     }
 
     /// Returns the counts of this cache's calls since it was created or last reset. They are read
@@ -345,7 +345,7 @@ impl<K: Hash + Eq + Clone + Drop, V: Drop, R: Wait, F: Fit<K, V>> LruCache<K, V,
         ensures entries { result.evictions + result.removals ≤ entries_in result }
         ensures charge { result.evicted_charge + result.removed_charge ≤ charge_in result }
     {
-        self.door.enter().counts()
+        self.door.lock().counts()
     }
 
     /// Returns what `counts` returns and resets all counts to 0; the counting starts again from the
@@ -354,42 +354,42 @@ impl<K: Hash + Eq + Clone + Drop, V: Drop, R: Wait, F: Fit<K, V>> LruCache<K, V,
         ensures entries { result.evictions + result.removals ≤ entries_in result }
         ensures charge { result.evicted_charge + result.removed_charge ≤ charge_in result }
     {
-        self.door.enter().reset_counts()
+        self.door.lock().reset_counts()
     }
 
     // The calls above, each returning evidence of what was done under the lock.
-    pub(crate) fn reserved(&self, entries: usize) -> Result<Reserved, Refusal>
+    pub(crate) fn reserve_with_evidence(&self, entries: usize) -> Result<Reserved, Refusal>
         ensures err { IfErr result (λ e. e ≡ Refusal.Memory) }
         ensures done { IfOk result (λ reserved. reserved ≡ entries) }
     {
-        self.door.enter().reserve(entries)
+        self.door.lock().reserve(entries)
     }
 
-    pub(crate) fn advised(&self, key: &K) -> Advised<K>
+    pub(crate) fn advise_with_evidence(&self, key: &K) -> Advised<K>
         ensures { result ≡ key.now }
     {
-        self.door.enter().advice_evict(key)
+        self.door.lock().advice_evict(key)
     }
 
-    pub(crate) fn invalidated(&self, key: &K) -> Invalidated<K>
+    pub(crate) fn invalidate_with_evidence(&self, key: &K) -> Invalidated<K>
         ensures { result ≡ key.now }
     {
-        self.door.enter().invalidate(key)
+        self.door.lock().invalidate(key)
     }
 
-    pub(crate) fn pruned(&self) -> Pruned {
-        self.door.enter().prune()
+    pub(crate) fn prune_with_evidence(&self) -> Pruned {
+        self.door.lock().prune()
     }
 
-    pub(crate) fn resized(&self, capacity: u64) -> Resized
+    pub(crate) fn set_capacity_with_evidence(&self, capacity: u64) -> Resized
         ensures { result ≡ capacity }
     {
-        self.door.enter().set_capacity(capacity)
+        self.door.lock().set_capacity(capacity)
     }
 
     // Releases the pin of a handle that keeps the cache alive.
-    pub(crate) fn release(&self, pin: Pin<K, V, F>) {
-        self.door.enter().release(pin);
+    pub(crate) fn release(&self, pin: HeldPin<K, V, F>) {
+        self.door.lock().release(pin);
     }
 
     // Begins, and waits while another caller makes the value.
@@ -399,55 +399,55 @@ impl<K: Hash + Eq + Clone + Drop, V: Drop, R: Wait, F: Fit<K, V>> LruCache<K, V,
         ensures turn { IfOk result (λ turn. IsTurnFor F.fits turn key.now charge) }
         ensures never_stale { IfErr result (λ e. e ≢ Refusal.Stale) }
     {
-        match self.door.enter().begin(key, charge)? {
-            Met::Make(maker) => Ok(Turn::Make(maker)),
-            Met::Hit(handle) => Ok(Turn::Ready(handle)),
-            Met::Wait(asleep) => self.wait_for(asleep, key, charge),
+        match self.door.lock().begin(key, charge)? {
+            Lookup::Make(maker) => Ok(Turn::Make(maker)),
+            Lookup::Hit(handle) => Ok(Turn::Ready(handle)),
+            Lookup::Wait(guard) => self.wait_for(guard, key, charge),
         }
     }
 
-    // `awaited`, kept out of `start` so that only a call that waits sets up the stack that a wait
+    // `wait_slow`, kept out of `start` so that only a call that waits sets up the stack that a wait
     // needs. Inlined beside a hit, every hit would pay for it.
     #[inline(always)]
     fn wait_for<'a>(
         &'a self,
-        asleep: Asleep<'a, K, V, R, F>,
+        guard: WaitGuard<'a, K, V, R, F>,
         key: &K,
         charge: u64,
     ) -> Result<Turn<'a, K, V, R, F>, Refusal>
         requires charged { 0 < charge }
-        requires asked { awaited_key asleep.waiting ≡ key.now }
-        requires charge { awaited_charge asleep.waiting ≡ charge }
-        requires awake { IsAwake asleep }
+        requires asked { awaited_key guard.waiting ≡ key.now }
+        requires charge { awaited_charge guard.waiting ≡ charge }
+        requires awake { IsAwake guard }
         ensures turn { IfOk result (λ turn. IsTurnFor F.fits turn key.now charge) }
         ensures never_stale { IfErr result (λ e. e ≢ Refusal.Stale) }
     {
-        Ok(self.awaited(asleep, key, charge)?)
+        Ok(self.wait_slow(guard, key, charge)?)
     }
 
     // Waits while another caller makes the value. A waiter that finds its pin gone begins again.
     #[cold]
-    fn awaited<'a>(
+    fn wait_slow<'a>(
         &'a self,
-        asleep: Asleep<'a, K, V, R, F>,
+        guard: WaitGuard<'a, K, V, R, F>,
         key: &K,
         charge: u64,
     ) -> Result<Turn<'a, K, V, R, F>, Refusal>
         requires charged { 0 < charge }
-        requires asked { awaited_key asleep.waiting ≡ key.now }
-        requires charge { awaited_charge asleep.waiting ≡ charge }
-        requires awake { IsAwake asleep }
+        requires asked { awaited_key guard.waiting ≡ key.now }
+        requires charge { awaited_charge guard.waiting ≡ charge }
+        requires awake { IsAwake guard }
         ensures turn { IfOk result (λ turn. IsTurnFor F.fits turn key.now charge) }
         ensures never_stale { IfErr result (λ e. e ≢ Refusal.Stale) }
     {
-        let mut met = Met::Wait(asleep);
+        let mut lookup = Lookup::Wait(guard);
         for _ in self.door.rt().forever() {
-            met = match met {
-                Met::Make(maker) => return Ok(Turn::Make(maker)),
-                Met::Hit(handle) => return Ok(Turn::Ready(handle)),
-                Met::Wait(asleep) => match asleep.wait(key)? {
+            lookup = match lookup {
+                Lookup::Make(maker) => return Ok(Turn::Make(maker)),
+                Lookup::Hit(handle) => return Ok(Turn::Ready(handle)),
+                Lookup::Wait(guard) => match guard.wait(key)? {
                     Some(woken) => woken,
-                    None => self.door.enter().begin(key, charge)?,
+                    None => self.door.lock().begin(key, charge)?,
                 },
             };
         }
@@ -497,6 +497,6 @@ impl<
     F: Fit<K, V>,
 > fmt::Debug for LruCache<K, V, R, F> {
     fn fmt<W: fmt::Write>(&self, f: &mut fmt::Formatter<W>) -> fmt::Result {
-        self.door.enter().print(f)
+        self.door.lock().print(f)
     }
 }

@@ -2,7 +2,7 @@
 
 use crate::failure::Failure;
 use crate::keys::Keys;
-use crate::mostly::{Asked, ByInit, ByRead, HitRatio, ask_all, read_mostly};
+use crate::mostly::{ByInit, ByRead, HitRatio, ReadTarget, ask_all, read_mostly};
 use crate::parts::{Parts, PartsInShards};
 use crate::plan::{Mostly, Plan, Shown};
 use crate::report::{Report, Work};
@@ -12,7 +12,7 @@ use crate::uses::{
 };
 use concurrent_lru::{sharded, unsharded};
 use lru_stress::plan::KEYS;
-use lru_stress::workers::Shared;
+use lru_stress::workers::StressTarget;
 use lru_support::cached::Cached;
 use std::alloc::Global;
 use std::hash::RandomState;
@@ -85,7 +85,7 @@ fn use_parts<R: Wait + Clock, O: Write>(
     operations: u32,
     report: &mut Report<'_, R, O>,
 ) -> Result<(), Failure> {
-    let parts = Parts::filled(alloc, rt, entries.get())?;
+    let parts = Parts::with_keys(alloc, rt, entries.get())?;
     let mut keys = Keys::of(entries);
     let work = |name| Work::new(PARTS_ON_ONE_LOCK, name, entries.get(), 1, operations);
     report.time(
@@ -130,7 +130,7 @@ fn use_alone<R: Wait + Clock, O: Write>(
 }
 
 // The stress workload on the cache of this name, which has this capacity.
-fn stress_cache<R: Threads + Clock + Sync, C: Shared + Sync, O: Write>(
+fn stress_cache<R: Threads + Clock + Sync, C: StressTarget + Sync, O: Write>(
     rt: &R,
     alloc: Global,
     cache: &C,
@@ -150,8 +150,8 @@ fn stress_parts<R: Threads + Wait + Clock + Sync, W: Wait + Clone + Drop + Sync,
     work: (u16, u32),
     report: &mut Report<'_, R, O>,
 ) -> Result<(), Failure> {
-    let shards = PartsInShards::filled(alloc, &wait, KEYS)?;
-    let parts = Parts::filled(alloc, wait, KEYS)?;
+    let shards = PartsInShards::with_keys(alloc, &wait, KEYS)?;
+    let parts = Parts::with_keys(alloc, wait, KEYS)?;
     stress_cache(
         rt,
         alloc,
@@ -306,7 +306,7 @@ fn ask_both_ways<R: Threads + Wait + Clock + Sync, C: Cached<u64> + Sync, O: Wri
 }
 
 // Runs the workload on an empty cache, which is filled before the timing begins.
-fn ask_mostly<R: Threads + Wait + Clock + Sync, A: Asked + Sync, O: Write, E: Write>(
+fn ask_mostly<R: Threads + Wait + Clock + Sync, A: ReadTarget + Sync, O: Write, E: Write>(
     rt: &R,
     asked: &A,
     system: &'static str,

@@ -18,7 +18,7 @@ pub struct Found {
 
 /// A cache and the kind of call on it. The value of a key is the key. It has no associated type,
 /// since the checker does not support thread closures over a type that has one.
-pub trait Asked {
+pub trait ReadTarget {
     /// Reads the value of a key, which is made if there is none.
     fn ask(&self, key: u64) -> Result<Found, Refusal>;
 }
@@ -30,7 +30,7 @@ pub struct ByInit<C> {
     pub cache: C,
 }
 
-impl<C: Cached<u64>> Asked for ByInit<C> {
+impl<C: Cached<u64>> ReadTarget for ByInit<C> {
     fn ask(&self, key: u64) -> Result<Found, Refusal> {
         make(self.cache, key)
     }
@@ -43,9 +43,9 @@ pub struct ByRead<C> {
     pub cache: C,
 }
 
-impl<C: Cached<u64>> Asked for ByRead<C> {
+impl<C: Cached<u64>> ReadTarget for ByRead<C> {
     fn ask(&self, key: u64) -> Result<Found, Refusal> {
-        match self.cache.seen(key, |value| *value)? {
+        match self.cache.read(key, |value| *value)? {
             Some(value) => Ok(Found { value, hit: true }),
             None => make(self.cache, key),
         }
@@ -54,7 +54,7 @@ impl<C: Cached<u64>> Asked for ByRead<C> {
 
 fn make<C: Cached<u64>>(cache: C, key: u64) -> Result<Found, Refusal> {
     let mut made = false;
-    let handle = cache.made(key, 1, |key| {
+    let handle = cache.get_or_init(key, 1, |key| {
         made = true;
         *key
     })?;
@@ -64,7 +64,7 @@ fn make<C: Cached<u64>>(cache: C, key: u64) -> Result<Found, Refusal> {
 
 /// The result of a run: the sum of the values, which is the same on every schedule, and the hits.
 #[derive(Clone, Copy)]
-pub struct Told {
+pub struct Totals {
     /// The sum of the values that were read.
     pub sum: u64,
     /// How many operations found their value.
@@ -72,9 +72,9 @@ pub struct Told {
 }
 
 /// Asks for all keys once, in order.
-pub fn ask_all<A: Asked>(asked: &A, draws: &Draws) -> Result<(), Refusal> {
+pub fn ask_all<A: ReadTarget>(target: &A, draws: &Draws) -> Result<(), Refusal> {
     for key in draws.keys() {
-        let _found = asked.ask(*key)?;
+        let _found = target.ask(*key)?;
     }
     Ok(())
 }
@@ -82,28 +82,28 @@ pub fn ask_all<A: Asked>(asked: &A, draws: &Draws) -> Result<(), Refusal> {
 /// Asks for `operations` keys on each of some threads.
 ///
 /// Returns `Memory` if a thread could not be started or a call was refused.
-pub fn read_mostly<R: Threads + Wait + Sync, A: Asked + Sync>(
+pub fn read_mostly<R: Threads + Wait + Sync, A: ReadTarget + Sync>(
     rt: &R,
-    asked: &A,
+    target: &A,
     draws: &Draws,
     threads: u16,
     operations: u32,
-) -> Result<Told, Refusal> {
+) -> Result<Totals, Refusal> {
     let (sum, hits, ended) = (AtomicU64::new(0), AtomicU64::new(0), AtomicU64::new(0));
     let (all, there, done) = (&sum, &hits, &ended);
     thread::scope(thread::scope_env(), rt, |scope| {
         for worker in 0..threads {
             let _started = scope.spawn(move || {
-                if let Ok(told) = work(asked, draws, worker, operations) {
-                    all.fetch_add(told.sum, Ordering::SeqCst);
-                    there.fetch_add(told.hits, Ordering::SeqCst);
+                if let Ok(totals) = work(target, draws, worker, operations) {
+                    all.fetch_add(totals.sum, Ordering::SeqCst);
+                    there.fetch_add(totals.hits, Ordering::SeqCst);
                     done.fetch_add(1, Ordering::SeqCst);
                 }
             });
         }
     });
     if ended.load(Ordering::SeqCst) == u64::from(threads) {
-        Ok(Told {
+        Ok(Totals {
             sum: sum.load(Ordering::SeqCst),
             hits: hits.load(Ordering::SeqCst),
         })
@@ -113,18 +113,23 @@ pub fn read_mostly<R: Threads + Wait + Sync, A: Asked + Sync>(
 }
 
 // Runs one worker's operations.
-fn work<A: Asked>(asked: &A, draws: &Draws, worker: u16, operations: u32) -> Result<Told, Refusal> {
+fn work<A: ReadTarget>(
+    target: &A,
+    draws: &Draws,
+    worker: u16,
+    operations: u32,
+) -> Result<Totals, Refusal> {
     let mut drawing = draws.of_worker(worker);
-    let mut told = Told { sum: 0, hits: 0 };
+    let mut totals = Totals { sum: 0, hits: 0 };
     for _ in 0..operations {
         let Some(key) = drawing.draw() else {
-            return Ok(told);
+            return Ok(totals);
         };
-        let found = asked.ask(key)?;
-        told.sum = told.sum.wrapping_add(found.value);
-        told.hits = told.hits.wrapping_add(u64::from(found.hit));
+        let found = target.ask(key)?;
+        totals.sum = totals.sum.wrapping_add(found.value);
+        totals.hits = totals.hits.wrapping_add(u64::from(found.hit));
     }
-    Ok(told)
+    Ok(totals)
 }
 
 /// The fraction of operations that found their value, in ten-thousandths.

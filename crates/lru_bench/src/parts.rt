@@ -3,8 +3,8 @@
 //! avoids.
 
 use concurrent_lru::lru_core::Refusal;
-use lru_stress::workers::{Answer, Shared, Unmade};
-use lru_support::calls::Call;
+use lru_stress::workers::{Answer, StressTarget, Unmade};
+use lru_support::calls::WorkerCall;
 use slab::Slab;
 use std::alloc::Global;
 use std::collections::HashMap;
@@ -100,7 +100,7 @@ impl<R: Wait + Drop> Parts<R> {
     }
 
     /// Creates the keys from 0 up to `keys`, each with itself as its value.
-    pub fn filled(alloc: Global, rt: R, keys: u64) -> Result<Parts<R>, Refusal> {
+    pub fn with_keys(alloc: Global, rt: R, keys: u64) -> Result<Parts<R>, Refusal> {
         let filled = Parts::new(alloc, rt);
         for key in 0..keys {
             filled.miss(NO_KEY, key)?;
@@ -156,8 +156,8 @@ fn answer(found: Result<Option<u64>, Refusal>) -> Result<Answer, Unmade> {
     }
 }
 
-impl<R: Wait + Drop> Shared for Parts<R> {
-    fn fetch(&self, call: &Call) -> Result<Answer, Unmade> {
+impl<R: Wait + Drop> StressTarget for Parts<R> {
+    fn ask(&self, call: &WorkerCall) -> Result<Answer, Unmade> {
         answer(self.hit(call.key))
     }
 }
@@ -170,7 +170,7 @@ pub struct PartsInShards<R: Wait> {
 
 impl<R: Wait + Clone + Drop> PartsInShards<R> {
     /// Creates the keys from 0 up to `keys`, each with itself as its value.
-    pub fn filled(alloc: Global, rt: &R, keys: u64) -> Result<PartsInShards<R>, Refusal> {
+    pub fn with_keys(alloc: Global, rt: &R, keys: u64) -> Result<PartsInShards<R>, Refusal> {
         let mut shards = Vec::new(alloc);
         for _ in 0..SHARDS {
             shards.push(Parts::new(alloc, rt.clone()?))?;
@@ -192,10 +192,10 @@ impl<R: Wait + Drop> PartsInShards<R> {
     }
 }
 
-impl<R: Wait + Drop> Shared for PartsInShards<R> {
-    fn fetch(&self, call: &Call) -> Result<Answer, Unmade> {
+impl<R: Wait + Drop> StressTarget for PartsInShards<R> {
+    fn ask(&self, call: &WorkerCall) -> Result<Answer, Unmade> {
         match self.shard(call.key) {
-            Some(shard) => shard.fetch(call),
+            Some(shard) => shard.ask(call),
             None => Err(Unmade::Failed),
         }
     }

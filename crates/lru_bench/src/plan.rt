@@ -48,7 +48,7 @@ impl Plan {
     ///
     /// Returns `Entries` if an argument is not a number from 1 to `MOST_ENTRIES` in digits.
     pub fn time(alloc: Global, words: &[String]) -> Result<Plan, Failure> {
-        let mut entries = parsed(alloc, words)?;
+        let mut entries = parse(alloc, words)?;
         if words.is_empty() {
             entries = sizes(alloc, &[1_000, 1_000_000])?;
         }
@@ -106,7 +106,7 @@ fn sizes(alloc: Global, numbers: &[u64]) -> Result<Vec<NonZeroU64>, AllocError> 
 }
 
 // Parses the arguments as numbers.
-fn parsed(alloc: Global, words: &[String]) -> Result<Vec<NonZeroU64>, Failure> {
+fn parse(alloc: Global, words: &[String]) -> Result<Vec<NonZeroU64>, Failure> {
     let mut entries = Vec::new(alloc);
     for word in words {
         let Some(number) = number(word.as_str()) else {

@@ -3,9 +3,9 @@ ghost use Rattle.std.specs.Prelude.{◌<◌};
 
 use lru_stress::outcome::Trouble;
 use lru_stress::plan::Plan;
-use lru_stress::workers::{Answer, Shared, Unmade, share};
+use lru_stress::workers::{Answer, StressTarget, Unmade, share};
 use lru_support::cached::Cached;
-use lru_support::calls::Call;
+use lru_support::calls::WorkerCall;
 use std::alloc::Global;
 use std::thread::Threads;
 
@@ -19,9 +19,12 @@ pub struct Keyed<C> {
     pub cache: C,
 }
 
-impl<C: Cached<u64>> Shared for Keyed<C> {
-    fn fetch(&self, call: &Call) -> Result<Answer, Unmade> {
-        match self.cache.tried(call.key, call.charge, |_| make(call)) {
+impl<C: Cached<u64>> StressTarget for Keyed<C> {
+    fn ask(&self, call: &WorkerCall) -> Result<Answer, Unmade> {
+        match self
+            .cache
+            .get_or_try_init(call.key, call.charge, |_| make(call))
+        {
             Ok(handle) => Ok(Answer::of_key(*C::value_of(&handle))),
             Err(error) => Err(Unmade::from(error)),
         }
@@ -29,7 +32,7 @@ impl<C: Cached<u64>> Shared for Keyed<C> {
 }
 
 // The `init` of a call: returns the key, or fails.
-fn make(call: &Call) -> Result<u64, Unmade> {
+fn make(call: &WorkerCall) -> Result<u64, Unmade> {
     if call.fails {
         Err(Unmade::Failed)
     } else {
@@ -43,7 +46,7 @@ fn make(call: &Call) -> Result<u64, Unmade> {
 ///
 /// Returns `Refused` if a thread could not be started or memory was refused to a call, and else
 /// `Failed` if a call had the wrong answer.
-pub fn stress<R: Threads + Sync, C: Shared + Sync>(
+pub fn stress<R: Threads + Sync, C: StressTarget + Sync>(
     rt: &R,
     alloc: Global,
     cache: &C,

@@ -1,7 +1,7 @@
 //! Prints a file piece by piece. Each piece asks for its page, so a page in the cache serves
 //! several.
 
-use crate::counted::Counted;
+use crate::counted::CountedBlocks;
 use crate::failure::Failure;
 use lru_files::{Fault, FileBlocks};
 use lru_pages::PageCache;
@@ -59,12 +59,12 @@ fn print_pages<'a, R: Wait, O: Write>(
     out: &mut O,
 ) -> Result<Counts, Failure<'a>> {
     let count = blocks.len().div_ceil(PIECE as u64);
-    let reader = Counted::new(blocks);
+    let reader = CountedBlocks::new(blocks);
     let pages = PageCache::new(alloc, rt, &reader, pages);
     for piece in 0..count {
         print(path, &pages, piece, out)?;
     }
-    let read = reader.asked();
+    let read = reader.requests();
     Ok(Counts {
         read,
         found: count.saturating_sub(read),
@@ -95,7 +95,7 @@ fn print_to_the_end<'a, O: Write>(
 // Prints a piece of the file.
 fn print<'a, R: Wait, O: Write>(
     path: &'a str,
-    pages: &PageCache<'_, Counted<FileBlocks>, R>,
+    pages: &PageCache<'_, CountedBlocks<FileBlocks>, R>,
     piece: u64,
     out: &mut O,
 ) -> Result<(), Failure<'a>> {

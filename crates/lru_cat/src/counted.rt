@@ -5,27 +5,27 @@ use std::sync::atomic::{AtomicU64, Ordering};
 
 /// A reader of blocks, and how many were requested.
 #[derive(Drop)]
-pub struct Counted<B> {
+pub struct CountedBlocks<B> {
     blocks: B,
     asked: AtomicU64,
 }
 
-impl<B: Blocks> Counted<B> {
+impl<B: Blocks> CountedBlocks<B> {
     /// Creates a reader with a count of 0.
-    pub fn new(blocks: B) -> Counted<B> {
-        Counted {
+    pub fn new(blocks: B) -> CountedBlocks<B> {
+        CountedBlocks {
             blocks,
             asked: AtomicU64::new(0),
         }
     }
 
     /// Returns how many blocks were requested.
-    pub fn asked(&self) -> u64 {
+    pub fn requests(&self) -> u64 {
         self.asked.load(Ordering::SeqCst)
     }
 }
 
-impl<B: Blocks> Blocks for Counted<B> {
+impl<B: Blocks> Blocks for CountedBlocks<B> {
     type Fault = B::Fault;
 
     ghost is_block = { λ counted number bytes. B.is_block counted.blocks number bytes };

@@ -2,7 +2,7 @@
 
 use concurrent_lru::lru_core::{State, Step};
 use lru_fixtures::tables::Call::{Begin, Capacity, Prune, Ready, Release, SetCapacity};
-use lru_fixtures::tables::{Call, answers_as_told, says};
+use lru_fixtures::tables::{Call, answers_as_expected, says};
 use std::sync::Arc;
 use std::test::Fail;
 
@@ -39,7 +39,7 @@ const CHANGES: [(Call, &str); 20] = [
 #[test]
 fn a_change_evicts_at_once_what_no_longer_fits(rt: HostRuntime) -> Result<(), Fail> {
     let alloc = rt.alloc();
-    answers_as_told(alloc, &mut State::new(alloc, 9), &CHANGES)
+    answers_as_expected(alloc, &mut State::new(alloc, 9), &CHANGES)
 }
 
 #[test]

@@ -4,7 +4,7 @@ use concurrent_lru::lru_core::State;
 use lru_fixtures::tables::Call::{
     Begin, Capacity, Fail, Get, Invalidate, KeyOf, Poll, Ready, Release, Show, Total,
 };
-use lru_fixtures::tables::{Call, answers_as_told, says};
+use lru_fixtures::tables::{Call, answers_as_expected, says};
 use std::test;
 
 // Idle are 1 and 0. Held are 2, which is ready, 3 and 4, which were invalidated, 3 with a value and
@@ -52,7 +52,7 @@ const AFTER: [(Call, &str); 12] = [
 fn hands_out_every_value(rt: HostRuntime) -> Result<(), test::Fail> {
     let alloc = rt.alloc();
     let mut state = State::new(alloc, 100);
-    answers_as_told(alloc, &mut state, &BEFORE)?;
+    answers_as_expected(alloc, &mut state, &BEFORE)?;
     let mut taken = state.take_all();
     let idle = (taken.pop(), taken.pop());
     says(
@@ -68,7 +68,7 @@ fn hands_out_every_value(rt: HostRuntime) -> Result<(), test::Fail> {
     }
     held.sort()?;
     says(alloc, &held, "[(2, 3, 3, 12), (3, 4, 4, 13)]")?;
-    answers_as_told(alloc, &mut state, &AFTER)
+    answers_as_expected(alloc, &mut state, &AFTER)
 }
 
 #[test]
@@ -76,5 +76,5 @@ fn an_empty_cache_has_nothing_to_hand_out(rt: HostRuntime) -> Result<(), test::F
     let alloc = rt.alloc();
     let mut state: State<u64, u64> = State::new(alloc, 10);
     says(alloc, &state.take_all(), "[]")?;
-    answers_as_told(alloc, &mut state, &[(Begin(1, 1), "Ok((Make(0), []))")])
+    answers_as_expected(alloc, &mut state, &[(Begin(1, 1), "Ok((Make(0), []))")])
 }

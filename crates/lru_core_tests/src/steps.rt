@@ -4,7 +4,7 @@ use concurrent_lru::lru_core::{State, Step};
 use lru_fixtures::tables::Call::{
     AdviceEvict, Begin, Capacity, Fail, Get, KeyOf, Poll, Prune, Ready, Release, Show, Total,
 };
-use lru_fixtures::tables::{Call, answers_as_told, says};
+use lru_fixtures::tables::{Call, answers_as_expected, says};
 use std::sync::Arc;
 use std::test;
 
@@ -21,7 +21,7 @@ const MAKES: [(Call, &str); 7] = [
 #[test]
 fn makes_what_is_absent(rt: HostRuntime) -> Result<(), test::Fail> {
     let alloc = rt.alloc();
-    answers_as_told(alloc, &mut State::new(alloc, 10), &MAKES)
+    answers_as_expected(alloc, &mut State::new(alloc, 10), &MAKES)
 }
 
 const HITS: [(Call, &str); 6] = [
@@ -36,7 +36,7 @@ const HITS: [(Call, &str); 6] = [
 #[test]
 fn hits_what_is_ready(rt: HostRuntime) -> Result<(), test::Fail> {
     let alloc = rt.alloc();
-    answers_as_told(alloc, &mut State::new(alloc, 10), &HITS)
+    answers_as_expected(alloc, &mut State::new(alloc, 10), &HITS)
 }
 
 const ADVICES: [(Call, &str); 7] = [
@@ -55,7 +55,7 @@ const ADVICES: [(Call, &str); 7] = [
 #[test]
 fn evicts_by_advice_what_nobody_pins(rt: HostRuntime) -> Result<(), test::Fail> {
     let alloc = rt.alloc();
-    answers_as_told(alloc, &mut State::new(alloc, 10), &ADVICES)
+    answers_as_expected(alloc, &mut State::new(alloc, 10), &ADVICES)
 }
 
 const FAILS: [(Call, &str); 5] = [
@@ -69,7 +69,7 @@ const FAILS: [(Call, &str); 5] = [
 #[test]
 fn gives_a_making_up(rt: HostRuntime) -> Result<(), test::Fail> {
     let alloc = rt.alloc();
-    answers_as_told(alloc, &mut State::new(alloc, 10), &FAILS)
+    answers_as_expected(alloc, &mut State::new(alloc, 10), &FAILS)
 }
 
 const LIMITS: [(Call, &str); 4] = [
@@ -82,7 +82,7 @@ const LIMITS: [(Call, &str); 4] = [
 #[test]
 fn starts_with_its_limits(rt: HostRuntime) -> Result<(), test::Fail> {
     let alloc = rt.alloc();
-    answers_as_told(alloc, &mut State::with_limits(alloc, 4, 7, 2), &LIMITS)
+    answers_as_expected(alloc, &mut State::with_limits(alloc, 4, 7, 2), &LIMITS)
 }
 
 const SHOWS: [(Call, &str); 5] = [
@@ -97,7 +97,7 @@ const SHOWS: [(Call, &str); 5] = [
 #[test]
 fn shows_what_is_ready(rt: HostRuntime) -> Result<(), test::Fail> {
     let alloc = rt.alloc();
-    answers_as_told(alloc, &mut State::new(alloc, 10), &SHOWS)
+    answers_as_expected(alloc, &mut State::new(alloc, 10), &SHOWS)
 }
 
 #[test]

@@ -4,7 +4,7 @@ ghost use Rattle.std.specs.Prelude.{◌<◌};
 use concurrent_lru::lru_core::{Evicted, State};
 use lru_fixtures::makes::make;
 use lru_fixtures::tables::Call::{Begin, Prune, Ready, Release};
-use lru_fixtures::tables::{Call, answers_as_told, says};
+use lru_fixtures::tables::{Call, answers_as_expected, says};
 use std::process::Abort;
 use std::sync::Arc;
 use std::test::Fail;
@@ -74,7 +74,7 @@ fn evicts_as_the_table_says(rt: HostRuntime) -> Result<(), Fail> {
     let alloc = rt.alloc();
     for (rows, idle) in IDLE {
         let mut state = State::new(alloc, 6);
-        answers_as_told(alloc, &mut state, &USES[..rows.min(USES.len())])?;
+        answers_as_expected(alloc, &mut state, &USES[..rows.min(USES.len())])?;
         says(alloc, &state.prune(), idle)?;
     }
     Ok(())

@@ -130,7 +130,7 @@ impl Drop for Sent {
 
 /// A cache whose values have errands. It has no associated type, since the checker supports no
 /// closure of a thread over a type that has one.
-pub trait Sends {
+pub trait ErrandCache {
     /// Waits for the errand of a value, and does it: gets the next value, evicts it by advice, and
     /// prunes.
     fn serve(&self, errands: &Errands, number: u64);
@@ -140,19 +140,19 @@ pub trait Sends {
     fn evict(&self, errands: &Arc<Errands>, cause: Cause) -> (u128, u128);
 }
 
-impl<C: Cached<Sent>> Sends for C {
+impl<C: Cached<Sent>> ErrandCache for C {
     fn serve(&self, errands: &Errands, number: u64) {
         let errand = errands.of(number);
         if !meets(&errand.asked) || is_raised(&errands.closed) {
             return;
         }
         let next = number.saturating_add(1);
-        if let Ok(Some(handle)) = self.found(next) {
+        if let Ok(Some(handle)) = self.get(next) {
             errands.found.fetch_add(1, Ordering::SeqCst);
             drop(handle);
         }
-        self.advise(next);
-        self.clear();
+        self.advice_evict(next);
+        self.prune();
         raise(&errand.done);
     }
 
@@ -163,9 +163,9 @@ impl<C: Cached<Sent>> Sends for C {
             _ => None,
         };
         evict_with(*self, cause, kept, last);
-        let before = self.total();
-        self.clear();
-        let after = self.total();
+        let before = self.total_charge();
+        self.prune();
+        let after = self.total_charge();
         errands.close();
         (before, after)
     }
@@ -195,7 +195,7 @@ fn makes_four<C: Cached<Sent>>(
 
 /// Returns the outcome of a cause in an empty cache, or `None` if an errand was not run or memory
 /// for the errands is refused.
-pub fn outcome_in<R: Threads + Wait + Sync, C: Sends + Sync>(
+pub fn outcome_in<R: Threads + Wait + Sync, C: ErrandCache + Sync>(
     rt: &R,
     alloc: Global,
     cache: &C,

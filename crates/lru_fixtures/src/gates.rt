@@ -31,7 +31,7 @@ impl Gate {
 
     /// Returns the total that the other thread read while a value was dropped, or `None` if it read
     /// none or the lock was not free then.
-    fn told(&self, total: Option<u128>) -> Option<u128> {
+    fn checked_total(&self, total: Option<u128>) -> Option<u128> {
         if is_raised(&self.missed) {
             return None;
         }
@@ -102,7 +102,7 @@ pub const CAUSES: [(Cause, u64, u128); 7] = [
 
 /// A cache whose values drop slowly. It has no associated type, since the checker supports no
 /// closure of a thread over a type that has one.
-pub trait Drops {
+pub trait GateCache {
     /// Makes a value of key 1 with the charge 1 in a cache that has no other entry, evicts it by
     /// this cause, and returns whether it could be made.
     fn evict(&self, gate: &Arc<Gate>, cause: Cause) -> bool;
@@ -111,7 +111,7 @@ pub trait Drops {
     fn total_meanwhile(&self, gate: &Gate) -> Option<u128>;
 }
 
-impl<C: Cached<Slow>> Drops for C {
+impl<C: Cached<Slow>> GateCache for C {
     fn evict(&self, gate: &Arc<Gate>, cause: Cause) -> bool {
         let Some(kept) = make_for(*self, gate, cause) else {
             return false;
@@ -128,7 +128,7 @@ impl<C: Cached<Slow>> Drops for C {
         if !meets(&gate.dropping) {
             return None;
         }
-        let total = self.total();
+        let total = self.total_charge();
         raise(&gate.entered);
         Some(total)
     }
@@ -167,16 +167,16 @@ pub fn evict_with<V: Drop, C: Cached<V>>(
         }
         Cause::Failure => drop(try_make_value(cache, 5, 1, None, &mut ran)),
         Cause::Release => drop(handle),
-        Cause::Advice => cache.advise(1),
-        Cause::Invalidation => cache.take_back(1),
-        Cause::Prune => cache.clear(),
-        Cause::Capacity => cache.resize(0),
+        Cause::Advice => cache.advice_evict(1),
+        Cause::Invalidation => cache.invalidate(1),
+        Cause::Prune => cache.prune(),
+        Cause::Capacity => cache.set_capacity(0),
     }
 }
 
 /// Returns the total while an empty cache drops a value that this cause evicts, or `None` if the
 /// value could not be made or was not dropped, or if the lock was not free then.
-pub fn total_in_drop<T: Threads, C: Drops + Sync>(
+pub fn total_in_drop<T: Threads, C: GateCache + Sync>(
     rt: &T,
     alloc: Global,
     cache: &C,
@@ -189,5 +189,9 @@ pub fn total_in_drop<T: Threads, C: Drops + Sync>(
         move || cache.evict(met, cause),
         move || cache.total_meanwhile(&**met),
     );
-    if made { gate.told(total) } else { None }
+    if made {
+        gate.checked_total(total)
+    } else {
+        None
+    }
 }

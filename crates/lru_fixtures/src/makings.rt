@@ -30,7 +30,7 @@ impl Meeting {
 /// Returns the value of key 1, made as 5 with the charge 3 while the other caller comes.
 pub fn makes_first<C: Cached<u64>>(cache: C, meeting: &Meeting) -> Option<u64> {
     let mut met = false;
-    let made = cache.made(1, 3, |_| {
+    let made = cache.get_or_init(1, 3, |_| {
         raise(&meeting.started);
         met = meets(&meeting.coming);
         pause();
@@ -49,7 +49,7 @@ pub fn comes_second<C: Cached<u64>>(cache: C, meeting: &Meeting) -> Option<u64> 
     }
     raise(&meeting.coming);
     let mut ran = false;
-    let made = cache.made(1, 7, |_| {
+    let made = cache.get_or_init(1, 7, |_| {
         ran = true;
         6
     });
@@ -61,7 +61,7 @@ pub fn comes_second<C: Cached<u64>>(cache: C, meeting: &Meeting) -> Option<u64> 
 
 /// Returns the value of a key, if it is ready.
 pub fn value_found<C: Cached<u64>>(cache: C, key: u64) -> Option<u64> {
-    match cache.found(key) {
+    match cache.get(key) {
         Ok(Some(handle)) => Some(*C::value_of(&handle)),
         _ => None,
     }
@@ -69,7 +69,7 @@ pub fn value_found<C: Cached<u64>>(cache: C, key: u64) -> Option<u64> {
 
 /// A cache as two callers ask it. It has no associated type, since the checker supports no closure
 /// of a thread over a type that has one.
-pub trait Asked {
+pub trait MakingCache {
     /// `makes_first`.
     fn make_first(&self, meeting: &Meeting) -> Option<u64>;
 
@@ -83,7 +83,7 @@ pub trait Asked {
     fn charged(&self) -> u128;
 }
 
-impl<C: Cached<u64>> Asked for C {
+impl<C: Cached<u64>> MakingCache for C {
     fn make_first(&self, meeting: &Meeting) -> Option<u64> {
         makes_first(*self, meeting)
     }
@@ -97,12 +97,15 @@ impl<C: Cached<u64>> Asked for C {
     }
 
     fn charged(&self) -> u128 {
-        self.total()
+        self.total_charge()
     }
 }
 
 /// Returns what two callers of key 1 get, the second of which comes while the first makes it.
-pub fn values_of_two<T: Threads, C: Asked + Sync>(rt: &T, cache: &C) -> (Option<u64>, Option<u64>) {
+pub fn values_of_two<T: Threads, C: MakingCache + Sync>(
+    rt: &T,
+    cache: &C,
+) -> (Option<u64>, Option<u64>) {
     let meeting = Meeting::new();
     let met = &meeting;
     thread::join(
@@ -113,28 +116,31 @@ pub fn values_of_two<T: Threads, C: Asked + Sync>(rt: &T, cache: &C) -> (Option<
 }
 
 /// Returns the value of key 1, if it is ready, and the total, each read by a thread of its own.
-pub fn value_beside_total<T: Threads, C: Asked + Sync>(rt: &T, cache: &C) -> (Option<u64>, u128) {
+pub fn value_beside_total<T: Threads, C: MakingCache + Sync>(
+    rt: &T,
+    cache: &C,
+) -> (Option<u64>, u128) {
     thread::join(rt, move || cache.find(), move || cache.charged())
 }
 
 /// Makes key 1, whose `init` makes key 2, whose `init` makes key 3. Each value has one digit more
 /// than the value that it was made of. Returns 0 if a key could not be made.
 pub fn makes_three_deep<C: Cached<u64>>(cache: C) -> u64 {
-    match cache.made(1, 1, |_| one_digit_more(makes_two_deep(cache))) {
+    match cache.get_or_init(1, 1, |_| one_digit_more(makes_two_deep(cache))) {
         Ok(handle) => *C::value_of(&handle),
         Err(_) => 0,
     }
 }
 
 fn makes_two_deep<C: Cached<u64>>(cache: C) -> u64 {
-    match cache.made(2, 1, |_| one_digit_more(makes_one(cache))) {
+    match cache.get_or_init(2, 1, |_| one_digit_more(makes_one(cache))) {
         Ok(handle) => *C::value_of(&handle),
         Err(_) => 0,
     }
 }
 
 fn makes_one<C: Cached<u64>>(cache: C) -> u64 {
-    match cache.made(3, 1, |_| 1) {
+    match cache.get_or_init(3, 1, |_| 1) {
         Ok(handle) => *C::value_of(&handle),
         Err(_) => 0,
     }
@@ -157,10 +163,10 @@ pub fn values_of_three<C: Cached<u64>>(cache: C) -> [Option<u64>; 3] {
 /// whether the key has a value, and what is made again. Returns `None` if a value could not be
 /// made.
 pub fn reads_around<C: Cached<u64>>(cache: C) -> Option<(u64, Option<u64>, bool, u64)> {
-    let old = cache.made(1, 1, |_| 5).ok()?;
-    cache.take_back(1);
+    let old = cache.get_or_init(1, 1, |_| 5).ok()?;
+    cache.invalidate(1);
     let found = value_found(cache, 1);
     let has_value = cache.contains(1);
-    let new = cache.made(1, 1, |_| 6).ok()?;
+    let new = cache.get_or_init(1, 1, |_| 6).ok()?;
     Some((*C::value_of(&old), found, has_value, *C::value_of(&new)))
 }

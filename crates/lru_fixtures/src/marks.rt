@@ -19,7 +19,7 @@ impl Fit<u64, u64> for Twice {
 }
 
 /// A cache with this mark, which threads share.
-pub trait Doubles {
+pub trait DoublingCache {
     /// Returns the value of a key, by `get_or_init`, whose `init` doubles the key, or `None` if the
     /// call is refused.
     fn double(&self, key: u64) -> Option<u64>
@@ -27,7 +27,7 @@ pub trait Doubles {
         ensures { IfSome result (λ value. value ≡ 2 * key) };
 }
 
-impl<R: Wait> Doubles for unsharded::LruCache<u64, u64, R, Twice> {
+impl<R: Wait> DoublingCache for unsharded::LruCache<u64, u64, R, Twice> {
     fn double(&self, key: u64) -> Option<u64>
         requires { key < 100 }
         ensures { IfSome result (λ value. value ≡ 2 * key) }
@@ -39,7 +39,7 @@ impl<R: Wait> Doubles for unsharded::LruCache<u64, u64, R, Twice> {
     }
 }
 
-impl<R: Wait, S: BuildHasher> Doubles for sharded::LruCache<u64, u64, R, S, Twice> {
+impl<R: Wait, S: BuildHasher> DoublingCache for sharded::LruCache<u64, u64, R, S, Twice> {
     fn double(&self, key: u64) -> Option<u64>
         requires { key < 100 }
         ensures { IfSome result (λ value. value ≡ 2 * key) }
@@ -53,7 +53,7 @@ impl<R: Wait, S: BuildHasher> Doubles for sharded::LruCache<u64, u64, R, S, Twic
 
 /// Reads each key below 50, 20 times, and returns whether each value could be read and was twice
 /// its key.
-pub fn reads_doubles<C: Doubles>(cache: &C) -> bool {
+pub fn reads_doubles<C: DoublingCache>(cache: &C) -> bool {
     for _ in 0..20u32 {
         for key in 0..50u64 {
             let Some(value) = cache.double(key) else {

@@ -12,15 +12,15 @@ use std::{fmt, thread};
 
 /// A cache as makers ask it. It has no associated type, since the checker supports no closure of a
 /// thread over a type that has one.
-pub trait Makes {
+pub trait MeetingCache {
     /// Makes a key, and returns whether its `init` met the other maker's.
     fn meet_in_making(&self, key: u64, mine: &AtomicU64, other: &AtomicU64) -> bool;
 }
 
-impl<C: Cached<u64>> Makes for C {
+impl<C: Cached<u64>> MeetingCache for C {
     fn meet_in_making(&self, key: u64, mine: &AtomicU64, other: &AtomicU64) -> bool {
         let mut met = false;
-        let made = self.made(key, 1, |key| {
+        let made = self.get_or_init(key, 1, |key| {
             raise(mine);
             met = meets(other);
             *key
@@ -30,7 +30,7 @@ impl<C: Cached<u64>> Makes for C {
 }
 
 /// Returns whether each of two makers of these keys met the other.
-pub fn makers_meet<T: Threads, C: Makes + Sync>(
+pub fn makers_meet<T: Threads, C: MeetingCache + Sync>(
     rt: &T,
     cache: &C,
     keys: (u64, u64),
@@ -126,7 +126,7 @@ pub fn text_while_read<
 >(rt: &T, alloc: Global, cache: C) -> Option<(String, u64)> {
     let print = Arc::new(alloc, Print::new()).ok()?;
     let shown = Shown::new(&print, 7).ok()?;
-    let handle = cache.made(1, 1, move |_| shown).ok()?;
+    let handle = cache.get_or_init(1, 1, move |_| shown).ok()?;
     let (text, number) = text_and_number(rt, alloc, cache, &handle, &*print);
     match (text, number) {
         (Some(text), Some(number)) if is_raised(&print.met) => Some((text, number)),

@@ -10,7 +10,7 @@ use std::hash::BuildHasher;
 use std::sync::{Arc, Wait};
 
 /// An owner of a cache whose keys and values are numbers.
-pub trait Owners {
+pub trait CacheOwner {
     /// Pins a value, and owns a reference to the cache.
     type Handle: Drop;
 
@@ -40,10 +40,10 @@ pub trait Owners {
     fn charges(&self) -> (u128, u128);
 
     /// `counts`.
-    fn counted(&self) -> Counts;
+    fn counts(&self) -> Counts;
 }
 
-impl<R: Wait + Drop> Owners for Arc<unsharded::LruCache<u64, u64, R>> {
+impl<R: Wait + Drop> CacheOwner for Arc<unsharded::LruCache<u64, u64, R>> {
     type Handle = unsharded::OwnedHandle<u64, u64, R>;
 
     fn value_of(handle: &Self::Handle) -> u64 {
@@ -82,12 +82,12 @@ impl<R: Wait + Drop> Owners for Arc<unsharded::LruCache<u64, u64, R>> {
         )
     }
 
-    fn counted(&self) -> Counts {
-        self.counts()
+    fn counts(&self) -> Counts {
+        unsharded::LruCache::counts(self)
     }
 }
 
-impl<R: Wait + Drop, S: BuildHasher + Drop> Owners for Arc<sharded::LruCache<u64, u64, R, S>> {
+impl<R: Wait + Drop, S: BuildHasher + Drop> CacheOwner for Arc<sharded::LruCache<u64, u64, R, S>> {
     type Handle = sharded::OwnedHandle<u64, u64, R, S>;
 
     fn value_of(handle: &Self::Handle) -> u64 {
@@ -123,8 +123,8 @@ impl<R: Wait + Drop, S: BuildHasher + Drop> Owners for Arc<sharded::LruCache<u64
         (self.total_charge(), self.pinned_charge())
     }
 
-    fn counted(&self) -> Counts {
-        self.counts()
+    fn counts(&self) -> Counts {
+        sharded::LruCache::counts(self)
     }
 }
 
@@ -151,7 +151,7 @@ pub const DROPPED_IN_TURN: TwoHandles = TwoHandles {
 
 /// Makes key 1 as 5, with the charge 3, in an empty cache, and gets it; then drops the two handles,
 /// one after the other. Returns `None` if a call answers otherwise.
-pub fn drops_two_handles<C: Owners>(cache: &C) -> Option<TwoHandles> {
+pub fn drops_two_handles<C: CacheOwner>(cache: &C) -> Option<TwoHandles> {
     let Ok(None) = cache.get_owned(1) else {
         return None;
     };
@@ -176,7 +176,7 @@ pub fn drops_two_handles<C: Owners>(cache: &C) -> Option<TwoHandles> {
 
 /// Fails to make key 1 with the error 9, and then makes it as 4. Returns the error, the total after
 /// it, and the value that was made.
-pub fn fails_once<C: Owners>(cache: &C) -> (Option<u64>, u128, Option<u64>) {
+pub fn fails_once<C: CacheOwner>(cache: &C) -> (Option<u64>, u128, Option<u64>) {
     let error = match cache.get_or_try_init_owned(1, 3, Err(9)) {
         Err(GetError::Init(error)) => Some(error),
         _ => None,
@@ -192,7 +192,7 @@ pub fn fails_once<C: Owners>(cache: &C) -> (Option<u64>, u128, Option<u64>) {
 /// Makes each call once on a key that is there and once on one that is not, in an empty cache that
 /// keeps nothing idle. Returns the counts while the handle of the made entry is held, and those
 /// once it is dropped, or `None` if a call answers otherwise.
-pub fn counts_of_calls<C: Owners>(cache: &C) -> Option<(Counts, Counts)> {
+pub fn counts_of_calls<C: CacheOwner>(cache: &C) -> Option<(Counts, Counts)> {
     let Ok(None) = cache.get_owned(1) else {
         return None;
     };
@@ -202,7 +202,7 @@ pub fn counts_of_calls<C: Owners>(cache: &C) -> Option<(Counts, Counts)> {
     };
     drop(cache.get_or_try_init_owned(1, 7, Ok(6)));
     drop(cache.get_owned(1));
-    let held = cache.counted();
+    let held = cache.counts();
     drop(handle);
-    Some((held, cache.counted()))
+    Some((held, cache.counts()))
 }

@@ -75,7 +75,7 @@ pub trait Answers<C> {
 /// Makes the calls of a table in order, and fails at the first whose answer is not the expected
 /// one: the failure shows the row's number, its call, the answer and the expected one. It also
 /// fails if memory is refused to a text.
-pub fn answers_as_told<C: Copy + Debug + Drop, T: Answers<C>>(
+pub fn answers_as_expected<C: Copy + Debug + Drop, T: Answers<C>>(
     alloc: Global,
     cache: &mut T,
     table: &[(C, &str)],

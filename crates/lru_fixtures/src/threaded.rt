@@ -8,7 +8,7 @@ mod owned;
 mod player;
 mod seeded;
 
-pub use calls::{Call, Said, Then};
+pub use calls::{Said, Then, ThreadedCall};
 pub use making::{NoHandle, make_value, try_make_value};
 pub use owned::Owned;
 pub use player::{Player, play};

@@ -31,9 +31,9 @@ pub fn stays_right<C: Cached<u64>>(cache: C) -> bool {
 }
 
 fn is_right<C: Cached<u64>>(cache: C, key: u64) -> bool {
-    let value = match cache.seen(key, |value| *value) {
+    let value = match cache.read(key, |value| *value) {
         Ok(Some(value)) => Some(value),
-        Ok(None) => match cache.made(key, 1, |key| key.wrapping_mul(10)) {
+        Ok(None) => match cache.get_or_init(key, 1, |key| key.wrapping_mul(10)) {
             Ok(handle) => Some(*C::value_of(&handle)),
             Err(_) => None,
         },
@@ -49,7 +49,7 @@ const ASKS: u64 = 20_000;
 
 /// A cache as workers ask it that count calls. It has no associated type, since the checker
 /// supports no closure of a thread over a type that has one.
-pub trait Counting {
+pub trait CountingCache {
     /// Resets the counts 2,000 times, and returns how many calls the resets reported.
     fn reset_often(&self) -> u64;
 
@@ -58,36 +58,36 @@ pub trait Counting {
     fn ask_often(&self) -> u64;
 
     /// Returns the number of calls that hit, missed or waited since the last reset.
-    fn asked(&self) -> u64;
+    fn lookups(&self) -> u64;
 }
 
-impl<C: Cached<u64>> Counting for C {
+impl<C: Cached<u64>> CountingCache for C {
     fn reset_often(&self) -> u64 {
-        let mut asked: u64 = 0;
+        let mut lookups: u64 = 0;
         for _ in 0..RESETS {
-            asked = asked.wrapping_add(asked_in(&self.reset_counts()));
+            lookups = lookups.wrapping_add(lookups_in(&self.reset_counts()));
             thread::yield_now();
         }
-        asked
+        lookups
     }
 
     fn ask_often(&self) -> u64 {
-        let mut asked: u64 = 0;
+        let mut lookups: u64 = 0;
         for key in 0..ASKS {
-            if let Ok(None) = self.seen(key, |value| *value) {
-                asked = asked.wrapping_add(1);
+            if let Ok(None) = self.read(key, |value| *value) {
+                lookups = lookups.wrapping_add(1);
             }
         }
-        asked
+        lookups
     }
 
-    fn asked(&self) -> u64 {
-        asked_in(&self.counts())
+    fn lookups(&self) -> u64 {
+        lookups_in(&self.counts())
     }
 }
 
 // Returns the number of calls that hit, missed or waited.
-fn asked_in(counts: &Counts) -> u64 {
+fn lookups_in(counts: &Counts) -> u64 {
     counts
         .hits
         .wrapping_add(counts.misses)
@@ -103,14 +103,14 @@ pub struct Asked {
     pub told: u64,
 }
 
-/// What `asked_between_resets` comes to where each call is told of once.
+/// What `lookups_between_resets` comes to where each call is told of once.
 pub const EACH_ONCE: Asked = Asked {
     made: 60_000,
     told: 60_000,
 };
 
 /// Has three workers ask an empty cache 20,000 times each, while a fourth resets its counts.
-pub fn asked_between_resets<T: Threads + Sync, C: Counting + Sync>(
+pub fn lookups_between_resets<T: Threads + Sync, C: CountingCache + Sync>(
     rt: &T,
     alloc: Global,
     cache: &C,
@@ -124,15 +124,15 @@ pub fn asked_between_resets<T: Threads + Sync, C: Counting + Sync>(
             _ => cache.ask_often(),
         },
     )?;
-    let mut asked = Asked {
+    let mut lookups = Asked {
         made: 0,
-        told: cache.asked(),
+        told: cache.lookups(),
     };
     for (worker, number) in numbers.iter().enumerate() {
         match worker {
-            0 => asked.told = asked.told.wrapping_add(*number),
-            _ => asked.made = asked.made.wrapping_add(*number),
+            0 => lookups.told = lookups.told.wrapping_add(*number),
+            _ => lookups.made = lookups.made.wrapping_add(*number),
         }
     }
-    Ok(asked)
+    Ok(lookups)
 }

@@ -11,12 +11,12 @@ ghost use Rattle.lru_journal.specs.Tallies.{knower, all_parts, AreExactly, AreTa
 
 pub mod step;
 
-use concurrent_lru::sealed::Sealed;
-use self::step::Call;
+use self::step::Step;
 use crate::journal::Journal;
 use crate::record::Record;
-use crate::tally::{Cell, Checks, Gives, Identity, Knows, Takes, Tally, append};
+use crate::tally::{Cell, CellPass, CheckRecords, Identity, Merge, Tally, WholeTally, append};
 use concurrent_lru::lru_core::Refusal;
+use concurrent_lru::sealed::Sealed;
 use std::hash::Hash;
 use std::marker::{Brand, Model, PhantomData};
 use std::sync::Wait;
@@ -25,7 +25,7 @@ use std::sync::Wait;
 #[derive(Drop)]
 pub struct Desk<K: Hash + Eq + Clone, V, I: Identity> {
     pub(crate) journal: Journal<K, V>,
-    pub(crate) keeper: Knows<K>,
+    pub(crate) keeper: CellPass<K>,
     pub(crate) twin: PhantomData<I>,
 }
 
@@ -51,7 +51,7 @@ impl<K: Hash + Eq + Clone, V, I: Identity> Model for Desk<K, V, I> {
 fn note<K: Hash + Eq + Clone, V: Drop, I: Identity, R: Wait>(
     rt: &R,
     cell: &Cell<K>,
-    keeper: &mut Knows<K>,
+    keeper: &mut CellPass<K>,
     tally: &mut Tally<K, I>,
     journal: &Journal<K, V>,
 )
@@ -71,7 +71,7 @@ fn note<K: Hash + Eq + Clone, V: Drop, I: Identity, R: Wait>(
 fn note_two<K: Hash + Eq + Clone, V: Drop, I: Identity, R: Wait>(
     rt: &R,
     cell: &Cell<K>,
-    keeper: &mut Knows<K>,
+    keeper: &mut CellPass<K>,
     tally: &mut Tally<K, I>,
     journal: &Journal<K, V>,
 )
@@ -93,7 +93,7 @@ fn note_two<K: Hash + Eq + Clone, V: Drop, I: Identity, R: Wait>(
 fn note_read<K: Hash + Eq + Clone, V: Drop, T, I: Identity, R: Wait>(
     rt: &R,
     cell: &Cell<K>,
-    keeper: &mut Knows<K>,
+    keeper: &mut CellPass<K>,
     tally: &mut Tally<K, I>,
     journal: &Journal<K, V>,
     found: &Option<(u64, T)>,
@@ -114,7 +114,7 @@ fn note_read<K: Hash + Eq + Clone, V: Drop, T, I: Identity, R: Wait>(
 impl<K: Hash + Eq + Clone, V: Drop, I: Identity> Desk<K, V, I> {
     /// Takes one step of the journal. An accepted step adds its record, whose receipt goes to the
     /// tally; a refused one leaves journal and tally as they were.
-    pub(crate) fn call<S: Call<K, V>, R: Wait>(
+    pub(crate) fn call<S: Step<K, V>, R: Wait>(
         &mut self,
         rt: &R,
         cell: &Cell<K>,
@@ -127,7 +127,7 @@ impl<K: Hash + Eq + Clone, V: Drop, I: Identity> Desk<K, V, I> {
         ensures parts { tally.new.parts ≡ tally.old.parts }
         ensures refusal { IfErr result (S.may_refuse step) }
     {
-        match step.take(&mut self.journal) {
+        match step.apply(&mut self.journal) {
             Ok(answer) => {
                 note(rt, cell, &mut self.keeper, tally, &self.journal);
                 Sealed::of(Ok(answer))
@@ -179,9 +179,9 @@ impl<K: Hash + Eq + Clone, V: Drop, I: Identity> Desk<K, V, I> {
             twin: _,
         } = self;
         let Tally { mut pass, twin: _ } = tally;
-        let whole = cell.split_pass::<Gives>(&mut pass);
-        cell.join_pass::<Takes>(&mut keeper, whole);
-        cell.load_as::<Checks, R>(rt, &mut keeper);
+        let whole = cell.split_pass::<WholeTally>(&mut pass);
+        cell.join_pass::<Merge>(&mut keeper, whole);
+        cell.load_as::<CheckRecords, R>(rt, &mut keeper);
         journal
     }
 }

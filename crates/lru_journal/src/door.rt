@@ -7,7 +7,7 @@ ghost use Rattle.lru_journal.specs.Replay.{AreOfCopy};
 ghost use Rattle.lru_journal.specs.Tallies.{all_parts, AreExactly, AreTallied, IsTallied};
 
 use crate::desk::Desk;
-use crate::desk::step::Call;
+use crate::desk::step::Step;
 use crate::journal::Journal;
 use crate::tally::{Cell, Identity, Tally};
 use concurrent_lru::lru_core::Refusal;
@@ -25,7 +25,7 @@ pub struct Door<K: Hash + Eq + Clone, V, R, I: Identity> {
 
 /// A debt: the lock is held. Each call takes this value, so there is one call for each time that
 /// the lock is acquired.
-pub struct Inside<'a, K: Hash + Eq + Clone, V, R, I: Identity> {
+pub struct Guard<'a, K: Hash + Eq + Clone, V, R, I: Identity> {
     door: &'a Door<K, V, R, I>,
     guard: MutexGuard<'a, Desk<K, V, I>>,
 }
@@ -52,8 +52,8 @@ impl<K: Hash + Eq + Clone, V, R, I: Identity> Door<K, V, R, I> {
 
 impl<K: Hash + Eq + Clone, V: Drop, R: Wait + Drop, I: Identity> Door<K, V, R, I> {
     /// Acquires the lock for one call.
-    pub(crate) fn enter(&self) -> Inside<'_, K, V, R, I> {
-        Inside {
+    pub(crate) fn lock(&self) -> Guard<'_, K, V, R, I> {
+        Guard {
             door: self,
             guard: self.desk.lock(&self.rt),
         }
@@ -70,10 +70,10 @@ impl<K: Hash + Eq + Clone, V: Drop, R: Wait + Drop, I: Identity> Door<K, V, R, I
     }
 }
 
-impl<'a, K: Hash + Eq + Clone, V: Drop, R: Wait + Drop, I: Identity> Inside<'a, K, V, R, I> {
+impl<'a, K: Hash + Eq + Clone, V: Drop, R: Wait + Drop, I: Identity> Guard<'a, K, V, R, I> {
     /// Takes one step of the journal, as `Desk::call` does. Its answer is unsealed after the lock
     /// is released.
-    pub(crate) fn call<S: Call<K, V>>(
+    pub(crate) fn call<S: Step<K, V>>(
         self,
         tally: &mut Tally<K, I>,
         step: S,

@@ -55,9 +55,9 @@ pub struct View<K> {
 }
 
 /// The rule of the cell, whose single word is the number of records.
-pub struct Counted;
+pub struct RecordCount;
 
-impl<K> Protocol<[u64; 1], View<K>> for Counted {
+impl<K> Protocol<[u64; 1], View<K>> for RecordCount {
     ghost use Rattle.lru_journal.specs.Tallies.{IsCounted, opening};
 
     ghost holds = { IsCounted };
@@ -66,29 +66,29 @@ impl<K> Protocol<[u64; 1], View<K>> for Counted {
 }
 
 /// Adds a record to all records, and its receipt to the tally that the keeper has taken in.
-pub struct Appends<E> {
+pub struct AppendRecord<E> {
     noted: PhantomData<E>,
 }
 
-impl<K, E: Noted<K>> Outcome<[u64; 1], View<K>> for Appends<E> {
+impl<K, E: Noted<K>> Outcome<[u64; 1], View<K>> for AppendRecord<E> {
     ghost use Rattle.lru_journal.specs.Tallies.{Appended};
 
     ghost then = { Appended E.made };
 }
 
 /// Compares the whole tally, which the keeper has taken in, with all records.
-pub struct Checks;
+pub struct CheckRecords;
 
-impl<K> Outcome<[u64; 1], View<K>> for Checks {
+impl<K> Outcome<[u64; 1], View<K>> for CheckRecords {
     ghost use Rattle.lru_journal.specs.Tallies.{Checked};
 
     ghost then = { Checked };
 }
 
-/// Gives away the keeper's tally, with all parts and receipts.
-pub struct Gives;
+/// Splits off the keeper's tally, with all parts and receipts.
+pub struct WholeTally;
 
-impl<K> Split<View<K>> for Gives {
+impl<K> Split<View<K>> for WholeTally {
     ghost use Rattle.lru_journal.specs.Tallies.{keeper_of, hand_of};
 
     ghost left = { keeper_of };
@@ -108,9 +108,9 @@ impl<K> Split<View<K>> for OnePart {
 }
 
 /// Takes in a tally's parts and receipts.
-pub struct Takes;
+pub struct Merge;
 
-impl<K> Join<View<K>> for Takes {
+impl<K> Join<View<K>> for Merge {
     ghost use Rattle.lru_journal.specs.Tallies.{view_with_view, nobody};
 
     ghost both = { view_with_view };
@@ -119,10 +119,10 @@ impl<K> Join<View<K>> for Takes {
 }
 
 /// The cell of a twin's tallies.
-pub type Cell<K> = RuledSeqCell<[u64; 1], View<K>, Counted, 1>;
+pub type Cell<K> = RuledSeqCell<[u64; 1], View<K>, RecordCount, 1>;
 
 /// A pass of that cell. It has no bytes.
-pub type Knows<K> = Pass<[u64; 1], View<K>>;
+pub type CellPass<K> = Pass<[u64; 1], View<K>>;
 
 /// What a twin is created from: its initial capacity, a new cell, and the cell's first pass.
 ///
@@ -132,7 +132,7 @@ pub type Knows<K> = Pass<[u64; 1], View<K>>;
 pub struct Opening<K> {
     pub(crate) capacity: u64,
     pub(crate) cell: Cell<K>,
-    pub(crate) first: Knows<K>,
+    pub(crate) first: CellPass<K>,
 }
 
 impl<K> Model for Opening<K> {
@@ -171,7 +171,7 @@ impl<K> Opening<K> {
 /// A caller of the twin needs a tally with a part; whoever has all parts has all receipts.
 #[derive(Drop)]
 pub struct Tally<K, I: Identity> {
-    pub(crate) pass: Knows<K>,
+    pub(crate) pass: CellPass<K>,
     pub(crate) twin: PhantomData<I>,
 }
 
@@ -192,7 +192,7 @@ impl<K, I: Identity> Model for Tally<K, I> {
 pub(crate) fn append<K, E: Noted<K>, I: Identity, R: Wait>(
     rt: &R,
     cell: &Cell<K>,
-    keeper: &mut Knows<K>,
+    keeper: &mut CellPass<K>,
     tally: &mut Tally<K, I>,
     number: usize,
     noted: &Record<K>,
@@ -205,8 +205,8 @@ pub(crate) fn append<K, E: Noted<K>, I: Identity, R: Wait>(
     ensures tally { tally.new ≡ hand_with_receipt tally.old number noted.now }
     ensures past { AllBelow number tally.old.receipts }
 {
-    let mine = cell.split_pass::<Gives>(&mut tally.pass);
-    cell.join_pass::<Takes>(keeper, mine);
-    cell.swap_as::<Appends<E>, R>(rt, keeper, [number as u64 + 1]);
-    tally.pass = cell.split_pass::<Gives>(keeper);
+    let mine = cell.split_pass::<WholeTally>(&mut tally.pass);
+    cell.join_pass::<Merge>(keeper, mine);
+    cell.swap_as::<AppendRecord<E>, R>(rt, keeper, [number as u64 + 1]);
+    tally.pass = cell.split_pass::<WholeTally>(keeper);
 }

@@ -18,7 +18,7 @@ use crate::door::Door;
 use crate::journal::Journal;
 use crate::pin::{Pin, Started, pin_of};
 use crate::record::Told;
-use crate::tally::{Gives, Identity, OnePart, Opening, Takes, Tally};
+use crate::tally::{Identity, Merge, OnePart, Opening, Tally, WholeTally};
 use concurrent_lru::lru_core::{Failed, Refusal};
 use std::alloc::Global;
 use std::hash::Hash;
@@ -55,7 +55,7 @@ impl<
             cell,
             mut first,
         } = opening;
-        let pass = cell.split_pass::<Gives>(&mut first);
+        let pass = cell.split_pass::<WholeTally>(&mut first);
         let desk = Desk {
             journal: Journal::new(alloc, capacity),
             keeper: first,
@@ -85,7 +85,7 @@ impl<
         ensures parts { tally.new.parts ≡ tally.old.parts }
         ensures never_stale { IfErr result (λ e. e ≢ Refusal.Stale) }
     {
-        let (begun, evicted) = self.door.enter().call(tally, step::Begin { key, charge })?;
+        let (begun, evicted) = self.door.lock().call(tally, step::Begin { key, charge })?;
         drop(evicted);
         Ok(Started::of(begun))
     }
@@ -98,7 +98,7 @@ impl<
         ensures parts { tally.new.parts ≡ tally.old.parts }
         ensures never_overflow { IfErr result (λ e. e ≢ Refusal.Overflow) }
     {
-        let begun = self.door.enter().call(tally, step::Poll { stamp })?;
+        let begun = self.door.lock().call(tally, step::Poll { stamp })?;
         Ok(Started::of(begun))
     }
 
@@ -116,7 +116,7 @@ impl<
         ensures never_overflow { IfErr result (λ e. e.0 ≢ Refusal.Overflow) }
         ensures back { IfErr result (λ e. arc_value e.1 ≡ arc_value value) }
     {
-        self.door.enter().call(tally, step::Ready { stamp, value })
+        self.door.lock().call(tally, step::Ready { stamp, value })
     }
 
     /// Gives up making a value, and releases the maker's pin.
@@ -127,7 +127,7 @@ impl<
         ensures parts { tally.new.parts ≡ tally.old.parts }
         ensures never_overflow { IfErr result (λ e. e ≢ Refusal.Overflow) }
     {
-        self.door.enter().call(tally, step::Fail { stamp })
+        self.door.lock().call(tally, step::Fail { stamp })
     }
 
     /// Returns a pin of a key's value, or `None` if there is no ready value.
@@ -138,7 +138,7 @@ impl<
         ensures parts { tally.new.parts ≡ tally.old.parts }
         ensures never_stale { IfErr result (λ e. e ≢ Refusal.Stale) }
     {
-        let found = self.door.enter().call(tally, step::Get { key })?;
+        let found = self.door.lock().call(tally, step::Get { key })?;
         Ok(pin_of(found))
     }
 
@@ -168,7 +168,7 @@ impl<
         ensures answered { IfOk result (λ found. IfSome found (λ r. (v : V) × FnOnceReturnsAt G.FnOnce reader v r.1)) }
         ensures never_stale { IfErr result (λ e. e ≢ Refusal.Stale) }
     {
-        self.door.enter().read(tally, key, reader)
+        self.door.lock().read(tally, key, reader)
     }
 
     /// Releases a pin. A refusal returns the pin.
@@ -181,7 +181,7 @@ impl<
         ensures back { IfErr result (λ e. e.1 ≡ pin) }
     {
         let stamp = pin.stamp();
-        match self.door.enter().call(tally, step::Release { stamp }) {
+        match self.door.lock().call(tally, step::Release { stamp }) {
             Ok(evicted) => {
                 drop(evicted);
                 Ok(())
@@ -196,7 +196,7 @@ impl<
         ensures parts { tally.new.parts ≡ tally.old.parts }
         ensures memory { IfErr result (λ e. e ≡ Refusal.Memory) }
     {
-        let evicted = self.door.enter().call(tally, step::AdviceEvict { key })?;
+        let evicted = self.door.lock().call(tally, step::AdviceEvict { key })?;
         drop(evicted);
         Ok(())
     }
@@ -211,7 +211,7 @@ impl<
         ensures parts { tally.new.parts ≡ tally.old.parts }
         ensures memory { IfErr result (λ e. e ≡ Refusal.Memory) }
     {
-        let evicted = self.door.enter().call(tally, step::Invalidate { key })?;
+        let evicted = self.door.lock().call(tally, step::Invalidate { key })?;
         drop(evicted);
         Ok(())
     }
@@ -222,7 +222,7 @@ impl<
         ensures parts { tally.new.parts ≡ tally.old.parts }
         ensures memory { IfErr result (λ e. e ≡ Refusal.Memory) }
     {
-        let evicted = self.door.enter().call(tally, step::Prune)?;
+        let evicted = self.door.lock().call(tally, step::Prune)?;
         drop(evicted);
         Ok(())
     }
@@ -238,7 +238,7 @@ impl<
     {
         let evicted = self
             .door
-            .enter()
+            .lock()
             .call(tally, step::SetCapacity { capacity })?;
         drop(evicted);
         Ok(())
@@ -250,7 +250,7 @@ impl<
         ensures parts { tally.new.parts ≡ tally.old.parts }
         ensures memory { IfErr result (λ e. e ≡ Refusal.Memory) }
     {
-        self.door.enter().call(tally, step::Total)
+        self.door.lock().call(tally, step::Total)
     }
 
     /// Returns the journal to whoever has the whole tally. Its records are one legal history from
@@ -291,7 +291,7 @@ impl<K: Hash + Eq + Clone, I: Identity> Tally<K, I> {
     {
         let Tally { mut pass, twin: _ } = other;
         let cell = cache.door.cell();
-        let given = cell.split_pass::<Gives>(&mut pass);
-        cell.join_pass::<Takes>(&mut self.pass, given);
+        let given = cell.split_pass::<WholeTally>(&mut pass);
+        cell.join_pass::<Merge>(&mut self.pass, given);
     }
 }

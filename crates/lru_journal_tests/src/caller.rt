@@ -22,12 +22,12 @@ pub(crate) fn ask<R: Wait + Drop, I: Identity>(
         Call::Release(stamp) => {
             Ok(release(cache, tally, Pin::new(stamp, Arc::new(alloc, PINNED)?)))
         }
-        _ => Ok(ask_plainly(cache, tally, call)),
+        _ => Ok(ask_with_numbers(cache, tally, call)),
     }
 }
 
 // Makes a call whose arguments are plain numbers.
-fn ask_plainly<R: Wait + Drop, I: Identity>(
+fn ask_with_numbers<R: Wait + Drop, I: Identity>(
     cache: &LruCache<u64, u64, R, I>,
     tally: &mut Tally<u64, I>,
     call: Call,

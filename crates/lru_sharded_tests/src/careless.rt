@@ -2,9 +2,11 @@
 //! stay empty. Handles that are forgotten keep their pins there.
 
 use concurrent_lru::sharded::LruCache;
-use lru_fixtures::threaded::Call::{AdviceEvict, Get, Init, Prune, SetCapacity, Show, Total};
 use lru_fixtures::threaded::Then::{AtOnce, Forget};
-use lru_fixtures::threaded::{Call, play};
+use lru_fixtures::threaded::ThreadedCall::{
+    AdviceEvict, Get, Init, Prune, SetCapacity, Show, Total,
+};
+use lru_fixtures::threaded::{ThreadedCall, play};
 use lru_support::drops::{DropLog, Logged};
 use lru_support::hashers::ByThree;
 use std::alloc::Global;
@@ -15,7 +17,7 @@ use std::test::Fail;
 fn plays<R: Wait + Clone + Drop>(
     rt: &R,
     alloc: Global,
-    table: &[(Call, &str)],
+    table: &[(ThreadedCall, &str)],
 ) -> Result<(), Fail> {
     let log = DropLog::new(alloc, rt)?;
     let cache: LruCache<u64, Logged<R>, R, ByThree> = LruCache::with_shards_hasher(
@@ -28,7 +30,7 @@ fn plays<R: Wait + Clone + Drop>(
     play(alloc, &cache, &log, table)
 }
 
-const ONE_SHARD: [(Call, &str); 17] = [
+const ONE_SHARD: [(ThreadedCall, &str); 17] = [
     (Init(1, 1, 1, AtOnce), "Made(1, 1)"),
     (Show, "[{}, {}, {}, {1: 1}]"),
     (Init(2, 1, 2, AtOnce), "Made(2, 2)"),

@@ -1,7 +1,7 @@
 //! Counts of all shards: their sum, and a reset of each, also while other threads use the cache.
 
 use concurrent_lru::sharded::{Counts, LruCache, Refusal};
-use lru_fixtures::workers::{EACH_ONCE, asked_between_resets};
+use lru_fixtures::workers::{EACH_ONCE, lookups_between_resets};
 use lru_support::hashers::ByOwnNumber;
 use std::test::Fail;
 
@@ -89,6 +89,9 @@ fn each_call_is_counted_in_one_reset(rt: HostRuntime) -> Result<(), Fail> {
         3,
         ByOwnNumber,
     )?;
-    assert_eq!(rt; asked_between_resets(&rt, rt.alloc(), &&cache)?, EACH_ONCE);
+    assert_eq!(rt;
+        lookups_between_resets(&rt, rt.alloc(), &&cache)?,
+        EACH_ONCE
+    );
     Ok(())
 }

@@ -5,9 +5,9 @@ use crate::{pure, threaded};
 use concurrent_lru::sharded::LruCache;
 use lru_fixtures::makings::reads_around;
 use lru_fixtures::tables::shards::ShardCall;
-use lru_fixtures::threaded::Call;
-use lru_fixtures::threaded::Call::{Get, Init, Insert, Invalidate, LetGo, Show, Total};
 use lru_fixtures::threaded::Then::{AtOnce, Keep};
+use lru_fixtures::threaded::ThreadedCall;
+use lru_fixtures::threaded::ThreadedCall::{Get, Init, Insert, Invalidate, LetGo, Show, Total};
 use lru_support::hashers::ByOwnNumber;
 use std::test;
 
@@ -39,7 +39,7 @@ fn the_shard_of_the_key_detaches(rt: HostRuntime) -> Result<(), test::Fail> {
     pure::plays(rt.alloc(), 20, 2, ByOwnNumber, &PURE)
 }
 
-const THREADED: [(Call, &str); 12] = [
+const THREADED: [(ThreadedCall, &str); 12] = [
     (Init(1, 3, 1, Keep(0)), "Made(1, 1)"),
     (Init(2, 3, 2, AtOnce), "Made(2, 2)"),
     (Invalidate(1), "Done"),
@@ -60,7 +60,7 @@ fn a_held_value_is_replaced(rt: HostRuntime) -> Result<(), test::Fail> {
 }
 
 // An inserted value replaces only that of its key; the old one can still be read if it is held.
-const PUT_IN: [(Call, &str); 10] = [
+const PUT_IN: [(ThreadedCall, &str); 10] = [
     (Insert(1, 3, 1, Keep(0)), "Put(1)"),
     (Insert(2, 3, 2, AtOnce), "Put(2)"),
     (Insert(1, 4, 3, AtOnce), "Put(3)"),

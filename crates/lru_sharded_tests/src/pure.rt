@@ -2,7 +2,7 @@
 ghost use Rattle.std.specs.Prelude.{◌<◌};
 
 use concurrent_lru::sharded::Shards;
-use lru_fixtures::tables::answers_as_told;
+use lru_fixtures::tables::answers_as_expected;
 use lru_fixtures::tables::shards::ShardCall;
 use lru_fixtures::tables::shards::ShardCall::{
     AdviceEvict, Begin, Fail, Get, Poll, Prune, Ready, Release, Route, SetCapacity, SetShard,
@@ -24,7 +24,7 @@ pub(crate) fn plays<S: BuildHasher + Drop>(
     requires { 0 < shards }
 {
     let mut made: Shards<u64, u64, S> = Shards::new(alloc, capacity, shards, hasher)?;
-    answers_as_told(alloc, &mut made, table)
+    answers_as_expected(alloc, &mut made, table)
 }
 
 const EACH_FOR_ITSELF: [(ShardCall, &str); 6] = [

@@ -28,7 +28,7 @@ fn make(
 }
 
 // Returns the keys that a prune of a shard evicts, in order.
-fn pruned(
+fn prune_shard(
     alloc: Global,
     shards: &mut Shards<u64, u64, ByOwnNumber>,
     shard: usize,
@@ -51,15 +51,15 @@ fn a_read_counts_in_the_shard_of_its_key(rt: HostRuntime) -> Result<(), Fail> {
     assert_eq!(rt; shards.read(&5, |value| *value)?, Some((1, 50)));
     assert_eq!(rt; shards.read(&7, |value| *value)?, None);
     assert_eq!(rt;
-        pruned(alloc, &mut shards, 0)?.as_slice(),
+        prune_shard(alloc, &mut shards, 0)?.as_slice(),
         [0, 3].as_slice()
     );
     assert_eq!(rt;
-        pruned(alloc, &mut shards, 1)?.as_slice(),
+        prune_shard(alloc, &mut shards, 1)?.as_slice(),
         [4, 1].as_slice()
     );
     assert_eq!(rt;
-        pruned(alloc, &mut shards, 2)?.as_slice(),
+        prune_shard(alloc, &mut shards, 2)?.as_slice(),
         [2, 5].as_slice()
     );
     assert_eq!(rt; shards.read(&1, |value| *value)?, None);

@@ -2,12 +2,12 @@
 ghost use Rattle.std.specs.Prelude.{◌<◌};
 
 use concurrent_lru::sharded::LruCache;
-use lru_fixtures::threaded::Call::{
+use lru_fixtures::threaded::Then::{AtOnce, Keep};
+use lru_fixtures::threaded::ThreadedCall::{
     AdviceEvict, Capacity, Fail, Get, Init, LetGo, Prune, Reserve, SetCapacity, Show, Total,
     TryInit,
 };
-use lru_fixtures::threaded::Then::{AtOnce, Keep};
-use lru_fixtures::threaded::{Call, play};
+use lru_fixtures::threaded::{ThreadedCall, play};
 use lru_support::drops::{DropLog, Logged};
 use lru_support::hashers::ByOwnNumber;
 use std::alloc::Global;
@@ -20,7 +20,7 @@ pub(crate) fn plays<R: Wait + Clone + Drop>(
     alloc: Global,
     capacity: u64,
     shards: usize,
-    table: &[(Call, &str)],
+    table: &[(ThreadedCall, &str)],
 ) -> Result<(), test::Fail>
     requires { 0 < shards }
 {
@@ -35,7 +35,7 @@ pub(crate) fn plays<R: Wait + Clone + Drop>(
     play(alloc, &cache, &log, table)
 }
 
-const EACH_FOR_ITSELF: [(Call, &str); 10] = [
+const EACH_FOR_ITSELF: [(ThreadedCall, &str); 10] = [
     (Init(1, 1, 1, AtOnce), "Made(1, 1)"),
     (Init(0, 1, 0, AtOnce), "Made(0, 0)"),
     (Init(2, 1, 2, AtOnce), "Made(2, 2), drops [0]"),
@@ -54,7 +54,7 @@ fn each_shard_evicts_for_itself(rt: HostRuntime) -> Result<(), test::Fail> {
 }
 
 // The shards are pruned in order.
-const PRUNED: [(Call, &str); 14] = [
+const PRUNED: [(ThreadedCall, &str); 14] = [
     (Init(0, 2, 0, AtOnce), "Made(0, 0)"),
     (Init(1, 2, 1, AtOnce), "Made(1, 1)"),
     (Init(2, 2, 2, AtOnce), "Made(2, 2)"),
@@ -76,7 +76,7 @@ fn a_prune_clears_every_shard(rt: HostRuntime) -> Result<(), test::Fail> {
     plays(&rt, rt.alloc(), 20, 4, &PRUNED)
 }
 
-const BEYOND: [(Call, &str); 6] = [
+const BEYOND: [(ThreadedCall, &str); 6] = [
     (Init(0, u64::MAX, 1, Keep(0)), "Made(0, 1)"),
     (Init(1, u64::MAX, 2, Keep(1)), "Made(1, 2)"),
     (Total, "Number(36893488147419103230)"),
@@ -91,7 +91,7 @@ fn the_total_passes_the_end_of_one_shard(rt: HostRuntime) -> Result<(), test::Fa
 }
 
 // Two shares of half of 2^64; the sum of sixteen is also 2^64.
-const WIDE: [(Call, &str); 6] = [
+const WIDE: [(ThreadedCall, &str); 6] = [
     (Capacity, "Number(18446744073709551616)"),
     (SetCapacity(u64::MAX - 1), "Done"),
     (Capacity, "Number(18446744073709551614)"),
@@ -106,7 +106,7 @@ fn the_capacity_passes_the_end_of_one_shard(rt: HostRuntime) -> Result<(), test:
     plays(&rt, rt.alloc(), u64::MAX, 16, &WIDE[..1])
 }
 
-const CHANGES: [(Call, &str); 14] = [
+const CHANGES: [(ThreadedCall, &str); 14] = [
     (Init(1, 1, 1, AtOnce), "Made(1, 1)"),
     (Init(0, 1, 0, AtOnce), "Made(0, 0)"),
     (Init(2, 1, 2, AtOnce), "Made(2, 2)"),
@@ -129,7 +129,7 @@ fn a_change_of_capacity_settles_each_shard(rt: HostRuntime) -> Result<(), test::
     plays(&rt, rt.alloc(), 4, 2, &CHANGES)
 }
 
-const ROOM: [(Call, &str); 5] = [
+const ROOM: [(ThreadedCall, &str); 5] = [
     (Init(1, 2, 1, AtOnce), "Made(1, 1)"),
     (Reserve(usize::MAX), "Refused(Memory)"),
     (Reserve(100), "Done"),
@@ -143,7 +143,7 @@ fn each_shard_makes_room_ahead_or_refuses(rt: HostRuntime) -> Result<(), test::F
 }
 
 // The charge of the second making is its own.
-const FAILED: [(Call, &str); 5] = [
+const FAILED: [(ThreadedCall, &str); 5] = [
     (Fail(7, 1, AtOnce), "Failed(7)"),
     (Get(7, AtOnce), "Absent"),
     (Total, "Number(0)"),
@@ -156,7 +156,7 @@ fn a_failed_making_leaves_nothing(rt: HostRuntime) -> Result<(), test::Fail> {
     plays(&rt, rt.alloc(), 10, 3, &FAILED)
 }
 
-const TEXTS: [(Call, &str); 3] = [
+const TEXTS: [(ThreadedCall, &str); 3] = [
     (Show, "[{}, {}]"),
     (Init(1, 1, 5, Keep(0)), "Made(1, 5)"),
     (Show, "[{}, {1: 5}]"),

@@ -18,7 +18,7 @@ use Rattle.concurrent_lru.specs.Runs.{Outcome, accepted, Run, Overflows, Refuses
 use Rattle.concurrent_lru.specs.Steps.{IsAbsent, Makes, Joins, Hits, Holds, ChangesPhase, Step, held_in_phase, held_by_one}
 use Rattle.concurrent_lru.specs.Uses.{IsPlain, uses, begins, HaveNoGet, HaveOneCharge, charge_in, last_uses}
 use Rattle.concurrent_lru.specs.WholeRuns.{IsEmpty}
-use Rattle.concurrent_lru.proofs.Entries.NodeWrittenOrAdded.{inserted_at}
+use Rattle.concurrent_lru.proofs.Entries.NodesOfSetAndAdd.{inserted_at}
 use Rattle.concurrent_lru.proofs.Runs.ChangingRuns.{IsNow, changing_run}
 use Rattle.concurrent_lru.proofs.Runs.ChargeOfKey.{charge_agrees, begins_charged, priced}
 use Rattle.concurrent_lru.proofs.Runs.CutAndJoined.{Run-join}

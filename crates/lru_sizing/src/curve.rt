@@ -40,7 +40,7 @@ impl Curve {
         requires { length trace.now ≡ length weights.now }
         ensures { IfOk result (IsCurveOf (map (λ u. u.1) trace.now) weights.now) }
     {
-        let reused = reused(alloc, trace, weights)?;
+        let reused = reuses(alloc, trace, weights)?;
         let mut left = total_charge(trace);
         let mut weights_so_far = Vec::new(alloc);
         let mut made = Vec::new(alloc);
@@ -108,7 +108,7 @@ impl Curve {
 
 // Returns the reuse weights of the uses that have one, each with the charge of the use, in
 // ascending order.
-fn reused<K>(
+fn reuses<K>(
     alloc: Global,
     trace: &[(K, u64)],
     weights: &[Option<u64>],

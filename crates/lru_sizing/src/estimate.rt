@@ -85,7 +85,7 @@ impl Estimate {
         ensures err { IfErr result (λ e. IsRefusedFor K.eq sampled.now e) }
     {
         let weights = reuse_weights(alloc, sampled)?;
-        let scaled = scaled(alloc, sample, sampled, &weights)?;
+        let scaled = scale_weights(alloc, sample, sampled, &weights)?;
         let sampled = Curve::new(alloc, sampled, &scaled)?;
         Ok(Estimate {
             sample,
@@ -148,7 +148,7 @@ impl Estimate {
 }
 
 // Scales each of these reuse weights in the sample.
-fn scaled<K>(
+fn scale_weights<K>(
     alloc: Global,
     sample: Sample,
     sampled: &[(K, u64)],

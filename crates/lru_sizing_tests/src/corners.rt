@@ -18,7 +18,7 @@ fn curve_of(alloc: Global, trace: &[(u64, u64)]) -> Result<Curve, Refusal> {
 }
 
 // Returns how many uses of a trace hit at a capacity in a replay, or its refusal.
-fn replayed(alloc: Global, trace: &[(u64, u64)], capacity: u64) -> Result<usize, Refusal> {
+fn count_hits(alloc: Global, trace: &[(u64, u64)], capacity: u64) -> Result<usize, Refusal> {
     if !has_charges(trace) {
         return Err(Refusal::Overflow(usize::MAX));
     }
@@ -36,7 +36,7 @@ fn of_no_uses(rt: HostRuntime) -> Result<(), Fail> {
     assert_eq!(rt; curve.most_hits(), 0);
     assert_eq!(rt; curve.least_capacity(0), Some(0));
     assert_eq!(rt; curve.least_capacity(1), None);
-    assert_eq!(rt; replayed(rt.alloc(), &[], 3), Ok(0));
+    assert_eq!(rt; count_hits(rt.alloc(), &[], 3), Ok(0));
     let none: [(u64, u64); 0] = [];
     let estimate = Estimate::new(rt.alloc(), Sample::one_in(10), &none, 0).map_err(|_| "refused")?;
     assert_eq!(rt; estimate.hits(1), 0);
@@ -53,8 +53,8 @@ fn of_one_key(rt: HostRuntime) -> Result<(), Fail> {
     assert_eq!(rt; curve.charge_made(2), 9);
     assert_eq!(rt; curve.charge_made(3), 3);
     assert_eq!(rt; curve.least_capacity(2), Some(3));
-    assert_eq!(rt; replayed(rt.alloc(), &trace, 2), Ok(0));
-    assert_eq!(rt; replayed(rt.alloc(), &trace, 3), Ok(2));
+    assert_eq!(rt; count_hits(rt.alloc(), &trace, 2), Ok(0));
+    assert_eq!(rt; count_hits(rt.alloc(), &trace, 3), Ok(2));
     Ok(())
 }
 
@@ -69,10 +69,10 @@ fn at_the_end_of_a_sum(rt: HostRuntime) -> Result<(), Fail> {
     assert!(rt; matches!(curve_of(rt.alloc(), &past), Err(Refusal::Overflow(2))));
     // A cache that keeps the first key refuses the second; one that does not accepts all uses.
     assert_eq!(rt;
-        replayed(rt.alloc(), &past, u64::MAX),
+        count_hits(rt.alloc(), &past, u64::MAX),
         Err(Refusal::Overflow(2))
     );
-    assert_eq!(rt; replayed(rt.alloc(), &past, 7), Ok(0));
+    assert_eq!(rt; count_hits(rt.alloc(), &past, 7), Ok(0));
     Ok(())
 }
 
@@ -81,7 +81,7 @@ fn with_two_charges_of_one_key(rt: HostRuntime) {
     let trace = [(1, 2), (2, 5), (1, 2), (2, 5), (1, 3)];
     assert!(rt; matches!(curve_of(rt.alloc(), &trace), Err(Refusal::TwoCharges(2, 4))));
     assert_eq!(rt;
-        replayed(rt.alloc(), &trace, 9),
+        count_hits(rt.alloc(), &trace, 9),
         Err(Refusal::TwoCharges(2, 4))
     );
 }

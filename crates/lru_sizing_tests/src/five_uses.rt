@@ -11,18 +11,18 @@ const CHARGES: [u64; 3] = [1, 2, 4];
 const CAPACITIES: [u64; 9] = [0, 1, 2, 3, 4, 5, 6, 7, 8];
 
 // Returns the use of one of the three keys.
-fn used(key: u64) -> (u64, u64) {
+fn use_of(key: u64) -> (u64, u64) {
     (key % 3, CHARGES[(key % 3) as usize])
 }
 
 // Returns one of the 243 traces.
 fn five_uses(number: u64) -> [(u64, u64); 5] {
     [
-        used(number),
-        used(number / 3),
-        used(number / 9),
-        used(number / 27),
-        used(number / 81),
+        use_of(number),
+        use_of(number / 3),
+        use_of(number / 9),
+        use_of(number / 27),
+        use_of(number / 81),
     ]
 }
 

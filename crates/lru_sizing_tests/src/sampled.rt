@@ -40,7 +40,7 @@ fn zipf(alloc: Global, seed: u64) -> Result<Vec<(u64, u64)>, AllocError> {
 }
 
 // Returns the uses whose keys are sampled.
-fn sampled(
+fn sample_uses(
     alloc: Global,
     trace: &[(u64, u64)],
     sample: Sample,
@@ -63,7 +63,7 @@ fn errors(alloc: Global, trace: &[(u64, u64)], one_in: u64) -> Result<(u64, u64)
     }
     let curve = Curve::new(alloc, trace, &weights)?;
     let sample = Sample::one_in(one_in);
-    let uses = sampled(alloc, trace, sample)?;
+    let uses = sample_uses(alloc, trace, sample)?;
     let estimate = Estimate::new(alloc, sample, &uses, trace.len() as u64)?;
     let (mut sum, mut most) = (0u64, 0u64);
     for step in 1..=20u64 {

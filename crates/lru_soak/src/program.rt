@@ -38,14 +38,14 @@ fn run<R: Threads + Wait + Clock + Clone + Drop + Send + Sync, O: Write>(
     words: &[String],
     out: &mut O,
 ) -> Result<(), Failure> {
-    let Some((seed, minutes)) = asked(words) else {
+    let Some((seed, minutes)) = parse(words) else {
         return Err(Failure::Usage);
     };
     soak(rt, alloc, seed, minutes, out)
 }
 
 // Parses the seed and the time.
-fn asked(words: &[String]) -> Option<(u64, Duration)> {
+fn parse(words: &[String]) -> Option<(u64, Duration)> {
     let [seed, minutes] = words else {
         return None;
     };

@@ -1,14 +1,14 @@
 //! Unsharded and sharded caches whose values count themselves, and what is checked of them.
 ghost use Rattle.std.specs.Prelude.{◌<◌};
 
-use crate::counted::{Book, Counted};
+use crate::counted::{Book, CountedValue};
 use crate::outcome::{Check, Counts, Trouble};
 use crate::plan::Plan;
 use crate::workers;
-use crate::workers::{Answer, Shared, Unmade};
+use crate::workers::{Answer, StressTarget, Unmade};
 use concurrent_lru::{sharded, unsharded};
 use lru_support::cached::Cached;
-use lru_support::calls::Call;
+use lru_support::calls::WorkerCall;
 use std::alloc::Global;
 use std::hash::{BuildHasherDefault, FoldHasher};
 use std::sync::Arc;
@@ -18,14 +18,14 @@ use std::thread::Threads;
 pub type KeyHasher = BuildHasherDefault<FoldHasher>;
 
 /// The cache of one lock.
-pub type Cache<R> = unsharded::LruCache<u64, Counted, R>;
+pub type Cache<R> = unsharded::LruCache<u64, CountedValue, R>;
 
 /// The cache in shards.
-pub type Shards<R> = sharded::LruCache<u64, Counted, R, KeyHasher>;
+pub type Shards<R> = sharded::LruCache<u64, CountedValue, R, KeyHasher>;
 
 // A reference to a cache, and how it is asked.
 #[derive(Drop)]
-struct Checked<C> {
+struct CheckedCache<C> {
     cache: C,
     /// The book of the values.
     book: Arc<Book>,
@@ -35,13 +35,13 @@ struct Checked<C> {
     looks: bool,
 }
 
-impl<C: Cached<Counted>> Shared for Checked<C> {
-    fn fetch(&self, call: &Call) -> Result<Answer, Unmade> {
+impl<C: Cached<CountedValue>> StressTarget for CheckedCache<C> {
+    fn ask(&self, call: &WorkerCall) -> Result<Answer, Unmade> {
         let began = self.book.now();
         let mut ran = false;
-        match self.cache.tried(call.key, call.charge, |_| {
+        match self.cache.get_or_try_init(call.key, call.charge, |_| {
             ran = true;
-            Counted::make(&self.book, call, self.yields)
+            CountedValue::make(&self.book, call, self.yields)
         }) {
             Ok(handle) => {
                 let value = C::value_of(&handle);
@@ -49,7 +49,11 @@ impl<C: Cached<Counted>> Shared for Checked<C> {
                     key: value.key(),
                     is_hit: !ran,
                     is_meeting: !ran && value.is_made_after(began),
-                    total: if self.looks { self.cache.total() } else { 0 },
+                    total: if self.looks {
+                        self.cache.total_charge()
+                    } else {
+                        0
+                    },
                 })
             }
             Err(error) => Err(Unmade::from(error)),
@@ -62,7 +66,7 @@ impl<C: Cached<Counted>> Shared for Checked<C> {
 ///
 /// Returns `Refused` if memory was refused to a call or a worker could not have its own thread, and
 /// else the first check that failed.
-pub fn share<R: Threads + Sync, C: Cached<Counted> + Sync>(
+pub fn share<R: Threads + Sync, C: Cached<CountedValue> + Sync>(
     rt: &R,
     alloc: Global,
     plan: &Plan,
@@ -70,7 +74,7 @@ pub fn share<R: Threads + Sync, C: Cached<Counted> + Sync>(
     allowed: u128,
 ) -> Result<Counts, Trouble> {
     let book = Arc::new(alloc, Book::new())?;
-    let checked = Checked {
+    let checked = CheckedCache {
         cache,
         book,
         yields: plan.yields,
@@ -89,12 +93,12 @@ pub fn share<R: Threads + Sync, C: Cached<Counted> + Sync>(
 }
 
 // Checks a cache that no worker uses any more.
-fn check<C: Cached<Counted>>(cache: C, book: &Book, allowed: u128) -> Result<(), Trouble> {
-    if cache.total() > allowed {
+fn check<C: Cached<CountedValue>>(cache: C, book: &Book, allowed: u128) -> Result<(), Trouble> {
+    if cache.total_charge() > allowed {
         return Err(Trouble::Failed(Check::Total));
     }
-    cache.clear();
-    if cache.total() != 0 {
+    cache.prune();
+    if cache.total_charge() != 0 {
         return Err(Trouble::Failed(Check::Prune));
     }
     if book.dropped() != book.made() {

@@ -2,7 +2,7 @@
 
 use crate::workers::Unmade;
 use concurrent_lru::lru_core::Refusal;
-use lru_support::calls::Call;
+use lru_support::calls::WorkerCall;
 use std::sync::Arc;
 use std::sync::atomic::{AtomicU64, Ordering};
 use std::thread;
@@ -50,15 +50,15 @@ impl Book {
 }
 
 /// A value that counts itself as made and as dropped.
-pub struct Counted {
+pub struct CountedValue {
     book: Arc<Book>,
     key: u64,
     moment: u64,
 }
 
-impl Counted {
+impl CountedValue {
     /// The `init` of a call: yields this many times, and then fails or makes the value.
-    pub fn make(book: &Arc<Book>, call: &Call, yields: u32) -> Result<Counted, Unmade> {
+    pub fn make(book: &Arc<Book>, call: &WorkerCall, yields: u32) -> Result<CountedValue, Unmade> {
         book.inits.fetch_add(1, Ordering::SeqCst);
         for _ in 0..yields {
             thread::yield_now();
@@ -70,7 +70,7 @@ impl Counted {
             return Err(Unmade::Refused(Refusal::Memory));
         };
         book.made.fetch_add(1, Ordering::SeqCst);
-        Ok(Counted {
+        Ok(CountedValue {
             book: own,
             key: call.key,
             moment: book.now(),
@@ -88,7 +88,7 @@ impl Counted {
     }
 }
 
-impl Drop for Counted {
+impl Drop for CountedValue {
     fn drop(self) {
         let Self {
             book,

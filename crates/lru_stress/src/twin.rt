@@ -6,7 +6,7 @@ use crate::outcome::{Check, Counts, Trouble};
 use crate::plan::{KEYS, Plan};
 use crate::start::Start;
 use lru_journal::journal::{Identity, Journal, LruCache, Opening, Pin, Started, Tally};
-use lru_support::calls::{Call, Calls};
+use lru_support::calls::{Calls, WorkerCall};
 use std::alloc::Global;
 use std::sync::{Arc, Wait};
 use std::thread;
@@ -140,7 +140,7 @@ fn use_key<I: Identity, R: Wait + Drop>(
     cache: &LruCache<u64, u64, R, I>,
     alloc: Global,
     tally: &mut Tally<u64, I>,
-    call: &Call,
+    call: &WorkerCall,
 ) -> Result<Accepted, Trouble>
     ensures { tally.new.parts ≡ tally.old.parts }
 {

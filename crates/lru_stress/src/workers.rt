@@ -5,7 +5,7 @@ use crate::plan::{KEYS, Plan};
 use crate::start::Start;
 use concurrent_lru::lru_core::Refusal;
 use concurrent_lru::unsharded::GetError;
-use lru_support::calls::{Call, Calls};
+use lru_support::calls::{Calls, WorkerCall};
 use std::alloc::Global;
 use std::thread;
 use std::thread::Threads;
@@ -56,9 +56,9 @@ impl From<GetError<Unmade>> for Unmade {
 
 /// A cache as its workers ask it. It has no associated type, since the checker supports no closure
 /// of a thread over a type that has one.
-pub trait Shared {
+pub trait StressTarget {
     /// Asks for a value, and drops its handle at once.
-    fn fetch(&self, call: &Call) -> Result<Answer, Unmade>;
+    fn ask(&self, call: &WorkerCall) -> Result<Answer, Unmade>;
 }
 
 /// What workers note of their calls' answers.
@@ -88,7 +88,7 @@ impl Notes {
         }
     }
 
-    fn note(&mut self, call: &Call, answer: Result<Answer, Unmade>) {
+    fn note(&mut self, call: &WorkerCall, answer: Result<Answer, Unmade>) {
         match answer {
             Ok(answer) => self.note_value(call, answer),
             Err(Unmade::Failed) if call.fails => {}
@@ -97,7 +97,7 @@ impl Notes {
         }
     }
 
-    fn note_value(&mut self, call: &Call, answer: Answer) {
+    fn note_value(&mut self, call: &WorkerCall, answer: Answer) {
         if answer.key != call.key {
             self.note_failed();
         }
@@ -133,7 +133,7 @@ impl Notes {
 /// Returns `Refused` if memory was refused to a call or a worker could not have its own thread, and
 /// else `Failed(Answers)` if a call whose making would not fail returned no value, or that of
 /// another key.
-pub fn share<R: Threads + Sync, C: Shared + Sync>(
+pub fn share<R: Threads + Sync, C: StressTarget + Sync>(
     rt: &R,
     alloc: Global,
     plan: &Plan,
@@ -155,7 +155,7 @@ pub fn share<R: Threads + Sync, C: Shared + Sync>(
 }
 
 // Makes a worker's calls.
-fn work<C: Shared>(cache: &C, plan: &Plan, worker: usize, start: &Start) -> Notes {
+fn work<C: StressTarget>(cache: &C, plan: &Plan, worker: usize, start: &Start) -> Notes {
     let mut notes = Notes::none();
     if !start.meets_all() {
         notes.trouble = Some(Trouble::Refused);
@@ -164,7 +164,7 @@ fn work<C: Shared>(cache: &C, plan: &Plan, worker: usize, start: &Start) -> Note
     let mut calls = Calls::of_worker(plan.seed, worker as u64);
     for number in 0..plan.calls {
         let call = calls.draw(KEYS);
-        notes.note(&call, cache.fetch(&call));
+        notes.note(&call, cache.ask(&call));
         if plan.rests && number % 1_000 == 999 {
             thread::yield_now();
         }

@@ -20,52 +20,57 @@ pub trait Cached<V>: Copy {
     fn value_of(handle: &Self::Handle) -> &V;
 
     /// `get`.
-    fn found(self, key: u64) -> Result<Option<Self::Handle>, Refusal>;
+    fn get(self, key: u64) -> Result<Option<Self::Handle>, Refusal>;
 
     /// `read`.
-    fn seen<T, G>(self, key: u64, reader: G) -> Result<Option<T>, Refusal>
+    fn read<T, G>(self, key: u64, reader: G) -> Result<Option<T>, Refusal>
     where
         G: FnOnce(&V) -> T + Drop,
         requires callable { (v : V) → FnOnceTakesAt G.FnOnce reader v };
 
     /// `get_or_init`.
-    fn made<I>(self, key: u64, charge: u64, init: I) -> Result<Self::Handle, Refusal>
+    fn get_or_init<I>(self, key: u64, charge: u64, init: I) -> Result<Self::Handle, Refusal>
     where
         I: FnOnce(&u64) -> V + Drop,
         requires charged { 0 < charge }
         requires callable { FnOnceTakesAt I.FnOnce init key };
 
     /// `get_or_try_init`.
-    fn tried<E, I>(self, key: u64, charge: u64, init: I) -> Result<Self::Handle, GetError<E>>
+    fn get_or_try_init<E, I>(
+        self,
+        key: u64,
+        charge: u64,
+        init: I,
+    ) -> Result<Self::Handle, GetError<E>>
     where
         I: FnOnce(&u64) -> Result<V, E> + Drop,
         requires charged { 0 < charge }
         requires callable { FnOnceTakesAt I.FnOnce init key };
 
     /// `advice_evict`.
-    fn advise(self, key: u64);
+    fn advice_evict(self, key: u64);
 
     /// `invalidate`.
-    fn take_back(self, key: u64);
+    fn invalidate(self, key: u64);
 
     /// `insert`.
-    fn put(self, key: u64, charge: u64, value: V) -> Result<Self::Handle, Refusal>
+    fn insert(self, key: u64, charge: u64, value: V) -> Result<Self::Handle, Refusal>
         requires { 0 < charge };
 
     /// `prune`.
-    fn clear(self);
+    fn prune(self);
 
     /// `set_capacity`.
-    fn resize(self, capacity: u64);
+    fn set_capacity(self, capacity: u64);
 
     /// `reserve`.
-    fn make_room(self, entries: usize) -> Result<(), Refusal>;
+    fn reserve(self, entries: usize) -> Result<(), Refusal>;
 
     /// `capacity`.
-    fn limit(self) -> u128;
+    fn capacity(self) -> u128;
 
     /// `total_charge`.
-    fn total(self) -> u128;
+    fn total_charge(self) -> u128;
 
     /// `contains`.
     fn contains(self, key: u64) -> bool;
@@ -84,68 +89,73 @@ impl<'a, V: Drop, R: Wait> Cached<V> for &'a unsharded::LruCache<u64, V, R> {
         handle.value()
     }
 
-    fn found(self, key: u64) -> Result<Option<Self::Handle>, Refusal> {
-        self.get(key)
+    fn get(self, key: u64) -> Result<Option<Self::Handle>, Refusal> {
+        unsharded::LruCache::get(self, key)
     }
 
-    fn seen<T, G>(self, key: u64, reader: G) -> Result<Option<T>, Refusal>
+    fn read<T, G>(self, key: u64, reader: G) -> Result<Option<T>, Refusal>
     where
         G: FnOnce(&V) -> T + Drop,
         requires callable { (v : V) → FnOnceTakesAt G.FnOnce reader v }
     {
-        self.read(&key, reader)
+        unsharded::LruCache::read(self, &key, reader)
     }
 
-    fn made<I>(self, key: u64, charge: u64, init: I) -> Result<Self::Handle, Refusal>
+    fn get_or_init<I>(self, key: u64, charge: u64, init: I) -> Result<Self::Handle, Refusal>
     where
         I: FnOnce(&u64) -> V + Drop,
         requires charged { 0 < charge }
         requires callable { FnOnceTakesAt I.FnOnce init key }
     {
-        self.get_or_init(key, charge, init)
+        unsharded::LruCache::get_or_init(self, key, charge, init)
     }
 
-    fn tried<E, I>(self, key: u64, charge: u64, init: I) -> Result<Self::Handle, GetError<E>>
+    fn get_or_try_init<E, I>(
+        self,
+        key: u64,
+        charge: u64,
+        init: I,
+    ) -> Result<Self::Handle, GetError<E>>
     where
         I: FnOnce(&u64) -> Result<V, E> + Drop,
         requires charged { 0 < charge }
         requires callable { FnOnceTakesAt I.FnOnce init key }
     {
-        self.get_or_try_init(key, charge, init)
+        unsharded::LruCache::get_or_try_init(self, key, charge, init)
     }
 
-    fn advise(self, key: u64) {
-        self.advice_evict(key);
+    fn advice_evict(self, key: u64) {
+        unsharded::LruCache::advice_evict(self, key);
     }
 
-    fn take_back(self, key: u64) {
-        self.invalidate(&key);
+    fn invalidate(self, key: u64) {
+        unsharded::LruCache::invalidate(self, &key);
     }
 
-    fn put(self, key: u64, charge: u64, value: V) -> Result<Self::Handle, Refusal>
+    fn insert(self, key: u64, charge: u64, value: V) -> Result<Self::Handle, Refusal>
         requires { 0 < charge }
     {
-        self.insert(&key, charge, value)
+        unsharded::LruCache::insert(self, &key, charge, value)
     }
 
-    fn clear(self) {
-        self.prune();
+    fn prune(self) {
+        unsharded::LruCache::prune(self);
     }
 
-    fn resize(self, capacity: u64) {
-        self.set_capacity(capacity);
+    fn set_capacity(self, capacity: u64) {
+        unsharded::LruCache::set_capacity(self, capacity);
     }
 
-    fn make_room(self, entries: usize) -> Result<(), Refusal> {
-        self.reserve(entries)
+    fn reserve(self, entries: usize) -> Result<(), Refusal> {
+        unsharded::LruCache::reserve(self, entries)
     }
 
-    fn limit(self) -> u128 {
-        u128::from(self.capacity())
+    fn capacity(self) -> u128 {
+        u128::from(unsharded::LruCache::capacity(self))
     }
 
-    fn total(self) -> u128 {
-        u128::from(self.total_charge())
+    fn total_charge(self) -> u128 {
+        u128::from(unsharded::LruCache::total_charge(self))
     }
 
     fn contains(self, key: u64) -> bool {
@@ -168,68 +178,73 @@ impl<'a, V: Drop, R: Wait, S: BuildHasher> Cached<V> for &'a sharded::LruCache<u
         handle.value()
     }
 
-    fn found(self, key: u64) -> Result<Option<Self::Handle>, Refusal> {
-        self.get(key)
+    fn get(self, key: u64) -> Result<Option<Self::Handle>, Refusal> {
+        sharded::LruCache::get(self, key)
     }
 
-    fn seen<T, G>(self, key: u64, reader: G) -> Result<Option<T>, Refusal>
+    fn read<T, G>(self, key: u64, reader: G) -> Result<Option<T>, Refusal>
     where
         G: FnOnce(&V) -> T + Drop,
         requires callable { (v : V) → FnOnceTakesAt G.FnOnce reader v }
     {
-        self.read(&key, reader)
+        sharded::LruCache::read(self, &key, reader)
     }
 
-    fn made<I>(self, key: u64, charge: u64, init: I) -> Result<Self::Handle, Refusal>
+    fn get_or_init<I>(self, key: u64, charge: u64, init: I) -> Result<Self::Handle, Refusal>
     where
         I: FnOnce(&u64) -> V + Drop,
         requires charged { 0 < charge }
         requires callable { FnOnceTakesAt I.FnOnce init key }
     {
-        self.get_or_init(key, charge, init)
+        sharded::LruCache::get_or_init(self, key, charge, init)
     }
 
-    fn tried<E, I>(self, key: u64, charge: u64, init: I) -> Result<Self::Handle, GetError<E>>
+    fn get_or_try_init<E, I>(
+        self,
+        key: u64,
+        charge: u64,
+        init: I,
+    ) -> Result<Self::Handle, GetError<E>>
     where
         I: FnOnce(&u64) -> Result<V, E> + Drop,
         requires charged { 0 < charge }
         requires callable { FnOnceTakesAt I.FnOnce init key }
     {
-        self.get_or_try_init(key, charge, init)
+        sharded::LruCache::get_or_try_init(self, key, charge, init)
     }
 
-    fn advise(self, key: u64) {
-        self.advice_evict(key);
+    fn advice_evict(self, key: u64) {
+        sharded::LruCache::advice_evict(self, key);
     }
 
-    fn take_back(self, key: u64) {
-        self.invalidate(&key);
+    fn invalidate(self, key: u64) {
+        sharded::LruCache::invalidate(self, &key);
     }
 
-    fn put(self, key: u64, charge: u64, value: V) -> Result<Self::Handle, Refusal>
+    fn insert(self, key: u64, charge: u64, value: V) -> Result<Self::Handle, Refusal>
         requires { 0 < charge }
     {
-        self.insert(&key, charge, value)
+        sharded::LruCache::insert(self, &key, charge, value)
     }
 
-    fn clear(self) {
-        self.prune();
+    fn prune(self) {
+        sharded::LruCache::prune(self);
     }
 
-    fn resize(self, capacity: u64) {
-        self.set_capacity(capacity);
+    fn set_capacity(self, capacity: u64) {
+        sharded::LruCache::set_capacity(self, capacity);
     }
 
-    fn make_room(self, entries: usize) -> Result<(), Refusal> {
-        self.reserve(entries)
+    fn reserve(self, entries: usize) -> Result<(), Refusal> {
+        sharded::LruCache::reserve(self, entries)
     }
 
-    fn limit(self) -> u128 {
-        self.capacity()
+    fn capacity(self) -> u128 {
+        sharded::LruCache::capacity(self)
     }
 
-    fn total(self) -> u128 {
-        self.total_charge()
+    fn total_charge(self) -> u128 {
+        sharded::LruCache::total_charge(self)
     }
 
     fn contains(self, key: u64) -> bool {

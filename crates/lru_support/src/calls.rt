@@ -8,7 +8,7 @@ use rand_xoshiro::Xoshiro256PlusPlus;
 
 /// A call for a key's value.
 #[derive(Clone, Copy)]
-pub struct Call {
+pub struct WorkerCall {
     /// The key.
     pub key: u64,
     /// The charge of a new entry.
@@ -39,13 +39,13 @@ impl Calls {
     ///
     /// If the caller's number of keys is a constant, so is the divisor, and no division is made.
     #[inline(always)]
-    pub fn draw(&mut self, keys: u64) -> Call
+    pub fn draw(&mut self, keys: u64) -> WorkerCall
         requires { 0 < keys }
     {
         let a = self.generator.next_u64();
         let b = self.generator.next_u64();
         let c = self.generator.next_u64();
-        Call {
+        WorkerCall {
             key: a % keys,
             charge: 1 + b % 4,
             fails: c % 10 >= 8,

@@ -1,12 +1,14 @@
 //! A capacity that is set later, and reserved room.
 
 use crate::play::plays;
-use lru_fixtures::threaded::Call;
-use lru_fixtures::threaded::Call::{Capacity, Get, Init, Prune, Reserve, SetCapacity, Total};
 use lru_fixtures::threaded::Then::AtOnce;
+use lru_fixtures::threaded::ThreadedCall;
+use lru_fixtures::threaded::ThreadedCall::{
+    Capacity, Get, Init, Prune, Reserve, SetCapacity, Total,
+};
 use std::test;
 
-const SMALLER: [(Call, &str); 9] = [
+const SMALLER: [(ThreadedCall, &str); 9] = [
     (Init(1, 3, 1, AtOnce), "Made(1, 1)"),
     (Init(2, 2, 2, AtOnce), "Made(2, 2)"),
     (Init(3, 4, 3, AtOnce), "Made(3, 3)"),
@@ -23,7 +25,7 @@ fn a_smaller_capacity_evicts_at_once(rt: HostRuntime) -> Result<(), test::Fail> 
     plays(&rt, rt.alloc(), 9, &SMALLER)
 }
 
-const ROOM: [(Call, &str); 5] = [
+const ROOM: [(ThreadedCall, &str); 5] = [
     (Init(1, 4, 1, AtOnce), "Made(1, 1)"),
     (Reserve(usize::MAX), "Refused(Memory)"),
     (Reserve(100), "Done"),

@@ -2,10 +2,10 @@
 
 use concurrent_lru::unsharded::LruCache;
 use lru_fixtures::makings::{Meeting, comes_second, value_found};
-use lru_fixtures::tables::answers_as_told;
-use lru_fixtures::threaded::Call::{Init, LetGo, Total};
+use lru_fixtures::tables::answers_as_expected;
 use lru_fixtures::threaded::Then::{AtOnce, Keep};
-use lru_fixtures::threaded::{Call, Player};
+use lru_fixtures::threaded::ThreadedCall::{Init, LetGo, Total};
+use lru_fixtures::threaded::{Player, ThreadedCall};
 use lru_support::drops::{DropLog, Logged};
 use lru_support::flags::{meets, pause, raise};
 use std::alloc::Global;
@@ -16,12 +16,12 @@ use std::test::Fail;
 use std::thread;
 use std::thread::Threads;
 
-const HELD: [(Call, &str); 2] = [
+const HELD: [(ThreadedCall, &str); 2] = [
     (Init(1, 3, 1, AtOnce), "Made(1, 1)"),
     (Init(2, 2, 2, Keep(0)), "Made(2, 2)"),
 ];
 
-const LET_GO: [(Call, &str); 3] = [
+const LET_GO: [(ThreadedCall, &str); 3] = [
     (Total, "Number(2), drops [1]"),
     (LetGo(0), "Done, drops [2]"),
     (Total, "Number(0)"),
@@ -44,10 +44,10 @@ fn plays_around_a_change<R: Wait + Threads + Abort + Clone + Drop + Send + Sync>
     let log = DropLog::new(alloc, rt)?;
     let cache: LruCache<u64, Logged<R>, R> = LruCache::new(alloc, rt.clone()?, 9);
     let mut player = Player::new(alloc, &cache, &log)?;
-    answers_as_told(alloc, &mut player, &HELD)?;
+    answers_as_expected(alloc, &mut player, &HELD)?;
     let total = shrinks_beside(rt, &cache);
     assert!(rt; total == 5 || total == 2);
-    answers_as_told(alloc, &mut player, &LET_GO)
+    answers_as_expected(alloc, &mut player, &LET_GO)
 }
 
 #[test]

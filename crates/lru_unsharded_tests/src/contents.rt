@@ -5,7 +5,7 @@ use concurrent_lru::unsharded::{LruCache, Refusal};
 use std::sync::Wait;
 
 // Returns the number of entries, whether there are none, and whether the keys 1 and 2 have a value.
-fn seen<R: Wait>(cache: &LruCache<u64, u64, R>) -> (usize, bool, [bool; 2]) {
+fn view<R: Wait>(cache: &LruCache<u64, u64, R>) -> (usize, bool, [bool; 2]) {
     (
         cache.len(),
         cache.is_empty(),
@@ -16,23 +16,23 @@ fn seen<R: Wait>(cache: &LruCache<u64, u64, R>) -> (usize, bool, [bool; 2]) {
 #[test]
 fn entries_are_counted_and_values_found(rt: HostRuntime) -> Result<(), Refusal> {
     let cache: LruCache<u64, u64, &HostRuntime> = LruCache::new(rt.alloc(), &rt, 2);
-    assert_eq!(rt; seen(&cache), (0, true, [false, false]));
+    assert_eq!(rt; view(&cache), (0, true, [false, false]));
     let mut while_made = None;
     let held = cache.get_or_init(1, 1, |key| {
-        while_made = Some(seen(&cache));
+        while_made = Some(view(&cache));
         *key
     })?;
     // An entry, and no value yet.
     assert_eq!(rt; while_made, Some((1, false, [false, false])));
-    assert_eq!(rt; seen(&cache), (1, false, [true, false]));
+    assert_eq!(rt; view(&cache), (1, false, [true, false]));
     drop(cache.get_or_init(2, 1, |key| *key)?);
-    assert_eq!(rt; seen(&cache), (2, false, [true, true]));
+    assert_eq!(rt; view(&cache), (2, false, [true, true]));
     cache.prune();
-    assert_eq!(rt; seen(&cache), (1, false, [true, false]));
+    assert_eq!(rt; view(&cache), (1, false, [true, false]));
     drop(held);
-    assert_eq!(rt; seen(&cache), (1, false, [true, false]));
+    assert_eq!(rt; view(&cache), (1, false, [true, false]));
     cache.prune();
-    assert_eq!(rt; seen(&cache), (0, true, [false, false]));
+    assert_eq!(rt; view(&cache), (0, true, [false, false]));
     Ok(())
 }
 
@@ -67,6 +67,6 @@ fn a_look_for_a_value_is_no_use_of_it(rt: HostRuntime) -> Result<(), Refusal> {
     }
     assert!(rt; cache.contains(&1));
     drop(cache.get_or_init(3, 1, |key| *key)?);
-    assert_eq!(rt; seen(&cache), (2, false, [false, true]));
+    assert_eq!(rt; view(&cache), (2, false, [false, true]));
     Ok(())
 }

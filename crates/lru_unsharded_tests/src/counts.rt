@@ -4,7 +4,7 @@
 use crate::makings::{MEETINGS, one_fails_and_one_makes};
 use concurrent_lru::unsharded::{Counts, GetError, LruCache};
 use lru_fixtures::makings::values_of_two;
-use lru_fixtures::workers::{EACH_ONCE, asked_between_resets};
+use lru_fixtures::workers::{EACH_ONCE, lookups_between_resets};
 use std::alloc::Global;
 use std::sync::Wait;
 use std::test::Fail;
@@ -27,7 +27,7 @@ fn adds_up<R: Wait>(cache: &LruCache<u64, u64, R>) -> bool {
 
 // A call of one thread.
 #[derive(Clone, Copy, Debug)]
-enum Call {
+enum CountedCall {
     // `get`, whose handle is dropped at once.
     Get(u64),
     // `read`.
@@ -48,29 +48,29 @@ enum Call {
 }
 
 // Makes a call. The counts show its result.
-fn make_call<R: Wait>(cache: &LruCache<u64, u64, R>, call: Call) {
+fn make_call<R: Wait>(cache: &LruCache<u64, u64, R>, call: CountedCall) {
     match call {
-        Call::Get(key) => {
+        CountedCall::Get(key) => {
             let _ = cache.get(key);
         }
-        Call::Read(key) => {
+        CountedCall::Read(key) => {
             let _ = cache.read(&key, |value| *value);
         }
-        Call::Make(key, charge) => {
+        CountedCall::Make(key, charge) => {
             let _ = cache.get_or_init(key, charge.max(1), |key| *key);
         }
-        Call::Fail(key, charge) => {
+        CountedCall::Fail(key, charge) => {
             let _ = cache.get_or_try_init(key, charge.max(1), |_| -> Result<u64, u8> { Err(9) });
         }
-        Call::Insert(key, charge) => {
+        CountedCall::Insert(key, charge) => {
             let _ = cache.insert(&key, charge.max(1), key);
         }
-        Call::Look(key) => look(cache, key),
-        Call::AdviceEvict(key) => cache.advice_evict(key),
-        Call::Invalidate(key) => cache.invalidate(&key),
-        Call::SetCapacity(capacity) => cache.set_capacity(capacity),
-        Call::Prune => cache.prune(),
-        Call::Reserve(entries) => {
+        CountedCall::Look(key) => look(cache, key),
+        CountedCall::AdviceEvict(key) => cache.advice_evict(key),
+        CountedCall::Invalidate(key) => cache.invalidate(&key),
+        CountedCall::SetCapacity(capacity) => cache.set_capacity(capacity),
+        CountedCall::Prune => cache.prune(),
+        CountedCall::Reserve(entries) => {
             let _ = cache.reserve(entries);
         }
     }
@@ -104,7 +104,7 @@ fn numbers(counts: &Counts) -> [u64; 8] {
 // up.
 fn counts_each<R: Wait>(
     cache: &LruCache<u64, u64, R>,
-    calls: &[(Call, [u64; 8])],
+    calls: &[(CountedCall, [u64; 8])],
 ) -> Result<(), Fail> {
     for (call, wanted) in calls {
         make_call(cache, *call);
@@ -117,30 +117,30 @@ fn counts_each<R: Wait>(
 }
 
 // Calls in order on a cache of capacity 6, and after each its numbers.
-const CALLS: [(Call, [u64; 8]); 21] = [
-    (Call::Get(1), [0, 1, 0, 0, 0, 0, 0, 0]),
-    (Call::Read(1), [0, 2, 0, 0, 0, 0, 0, 0]),
-    (Call::Make(1, 2), [0, 3, 0, 1, 0, 1, 0, 0]),
-    (Call::Make(1, 3), [1, 3, 0, 1, 0, 1, 0, 0]),
-    (Call::Get(1), [2, 3, 0, 1, 0, 1, 0, 0]),
-    (Call::Read(1), [3, 3, 0, 1, 0, 1, 0, 0]),
-    (Call::Fail(1, 4), [4, 3, 0, 1, 0, 1, 0, 0]),
-    (Call::Look(1), [4, 3, 0, 1, 0, 1, 0, 0]),
-    (Call::Look(2), [4, 3, 0, 1, 0, 1, 0, 0]),
-    (Call::Reserve(3), [4, 3, 0, 1, 0, 1, 0, 0]),
+const CALLS: [(CountedCall, [u64; 8]); 21] = [
+    (CountedCall::Get(1), [0, 1, 0, 0, 0, 0, 0, 0]),
+    (CountedCall::Read(1), [0, 2, 0, 0, 0, 0, 0, 0]),
+    (CountedCall::Make(1, 2), [0, 3, 0, 1, 0, 1, 0, 0]),
+    (CountedCall::Make(1, 3), [1, 3, 0, 1, 0, 1, 0, 0]),
+    (CountedCall::Get(1), [2, 3, 0, 1, 0, 1, 0, 0]),
+    (CountedCall::Read(1), [3, 3, 0, 1, 0, 1, 0, 0]),
+    (CountedCall::Fail(1, 4), [4, 3, 0, 1, 0, 1, 0, 0]),
+    (CountedCall::Look(1), [4, 3, 0, 1, 0, 1, 0, 0]),
+    (CountedCall::Look(2), [4, 3, 0, 1, 0, 1, 0, 0]),
+    (CountedCall::Reserve(3), [4, 3, 0, 1, 0, 1, 0, 0]),
     // A refused `reserve` is not a call that asked for a value.
-    (Call::Reserve(usize::MAX), [4, 3, 0, 1, 0, 1, 0, 0]),
-    (Call::Fail(2, 3), [4, 4, 0, 2, 1, 2, 0, 1]),
-    (Call::Make(3, 2), [4, 5, 0, 3, 1, 3, 0, 1]),
-    (Call::Make(4, 2), [4, 6, 0, 4, 1, 4, 0, 1]),
-    (Call::Make(5, u64::MAX), [4, 6, 1, 4, 1, 4, 0, 1]),
+    (CountedCall::Reserve(usize::MAX), [4, 3, 0, 1, 0, 1, 0, 0]),
+    (CountedCall::Fail(2, 3), [4, 4, 0, 2, 1, 2, 0, 1]),
+    (CountedCall::Make(3, 2), [4, 5, 0, 3, 1, 3, 0, 1]),
+    (CountedCall::Make(4, 2), [4, 6, 0, 4, 1, 4, 0, 1]),
+    (CountedCall::Make(5, u64::MAX), [4, 6, 1, 4, 1, 4, 0, 1]),
     // Two entries are evicted at once.
-    (Call::Make(6, 4), [4, 7, 1, 5, 1, 5, 2, 1]),
-    (Call::AdviceEvict(4), [4, 7, 1, 5, 1, 5, 3, 1]),
-    (Call::SetCapacity(3), [4, 7, 1, 5, 1, 5, 4, 1]),
-    (Call::Prune, [4, 7, 1, 5, 1, 5, 4, 1]),
-    (Call::Make(7, 2), [4, 8, 1, 6, 1, 6, 4, 1]),
-    (Call::Invalidate(7), [4, 8, 1, 6, 1, 6, 5, 1]),
+    (CountedCall::Make(6, 4), [4, 7, 1, 5, 1, 5, 2, 1]),
+    (CountedCall::AdviceEvict(4), [4, 7, 1, 5, 1, 5, 3, 1]),
+    (CountedCall::SetCapacity(3), [4, 7, 1, 5, 1, 5, 4, 1]),
+    (CountedCall::Prune, [4, 7, 1, 5, 1, 5, 4, 1]),
+    (CountedCall::Make(7, 2), [4, 8, 1, 6, 1, 6, 4, 1]),
+    (CountedCall::Invalidate(7), [4, 8, 1, 6, 1, 6, 5, 1]),
 ];
 
 #[test]
@@ -155,20 +155,20 @@ fn each_call_counts_what_it_answers(rt: HostRuntime) -> Result<(), Fail> {
 }
 
 // Inserted values, on a cache of capacity 6: none of these calls asks for a value or makes one.
-const PUT_IN: [(Call, [u64; 8]); 10] = [
-    (Call::Insert(1, 2), [0, 0, 0, 0, 0, 1, 0, 0]),
-    (Call::Get(1), [1, 0, 0, 0, 0, 1, 0, 0]),
+const PUT_IN: [(CountedCall, [u64; 8]); 10] = [
+    (CountedCall::Insert(1, 2), [0, 0, 0, 0, 0, 1, 0, 0]),
+    (CountedCall::Get(1), [1, 0, 0, 0, 0, 1, 0, 0]),
     // It replaces an idle entry, which is evicted.
-    (Call::Insert(1, 3), [1, 0, 0, 0, 0, 2, 1, 0]),
-    (Call::Insert(2, u64::MAX), [1, 0, 1, 0, 0, 2, 1, 0]),
+    (CountedCall::Insert(1, 3), [1, 0, 0, 0, 0, 2, 1, 0]),
+    (CountedCall::Insert(2, u64::MAX), [1, 0, 1, 0, 0, 2, 1, 0]),
     // Another is evicted for it.
-    (Call::Insert(2, 4), [1, 0, 1, 0, 0, 3, 2, 0]),
-    (Call::Insert(3, 2), [1, 0, 1, 0, 0, 4, 2, 0]),
-    (Call::Insert(3, u64::MAX), [1, 0, 2, 0, 0, 4, 2, 0]),
-    (Call::Make(3, 9), [2, 0, 2, 0, 0, 4, 2, 0]),
-    (Call::Prune, [2, 0, 2, 0, 0, 4, 4, 0]),
+    (CountedCall::Insert(2, 4), [1, 0, 1, 0, 0, 3, 2, 0]),
+    (CountedCall::Insert(3, 2), [1, 0, 1, 0, 0, 4, 2, 0]),
+    (CountedCall::Insert(3, u64::MAX), [1, 0, 2, 0, 0, 4, 2, 0]),
+    (CountedCall::Make(3, 9), [2, 0, 2, 0, 0, 4, 2, 0]),
+    (CountedCall::Prune, [2, 0, 2, 0, 0, 4, 4, 0]),
     // It is evicted when its handle is dropped.
-    (Call::Insert(4, 7), [2, 0, 2, 0, 0, 5, 5, 0]),
+    (CountedCall::Insert(4, 7), [2, 0, 2, 0, 0, 5, 5, 0]),
 ];
 
 #[test]
@@ -212,7 +212,7 @@ fn a_cache_that_is_printed_counts_nothing(rt: HostRuntime) {
 fn a_prune_counts_each_entry_that_it_evicts(rt: HostRuntime) {
     let cache: LruCache<u64, u64, &HostRuntime> = LruCache::new(rt.alloc(), &rt, 100);
     for key in 1..=5 {
-        make_call(&cache, Call::Make(key, key));
+        make_call(&cache, CountedCall::Make(key, key));
     }
     let held = cache.get_or_init(9, 7, |key| *key).expect(&rt, "memory");
     cache.prune();
@@ -231,7 +231,7 @@ fn a_prune_counts_each_entry_that_it_evicts(rt: HostRuntime) {
 #[test]
 fn an_invalidated_entry_is_evicted_once(rt: HostRuntime) {
     let cache: LruCache<u64, u64, &HostRuntime> = LruCache::new(rt.alloc(), &rt, 100);
-    make_call(&cache, Call::Make(1, 3));
+    make_call(&cache, CountedCall::Make(1, 3));
     cache.invalidate(&1);
     let idle = cache.counts();
     assert_eq!(rt; (idle.evictions, idle.evicted_charge), (1, 3));
@@ -241,7 +241,7 @@ fn an_invalidated_entry_is_evicted_once(rt: HostRuntime) {
     assert_eq!(rt; cache.counts().evictions, 1);
     assert!(rt; adds_up(&cache));
     // A new entry of the key, beside the held one.
-    make_call(&cache, Call::Make(2, 7));
+    make_call(&cache, CountedCall::Make(2, 7));
     drop(held);
     assert_eq!(rt; cache.counts().evictions, 1);
     drop(again);
@@ -259,7 +259,7 @@ fn a_reset_answers_what_was_counted(rt: HostRuntime) {
     assert_eq!(rt; cache.counts(), Counts::default());
     assert_eq!(rt; cache.reset_counts(), Counts::default());
     for key in [1, 2, 1] {
-        make_call(&cache, Call::Make(key, 10));
+        make_call(&cache, CountedCall::Make(key, 10));
     }
     let counts = cache.counts();
     assert_eq!(rt; (counts.hits, counts.misses, counts.insertions), (1, 2, 2));
@@ -282,7 +282,7 @@ fn counts_are_told_in_one_line(rt: HostRuntime) -> Result<(), Fail> {
     let alloc = rt.alloc();
     let cache: LruCache<u64, u64, &HostRuntime> = LruCache::new(alloc, &rt, 5);
     for key in [1, 2, 2] {
-        make_call(&cache, Call::Make(key, 3));
+        make_call(&cache, CountedCall::Make(key, 3));
     }
     let counts = cache.reset_counts();
     assert_eq!(rt;
@@ -412,6 +412,9 @@ fn four_threads_counts_add_up(rt: HostRuntime) -> Result<(), Fail> {
 #[test]
 fn each_call_is_counted_in_one_reset(rt: HostRuntime) -> Result<(), Fail> {
     let cache: LruCache<u64, u64, &HostRuntime> = LruCache::new(rt.alloc(), &rt, 8);
-    assert_eq!(rt; asked_between_resets(&rt, rt.alloc(), &&cache)?, EACH_ONCE);
+    assert_eq!(rt;
+        lookups_between_resets(&rt, rt.alloc(), &&cache)?,
+        EACH_ONCE
+    );
     Ok(())
 }

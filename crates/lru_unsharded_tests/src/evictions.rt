@@ -1,12 +1,12 @@
 //! Which values are evicted, and in which order, as their drops show.
 
 use crate::play::plays;
-use lru_fixtures::threaded::Call;
-use lru_fixtures::threaded::Call::{Fail, Get, Init, LetGo, Prune, Total, TryInit};
 use lru_fixtures::threaded::Then::{AtOnce, Keep};
+use lru_fixtures::threaded::ThreadedCall;
+use lru_fixtures::threaded::ThreadedCall::{Fail, Get, Init, LetGo, Prune, Total, TryInit};
 use std::test;
 
-const OLDEST: [(Call, &str); 3] = [
+const OLDEST: [(ThreadedCall, &str); 3] = [
     (Init(1, 1, 1, AtOnce), "Made(1, 1)"),
     (Init(2, 1, 2, AtOnce), "Made(2, 2)"),
     (Init(3, 1, 3, AtOnce), "Made(3, 3), drops [1]"),
@@ -17,7 +17,7 @@ fn the_oldest_is_evicted(rt: HostRuntime) -> Result<(), test::Fail> {
     plays(&rt, rt.alloc(), 2, &OLDEST)
 }
 
-const PINNED: [(Call, &str); 9] = [
+const PINNED: [(ThreadedCall, &str); 9] = [
     (Init(1, 1, 1, AtOnce), "Made(1, 1)"),
     (Init(2, 1, 2, AtOnce), "Made(2, 2)"),
     (Init(3, 1, 3, AtOnce), "Made(3, 3), drops [1]"),
@@ -34,7 +34,7 @@ fn a_pinned_value_outlives_the_idle(rt: HostRuntime) -> Result<(), test::Fail> {
     plays(&rt, rt.alloc(), 2, &PINNED)
 }
 
-const FAILED: [(Call, &str); 6] = [
+const FAILED: [(ThreadedCall, &str); 6] = [
     (Init(1, 1, 1, AtOnce), "Made(1, 1)"),
     (Init(2, 1, 2, AtOnce), "Made(2, 2)"),
     (Fail(3, 2, AtOnce), "Failed(3), drops [1, 2]"),
@@ -48,7 +48,7 @@ fn a_failed_making_has_evicted(rt: HostRuntime) -> Result<(), test::Fail> {
     plays(&rt, rt.alloc(), 2, &FAILED)
 }
 
-const HEAVY: [(Call, &str); 5] = [
+const HEAVY: [(ThreadedCall, &str); 5] = [
     (Init(1, 9, 1, Keep(0)), "Made(1, 1)"),
     (Total, "Number(9)"),
     (LetGo(0), "Done, drops [1]"),
@@ -62,7 +62,7 @@ fn too_heavy_a_value_lives_while_pinned(rt: HostRuntime) -> Result<(), test::Fai
 }
 
 // The value of an `init` that does not run is dropped with it.
-const LATER: [(Call, &str); 4] = [
+const LATER: [(ThreadedCall, &str); 4] = [
     (Init(1, 3, 1, AtOnce), "Made(1, 1)"),
     (Init(1, 7, 2, AtOnce), "Found(1), drops [2]"),
     (TryInit(1, 8, 3, AtOnce), "Found(1), drops [3]"),
@@ -74,7 +74,7 @@ fn a_later_charge_is_ignored(rt: HostRuntime) -> Result<(), test::Fail> {
     plays(&rt, rt.alloc(), 10, &LATER)
 }
 
-const RELEASES: [(Call, &str); 5] = [
+const RELEASES: [(ThreadedCall, &str); 5] = [
     (Init(1, 1, 1, Keep(0)), "Made(1, 1)"),
     (Init(2, 1, 2, Keep(1)), "Made(2, 2)"),
     (LetGo(1), "Done"),
@@ -87,7 +87,7 @@ fn the_order_is_that_of_releases(rt: HostRuntime) -> Result<(), test::Fail> {
     plays(&rt, rt.alloc(), 2, &RELEASES)
 }
 
-const WITHOUT: [(Call, &str); 2] = [
+const WITHOUT: [(ThreadedCall, &str); 2] = [
     (Init(1, 1, 1, AtOnce), "Made(1, 1), drops [1]"),
     (Get(1, AtOnce), "Absent"),
 ];
@@ -97,7 +97,7 @@ fn without_capacity_a_release_evicts(rt: HostRuntime) -> Result<(), test::Fail> 
     plays(&rt, rt.alloc(), 0, &WITHOUT)
 }
 
-const PRUNED: [(Call, &str); 8] = [
+const PRUNED: [(ThreadedCall, &str); 8] = [
     (Init(1, 1, 1, AtOnce), "Made(1, 1)"),
     (Init(2, 1, 2, AtOnce), "Made(2, 2)"),
     (Init(3, 1, 3, Keep(0)), "Made(3, 3)"),

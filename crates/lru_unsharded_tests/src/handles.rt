@@ -2,14 +2,14 @@
 
 use crate::play::plays;
 use concurrent_lru::unsharded::{GetError, LruCache};
-use lru_fixtures::threaded::Call;
-use lru_fixtures::threaded::Call::{Get, Init, Prune, Show, Total};
 use lru_fixtures::threaded::Then::{AtOnce, Forget, Keep};
+use lru_fixtures::threaded::ThreadedCall;
+use lru_fixtures::threaded::ThreadedCall::{Get, Init, Prune, Show, Total};
 use std::alloc::Global;
 use std::sync::Wait;
 use std::test;
 
-const FORGOTTEN: [(Call, &str); 6] = [
+const FORGOTTEN: [(ThreadedCall, &str); 6] = [
     (Init(1, 1, 1, Forget), "Made(1, 1)"),
     (Init(2, 1, 2, AtOnce), "Made(2, 2), drops [2]"),
     (Get(2, AtOnce), "Absent"),
@@ -23,7 +23,7 @@ fn a_forgotten_handle_keeps_its_pin(rt: HostRuntime) -> Result<(), test::Fail> {
     plays(&rt, rt.alloc(), 1, &FORGOTTEN)
 }
 
-const PRINTED: [(Call, &str); 5] = [
+const PRINTED: [(ThreadedCall, &str); 5] = [
     (Show, "{}"),
     (Init(1, 1, 2, AtOnce), "Made(1, 2)"),
     (Show, "{1: 2}"),

@@ -3,15 +3,17 @@
 use crate::play::plays;
 use concurrent_lru::unsharded::LruCache;
 use lru_fixtures::makings::{Meeting, reads_around, value_found};
-use lru_fixtures::threaded::Call;
-use lru_fixtures::threaded::Call::{Get, Init, Insert, Invalidate, LetGo, Prune, Show, Total};
 use lru_fixtures::threaded::Then::{AtOnce, Keep};
+use lru_fixtures::threaded::ThreadedCall;
+use lru_fixtures::threaded::ThreadedCall::{
+    Get, Init, Insert, Invalidate, LetGo, Prune, Show, Total,
+};
 use lru_support::flags::{meets, pause, raise};
 use std::sync::Wait;
 use std::{test, thread};
 
 // Two values of one key are held at the same time, and the old one is released first.
-const OLD_FIRST: [(Call, &str); 13] = [
+const OLD_FIRST: [(ThreadedCall, &str); 13] = [
     (Init(1, 3, 1, Keep(0)), "Made(1, 1)"),
     (Invalidate(1), "Done"),
     (Get(1, AtOnce), "Absent"),
@@ -33,7 +35,7 @@ fn a_held_value_is_replaced(rt: HostRuntime) -> Result<(), test::Fail> {
 }
 
 // The new one is released first, and stays idle while the old one is held.
-const NEW_FIRST: [(Call, &str); 7] = [
+const NEW_FIRST: [(ThreadedCall, &str); 7] = [
     (Init(1, 3, 1, Keep(0)), "Made(1, 1)"),
     (Invalidate(1), "Done"),
     (Init(1, 4, 2, AtOnce), "Made(1, 2)"),
@@ -51,7 +53,7 @@ fn a_new_value_outlives_the_old_one(rt: HostRuntime) -> Result<(), test::Fail> {
 // The cases of a storage engine's own cache test, with a charge for each value: a present key is
 // replaced, a held value can still be read, and unused ones are evicted in the order of their
 // releases.
-const HIT_AND_MISS: [(Call, &str); 9] = [
+const HIT_AND_MISS: [(ThreadedCall, &str); 9] = [
     (Get(100, AtOnce), "Absent"),
     (Insert(100, 1, 101, AtOnce), "Put(101)"),
     (Get(100, AtOnce), "Found(101)"),
@@ -68,7 +70,7 @@ fn a_present_key_is_replaced(rt: HostRuntime) -> Result<(), test::Fail> {
     plays(&rt, rt.alloc(), 1_000, &HIT_AND_MISS)
 }
 
-const ERASED: [(Call, &str); 7] = [
+const ERASED: [(ThreadedCall, &str); 7] = [
     (Invalidate(200), "Done"),
     (Insert(100, 1, 101, AtOnce), "Put(101)"),
     (Insert(200, 1, 201, AtOnce), "Put(201)"),
@@ -83,7 +85,7 @@ fn an_erased_key_is_gone_once(rt: HostRuntime) -> Result<(), test::Fail> {
     plays(&rt, rt.alloc(), 1_000, &ERASED)
 }
 
-const PINNED: [(Call, &str); 9] = [
+const PINNED: [(ThreadedCall, &str); 9] = [
     (Insert(100, 1, 101, AtOnce), "Put(101)"),
     (Get(100, Keep(0)), "Found(101)"),
     (Insert(100, 1, 102, AtOnce), "Put(102)"),
@@ -101,7 +103,7 @@ fn entries_are_pinned(rt: HostRuntime) -> Result<(), test::Fail> {
 }
 
 // The used key and the held one outlive the others; a cache of three in all.
-const EVICTED: [(Call, &str); 11] = [
+const EVICTED: [(ThreadedCall, &str); 11] = [
     (Insert(100, 1, 101, AtOnce), "Put(101)"),
     (Insert(200, 1, 201, AtOnce), "Put(201)"),
     (Insert(300, 1, 301, Keep(0)), "Put(301)"),
@@ -121,7 +123,7 @@ fn what_is_used_or_held_outlives_the_rest(rt: HostRuntime) -> Result<(), test::F
 }
 
 // Light entries and heavy ones: what stays is within the capacity, and the oldest are evicted.
-const HEAVY: [(Call, &str); 10] = [
+const HEAVY: [(ThreadedCall, &str); 10] = [
     (Insert(1, 1, 101, AtOnce), "Put(101)"),
     (Insert(2, 10, 102, AtOnce), "Put(102)"),
     (Insert(3, 1, 103, AtOnce), "Put(103)"),
@@ -140,7 +142,7 @@ fn heavy_entries_leave_room_for_few(rt: HostRuntime) -> Result<(), test::Fail> {
 }
 
 // Held values may exceed the capacity, and a prune leaves held entries.
-const CROWDED: [(Call, &str); 14] = [
+const CROWDED: [(ThreadedCall, &str); 14] = [
     (Insert(1, 2, 1, Keep(0)), "Put(1)"),
     (Insert(2, 2, 2, Keep(1)), "Put(2)"),
     (Insert(3, 2, 3, Keep(2)), "Put(3)"),
@@ -163,7 +165,7 @@ fn the_use_may_pass_the_capacity(rt: HostRuntime) -> Result<(), test::Fail> {
 }
 
 // A cache of capacity 0 keeps nothing that is unused.
-const NO_CAPACITY: [(Call, &str); 4] = [
+const NO_CAPACITY: [(ThreadedCall, &str); 4] = [
     (Insert(1, 1, 100, AtOnce), "Put(100), drops [100]"),
     (Get(1, AtOnce), "Absent"),
     (Insert(1, 1, 101, Keep(0)), "Put(101)"),

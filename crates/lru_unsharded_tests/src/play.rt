@@ -1,7 +1,7 @@
 //! A table of calls on a new cache by one thread.
 
 use concurrent_lru::unsharded::LruCache;
-use lru_fixtures::threaded::{Call, play};
+use lru_fixtures::threaded::{ThreadedCall, play};
 use lru_support::drops::{DropLog, Logged};
 use std::alloc::Global;
 use std::sync::Wait;
@@ -12,7 +12,7 @@ pub(crate) fn plays<R: Wait + Clone + Drop>(
     rt: &R,
     alloc: Global,
     capacity: u64,
-    table: &[(Call, &str)],
+    table: &[(ThreadedCall, &str)],
 ) -> Result<(), Fail> {
     let log = DropLog::new(alloc, rt)?;
     let cache: LruCache<u64, Logged<R>, R> = LruCache::new(alloc, rt.clone()?, capacity);

@@ -1,12 +1,12 @@
 //! Worked rows: values that are made, found, evicted, evicted by advice, and failed.
 
 use crate::play::plays;
-use lru_fixtures::threaded::Call;
-use lru_fixtures::threaded::Call::{AdviceEvict, Fail, Get, Init, LetGo, Total, TryInit};
 use lru_fixtures::threaded::Then::{AtOnce, Keep};
+use lru_fixtures::threaded::ThreadedCall;
+use lru_fixtures::threaded::ThreadedCall::{AdviceEvict, Fail, Get, Init, LetGo, Total, TryInit};
 use std::test;
 
-const READY: [(Call, &str); 3] = [
+const READY: [(ThreadedCall, &str); 3] = [
     (Init(1, 1, 1, AtOnce), "Made(1, 1)"),
     (Init(2, 1, 2, AtOnce), "Made(2, 2)"),
     (Init(1, 1, 3, AtOnce), "Found(1), drops [3]"),
@@ -17,7 +17,7 @@ fn a_ready_value_is_not_made_again(rt: HostRuntime) -> Result<(), test::Fail> {
     plays(&rt, rt.alloc(), 10, &READY)
 }
 
-const EVICTED: [(Call, &str); 3] = [
+const EVICTED: [(ThreadedCall, &str); 3] = [
     (Init(1, 3, 1, AtOnce), "Made(1, 1)"),
     (Init(2, 3, 2, AtOnce), "Made(2, 2), drops [1]"),
     (Init(1, 3, 3, AtOnce), "Made(1, 3), drops [2]"),
@@ -28,7 +28,7 @@ fn an_evicted_value_is_made_again(rt: HostRuntime) -> Result<(), test::Fail> {
     plays(&rt, rt.alloc(), 5, &EVICTED)
 }
 
-const ADVISED: [(Call, &str); 9] = [
+const ADVISED: [(ThreadedCall, &str); 9] = [
     (Init(1, 3, 1, Keep(0)), "Made(1, 1)"),
     (AdviceEvict(1), "Done"),
     (Get(1, Keep(1)), "Found(1)"),
@@ -45,7 +45,7 @@ fn advice_is_for_the_idle_alone(rt: HostRuntime) -> Result<(), test::Fail> {
     plays(&rt, rt.alloc(), 5, &ADVISED)
 }
 
-const FAILED: [(Call, &str); 9] = [
+const FAILED: [(ThreadedCall, &str); 9] = [
     (Init(1, 1, 1, AtOnce), "Made(1, 1)"),
     (Get(1, AtOnce), "Found(1)"),
     (Init(2, 1, 2, AtOnce), "Made(2, 2)"),
@@ -62,7 +62,7 @@ fn a_failed_making_leaves_nothing(rt: HostRuntime) -> Result<(), test::Fail> {
     plays(&rt, rt.alloc(), 10, &FAILED)
 }
 
-const ENDS: [(Call, &str); 5] = [
+const ENDS: [(ThreadedCall, &str); 5] = [
     (Init(1, u64::MAX, 1, AtOnce), "Made(1, 1)"),
     (TryInit(2, 1, 2, AtOnce), "Refused(Overflow), drops [2]"),
     (Init(2, 1, 3, AtOnce), "Refused(Overflow), drops [3]"),

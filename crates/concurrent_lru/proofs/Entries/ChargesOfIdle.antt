@@ -9,14 +9,14 @@ use Rattle.concurrent_lru.specs.Indexes.{IsStored, entries_of}
 use Rattle.concurrent_lru.specs.NodeTable.{Entry, NodeTable}
 use Rattle.concurrent_lru.specs.Representation.{held_charges}
 use Rattle.concurrent_lru.specs.Steps.{without}
-use Rattle.concurrent_lru.specs.declared.table.stamps.Stamps.{Stamps}
+use Rattle.concurrent_lru.specs.declared.table.stamp_index.StampIndex.{StampIndex}
 use Rattle.concurrent_lru.proofs.Entries.NodeAtPlace.{idle_found, idle_like}
 use Rattle.concurrent_lru.proofs.Entries.SumsOfCharges.{idle_less, stamps_apart}
 use Rattle.concurrent_lru.proofs.Entries.SumsOfHeld.{sum-remove}
 use Rattle.concurrent_lru.proofs.Lists.Members.{IsIn}
 use Rattle.concurrent_lru.proofs.Steps.BeginOfAbsent.{as_idle-ready}
 
-module _ {K V S : Type 0} {C : K → K → Type 0} {E : K → K → Bool} {t : NodeTable K V} {by_key : HashMap K ℕ S} {by_stamp : Stamps} (r : IsStored C E t by_key by_stamp) (p : ℕ) (e : Entry K V) (at : get t.nodes p ≡ Some e) (idle : IsIn p t.idle) where
+module _ {K V S : Type 0} {C : K → K → Type 0} {E : K → K → Bool} {t : NodeTable K V} {by_key : HashMap K ℕ S} {by_stamp : StampIndex} (r : IsStored C E t by_key by_stamp) (p : ℕ) (e : Entry K V) (at : get t.nodes p ≡ Some e) (idle : IsIn p t.idle) where
   -- what is left of the sum, and the charge that goes with it
   pub charges_left : (u : Entries K V) → u.idle ≡ without e.stamp (entries_of t).idle → charges u.idle + e.charge ≡ charges (entries_of t).idle
   charges_left u left =

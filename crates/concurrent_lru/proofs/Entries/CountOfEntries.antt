@@ -14,7 +14,7 @@ use Rattle.std.proofs.lemmas.Map.Views.{any-filter_same}
 use Rattle.concurrent_lru.specs.Cache.{Held}
 use Rattle.concurrent_lru.specs.NodeTable.{Entry, NodeTable}
 use Rattle.concurrent_lru.specs.Representation.{IsRepresentation, idle_in, held_in, idle_at_place, held_at_place, as_idle, as_held, held_entry}
-use Rattle.concurrent_lru.proofs.Entries.NodeWrittenOrAdded.{absent_stamp, as_held-some, as_held-none}
+use Rattle.concurrent_lru.proofs.Entries.NodesOfSetAndAdd.{absent_stamp, as_held-some, as_held-none}
 use Rattle.concurrent_lru.proofs.Entries.SumsOfCharges.{absent_in}
 use Rattle.concurrent_lru.proofs.Lists.Members.{IsIn, in_self, in_tail}
 use Rattle.concurrent_lru.proofs.Steps.BeginOfAbsent.{as_idle-ready}

@@ -11,8 +11,8 @@ use Rattle.std.proofs.lemmas.Bool.{true≢false, false_from_ne_true}
 use Rattle.std.proofs.lemmas.Option.{none-some}
 use Rattle.concurrent_lru.specs.NodeTable.{Entry, NodeTable, HasStampAt, IsNewStamp}
 use Rattle.concurrent_lru.specs.Entries.{ContainsEntry, FindsEntry, ContainsNoStamp, ContainsNoKey, IsPlaceOfKey}
-use Rattle.concurrent_lru.specs.Stamps.{keeps_map, mapped_place}
-use Rattle.concurrent_lru.specs.declared.table.stamps.Stamps.{Stamps}
+use Rattle.concurrent_lru.specs.StampIndex.{keeps_map, mapped_place}
+use Rattle.concurrent_lru.specs.declared.table.stamp_index.StampIndex.{StampIndex}
 use Rattle.concurrent_lru.specs.Indexes.{IsStored, entries_of}
 use Rattle.concurrent_lru.proofs.Steps.BeginOfAbsent.{entry_node, node_entry, node_found, found_node_of}
 use Rattle.concurrent_lru.proofs.Entries.PlacesOfNodes.{get_stamps}
@@ -21,7 +21,7 @@ use Rattle.concurrent_lru.proofs.Entries.PlacesOfNodes.{get_stamps}
 pub alike_get : {K X S : Type 0} {E : K → K → Bool} → IsEquivalence E → (m : HashMap K X S) (k l : K) → E k l ≡ true → hash.get E m k ≡ hash.get E m l
 alike_get {E = E} eq m k l h = lookup_congr E eq.congr m.entries k l h
 
-module _ {K V S : Type 0} {C : K → K → Type 0} {E : K → K → Bool} {t : NodeTable K V} {by_key : HashMap K ℕ S} {by_stamp : Stamps} (r : IsStored C E t by_key by_stamp) where
+module _ {K V S : Type 0} {C : K → K → Type 0} {E : K → K → Bool} {t : NodeTable K V} {by_key : HashMap K ℕ S} {by_stamp : StampIndex} (r : IsStored C E t by_key by_stamp) where
   -- a node is an entry
   pub entry_at : (p : ℕ) (e : Entry K V) → get t.nodes p ≡ Some e → ContainsEntry (entries_of t) e.stamp e.key e.charge
   entry_at p e h = node_entry 0 0 0 t (keys t.nodes) p e r.represents h

@@ -15,11 +15,11 @@ use Rattle.concurrent_lru.specs.Representation.{as_idle, held_entry, idle_in}
 use Rattle.concurrent_lru.specs.Entries.{Entries, ContainsHeldAt}
 use Rattle.concurrent_lru.specs.Indexes.{IsStored, entries_of}
 use Rattle.concurrent_lru.specs.TakeAll.{TakesHeld, leaves_as, leaves_at, taken_at}
-use Rattle.concurrent_lru.specs.declared.table.stamps.Stamps.{Stamps}
+use Rattle.concurrent_lru.specs.declared.table.stamp_index.StampIndex.{StampIndex}
 use Rattle.concurrent_lru.proofs.Lists.DistinctEntries.{head_none}
 use Rattle.concurrent_lru.proofs.Lists.Removals.{removed_other, removed_some}
 use Rattle.concurrent_lru.proofs.Entries.SumsOfHeld.{removed_at}
-use Rattle.concurrent_lru.proofs.Entries.NodeWrittenOrAdded.{held_in-found}
+use Rattle.concurrent_lru.proofs.Entries.NodesOfSetAndAdd.{held_in-found}
 use Rattle.concurrent_lru.proofs.Entries.NodeAtPlace.{place_at, node_is_at}
 use Rattle.concurrent_lru.proofs.Entries.EntryAtPlace.{held_place}
 
@@ -151,7 +151,7 @@ module _ {K V : Type 0} where
         absurd (omega (arith, end, low, high))
   ] refl
 
-module _ {K V S : Type 0} {C : K → K → Type 0} {E : K → K → Bool} {t : NodeTable K V} {by_key : HashMap K ℕ S} {by_stamp : Stamps} (r : IsStored C E t by_key by_stamp) where
+module _ {K V S : Type 0} {C : K → K → Type 0} {E : K → K → Bool} {t : NodeTable K V} {by_key : HashMap K ℕ S} {by_stamp : StampIndex} (r : IsStored C E t by_key by_stamp) where
   -- all held entries lie at places with a node
   pub held_between : (b : ℕ) → ((p : ℕ) → b ≤ p → get t.nodes p ≡ None) → AreHeldBetween (entries_of t) 0 b
   held_between b past = λ s h at.

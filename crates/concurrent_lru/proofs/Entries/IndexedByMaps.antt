@@ -7,10 +7,10 @@ use Rattle.std.specs.FinMap.{FinMap, get, insert, remove, empty, get-empty}
 use Rattle.std.proofs.lemmas.Bool.{eqb-true, eq-eqb, true≢false}
 use Rattle.std.proofs.lemmas.Option.{none-some, same_Some}
 use Rattle.concurrent_lru.specs.NodeTable.{Entry}
-use Rattle.concurrent_lru.specs.Stamps.{keeps_map, mapped_place}
-use Rattle.concurrent_lru.specs.declared.table.stamps.Stamps.{Stamps}
+use Rattle.concurrent_lru.specs.StampIndex.{keeps_map, mapped_place}
+use Rattle.concurrent_lru.specs.declared.table.stamp_index.StampIndex.{StampIndex}
 use Rattle.concurrent_lru.specs.Indexes.{IsIndexed}
-use Rattle.concurrent_lru.proofs.Entries.NodeWrittenOrAdded.{inserted_at, inserted_other}
+use Rattle.concurrent_lru.proofs.Entries.NodesOfSetAndAdd.{inserted_at, inserted_other}
 use Rattle.concurrent_lru.proofs.Lists.Removals.{removed_other, removed_some}
 
 set_cases : {A : Type 0} (t : Bool) (w o : Option A) (x : A) → cond t w o ≡ Some x → ((t ≡ true) × (w ≡ Some x)) ⊎ ((t ≡ false) × (o ≡ Some x))
@@ -18,7 +18,7 @@ set_cases true w o x h = inl (refl, h)
 set_cases false w o x h = inr (refl, h)
 
 module _ {K V : Type 0} {E : K → K → Bool} where
-  pub indexed_empty : (f : K → Option ℕ) (g : Stamps) (m : FinMap nat_cmp (Entry K V)) → m ≡ empty → ((k : K) → f k ≡ None) → ((s : ℕ) → mapped_place g s ≡ None) → IsIndexed E m f g
+  pub indexed_empty : (f : K → Option ℕ) (g : StampIndex) (m : FinMap nat_cmp (Entry K V)) → m ≡ empty → ((k : K) → f k ≡ None) → ((s : ℕ) → mapped_place g s ≡ None) → IsIndexed E m f g
   indexed_empty f g m none a b =
       let free : (p : ℕ) (e : Entry K V) → get m p ≡ Some e → ⊥ = λ p e h. none-some e (sym (get-empty nat_cmp p) ∙ sym (ap (λ n. get n p) none) ∙ h) in
       record {
@@ -30,7 +30,7 @@ module _ {K V : Type 0} {E : K → K → Bool} where
       }
 
   -- maps that answer alike, over the same nodes
-  pub indexed_same : {m n : FinMap nat_cmp (Entry K V)} {f f' : K → Option ℕ} {g g' : Stamps} → n ≡ m → ((k : K) → f' k ≡ f k) → keeps_map g' ≡ keeps_map g → ((s : ℕ) → mapped_place g' s ≡ mapped_place g s) → IsIndexed E m f g → IsIndexed E n f' g'
+  pub indexed_same : {m n : FinMap nat_cmp (Entry K V)} {f f' : K → Option ℕ} {g g' : StampIndex} → n ≡ m → ((k : K) → f' k ≡ f k) → keeps_map g' ≡ keeps_map g → ((s : ℕ) → mapped_place g' s ≡ mapped_place g s) → IsIndexed E m f g → IsIndexed E n f' g'
   indexed_same {m} {n} is a kept b t = record {
     key_found = λ p e h found. a e.key ∙ t.key_found p e (ap (λ x. get x p) (sym is) ∙ h) found;
     key_kept = λ k p h. let r = t.key_kept k p (sym (a k) ∙ h) in (r.0, ap (λ x. get x p) is ∙ r.1, r.2, r.3);
@@ -39,7 +39,7 @@ module _ {K V : Type 0} {E : K → K → Bool} where
     stamp_kept = λ map s p h. let r = t.stamp_kept (sym kept ∙ map) s p (sym (b s) ∙ h) in (r.0, ap (λ x. get x p) is ∙ r.1, r.2);
   }
 
-  module _ (eq : IsEquivalence E) {m n : FinMap nat_cmp (Entry K V)} {f f' : K → Option ℕ} {g g' : Stamps} (alike : (k l : K) → E k l ≡ true → f k ≡ f l) (t : IsIndexed E m f g) where
+  module _ (eq : IsEquivalence E) {m n : FinMap nat_cmp (Entry K V)} {f f' : K → Option ℕ} {g g' : StampIndex} (alike : (k l : K) → E k l ≡ true → f k ≡ f l) (t : IsIndexed E m f g) where
     -- a node more, whose key and stamp no other has; the map's key is any that equals its key
     pub indexed_added : (p : ℕ) (e : Entry K V) (k : K) → n ≡ insert m p e → get m p ≡ None → E k e.key ≡ true → e.detached ≡ false → f k ≡ None → ((q : ℕ) (x : Entry K V) → get m q ≡ Some x → x.stamp ≢ e.stamp)
         → ((q : K) → f' q ≡ cond (E k q) (Some p) (f q)) → keeps_map g' ≡ keeps_map g → (keeps_map g ≡ true → (s : ℕ) → mapped_place g' s ≡ cond (eqb e.stamp s) (Some p) (mapped_place g s)) → IsIndexed E n f' g'
@@ -130,7 +130,7 @@ module _ {K V : Type 0} {E : K → K → Bool} where
           ];
         }
 
-  module _ {m n : FinMap nat_cmp (Entry K V)} {f f' : K → Option ℕ} {g : Stamps} (alike : (k l : K) → E k l ≡ true → f k ≡ f l) (t : IsIndexed E m f g) where
+  module _ {m n : FinMap nat_cmp (Entry K V)} {f f' : K → Option ℕ} {g : StampIndex} (alike : (k l : K) → E k l ≡ true → f k ≡ f l) (t : IsIndexed E m f g) where
     -- a node is detached, and its key is forgotten
     pub indexed_detached : (p : ℕ) (e d : Entry K V) → n ≡ insert m p d → get m p ≡ Some e → d.key ≡ e.key → d.stamp ≡ e.stamp → e.detached ≡ false → d.detached ≡ true → (d.pins ≡ 0 → ⊥)
         → ((q : K) → f' q ≡ cond (E e.key q) None (f q)) → IsIndexed E n f' g
@@ -182,7 +182,7 @@ module _ {K V : Type 0} {E : K → K → Bool} where
 
   -- a node is written, keeps its key and its stamp, and is detached where it was; a node without
   -- pins is not
-  pub indexed_written : {m n : FinMap nat_cmp (Entry K V)} {f : K → Option ℕ} {g : Stamps} (p : ℕ) (e d : Entry K V) → IsIndexed E m f g → n ≡ insert m p d → get m p ≡ Some e → d.key ≡ e.key → d.stamp ≡ e.stamp → d.detached ≡ e.detached → (d.pins ≡ 0 → e.detached ≡ false) → IsIndexed E n f g
+  pub indexed_written : {m n : FinMap nat_cmp (Entry K V)} {f : K → Option ℕ} {g : StampIndex} (p : ℕ) (e d : Entry K V) → IsIndexed E m f g → n ≡ insert m p d → get m p ≡ Some e → d.key ≡ e.key → d.stamp ≡ e.stamp → d.detached ≡ e.detached → (d.pins ≡ 0 → e.detached ≡ false) → IsIndexed E n f g
   indexed_written {m} {n} {f} {g} p e d t is at same_key same_stamp same_found idle =
       let here : get n p ≡ Some d = ap (λ x. get x p) is ∙ inserted_at m p d in
       let other : (q : ℕ) → eqb q p ≡ false → get n q ≡ get m q = λ q ne. ap (λ x. get x q) is ∙ inserted_other m p q d ne in

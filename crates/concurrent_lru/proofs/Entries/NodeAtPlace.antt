@@ -11,9 +11,9 @@ use Rattle.concurrent_lru.specs.Cache.{Idle, Held, ready, idle_at, held_at}
 use Rattle.concurrent_lru.specs.NodeTable.{Entry, NodeTable, value_in, value_of}
 use Rattle.concurrent_lru.specs.Representation.{as_idle, held_entry, held_in, idle_in, idle_at_place}
 use Rattle.concurrent_lru.specs.Entries.{ContainsPlace, ContainsIdleAt, ContainsHeldAt, ContainsFoundAt, GetsAt, IsReadyAt, ContainsNoStamp, cache_of, pins_at, value_at}
-use Rattle.concurrent_lru.specs.declared.table.stamps.Stamps.{Stamps}
+use Rattle.concurrent_lru.specs.declared.table.stamp_index.StampIndex.{StampIndex}
 use Rattle.concurrent_lru.specs.Indexes.{IsStored, entries_of}
-use Rattle.concurrent_lru.proofs.Entries.NodeWrittenOrAdded.{held_in-get, held_in-found}
+use Rattle.concurrent_lru.proofs.Entries.NodesOfSetAndAdd.{held_in-get, held_in-found}
 use Rattle.concurrent_lru.proofs.Lists.Members.{IsIn, in_self}
 use Rattle.concurrent_lru.proofs.Steps.BeginOfAbsent.{found_idle, idle_in-get, as_idle-ready}
 use Rattle.std.specs.List.{AllByRecursion, filter_map, cons_option}
@@ -44,7 +44,7 @@ pub some_of : {A : Type 0} (o : Rattle.std.proofs.Common.Option A) → IsSome o 
 some_of None h = absurd (true≢false (sym h))
 some_of (Some x) h = (x, refl)
 
-module _ {K V S : Type 0} {C : K → K → Type 0} {E : K → K → Bool} {t : NodeTable K V} {by_key : HashMap K ℕ S} {by_stamp : Stamps} (r : IsStored C E t by_key by_stamp) where
+module _ {K V S : Type 0} {C : K → K → Type 0} {E : K → K → Bool} {t : NodeTable K V} {by_key : HashMap K ℕ S} {by_stamp : StampIndex} (r : IsStored C E t by_key by_stamp) where
   node_of : (p s : ℕ) → get (entries_of t).stamps p ≡ Some s → IsNodeAt t p s
   node_of p s h = elim (get t.nodes p) as (λ o. get t.nodes p ≡ o → option_map (λ x. x.stamp) o ≡ Some s → IsNodeAt t p s) [
     | None ↦ λ at k. absurd (none-some s k)

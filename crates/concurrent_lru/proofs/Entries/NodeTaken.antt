@@ -12,7 +12,7 @@ use Rattle.concurrent_lru.specs.Steps.{without}
 use Rattle.concurrent_lru.specs.NodeTable.{Entry, NodeTable}
 use Rattle.concurrent_lru.specs.Representation.{CutsPlace, IsRepresentation, idle_in, held_in, idle_at_place, held_at_place, held_entry, as_idle, as_held}
 use Rattle.concurrent_lru.proofs.Steps.BeginOfAbsent.{as_idle-ready, lacks}
-use Rattle.concurrent_lru.proofs.Entries.NodeWrittenOrAdded.{around, parts_lack, as_held-some, as_held-none}
+use Rattle.concurrent_lru.proofs.Entries.NodesOfSetAndAdd.{around, parts_lack, as_held-some, as_held-none}
 use Rattle.concurrent_lru.proofs.Lists.DistinctEntries.{from_entries-cut}
 use Rattle.concurrent_lru.proofs.Lists.Removals.{removed_other, removed_some}
 use Rattle.concurrent_lru.proofs.Lists.DistinctNumbers.{distinct_parts, distinct_cut, filter_mid, filter_absent, list_any-filter_self, list_any-from_filter, IsDistinct-filter}

@@ -19,7 +19,7 @@ use Rattle.concurrent_lru.specs.Representation.{IsRepresentation, held_in, held_
 use Rattle.std.specs.Option.{option_map}
 use Rattle.concurrent_lru.specs.Indexes.{stamps_of}
 use Rattle.concurrent_lru.proofs.Entries.SumsOfHeld.{insert_again}
-use Rattle.concurrent_lru.proofs.Entries.NodeWrittenOrAdded.{held_in-get, held_in-found}
+use Rattle.concurrent_lru.proofs.Entries.NodesOfSetAndAdd.{held_in-get, held_in-found}
 use Rattle.concurrent_lru.proofs.Lists.Members.{IsIn}
 
 first : (a b : Bool) → T (a && b) → T a

@@ -11,9 +11,9 @@ use Rattle.concurrent_lru.specs.NodeTable.{Entry, entry_with_pins}
 use Rattle.concurrent_lru.specs.Representation.{held_entry}
 use Rattle.concurrent_lru.specs.Entries.{Entries, cache_with, cache_of, charges_of, GetsAt, RevivesAt, pins_at, held_with_pins}
 use Rattle.concurrent_lru.specs.Reads.{RenewsAt, Finds, GetsAndReleases}
-use Rattle.concurrent_lru.proofs.Entries.NodeWrittenOrAdded.{inserted_at}
+use Rattle.concurrent_lru.proofs.Entries.NodesOfSetAndAdd.{inserted_at}
 use Rattle.concurrent_lru.proofs.Entries.EntryAtPlace.{stamp_is, idle_here}
-use Rattle.concurrent_lru.proofs.Entries.EntryRenewed.{insert_back}
+use Rattle.concurrent_lru.proofs.Entries.Renew.{insert_back}
 use Rattle.concurrent_lru.proofs.Entries.StepsOfEntries.{hits, joins_as_it_is, leaves_as_it_is, rests}
 use Rattle.concurrent_lru.proofs.Entries.SumsOfCharges.{sum_revived, sum_rested}
 use Rattle.concurrent_lru.proofs.Steps.StaysLawful.{hits_lawful}

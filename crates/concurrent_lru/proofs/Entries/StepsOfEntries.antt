@@ -13,7 +13,7 @@ use Rattle.concurrent_lru.specs.NodeTable.{Entry}
 use Rattle.concurrent_lru.specs.Representation.{held_entry, as_idle}
 use Rattle.concurrent_lru.specs.Entries.{Entries, cache_with, cache_of, charges_of, new_held, GetsAt, ContainsHeldAt, Rewrites, RevivesAt, RestsAt, pins_at, held_with_pins}
 use Rattle.concurrent_lru.proofs.Steps.BeginOfAbsent.{as_idle-ready}
-use Rattle.concurrent_lru.proofs.Entries.NodeWrittenOrAdded.{inserted_at}
+use Rattle.concurrent_lru.proofs.Entries.NodesOfSetAndAdd.{inserted_at}
 use Rattle.concurrent_lru.proofs.Lists.DistinctEntries.{same}
 use Rattle.concurrent_lru.proofs.Entries.EntryAtPlace.{seen_ready, stamp_is, idle_here}
 

@@ -18,7 +18,7 @@ use mathlib.Core.Bool.{true, false}
 use contract.Monad.{fact, fact_i}
 use Rattle.std.specs.Prelude.{Option, None, Some}
 use Rattle.concurrent_lru.specs.Cells.{same_ptr, IsApartFrom, AreApart}
-use Rattle.concurrent_lru.proofs.Memory.CellKeys.{equal_ptrs}
+use Rattle.concurrent_lru.proofs.Memory.CellSlots.{equal_ptrs}
 use Rattle.concurrent_lru.proofs.Memory.Walks.{One, Owns, All, known}
 use Rattle.std_alloc.proofs.BoxSteps.Form.{Bx, X, R, τ, own, Good}
 use Rattle.std_alloc.proofs.BoxSteps.Steps.{el_out, el_room}

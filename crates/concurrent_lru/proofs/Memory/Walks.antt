@@ -91,7 +91,7 @@ module _ (P Q : RattleType) {M : Type 1} {𝓤 : Ura M} {𝓛 : Logic 𝓤} {K :
       fpack t (Valss (P ∷ Q ∷ [])) (within (record { name = []; args = []; types = []; fields = P ∷ Q ∷ [] }) (x, (y, tt)) (two v w ∷ [])) (v ∷ [], (w ∷ [], tt)) $ s)
 
 module _ (E : Bx) {M : Type 1} {𝓤 : Ura M} (𝓛 : Logic 𝓤) where
-  -- the value under a key is taken out of the others
+  -- the value in a slot is taken out of the others
   pub cell_out : (cs : List (Option (One E))) (k : ℕ) (c : One E) → cell_at cs k ≡ Some c → ent 𝓤 (sem 𝓛 (All E cs)) (sep 𝓤 (sem 𝓛 (Owns E (Some c))) (sem 𝓛 (All E (put_at k None cs))))
   cell_out [] k c e = cc
   cell_out (x ∷ cs) zero c e =
@@ -100,7 +100,7 @@ module _ (E : Bx) {M : Type 1} {𝓤 : Ura M} (𝓛 : Logic 𝓤) where
   cell_out (x ∷ cs) (suc k) c e = qed 𝓛 (‵ (All E (x ∷ cs)) ∷ []) ∵ fsplit ! $ move ! (1 ∷ []) $
       use1 𝓛 (‵ (Owns E (Some c)) ⊛ ‵ (All E (put_at k None cs))) (cell_out cs k c e) $ split ! $ frame ! $ move ! (1 ∷ 0 ∷ []) $ fjoin ! $ done !
 
-  -- and one is put under a key that has none
+  -- and one is put in a slot that has none
   pub cell_in : (cs : List (Option (One E))) (k : ℕ) (c : One E) → cell_at cs k ≡ None → ent 𝓤 (sep 𝓤 (sem 𝓛 (Owns E (Some c))) (sem 𝓛 (All E cs))) (sem 𝓛 (All E (put_at k (Some c) cs)))
   cell_in [] zero c e = qed 𝓛 (‵ (Owns E (Some c)) ∷ ‵ (All E []) ∷ []) ∵ fjoin ! $ done !
   cell_in [] (suc k) c e = qed 𝓛 (‵ (Owns E (Some c)) ∷ ‵ (All E []) ∷ []) ∵ use2 𝓛 (‵ (All E (put_at k (Some c) []))) (cell_in [] k c refl) $ nothing ! $ fjoin ! $ done !

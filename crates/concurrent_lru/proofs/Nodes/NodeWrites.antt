@@ -1,17 +1,17 @@
 -- A node written through its pointer, as the cells that it leaves.
 use Rattle.std.proofs.Common.{◌≡◌, ℕ, Option, Some, None, IsSome, refl, sym, ap, ◌∙◌, subst}
 use denote.RawPtr.{Ptr}
-use Rattle.concurrent_lru.specs.Cells.{cell, cell_at, put_at, key_at, write_to, AtFirst, AtKey, OfKey}
+use Rattle.concurrent_lru.specs.Cells.{cell, cell_at, put_at, slot_at, write_to, AtFirst, AtSlot, OfSlot}
 use Rattle.concurrent_lru.specs.NodeTable.{Entry, entry_of}
 use Rattle.concurrent_lru.specs.Relinks.{NodeCell, NodeCells, before_link, after_link, before_in, after_in, before_at, after_at, IsRelinked, Relinks, Unlinks, IsRevalued, Revalues}
 use Rattle.concurrent_lru.specs.declared.list.Node.{Node}
-use Rattle.concurrent_lru.proofs.Memory.CellKeys.{key_of_held, value_at_key, put_same, put_other, write_is_put}
+use Rattle.concurrent_lru.proofs.Memory.CellSlots.{slot_of_held, value_at_slot, put_same, put_other, write_is_put}
 
 -- the node at p, which is now, is written to new
 module _ {K V : Type 0} (cs : NodeCells K V) (p : Ptr) (now new : Node K V) (value : AtFirst cs p (λ _ c. now ≡ c.value)) where
-  module _ (k : ℕ) (at : key_at cs p ≡ Some k) where
+  module _ (k : ℕ) (at : slot_at cs p ≡ Some k) where
     there : (c : NodeCell K V) × (cell_at cs k ≡ Some c) × (c.at ≡ p)
-    there = value_at_key cs p k at
+    there = value_at_slot cs p k at
 
     same : now ≡ there.0.value
     same = value k there.0 at there.1
@@ -49,21 +49,21 @@ module _ {K V : Type 0} (cs : NodeCells K V) (p : Ptr) (now new : Node K V) (val
     was_after = ap after_link same ∙ sym (ap after_in there.1)
 
   -- both links cut, and where they led
-  pub unlinked : IsRelinked now new None None → OfKey cs p (λ k. Unlinks cs (write_to p new cs) k (before_link now) (after_link now))
+  pub unlinked : IsRelinked now new None None → OfSlot cs p (λ k. Unlinks cs (write_to p new cs) k (before_link now) (after_link now))
   unlinked r k at = record { cut = relinked_at k at None None r; was_before = was_before k at; was_after = was_after k at }
 
-  pub revalued : (f : Entry K V → Entry K V) → IsRevalued now new (f (entry_of now)) → OfKey cs p (λ k. Revalues cs (write_to p new cs) k f)
+  pub revalued : (f : Entry K V → Entry K V) → IsRevalued now new (f (entry_of now)) → OfSlot cs p (λ k. Revalues cs (write_to p new cs) k f)
   revalued f r k at = revalued_at k at f r
 
-  module _ (held : IsSome (key_at cs p)) where
-    at : (k : ℕ) × (key_at cs p ≡ Some k)
-    at = key_of_held cs p held
+  module _ (held : IsSome (slot_at cs p)) where
+    at : (k : ℕ) × (slot_at cs p ≡ Some k)
+    at = slot_of_held cs p held
 
-    pub relinked : (b a : Option Ptr) → IsRelinked now new b a → AtKey cs p (λ k. Relinks cs (write_to p new cs) k b a)
+    pub relinked : (b a : Option Ptr) → IsRelinked now new b a → AtSlot cs p (λ k. Relinks cs (write_to p new cs) k b a)
     relinked b a r = (at.0, at.1, relinked_at at.0 at.1 b a r)
 
-    pub relinked_after : (a : Option Ptr) → IsRelinked now new (before_link now) a → AtKey cs p (λ k. Relinks cs (write_to p new cs) k (before_at cs k) a)
+    pub relinked_after : (a : Option Ptr) → IsRelinked now new (before_link now) a → AtSlot cs p (λ k. Relinks cs (write_to p new cs) k (before_at cs k) a)
     relinked_after a r = (at.0, at.1, subst (λ b. Relinks cs (write_to p new cs) at.0 b a) (was_before at.0 at.1) (relinked_at at.0 at.1 (before_link now) a r))
 
-    pub relinked_before : (b : Option Ptr) → IsRelinked now new b (after_link now) → AtKey cs p (λ k. Relinks cs (write_to p new cs) k b (after_at cs k))
+    pub relinked_before : (b : Option Ptr) → IsRelinked now new b (after_link now) → AtSlot cs p (λ k. Relinks cs (write_to p new cs) k b (after_at cs k))
     relinked_before b r = (at.0, at.1, subst (λ a. Relinks cs (write_to p new cs) at.0 b a) (was_after at.0 at.1) (relinked_at at.0 at.1 b (after_link now) r))

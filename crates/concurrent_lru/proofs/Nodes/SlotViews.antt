@@ -8,12 +8,12 @@ use Rattle.std.specs.FinMap as fin
 use denote.RawPtr.{Ptr}
 use Rattle.concurrent_lru.specs.declared.list.links.Order.{Order}
 use Rattle.concurrent_lru.specs.declared.list.slots.Slots.{Slots}
-use Rattle.concurrent_lru.specs.Cells.{cell_at, ptr_in, key_at}
+use Rattle.concurrent_lru.specs.Cells.{cell_at, ptr_in, slot_at}
 use Rattle.concurrent_lru.specs.SlotPointers.{IsTied, ptr_of, place_in, cells_of, HasNode, LeadsTo, KeepsOthers}
 use Rattle.concurrent_lru.specs.Order.{Link, link, first_or, last_or, Absent, Linked, IsOrder}
 use Rattle.concurrent_lru.specs.Slots.{map_of_slots}
 use Rattle.concurrent_lru.specs.NodeTable.{NodeTable, Entry, entry_of}
-use Rattle.concurrent_lru.specs.Relinks.{NodeCell, NodeCells, key_in, before_in, after_in, before_at, after_at}
+use Rattle.concurrent_lru.specs.Relinks.{NodeCell, NodeCells, slot_in, before_in, after_in, before_at, after_at}
 use Rattle.concurrent_lru.specs.SlotTable.{link_of, link_at, entry_in, entry_at, idle_places, idle_of, nodes_of, node_table_of, IsGood, AreGood, IsEnd, IsWellLinked, Lists}
 use Rattle.concurrent_lru.specs.SlotWrites.{OnlyWrites, Rewrites, RewritesLink}
 use Rattle.concurrent_lru.proofs.Lists.SlotsAsMaps.{map_of_slots_at, made_insert, made_remove}
@@ -22,21 +22,21 @@ use Rattle.concurrent_lru.specs.NodeTable.{update_at}
 use Rattle.std.specs.List.{IsDistinct}
 use Rattle.std.specs.Option.{option_map_or}
 use Rattle.slab.specs.Slab.{get, slab_len}
-use Rattle.concurrent_lru.proofs.Memory.CellKeys.{key_of_held, value_at_key, keys_kept}
+use Rattle.concurrent_lru.proofs.Memory.CellSlots.{slot_of_held, value_at_slot, slots_kept}
 use Rattle.concurrent_lru.proofs.Order.Appending.{some_cell, distinct, read, link_told_at, links_same, get_or-map_option, table_looked}
 use Rattle.concurrent_lru.proofs.Order.TakingOut.{present_in}
 
--- the place is not the key
-abbrev pub NotKey : ℕ → Option ℕ → Type 0
-NotKey key w = (z : ℕ) → w ≡ Some z → z ≢ key
+-- the place is not the slot
+abbrev pub NotSlot : ℕ → Option ℕ → Type 0
+NotSlot slot w = (z : ℕ) → w ≡ Some z → z ≢ slot
 
-first_not : (key : ℕ) (ks : List ℕ) (e : Option ℕ) → Absent key ks → NotKey key e → NotKey key (first_or ks e)
-first_not key [] e a h = h
-first_not key (k ∷ ks) e a h = λ z is eq. let same : k ≡ z = cc in a.0 (sym eq ∙ sym same)
+first_not : (slot : ℕ) (ks : List ℕ) (e : Option ℕ) → Absent slot ks → NotSlot slot e → NotSlot slot (first_or ks e)
+first_not slot [] e a h = h
+first_not slot (k ∷ ks) e a h = λ z is eq. let same : k ≡ z = cc in a.0 (sym eq ∙ sym same)
 
-last_not : (key : ℕ) (b : Option ℕ) (ks : List ℕ) → Absent key ks → NotKey key b → NotKey key (last_or b ks)
-last_not key b [] a h = h
-last_not key b (k ∷ ks) a h = last_not key (Some k) ks a.1 (λ z is eq. let same : k ≡ z = cc in a.0 (sym eq ∙ sym same))
+last_not : (slot : ℕ) (b : Option ℕ) (ks : List ℕ) → Absent slot ks → NotSlot slot b → NotSlot slot (last_or b ks)
+last_not slot b [] a h = h
+last_not slot b (k ∷ ks) a h = last_not slot (Some k) ks a.1 (λ z is eq. let same : k ≡ z = cc in a.0 (sym eq ∙ sym same))
 
 module _ {K V : Type 0} where
   node_is : (o : Order K V) (w : ℕ) (k : ℕ) → fin.get (node_table_of o w).nodes k ≡ entry_at o k
@@ -56,30 +56,30 @@ module _ {K V : Type 0} where
     pub entry_there : (k p : ℕ) (n : NodeCell K V) → k ≡ p → cell_at (cells_of o.slots) k ≡ Some n → fin.get v.nodes p ≡ Some (entry_of n.value)
     entry_there k p n f h = node_had k p f ∙ ap entry_in h
 
-    -- whether the key is in the order
+    -- whether the slot is in the order
     pub idle_there : (b : Bool) (k p : ℕ) → k ≡ p → list_any (eqb p) v.idle ≡ b → list_any (eqb k) (idle_of o) ≡ b
     idle_there b k p f h = subst (λ (q : List ℕ × ℕ). list_any (eqb q.1) q.0 ≡ b) (λ i. ((sym e i).idle, sym f i)) h
 
-  -- a change under a key that is not idle
-  module _ (cs ds : NodeCells K V) (key : ℕ) (others : (q : ℕ) → q ≢ key → cell_at ds q ≡ cell_at cs q) (apart : (q : ℕ) (p : Ptr) → ptr_in (cell_at ds q) ≡ Some p → key_at ds p ≡ Some q) where
+  -- a change in a slot that is not idle
+  module _ (cs ds : NodeCells K V) (slot : ℕ) (others : (q : ℕ) → q ≢ slot → cell_at ds q ≡ cell_at cs q) (apart : (q : ℕ) (p : Ptr) → ptr_in (cell_at ds q) ≡ Some p → slot_at ds p ≡ Some q) where
     -- a link that leads elsewhere leads where it led
-    link_else : (w : Option Ptr) → IsGood cs w → NotKey key (key_in cs w) → key_in ds w ≡ key_in cs w
+    link_else : (w : Option Ptr) → IsGood cs w → NotSlot slot (slot_in cs w) → slot_in ds w ≡ slot_in cs w
     link_else None g h = refl
     link_else (Some p) g h =
-        let held = key_of_held cs p g in let there = value_at_key cs p held.0 held.1 in
+        let held = slot_of_held cs p g in let there = value_at_slot cs p held.0 held.1 in
         apart held.0 p (ap ptr_in (others held.0 (h held.0 held.1) ∙ there.1) ∙ ap Some there.2) ∙ sym held.1
 
-    good_else : (w : Option Ptr) → IsGood cs w → NotKey key (key_in cs w) → IsGood ds w
+    good_else : (w : Option Ptr) → IsGood cs w → NotSlot slot (slot_in cs w) → IsGood ds w
     good_else None g h = tt
     good_else (Some p) g h = subst IsSome (sym (link_else (Some p) g h)) g
 
-    all_else : (b : Option ℕ) (ks : List ℕ) (e : Option ℕ) → Linked (link_at cs) b ks e → Absent key ks → NotKey key b → NotKey key e → AreGood cs ks → AreGood ds ks × Same (link_at cs) (link_at ds) ks
+    all_else : (b : Option ℕ) (ks : List ℕ) (e : Option ℕ) → Linked (link_at cs) b ks e → Absent slot ks → NotSlot slot b → NotSlot slot e → AreGood cs ks → AreGood ds ks × Same (link_at cs) (link_at ds) ks
     all_else b [] e l a nb ne g = (tt, tt)
     all_else b (k ∷ ks) e l a nb ne g =
-        let nk : k ≢ key = (λ z. a.0 (sym z)) in
+        let nk : k ≢ slot = (λ z. a.0 (sym z)) in
         let tells = link_told_at cs k (link b (first_or ks e)) l.0 in
-        let left : NotKey key (key_in cs (before_at cs k)) = (λ z is. nb z (sym tells.0 ∙ is)) in
-        let right : NotKey key (key_in cs (after_at cs k)) = (λ z is. first_not key ks e a.1 ne z (sym tells.1 ∙ is)) in
+        let left : NotSlot slot (slot_in cs (before_at cs k)) = (λ z is. nb z (sym tells.0 ∙ is)) in
+        let right : NotSlot slot (slot_in cs (after_at cs k)) = (λ z is. first_not slot ks e a.1 ne z (sym tells.1 ∙ is)) in
         let on = all_else (Some k) ks e l.1 a.1 (λ z is eq. let same : k ≡ z = cc in nk (same ∙ eq)) ne g.1 in (
           (
             (subst (IsGood ds) (sym (ap before_in (others k nk))) (good_else (before_at cs k) g.0.0 left), subst (IsGood ds) (sym (ap after_in (others k nk))) (good_else (after_at cs k) g.0.1 right)),
@@ -88,25 +88,25 @@ module _ {K V : Type 0} where
           (ap (link_of ds) (others k nk) ∙ links_same cs ds (cell_at cs k) (link_else (before_at cs k) g.0.0 left) (link_else (after_at cs k) g.0.1 right), on.1),
         )
 
-  pub table_else : (o : Order K V) (t : Slots K V) (key : ℕ) → IsWellLinked o → Absent key (idle_of o) → IsTied t → KeepsOthers o.slots t key → IsEnd (cell_at (cells_of t) key) → IsWellLinked (record o { slots = t }) × (idle_of (record o { slots = t }) ≡ idle_of o)
-  table_else o t key kept out tied others ends =
+  pub table_else : (o : Order K V) (t : Slots K V) (slot : ℕ) → IsWellLinked o → Absent slot (idle_of o) → IsTied t → KeepsOthers o.slots t slot → IsEnd (cell_at (cells_of t) slot) → IsWellLinked (record o { slots = t }) × (idle_of (record o { slots = t }) ≡ idle_of o)
+  table_else o t slot kept out tied others ends =
       let cs = cells_of o.slots in let ds = cells_of t in let n = o.newest in let ks = idle_of o in
       let i = kept.ordered in
-      let stay = all_else cs ds key others tied.apart None ks None i.linked out (λ z is. cc) (λ z is. cc) kept.good in
-      let last : NotKey key (key_in cs n) = (λ z is. last_not key None ks out (λ y h. cc) z (sym i.last ∙ is)) in
-      let j : IsOrder (link_at ds) o.oldest (key_in ds n) ks = record {
+      let stay = all_else cs ds slot others tied.apart None ks None i.linked out (λ z is. cc) (λ z is. cc) kept.good in
+      let last : NotSlot slot (slot_in cs n) = (λ z is. last_not slot None ks out (λ y h. cc) z (sym i.last ∙ is)) in
+      let j : IsOrder (link_at ds) o.oldest (slot_in ds n) ks = record {
         first = i.first;
-        last = link_else cs ds key others tied.apart n kept.last_good last ∙ i.last;
+        last = link_else cs ds slot others tied.apart n kept.last_good last ∙ i.last;
         linked = linked_same (link_at cs) (link_at ds) None ks None stay.1 i.linked;
         distinct = i.distinct;
       } in
-      let e = read ds o.oldest (key_in ds n) ks j in (
+      let e = read ds o.oldest (slot_in ds n) ks j in (
         record {
           tied = tied;
-          ordered = subst (IsOrder (link_at ds) o.oldest (key_in ds n)) (sym e) j;
+          ordered = subst (IsOrder (link_at ds) o.oldest (slot_in ds n)) (sym e) j;
           good = subst (AreGood ds) (sym e) stay.0;
-          last_good = good_else cs ds key others tied.apart n kept.last_good last;
-          ends = λ q. elim (cases_eq q key) [
+          last_good = good_else cs ds slot others tied.apart n kept.last_good last;
+          ends = λ q. elim (cases_eq q slot) [
             | inl is ↦ subst (λ x. IsEnd (cell_at ds x)) (sym is) ends
             | inr ne ↦ subst IsEnd (sym (others q ne)) (kept.ends q)
           ];
@@ -114,35 +114,35 @@ module _ {K V : Type 0} where
         e,
       )
 
-  vacant : (cs : NodeCells K V) (key : ℕ) (b : Option ℕ) (ks : List ℕ) (e : Option ℕ) → cell_at cs key ≡ None → Linked (link_at cs) b ks e → Absent key ks
-  vacant cs key b [] e h l = tt
-  vacant cs key b (k ∷ ks) e h l = ((λ is. none_some _ (sym (ap (link_of cs) h) ∙ ap (link_at cs) is ∙ l.0)), vacant cs key (Some k) ks e h l.1)
+  vacant : (cs : NodeCells K V) (slot : ℕ) (b : Option ℕ) (ks : List ℕ) (e : Option ℕ) → cell_at cs slot ≡ None → Linked (link_at cs) b ks e → Absent slot ks
+  vacant cs slot b [] e h l = tt
+  vacant cs slot b (k ∷ ks) e h l = ((λ is. none_some _ (sym (ap (link_of cs) h) ∙ ap (link_at cs) is ∙ l.0)), vacant cs slot (Some k) ks e h l.1)
     where
       none_some : (x : Link) → None ≡ Some x → ⊥
       none_some x e = cc
 
-  pub vacant_out : (o : Order K V) (key : ℕ) → IsWellLinked o → cell_at (cells_of o.slots) key ≡ None → Absent key (idle_of o)
-  vacant_out o key kept h = vacant (cells_of o.slots) key None (idle_of o) None h kept.ordered.linked
+  pub vacant_out : (o : Order K V) (slot : ℕ) → IsWellLinked o → cell_at (cells_of o.slots) slot ≡ None → Absent slot (idle_of o)
+  vacant_out o slot kept h = vacant (cells_of o.slots) slot None (idle_of o) None h kept.ordered.linked
 
-  pub entries_inserted : (cs ds : NodeCells K V) (key : ℕ) (x : Entry K V) → ((q : ℕ) → q ≢ key → cell_at ds q ≡ cell_at cs q) → entry_in (cell_at ds key) ≡ Some x → map_of_slots (map entry_in ds) ≡ fin.insert (map_of_slots (map entry_in cs)) key x
-  entries_inserted cs ds key x others h = made_insert (map entry_in cs) (map entry_in ds) key x (get_or-map_option entry_in refl ds key ∙ h)
+  pub entries_inserted : (cs ds : NodeCells K V) (slot : ℕ) (x : Entry K V) → ((q : ℕ) → q ≢ slot → cell_at ds q ≡ cell_at cs q) → entry_in (cell_at ds slot) ≡ Some x → map_of_slots (map entry_in ds) ≡ fin.insert (map_of_slots (map entry_in cs)) slot x
+  entries_inserted cs ds slot x others h = made_insert (map entry_in cs) (map entry_in ds) slot x (get_or-map_option entry_in refl ds slot ∙ h)
       (λ q ne. get_or-map_option entry_in refl ds q ∙ ap entry_in (others q ne) ∙ sym (get_or-map_option entry_in refl cs q))
 
-  pub entries_removed : (cs ds : NodeCells K V) (key : ℕ) → ((q : ℕ) → q ≢ key → cell_at ds q ≡ cell_at cs q) → cell_at ds key ≡ None → map_of_slots (map entry_in ds) ≡ fin.remove (map_of_slots (map entry_in cs)) key
-  entries_removed cs ds key others h = made_remove (map entry_in cs) (map entry_in ds) key (get_or-map_option entry_in refl ds key ∙ ap entry_in h)
+  pub entries_removed : (cs ds : NodeCells K V) (slot : ℕ) → ((q : ℕ) → q ≢ slot → cell_at ds q ≡ cell_at cs q) → cell_at ds slot ≡ None → map_of_slots (map entry_in ds) ≡ fin.remove (map_of_slots (map entry_in cs)) slot
+  entries_removed cs ds slot others h = made_remove (map entry_in cs) (map entry_in ds) slot (get_or-map_option entry_in refl ds slot ∙ ap entry_in h)
       (λ q ne. get_or-map_option entry_in refl ds q ∙ ap entry_in (others q ne) ∙ sym (get_or-map_option entry_in refl cs q))
 
   -- another entry in a node that keeps its links
-  module _ (o : Order K V) (t : Slots K V) (key : ℕ) (f : Entry K V → Entry K V) (pointers : t.pointers ≡ o.slots.pointers) (r : Rewrites o.slots t key f) where
+  module _ (o : Order K V) (t : Slots K V) (slot : ℕ) (f : Entry K V → Entry K V) (pointers : t.pointers ≡ o.slots.pointers) (r : Rewrites o.slots t slot f) where
     abbrev cs : NodeCells K V
     cs = cells_of o.slots
 
     abbrev ds : NodeCells K V
     ds = cells_of t
 
-    -- what is alike under the key is alike everywhere
+    -- what is alike in the slot is alike everywhere
     alike : {X : Type 0} (g : Option (NodeCell K V) → X) → g (Some r.new) ≡ g (Some r.old) → (q : ℕ) → g (cell_at ds q) ≡ g (cell_at cs q)
-    alike g e q = elim (cases_eq q key) [
+    alike g e q = elim (cases_eq q slot) [
       | inl is ↦ ap (λ j. g (cell_at ds j)) is ∙ ap g r.now ∙ e ∙ sym (ap g r.was) ∙ sym (ap (λ j. g (cell_at cs j)) is)
       | inr ne ↦ ap g (r.others q ne)
     ]
@@ -150,9 +150,9 @@ module _ {K V : Type 0} where
     pointers_all : (q : ℕ) → ptr_in (cell_at ds q) ≡ ptr_in (cell_at cs q)
     pointers_all = alike ptr_in (ap Some r.at)
 
-    pub keys_all : (w : Option Ptr) → key_in ds w ≡ key_in cs w
-    keys_all None = refl
-    keys_all (Some p) = keys_kept cs ds pointers_all p
+    pub slots_all : (w : Option Ptr) → slot_in ds w ≡ slot_in cs w
+    slots_all None = refl
+    slots_all (Some p) = slots_kept cs ds pointers_all p
 
     before_all : (q : ℕ) → before_at ds q ≡ before_at cs q
     before_all = alike before_in r.node.before
@@ -162,47 +162,47 @@ module _ {K V : Type 0} where
 
     good_all : (w : Option Ptr) → IsGood cs w → IsGood ds w
     good_all None g = tt
-    good_all (Some p) g = subst IsSome (sym (keys_all (Some p))) g
+    good_all (Some p) g = subst IsSome (sym (slots_all (Some p))) g
 
     are_all : (ks : List ℕ) → AreGood cs ks → AreGood ds ks
     are_all [] g = tt
     are_all (q ∷ qs) g = ((subst (IsGood ds) (sym (before_all q)) (good_all _ g.0.0), subst (IsGood ds) (sym (after_all q)) (good_all _ g.0.1)), are_all qs g.1)
 
     links_all : (q : ℕ) → link_at ds q ≡ link_at cs q
-    links_all q = alike (link_of ds) (λ i. Some (link (key_in ds (r.node.before i)) (key_in ds (r.node.after i)))) q ∙ links_same cs ds (cell_at cs q) (keys_all (before_at cs q)) (keys_all (after_at cs q))
+    links_all q = alike (link_of ds) (λ i. Some (link (slot_in ds (r.node.before i)) (slot_in ds (r.node.after i)))) q ∙ links_same cs ds (cell_at cs q) (slots_all (before_at cs q)) (slots_all (after_at cs q))
 
     same_all : (ks : List ℕ) → Same (link_at cs) (link_at ds) ks
     same_all [] = tt
     same_all (q ∷ qs) = (links_all q, same_all qs)
 
     module _ (kept : IsWellLinked o) where
-      order_all : IsOrder (link_at ds) o.oldest (key_in ds o.newest) (idle_of o)
+      order_all : IsOrder (link_at ds) o.oldest (slot_in ds o.newest) (idle_of o)
       order_all = let i = kept.ordered in
-          record { first = i.first; last = keys_all o.newest ∙ i.last; linked = linked_same (link_at cs) (link_at ds) None (idle_of o) None (same_all (idle_of o)) i.linked; distinct = i.distinct }
+          record { first = i.first; last = slots_all o.newest ∙ i.last; linked = linked_same (link_at cs) (link_at ds) None (idle_of o) None (same_all (idle_of o)) i.linked; distinct = i.distinct }
 
       pub idle_written : idle_of (record o { slots = t }) ≡ idle_of o
-      idle_written = read ds o.oldest (key_in ds o.newest) (idle_of o) order_all
+      idle_written = read ds o.oldest (slot_in ds o.newest) (idle_of o) order_all
 
       pub table_written : IsWellLinked (record o { slots = t })
       table_written = record {
         tied = record {
           pointers = λ q. pointers_all q ∙ kept.tied.pointers q ∙ ap (λ l. ptr_of (get l q)) (sym pointers);
-          apart = λ q p e. keys_kept cs ds pointers_all p ∙ kept.tied.apart q p (sym (pointers_all q) ∙ e);
+          apart = λ q p e. slots_kept cs ds pointers_all p ∙ kept.tied.apart q p (sym (pointers_all q) ∙ e);
           placed = λ q place e. kept.tied.placed q place (sym (alike place_in (ap Some r.node.place) q) ∙ e);
         };
-        ordered = subst (IsOrder (link_at ds) o.oldest (key_in ds o.newest)) (sym idle_written) order_all;
+        ordered = subst (IsOrder (link_at ds) o.oldest (slot_in ds o.newest)) (sym idle_written) order_all;
         good = subst (AreGood ds) (sym idle_written) (are_all (idle_of o) kept.good);
         last_good = good_all o.newest kept.last_good;
-        ends = λ q. elim (cases_eq q key) [
+        ends = λ q. elim (cases_eq q slot) [
           | inl is ↦ subst IsEnd (sym (ap (cell_at ds) is ∙ r.now)) (r.node.chain ∙ subst IsEnd (ap (cell_at cs) is ∙ r.was) (kept.ends q))
           | inr ne ↦ subst IsEnd (sym (r.others q ne)) (kept.ends q)
         ];
       }
 
-    pub nodes_written : (v : NodeTable K V) (w p : ℕ) → node_table_of o w ≡ v → key ≡ p → map_of_slots (map entry_in ds) ≡ update_at f v.nodes p
+    pub nodes_written : (v : NodeTable K V) (w p : ℕ) → node_table_of o w ≡ v → slot ≡ p → map_of_slots (map entry_in ds) ≡ update_at f v.nodes p
     nodes_written v w p e is =
-        let at : fin.get v.nodes p ≡ Some (entry_of r.old.value) = node_had o w v e key p is ∙ ap entry_in r.was in
-        entries_inserted cs ds key (f (entry_of r.old.value)) r.others (ap entry_in r.now ∙ ap Some r.node.entry) ∙ (λ n. fin.insert (e n).nodes (is n) (f (entry_of r.old.value))) ∙ ap (λ x. option_map_or (λ d. fin.insert v.nodes p (f d)) x v.nodes) (sym at)
+        let at : fin.get v.nodes p ≡ Some (entry_of r.old.value) = node_had o w v e slot p is ∙ ap entry_in r.was in
+        entries_inserted cs ds slot (f (entry_of r.old.value)) r.others (ap entry_in r.now ∙ ap Some r.node.entry) ∙ (λ n. fin.insert (e n).nodes (is n) (f (entry_of r.old.value))) ∙ ap (λ x. option_map_or (λ d. fin.insert v.nodes p (f d)) x v.nodes) (sym at)
 
   -- a node was looked at, at p, and its entry written
   pub record IsWritten (old new : Order K V) (k : ℕ) (p : Ptr) (f : Entry K V → Entry K V) : Type 0 where
@@ -215,12 +215,12 @@ module _ {K V : Type 0} where
   written o u t {k} {p} f kept rest tied link slots cells =
       let now : Order K V = record o { slots = u } in
       let same : cells_of u ≡ cells_of o.slots = ap (λ x. x.memory.cells) rest in
-      let at : LeadsTo u p k = ap (λ l. key_at l p) same ∙ link in
+      let at : LeadsTo u p k = ap (λ l. slot_at l p) same ∙ link in
       let r = cells k at in let pointers : t.pointers ≡ u.pointers = ap (λ x. x.pointers) slots in
       let looked = table_looked o u rest tied kept in
       record {
         linked = table_written now t k f pointers r looked;
-        at = keys_all now t k f pointers r (Some p) ∙ at;
+        at = slots_all now t k f pointers r (Some p) ∙ at;
         idle = idle_written now t k f pointers r looked ∙ ap (λ l. idle_places l o.oldest) same;
         nodes = nodes_written now t k f pointers r (node_table_of now 0) 0 k refl refl ∙ ap (λ l. update_at f (map_of_slots (map entry_in l)) k) same;
       }

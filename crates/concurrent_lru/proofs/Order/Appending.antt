@@ -1,4 +1,4 @@
--- Nodes whose links change: what stays, and the order with a key appended.
+-- Nodes whose links change: what stays, and the order with a slot appended.
 use Rattle.std.proofs.Common.{IsSome, is_some, ◌≡◌, ◌≢◌, ℕ, zero, suc, ◌<◌, List, [], ◌∷◌, ◌++◌, map, length, get_or, true, false, Option, Some, None, refl, sym, ap, ◌∙◌, subst, arith, inl, inr, eqb, ◌||◌}
 use Rattle.std.specs.List.{AllByRecursion, IsDistinct, list_any}
 use Rattle.std.proofs.lemmas.Bool.{cases_eq, eq-eqb, ne_eqb, true≢false}
@@ -7,14 +7,14 @@ use denote.RawPtr.{Ptr}
 use Rattle.slab.specs.Slab.{get}
 use Rattle.concurrent_lru.specs.declared.list.links.Order.{Order}
 use Rattle.concurrent_lru.specs.declared.list.slots.Slots.{Slots}
-use Rattle.concurrent_lru.specs.Cells.{cell_at, ptr_in, key_at, AtKey}
+use Rattle.concurrent_lru.specs.Cells.{cell_at, ptr_in, slot_at, AtSlot}
 use Rattle.concurrent_lru.specs.SlotPointers.{IsTied, ptr_of, place_in, cells_of, LeadsTo}
 use Rattle.concurrent_lru.specs.Order.{Link, link, last_or, Absent, Distinct, Linked, IsOrder, order}
 use Rattle.concurrent_lru.specs.Slots.{map_of_slots}
-use Rattle.concurrent_lru.specs.Relinks.{NodeCell, NodeCells, Relinks, key_in, before_link, after_link, before_in, after_in, before_at, after_at}
+use Rattle.concurrent_lru.specs.Relinks.{NodeCell, NodeCells, Relinks, slot_in, before_link, after_link, before_in, after_in, before_at, after_at}
 use Rattle.concurrent_lru.specs.SlotTable.{link_of, link_at, entry_in, idle_places, nodes_of, idle_of, IsGood, IsGoodAt, AreGood, IsEnd, IsWellLinked, Omits, order_with}
 use Rattle.concurrent_lru.specs.SlotWrites.{SetsLinks, SetsAfter}
-use Rattle.concurrent_lru.proofs.Memory.CellKeys.{keys_kept}
+use Rattle.concurrent_lru.proofs.Memory.CellSlots.{slots_kept}
 use Rattle.concurrent_lru.proofs.Lists.SlotsAsMaps.{made_same}
 use Rattle.concurrent_lru.proofs.Order.Links.{order_read, order_push, first_of}
 
@@ -79,19 +79,19 @@ module _ {K V : Type 0} where
   }
 
   -- each link leads where it led
-  pub link_kept : (cs ds : NodeCells K V) → Quiet cs ds → (w : Option Ptr) → key_in ds w ≡ key_in cs w
+  pub link_kept : (cs ds : NodeCells K V) → Quiet cs ds → (w : Option Ptr) → slot_in ds w ≡ slot_in cs w
   link_kept cs ds u None = refl
-  link_kept cs ds u (Some p) = keys_kept cs ds u.pointers p
+  link_kept cs ds u (Some p) = slots_kept cs ds u.pointers p
 
   pub tied_kept : (s t : Slots K V) → t.pointers ≡ s.pointers → Quiet s.memory.cells t.memory.cells → IsTied s → IsTied t
   tied_kept s t same u tied = record {
     pointers = λ q. u.pointers q ∙ tied.pointers q ∙ ap (λ l. ptr_of (get l q)) (sym same);
-    apart = λ q p e. keys_kept s.memory.cells t.memory.cells u.pointers p ∙ tied.apart q p (sym (u.pointers q) ∙ e);
+    apart = λ q p e. slots_kept s.memory.cells t.memory.cells u.pointers p ∙ tied.apart q p (sym (u.pointers q) ∙ e);
     placed = λ q place e. tied.placed q place (sym (u.places q) ∙ e);
   }
 
-  -- the links of a cell lead to the same keys
-  pub links_same : (cs ds : NodeCells K V) (x : Option (NodeCell K V)) → key_in ds (before_in x) ≡ key_in cs (before_in x) → key_in ds (after_in x) ≡ key_in cs (after_in x) → link_of ds x ≡ link_of cs x
+  -- the links of a cell lead to the same slots
+  pub links_same : (cs ds : NodeCells K V) (x : Option (NodeCell K V)) → slot_in ds (before_in x) ≡ slot_in cs (before_in x) → slot_in ds (after_in x) ≡ slot_in cs (after_in x) → link_of ds x ≡ link_of cs x
   links_same cs ds None e f = refl
   links_same cs ds (Some c) e f = λ i. Some (link (e i) (f i))
 
@@ -116,8 +116,8 @@ module _ {K V : Type 0} where
       ];
     }
 
-    pub link_there : link_at ds k ≡ Some (link (key_in cs b) (key_in cs a))
-    link_there = ap (link_of ds) r.now ∙ (λ i. Some (link (key_in ds (r.node.before i)) (key_in ds (r.node.after i)))) ∙ (λ i. Some (link (link_kept cs ds quiet b i) (link_kept cs ds quiet a i)))
+    pub link_there : link_at ds k ≡ Some (link (slot_in cs b) (slot_in cs a))
+    link_there = ap (link_of ds) r.now ∙ (λ i. Some (link (slot_in ds (r.node.before i)) (slot_in ds (r.node.after i)))) ∙ (λ i. Some (link (link_kept cs ds quiet b i) (link_kept cs ds quiet a i)))
 
     pub link_else : (q : ℕ) → q ≢ k → link_at ds q ≡ link_at cs q
     link_else q ne = ap (link_of ds) (r.others q ne) ∙ links_same cs ds (cell_at cs q) (link_kept cs ds quiet (before_at cs q)) (link_kept cs ds quiet (after_at cs q))
@@ -136,7 +136,7 @@ module _ {K V : Type 0} where
 
   pub good_kept : (cs ds : NodeCells K V) → Quiet cs ds → (w : Option Ptr) → IsGood cs w → IsGood ds w
   good_kept cs ds u None g = tt
-  good_kept cs ds u (Some p) g = subst IsSome (sym (keys_kept cs ds u.pointers p)) g
+  good_kept cs ds u (Some p) g = subst IsSome (sym (slots_kept cs ds u.pointers p)) g
 
   pub are_good : (cs ds : NodeCells K V) (k : ℕ) → ((q : ℕ) → q ≢ k → IsGoodAt cs q → IsGoodAt ds q) → (ks : List ℕ) → Absent k ks → AreGood cs ks → AreGood ds ks
   are_good cs ds k h [] a g = tt
@@ -149,25 +149,25 @@ module _ {K V : Type 0} where
   pub entries_kept : (cs ds : NodeCells K V) → Quiet cs ds → map_of_slots (map entry_in ds) ≡ map_of_slots (map entry_in cs)
   entries_kept cs ds u = made_same (map entry_in cs) (map entry_in ds) (λ q. get_or-map_option entry_in refl ds q ∙ u.entries q ∙ sym (get_or-map_option entry_in refl cs q))
 
-  pub link_told_at : (cs : NodeCells K V) (k : ℕ) (l : Link) → link_at cs k ≡ Some l → (key_in cs (before_at cs k) ≡ l.before) × (key_in cs (after_at cs k) ≡ l.after)
+  pub link_told_at : (cs : NodeCells K V) (k : ℕ) (l : Link) → link_at cs k ≡ Some l → (slot_in cs (before_at cs k) ≡ l.before) × (slot_in cs (after_at cs k) ≡ l.after)
   link_told_at cs k l e = told (cell_at cs k) l e
     where
-      told : (x : Option (NodeCell K V)) (l : Link) → link_of cs x ≡ Some l → (key_in cs (before_in x) ≡ l.before) × (key_in cs (after_in x) ≡ l.after)
+      told : (x : Option (NodeCell K V)) (l : Link) → link_of cs x ≡ Some l → (slot_in cs (before_in x) ≡ l.before) × (slot_in cs (after_in x) ≡ l.after)
       told None l e = cc
-      told (Some c) l e = let same : link (key_in cs (before_link c.value)) (key_in cs (after_link c.value)) ≡ l = cc in (ap (λ (m : Link). m.before) same, ap (λ (m : Link). m.after) same)
+      told (Some c) l e = let same : link (slot_in cs (before_link c.value)) (slot_in cs (after_link c.value)) ≡ l = cc in (ap (λ (m : Link). m.before) same, ap (λ (m : Link). m.after) same)
 
-  -- what is known once a key was linked in as the newest
+  -- what is known once a slot was linked in as the newest
   pub record Pushed (cs ds : NodeCells K V) (o : Option ℕ) (ks : List ℕ) (own : ℕ) : Type 0 where
     pub quiet : Quiet cs ds
     pub ordered : IsOrder (link_at ds) o (Some own) (ks ++ own ∷ [])
     pub good : AreGood ds (ks ++ own ∷ [])
 
-  -- p is the pointer of the key own
+  -- p is the pointer of the slot own
   table_pushed : (o : Order K V) (t : Slots K V) (q : Option ℕ) (own : ℕ) (p : Ptr) → IsWellLinked o → t.pointers ≡ o.slots.pointers → LeadsTo o.slots p own → Pushed (cells_of o.slots) (cells_of t) q (idle_of o) own → IsWellLinked (order_with t q (Some p))
   table_pushed o t q own p kept same at u =
       let cs = cells_of o.slots in let ds = cells_of t in
       let e = read ds q (Some own) (idle_of o ++ own ∷ []) u.ordered in
-      let there : key_at ds p ≡ Some own = keys_kept cs ds u.quiet.pointers p ∙ at in
+      let there : slot_at ds p ≡ Some own = slots_kept cs ds u.quiet.pointers p ∙ at in
       record {
         tied = tied_kept o.slots t same u.quiet kept.tied;
         ordered = subst (λ w. IsOrder (link_at ds) q w (idle_places ds q)) (sym there) (subst (IsOrder (link_at ds) q (Some own)) (sym e) u.ordered);
@@ -176,8 +176,8 @@ module _ {K V : Type 0} where
         ends = λ k. u.quiet.ends k (kept.ends k);
       }
 
-  module _ (cs cs1 : NodeCells K V) (o : Option ℕ) (n : Option Ptr) (ks : List ℕ) (own : ℕ) (p : Ptr) (at : key_at cs p ≡ Some own)
-      (i : IsOrder (link_at cs) o (key_in cs n) ks) (g : AreGood cs ks) (gn : IsGood cs n) (out : Absent own ks) (r : Relinks cs cs1 own n None) where
+  module _ (cs cs1 : NodeCells K V) (o : Option ℕ) (n : Option Ptr) (ks : List ℕ) (own : ℕ) (p : Ptr) (at : slot_at cs p ≡ Some own)
+      (i : IsOrder (link_at cs) o (slot_in cs n) ks) (g : AreGood cs ks) (gn : IsGood cs n) (out : Absent own ks) (r : Relinks cs cs1 own n None) where
     q1 : Quiet cs cs1
     q1 = quiet cs cs1 own n None r
 
@@ -192,8 +192,8 @@ module _ {K V : Type 0} where
     pushed_first : n ≡ None → Pushed cs cs1 (Some own) ks own
     pushed_first e = record {
       quiet = q1;
-      ordered = subst (λ v. IsOrder (link_at cs1) v (Some own) (ks ++ own ∷ [])) (ap (first_of (link_at cs) (link_at cs1) o (key_in cs n) own) (ap (key_in cs) e))
-          (order_push (link_at cs) (link_at cs1) o (key_in cs n) own ks i out (link_there cs cs1 own n None r) (λ m b a s was. absurd (none_some m (sym (ap (key_in cs) e) ∙ s))) (λ q ne no. link_else cs cs1 own n None r q ne));
+      ordered = subst (λ v. IsOrder (link_at cs1) v (Some own) (ks ++ own ∷ [])) (ap (first_of (link_at cs) (link_at cs1) o (slot_in cs n) own) (ap (slot_in cs) e))
+          (order_push (link_at cs) (link_at cs1) o (slot_in cs n) own ks i out (link_there cs cs1 own n None r) (λ m b a s was. absurd (none_some m (sym (ap (slot_in cs) e) ∙ s))) (λ q ne no. link_else cs cs1 own n None r q ne));
       good = good_push cs1 ks own (are_good cs cs1 own stays1 ks out g) good1;
     }
       where
@@ -204,8 +204,8 @@ module _ {K V : Type 0} where
     not_last b [] m a f e = f e
     not_last b (q ∷ qs) m a f e = not_last (Some q) qs m a.1 (λ is e'. let same : q ≡ m = cc in a.0 (e' ∙ sym same)) e
 
-    -- after the newest, whose key is m
-    module _ (cs2 : NodeCells K V) (m : ℕ) (some : key_in cs n ≡ Some m) (r2 : Relinks cs1 cs2 m (before_at cs1 m) (Some p)) where
+    -- after the newest, whose slot is m
+    module _ (cs2 : NodeCells K V) (m : ℕ) (some : slot_in cs n ≡ Some m) (r2 : Relinks cs1 cs2 m (before_at cs1 m) (Some p)) where
       apart : own ≢ m
       apart = not_last None ks m out (λ e. cc) (sym i.last ∙ some)
 
@@ -236,14 +236,14 @@ module _ {K V : Type 0} where
       pushed_after : Pushed cs cs2 o ks own
       pushed_after = record {
         quiet = q2;
-        ordered = subst (λ v. IsOrder (link_at cs2) v (Some own) (ks ++ own ∷ [])) (ap (first_of (link_at cs) (link_at cs2) o (key_in cs n) own) some)
-            (order_push (link_at cs) (link_at cs2) o (key_in cs n) own ks i out
+        ordered = subst (λ v. IsOrder (link_at cs2) v (Some own) (ks ++ own ∷ [])) (ap (first_of (link_at cs) (link_at cs2) o (slot_in cs n) own) some)
+            (order_push (link_at cs) (link_at cs2) o (slot_in cs n) own ks i out
             (link_else cs1 cs2 m (before_at cs1 m) (Some p) r2 own apart ∙ link_there cs cs1 own n None r)
             (λ l b a s was.
             let at_last : Some l ≡ Some m = sym s ∙ some in let is : l ≡ m = cc in
             ap (link_at cs2) is ∙ link_there cs1 cs2 m (before_at cs1 m) (Some p) r2
             ∙ (λ j. Some (link
-            ((link_kept cs cs1 q1 (before_at cs1 m) ∙ ap (key_in cs) (before_else cs cs1 own n None r m (λ e. apart (sym e))) ∙ (link_told_at cs m (link b a) (sym (ap (link_at cs) is) ∙ was)).0) j)
+            ((link_kept cs cs1 q1 (before_at cs1 m) ∙ ap (slot_in cs) (before_else cs cs1 own n None r m (λ e. apart (sym e))) ∙ (link_told_at cs m (link b a) (sym (ap (link_at cs) is) ∙ was)).0) j)
             ((link_kept cs cs1 q1 (Some p) ∙ at) j))))
             (λ q ne no. link_else cs1 cs2 m (before_at cs1 m) (Some p) r2 q (λ e. no (some ∙ ap Some (sym e))) ∙ link_else cs cs1 own n None r q ne));
         good = good_push cs2 ks own (are_good cs cs2 own stays2 ks out g) good2;
@@ -253,7 +253,7 @@ module _ {K V : Type 0} where
   some_cell None h = cc
   some_cell (Some c) h = (c, refl)
 
-  -- a key appended to the order
+  -- a slot appended to the order
   pub record IsAppended (old new : Order K V) (k : ℕ) : Type 0 where
     pub linked : IsWellLinked new
     pub nodes : nodes_of new ≡ nodes_of old
@@ -266,19 +266,19 @@ module _ {K V : Type 0} where
   pub table_looked : (o : Order K V) (t : Slots K V) → t ≡ record o.slots { looks = t.looks } → IsTied t → IsWellLinked o → IsWellLinked (record o { slots = t })
   table_looked o t rest tied kept = subst (λ u. IsTied u → IsWellLinked (record o { slots = u })) (sym rest) (λ u. record { tied = u; ordered = kept.ordered; good = kept.good; last_good = kept.last_good; ends = kept.ends }) tied
 
-  -- what holds of the key of a pointer
-  told_at : (cs : NodeCells K V) (F : ℕ → Type 0) (p : Ptr) (k : ℕ) → key_at cs p ≡ Some k → AtKey cs p F → F k
+  -- what holds of the slot of a pointer
+  told_at : (cs : NodeCells K V) (F : ℕ → Type 0) (p : Ptr) (k : ℕ) → slot_at cs p ≡ Some k → AtSlot cs p F → F k
   told_at cs F p k at x = let both : Some x.0 ≡ Some k = sym x.1 ∙ at in let is : x.0 ≡ k = cc in subst F is x.2
 
   module _ (o : Order K V) (k : ℕ) (p : Ptr) (kept : IsWellLinked o) (at : LeadsTo o.slots p k) where
     abbrev cells : NodeCells K V
     cells = cells_of o.slots
 
-    relinked : (ds : NodeCells K V) → AtKey cells p (λ j. Relinks cells ds j o.newest None) → Relinks cells ds k o.newest None
+    relinked : (ds : NodeCells K V) → AtSlot cells p (λ j. Relinks cells ds j o.newest None) → Relinks cells ds k o.newest None
     relinked ds x = told_at cells (λ j. Relinks cells ds j o.newest None) p k at x
 
-    -- the newest is there once the key is linked to it
-    pub last_held : (ds : NodeCells K V) (last : Ptr) → AtKey cells p (λ j. Relinks cells ds j o.newest None) → o.newest ≡ Some last → IsSome (key_at ds last)
+    -- the newest is there once the slot is linked to it
+    pub last_held : (ds : NodeCells K V) (last : Ptr) → AtSlot cells p (λ j. Relinks cells ds j o.newest None) → o.newest ≡ Some last → IsSome (slot_at ds last)
     last_held ds last x is = good_kept cells ds (quiet cells ds k o.newest None (relinked ds x)) (Some last) (subst (IsGood cells) is kept.last_good)
 
     -- to an empty one, and after the newest
@@ -289,6 +289,6 @@ module _ {K V : Type 0} where
     pub appended_after : (s t : Slots K V) (last : Ptr) → t.pointers ≡ o.slots.pointers → Omits o k → SetsLinks o.slots s p o.newest None → o.newest ≡ Some last → SetsAfter s t last (Some p) → IsAppended o (order_with t o.oldest (Some p)) k
     appended_after s t last same held x is after =
         let ds = cells_of s in let r = relinked ds x in
-        let newest : key_in cells o.newest ≡ Some after.0 = ap (key_in cells) is ∙ sym (link_kept cells ds (quiet cells ds k o.newest None r) (Some last)) ∙ after.1 in
+        let newest : slot_in cells o.newest ≡ Some after.0 = ap (slot_in cells) is ∙ sym (link_kept cells ds (quiet cells ds k o.newest None r) (Some last)) ∙ after.1 in
         appended o t o.oldest k p kept same at
         (pushed_after cells ds o.oldest o.newest (idle_of o) k p at kept.ordered kept.good kept.last_good (absent_from k (idle_of o) held) r (cells_of t) after.0 newest after.2)

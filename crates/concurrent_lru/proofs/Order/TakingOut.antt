@@ -5,10 +5,10 @@ use denote.RawPtr.{Ptr}
 use Rattle.concurrent_lru.specs.declared.list.links.Order.{Order}
 use Rattle.concurrent_lru.specs.Cells.{cell_at}
 use Rattle.concurrent_lru.specs.Order.{Link, link, first_or, last_or, Absent, Distinct, IsOrder}
-use Rattle.concurrent_lru.specs.Relinks.{NodeCell, NodeCells, Relinks, Unlinks, LeftJoined, RightJoined, key_in, before_at, after_at}
+use Rattle.concurrent_lru.specs.Relinks.{NodeCell, NodeCells, Relinks, Unlinks, LeftJoined, RightJoined, slot_in, before_at, after_at}
 use Rattle.concurrent_lru.specs.SlotPointers.{cells_of, HasNode}
 use Rattle.concurrent_lru.specs.SlotTable.{link_of, link_at, nodes_of, idle_of, idle_without, IsGood, IsGoodAt, AreGood, IsWellLinked, Lists}
-use Rattle.concurrent_lru.proofs.Entries.NodeWrittenOrAdded.{around}
+use Rattle.concurrent_lru.proofs.Entries.NodesOfSetAndAdd.{around}
 use Rattle.concurrent_lru.proofs.Lists.Members.{IsIn}
 use Rattle.concurrent_lru.proofs.Order.Links.{absent_both, order_cut, oldest_without, newest_without, linked_at, apart_middle}
 use Rattle.concurrent_lru.proofs.Order.Appending.{Quiet, quiet, quiet_trans, link_there, link_else, before_there, before_else, after_there, after_else, good_kept, are_good, read, link_told_at, link_kept, quiet_same, tied_kept, entries_kept}
@@ -37,10 +37,10 @@ last_apart : (xs ys : List ℕ) (p s : ℕ) → Distinct (xs ++ ys) → last_or 
 last_apart xs [] p s d e f = cc
 last_apart xs (y ∷ ys) p s d e f = let same : y ≡ s = cc in last_in None xs p s (subst (λ q. Absent q xs) same (apart_middle xs y ys d).0) (λ z. cc) e
 
--- whether the key is the one of this link
-is_key : (w : Option ℕ) (q : ℕ) → (w ≡ Some q) ⊎ (w ≡ Some q → ⊥)
-is_key None q = inr (λ e. cc)
-is_key (Some l) q = elim (cases_eq l q) [ inl e ↦ inl (ap Some e) | inr ne ↦ inr (λ e. let same : l ≡ q = cc in ne same) ]
+-- whether the slot is the one of this link
+is_slot : (w : Option ℕ) (q : ℕ) → (w ≡ Some q) ⊎ (w ≡ Some q → ⊥)
+is_slot None q = inr (λ e. cc)
+is_slot (Some l) q = elim (cases_eq l q) [ inl e ↦ inl (ap Some e) | inr ne ↦ inr (λ e. let same : l ≡ q = cc in ne same) ]
 
 module _ {K V : Type 0} where
   module _ (cs ds : NodeCells K V) (o p : Option ℕ) where
@@ -55,19 +55,19 @@ module _ {K V : Type 0} where
       | inr ne ↦ before_else cs ds k (before_at cs k) a j.0.2 q ne
     ]
 
-    left_there : (b a : Option Ptr) → LeftJoined cs ds o p b a → (q : ℕ) → key_in cs b ≡ Some q → (after_at ds q ≡ a) × (link_at ds q ≡ Some (link (key_in cs (before_at cs q)) (key_in cs a)))
+    left_there : (b a : Option Ptr) → LeftJoined cs ds o p b a → (q : ℕ) → slot_in cs b ≡ Some q → (after_at ds q ≡ a) × (link_at ds q ≡ Some (link (slot_in cs (before_at cs q)) (slot_in cs a)))
     left_there None a j q e = cc
     left_there (Some l) a j q e = let k = j.0.0 in let both : Some k ≡ Some q = sym j.0.1 ∙ e in let is : k ≡ q = cc in
-        subst (λ z. (after_at ds z ≡ a) × (link_at ds z ≡ Some (link (key_in cs (before_at cs z)) (key_in cs a)))) is (after_there cs ds k (before_at cs k) a j.0.2, link_there cs ds k (before_at cs k) a j.0.2)
+        subst (λ z. (after_at ds z ≡ a) × (link_at ds z ≡ Some (link (slot_in cs (before_at cs z)) (slot_in cs a)))) is (after_there cs ds k (before_at cs k) a j.0.2, link_there cs ds k (before_at cs k) a j.0.2)
 
-    left_else : (b a : Option Ptr) → LeftJoined cs ds o p b a → (q : ℕ) → (key_in cs b ≡ Some q → ⊥) → (after_at ds q ≡ after_at cs q) × (link_at ds q ≡ link_at cs q)
+    left_else : (b a : Option Ptr) → LeftJoined cs ds o p b a → (q : ℕ) → (slot_in cs b ≡ Some q → ⊥) → (after_at ds q ≡ after_at cs q) × (link_at ds q ≡ link_at cs q)
     left_else None a j q ne = (ap (λ l. after_at l q) j.0, ap (λ l. link_at l q) j.0)
     left_else (Some l) a j q ne = let k = j.0.0 in
         (after_else cs ds k (before_at cs k) a j.0.2 q (λ e. ne (j.0.1 ∙ ap Some (sym e))), link_else cs ds k (before_at cs k) a j.0.2 q (λ e. ne (j.0.1 ∙ ap Some (sym e))))
 
-    left_oldest : (b a : Option Ptr) → LeftJoined cs ds o p b a → p ≡ oldest_without o (key_in cs b) (key_in cs a)
+    left_oldest : (b a : Option Ptr) → LeftJoined cs ds o p b a → p ≡ oldest_without o (slot_in cs b) (slot_in cs a)
     left_oldest None a j = j.1
-    left_oldest (Some l) a j = j.1 ∙ sym (ap (λ w. oldest_without o w (key_in cs a)) j.0.1)
+    left_oldest (Some l) a j = j.1 ∙ sym (ap (λ w. oldest_without o w (slot_in cs a)) j.0.1)
 
   module _ (cs ds : NodeCells K V) (n m : Option Ptr) where
     right_quiet : (b a : Option Ptr) → RightJoined cs ds n m b a → Quiet cs ds
@@ -81,19 +81,19 @@ module _ {K V : Type 0} where
       | inr ne ↦ after_else cs ds k b (after_at cs k) j.0.2 q ne
     ]
 
-    right_there : (b a : Option Ptr) → RightJoined cs ds n m b a → (q : ℕ) → key_in cs a ≡ Some q → (before_at ds q ≡ b) × (link_at ds q ≡ Some (link (key_in cs b) (key_in cs (after_at cs q))))
+    right_there : (b a : Option Ptr) → RightJoined cs ds n m b a → (q : ℕ) → slot_in cs a ≡ Some q → (before_at ds q ≡ b) × (link_at ds q ≡ Some (link (slot_in cs b) (slot_in cs (after_at cs q))))
     right_there b None j q e = cc
     right_there b (Some l) j q e = let k = j.0.0 in let both : Some k ≡ Some q = sym j.0.1 ∙ e in let is : k ≡ q = cc in
-        subst (λ z. (before_at ds z ≡ b) × (link_at ds z ≡ Some (link (key_in cs b) (key_in cs (after_at cs z))))) is (before_there cs ds k b (after_at cs k) j.0.2, link_there cs ds k b (after_at cs k) j.0.2)
+        subst (λ z. (before_at ds z ≡ b) × (link_at ds z ≡ Some (link (slot_in cs b) (slot_in cs (after_at cs z))))) is (before_there cs ds k b (after_at cs k) j.0.2, link_there cs ds k b (after_at cs k) j.0.2)
 
-    right_else : (b a : Option Ptr) → RightJoined cs ds n m b a → (q : ℕ) → (key_in cs a ≡ Some q → ⊥) → (before_at ds q ≡ before_at cs q) × (link_at ds q ≡ link_at cs q)
+    right_else : (b a : Option Ptr) → RightJoined cs ds n m b a → (q : ℕ) → (slot_in cs a ≡ Some q → ⊥) → (before_at ds q ≡ before_at cs q) × (link_at ds q ≡ link_at cs q)
     right_else b None j q ne = (ap (λ l. before_at l q) j.0, ap (λ l. link_at l q) j.0)
     right_else b (Some l) j q ne = let k = j.0.0 in
         (before_else cs ds k b (after_at cs k) j.0.2 q (λ e. ne (j.0.1 ∙ ap Some (sym e))), link_else cs ds k b (after_at cs k) j.0.2 q (λ e. ne (j.0.1 ∙ ap Some (sym e))))
 
-    right_newest : (b a : Option Ptr) → RightJoined cs ds n m b a → key_in ds m ≡ newest_without (key_in cs n) (key_in cs b) (key_in cs a)
-    right_newest b None j = λ i. key_in (j.0 i) (j.1 i)
-    right_newest b (Some l) j = link_kept cs ds (quiet cs ds j.0.0 b (after_at cs j.0.0) j.0.2) m ∙ ap (key_in cs) j.1 ∙ sym (ap (newest_without (key_in cs n) (key_in cs b)) j.0.1)
+    right_newest : (b a : Option Ptr) → RightJoined cs ds n m b a → slot_in ds m ≡ newest_without (slot_in cs n) (slot_in cs b) (slot_in cs a)
+    right_newest b None j = λ i. slot_in (j.0 i) (j.1 i)
+    right_newest b (Some l) j = link_kept cs ds (quiet cs ds j.0.0 b (after_at cs j.0.0) j.0.2) m ∙ ap (slot_in cs) j.1 ∙ sym (ap (newest_without (slot_in cs n) (slot_in cs b)) j.0.1)
 
     right_good : (b a : Option Ptr) → RightJoined cs ds n m b a → IsGood ds b → IsGood ds n → IsGood ds m
     right_good b None j gb gn = subst (IsGood ds) (sym j.1) gb
@@ -107,7 +107,7 @@ module _ {K V : Type 0} where
   good_at cs ks xs k ys e g = (good_parts cs xs k ys (subst (AreGood cs) e g)).0
 
   module _ (cs cs1 cs2 cs3 : NodeCells K V) (o p : Option ℕ) (n m b a : Option Ptr) (k : ℕ) (ks xs ys : List ℕ)
-      (cut : ks ≡ xs ++ k ∷ ys) (i : IsOrder (link_at cs) o (key_in cs n) ks) (g : AreGood cs ks) (gn : IsGood cs n) (r : Relinks cs cs1 k None None)
+      (cut : ks ≡ xs ++ k ∷ ys) (i : IsOrder (link_at cs) o (slot_in cs n) ks) (g : AreGood cs ks) (gn : IsGood cs n) (r : Relinks cs cs1 k None None)
       (eb : b ≡ before_at cs k) (ea : a ≡ after_at cs k) (l : LeftJoined cs1 cs2 o p b a) (j : RightJoined cs2 cs3 n m b a) where
     q1 : Quiet cs cs1
     q1 = quiet cs cs1 k None None r
@@ -119,44 +119,44 @@ module _ {K V : Type 0} where
     quiet3 = quiet_trans cs cs2 cs3 quiet2 (right_quiet cs2 cs3 n m b a j)
 
     -- the links lead where they led
-    k1 : (w : Option Ptr) → key_in cs1 w ≡ key_in cs w
+    k1 : (w : Option Ptr) → slot_in cs1 w ≡ slot_in cs w
     k1 = link_kept cs cs1 q1
 
-    k2 : (w : Option Ptr) → key_in cs2 w ≡ key_in cs w
+    k2 : (w : Option Ptr) → slot_in cs2 w ≡ slot_in cs w
     k2 = link_kept cs cs2 quiet2
 
-    ii : IsOrder (link_at cs) o (key_in cs n) (xs ++ k ∷ ys)
-    ii = subst (IsOrder (link_at cs) o (key_in cs n)) cut i
+    ii : IsOrder (link_at cs) o (slot_in cs n) (xs ++ k ∷ ys)
+    ii = subst (IsOrder (link_at cs) o (slot_in cs n)) cut i
 
     here : link_at cs k ≡ Some (link (last_or None xs) (first_or ys None))
     here = linked_at (link_at cs) None (xs ++ k ∷ ys) None k xs ys refl ii.linked
 
-    kb : key_in cs b ≡ last_or None xs
-    kb = ap (key_in cs) eb ∙ (link_told_at cs k (link (last_or None xs) (first_or ys None)) here).0
+    kb : slot_in cs b ≡ last_or None xs
+    kb = ap (slot_in cs) eb ∙ (link_told_at cs k (link (last_or None xs) (first_or ys None)) here).0
 
-    ka : key_in cs a ≡ first_or ys None
-    ka = ap (key_in cs) ea ∙ (link_told_at cs k (link (last_or None xs) (first_or ys None)) here).1
+    ka : slot_in cs a ≡ first_or ys None
+    ka = ap (slot_in cs) ea ∙ (link_told_at cs k (link (last_or None xs) (first_or ys None)) here).1
 
     d : Absent k xs × Absent k ys × Distinct (xs ++ ys)
     d = apart_middle xs k ys ii.distinct
 
-    ordered3 : IsOrder (link_at cs3) p (key_in cs3 m) (xs ++ ys)
+    ordered3 : IsOrder (link_at cs3) p (slot_in cs3 m) (xs ++ ys)
     ordered3 =
         subst (λ (w : Option ℕ × Option ℕ). IsOrder (link_at cs3) w.0 w.1 (xs ++ ys))
         (λ t. (
           (sym (left_oldest cs1 cs2 o p b a l ∙ (λ u. oldest_without o ((k1 b ∙ kb) u) ((k1 a ∙ ka) u)))) t,
           (sym (right_newest cs2 cs3 n m b a j ∙ (λ u. newest_without (k2 n u) ((k2 b ∙ kb) u) ((k2 a ∙ ka) u)))) t,
         ))
-        (order_cut (link_at cs) (link_at cs3) o (key_in cs n) k xs ys ii
+        (order_cut (link_at cs) (link_at cs3) o (slot_in cs n) k xs ys ii
         (λ q b' a' e was.
         let nk : q ≢ k = last_in None xs q k d.0 (λ z. cc) e in
         (right_else cs2 cs3 n m b a j q (λ f. last_apart xs ys q q d.2 e (sym (k2 a ∙ ka) ∙ f) refl)).1 ∙ (left_there cs1 cs2 o p b a l q (k1 b ∙ kb ∙ e)).1
-        ∙ (λ t. Some (link ((k1 (before_at cs1 q) ∙ ap (key_in cs) (before_else cs cs1 k None None r q nk) ∙ (link_told_at cs q (link b' a') was).0) t) ((k1 a ∙ ka) t))))
+        ∙ (λ t. Some (link ((k1 (before_at cs1 q) ∙ ap (slot_in cs) (before_else cs cs1 k None None r q nk) ∙ (link_told_at cs q (link b' a') was).0) t) ((k1 a ∙ ka) t))))
         (λ q b' a' e was.
         let nk : q ≢ k = first_in ys q k d.1 e in
         (right_there cs2 cs3 n m b a j q (k2 a ∙ ka ∙ e)).1
         ∙ (λ t. Some (link ((k2 b ∙ kb) t)
-        ((k2 (after_at cs2 q) ∙ ap (key_in cs) ((left_else cs1 cs2 o p b a l q (λ f. last_apart xs ys q q d.2 (sym (k1 b ∙ kb) ∙ f) e refl)).0 ∙ after_else cs cs1 k None None r q nk) ∙ (link_told_at cs q (link b' a') was).1) t))))
+        ((k2 (after_at cs2 q) ∙ ap (slot_in cs) ((left_else cs1 cs2 o p b a l q (λ f. last_apart xs ys q q d.2 (sym (k1 b ∙ kb) ∙ f) e refl)).0 ∙ after_else cs cs1 k None None r q nk) ∙ (link_told_at cs q (link b' a') was).1) t))))
         (λ q nk nl nf. (right_else cs2 cs3 n m b a j q (λ f. nf (sym (k2 a ∙ ka) ∙ f))).1 ∙ (left_else cs1 cs2 o p b a l q (λ f. nl (sym (k1 b ∙ kb) ∙ f))).1 ∙ link_else cs cs1 k None None r q nk))
 
     parts : IsGoodAt cs k × AreGood cs (xs ++ ys)
@@ -170,11 +170,11 @@ module _ {K V : Type 0} where
 
     stays : (q : ℕ) → q ≢ k → IsGoodAt cs q → IsGoodAt cs3 q
     stays q ne h = (
-      elim (is_key (key_in cs2 a) q) [
+      elim (is_slot (slot_in cs2 a) q) [
         | inl e ↦ subst (IsGood cs3) (sym (right_there cs2 cs3 n m b a j q e).0) gb
         | inr other ↦ subst (IsGood cs3) (sym ((right_else cs2 cs3 n m b a j q other).0 ∙ left_before cs1 cs2 o p b a l q ∙ before_else cs cs1 k None None r q ne)) (good_kept cs cs3 quiet3 _ h.0)
       ],
-      elim (is_key (key_in cs1 b) q) [
+      elim (is_slot (slot_in cs1 b) q) [
         | inl e ↦ subst (IsGood cs3) (sym (right_after cs2 cs3 n m b a j q ∙ (left_there cs1 cs2 o p b a l q e).0)) ga
         | inr other ↦ subst (IsGood cs3) (sym (right_after cs2 cs3 n m b a j q ∙ (left_else cs1 cs2 o p b a l q other).0 ∙ after_else cs cs1 k None None r q ne)) (good_kept cs cs3 quiet3 _ h.1)
       ],
@@ -193,19 +193,19 @@ module _ {K V : Type 0} where
       present None l e = cc
       present (Some c) l e = refl
 
-  table_removed : (o q : Order K V) (ks : List ℕ) → IsWellLinked o → q.slots.pointers ≡ o.slots.pointers → Quiet (cells_of o.slots) (cells_of q.slots) → IsOrder (link_at (cells_of q.slots)) q.oldest (key_in (cells_of q.slots) q.newest) ks
+  table_removed : (o q : Order K V) (ks : List ℕ) → IsWellLinked o → q.slots.pointers ≡ o.slots.pointers → Quiet (cells_of o.slots) (cells_of q.slots) → IsOrder (link_at (cells_of q.slots)) q.oldest (slot_in (cells_of q.slots) q.newest) ks
       → AreGood (cells_of q.slots) ks → IsGood (cells_of q.slots) q.newest → IsWellLinked q
   table_removed o q ks kept same u i g gm =
-      let ds = cells_of q.slots in let e = read ds q.oldest (key_in ds q.newest) ks i in
+      let ds = cells_of q.slots in let e = read ds q.oldest (slot_in ds q.newest) ks i in
       record {
         tied = tied_kept o.slots q.slots same u kept.tied;
-        ordered = subst (IsOrder (link_at ds) q.oldest (key_in ds q.newest)) (sym e) i;
+        ordered = subst (IsOrder (link_at ds) q.oldest (slot_in ds q.newest)) (sym e) i;
         good = subst (AreGood ds) (sym e) g;
         last_good = gm;
         ends = λ k. u.ends k (kept.ends k);
       }
 
-  -- the steps of taking a key out: its links cut, and its neighbours before and after joined
+  -- the steps of taking a slot out: its links cut, and its neighbours before and after joined
   pub record Cuts (old new : Order K V) (k : ℕ) : Type 0 where
     pub unlinked : NodeCells K V
     pub joined : NodeCells K V
@@ -223,7 +223,7 @@ module _ {K V : Type 0} where
     quiet_out : Quiet (cells_of o.slots) (cells_of q.slots)
     quiet_out = quiet3 (cells_of o.slots) c.unlinked c.joined (cells_of q.slots) o.oldest q.oldest o.newest q.newest c.before c.after k (idle_of o) parts_at.0 parts_at.1 parts_at.2 kept.ordered kept.good kept.last_good c.apart.cut c.apart.was_before c.apart.was_after c.left c.right
 
-    order_out : IsOrder (link_at (cells_of q.slots)) q.oldest (key_in (cells_of q.slots) q.newest) (parts_at.0 ++ parts_at.1)
+    order_out : IsOrder (link_at (cells_of q.slots)) q.oldest (slot_in (cells_of q.slots) q.newest) (parts_at.0 ++ parts_at.1)
     order_out = ordered3 (cells_of o.slots) c.unlinked c.joined (cells_of q.slots) o.oldest q.oldest o.newest q.newest c.before c.after k (idle_of o) parts_at.0 parts_at.1 parts_at.2 kept.ordered kept.good kept.last_good c.apart.cut c.apart.was_before c.apart.was_after c.left c.right
 
     pub linked_out : IsWellLinked q
@@ -237,9 +237,9 @@ module _ {K V : Type 0} where
     pub idle_out : idle_of q ≡ idle_without o k
     idle_out =
         let apart = apart_middle parts_at.0 k parts_at.1 (subst Distinct parts_at.2 kept.ordered.distinct) in
-        read (cells_of q.slots) q.oldest (key_in (cells_of q.slots) q.newest) (parts_at.0 ++ parts_at.1) order_out ∙ sym (ap (filter (λ q. not (eqb q k))) parts_at.2 ∙ left_beside k parts_at.0 parts_at.1 apart.0 apart.1)
+        read (cells_of q.slots) q.oldest (slot_in (cells_of q.slots) q.newest) (parts_at.0 ++ parts_at.1) order_out ∙ sym (ap (filter (λ q. not (eqb q k))) parts_at.2 ∙ left_beside k parts_at.0 parts_at.1 apart.0 apart.1)
 
-  -- the neighbours of a key in the order are there, before and after its links are cut
+  -- the neighbours of a slot in the order are there, before and after its links are cut
   pub good_beside : (o : Order K V) (k : ℕ) (ds : NodeCells K V) → IsWellLinked o → Lists o k → Relinks (cells_of o.slots) ds k None None → IsGood ds (before_at (cells_of o.slots) k) × IsGood ds (after_at (cells_of o.slots) k)
   good_beside o k ds kept there r =
       let cs = cells_of o.slots in

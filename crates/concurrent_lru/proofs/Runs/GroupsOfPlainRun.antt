@@ -12,7 +12,7 @@ use Rattle.concurrent_lru.specs.Cache.{Cache, Idle, Held, making, ready, IsLawfu
 use Rattle.concurrent_lru.specs.Steps.{Makes, ChangesPhase, Rests, Revives, without, held_in_phase, idle_again, held_by_one}
 use Rattle.concurrent_lru.specs.Uses.{AreSame}
 use Rattle.concurrent_lru.specs.Representation.{held_charges}
-use Rattle.concurrent_lru.proofs.Entries.NodeWrittenOrAdded.{inserted_at}
+use Rattle.concurrent_lru.proofs.Entries.NodesOfSetAndAdd.{inserted_at}
 use Rattle.concurrent_lru.proofs.Lists.DistinctEntries.{same}
 use Rattle.concurrent_lru.proofs.Entries.SumsOfHeld.{sum-insert}
 use Rattle.concurrent_lru.proofs.Runs.LongestEnds.{Fitting, fitting_front, fitting_twice, others, AgreesOnEqual}

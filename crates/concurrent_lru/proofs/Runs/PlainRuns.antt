@@ -11,7 +11,7 @@ use Rattle.concurrent_lru.specs.Cache.{Phase}
 use Rattle.concurrent_lru.specs.Steps.{Makes, ChangesPhase, Leaves, Rests, Joins, Revives, held_in_phase, held_by_one, Ends}
 use Rattle.concurrent_lru.specs.Request as ask
 use Rattle.concurrent_lru.specs.Request.{Request}
-use Rattle.concurrent_lru.proofs.Entries.NodeWrittenOrAdded.{inserted_at}
+use Rattle.concurrent_lru.proofs.Entries.NodesOfSetAndAdd.{inserted_at}
 use Rattle.concurrent_lru.proofs.Steps.BeginOfAbsent.{makes_lawful}
 use Rattle.concurrent_lru.proofs.Steps.ReadyAndPoll.{changes_phase_lawful}
 use Rattle.concurrent_lru.proofs.Steps.Release.{rests_lawful}

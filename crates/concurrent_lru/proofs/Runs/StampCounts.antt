@@ -15,7 +15,7 @@ use Rattle.concurrent_lru.specs.Reply as say
 use Rattle.concurrent_lru.specs.Reply.{Reply}
 use Rattle.concurrent_lru.specs.Runs.{Outcome, accepted, refused, Run}
 use Rattle.concurrent_lru.specs.StampCounts.{one_if, one_if_some, stamp_count_in_list, stamp_count_in_cache, stamp_count_in_outcome, stamp_count}
-use Rattle.concurrent_lru.proofs.Entries.NodeWrittenOrAdded.{inserted_at, inserted_other}
+use Rattle.concurrent_lru.proofs.Entries.NodesOfSetAndAdd.{inserted_at, inserted_other}
 use Rattle.concurrent_lru.proofs.Lists.Removals.{removed_other}
 
 module _ {K V : Type 0} where

@@ -12,7 +12,7 @@ use Rattle.concurrent_lru.specs.NodeTable.{Entry, NodeTable}
 use Rattle.concurrent_lru.specs.Representation.{IsRepresentation, held_entry, held_charges, cache_in, as_idle, idle_at_place}
 use Rattle.concurrent_lru.proofs.Lists.Members.{IsIn, in_self, in_tail, not_self, filter_map-mid}
 use Rattle.concurrent_lru.proofs.Lists.DistinctNumbers.{distinct_parts}
-use Rattle.concurrent_lru.proofs.Entries.NodeWrittenOrAdded.{around, held_in-get, held_in-found, inserted_at, inserted_other}
+use Rattle.concurrent_lru.proofs.Entries.NodesOfSetAndAdd.{around, held_in-get, held_in-found, inserted_at, inserted_other}
 use Rattle.concurrent_lru.proofs.Steps.LawfulAfterChange.{IsOrderly, orderly, settles_lawful}
 use Rattle.concurrent_lru.proofs.Entries.SumsOfHeld.{sum-insert}
 

@@ -12,7 +12,7 @@ use Rattle.concurrent_lru.specs.Representation.{IsRepresentation, idle_in, idle_
 use Rattle.concurrent_lru.proofs.Lists.DistinctEntries.{head_none}
 use Rattle.concurrent_lru.proofs.Lists.Members.{IsIn, filter_map-mid, not_self, in_left, in_right, in_tail}
 use Rattle.concurrent_lru.proofs.Lists.DistinctNumbers.{distinct_parts, filter_mid}
-use Rattle.concurrent_lru.proofs.Entries.NodeWrittenOrAdded.{around, WritesNode, other_idle}
+use Rattle.concurrent_lru.proofs.Entries.NodesOfSetAndAdd.{around, WritesNode, other_idle}
 use Rattle.concurrent_lru.proofs.Steps.BeginOfAbsent.{lacks, as_idle-ready}
 use Rattle.concurrent_lru.proofs.Steps.LawfulAfterChange.{lawful-with_held}
 

@@ -19,7 +19,7 @@ use Rattle.concurrent_lru.specs.declared.list.Refusal.TheVariants.{Memory, Overf
 use Rattle.concurrent_lru.specs.declared.step.Begun.{Begun}
 use Rattle.concurrent_lru.specs.declared.step.Begun.TheVariants as rust
 use Rattle.concurrent_lru.specs.declared.table.spot.Spot.{Spot}
-use Rattle.concurrent_lru.proofs.Entries.NodeWrittenOrAdded.{inserted_at, inserted_other}
+use Rattle.concurrent_lru.proofs.Entries.NodesOfSetAndAdd.{inserted_at, inserted_other}
 use Rattle.concurrent_lru.proofs.Steps.LawfulAfterRevival.{find_without}
 
 not_true : (b : Bool) → (b ≡ true → ⊥) → b ≡ false

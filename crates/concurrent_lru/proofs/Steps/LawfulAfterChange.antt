@@ -10,7 +10,7 @@ use Rattle.std.proofs.lemmas.List.Sums.{sum_by-append}
 use Rattle.concurrent_lru.specs.Cache.{Cache, Idle, Held, IsEntry, IsLawful, Settles, IsFound, idle_at, held_at, sum_of, charges}
 use Rattle.concurrent_lru.specs.Steps.{with_capacity, with_held}
 use Rattle.concurrent_lru.specs.Representation.{held_charges}
-use Rattle.concurrent_lru.proofs.Entries.NodeWrittenOrAdded.{inserted_at, inserted_other}
+use Rattle.concurrent_lru.proofs.Entries.NodesOfSetAndAdd.{inserted_at, inserted_other}
 use Rattle.concurrent_lru.proofs.Entries.SumsOfHeld.{sum-change}
 
 distinct_rest : (a b : List ℕ) → IsDistinct eqb (a ++ b) → IsDistinct eqb b

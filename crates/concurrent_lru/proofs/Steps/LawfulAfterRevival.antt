@@ -8,7 +8,7 @@ use Rattle.std.proofs.lemmas.Option.{none-some, same_Some}
 use Rattle.concurrent_lru.specs.Cache.{Cache, Idle, IsEntry, IsFound, IsLawful, idle_at, sum_of, charges}
 use Rattle.concurrent_lru.specs.Steps.{with_held, without, held_by_one, Revives}
 use Rattle.concurrent_lru.specs.Representation.{held_charges}
-use Rattle.concurrent_lru.proofs.Entries.NodeWrittenOrAdded.{inserted_at, inserted_other}
+use Rattle.concurrent_lru.proofs.Entries.NodesOfSetAndAdd.{inserted_at, inserted_other}
 use Rattle.concurrent_lru.proofs.Lists.DistinctNumbers.{IsDistinct-filter}
 use Rattle.concurrent_lru.proofs.Steps.LawfulAfterChange.{IsOrderly, orderly, orderly_fewer, lawful_from}
 use Rattle.concurrent_lru.proofs.Entries.SumsOfHeld.{sum-insert, sum_by-cons}

@@ -8,7 +8,7 @@ use Rattle.concurrent_lru.specs.Cache.{Cache, Idle, Phase, making, IsLawful}
 use Rattle.concurrent_lru.specs.Steps.{Holds, ChangesPhase}
 use Rattle.concurrent_lru.specs.Steps as steps
 use Rattle.concurrent_lru.specs.NodeTable.{Entry, NodeTable, phase_of, update_at, entry_in_phase}
-use Rattle.concurrent_lru.proofs.Entries.NodeWrittenOrAdded.{WritesNode}
+use Rattle.concurrent_lru.proofs.Entries.NodesOfSetAndAdd.{WritesNode}
 use Rattle.concurrent_lru.proofs.Steps.LawfulAfterChange.{lawful-with_held}
 
 pub phase_making : {V : Type 0} (p : RustPhase V) → phase_of p ≡ making → p ≡ rust.Making

@@ -23,7 +23,7 @@ use Rattle.concurrent_lru.specs.declared.list.Refusal.{Refusal}
 use Rattle.concurrent_lru.specs.declared.list.Refusal.TheVariants.{Stale}
 use Rattle.concurrent_lru.specs.declared.step.Begun.{Begun}
 use Rattle.concurrent_lru.specs.declared.step.Begun.TheVariants as rust
-use Rattle.concurrent_lru.proofs.Entries.NodeWrittenOrAdded.{inserted_at, inserted_other}
+use Rattle.concurrent_lru.proofs.Entries.NodesOfSetAndAdd.{inserted_at, inserted_other}
 use Rattle.concurrent_lru.proofs.Steps.EmptyCache.{empty_lawful}
 use Rattle.concurrent_lru.proofs.Lists.Removals.{removed_some}
 
@@ -272,9 +272,9 @@ module _ {K V : Type 0} (E : K → K → Bool) where
       lacks found.0 found.1.0 found.1.1
 
   -- where it is not done, the value came back
-  pub keyed_stray : (old new : Cache K V) (s : ℕ) (k : K) (a : Arc V Global) (r : Result (Unit {0}) (Arc V Global)) → OnOk r (HasEqualKeyAt E old s k) → OnErr r (new ≡ old) → IfErr r (λ b. b ≡ a) → (HasEqualKeyAt E old s k → ⊥) → (r ≡ Err a) × (new ≡ old)
-  keyed_stray old new s k a (Ok x) keyed same back none = absurd (none keyed)
-  keyed_stray old new s k a (Err b) keyed same back none = (ap Err back, same)
+  pub keyed_no_entry : (old new : Cache K V) (s : ℕ) (k : K) (a : Arc V Global) (r : Result (Unit {0}) (Arc V Global)) → OnOk r (HasEqualKeyAt E old s k) → OnErr r (new ≡ old) → IfErr r (λ b. b ≡ a) → (HasEqualKeyAt E old s k → ⊥) → (r ≡ Err a) × (new ≡ old)
+  keyed_no_entry old new s k a (Ok x) keyed same back none = absurd (none keyed)
+  keyed_no_entry old new s k a (Err b) keyed same back none = (ap Err back, same)
 
   polled_ready : (old new : Cache K V) (s : ℕ) (k : K) (v : V) (out : List (Idle K V)) → IsLawful E old → HasEqualKeyAt E old s k → ChangesPhase E old s (ready v) (ready v) out new → ReadyFor E old k v
   polled_ready old new s k v out lawful at t =

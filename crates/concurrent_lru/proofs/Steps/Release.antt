@@ -10,7 +10,7 @@ use Rattle.concurrent_lru.specs.declared.list.Phase.TheVariants as rust
 use Rattle.concurrent_lru.specs.Cache.{Cache, Idle, Phase, ready, IsLawful}
 use Rattle.concurrent_lru.specs.Steps.{Leaves, Rests, Detaches, held_in_phase, held_detached, one_pin_less}
 use Rattle.concurrent_lru.specs.NodeTable.{Entry, NodeTable, phase_of, update_at, entry_with_pins, entry_detached}
-use Rattle.concurrent_lru.proofs.Entries.NodeWrittenOrAdded.{WritesNode}
+use Rattle.concurrent_lru.proofs.Entries.NodesOfSetAndAdd.{WritesNode}
 use Rattle.concurrent_lru.proofs.Steps.LawfulAfterChange.{orderly, settles_lawful, lawful-with_held}
 use Rattle.concurrent_lru.proofs.Steps.LawfulAfterRest.{rested, orderly-rested, sum-rested}
 

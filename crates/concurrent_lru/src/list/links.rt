@@ -32,29 +32,29 @@ impl<K: Drop, V: Drop> Order<K, V> {
         }
     }
 
-    // Makes the node under a key the newest idle one.
-    pub(super) fn append(&mut self, key: usize)
+    // Makes the node in a slot the newest idle one.
+    pub(super) fn append(&mut self, slot: usize)
         requires linked { IsWellLinked self.old }
-        requires present { HasNode self.old.slots key }
-        requires held { Omits self.old key }
+        requires present { HasNode self.old.slots slot }
+        requires held { Omits self.old slot }
         ensures linked { IsWellLinked self.new }
         ensures nodes { nodes_of self.new ≡ nodes_of self.old }
-        ensures idle { idle_of self.new ≡ idle_of self.old ++ key ∷ [] }
+        ensures idle { idle_of self.new ≡ idle_of self.old ++ slot ∷ [] }
         ensures pointers { self.new.slots.pointers ≡ self.old.slots.pointers }
         ensures looks { self.new.slots.looks.count ≡ self.old.slots.looks.count + 1 }
     {
-        let own = self.slots.look(key);
-        self.push(own, key);
+        let own = self.slots.look(slot);
+        self.push(own, slot);
     }
 
-    // Makes the node at the end of a link the newest idle one. The key is the node's own.
-    fn push(&mut self, own: *mut Node<K, V>, key: usize)
+    // Makes the node at the end of a link the newest idle one. The slot is the node's own.
+    fn push(&mut self, own: *mut Node<K, V>, slot: usize)
         requires linked { IsWellLinked self.old }
-        requires own { LeadsTo self.old.slots own key }
-        requires held { Omits self.old key }
+        requires own { LeadsTo self.old.slots own slot }
+        requires held { Omits self.old slot }
         ensures linked { IsWellLinked self.new }
         ensures nodes { nodes_of self.new ≡ nodes_of self.old }
-        ensures idle { idle_of self.new ≡ idle_of self.old ++ key ∷ [] }
+        ensures idle { idle_of self.new ≡ idle_of self.old ++ slot ∷ [] }
         ensures pointers { self.new.slots.pointers ≡ self.old.slots.pointers }
         ensures looks { self.new.slots.looks ≡ self.old.slots.looks }
     {
@@ -63,7 +63,7 @@ impl<K: Drop, V: Drop> Order<K, V> {
         self.newest = Some(own);
         match newest {
             Some(last) => self.slots.set_after(last, Some(own)),
-            None => self.oldest = Some(key),
+            None => self.oldest = Some(slot),
         }
     }
 
@@ -110,55 +110,55 @@ impl<K: Drop, V: Drop> Order<K, V> {
         self.join_right(before, after);
     }
 
-    // Removes the node under a key from the idle order.
-    pub(super) fn remove(&mut self, key: usize)
+    // Removes the node in a slot from the idle order.
+    pub(super) fn remove(&mut self, slot: usize)
         requires linked { IsWellLinked self.old }
-        requires idle { Lists self.old key }
+        requires idle { Lists self.old slot }
         ensures linked { IsWellLinked self.new }
         ensures nodes { nodes_of self.new ≡ nodes_of self.old }
-        ensures idle { idle_of self.new ≡ idle_without self.old key }
+        ensures idle { idle_of self.new ≡ idle_without self.old slot }
         ensures pointers { self.new.slots.pointers ≡ self.old.slots.pointers }
         ensures looks { self.new.slots.looks.count ≡ self.old.slots.looks.count + 1 }
     {
-        let own = self.slots.look(key);
+        let own = self.slots.look(slot);
         self.cut(own);
     }
 
-    // Removes the node under a key from the idle order and makes it the newest idle one, with one
+    // Removes the node in a slot from the idle order and makes it the newest idle one, with one
     // lookup.
-    pub(super) fn renew(&mut self, key: usize)
+    pub(super) fn renew(&mut self, slot: usize)
         requires linked { IsWellLinked self.old }
-        requires idle { Lists self.old key }
+        requires idle { Lists self.old slot }
         ensures linked { IsWellLinked self.new }
         ensures nodes { nodes_of self.new ≡ nodes_of self.old }
-        ensures idle { idle_of self.new ≡ idle_without self.old key ++ key ∷ [] }
+        ensures idle { idle_of self.new ≡ idle_without self.old slot ++ slot ∷ [] }
         ensures pointers { self.new.slots.pointers ≡ self.old.slots.pointers }
         ensures looks { self.new.slots.looks.count ≡ self.old.slots.looks.count + 1 }
     {
-        let node = self.slots.look(key);
+        let node = self.slots.look(slot);
         self.cut(node);
-        self.push(node, key);
+        self.push(node, slot);
     }
 
-    // Removes the node under a key from the idle order, with one pin, and copies its value. The
+    // Removes the node in a slot from the idle order, with one pin, and copies its value. The
     // node is looked up once, before the copy, since a processor starts no later read until an
     // atomic instruction has completed.
-    pub(super) fn revive(&mut self, key: usize) -> Result<Arc<V>, Refusal>
+    pub(super) fn revive(&mut self, slot: usize) -> Result<Arc<V>, Refusal>
         requires linked { IsWellLinked self.old }
-        requires idle { Lists self.old key }
-        requires ready { HasValue (entry_at self.old key) }
+        requires idle { Lists self.old slot }
+        requires ready { HasValue (entry_at self.old slot) }
         ensures linked { IsWellLinked self.new }
-        ensures value { GivesValue (entry_at self.old key) result }
-        ensures nodes { OnOk result (nodes_of self.new ≡ pinned_once (nodes_of self.old) key) }
-        ensures idle { OnOk result (idle_of self.new ≡ idle_without self.old key) }
+        ensures value { GivesValue (entry_at self.old slot) result }
+        ensures nodes { OnOk result (nodes_of self.new ≡ pinned_once (nodes_of self.old) slot) }
+        ensures idle { OnOk result (idle_of self.new ≡ idle_without self.old slot) }
         ensures same { OnErr result (OnlyLooked self.old self.new) }
         ensures refusal { IfErr result (λ e. e ≡ Refusal.Memory) }
         ensures pointers { self.new.slots.pointers ≡ self.old.slots.pointers }
         ensures looks { self.new.slots.looks.count ≡ self.old.slots.looks.count + 1 }
     {
-        let own = self.slots.look(key);
+        let own = self.slots.look(slot);
         let value = self.slots.follow(own).share_value()?;
-        self.slots.hold(own, 1);
+        self.slots.set_pins_by_link(own, 1);
         self.cut(own);
         Ok(value)
     }

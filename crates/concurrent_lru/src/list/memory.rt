@@ -1,10 +1,10 @@
 //! Boxed values turned into raw pointers, and the single owner of what these point to.
 //!
-//! The owner has no bytes: only contracts see which value is where, and under which key.
+//! The owner has no bytes: only contracts see which value is where, and in which slot.
 ghost use Rattle.std.specs.Prelude.{◌≡◌, ◌<◌, List as Seq, [], None, IsSome, Option as Maybe};
 ghost use Rattle.std.specs.Mem.{type_size};
 ghost use Rattle.std.specs.Borrow.{sem};
-ghost use Rattle.concurrent_lru.specs.Cells.{Cell, cell_at, key_at, put_at, put_cell, HoldsBy, AtFirst, AreApart, IsValueAt};
+ghost use Rattle.concurrent_lru.specs.Cells.{Cell, cell_at, slot_at, put_at, put_cell, HoldsBy, AtFirst, AreApart, IsValueAt};
 ghost use Rattle.concurrent_lru.specs.CellOwnership.{cells_own, cells_lent};
 
 use std::alloc::{AllocError, Allocator};
@@ -34,7 +34,7 @@ unsafe impl<T> Send for At<T> {}
 
 unsafe impl<T> Sync for At<T> {}
 
-// The owner of the values that the pointers lead to, each under a key.
+// The owner of the values that the pointers lead to, each in a slot.
 pub(super) struct Memory<T, A: Allocator> {
     mark: PhantomData<*mut (T, A)>,
     ghost cells: { Seq (Maybe (Cell T A)) },
@@ -60,22 +60,22 @@ impl<T, A: Allocator> Memory<T, A> {
         Memory { mark: PhantomData }
     }
 
-    // Takes over a box, under a key that is free.
-    pub(super) fn put(&mut self, value: Box<T, A>, key: usize) -> (At<T>, A)
+    // Takes over a box, in a slot that is free.
+    pub(super) fn put(&mut self, value: Box<T, A>, slot: usize) -> (At<T>, A)
     where
         T: Drop,
-        requires { cell_at self.old.cells key ≡ None }
-        ensures { self.new.cells ≡ put_cell key result.0.ptr result.1 value.value self.old.cells }
+        requires { cell_at self.old.cells slot ≡ None }
+        ensures { self.new.cells ≡ put_cell slot result.0.ptr result.1 value.value self.old.cells }
     {
         // Only the contract uses it.
-        let _ = key;
+        let _ = slot;
         let (ptr, alloc) = Box::into_raw_with_allocator(value);
         (At { ptr }, alloc)
     }
 
     // Returns the value at an address.
     pub(super) fn get(&self, at: At<T>) -> &T
-        requires { IsSome (key_at self.now.cells at.ptr) }
+        requires { IsSome (slot_at self.now.cells at.ptr) }
         ensures { AtFirst self.now.cells at.ptr (λ _ c. result.now ≡ c.value) }
     {
         unsafe { &*at.ptr }
@@ -83,21 +83,21 @@ impl<T, A: Allocator> Memory<T, A> {
 
     // Returns the value at an address for writing.
     pub(super) fn lend(&mut self, at: At<T>) -> &mut T
-        requires { IsSome (key_at self.old.cells at.ptr) }
+        requires { IsSome (slot_at self.old.cells at.ptr) }
         ensures* writes_back { sem 𝓛 (lends_at T.row A.row A.Allocator self.entry at.ptr result) }
         ensures value { AtFirst self.old.cells at.ptr (λ _ c. result.now ≡ c.value) }
     {
         unsafe { &mut *at.ptr }
     }
 
-    // Returns the value under a key in its box.
-    pub(super) fn take(&mut self, at: At<T>, key: usize, alloc: A) -> Box<T, A>
-        requires { HoldsBy self.old.cells key at.ptr alloc }
-        ensures value { IsValueAt self.old.cells key result.value }
-        ensures cells { self.new.cells ≡ put_at key None self.old.cells }
+    // Returns the value in a slot in its box.
+    pub(super) fn take(&mut self, at: At<T>, slot: usize, alloc: A) -> Box<T, A>
+        requires { HoldsBy self.old.cells slot at.ptr alloc }
+        ensures value { IsValueAt self.old.cells slot result.value }
+        ensures cells { self.new.cells ≡ put_at slot None self.old.cells }
     {
         // Only the contract uses it.
-        let _ = key;
+        let _ = slot;
         unsafe { Box::from_raw(alloc, at.ptr) }
     }
 

@@ -1,4 +1,4 @@
-//! The nodes under their keys: a slab of pointers, and the memory that they point to.
+//! The nodes in their slots: a slab of pointers, and the memory that they point to.
 //!
 //! A node is reached for writing by a lookup, which is counted, or by a link in another node.
 ghost use Rattle.std.specs.Prelude.{◌≡◌, ℕ, ◌+◌, ◌≤◌, [], Some, None, IsTrue, IsFalse, OnOk};
@@ -6,7 +6,7 @@ ghost use Rattle.std.specs.Borrow.{sem};
 ghost use Rattle.slab.specs.Slab.{HasRoomFor, slab_len};
 ghost use Rattle.concurrent_lru.specs.Cells.{cell_at, AtFirst};
 ghost use Rattle.concurrent_lru.specs.NodeTable.{entry_of, chain_of, entry_with_pins, entry_detached, entry_with_phase};
-ghost use Rattle.concurrent_lru.specs.Relinks.{key_in};
+ghost use Rattle.concurrent_lru.specs.Relinks.{slot_in};
 ghost use Rattle.concurrent_lru.specs.SlotPointers.{IsTied, cells_of, HasNode, LeadsToNode, LeadsTo, IsNodeAt, KeepsOthers};
 ghost use Rattle.concurrent_lru.specs.SlotTable.{entry_in, IsEnd, IsGood};
 ghost use Rattle.concurrent_lru.specs.SlotWrites.{OnlyWrites, OnlyLooksAndWrites, SetsLinks, SetsBefore, SetsAfter, CutsLinks, Rewrites, RewritesLink};
@@ -51,7 +51,7 @@ impl<K: Drop, V: Drop> Slots<K, V> {
         self.pointers.reserve(more)
     }
 
-    // Inserts a node under a key that was free, and returns the key.
+    // Inserts a node in a slot that was free, and returns the slot.
     pub(super) fn insert(&mut self, mut node: Box<Node<K, V>>) -> usize
         requires tied { IsTied self.old }
         requires room { HasRoomFor self.old.pointers 1 }
@@ -64,40 +64,40 @@ impl<K: Drop, V: Drop> Slots<K, V> {
         ensures len { slab_len self.new.pointers ≡ slab_len self.old.pointers + 1 }
         ensures capacity { self.new.pointers.capacity ≡ self.old.pointers.capacity }
     {
-        let key = self.pointers.vacant_key();
-        node.place_at(key);
-        let (at, _) = self.memory.put(node, key);
+        let slot = self.pointers.vacant_key();
+        node.set_slot(slot);
+        let (at, _) = self.memory.put(node, slot);
         self.memory.apart();
         self.pointers.insert_reserved(at)
     }
 
-    // Takes out the node under a key. This counts as a lookup, as a write does.
-    pub(super) fn take(&mut self, key: usize) -> Box<Node<K, V>>
+    // Takes out the node in a slot. This counts as a lookup, as a write does.
+    pub(super) fn take(&mut self, slot: usize) -> Box<Node<K, V>>
         requires tied { IsTied self.old }
-        requires present { HasNode self.old key }
+        requires present { HasNode self.old slot }
         ensures tied { IsTied self.new }
-        ensures value { IsNodeAt self.old key result.value }
-        ensures vacant { cell_at (cells_of self.new) key ≡ None }
-        ensures others { KeepsOthers self.old self.new key }
+        ensures value { IsNodeAt self.old slot result.value }
+        ensures vacant { cell_at (cells_of self.new) slot ≡ None }
+        ensures others { KeepsOthers self.old self.new slot }
         ensures len { slab_len self.new.pointers + 1 ≡ slab_len self.old.pointers }
         ensures capacity { self.new.pointers.capacity ≡ self.old.pointers.capacity }
         ensures room { HasRoomFor self.new.pointers 1 }
         ensures looks { self.new.looks.count ≡ self.old.looks.count + 1 }
     {
-        let at = self.pointers.remove(key);
+        let at = self.pointers.remove(slot);
         self.looks.tick();
-        let node = self.memory.take(at, key, self.alloc);
+        let node = self.memory.take(at, slot, self.alloc);
         self.memory.apart();
         node
     }
 
-    // Returns the node under a key for reading.
-    pub(super) fn node(&self, key: usize) -> &Node<K, V>
+    // Returns the node in a slot for reading.
+    pub(super) fn node(&self, slot: usize) -> &Node<K, V>
         requires tied { IsTied self.now }
-        requires present { HasNode self.now key }
-        ensures { IsNodeAt self.now key result.now }
+        requires present { HasNode self.now slot }
+        ensures { IsNodeAt self.now slot result.now }
     {
-        self.memory.get(self.pointers[key])
+        self.memory.get(self.pointers[slot])
     }
 
     // Returns the number of nodes.
@@ -107,34 +107,34 @@ impl<K: Drop, V: Drop> Slots<K, V> {
         self.pointers.len()
     }
 
-    // Returns whether there is a node under a key, which may be any.
-    pub(super) fn contains(&self, key: usize) -> bool
+    // Returns whether there is a node in a slot, which may be any.
+    pub(super) fn contains(&self, slot: usize) -> bool
         requires { IsTied self.now }
-        ensures yes { IsTrue result → HasNode self.now key }
-        ensures no { IsFalse result → cell_at (cells_of self.now) key ≡ None }
+        ensures yes { IsTrue result → HasNode self.now slot }
+        ensures no { IsFalse result → cell_at (cells_of self.now) slot ≡ None }
     {
-        self.pointers.contains(key)
+        self.pointers.contains(slot)
     }
 
-    // Returns a key above those of all nodes.
-    pub(super) fn end_of_keys(&self) -> usize
+    // Returns a slot above those of all nodes.
+    pub(super) fn end_of_slots(&self) -> usize
         requires { IsTied self.now }
-        ensures { (key : ℕ) → result ≤ key → cell_at (cells_of self.now) key ≡ None }
+        ensures { (slot : ℕ) → result ≤ slot → cell_at (cells_of self.now) slot ≡ None }
     {
         self.pointers.capacity()
     }
 
-    // Returns a pointer to the node under a key, for writing.
-    pub(super) fn look(&mut self, key: usize) -> *mut Node<K, V>
+    // Returns a pointer to the node in a slot, for writing.
+    pub(super) fn look(&mut self, slot: usize) -> *mut Node<K, V>
         requires tied { IsTied self.old }
-        requires present { HasNode self.old key }
+        requires present { HasNode self.old slot }
         ensures tied { IsTied self.new }
-        ensures link { LeadsTo self.old result key }
+        ensures link { LeadsTo self.old result slot }
         ensures rest { self.new ≡ record self.old { looks = self.new.looks } }
         ensures looks { self.new.looks.count ≡ self.old.looks.count + 1 }
     {
         self.looks.tick();
-        self.pointers[key].ptr
+        self.pointers[slot].ptr
     }
 
     // Returns the node at the end of a link for reading.
@@ -154,14 +154,14 @@ impl<K: Drop, V: Drop> Slots<K, V> {
         self.memory.lend(At { ptr: link })
     }
 
-    // Returns the key of the node at the end of a link. The node stores it.
+    // Returns the slot of the node at the end of a link. The node stores it.
     pub(super) fn slot_of(&self, link: Option<*mut Node<K, V>>) -> Option<usize>
         requires tied { IsTied self.now }
         requires good { IsGood (cells_of self.now) link }
-        ensures { result ≡ key_in (cells_of self.now) link }
+        ensures { result ≡ slot_in (cells_of self.now) link }
     {
         match link {
-            Some(link) => Some(self.follow(link).place),
+            Some(link) => Some(self.follow(link).slot),
             None => None,
         }
     }
@@ -214,44 +214,44 @@ impl<K: Drop, V: Drop> Slots<K, V> {
     }
 
     // Sets the pins of the node at the end of a link.
-    pub(super) fn hold(&mut self, link: *mut Node<K, V>, pins: u32)
+    pub(super) fn set_pins_by_link(&mut self, link: *mut Node<K, V>, pins: u32)
         requires { LeadsToNode self.old link }
         ensures rest { OnlyWrites self.old self.new }
         ensures entry { RewritesLink self.old self.new link (entry_with_pins pins) }
     {
-        self.follow_mut(link).hold(pins);
+        self.follow_mut(link).set_pins(pins);
     }
 
-    // Sets the pins of the node under a key.
-    pub(super) fn set_pins(&mut self, key: usize, pins: u32)
+    // Sets the pins of the node in a slot.
+    pub(super) fn set_pins(&mut self, slot: usize, pins: u32)
         requires tied { IsTied self.old }
-        requires present { HasNode self.old key }
+        requires present { HasNode self.old slot }
         ensures rest { OnlyLooksAndWrites self.old self.new }
-        ensures entry { Rewrites self.old self.new key (entry_with_pins pins) }
+        ensures entry { Rewrites self.old self.new slot (entry_with_pins pins) }
     {
-        let link = self.look(key);
-        self.hold(link, pins);
+        let link = self.look(slot);
+        self.set_pins_by_link(link, pins);
     }
 
-    // Marks the node under a key as detached.
-    pub(super) fn set_detached(&mut self, key: usize)
+    // Marks the node in a slot as detached.
+    pub(super) fn set_detached(&mut self, slot: usize)
         requires tied { IsTied self.old }
-        requires present { HasNode self.old key }
+        requires present { HasNode self.old slot }
         ensures rest { OnlyLooksAndWrites self.old self.new }
-        ensures entry { Rewrites self.old self.new key entry_detached }
+        ensures entry { Rewrites self.old self.new slot entry_detached }
     {
-        let link = self.look(key);
-        self.follow_mut(link).detach();
+        let link = self.look(slot);
+        self.follow_mut(link).set_detached();
     }
 
-    // Sets the phase of the node under a key.
-    pub(super) fn set_phase(&mut self, key: usize, phase: Phase<V>)
+    // Sets the phase of the node in a slot.
+    pub(super) fn set_phase(&mut self, slot: usize, phase: Phase<V>)
         requires tied { IsTied self.old }
-        requires present { HasNode self.old key }
+        requires present { HasNode self.old slot }
         ensures rest { OnlyLooksAndWrites self.old self.new }
-        ensures entry { Rewrites self.old self.new key (entry_with_phase phase) }
+        ensures entry { Rewrites self.old self.new slot (entry_with_phase phase) }
     {
-        let link = self.look(key);
+        let link = self.look(slot);
         self.follow_mut(link).set_phase(phase);
     }
 
@@ -259,9 +259,9 @@ impl<K: Drop, V: Drop> Slots<K, V> {
     pub(super) fn end(mut self)
         requires { IsTied self }
     {
-        for key in 0..self.pointers.capacity() {
-            if self.pointers.contains(key) {
-                let _node = self.take(key);
+        for slot in 0..self.pointers.capacity() {
+            if self.pointers.contains(slot) {
+                let _node = self.take(slot);
             }
         }
         let Slots {

@@ -6,8 +6,8 @@ ghost use Rattle.std.specs.Sync.Mutex.{mutex_guard_value};
 
 use crate::fit::Fit;
 use crate::locked::Locked;
-use crate::sealed::Sealed;
 use crate::lru_core::Evicted;
+use crate::sealed::Sealed;
 use crate::table::Spot;
 use std::hash::Hash;
 use std::marker::{Model, PhantomData};
@@ -114,7 +114,7 @@ pub struct Unread {
 ///
 /// Clauses see the stamp of the entry, the key and the charge that were asked for, and the value,
 /// which fits that key by the mark `F`.
-pub struct Pin<K: Hash + Eq + Clone, V, F: Fit<K, V>> {
+pub struct HeldPin<K: Hash + Eq + Clone, V, F: Fit<K, V>> {
     pub(super) spot: Spot,
     pub(super) asked: Snapshot<K>,
     pub(super) charge: Snapshot<Option<u64>>,
@@ -122,7 +122,7 @@ pub struct Pin<K: Hash + Eq + Clone, V, F: Fit<K, V>> {
     pub(super) mark: PhantomData<F>,
 }
 
-impl<K: Hash + Eq + Clone, V, F: Fit<K, V>> Model for Pin<K, V, F> {
+impl<K: Hash + Eq + Clone, V, F: Fit<K, V>> Model for HeldPin<K, V, F> {
     ghost use Rattle.std.specs.Arc.{arc_value};
     ghost use Rattle.concurrent_lru.specs.Pins.{PinOf};
 
@@ -133,13 +133,13 @@ impl<K: Hash + Eq + Clone, V, F: Fit<K, V>> Model for Pin<K, V, F> {
     ghost invariant = { λ p. F.fits p.asked.value (arc_value p.value) };
 }
 
-impl<K: Hash + Eq + Clone, V, F: Fit<K, V>> Pin<K, V, F> {
+impl<K: Hash + Eq + Clone, V, F: Fit<K, V>> HeldPin<K, V, F> {
     // Creates a pin in the spot's entry. A `get` has no charge.
     pub(super) fn of(spot: Spot, key: &K, charge: Option<u64>, value: Arc<V>) -> Self
         requires { F.fits key.now (arc_value value) }
         ensures { result ≡ record { stamp = spot.stamp; key = key.now; charge = charge; value = arc_value value } }
     {
-        Pin {
+        HeldPin {
             spot,
             asked: Snapshot::of(key),
             charge: Snapshot::of(&charge),
@@ -164,7 +164,7 @@ pub enum Entered<K: Hash + Eq + Clone, V, F: Fit<K, V>> {
     /// Another caller is making it; ask again by `poll`.
     Wait(Waiting<K, V, F>),
     /// The value is ready.
-    Hit(Pin<K, V, F>),
+    Hit(HeldPin<K, V, F>),
 }
 
 /// The result of `poll`.
@@ -174,9 +174,9 @@ pub enum Polled<K: Hash + Eq + Clone, V, F: Fit<K, V>> {
     /// Another caller is making it; ask again by `poll`.
     Wait(Waiting<K, V, F>),
     /// The value is ready.
-    Hit(Pin<K, V, F>),
+    Hit(HeldPin<K, V, F>),
     /// The value is ready, but its copy was refused.
     Refused(Unread),
     /// No held entry has the stamp and the key: there is no pin.
-    Stray,
+    NoPin,
 }

@@ -8,7 +8,7 @@ ghost use Rattle.concurrent_lru.specs.ThreadedCalls.{IfInit};
 
 use crate::fit::{Anything, Fit};
 use crate::get_error::GetError;
-use crate::locked::Pin;
+use crate::locked::HeldPin;
 use crate::lru_core::Refusal;
 use crate::route::Route;
 use crate::sharded::LruCache;
@@ -32,7 +32,7 @@ pub struct OwnedHandle<
     F: Fit<K, V> = Anything,
 > {
     shard: OwnedShard<K, V, R, S, F>,
-    pin: Pin<K, V, F>,
+    pin: HeldPin<K, V, F>,
 }
 
 impl<K: Hash + Eq + Clone, V, R: Wait, S: BuildHasher, F: Fit<K, V>> Model
@@ -62,7 +62,7 @@ impl<
     F: Fit<K, V>,
 > OwnedHandle<K, V, R, S, F> {
     // Creates a handle of a pin that was acquired from this shard.
-    fn new(shard: OwnedShard<K, V, R, S, F>, pin: Pin<K, V, F>) -> Self
+    fn new(shard: OwnedShard<K, V, R, S, F>, pin: HeldPin<K, V, F>) -> Self
         ensures key { result.key ≡ pin.key }
         ensures charge { result.charge ≡ pin.charge }
         ensures value { result.value ≡ pin.value }

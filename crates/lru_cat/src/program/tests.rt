@@ -83,7 +83,7 @@ fn bytes_of(alloc: Global, len: usize) -> Result<Vec<u8>, AllocError> {
 }
 
 // Returns what is printed of a file with these bytes.
-fn printed<R: Wait, F: Files<File = File>>(
+fn print_pages<R: Wait, F: Files<File = File>>(
     rt: &R,
     files: &F,
     alloc: Global,
@@ -111,7 +111,7 @@ fn prints_a_file_and_counts(rt: HostRuntime) -> Result<(), Fail> {
     let path = env::temp_dir(&rt)?.join(rt.alloc(), "lru_cat_prints")?;
     for (len, pages, counts) in LENGTHS {
         let bytes = bytes_of(rt.alloc(), len)?;
-        let ended = printed(&rt, &rt, rt.alloc(), path.as_str(), &bytes, pages)?;
+        let ended = print_pages(&rt, &rt, rt.alloc(), path.as_str(), &bytes, pages)?;
         assert_eq!(rt; ended.status, 0, "at {len} {pages}");
         assert!(rt; ended.out == bytes, "at {len} {pages}");
         assert_eq!(rt; str::from_utf8(&ended.err)?, counts, "at {len} {pages}");

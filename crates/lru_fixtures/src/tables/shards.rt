@@ -47,7 +47,7 @@ pub enum ShardCall {
 impl<S: BuildHasher + Drop> Answers<ShardCall> for Shards<u64, u64, S> {
     fn answer(&mut self, alloc: Global, call: ShardCall) -> Result<String, AllocError> {
         match call {
-            ShardCall::Use(key) => text_of(alloc, &used(alloc, self, key)),
+            ShardCall::Use(key) => text_of(alloc, &use_key(alloc, self, key)),
             ShardCall::Begin(key, charge) if charge > 0 => {
                 text_of(alloc, &self.begin(&key, charge))
             }
@@ -75,19 +75,19 @@ impl<S: BuildHasher + Drop> Answers<ShardCall> for Shards<u64, u64, S> {
 }
 
 // The answer to `Use`. A stored value that comes back is `Stale`.
-fn used<S: BuildHasher + Drop>(
+fn use_key<S: BuildHasher + Drop>(
     alloc: Global,
     shards: &mut Shards<u64, u64, S>,
     key: u64,
 ) -> Result<(usize, Evicted<u64, u64>, Evicted<u64, u64>), Refusal> {
     let (shard, begun, at_begin) = shards.begin(&key, 1)?;
-    let stamp = stored(alloc, shards, shard, begun, key)?;
+    let stamp = store(alloc, shards, shard, begun, key)?;
     let at_release = shards.release(shard, stamp)?;
     Ok((shard, at_begin, at_release))
 }
 
 // Stores a value that is to be made, and returns the stamp of the entry.
-fn stored<S: BuildHasher + Drop>(
+fn store<S: BuildHasher + Drop>(
     alloc: Global,
     shards: &mut Shards<u64, u64, S>,
     shard: usize,

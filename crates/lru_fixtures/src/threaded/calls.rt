@@ -17,7 +17,7 @@ pub enum Then {
 
 /// A call. Keys come first, then charges, then the value that an `init` would return.
 #[derive(Clone, Copy, Debug)]
-pub enum Call {
+pub enum ThreadedCall {
     /// `get` with a key.
     Get(u64, Then),
     /// `read` with a key, by a reader that copies the value.

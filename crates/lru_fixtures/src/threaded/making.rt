@@ -42,7 +42,7 @@ pub fn make_value<V: Drop, C: Cached<V>>(
 ) -> Result<C::Handle, NoHandle>
     requires { 0 < charge }
 {
-    let handle = cache.made(key, charge, |key| {
+    let handle = cache.get_or_init(key, charge, |key| {
         *ran = Some(*key);
         value
     })?;
@@ -60,7 +60,7 @@ pub fn try_make_value<V: Drop, C: Cached<V>>(
 ) -> Result<C::Handle, NoHandle>
     requires { 0 < charge }
 {
-    let handle = cache.tried(key, charge, |key| {
+    let handle = cache.get_or_try_init(key, charge, |key| {
         *ran = Some(*key);
         value.ok_or(*key)
     })?;

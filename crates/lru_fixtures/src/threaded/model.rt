@@ -4,7 +4,7 @@
 ghost use Rattle.std.specs.Prelude.{◌<◌};
 
 use crate::tables::{Answers, text_of};
-use crate::threaded::calls::{Call, Said, Then};
+use crate::threaded::calls::{Said, Then, ThreadedCall};
 use crate::threaded::owned::Owned;
 use concurrent_lru::lru_core::{Begun, Evicted};
 use std::alloc::{AllocError, Global};
@@ -37,38 +37,41 @@ impl<P: Owned> Model<P> {
         }
     }
 
-    fn take(&mut self, alloc: Global, call: Call) -> Result<Said, AllocError> {
+    fn take(&mut self, alloc: Global, call: ThreadedCall) -> Result<Said, AllocError> {
         match call {
-            Call::Get(key, then) => self.get(key, then),
-            Call::Read(key) => self.read(key),
-            Call::Init(key, charge, value, then) | Call::TryInit(key, charge, value, then) => {
+            ThreadedCall::Get(key, then) => self.get(key, then),
+            ThreadedCall::Read(key) => self.read(key),
+            ThreadedCall::Init(key, charge, value, then)
+            | ThreadedCall::TryInit(key, charge, value, then) => {
                 self.init(alloc, key, charge, Some(value), then)
             }
-            Call::Fail(key, charge, then) => self.init(alloc, key, charge, None, then),
-            Call::Insert(key, charge, value, then) => self.put_in(alloc, key, charge, value, then),
-            Call::LetGo(slot) => self.let_go(slot),
-            Call::AdviceEvict(key) => {
-                let evicted = self.owned.advised(key);
+            ThreadedCall::Fail(key, charge, then) => self.init(alloc, key, charge, None, then),
+            ThreadedCall::Insert(key, charge, value, then) => self.insert(
+                alloc, key, charge, value, then,
+            ),
+            ThreadedCall::LetGo(slot) => self.let_go(slot),
+            ThreadedCall::AdviceEvict(key) => {
+                let evicted = self.owned.advice_evict(key);
                 self.note(evicted)
             }
-            Call::Invalidate(key) => {
-                let evicted = self.owned.taken_back(key);
+            ThreadedCall::Invalidate(key) => {
+                let evicted = self.owned.invalidate(key);
                 self.hide(key);
                 self.note(evicted)
             }
-            Call::Prune => self.prune(),
-            Call::SetCapacity(capacity) => {
-                let evicted = self.owned.resized(capacity);
+            ThreadedCall::Prune => self.prune(),
+            ThreadedCall::SetCapacity(capacity) => {
+                let evicted = self.owned.set_capacity(capacity);
                 self.note(evicted)
             }
             // The model has enough memory for what tests ask, and reserved room changes no answer.
-            Call::Reserve(_) => Ok(Said::Done),
+            ThreadedCall::Reserve(_) => Ok(Said::Done),
             _ => Ok(Said::Number(self.total())),
         }
     }
 
     fn get(&mut self, key: u64, then: Then) -> Result<Said, AllocError> {
-        match self.owned.found(key) {
+        match self.owned.get(key) {
             Ok(Some((shard, stamp, value))) => {
                 self.keep(shard, stamp, then)?;
                 Ok(Said::Found(*value))
@@ -98,19 +101,19 @@ impl<P: Owned> Model<P> {
         if charge == 0 {
             return Ok(Said::Uncharged);
         }
-        match self.owned.started(key, charge) {
+        match self.owned.begin(key, charge) {
             Err(refusal) => {
                 self.drop_unused(value)?;
                 Ok(Said::Refused(refusal))
             }
             Ok((shard, begun, evicted)) => {
                 self.note(evicted)?;
-                self.begun(alloc, key, shard, begun, value, then)
+                self.finish_init(alloc, key, shard, begun, value, then)
             }
         }
     }
 
-    fn begun(
+    fn finish_init(
         &mut self,
         alloc: Global,
         key: u64,
@@ -141,10 +144,10 @@ impl<P: Owned> Model<P> {
         then: Then,
     ) -> Result<Said, AllocError> {
         let Some(value) = value else {
-            let _ = self.owned.failed(shard, stamp);
+            let _ = self.owned.fail(shard, stamp);
             return Ok(Said::Failed(key));
         };
-        let _ = self.owned.stored(shard, stamp, Arc::new(alloc, value)?);
+        let _ = self.owned.ready(shard, stamp, Arc::new(alloc, value)?);
         self.entries.push((shard, key, value))?;
         self.keep(shard, stamp, then)?;
         Ok(Said::Made(key, value))
@@ -152,7 +155,7 @@ impl<P: Owned> Model<P> {
 
     // Takes the steps of an insert, one after another. No model reaches the limits of its numbers,
     // so none of them is refused.
-    fn put_in(
+    fn insert(
         &mut self,
         alloc: Global,
         key: u64,
@@ -163,10 +166,10 @@ impl<P: Owned> Model<P> {
         if charge == 0 {
             return Ok(Said::Uncharged);
         }
-        let replaced = self.owned.taken_back(key);
+        let replaced = self.owned.invalidate(key);
         self.hide(key);
         let _: Said = self.note(replaced)?;
-        match self.owned.started(key, charge) {
+        match self.owned.begin(key, charge) {
             Ok((shard, Begun::Make(stamp), evicted)) => {
                 let _: Said = self.note(evicted)?;
                 let _: Said = self.make(alloc, key, shard, stamp, Some(value), then)?;
@@ -210,7 +213,7 @@ impl<P: Owned> Model<P> {
     }
 
     fn release(&mut self, shard: usize, stamp: u64) -> Result<(), AllocError> {
-        if let Ok(evicted) = self.owned.released(shard, stamp) {
+        if let Ok(evicted) = self.owned.release(shard, stamp) {
             self.note(evicted)?;
         }
         Ok(())
@@ -218,7 +221,7 @@ impl<P: Owned> Model<P> {
 
     fn prune(&mut self) -> Result<Said, AllocError> {
         for shard in 0..SHARDS {
-            match self.owned.pruned(shard) {
+            match self.owned.prune_shard(shard) {
                 Ok(evicted) => self.note(evicted)?,
                 Err(_) => return Ok(Said::Done),
             };
@@ -229,7 +232,7 @@ impl<P: Owned> Model<P> {
     fn total(&self) -> u128 {
         let mut total: u128 = 0;
         for shard in 0..SHARDS {
-            match self.owned.total_of(shard) {
+            match self.owned.total_shard(shard) {
                 Ok(one) => total = total.saturating_add(u128::from(one)),
                 Err(_) => return total,
             }
@@ -268,9 +271,9 @@ impl<P: Owned> Model<P> {
 }
 
 // Answers as a player of the cache does: `Show` has the entries in the order of shards and keys.
-impl<P: Owned> Answers<Call> for Model<P> {
-    fn answer(&mut self, alloc: Global, call: Call) -> Result<String, AllocError> {
-        if let Call::Show = call {
+impl<P: Owned> Answers<ThreadedCall> for Model<P> {
+    fn answer(&mut self, alloc: Global, call: ThreadedCall) -> Result<String, AllocError> {
+        if let ThreadedCall::Show = call {
             self.entries.sort_unstable();
             return text_of(alloc, &self.entries);
         }

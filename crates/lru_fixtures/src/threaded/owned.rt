@@ -9,7 +9,7 @@ use std::sync::Arc;
 /// A cache for a single owner, whose keys and values are numbers.
 pub trait Owned {
     /// `begin`. Returns the key's shard first.
-    fn started(
+    fn begin(
         &mut self,
         key: u64,
         charge: u64,
@@ -17,135 +17,135 @@ pub trait Owned {
         requires { 0 < charge };
 
     /// `get`. Returns the key's shard first, and then the stamp.
-    fn found(&mut self, key: u64) -> Result<Option<(usize, u64, Arc<u64>)>, Refusal>;
+    fn get(&mut self, key: u64) -> Result<Option<(usize, u64, Arc<u64>)>, Refusal>;
 
     /// `ready`.
-    fn stored(&mut self, shard: usize, stamp: u64, value: Arc<u64>) -> Result<(), Arc<u64>>;
+    fn ready(&mut self, shard: usize, stamp: u64, value: Arc<u64>) -> Result<(), Arc<u64>>;
 
     /// `fail`.
-    fn failed(&mut self, shard: usize, stamp: u64) -> Result<Failed<u64>, Refusal>;
+    fn fail(&mut self, shard: usize, stamp: u64) -> Result<Failed<u64>, Refusal>;
 
     /// `release`.
-    fn released(&mut self, shard: usize, stamp: u64) -> Result<Evicted<u64, u64>, Refusal>;
+    fn release(&mut self, shard: usize, stamp: u64) -> Result<Evicted<u64, u64>, Refusal>;
 
     /// `advice_evict`.
-    fn advised(&mut self, key: u64) -> Evicted<u64, u64>;
+    fn advice_evict(&mut self, key: u64) -> Evicted<u64, u64>;
 
     /// `invalidate`.
-    fn taken_back(&mut self, key: u64) -> Evicted<u64, u64>;
+    fn invalidate(&mut self, key: u64) -> Evicted<u64, u64>;
 
     /// `set_capacity`, of all shards.
-    fn resized(&mut self, capacity: u64) -> Evicted<u64, u64>;
+    fn set_capacity(&mut self, capacity: u64) -> Evicted<u64, u64>;
 
     /// `prune` of a shard. Returns `Stale` if there is no such shard.
-    fn pruned(&mut self, shard: usize) -> Result<Evicted<u64, u64>, Refusal>;
+    fn prune_shard(&mut self, shard: usize) -> Result<Evicted<u64, u64>, Refusal>;
 
     /// `total` of a shard. Returns `Stale` if there is no such shard.
-    fn total_of(&self, shard: usize) -> Result<u64, Refusal>;
+    fn total_shard(&self, shard: usize) -> Result<u64, Refusal>;
 }
 
 impl Owned for State<u64, u64> {
-    fn started(
+    fn begin(
         &mut self,
         key: u64,
         charge: u64,
     ) -> Result<(usize, Begun<u64>, Evicted<u64, u64>), Refusal>
         requires { 0 < charge }
     {
-        let (begun, evicted) = self.begin(&key, charge)?;
+        let (begun, evicted) = State::begin(self, &key, charge)?;
         Ok((0, begun, evicted))
     }
 
-    fn found(&mut self, key: u64) -> Result<Option<(usize, u64, Arc<u64>)>, Refusal> {
-        match self.get(&key)? {
+    fn get(&mut self, key: u64) -> Result<Option<(usize, u64, Arc<u64>)>, Refusal> {
+        match State::get(self, &key)? {
             Some((stamp, value)) => Ok(Some((0, stamp, value))),
             None => Ok(None),
         }
     }
 
-    fn stored(&mut self, _shard: usize, stamp: u64, value: Arc<u64>) -> Result<(), Arc<u64>> {
-        self.ready(stamp, value)
+    fn ready(&mut self, _shard: usize, stamp: u64, value: Arc<u64>) -> Result<(), Arc<u64>> {
+        State::ready(self, stamp, value)
     }
 
-    fn failed(&mut self, _shard: usize, stamp: u64) -> Result<Failed<u64>, Refusal> {
-        self.fail(stamp)
+    fn fail(&mut self, _shard: usize, stamp: u64) -> Result<Failed<u64>, Refusal> {
+        State::fail(self, stamp)
     }
 
-    fn released(&mut self, _shard: usize, stamp: u64) -> Result<Evicted<u64, u64>, Refusal> {
-        self.release(stamp)
+    fn release(&mut self, _shard: usize, stamp: u64) -> Result<Evicted<u64, u64>, Refusal> {
+        State::release(self, stamp)
     }
 
-    fn advised(&mut self, key: u64) -> Evicted<u64, u64> {
-        self.advice_evict(&key)
+    fn advice_evict(&mut self, key: u64) -> Evicted<u64, u64> {
+        State::advice_evict(self, &key)
     }
 
-    fn taken_back(&mut self, key: u64) -> Evicted<u64, u64> {
-        self.invalidate(&key)
+    fn invalidate(&mut self, key: u64) -> Evicted<u64, u64> {
+        State::invalidate(self, &key)
     }
 
-    fn resized(&mut self, capacity: u64) -> Evicted<u64, u64> {
-        self.set_capacity(capacity)
+    fn set_capacity(&mut self, capacity: u64) -> Evicted<u64, u64> {
+        State::set_capacity(self, capacity)
     }
 
-    fn pruned(&mut self, shard: usize) -> Result<Evicted<u64, u64>, Refusal> {
+    fn prune_shard(&mut self, shard: usize) -> Result<Evicted<u64, u64>, Refusal> {
         if shard > 0 {
             return Err(Refusal::Stale);
         }
-        Ok(self.prune())
+        Ok(State::prune(self))
     }
 
-    fn total_of(&self, shard: usize) -> Result<u64, Refusal> {
+    fn total_shard(&self, shard: usize) -> Result<u64, Refusal> {
         if shard > 0 {
             return Err(Refusal::Stale);
         }
-        Ok(self.total())
+        Ok(State::total(self))
     }
 }
 
 impl<S: BuildHasher + Drop> Owned for Shards<u64, u64, S> {
-    fn started(
+    fn begin(
         &mut self,
         key: u64,
         charge: u64,
     ) -> Result<(usize, Begun<u64>, Evicted<u64, u64>), Refusal>
         requires { 0 < charge }
     {
-        self.begin(&key, charge)
+        Shards::begin(self, &key, charge)
     }
 
-    fn found(&mut self, key: u64) -> Result<Option<(usize, u64, Arc<u64>)>, Refusal> {
-        self.get(&key)
+    fn get(&mut self, key: u64) -> Result<Option<(usize, u64, Arc<u64>)>, Refusal> {
+        Shards::get(self, &key)
     }
 
-    fn stored(&mut self, shard: usize, stamp: u64, value: Arc<u64>) -> Result<(), Arc<u64>> {
-        self.ready(shard, stamp, value)
+    fn ready(&mut self, shard: usize, stamp: u64, value: Arc<u64>) -> Result<(), Arc<u64>> {
+        Shards::ready(self, shard, stamp, value)
     }
 
-    fn failed(&mut self, shard: usize, stamp: u64) -> Result<Failed<u64>, Refusal> {
-        self.fail(shard, stamp)
+    fn fail(&mut self, shard: usize, stamp: u64) -> Result<Failed<u64>, Refusal> {
+        Shards::fail(self, shard, stamp)
     }
 
-    fn released(&mut self, shard: usize, stamp: u64) -> Result<Evicted<u64, u64>, Refusal> {
-        self.release(shard, stamp)
+    fn release(&mut self, shard: usize, stamp: u64) -> Result<Evicted<u64, u64>, Refusal> {
+        Shards::release(self, shard, stamp)
     }
 
-    fn advised(&mut self, key: u64) -> Evicted<u64, u64> {
-        self.advice_evict(&key)
+    fn advice_evict(&mut self, key: u64) -> Evicted<u64, u64> {
+        Shards::advice_evict(self, &key)
     }
 
-    fn taken_back(&mut self, key: u64) -> Evicted<u64, u64> {
-        self.invalidate(&key)
+    fn invalidate(&mut self, key: u64) -> Evicted<u64, u64> {
+        Shards::invalidate(self, &key)
     }
 
-    fn resized(&mut self, capacity: u64) -> Evicted<u64, u64> {
-        self.set_capacity(capacity)
+    fn set_capacity(&mut self, capacity: u64) -> Evicted<u64, u64> {
+        Shards::set_capacity(self, capacity)
     }
 
-    fn pruned(&mut self, shard: usize) -> Result<Evicted<u64, u64>, Refusal> {
-        self.prune_shard(shard)
+    fn prune_shard(&mut self, shard: usize) -> Result<Evicted<u64, u64>, Refusal> {
+        Shards::prune_shard(self, shard)
     }
 
-    fn total_of(&self, shard: usize) -> Result<u64, Refusal> {
-        self.total_shard(shard)
+    fn total_shard(&self, shard: usize) -> Result<u64, Refusal> {
+        Shards::total_shard(self, shard)
     }
 }

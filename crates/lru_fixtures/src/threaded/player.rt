@@ -1,8 +1,8 @@
 //! A single thread that makes calls of a cache, and holds handles in slots.
 ghost use Rattle.std.specs.Prelude.{◌<◌};
 
-use crate::tables::{Answers, answers_as_told, text_of};
-use crate::threaded::calls::{Call, Said, Then};
+use crate::tables::{Answers, answers_as_expected, text_of};
+use crate::threaded::calls::{Said, Then, ThreadedCall};
 use crate::threaded::making::{NoHandle, make_value, try_make_value};
 use lru_support::cached::Cached;
 use lru_support::drops::{DropLog, Logged};
@@ -37,28 +37,28 @@ impl<'l, R: Wait + Clone + Drop, C: Cached<Logged<R>>> Player<'l, R, C> {
     }
 
     /// Makes a call. Returns `AllocError` if memory for a value is refused; then no call was made.
-    pub fn take(&mut self, call: Call) -> Result<Said, AllocError> {
+    pub fn take(&mut self, call: ThreadedCall) -> Result<Said, AllocError> {
         match call {
-            Call::Init(key, charge, number, then) => {
+            ThreadedCall::Init(key, charge, number, then) => {
                 let value = self.log.value(number)?;
                 Ok(self.init(key, charge, value, then))
             }
-            Call::TryInit(key, charge, number, then) => {
+            ThreadedCall::TryInit(key, charge, number, then) => {
                 let value = self.log.value(number)?;
                 Ok(self.try_init(key, charge, Some(value), then))
             }
-            Call::Fail(key, charge, then) => Ok(self.try_init(key, charge, None, then)),
-            Call::Insert(key, charge, number, then) => {
+            ThreadedCall::Fail(key, charge, then) => Ok(self.try_init(key, charge, None, then)),
+            ThreadedCall::Insert(key, charge, number, then) => {
                 let value = self.log.value(number)?;
-                Ok(self.put_in(key, charge, value, then))
+                Ok(self.insert(key, charge, value, then))
             }
-            Call::Get(key, then) => Ok(self.get(key, then)),
-            Call::Read(key) => Ok(self.read(key)),
-            Call::LetGo(slot) => {
+            ThreadedCall::Get(key, then) => Ok(self.get(key, then)),
+            ThreadedCall::Read(key) => Ok(self.read(key)),
+            ThreadedCall::LetGo(slot) => {
                 self.put(slot, None);
                 Ok(Said::Done)
             }
-            _ => Ok(asked(self.cache, call)),
+            _ => Ok(ask(self.cache, call)),
         }
     }
 
@@ -82,7 +82,7 @@ impl<'l, R: Wait + Clone + Drop, C: Cached<Logged<R>>> Player<'l, R, C> {
     }
 
     fn get(&mut self, key: u64, then: Then) -> Said {
-        match self.cache.found(key) {
+        match self.cache.get(key) {
             Ok(Some(handle)) => Said::Found(self.keep(handle, then)),
             Ok(None) => Said::Absent,
             Err(refusal) => Said::Refused(refusal),
@@ -90,18 +90,18 @@ impl<'l, R: Wait + Clone + Drop, C: Cached<Logged<R>>> Player<'l, R, C> {
     }
 
     fn read(&self, key: u64) -> Said {
-        match self.cache.seen(key, |value| value.number()) {
+        match self.cache.read(key, |value| value.number()) {
             Ok(Some(number)) => Said::Read(number),
             Ok(None) => Said::Absent,
             Err(refusal) => Said::Refused(refusal),
         }
     }
 
-    fn put_in(&mut self, key: u64, charge: u64, value: Logged<R>, then: Then) -> Said {
+    fn insert(&mut self, key: u64, charge: u64, value: Logged<R>, then: Then) -> Said {
         if charge == 0 {
             return Said::Uncharged;
         }
-        match self.cache.put(key, charge, value) {
+        match self.cache.insert(key, charge, value) {
             Ok(handle) => Said::Put(self.keep(handle, then)),
             Err(refusal) => Said::Refused(refusal),
         }
@@ -113,7 +113,7 @@ impl<'l, R: Wait + Clone + Drop, C: Cached<Logged<R>>> Player<'l, R, C> {
         }
         let mut ran = None;
         let made = make_value(self.cache, key, charge, value, &mut ran);
-        self.told(made, ran, then)
+        self.answer_made(made, ran, then)
     }
 
     fn try_init(&mut self, key: u64, charge: u64, value: Option<Logged<R>>, then: Then) -> Said {
@@ -122,12 +122,17 @@ impl<'l, R: Wait + Clone + Drop, C: Cached<Logged<R>>> Player<'l, R, C> {
         }
         let mut ran = None;
         let made = try_make_value(self.cache, key, charge, value, &mut ran);
-        self.told(made, ran, then)
+        self.answer_made(made, ran, then)
     }
 
-    fn told(&mut self, made: Result<C::Handle, NoHandle>, ran: Option<u64>, then: Then) -> Said {
+    fn answer_made(
+        &mut self,
+        made: Result<C::Handle, NoHandle>,
+        ran: Option<u64>,
+        then: Then,
+    ) -> Said {
         match made {
-            Ok(handle) => said(ran, self.keep(handle, then)),
+            Ok(handle) => made_or_found(ran, self.keep(handle, then)),
             Err(NoHandle::Failed(key)) => Said::Failed(key),
             Err(NoHandle::Refused(refusal)) => Said::Refused(refusal),
         }
@@ -135,7 +140,7 @@ impl<'l, R: Wait + Clone + Drop, C: Cached<Logged<R>>> Player<'l, R, C> {
 }
 
 // The answer for a handle, whose value an `init` made for this key, or was already there.
-fn said(ran: Option<u64>, number: u64) -> Said {
+fn made_or_found(ran: Option<u64>, number: u64) -> Said {
     match ran {
         Some(key) => Said::Made(key, number),
         None => Said::Found(number),
@@ -148,35 +153,35 @@ pub fn play<R: Wait + Clone + Drop, C: Cached<Logged<R>> + fmt::Debug>(
     alloc: Global,
     cache: C,
     log: &DropLog<R>,
-    table: &[(Call, &str)],
+    table: &[(ThreadedCall, &str)],
 ) -> Result<(), Fail> {
     let mut player = Player::new(alloc, cache, log)?;
-    answers_as_told(alloc, &mut player, table)
+    answers_as_expected(alloc, &mut player, table)
 }
 
 // Makes a call that returns no handle.
-fn asked<V, C: Cached<V>>(cache: C, call: Call) -> Said {
+fn ask<V, C: Cached<V>>(cache: C, call: ThreadedCall) -> Said {
     match call {
-        Call::AdviceEvict(key) => cache.advise(key),
-        Call::Invalidate(key) => cache.take_back(key),
-        Call::Prune => cache.clear(),
-        Call::SetCapacity(capacity) => cache.resize(capacity),
-        Call::Reserve(entries) => {
-            if let Err(refusal) = cache.make_room(entries) {
+        ThreadedCall::AdviceEvict(key) => cache.advice_evict(key),
+        ThreadedCall::Invalidate(key) => cache.invalidate(key),
+        ThreadedCall::Prune => cache.prune(),
+        ThreadedCall::SetCapacity(capacity) => cache.set_capacity(capacity),
+        ThreadedCall::Reserve(entries) => {
+            if let Err(refusal) = cache.reserve(entries) {
                 return Said::Refused(refusal);
             }
         }
-        Call::Capacity => return Said::Number(cache.limit()),
-        _ => return Said::Number(cache.total()),
+        ThreadedCall::Capacity => return Said::Number(cache.capacity()),
+        _ => return Said::Number(cache.total_charge()),
     }
     Said::Done
 }
 
 // Prints the answer, followed by the values that were dropped, if any.
-impl<'l, R: Wait + Clone + Drop, C: Cached<Logged<R>> + fmt::Debug> Answers<Call>
+impl<'l, R: Wait + Clone + Drop, C: Cached<Logged<R>> + fmt::Debug> Answers<ThreadedCall>
     for Player<'l, R, C> {
-    fn answer(&mut self, alloc: Global, call: Call) -> Result<String, AllocError> {
-        if let Call::Show = call {
+    fn answer(&mut self, alloc: Global, call: ThreadedCall) -> Result<String, AllocError> {
+        if let ThreadedCall::Show = call {
             return text_of(alloc, &self.cache);
         }
         let said = self.take(call)?;

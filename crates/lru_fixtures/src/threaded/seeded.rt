@@ -1,7 +1,7 @@
 //! Long runs of calls drawn from seeds, whose answers are compared with those of a model.
 
 use crate::tables::{Answers, text_of};
-use crate::threaded::calls::{Call, Then};
+use crate::threaded::calls::{Then, ThreadedCall};
 use crate::threaded::model::Model;
 use crate::threaded::owned::Owned;
 use crate::threaded::player::Player;
@@ -26,7 +26,7 @@ pub fn capacity_of(seed: u64) -> u64 {
 
 // Returns the next call, whose value is its number. The numbers of 16 keys differ in their high
 // half only, in their low half only, or in both.
-fn draw(generator: &mut Xoshiro256PlusPlus, number: u64) -> Call {
+fn draw(generator: &mut Xoshiro256PlusPlus, number: u64) -> ThreadedCall {
     let kind = generator.next_u64() % 34;
     let key = generator.next_u64() % 4 * 4_294_967_296 + generator.next_u64() % 4;
     let charge = 1 + generator.next_u64() % 9;
@@ -38,19 +38,19 @@ fn draw(generator: &mut Xoshiro256PlusPlus, number: u64) -> Call {
         Then::AtOnce
     };
     match kind {
-        0..5 => Call::Get(key, then),
-        5..10 => Call::Init(key, charge, number, then),
-        10..14 => Call::TryInit(key, charge, number, then),
-        14..17 => Call::Fail(key, charge, then),
-        17..20 => Call::LetGo(slot % 4),
-        20..22 => Call::AdviceEvict(key),
-        22 => Call::Prune,
-        23 => Call::SetCapacity(limit),
-        24 => Call::Reserve(limit as usize),
-        25..27 => Call::Invalidate(key),
-        27..30 => Call::Insert(key, charge, number, then),
-        30..33 => Call::Read(key),
-        _ => Call::Total,
+        0..5 => ThreadedCall::Get(key, then),
+        5..10 => ThreadedCall::Init(key, charge, number, then),
+        10..14 => ThreadedCall::TryInit(key, charge, number, then),
+        14..17 => ThreadedCall::Fail(key, charge, then),
+        17..20 => ThreadedCall::LetGo(slot % 4),
+        20..22 => ThreadedCall::AdviceEvict(key),
+        22 => ThreadedCall::Prune,
+        23 => ThreadedCall::SetCapacity(limit),
+        24 => ThreadedCall::Reserve(limit as usize),
+        25..27 => ThreadedCall::Invalidate(key),
+        27..30 => ThreadedCall::Insert(key, charge, number, then),
+        30..33 => ThreadedCall::Read(key),
+        _ => ThreadedCall::Total,
     }
 }
 
@@ -70,7 +70,7 @@ pub fn agree<R: Wait + Clone + Drop, C: Cached<Logged<R>> + fmt::Debug, P: Owned
     answer_alike(alloc, seed, &mut player, &mut model)
 }
 
-fn answer_alike<C: Answers<Call>, M: Answers<Call>>(
+fn answer_alike<C: Answers<ThreadedCall>, M: Answers<ThreadedCall>>(
     alloc: Global,
     seed: u64,
     cache: &mut C,
@@ -90,11 +90,11 @@ fn answer_alike<C: Answers<Call>, M: Answers<Call>>(
 
 // Makes one call on both. Returns their answers, or the entries that they show after it, if these
 // differ.
-fn difference<C: Answers<Call>, M: Answers<Call>>(
+fn difference<C: Answers<ThreadedCall>, M: Answers<ThreadedCall>>(
     alloc: Global,
     cache: &mut C,
     model: &mut M,
-    call: Call,
+    call: ThreadedCall,
 ) -> Result<Option<(String, String)>, AllocError> {
     let answers = (cache.answer(alloc, call)?, model.answer(alloc, call)?);
     if answers.0.as_str() != answers.1.as_str() {
@@ -102,7 +102,7 @@ fn difference<C: Answers<Call>, M: Answers<Call>>(
     }
     let shown = (
         entries_shown(alloc, cache)?,
-        model.answer(alloc, Call::Show)?,
+        model.answer(alloc, ThreadedCall::Show)?,
     );
     if shown.0.as_str() != shown.1.as_str() {
         return Ok(Some(shown));
@@ -112,8 +112,11 @@ fn difference<C: Answers<Call>, M: Answers<Call>>(
 
 // Returns the entries that the text of a cache shows, as the text of a list of shards, keys and
 // values.
-fn entries_shown<C: Answers<Call>>(alloc: Global, cache: &mut C) -> Result<String, AllocError> {
-    let text = cache.answer(alloc, Call::Show)?;
+fn entries_shown<C: Answers<ThreadedCall>>(
+    alloc: Global,
+    cache: &mut C,
+) -> Result<String, AllocError> {
+    let text = cache.answer(alloc, ThreadedCall::Show)?;
     text_of(alloc, &entries_of(alloc, text.as_str())?)
 }
 

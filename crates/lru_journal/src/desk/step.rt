@@ -10,7 +10,7 @@ use std::hash::Hash;
 use std::sync::Arc;
 
 /// A step of the journal.
-pub trait Call<K: Hash + Eq + Clone, V> {
+pub trait Step<K: Hash + Eq + Clone, V> {
     /// The answer of an accepted step.
     type Answer;
 
@@ -23,8 +23,8 @@ pub trait Call<K: Hash + Eq + Clone, V> {
 
     ghost may_refuse: { Self → Self.Refused → Type 0 };
 
-    /// Takes the step.
-    fn take(self, journal: &mut Journal<K, V>) -> Result<Self::Answer, Self::Refused>
+    /// Takes the step, as one call of the journal.
+    fn apply(self, journal: &mut Journal<K, V>) -> Result<Self::Answer, Self::Refused>
         ensures recorded { IsRecorded journal.old (is_record self) result journal.new }
         ensures refusal { IfErr result (may_refuse self) };
 }
@@ -37,7 +37,7 @@ pub struct Begin<'a, K> {
     ghost charged: { 0 < charge },
 }
 
-impl<'a, K: Hash + Eq + Clone, V: Drop> Call<K, V> for Begin<'a, K> {
+impl<'a, K: Hash + Eq + Clone, V: Drop> Step<K, V> for Begin<'a, K> {
     type Answer = (Begun<V>, Evicted<K, V>);
 
     type Refused = Refusal;
@@ -52,7 +52,7 @@ impl<'a, K: Hash + Eq + Clone, V: Drop> Call<K, V> for Begin<'a, K> {
 
     ghost may_refuse = { λ s e. e ≢ Stale };
 
-    fn take(self, journal: &mut Journal<K, V>) -> Result<(Begun<V>, Evicted<K, V>), Refusal> {
+    fn apply(self, journal: &mut Journal<K, V>) -> Result<(Begun<V>, Evicted<K, V>), Refusal> {
         journal.begin(self.key, self.charge)
     }
 }
@@ -63,7 +63,7 @@ pub struct Poll {
     pub(crate) stamp: u64,
 }
 
-impl<K: Hash + Eq + Clone, V: Drop> Call<K, V> for Poll {
+impl<K: Hash + Eq + Clone, V: Drop> Step<K, V> for Poll {
     type Answer = Begun<V>;
 
     type Refused = Refusal;
@@ -78,7 +78,7 @@ impl<K: Hash + Eq + Clone, V: Drop> Call<K, V> for Poll {
 
     ghost may_refuse = { λ s e. e ≢ Overflow };
 
-    fn take(self, journal: &mut Journal<K, V>) -> Result<Begun<V>, Refusal> {
+    fn apply(self, journal: &mut Journal<K, V>) -> Result<Begun<V>, Refusal> {
         journal.poll(self.stamp)
     }
 }
@@ -90,7 +90,7 @@ pub struct Ready<V> {
     pub(crate) value: Arc<V>,
 }
 
-impl<K: Hash + Eq + Clone, V: Drop> Call<K, V> for Ready<V> {
+impl<K: Hash + Eq + Clone, V: Drop> Step<K, V> for Ready<V> {
     type Answer = ();
 
     type Refused = (Refusal, Arc<V>);
@@ -106,7 +106,7 @@ impl<K: Hash + Eq + Clone, V: Drop> Call<K, V> for Ready<V> {
 
     ghost may_refuse = { λ s e. (e.0 ≢ Overflow) × (arc_value e.1 ≡ arc_value s.value) };
 
-    fn take(self, journal: &mut Journal<K, V>) -> Result<(), (Refusal, Arc<V>)> {
+    fn apply(self, journal: &mut Journal<K, V>) -> Result<(), (Refusal, Arc<V>)> {
         journal.ready(self.stamp, self.value)
     }
 }
@@ -117,7 +117,7 @@ pub struct Fail {
     pub(crate) stamp: u64,
 }
 
-impl<K: Hash + Eq + Clone, V: Drop> Call<K, V> for Fail {
+impl<K: Hash + Eq + Clone, V: Drop> Step<K, V> for Fail {
     type Answer = Failed<K>;
 
     type Refused = Refusal;
@@ -132,7 +132,7 @@ impl<K: Hash + Eq + Clone, V: Drop> Call<K, V> for Fail {
 
     ghost may_refuse = { λ s e. e ≢ Overflow };
 
-    fn take(self, journal: &mut Journal<K, V>) -> Result<Failed<K>, Refusal> {
+    fn apply(self, journal: &mut Journal<K, V>) -> Result<Failed<K>, Refusal> {
         journal.fail(self.stamp)
     }
 }
@@ -143,7 +143,7 @@ pub struct Get<'a, K> {
     pub(crate) key: &'a K,
 }
 
-impl<'a, K: Hash + Eq + Clone, V: Drop> Call<K, V> for Get<'a, K> {
+impl<'a, K: Hash + Eq + Clone, V: Drop> Step<K, V> for Get<'a, K> {
     type Answer = Option<(u64, Arc<V>)>;
 
     type Refused = Refusal;
@@ -158,7 +158,7 @@ impl<'a, K: Hash + Eq + Clone, V: Drop> Call<K, V> for Get<'a, K> {
 
     ghost may_refuse = { λ s e. e ≢ Stale };
 
-    fn take(self, journal: &mut Journal<K, V>) -> Result<Option<(u64, Arc<V>)>, Refusal> {
+    fn apply(self, journal: &mut Journal<K, V>) -> Result<Option<(u64, Arc<V>)>, Refusal> {
         journal.get(self.key)
     }
 }
@@ -169,7 +169,7 @@ pub struct Release {
     pub(crate) stamp: u64,
 }
 
-impl<K: Hash + Eq + Clone, V: Drop> Call<K, V> for Release {
+impl<K: Hash + Eq + Clone, V: Drop> Step<K, V> for Release {
     type Answer = Evicted<K, V>;
 
     type Refused = Refusal;
@@ -184,7 +184,7 @@ impl<K: Hash + Eq + Clone, V: Drop> Call<K, V> for Release {
 
     ghost may_refuse = { λ s e. e ≢ Overflow };
 
-    fn take(self, journal: &mut Journal<K, V>) -> Result<Evicted<K, V>, Refusal> {
+    fn apply(self, journal: &mut Journal<K, V>) -> Result<Evicted<K, V>, Refusal> {
         journal.release(self.stamp)
     }
 }
@@ -195,7 +195,7 @@ pub struct AdviceEvict<'a, K> {
     pub(crate) key: &'a K,
 }
 
-impl<'a, K: Hash + Eq + Clone, V: Drop> Call<K, V> for AdviceEvict<'a, K> {
+impl<'a, K: Hash + Eq + Clone, V: Drop> Step<K, V> for AdviceEvict<'a, K> {
     type Answer = Evicted<K, V>;
 
     type Refused = Refusal;
@@ -211,7 +211,7 @@ impl<'a, K: Hash + Eq + Clone, V: Drop> Call<K, V> for AdviceEvict<'a, K> {
 
     ghost may_refuse = { λ s e. e ≡ Memory };
 
-    fn take(self, journal: &mut Journal<K, V>) -> Result<Evicted<K, V>, Refusal> {
+    fn apply(self, journal: &mut Journal<K, V>) -> Result<Evicted<K, V>, Refusal> {
         journal.advice_evict(self.key)
     }
 }
@@ -222,7 +222,7 @@ pub struct Invalidate<'a, K> {
     pub(crate) key: &'a K,
 }
 
-impl<'a, K: Hash + Eq + Clone, V: Drop> Call<K, V> for Invalidate<'a, K> {
+impl<'a, K: Hash + Eq + Clone, V: Drop> Step<K, V> for Invalidate<'a, K> {
     type Answer = Evicted<K, V>;
 
     type Refused = Refusal;
@@ -238,7 +238,7 @@ impl<'a, K: Hash + Eq + Clone, V: Drop> Call<K, V> for Invalidate<'a, K> {
 
     ghost may_refuse = { λ s e. e ≡ Memory };
 
-    fn take(self, journal: &mut Journal<K, V>) -> Result<Evicted<K, V>, Refusal> {
+    fn apply(self, journal: &mut Journal<K, V>) -> Result<Evicted<K, V>, Refusal> {
         journal.invalidate(self.key)
     }
 }
@@ -247,7 +247,7 @@ impl<'a, K: Hash + Eq + Clone, V: Drop> Call<K, V> for Invalidate<'a, K> {
 #[derive(Drop)]
 pub struct Prune;
 
-impl<K: Hash + Eq + Clone, V: Drop> Call<K, V> for Prune {
+impl<K: Hash + Eq + Clone, V: Drop> Step<K, V> for Prune {
     type Answer = Evicted<K, V>;
 
     type Refused = Refusal;
@@ -262,7 +262,7 @@ impl<K: Hash + Eq + Clone, V: Drop> Call<K, V> for Prune {
 
     ghost may_refuse = { λ s e. e ≡ Memory };
 
-    fn take(self, journal: &mut Journal<K, V>) -> Result<Evicted<K, V>, Refusal> {
+    fn apply(self, journal: &mut Journal<K, V>) -> Result<Evicted<K, V>, Refusal> {
         journal.prune()
     }
 }
@@ -273,7 +273,7 @@ pub struct SetCapacity {
     pub(crate) capacity: u64,
 }
 
-impl<K: Hash + Eq + Clone, V: Drop> Call<K, V> for SetCapacity {
+impl<K: Hash + Eq + Clone, V: Drop> Step<K, V> for SetCapacity {
     type Answer = Evicted<K, V>;
 
     type Refused = Refusal;
@@ -288,7 +288,7 @@ impl<K: Hash + Eq + Clone, V: Drop> Call<K, V> for SetCapacity {
 
     ghost may_refuse = { λ s e. e ≡ Memory };
 
-    fn take(self, journal: &mut Journal<K, V>) -> Result<Evicted<K, V>, Refusal> {
+    fn apply(self, journal: &mut Journal<K, V>) -> Result<Evicted<K, V>, Refusal> {
         journal.set_capacity(self.capacity)
     }
 }
@@ -297,7 +297,7 @@ impl<K: Hash + Eq + Clone, V: Drop> Call<K, V> for SetCapacity {
 #[derive(Drop)]
 pub struct Total;
 
-impl<K: Hash + Eq + Clone, V: Drop> Call<K, V> for Total {
+impl<K: Hash + Eq + Clone, V: Drop> Step<K, V> for Total {
     type Answer = u64;
 
     type Refused = Refusal;
@@ -312,7 +312,7 @@ impl<K: Hash + Eq + Clone, V: Drop> Call<K, V> for Total {
 
     ghost may_refuse = { λ s e. e ≡ Memory };
 
-    fn take(self, journal: &mut Journal<K, V>) -> Result<u64, Refusal> {
+    fn apply(self, journal: &mut Journal<K, V>) -> Result<u64, Refusal> {
         journal.total()
     }
 }

@@ -239,7 +239,7 @@ fn fails_if_a_file_cannot_be_written(rt: HostRuntime) -> Result<(), Fail> {
 }
 
 // The content of the file that a run with this option writes.
-fn written<F: Files<File = File> + Env + AllocGlobal>(
+fn file_content<F: Files<File = File> + Env + AllocGlobal>(
     rt: &F,
     option: &str,
     name: &str,
@@ -256,11 +256,11 @@ fn written<F: Files<File = File> + Env + AllocGlobal>(
 
 #[test]
 fn writes_files(rt: HostRuntime) -> Result<(), Fail> {
-    let svg = written(&rt, "--svg", "lru_size_tests.svg")?;
+    let svg = file_content(&rt, "--svg", "lru_size_tests.svg")?;
     assert!(rt; svg.as_str().starts_with("<svg "));
     assert!(rt; svg.as_str().contains(">7: 28.57%</text>"));
     assert!(rt; svg.as_str().ends_with("</svg>\n"));
-    let csv = written(&rt, "--csv", "lru_size_tests.csv")?;
+    let csv = file_content(&rt, "--csv", "lru_size_tests.csv")?;
     assert!(rt;
         csv.as_str()
             .starts_with("capacity,uses,hits,charge_made\n1,7,0,21\n")

@@ -6,7 +6,7 @@ use Rattle.std.specs.FinMap.{FinMap, empty, get, insert, remove, get-empty, get-
 use Rattle.std.proofs.lemmas.Option.{same_Some}
 use Rattle.concurrent_lru.specs.NodeTable.{Entry, entry_of}
 use Rattle.concurrent_lru.specs.declared.list.Node.{Node}
-use Rattle.concurrent_lru.proofs.Entries.NodeWrittenOrAdded.{inserted_at}
+use Rattle.concurrent_lru.proofs.Entries.NodesOfSetAndAdd.{inserted_at}
 use Rattle.lru_core_tests.proofs.list.gives_a_free_place_out_again.Goals as goal
 
 abbrev stamp_of : Entry ℕ ℕ → ℕ

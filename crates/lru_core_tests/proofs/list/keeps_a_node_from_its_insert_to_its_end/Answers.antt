@@ -4,7 +4,7 @@ use Rattle.std.specs.Option.{option_map_or}
 use Rattle.std.specs.Ordering.{nat_cmp}
 use Rattle.std.specs.FinMap.{FinMap, get, insert, get-empty}
 use Rattle.concurrent_lru.specs.NodeTable.{Entry, update_at}
-use Rattle.concurrent_lru.proofs.Entries.NodeWrittenOrAdded.{inserted_at}
+use Rattle.concurrent_lru.proofs.Entries.NodesOfSetAndAdd.{inserted_at}
 use Rattle.lru_core_tests.proofs.list.keeps_a_node_from_its_insert_to_its_end.Goals as goal
 
 -- what was inserted is there

@@ -6,4 +6,4 @@ use Rattle.concurrent_lru.proofs.list.Nodes.end_of_places.Goals as goal
 pub returns : goal.returns
 returns g c = λ place past.
     let i = c.self.inside in
-    node_had i.order i.work.count c.args.self.now c.self.view_is place place refl ∙ ap entry_in (c.end_of_keys.ensures place past)
+    node_had i.order i.work.count c.args.self.now c.self.view_is place place refl ∙ ap entry_in (c.end_of_slots.ensures place past)

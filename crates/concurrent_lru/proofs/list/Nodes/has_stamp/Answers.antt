@@ -15,8 +15,8 @@ use Rattle.concurrent_lru.proofs.list.Nodes.has_stamp.Goals.{After-node}
 here : (g : _) (c : After-node g) → get c.args.self.now.nodes c.args.place ≡ Some (entry_of c.node.result.now)
 here g c =
     let i = c.self.inside in
-    let there = some_cell (cell_at (cells_of i.order.slots) c.place.inside.key) (c.contains.ensures.yes c.if-contains.true) in
-    entry_there i.order i.work.count c.args.self.now c.self.view_is c.place.inside.key c.args.place there.0 c.place.view_is there.1 ∙ ap (λ n. Some (entry_of n)) (sym (c.node.ensures there.0 there.1))
+    let there = some_cell (cell_at (cells_of i.order.slots) c.place.inside.slot) (c.contains.ensures.yes c.if-contains.true) in
+    entry_there i.order i.work.count c.args.self.now c.self.view_is c.place.inside.slot c.args.place there.0 c.place.view_is there.1 ∙ ap (λ n. Some (entry_of n)) (sym (c.node.ensures there.0 there.1))
 
 pub returns-then-contains-clause-yes : goal.returns-then-contains-clause-yes
 returns-then-contains-clause-yes g c = λ same. (entry_of c.node.result.now, here g c, eqb-true _ _ same)
@@ -28,4 +28,4 @@ pub returns-else-contains-clause-no : goal.returns-else-contains-clause-no
 returns-else-contains-clause-no g c = λ _ has.
     let i = c.self.inside in
     let vacant = c.contains.ensures.no c.if-contains.false in
-    none-some has.0 (sym (node_had i.order i.work.count c.args.self.now c.self.view_is c.place.inside.key c.args.place c.place.view_is ∙ ap entry_in vacant) ∙ has.1)
+    none-some has.0 (sym (node_had i.order i.work.count c.args.self.now c.self.view_is c.place.inside.slot c.args.place c.place.view_is ∙ ap entry_in vacant) ∙ has.1)

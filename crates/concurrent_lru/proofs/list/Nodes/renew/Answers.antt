@@ -4,7 +4,7 @@ use Rattle.concurrent_lru.proofs.Nodes.SlotViews.{idle_there, spare_same}
 use Rattle.concurrent_lru.proofs.list.Nodes.renew.Goals as goal
 
 pub renew-requires-clause-idle : goal.renew-requires-clause-idle
-renew-requires-clause-idle g c = let i = c.self.inside in idle_there i.order i.work.count c.args.self.now c.self.view_is true c.place.inside.key c.args.place c.place.view_is c.requires
+renew-requires-clause-idle g c = let i = c.self.inside in idle_there i.order i.work.count c.args.self.now c.self.view_is true c.place.inside.slot c.args.place c.place.view_is c.requires
 
 pub returns-clause-nodes : goal.returns-clause-nodes
 returns-clause-nodes g c = c.renew.ensures.nodes ∙ ap (λ (v : NodeTable g.row.K.Denot g.row.V.Denot). v.nodes) c.self.view_is

@@ -10,5 +10,5 @@ invariant_of-self g c = record {
 pub returns-then-not-has_key-clause-step : goal.returns-then-not-has_key-clause-step
 returns-then-not-has_key-clause-step g c = λ at. absurd (c.has_key.ensures.no c.if-not-has_key.true at)
 
-pub returns-clause-stray : goal.returns-clause-stray
-returns-clause-stray g c = λ none. absurd (none (c.has_key.ensures.yes c.if-not-has_key.false))
+pub returns-clause-no_entry : goal.returns-clause-no_entry
+returns-clause-no_entry g c = λ none. absurd (none (c.has_key.ensures.yes c.if-not-has_key.false))

@@ -3,7 +3,7 @@ use Rattle.concurrent_lru.specs.Ready.{HasEqualKeyAt}
 use Rattle.concurrent_lru.specs.Request as ask
 use Rattle.concurrent_lru.specs.Results.{outcome_of_ready}
 use Rattle.concurrent_lru.specs.Runs.{Stands}
-use Rattle.concurrent_lru.proofs.Steps.ReadyValues.{keyed_kept, keyed_stray}
+use Rattle.concurrent_lru.proofs.Steps.ReadyValues.{keyed_kept, keyed_no_entry}
 use Rattle.concurrent_lru.proofs.locked.Locked.ready.Goals as goal
 
 pub invariant_of-self : goal.invariant_of-self
@@ -19,10 +19,10 @@ returns-clause-step g c =
     let new = c.ready_keyed-back.new.self.cache in
     rw c.of.ensures (subst (λ old. HasEqualKeyAt g.K.PartialEq.eq old.cache c.args.making.spot.stamp c.args.key.now → Stands g.K.PartialEq.eq old.cache (ask.ready c.args.making.spot.stamp c.args.stored.value) (outcome_of_ready c.ready_keyed-back.result.0) new) c.self.view_is c.ready_keyed-back.ensures.step)
 
-pub returns-clause-stray : goal.returns-clause-stray
-returns-clause-stray g c =
+pub returns-clause-no_entry : goal.returns-clause-no_entry
+returns-clause-no_entry g c =
     let ready = c.ready_keyed-back.ensures in
     let is = ap (λ x. x.cache) c.self.view_is in
     λ none.
-    let back = keyed_stray g.K.PartialEq.eq _ c.ready_keyed-back.new.self.cache c.args.making.spot.stamp c.args.key.now c.args.stored _ ready.keyed ready.same ready.back (λ at. none (subst (λ old. HasEqualKeyAt g.K.PartialEq.eq old c.args.making.spot.stamp c.args.key.now) is at)) in
+    let back = keyed_no_entry g.K.PartialEq.eq _ c.ready_keyed-back.new.self.cache c.args.making.spot.stamp c.args.key.now c.args.stored _ ready.keyed ready.same ready.back (λ at. none (subst (λ old. HasEqualKeyAt g.K.PartialEq.eq old c.args.making.spot.stamp c.args.key.now) is at)) in
     (c.of.ensures ∙ back.0, λ j. record { cache = (back.1 ∙ is) j; counts = (ready.counts ∙ ap (λ x. x.counts) c.self.view_is) j })

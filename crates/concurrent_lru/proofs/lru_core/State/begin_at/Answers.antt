@@ -32,16 +32,16 @@ returns-then-pins-self-clause-step g c =
 pub overflow_add-pins : goal.overflow_add-pins
 overflow_add-pins g c = let room = has_room c.node-node.ensures.entry c.self.invariant.lawful c.self.invariant.pins_above c.if-pins-self.false in omega (arith, room)
 
-pub hold-requires-clause-held : goal.hold-requires-clause-held
-hold-requires-clause-held g c = let here = c.node-node.ensures.entry in held_place here (unready_pinned here (unready_not_ready _ (inl (ap phase_of c.in-Making.is))))
+pub set_pins-requires-clause-held : goal.set_pins-requires-clause-held
+set_pins-requires-clause-held g c = let here = c.node-node.ensures.entry in held_place here (unready_pinned here (unready_not_ready _ (inl (ap phase_of c.in-Making.is))))
 
-waits : (g : _) (c : After-none g) → Joins g.K.PartialEq.eq (cache_with c.self.inside.capacity c.self.inside.most_pins c.self.inside.next c.self.inside.table) c.args.key.now (entry_of c.node-node.result.now).stamp making making [] (cache_with c.self.inside.capacity c.self.inside.most_pins c.self.inside.next c.hold.new.self)
+waits : (g : _) (c : After-none g) → Joins g.K.PartialEq.eq (cache_with c.self.inside.capacity c.self.inside.most_pins c.self.inside.next c.self.inside.table) c.args.key.now (entry_of c.node-node.result.now).stamp making making [] (cache_with c.self.inside.capacity c.self.inside.most_pins c.self.inside.next c.set_pins.new.self)
 waits g c =
     let here = c.node-node.ensures.entry in
     let phase = ap phase_of c.in-Making.is in
-    joins_as_it_is g.K.PartialEq.eq c.self.inside.capacity c.self.inside.most_pins c.self.inside.next here c.hold.new.self c.args.key.now making
+    joins_as_it_is g.K.PartialEq.eq c.self.inside.capacity c.self.inside.most_pins c.self.inside.next here c.set_pins.new.self c.args.key.now making
     (found_is here c.self.invariant.lawful c.args.key.now c.in-Some.ensures (unready_pinned here (unready_not_ready _ (inl phase)))) (key_is here c.self.invariant.lawful c.args.key.now c.in-Some.ensures) (unready_pinned here (unready_not_ready _ (inl phase)))
-    (has_room here c.self.invariant.lawful c.self.invariant.pins_above c.if-pins-self.false) phase c.hold.ensures
+    (has_room here c.self.invariant.lawful c.self.invariant.pins_above c.if-pins-self.false) phase c.set_pins.ensures
 
 pub invariant_of-self : goal.invariant_of-self
 invariant_of-self g c = record { lawful = joins_lawful _ _ _ _ _ _ _ _ c.self.invariant.lawful (waits g c); pins_above = c.self.invariant.pins_above }
@@ -49,7 +49,7 @@ invariant_of-self g c = record { lawful = joins_lawful _ _ _ _ _ _ _ _ c.self.in
 pub returns-in-Making-clause-step : goal.returns-in-Making-clause-step
 returns-in-Making-clause-step g c =
     let s = (entry_of c.node-node.result.now).stamp in
-    let new = cache_with c.self.inside.capacity c.self.inside.most_pins c.self.inside.next c.hold.new.self in
+    let new = cache_with c.self.inside.capacity c.self.inside.most_pins c.self.inside.next c.set_pins.new.self in
     let step : Joins g.K.PartialEq.eq c.args.self.now.cache c.args.key.now s making making [] new = subst (λ old. Joins g.K.PartialEq.eq old c.args.key.now s making making [] new) (ap (λ x. x.cache) c.self.view_is) (waits g c) in
     subst (λ out. Joins g.K.PartialEq.eq c.args.self.now.cache c.args.key.now s making making out new) (sym c.none.ensures) step
 
@@ -59,11 +59,11 @@ returns-in-Making-clause-lawful g c = joins_lawful _ _ _ _ _ _ _ _ c.self.invari
 pub overflow_add-pins-in-Untaken : goal.overflow_add-pins-in-Untaken
 overflow_add-pins-in-Untaken g c = let room = has_room c.node-node.ensures.entry c.self.invariant.lawful c.self.invariant.pins_above c.if-pins-self.false in omega (arith, room)
 
-pub hold-requires-in-Untaken-clause-held : goal.hold-requires-in-Untaken-clause-held
-hold-requires-in-Untaken-clause-held g c = let here = c.node-node.ensures.entry in held_place here (unready_pinned here (unready_not_ready _ (inr (ap phase_of c.in-Untaken.is))))
+pub set_pins-requires-in-Untaken-clause-held : goal.set_pins-requires-in-Untaken-clause-held
+set_pins-requires-in-Untaken-clause-held g c = let here = c.node-node.ensures.entry in held_place here (unready_pinned here (unready_not_ready _ (inr (ap phase_of c.in-Untaken.is))))
 
 pub set_phase-requires : goal.set_phase-requires
-set_phase-requires g c = still_held c.hold-in-Untaken.ensures
+set_phase-requires g c = still_held c.set_pins-in-Untaken.ensures
 
 takes : (g : _) (c : After-none-in-Untaken g) → Joins g.K.PartialEq.eq (cache_with c.self.inside.capacity c.self.inside.most_pins c.self.inside.next c.self.inside.table) c.args.key.now (entry_of c.node-node.result.now).stamp untaken making [] (cache_with c.self.inside.capacity c.self.inside.most_pins c.self.inside.next c.set_phase.new.self)
 takes g c =
@@ -72,7 +72,7 @@ takes g c =
     let some = unready_pinned here (unready_not_ready _ (inr phase)) in
     joins g.K.PartialEq.eq c.self.inside.capacity c.self.inside.most_pins c.self.inside.next here c.set_phase.new.self c.args.key.now untaken making
     (found_is here c.self.invariant.lawful c.args.key.now c.in-Some.ensures some) (key_is here c.self.invariant.lawful c.args.key.now c.in-Some.ensures) some
-    (has_room here c.self.invariant.lawful c.self.invariant.pins_above c.if-pins-self.false) phase (rewritten_twice here some c.hold-in-Untaken.ensures c.set_phase.ensures)
+    (has_room here c.self.invariant.lawful c.self.invariant.pins_above c.if-pins-self.false) phase (rewritten_twice here some c.set_pins-in-Untaken.ensures c.set_phase.ensures)
 
 pub invariant_of-self-in-Untaken : goal.invariant_of-self-in-Untaken
 invariant_of-self-in-Untaken g c = record { lawful = joins_lawful _ _ _ _ _ _ _ _ c.self.invariant.lawful (takes g c); pins_above = c.self.invariant.pins_above }

@@ -27,18 +27,18 @@ returns-in_default-phase g c = record {
   lawful = subst (IsLawful _) (ap (λ x. x.cache) c.self.view_is) c.self.invariant.lawful;
 }
 
-pub hold-requires-clause-held : goal.hold-requires-clause-held
-hold-requires-clause-held g c = let many = c.if-pins-gt1.true in held_place c.node-node.ensures.entry (λ none. omega (arith, none, many))
+pub set_pins-requires-clause-held : goal.set_pins-requires-clause-held
+set_pins-requires-clause-held g c = let many = c.if-pins-gt1.true in held_place c.node-node.ensures.entry (λ none. omega (arith, none, many))
 
 pub set_phase-requires : goal.set_phase-requires
-set_phase-requires g c = still_held c.hold.ensures
+set_phase-requires g c = still_held c.set_pins.ensures
 
 gives_up : (g : _) (c : After-set_phase g) → Leaves g.K.PartialEq.eq (cache_with c.self.inside.capacity c.self.inside.most_pins c.self.inside.next c.self.inside.table) c.args.spot.now.stamp making untaken [] (cache_with c.self.inside.capacity c.self.inside.most_pins c.self.inside.next c.set_phase.new.self)
 gives_up g c =
     let here = c.node-node.ensures.entry in
     let many = c.if-pins-gt1.true in
     leaves g.K.PartialEq.eq c.self.inside.capacity c.self.inside.most_pins c.self.inside.next here c.set_phase.new.self c.args.spot.now.stamp making untaken c.in-Some.ensures many (ap phase_of c.in-Making.is)
-    (rewritten_twice here (λ none. omega (arith, none, many)) c.hold.ensures c.set_phase.ensures)
+    (rewritten_twice here (λ none. omega (arith, none, many)) c.set_pins.ensures c.set_phase.ensures)
 
 pub invariant_of-self : goal.invariant_of-self
 invariant_of-self g c = record { lawful = leaves_lawful _ _ _ _ _ _ _ c.self.invariant.lawful (gives_up g c); pins_above = c.self.invariant.pins_above }

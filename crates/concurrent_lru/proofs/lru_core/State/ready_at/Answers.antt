@@ -4,7 +4,7 @@ use Rattle.concurrent_lru.specs.Entries.{cache_with}
 use Rattle.concurrent_lru.specs.Request as ask
 use Rattle.concurrent_lru.specs.Results.{outcome_of_ready}
 use Rattle.concurrent_lru.specs.Runs.{Stands}
-use Rattle.concurrent_lru.proofs.Entries.ValueStored.{stored_stands, stored_lawful}
+use Rattle.concurrent_lru.proofs.Entries.Store.{stored_stands, stored_lawful}
 use Rattle.concurrent_lru.proofs.lru_core.State.ready_at.Goals as goal
 
 pub returns-in-None-clause-step : goal.returns-in-None-clause-step

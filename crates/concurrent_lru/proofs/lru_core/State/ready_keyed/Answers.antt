@@ -8,7 +8,7 @@ use Rattle.concurrent_lru.specs.Request as ask
 use Rattle.concurrent_lru.specs.Results.{outcome_of_ready}
 use Rattle.concurrent_lru.specs.Runs.{Stands}
 use Rattle.concurrent_lru.proofs.Entries.EntryAtPlace.{stamp_is, has_entry}
-use Rattle.concurrent_lru.proofs.Entries.ValueStored.{stored_stands, stored_lawful}
+use Rattle.concurrent_lru.proofs.Entries.Store.{stored_stands, stored_lawful}
 use Rattle.concurrent_lru.proofs.Steps.ReadyValues.{equal_key_at}
 use Rattle.concurrent_lru.proofs.lru_core.State.ready_keyed.Goals as goal
 

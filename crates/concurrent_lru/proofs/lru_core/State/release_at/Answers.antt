@@ -32,11 +32,11 @@ returns-then-pins-eq0-clause-step g c = (
   refl,
 )
 
-pub hold-requires-clause-held : goal.hold-requires-clause-held
-hold-requires-clause-held g c = held_place c.node-node.ensures.entry c.if-pins-eq0.false
+pub set_pins-requires-clause-held : goal.set_pins-requires-clause-held
+set_pins-requires-clause-held g c = held_place c.node-node.ensures.entry c.if-pins-eq0.false
 
-unpinned : (g : _) (c : After-none g) → Leaves g.K.PartialEq.eq (cache_with c.self.inside.capacity c.self.inside.most_pins c.self.inside.next c.self.inside.table) c.args.spot.now.stamp (ready c.in-Ready.field-0.value) (ready c.in-Ready.field-0.value) [] (cache_with c.self.inside.capacity c.self.inside.most_pins c.self.inside.next c.hold.new.self)
-unpinned g c = leaves_as_it_is g.K.PartialEq.eq c.self.inside.capacity c.self.inside.most_pins c.self.inside.next c.node-node.ensures.entry c.hold.new.self c.args.spot.now.stamp (ready c.in-Ready.field-0.value) c.in-Some.ensures c.if-pins-gt1.true (ap phase_of c.in-Ready.is) c.hold.ensures
+unpinned : (g : _) (c : After-none g) → Leaves g.K.PartialEq.eq (cache_with c.self.inside.capacity c.self.inside.most_pins c.self.inside.next c.self.inside.table) c.args.spot.now.stamp (ready c.in-Ready.field-0.value) (ready c.in-Ready.field-0.value) [] (cache_with c.self.inside.capacity c.self.inside.most_pins c.self.inside.next c.set_pins.new.self)
+unpinned g c = leaves_as_it_is g.K.PartialEq.eq c.self.inside.capacity c.self.inside.most_pins c.self.inside.next c.node-node.ensures.entry c.set_pins.new.self c.args.spot.now.stamp (ready c.in-Ready.field-0.value) c.in-Some.ensures c.if-pins-gt1.true (ap phase_of c.in-Ready.is) c.set_pins.ensures
 
 pub invariant_of-self : goal.invariant_of-self
 invariant_of-self g c = record { lawful = leaves_lawful _ _ _ _ _ _ _ c.self.invariant.lawful (unpinned g c); pins_above = c.self.invariant.pins_above }
@@ -44,7 +44,7 @@ invariant_of-self g c = record { lawful = leaves_lawful _ _ _ _ _ _ _ c.self.inv
 pub returns-then-pins-gt1-clause-step : goal.returns-then-pins-gt1-clause-step
 returns-then-pins-gt1-clause-step g c =
     let v = c.in-Ready.field-0.value in
-    let new = cache_with c.self.inside.capacity c.self.inside.most_pins c.self.inside.next c.hold.new.self in
+    let new = cache_with c.self.inside.capacity c.self.inside.most_pins c.self.inside.next c.set_pins.new.self in
     let step : Leaves g.K.PartialEq.eq c.args.self.now.cache c.args.spot.now.stamp (ready v) (ready v) [] new = subst (λ old. Leaves g.K.PartialEq.eq old c.args.spot.now.stamp (ready v) (ready v) [] new) (ap (λ x. x.cache) c.self.view_is) (unpinned g c) in
     inl (v, subst (λ out. Leaves g.K.PartialEq.eq c.args.self.now.cache c.args.spot.now.stamp (ready v) (ready v) out new) (sym c.none.ensures) step)
 

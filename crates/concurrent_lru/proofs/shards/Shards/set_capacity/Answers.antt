@@ -19,7 +19,7 @@ loop-shard-preserved g c =
     let at = c.loop-shard in
     let more = c.set_capacity_at.result in
     let request = ask.set_capacity c.capacity_per_shard-share.result in
-    let turned = ap reverse c.turned_onto-newest_first.ensures ∙ reverse-append (reverse more) at.newest_first ∙ ap (λ es. reverse at.newest_first ++ es) (reverse-reverse more) in
+    let turned = ap reverse c.prepend_reversed_to-newest_first.ensures ∙ reverse-append (reverse more) at.newest_first ∙ ap (λ es. reverse at.newest_first ++ es) (reverse-reverse more) in
     record {
       taken = subst (λ es. FirstTake g.K.PartialEq.eq (at.shard + 1) c.args.self.now request es c.set_capacity_at.new.self) (sym turned)
           (one_more_takes g.K.PartialEq.eq at.shard c.args.self.now at.self c.set_capacity_at.new.self request (reverse at.newest_first) more at.invariant.taken c.set_capacity_at.ensures.step);

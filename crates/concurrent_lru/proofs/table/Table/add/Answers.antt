@@ -4,9 +4,9 @@ use Rattle.concurrent_lru.specs.Cache.{charges}
 use Rattle.concurrent_lru.specs.NodeTable.{IsNewStamp, entry_of, new_entry}
 use Rattle.concurrent_lru.specs.Entries.{ContainsNoKey, ContainsNoStamp, new_held, charges_of}
 use Rattle.concurrent_lru.specs.Indexes.{entries_of}
-use Rattle.concurrent_lru.specs.Stamps.{mapped_place}
+use Rattle.concurrent_lru.specs.StampIndex.{mapped_place}
 use Rattle.concurrent_lru.proofs.Entries.FoundByMaps.{lacks_key, alike_get, fresh_among}
-use Rattle.concurrent_lru.proofs.Entries.EntryAddedOrTaken.{IsAdded, put_added, stored_same, entries_same, stored_with, idle_with, held_with, on_err}
+use Rattle.concurrent_lru.proofs.Entries.AddAndTake.{IsAdded, put_added, stored_same, entries_same, stored_with, idle_with, held_with, on_err}
 use Rattle.concurrent_lru.proofs.Entries.NodeAtPlace.{unheld}
 use Rattle.concurrent_lru.proofs.Entries.SumsOfCharges.{sum_with}
 use Rattle.concurrent_lru.proofs.table.Table.add.Goals as goal

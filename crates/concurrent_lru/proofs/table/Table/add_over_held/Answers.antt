@@ -5,11 +5,11 @@ use Rattle.concurrent_lru.specs.NodeTable.{IsNewStamp, entry_of, new_entry, entr
 use Rattle.concurrent_lru.specs.Entries.{AddsOverHeld, ContainsFoundAt, ContainsNoStamp, GetsAt, new_held, charges_of}
 use Rattle.concurrent_lru.specs.Indexes.{entries_of}
 use Rattle.concurrent_lru.specs.Representation.{held_entry}
-use Rattle.concurrent_lru.specs.Stamps.{mapped_place}
+use Rattle.concurrent_lru.specs.StampIndex.{mapped_place}
 use Rattle.concurrent_lru.proofs.Entries.FoundByMaps.{fresh_among}
-use Rattle.concurrent_lru.proofs.Entries.EntryAddedOrTaken.{IsAdded, put_added, stored_same, entries_same, stored_with, idle_with, held_with, on_err}
-use Rattle.concurrent_lru.proofs.Entries.EntryReplaced.{fresh_written, forgotten, unheld_written}
-use Rattle.concurrent_lru.proofs.Entries.EntryWritten.{stored_detached, entries_detached}
+use Rattle.concurrent_lru.proofs.Entries.AddAndTake.{IsAdded, put_added, stored_same, entries_same, stored_with, idle_with, held_with, on_err}
+use Rattle.concurrent_lru.proofs.Entries.AddOver.{fresh_written, forgotten, unheld_written}
+use Rattle.concurrent_lru.proofs.Entries.SetPinsAndRest.{stored_detached, entries_detached}
 use Rattle.concurrent_lru.proofs.Entries.NodeAtPlace.{has_node, some_node, held_node, held_found, found_place, found_node, node_is_at, place_at}
 use Rattle.concurrent_lru.proofs.Steps.Release.{detached_writes}
 use Rattle.concurrent_lru.proofs.Entries.SumsOfCharges.{sum_with, sum_written}

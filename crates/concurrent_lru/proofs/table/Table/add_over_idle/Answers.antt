@@ -6,11 +6,11 @@ use Rattle.concurrent_lru.specs.Cache.{charges}
 use Rattle.concurrent_lru.specs.NodeTable.{IsNewStamp, entry_of, new_entry}
 use Rattle.concurrent_lru.specs.Entries.{AddsOverIdle, ContainsIdleAt, ContainsNoStamp, GetsAt, new_held, charges_of}
 use Rattle.concurrent_lru.specs.Indexes.{entries_of}
-use Rattle.concurrent_lru.specs.Stamps.{mapped_place}
+use Rattle.concurrent_lru.specs.StampIndex.{mapped_place}
 use Rattle.concurrent_lru.proofs.Lists.DistinctNumbers.{list_any-filter_self}
 use Rattle.concurrent_lru.proofs.Entries.FoundByMaps.{fresh_among}
-use Rattle.concurrent_lru.proofs.Entries.EntryAddedOrTaken.{IsAdded, IsTaken, put_added, stored_same, entries_same, stored_with, idle_with, held_with, stored_without, ready_without, held_same, idle_without, on_err}
-use Rattle.concurrent_lru.proofs.Entries.EntryReplaced.{fresh_taken, forgotten, forgets_taken}
+use Rattle.concurrent_lru.proofs.Entries.AddAndTake.{IsAdded, IsTaken, put_added, stored_same, entries_same, stored_with, idle_with, held_with, stored_without, ready_without, held_same, idle_without, on_err}
+use Rattle.concurrent_lru.proofs.Entries.AddOver.{fresh_taken, forgotten, forgets_taken}
 use Rattle.concurrent_lru.proofs.Entries.NodeAtPlace.{has_node, idle_node, idle_found, idle_like, node_is_at, place_at, unheld}
 use Rattle.concurrent_lru.proofs.Steps.BeginOfAbsent.{as_idle-ready}
 use Rattle.concurrent_lru.proofs.Entries.ChargesOfIdle.{kept_less, kept_bound}

@@ -9,7 +9,7 @@ use Rattle.concurrent_lru.specs.Entries.{ContainsIdleAt, cache_of}
 use Rattle.concurrent_lru.proofs.Lists.Members.{IsIn}
 use Rattle.concurrent_lru.proofs.Lists.DistinctNumbers.{list_any-filter_self}
 use Rattle.concurrent_lru.proofs.Entries.NodeAtPlace.{has_node, idle_node, idle_found, place_at}
-use Rattle.concurrent_lru.proofs.Entries.EntryAddedOrTaken.{IsTaken, stored_without, ready_without, held_same, idle_without}
+use Rattle.concurrent_lru.proofs.Entries.AddAndTake.{IsTaken, stored_without, ready_without, held_same, idle_without}
 use Rattle.concurrent_lru.specs.Indexes.{entries_of}
 use Rattle.concurrent_lru.proofs.Steps.BeginOfAbsent.{as_idle-ready}
 use Rattle.concurrent_lru.proofs.Entries.NodeAtPlace.{idle_like}

@@ -4,7 +4,7 @@ use Rattle.concurrent_lru.specs.Entries.{ContainsIdleAt, value_at}
 use Rattle.concurrent_lru.specs.Indexes.{entries_of}
 use Rattle.concurrent_lru.specs.Reads.{RenewsAt}
 use Rattle.concurrent_lru.proofs.Entries.NodeAtPlace.{some_node, idle_node, node_value}
-use Rattle.concurrent_lru.proofs.Entries.EntryRenewed.{Renews, stored_renewed, entries_renewed, rests_renewed, sum_renewed}
+use Rattle.concurrent_lru.proofs.Entries.Renew.{Renews, stored_renewed, entries_renewed, rests_renewed, sum_renewed}
 use Rattle.concurrent_lru.proofs.table.Table.renew.Goals as goal
 use Rattle.concurrent_lru.proofs.table.Table.renew.Goals.{After-renew}
 

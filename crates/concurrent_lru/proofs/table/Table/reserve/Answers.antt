@@ -1,7 +1,7 @@
 use Rattle.std.proofs.Common.{sym, ap, ◌∙◌}
 use Rattle.concurrent_lru.specs.Cache.{charges}
 use Rattle.concurrent_lru.specs.Entries.{charges_of}
-use Rattle.concurrent_lru.proofs.Entries.EntryAddedOrTaken.{stored_same, entries_same}
+use Rattle.concurrent_lru.proofs.Entries.AddAndTake.{stored_same, entries_same}
 use Rattle.concurrent_lru.proofs.table.Table.reserve.Goals as goal
 
 pub invariant_of-self : goal.invariant_of-self

@@ -6,11 +6,11 @@ use Rattle.concurrent_lru.specs.Cache.{charges}
 use Rattle.concurrent_lru.specs.NodeTable.{entry_of}
 use Rattle.concurrent_lru.specs.Entries.{IsReadyAt, RestsAt, charges_of}
 use Rattle.concurrent_lru.specs.Indexes.{entries_of}
-use Rattle.concurrent_lru.proofs.Entries.NodeWrittenOrAdded.{inserted_at}
+use Rattle.concurrent_lru.proofs.Entries.NodesOfSetAndAdd.{inserted_at}
 use Rattle.concurrent_lru.proofs.Entries.NodeTaken.{held_not_idle}
 use Rattle.concurrent_lru.proofs.Entries.NodeAtPlace.{has_node, some_node, held_found, ready_like, ready_found, place_at}
 use Rattle.concurrent_lru.proofs.Steps.Release.{pinned_writes}
-use Rattle.concurrent_lru.proofs.Entries.EntryWritten.{rests_nodes, stored_rested, entries_rested}
+use Rattle.concurrent_lru.proofs.Entries.SetPinsAndRest.{rests_nodes, stored_rested, entries_rested}
 use Rattle.concurrent_lru.proofs.Entries.ChargesOfIdle.{rest_bound}
 use Rattle.concurrent_lru.proofs.Entries.SumsOfCharges.{idle_more, sum_rested}
 use Rattle.concurrent_lru.proofs.table.Table.rest.Goals as goal

@@ -12,8 +12,8 @@ use Rattle.concurrent_lru.specs.Representation.{idle_in}
 use Rattle.concurrent_lru.specs.Steps.{without}
 use Rattle.concurrent_lru.proofs.Entries.ChargesOfIdle.{kept_less, kept_bound}
 use Rattle.concurrent_lru.proofs.Entries.NodeAtPlace.{has_node, some_node, idle_node, idle_found, idle_like, place_at, node_value, idle_unheld}
-use Rattle.concurrent_lru.proofs.Entries.EntryAddedOrTaken.{stored_same, entries_same, on_err}
-use Rattle.concurrent_lru.proofs.Entries.EntryWritten.{stored_revived, entries_revived_by_one}
+use Rattle.concurrent_lru.proofs.Entries.AddAndTake.{stored_same, entries_same, on_err}
+use Rattle.concurrent_lru.proofs.Entries.SetPinsAndRest.{stored_revived, entries_revived_by_one}
 use Rattle.concurrent_lru.proofs.Entries.SumsOfCharges.{sum_revived, stamps_apart}
 use Rattle.concurrent_lru.proofs.table.Table.revive.Goals as goal
 

@@ -6,7 +6,7 @@ use Rattle.concurrent_lru.specs.Steps.{held_in_phase}
 use Rattle.concurrent_lru.specs.Indexes.{entries_of}
 use Rattle.concurrent_lru.proofs.Entries.NodeAtPlace.{has_node, some_node, held_node, held_found, place_at}
 use Rattle.concurrent_lru.proofs.Steps.ReadyAndPoll.{phase_writes}
-use Rattle.concurrent_lru.proofs.Entries.EntryWritten.{stored_written, entries_written}
+use Rattle.concurrent_lru.proofs.Entries.SetPinsAndRest.{stored_written, entries_written}
 use Rattle.concurrent_lru.proofs.Entries.SumsOfCharges.{sum_written}
 use Rattle.concurrent_lru.proofs.table.Table.set_phase.Goals as goal
 

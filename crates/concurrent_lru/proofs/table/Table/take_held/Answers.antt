@@ -8,7 +8,7 @@ use Rattle.concurrent_lru.specs.Indexes.{entries_of}
 use Rattle.concurrent_lru.proofs.Lists.DistinctNumbers.{filter_absent}
 use Rattle.concurrent_lru.proofs.Entries.NodeTaken.{held_not_idle}
 use Rattle.concurrent_lru.proofs.Entries.NodeAtPlace.{has_node, some_node, held_node, held_found, place_at}
-use Rattle.concurrent_lru.proofs.Entries.EntryAddedOrTaken.{IsTaken, stored_without, held_without, idle_same}
+use Rattle.concurrent_lru.proofs.Entries.AddAndTake.{IsTaken, stored_without, held_without, idle_same}
 use Rattle.concurrent_lru.proofs.Entries.SumsOfCharges.{sum_less, held_bound, less_alike}
 use Rattle.concurrent_lru.specs.Indexes.{stamps_of}
 use Rattle.concurrent_lru.proofs.Entries.PlacesOfNodes.{stamps_cut}

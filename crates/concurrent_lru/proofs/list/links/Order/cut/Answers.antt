@@ -2,7 +2,7 @@ use Rattle.std.proofs.Common.{None, sym, ap, ◌∙◌, subst}
 use Rattle.concurrent_lru.specs.Relinks.{LeftJoined, RightJoined}
 use Rattle.concurrent_lru.specs.SlotPointers.{cells_of}
 use Rattle.concurrent_lru.specs.SlotTable.{IsGood}
-use Rattle.concurrent_lru.proofs.Memory.CellKeys.{of_found}
+use Rattle.concurrent_lru.proofs.Memory.CellSlots.{of_found}
 use Rattle.concurrent_lru.proofs.Order.Appending.{quiet, good_kept, tied_kept}
 use Rattle.concurrent_lru.proofs.Order.TakingOut.{Cuts, left_quiet, linked_out, nodes_out, idle_out, good_beside}
 use Rattle.concurrent_lru.proofs.list.links.Order.cut.Goals as goal

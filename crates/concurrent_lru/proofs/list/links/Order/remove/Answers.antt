@@ -1,5 +1,5 @@
 use Rattle.std.proofs.Common.{sym, ap, ◌∙◌, subst}
-use Rattle.concurrent_lru.specs.Cells.{key_at}
+use Rattle.concurrent_lru.specs.Cells.{slot_at}
 use Rattle.concurrent_lru.specs.SlotPointers.{cells_of}
 use Rattle.concurrent_lru.specs.SlotTable.{Lists, nodes_of, idle_without}
 use Rattle.concurrent_lru.proofs.Order.Appending.{table_looked}
@@ -7,7 +7,7 @@ use Rattle.concurrent_lru.proofs.Order.TakingOut.{present_in}
 use Rattle.concurrent_lru.proofs.list.links.Order.remove.Goals as goal
 
 pub look-own-requires-clause-present : goal.look-own-requires-clause-present
-look-own-requires-clause-present g c = present_in c.args.self.now c.args.key c.requires.linked c.requires.idle
+look-own-requires-clause-present g c = present_in c.args.self.now c.args.slot c.requires.linked c.requires.idle
 
 pub cut-requires-clause-linked : goal.cut-requires-clause-linked
 cut-requires-clause-linked g c = table_looked c.args.self.now c.look-own.new.self c.look-own.ensures.rest c.look-own.ensures.tied c.requires.linked
@@ -15,7 +15,7 @@ cut-requires-clause-linked g c = table_looked c.args.self.now c.look-own.new.sel
 pub cut-requires-clause-idle : goal.cut-requires-clause-idle
 cut-requires-clause-idle g c =
     let same = ap cells_of c.look-own.ensures.rest in
-    (c.args.key, ap (λ l. key_at l c.look-own.result) same ∙ c.look-own.ensures.link, subst (λ t. Lists (record c.args.self.now { slots = t }) c.args.key) (sym c.look-own.ensures.rest) c.requires.idle)
+    (c.args.slot, ap (λ l. slot_at l c.look-own.result) same ∙ c.look-own.ensures.link, subst (λ t. Lists (record c.args.self.now { slots = t }) c.args.slot) (sym c.look-own.ensures.rest) c.requires.idle)
 
 pub returns-clause-nodes : goal.returns-clause-nodes
 returns-clause-nodes g c = c.cut.ensures.nodes ∙ ap (λ t. nodes_of (record c.args.self.now { slots = t })) c.look-own.ensures.rest
@@ -23,7 +23,7 @@ returns-clause-nodes g c = c.cut.ensures.nodes ∙ ap (λ t. nodes_of (record c.
 pub returns-clause-idle : goal.returns-clause-idle
 returns-clause-idle g c =
     let same = ap cells_of c.look-own.ensures.rest in
-    c.cut.ensures.idle c.args.key (ap (λ l. key_at l c.look-own.result) same ∙ c.look-own.ensures.link) ∙ ap (λ t. idle_without (record c.args.self.now { slots = t }) c.args.key) c.look-own.ensures.rest
+    c.cut.ensures.idle c.args.slot (ap (λ l. slot_at l c.look-own.result) same ∙ c.look-own.ensures.link) ∙ ap (λ t. idle_without (record c.args.self.now { slots = t }) c.args.slot) c.look-own.ensures.rest
 
 pub returns-clause-pointers : goal.returns-clause-pointers
 returns-clause-pointers g c = c.cut.ensures.pointers ∙ ap (λ t. t.pointers) c.look-own.ensures.rest

@@ -1,17 +1,17 @@
 use Rattle.std.proofs.Common.{◌++◌, ◌∷◌, [], eqb, sym, ap, ◌∙◌, subst}
-use Rattle.concurrent_lru.specs.Cells.{key_at}
+use Rattle.concurrent_lru.specs.Cells.{slot_at}
 use Rattle.concurrent_lru.specs.SlotPointers.{cells_of}
 use Rattle.concurrent_lru.specs.SlotTable.{Lists, nodes_of, idle_without}
 use Rattle.concurrent_lru.proofs.Order.Appending.{table_looked}
 use Rattle.concurrent_lru.proofs.Order.TakingOut.{present_in}
 use Rattle.std.specs.List.{list_any}
 use Rattle.concurrent_lru.specs.SlotTable.{idle_of}
-use Rattle.concurrent_lru.proofs.Nodes.PointersTied.{key_stays}
+use Rattle.concurrent_lru.proofs.Nodes.PointersTied.{slot_stays}
 use Rattle.concurrent_lru.proofs.Lists.DistinctNumbers.{list_any-filter_self}
 use Rattle.concurrent_lru.proofs.list.links.Order.renew.Goals as goal
 
 pub look-node-requires-clause-present : goal.look-node-requires-clause-present
-look-node-requires-clause-present g c = present_in c.args.self.now c.args.key c.requires.linked c.requires.idle
+look-node-requires-clause-present g c = present_in c.args.self.now c.args.slot c.requires.linked c.requires.idle
 
 pub cut-requires-clause-linked : goal.cut-requires-clause-linked
 cut-requires-clause-linked g c = table_looked c.args.self.now c.look-node.new.self c.look-node.ensures.rest c.look-node.ensures.tied c.requires.linked
@@ -19,25 +19,25 @@ cut-requires-clause-linked g c = table_looked c.args.self.now c.look-node.new.se
 pub cut-requires-clause-idle : goal.cut-requires-clause-idle
 cut-requires-clause-idle g c =
     let same = ap cells_of c.look-node.ensures.rest in
-    (c.args.key, ap (λ l. key_at l c.look-node.result) same ∙ c.look-node.ensures.link, subst (λ t. Lists (record c.args.self.now { slots = t }) c.args.key) (sym c.look-node.ensures.rest) c.requires.idle)
+    (c.args.slot, ap (λ l. slot_at l c.look-node.result) same ∙ c.look-node.ensures.link, subst (λ t. Lists (record c.args.self.now { slots = t }) c.args.slot) (sym c.look-node.ensures.rest) c.requires.idle)
 
 pub push-requires-clause-own : goal.push-requires-clause-own
 push-requires-clause-own g c =
     let same = ap cells_of c.look-node.ensures.rest in
-    key_stays c.look-node.new.self c.cut.new.self.slots c.args.key c.look-node.result c.look-node.ensures.tied c.cut.ensures.linked.tied c.cut.ensures.pointers (ap (λ l. key_at l c.look-node.result) same ∙ c.look-node.ensures.link)
+    slot_stays c.look-node.new.self c.cut.new.self.slots c.args.slot c.look-node.result c.look-node.ensures.tied c.cut.ensures.linked.tied c.cut.ensures.pointers (ap (λ l. slot_at l c.look-node.result) same ∙ c.look-node.ensures.link)
 
 pub push-requires-clause-held : goal.push-requires-clause-held
 push-requires-clause-held g c =
-    let left = c.cut.ensures.idle c.args.key (ap (λ l. key_at l c.look-node.result) (ap cells_of c.look-node.ensures.rest) ∙ c.look-node.ensures.link) ∙ ap (λ t. idle_without (record c.args.self.now { slots = t }) c.args.key) c.look-node.ensures.rest in
-    ap (list_any (eqb c.args.key)) left ∙ list_any-filter_self c.args.key (idle_of c.args.self.now)
+    let left = c.cut.ensures.idle c.args.slot (ap (λ l. slot_at l c.look-node.result) (ap cells_of c.look-node.ensures.rest) ∙ c.look-node.ensures.link) ∙ ap (λ t. idle_without (record c.args.self.now { slots = t }) c.args.slot) c.look-node.ensures.rest in
+    ap (list_any (eqb c.args.slot)) left ∙ list_any-filter_self c.args.slot (idle_of c.args.self.now)
 
 pub returns-clause-nodes : goal.returns-clause-nodes
 returns-clause-nodes g c = c.push.ensures.nodes ∙ c.cut.ensures.nodes ∙ ap (λ t. nodes_of (record c.args.self.now { slots = t })) c.look-node.ensures.rest
 
 pub returns-clause-idle : goal.returns-clause-idle
 returns-clause-idle g c =
-    let left = c.cut.ensures.idle c.args.key (ap (λ l. key_at l c.look-node.result) (ap cells_of c.look-node.ensures.rest) ∙ c.look-node.ensures.link) ∙ ap (λ t. idle_without (record c.args.self.now { slots = t }) c.args.key) c.look-node.ensures.rest in
-    c.push.ensures.idle ∙ ap (λ ks. ks ++ c.args.key ∷ []) left
+    let left = c.cut.ensures.idle c.args.slot (ap (λ l. slot_at l c.look-node.result) (ap cells_of c.look-node.ensures.rest) ∙ c.look-node.ensures.link) ∙ ap (λ t. idle_without (record c.args.self.now { slots = t }) c.args.slot) c.look-node.ensures.rest in
+    c.push.ensures.idle ∙ ap (λ ks. ks ++ c.args.slot ∷ []) left
 
 pub returns-clause-pointers : goal.returns-clause-pointers
 returns-clause-pointers g c = c.push.ensures.pointers ∙ c.cut.ensures.pointers ∙ ap (λ t. t.pointers) c.look-node.ensures.rest

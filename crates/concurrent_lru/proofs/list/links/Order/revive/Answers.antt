@@ -1,37 +1,37 @@
 use Rattle.std.proofs.Common.{◌≡◌, true, filter, not, eqb, sym, ap, ◌∙◌, subst}
 use Rattle.std.specs.List.{list_any}
 use Rattle.std.specs.Prelude.{IsSome}
-use Rattle.concurrent_lru.specs.Cells.{cell_at, key_at}
+use Rattle.concurrent_lru.specs.Cells.{cell_at, slot_at}
 use Rattle.concurrent_lru.specs.NodeTable.{entry_of, value_of, entry_with_pins}
 use Rattle.concurrent_lru.specs.SlotPointers.{cells_of}
 use Rattle.concurrent_lru.specs.SlotTable.{entry_in}
-use Rattle.concurrent_lru.proofs.Memory.CellKeys.{value_at_key}
+use Rattle.concurrent_lru.proofs.Memory.CellSlots.{value_at_slot}
 use Rattle.concurrent_lru.proofs.Nodes.SlotViews.{written}
 use Rattle.concurrent_lru.proofs.Order.TakingOut.{present_in}
 use Rattle.concurrent_lru.proofs.list.links.Order.revive.Goals as goal
 
 pub look-own-requires-clause-present : goal.look-own-requires-clause-present
-look-own-requires-clause-present g c = present_in c.args.self.now c.args.key c.requires.linked c.requires.idle
+look-own-requires-clause-present g c = present_in c.args.self.now c.args.slot c.requires.linked c.requires.idle
 
 pub share_value-requires : goal.share_value-requires
 share_value-requires g c =
     let same = ap cells_of c.look-own.ensures.rest in
-    let at = ap (λ l. key_at l c.look-own.result) same ∙ c.look-own.ensures.link in
-    let there = value_at_key (cells_of c.look-own.new.self) c.look-own.result c.args.key at in
-    subst (λ n. IsSome (value_of (entry_of n))) (sym (c.follow.ensures c.args.key there.0 at there.1)) (c.requires.ready (entry_of there.0.value) (ap (λ l. entry_in (cell_at l c.args.key)) (sym same) ∙ ap entry_in there.1))
+    let at = ap (λ l. slot_at l c.look-own.result) same ∙ c.look-own.ensures.link in
+    let there = value_at_slot (cells_of c.look-own.new.self) c.look-own.result c.args.slot at in
+    subst (λ n. IsSome (value_of (entry_of n))) (sym (c.follow.ensures c.args.slot there.0 at there.1)) (c.requires.ready (entry_of there.0.value) (ap (λ l. entry_in (cell_at l c.args.slot)) (sym same) ∙ ap entry_in there.1))
 
 pub cut-requires-clause-linked : goal.cut-requires-clause-linked
-cut-requires-clause-linked g c = (written c.args.self.now c.look-own.new.self c.hold.new.self (entry_with_pins 1) c.requires.linked c.look-own.ensures.rest c.look-own.ensures.tied c.look-own.ensures.link c.hold.ensures.rest c.hold.ensures.entry).linked
+cut-requires-clause-linked g c = (written c.args.self.now c.look-own.new.self c.set_pins_by_link.new.self (entry_with_pins 1) c.requires.linked c.look-own.ensures.rest c.look-own.ensures.tied c.look-own.ensures.link c.set_pins_by_link.ensures.rest c.set_pins_by_link.ensures.entry).linked
 
 pub cut-requires-clause-idle : goal.cut-requires-clause-idle
 cut-requires-clause-idle g c =
-    let w = written c.args.self.now c.look-own.new.self c.hold.new.self (entry_with_pins 1) c.requires.linked c.look-own.ensures.rest c.look-own.ensures.tied c.look-own.ensures.link c.hold.ensures.rest c.hold.ensures.entry in
-    (c.args.key, w.at, subst (λ ks. list_any (eqb c.args.key) ks ≡ true) (sym w.idle) c.requires.idle)
+    let w = written c.args.self.now c.look-own.new.self c.set_pins_by_link.new.self (entry_with_pins 1) c.requires.linked c.look-own.ensures.rest c.look-own.ensures.tied c.look-own.ensures.link c.set_pins_by_link.ensures.rest c.set_pins_by_link.ensures.entry in
+    (c.args.slot, w.at, subst (λ ks. list_any (eqb c.args.slot) ks ≡ true) (sym w.idle) c.requires.idle)
 
 pub returns-clause-nodes : goal.returns-clause-nodes
-returns-clause-nodes g c = c.cut.ensures.nodes ∙ (written c.args.self.now c.look-own.new.self c.hold.new.self (entry_with_pins 1) c.requires.linked c.look-own.ensures.rest c.look-own.ensures.tied c.look-own.ensures.link c.hold.ensures.rest c.hold.ensures.entry).nodes
+returns-clause-nodes g c = c.cut.ensures.nodes ∙ (written c.args.self.now c.look-own.new.self c.set_pins_by_link.new.self (entry_with_pins 1) c.requires.linked c.look-own.ensures.rest c.look-own.ensures.tied c.look-own.ensures.link c.set_pins_by_link.ensures.rest c.set_pins_by_link.ensures.entry).nodes
 
 pub returns-clause-idle : goal.returns-clause-idle
 returns-clause-idle g c =
-    let w = written c.args.self.now c.look-own.new.self c.hold.new.self (entry_with_pins 1) c.requires.linked c.look-own.ensures.rest c.look-own.ensures.tied c.look-own.ensures.link c.hold.ensures.rest c.hold.ensures.entry in
-    c.cut.ensures.idle c.args.key w.at ∙ ap (filter (λ q. not (eqb q c.args.key))) w.idle
+    let w = written c.args.self.now c.look-own.new.self c.set_pins_by_link.new.self (entry_with_pins 1) c.requires.linked c.look-own.ensures.rest c.look-own.ensures.tied c.look-own.ensures.link c.set_pins_by_link.ensures.rest c.set_pins_by_link.ensures.entry in
+    c.cut.ensures.idle c.args.slot w.at ∙ ap (filter (λ q. not (eqb q c.args.slot))) w.idle

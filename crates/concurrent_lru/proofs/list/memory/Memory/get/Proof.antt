@@ -39,9 +39,9 @@ use Rattle.std.specs.Prelude.{Some, IsSome}
 use Rattle.std_alloc.proofs.VecSteps.Shapes.{after}
 use Rattle.std_alloc.proofs.RcSteps.{word, word-Good}
 use Rattle.std_alloc.proofs.BoxSteps.Form.{Bx, args, R, X}
-use Rattle.concurrent_lru.specs.Cells.{cell_at, key_at, AtFirst}
+use Rattle.concurrent_lru.specs.Cells.{cell_at, slot_at, AtFirst}
 use Rattle.concurrent_lru.proofs.Memory.Walks.{Mr, Ar, One, word_had, cell_seen}
-use Rattle.concurrent_lru.proofs.Memory.CellKeys.{key_of_held, value_at_key}
+use Rattle.concurrent_lru.proofs.Memory.CellSlots.{slot_of_held, value_at_slot}
 use Rattle.concurrent_lru.specs.contracts.list.memory.Memory.get.Key.{name as #self}
 use Rattle.concurrent_lru.proofs.list.memory.Memory.get.Statement as stated
 use Rattle.concurrent_lru.proofs.list.memory.Memory.get.Code as code
@@ -57,7 +57,7 @@ module _ (E : Bx) where
   stayed = (stay_dropped (RefOf (0 ∷ []) tt (plain (λ _. Mr E)) (λ _. tt)) yes, (stay_dropped (plain (λ _. Ar E)) no, tt))
 
   abbrev Asks : (Mr E).Denot → (Ar E).Denot → Type 0
-  Asks d at = IsSome (key_at d.cells at.ptr)
+  Asks d at = IsSome (slot_at d.cells at.ptr)
 
   abbrev Gives0 : (Mr E).Denot → (Ar E).Denot → Bor (X E) → Type 0
   Gives0 d at r = AtFirst d.cells at.ptr (λ _ c. r.now ≡ c.value)
@@ -88,19 +88,19 @@ module _ (E : Bx) {M : Type 1} {𝓤 : Ura M} (𝓛 : Logic 𝓤) (C : Calls �
 
   walk : Asks E d at → ent 𝓤 (⋆ 𝓛 Had) (WpFn 𝓤 H C Λ (function E) (vptr rb ro ∷ word at.ptr ∷ []) Post)
   walk asked =
-      let held = key_of_held d.cells at.ptr asked in let key = held.0 in let there = value_at_key d.cells at.ptr key held.1 in let c : One E = there.0 in
+      let held = slot_of_held d.cells at.ptr asked in let slot = held.0 in let there = value_at_slot d.cells at.ptr slot held.1 in let c : One E = there.0 in
       qed 𝓛 Had ∵ enter ! C Λ (function E) (vptr rb ro ∷ word at.ptr ∷ []) _ $ alloc_all ! (λ l. pass_all ! refl ((tt, tt), (word-Good [] at.ptr, tt)) $
       let En : Env 𝓤 H = env (function E).locals l in
       unhide ! $ fsplit ! $ drop ! $
-      use1 𝓛 (‵ (lent_at (R E) c.at c.value κ)) (cell_seen E 𝓛 κ d.cells key c there.1) $
+      use1 𝓛 (‵ (lent_at (R E) c.at c.value κ)) (cell_seen E 𝓛 κ d.cells slot c there.1) $
       in_a_block ! c.at (λ p. lent_at (R E) p c.value κ) (fst∗ 𝓤 (never 𝓤) (sem 𝓛 (shared_of (R E) c.value 0 0 κ))) (λ b o e.
       take_at ! 2 $ rewrite ! 0 (λ (p : Ptr). ‵ (fat full_share (layout (Ar E)) (l 2) 0 (word p))) (sym there.2 ∙ e) refl $ give_at ! 2 $
       first ! $ blocks ! $
       sets_last ! (addr ! (from ! (fld ! refl (hop ! (look_in_at ! 2 (sub ! 0 refl (whole !))) (stop !))))) refl (tt, tt) $ exec ! C Λ En (after 1 (function E).body) (at_ret En Post) $ sets ! (of_opd ! (get ! refl)) refl (tt, tt) $
       fsplit ! $ drop ! $ hide ! $ feq_i ! (List Val) (vptr b o ∷ []) (vptr b o ∷ []) refl $ fjoin ! $
       returns ! (look_at ! 0 refl) $ free_all ! refl $ keep ! (1 ∷ 0 ∷ []) $ by ! (exits (record { ref_ptr = (b, o); now = c.value }) (vptr b o) (λ again other at_again is.
-      let keys : Some key ≡ Some again = sym held.1 ∙ at_again in let one_key : key ≡ again = cc in
-      let same : Some c ≡ Some other = sym there.1 ∙ ap (cell_at d.cells) one_key ∙ is in let one : c ≡ other = cc in ap (λ (k : One E). k.value) one))))
+      let slots : Some slot ≡ Some again = sym held.1 ∙ at_again in let one_slot : slot ≡ again = cc in
+      let same : Some c ≡ Some other = sym there.1 ∙ ap (cell_at d.cells) one_slot ∙ is in let one : c ≡ other = cc in ap (λ (k : One E). k.value) one))))
 
   entry : Asks E d at → ent 𝓤 (on_entry 𝓛 (ended E).signature (κ, tt) (q, tt) (self, (at, tt)) (us0, (us1, tt))) (WpFn 𝓤 H C Λ (function E) (us0 ++ (us1 ++ [])) Post)
   entry asked =

@@ -40,10 +40,10 @@ use Rattle.std.specs.Prelude.{Option, None, Some, IsSome}
 use Rattle.std_alloc.proofs.VecSteps.Shapes.{after}
 use Rattle.std_alloc.proofs.RcSteps.{word, word-Good}
 use Rattle.std_alloc.proofs.BoxSteps.Form.{Bx, args, R, X}
-use Rattle.concurrent_lru.specs.Cells.{cell, cell_at, put_at, key_at, AtFirst}
+use Rattle.concurrent_lru.specs.Cells.{cell, cell_at, put_at, slot_at, AtFirst}
 use Rattle.concurrent_lru.specs.CellLends.{with_value}
 use Rattle.concurrent_lru.proofs.Memory.Walks.{Mr, Ar, Mark, One, Owns, All, word_had, cell_out, cell_in}
-use Rattle.concurrent_lru.proofs.Memory.CellKeys.{key_of_held, value_at_key, put_same, put_twice, write_is_put}
+use Rattle.concurrent_lru.proofs.Memory.CellSlots.{slot_of_held, value_at_slot, put_same, put_twice, write_is_put}
 use Rattle.concurrent_lru.specs.contracts.list.memory.Memory.lend.Key.{name as #self}
 use Rattle.concurrent_lru.proofs.list.memory.Memory.lend.Statement as stated
 use Rattle.concurrent_lru.proofs.list.memory.Memory.lend.Code as code
@@ -59,7 +59,7 @@ module _ (E : Bx) where
   stayed = (stay_dropped (mut_ref_to (0 ∷ []) tt (plain (λ _. Mr E))) no, (stay_dropped (plain (λ _. Ar E)) no, tt))
 
   abbrev Asks : (Mr E).Denot → (Ar E).Denot → Type 0
-  Asks d at = IsSome (key_at d.cells at.ptr)
+  Asks d at = IsSome (slot_at d.cells at.ptr)
 
   abbrev Gives0 : (Mr E).Denot → (Ar E).Denot → MutBor (X E) → Type 0
   Gives0 d at r = AtFirst d.cells at.ptr (λ _ c. r.now ≡ c.value)
@@ -85,18 +85,18 @@ module _ (E : Bx) {M : Type 1} {𝓤 : Ura M} (𝓛 : Logic 𝓤) (C : Calls �
   module _ (c : One E) (vs : List Val) (b o : ℕ) where
     -- all but the value
     abbrev Rest : ℕ → Fml
-    Rest key = fsep (E.al.g.dealloc_token c.alloc (bare (lone (R E).mir)) c.at) (fsep (All E (put_at key None d.cells)) (fsep ((Mark E).own_val (tt, tt) vs) (mem_cell_at full_share (Mr E).mir vs rb ro)))
+    Rest slot = fsep (E.al.g.dealloc_token c.alloc (bare (lone (R E).mir)) c.at) (fsep (All E (put_at slot None d.cells)) (fsep ((Mark E).own_val (tt, tt) vs) (mem_cell_at full_share (Mr E).mir vs rb ro)))
 
-    back : (key : ℕ) → key_at d.cells at.ptr ≡ Some key → cell_at d.cells key ≡ Some c → c.at ≡ block_ptr b o
-        → (w : X E) → ent 𝓤 (sep 𝓤 (sem 𝓛 ((mem (R E)).own_at w b o)) (sem 𝓛 (Rest key))) (sem 𝓛 ((mem (Mr E)).own_at (new w) rb ro))
+    back : (slot : ℕ) → slot_at d.cells at.ptr ≡ Some slot → cell_at d.cells slot ≡ Some c → c.at ≡ block_ptr b o
+        → (w : X E) → ent 𝓤 (sep 𝓤 (sem 𝓛 ((mem (R E)).own_at w b o)) (sem 𝓛 (Rest slot))) (sem 𝓛 ((mem (Mr E)).own_at (new w) rb ro))
     unfolding part_of
-    back key holds is e w =
+    back slot holds is e w =
         let m : One E = cell c.at c.alloc w in
-        let others : List (Option (One E)) = put_at key None d.cells in
-        let written : (new w).cells ≡ put_at key (Some m) others = write_is_put d.cells at.ptr w key c holds is ∙ sym (put_twice key (Some m) None d.cells) in
-        qed 𝓛 (‵ (part_at (R E) full_share w b o) ∷ ‵ (Rest key) ∷ []) ∵ rewrite ! 0 (λ (p : Ptr). ‵ (lies_at (R E) full_share p w)) (sym e) refl $
+        let others : List (Option (One E)) = put_at slot None d.cells in
+        let written : (new w).cells ≡ put_at slot (Some m) others = write_is_put d.cells at.ptr w slot c holds is ∙ sym (put_twice slot (Some m) None d.cells) in
+        qed 𝓛 (‵ (part_at (R E) full_share w b o) ∷ ‵ (Rest slot) ∷ []) ∵ rewrite ! 0 (λ (p : Ptr). ‵ (lies_at (R E) full_share p w)) (sym e) refl $
         move ! (1 ∷ []) $ fsplit3 ! $ move ! (2 ∷ []) $ fsplit ! $ move ! (4 ∷ 2 ∷ []) $ fjoin ! $ move ! (0 ∷ 3 ∷ []) $
-        use2 𝓛 (‵ (All E (put_at key (Some m) others))) (cell_in E 𝓛 others key m (put_same key None d.cells)) $ rewrite ! 0 (λ (cs : List (Option (One E))). ‵ (All E cs)) (sym written) refl $
+        use2 𝓛 (‵ (All E (put_at slot (Some m) others))) (cell_in E 𝓛 others slot m (put_same slot None d.cells)) $ rewrite ! 0 (λ (cs : List (Option (One E))). ‵ (All E cs)) (sym written) refl $
         move ! (1 ∷ 0 ∷ []) $ fjoin ! $ move ! (1 ∷ 0 ∷ []) $ fjoin ! $
         fpack ! (List Val) (λ us. fsep (mem_cell_at full_share (Mr E).mir us rb ro) ((Mr E).own_val (new w) us)) vs $ done !
 
@@ -112,23 +112,23 @@ module _ (E : Bx) {M : Type 1} {𝓤 : Ura M} (𝓛 : Logic 𝓤) (C : Calls �
 
   walk : Asks E d at → ent 𝓤 (⋆ 𝓛 Had) (WpFn 𝓤 H C Λ (function E) (vptr rb ro ∷ word at.ptr ∷ []) Post)
   walk asked =
-      let held = key_of_held d.cells at.ptr asked in let key = held.0 in let there = value_at_key d.cells at.ptr key held.1 in let c : One E = there.0 in
+      let held = slot_of_held d.cells at.ptr asked in let slot = held.0 in let there = value_at_slot d.cells at.ptr slot held.1 in let c : One E = there.0 in
       let code = (Mr E).coded.code d in
       qed 𝓛 Had ∵ enter ! C Λ (function E) (vptr rb ro ∷ word at.ptr ∷ []) _ $ alloc_all ! (λ l. pass_all ! refl ((tt, tt), (word-Good [] at.ptr, tt)) $
       let En : Env 𝓤 H = env (function E).locals l in
       opens ! tt (Mr E) {h = d} rb ro (λ vs. move ! (1 ∷ []) $ fsplit ! $ move ! (1 ∷ []) $
-      use1 𝓛 (‵ (Owns E (Some c)) ⊛ ‵ (All E (put_at key None d.cells))) (cell_out E 𝓛 d.cells key c there.1) $ split ! $ fsplit ! $
+      use1 𝓛 (‵ (Owns E (Some c)) ⊛ ‵ (All E (put_at slot None d.cells))) (cell_out E 𝓛 d.cells slot c there.1) $ split ! $ fsplit ! $
       in_a_block ! c.at (λ p. lies_at (R E) full_share p c.value) (id⊢ 𝓤 (never 𝓤)) (λ b o e.
       -- [the value; its token; the others; the mark; its cell; the open borrow; obs; auth]
-      let way = back c vs b o key held.1 there.1 e in
+      let way = back c vs b o slot held.1 there.1 e in
       take_at ! 2 $ rewrite ! 0 (λ (p : Ptr). ‵ (fat full_share (layout (Ar E)) (l 2) 0 (word p))) (sym there.2 ∙ e) refl $ give_at ! 2 $
       first ! $ blocks ! $ sets_last ! (addr ! (from ! (fld ! refl (hop ! (look_in_at ! 2 (sub ! 0 refl (whole !))) (stop !))))) refl (tt, tt) $ exec ! C Λ En (after 1 (function E).body) (at_ret En Post) $ sets ! (of_opd ! (get ! refl)) refl (tt, tt) $
       move ! (2 ∷ 3 ∷ 4 ∷ []) $ fjoin3 ! $ move ! (2 ∷ 0 ∷ []) $ fjoin ! $ move ! (2 ∷ 3 ∷ 4 ∷ 1 ∷ 0 ∷ []) $ group ! 5 $
-      use1 𝓛 (later (some (λ (δ : GName). raw (Part 𝓛 (Mr E) (R E) new (named 0) κ q rb ro b o γ (sem 𝓛 (Rest c vs b o key)) way c.value δ))))
-      (lends_Part 𝓛 (Mr E) (R E) new (named 0) κ q rb ro b o γ (sem 𝓛 (Rest c vs b o key)) way code code c.value) $ await ! tt $ pick ! (λ δ.
+      use1 𝓛 (later (some (λ (δ : GName). raw (Part 𝓛 (Mr E) (R E) new (named 0) κ q rb ro b o γ (sem 𝓛 (Rest c vs b o slot)) way c.value δ))))
+      (lends_Part 𝓛 (Mr E) (R E) new (named 0) κ q rb ro b o γ (sem 𝓛 (Rest c vs b o slot)) way code code c.value) $ await ! tt $ pick ! (λ δ.
       returns ! (look_at ! 0 refl) $ free_all ! refl $ keep ! (0 ∷ []) $ by ! (exits (vptr b o) (record { ref_ptr = (b, o); ghost_name = δ; now = c.value }) (λ again other at_again is.
-      let keys : Some key ≡ Some again = sym held.1 ∙ at_again in let one_key : key ≡ again = cc in
-      let same : Some c ≡ Some other = sym there.1 ∙ ap (cell_at d.cells) one_key ∙ is in let one : c ≡ other = cc in ap (λ (k : One E). k.value) one))))))
+      let slots : Some slot ≡ Some again = sym held.1 ∙ at_again in let one_slot : slot ≡ again = cc in
+      let same : Some c ≡ Some other = sym there.1 ∙ ap (cell_at d.cells) one_slot ∙ is in let one : c ≡ other = cc in ap (λ (k : One E). k.value) one))))))
 
   entry : Asks E d at → ent 𝓤 (on_entry 𝓛 (ended E).signature (κ, tt) (q, tt) (self, (at, tt)) (us0, (us1, tt))) (WpFn 𝓤 H C Λ (function E) (us0 ++ (us1 ++ [])) Post)
   entry asked =

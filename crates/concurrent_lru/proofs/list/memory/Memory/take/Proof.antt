@@ -53,23 +53,23 @@ take_spec 𝓤 𝓛 𝓜 𝓡 wired T A L LA g d dd allocator glued =
     let hs : Stays En.signature.params En.kept = (stay_ref (0 ∷ []) tt (plain (λ _. Mr E)), (stay_dropped (plain (λ _. Ar E)) no, (stay_dropped (plain (λ _. usize)) yes, (stay_dropped (plain (λ _. P E)) no, tt)))) in
     proved_at 𝓛 En hs c 𝓜 𝓡 (Goes-ref 𝓛 3 0 tt (plain (λ _. Mr E)), (Goes-dropped 𝓛 3 (plain (λ _. Ar E)) no (λ κs x f. refl), (Goes-blank 𝓛 3 (plain (λ _. usize)) yes (λ κs x f. tt), (Goes-dropped 𝓛 3 (plain (λ _. P E)) no (λ κs x f. refl), tt))))
     (#self (args E)) fn (code.unfolded 𝓤 H 𝓜 𝓡 wired (T, (A, tt)) d dd) (λ z are.
-    let κs = z.0.0 in let qs = z.0.1 in let self = z.0.3.0 in let at = z.0.3.1.0 in let key = z.0.3.1.1.0 in let alloc = z.0.3.1.1.1.0 in
+    let κs = z.0.0 in let qs = z.0.1 in let self = z.0.3.0 in let at = z.0.3.1.0 in let slot = z.0.3.1.1.0 in let alloc = z.0.3.1.1.1.0 in
     let rb = self.ref_ptr.0 in let ro = self.ref_ptr.1 in let cells = self.now.cells in
     let Post : Val → SProp 𝓤 = (walk_of 𝓛 En hs c).post z in
     let toks = ‵ (flft κs.1.0 qs.1.0) ⊛ ‵ (flft κs.1.1.0 qs.1.1.0) ⊛ ‵ ftrue in
     let outer = raw (fact 𝓤 (contract.BorrowLft.◌⊑◌ κs.1.0 T.lives)) in let inner = raw (fact 𝓤 (contract.BorrowLft.◌⊑◌ κs.1.1.0 A.lives)) in
-    let asked = raw (fact 𝓤 (Rattle.concurrent_lru.specs.Cells.HoldsBy cells key at.ptr alloc)) in
+    let asked = raw (fact 𝓤 (Rattle.concurrent_lru.specs.Cells.HoldsBy cells slot at.ptr alloc)) in
     qed 𝓛 (((‵ (flft κs.0 qs.0) ⊛ toks) ⊛ ‵ (owns (types_at En.signature.params κs) z.0.3 z.0.4)) ∷ outer ∷ inner ∷ asked ∷ []) ∵
     move ! (3 ∷ []) $ heard ! _ (λ held. split ! $ split ! $ move ! (2 ∷ []) $
     -- [the parameters; the token of self; the others'; two bounds]
-    fsplit ! $ fsplit3 ! $ feq_l ! (λ e0. move ! (2 ∷ []) $ fsplit ! $ word_had ! at.ptr z.0.4.1.0 (λ e1. fsplit ! $ fsplit ! $ feq_l ! (λ e2. flt_l ! (λ fits_key. fsplit ! $
+    fsplit ! $ fsplit3 ! $ feq_l ! (λ e0. move ! (2 ∷ []) $ fsplit ! $ word_had ! at.ptr z.0.4.1.0 (λ e1. fsplit ! $ fsplit ! $ feq_l ! (λ e2. flt_l ! (λ fits_slot. fsplit ! $
     handle_tells E.al ! alloc z.0.4.1.1.1.0 (λ h e3 fits. keep ! (2 ∷ 3 ∷ 4 ∷ 0 ∷ 5 ∷ 6 ∷ 7 ∷ []) $
-    let one : One E = held.0 in let new : (Mr E).Denot = record { mark = self.now.mark; cells = put_at key None cells } in
-    let us : List Val = vptr rb ro ∷ word at.ptr ∷ mir.Val.vint mir.Syntax.w64 key ∷ h ∷ [] in
+    let one : One E = held.0 in let new : (Mr E).Denot = record { mark = self.now.mark; cells = put_at slot None cells } in
+    let us : List Val = vptr rb ro ∷ word at.ptr ∷ mir.Val.vint mir.Syntax.w64 slot ∷ h ∷ [] in
     regoal ! (λ (ws : List Val). prop (WpFn 𝓤 H 𝓣.C 𝓣.Λ fn ws Post)) (λ i. e0 i ++ (e1 i ++ (e2 i ++ (e3 i ++ [])))) refl $
-    enter ! 𝓣.C 𝓣.Λ fn us Post $ alloc_all ! (λ l. pass_all ! refl ((tt, tt), (word-Good [] at.ptr, ((tt, record { fits = fits_key }), (fits, tt)))) $ let Ev = env fn.locals l in
+    enter ! 𝓣.C 𝓣.Λ fn us Post $ alloc_all ! (λ l. pass_all ! refl ((tt, tt), (word-Good [] at.ptr, ((tt, record { fits = fits_slot }), (fits, tt)))) $ let Ev = env fn.locals l in
     opens ! tt (Mr E) {h = self.now} rb ro (λ vs. move ! (1 ∷ []) $ fsplit ! $ move ! (1 ∷ []) $
-    use1 𝓛 (‵ (Owns E (Some one)) ⊛ ‵ (All E (put_at key None cells))) (cell_out E 𝓛 cells key one held.1) $ split ! $
+    use1 𝓛 (‵ (Owns E (Some one)) ⊛ ‵ (All E (put_at slot None cells))) (cell_out E 𝓛 cells slot one held.1) $ split ! $
     in_a_block ! one.at (λ p. box_owns (g.dealloc_token one.alloc) (R E) p one.value) (fst∗ 𝓤 (never 𝓤) (sem 𝓛 (g.dealloc_token one.alloc (bare (lone (R E).mir)) null_ptr))) (λ b o e.
     -- [the box; the others; the mark; its cell; the open borrow; obs; auth; the handle; the tokens;
     -- two bounds]
@@ -90,9 +90,9 @@ take_spec 𝓤 𝓛 𝓜 𝓡 wired T A L LA g d dd allocator glued =
     let good : Good (layout (B E)) u = subst (Good (layout (B E))) (sym (ap only ws)) (box_typed E h' b' o' fits') in
     lands_last ! refl good $ exec ! 𝓣.C 𝓣.Λ Ev (after 1 fn.body) (at_ret Ev Post) $ sets ! (of_opd ! (get ! refl)) refl good $
     returns ! (look_at ! 0 refl) $ free_all ! refl $
-    let given : (again : One E) → cell_at cells key ≡ Some again → r.value ≡ again.value = (λ again is. let was : Some one ≡ Some again = sym held.1 ∙ is in let alike : one ≡ again = cc in same ∙ ap (λ (x : One E). x.value) alike) in
-    use0 𝓛 (raw (fact 𝓤 (new.cells ≡ put_at key None cells))) (fact_i 𝓤 (new.cells ≡ put_at key None cells) (emp 𝓤) refl) $
-    use0 𝓛 (raw (fact 𝓤 ((again : One E) → cell_at cells key ≡ Some again → r.value ≡ again.value))) (fact_i 𝓤 ((again : One E) → cell_at cells key ≡ Some again → r.value ≡ again.value) (emp 𝓤) given) $ join ! $
+    let given : (again : One E) → cell_at cells slot ≡ Some again → r.value ≡ again.value = (λ again is. let was : Some one ≡ Some again = sym held.1 ∙ is in let alike : one ≡ again = cc in same ∙ ap (λ (x : One E). x.value) alike) in
+    use0 𝓛 (raw (fact 𝓤 (new.cells ≡ put_at slot None cells))) (fact_i 𝓤 (new.cells ≡ put_at slot None cells) (emp 𝓤) refl) $
+    use0 𝓛 (raw (fact 𝓤 ((again : One E) → cell_at cells slot ≡ Some again → r.value ≡ again.value))) (fact_i 𝓤 ((again : One E) → cell_at cells slot ≡ Some again → r.value ≡ again.value) (emp 𝓤) given) $ join ! $
     -- [the clauses; the box; the tokens; its allocator; obs; the borrow; the token]
     move ! (6 ∷ 2 ∷ []) $ join ! $ feq_i ! (List Val) z.0.4.0 (vptr rb ro ∷ []) e0 $ move ! (0 ∷ 5 ∷ 6 ∷ []) $ fjoin3 ! $
     nothing ! $ nothing ! $ fjoin ! $ nothing ! $ fjoin ! $ nothing ! $ fjoin ! $ move ! (1 ∷ 0 ∷ []) $ fjoin ! $ keep ! (1 ∷ 0 ∷ 3 ∷ 2 ∷ []) $

@@ -1,5 +1,5 @@
 use Rattle.std.proofs.Common.{ap, ◌∙◌, subst}
-use Rattle.concurrent_lru.specs.Cells.{key_at}
+use Rattle.concurrent_lru.specs.Cells.{slot_at}
 use Rattle.concurrent_lru.specs.NodeTable.{entry_with_pins}
 use Rattle.concurrent_lru.specs.Relinks.{Revalues}
 use Rattle.concurrent_lru.specs.SlotPointers.{cells_of}
@@ -8,5 +8,5 @@ use Rattle.concurrent_lru.proofs.list.slots.Slots.set_pins.Goals as goal
 pub returns-clause-entry : goal.returns-clause-entry
 returns-clause-entry g c =
     let same = ap cells_of c.look-link.ensures.rest in
-    subst (λ l. Revalues l (cells_of c.hold.new.self) c.args.key (entry_with_pins c.args.pins)) same
-    (c.hold.ensures.entry c.args.key (ap (λ l. key_at l c.look-link.result) same ∙ c.look-link.ensures.link))
+    subst (λ l. Revalues l (cells_of c.set_pins_by_link.new.self) c.args.slot (entry_with_pins c.args.pins)) same
+    (c.set_pins_by_link.ensures.entry c.args.slot (ap (λ l. slot_at l c.look-link.result) same ∙ c.look-link.ensures.link))

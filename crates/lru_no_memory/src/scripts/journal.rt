@@ -1,0 +1,148 @@
+//! The calls of a journal and of a twin. They have each call once where its record needs new room:
+//! there is none at first, then it lasts for four records, and then for eight. A read asks for the
+//! room of two.
+
+use crate::calls::TextCall;
+use lru_fixtures::tables::Call::{
+    AdviceEvict, Begin, Fail, Get, Poll, Prune, Ready, Release, SetCapacity, Total,
+};
+
+/// A new entry evicts an idle one.
+pub const EVICTS: &[TextCall] = &[
+    Begin("1", 1),
+    Ready(0, 1),
+    Release(0),
+    Begin("2", 1),
+    Get("1"),
+    Release(0),
+];
+
+/// A caller that waits is given what the other made.
+pub const POLLS: &[TextCall] = &[
+    Get("1"),
+    Begin("1", 1),
+    Begin("1", 1),
+    Total,
+    Poll(0),
+    Ready(0, 1),
+    Poll(0),
+    Get("1"),
+    Release(0),
+    Release(0),
+    Release(0),
+];
+
+/// A value is stored and taken by a caller that waits, and evicted in the end.
+pub const STORES: &[TextCall] = &[
+    SetCapacity(2),
+    Begin("1", 1),
+    Begin("1", 1),
+    Total,
+    Ready(0, 7),
+    Poll(0),
+    Release(0),
+    Release(0),
+    Prune,
+    Total,
+];
+
+/// A making that fails is left to the caller that waits, and removed where that fails too.
+pub const FAILS: &[TextCall] = &[
+    AdviceEvict("1"),
+    Begin("1", 1),
+    Begin("1", 1),
+    Total,
+    Fail(0),
+    Poll(0),
+    Fail(0),
+    Total,
+    Begin("1", 1),
+];
+
+/// Calls of an empty cache.
+pub const FINDS_NOTHING: &[TextCall] = &[
+    Total,
+    Poll(0),
+    Get("1"),
+    Release(0),
+    Fail(0),
+    Ready(0, 1),
+    Prune,
+];
+
+/// A call that is refused for another cause than memory needs room for its record first, and is
+/// refused for want of that where there is none: each such call comes where the records before it
+/// fill their room, of 4, 8, 16 and 32.
+pub const REFUSES: &[TextCall] = &[
+    Poll(0),
+    Begin("1", u64::MAX),
+    Total,
+    Total,
+    Total,
+    Begin("2", 1),
+    Total,
+    Total,
+    Total,
+    Total,
+    Release(0),
+    Total,
+    Total,
+    Total,
+    Total,
+    Total,
+    Total,
+    Total,
+    Total,
+    Fail(1),
+    Total,
+    Total,
+    Total,
+    Total,
+    Total,
+    Total,
+    Total,
+    Total,
+    Total,
+    Total,
+    Total,
+    Total,
+    Total,
+    Total,
+    Total,
+    Total,
+    Ready(1, 1),
+    Total,
+];
+
+/// A present key is found without a making.
+pub const TWIN_HITS: &[TextCall] = &[
+    Begin("1", 1),
+    Ready(0, 7),
+    Release(0),
+    Get("1"),
+    Begin("1", 1),
+    Release(0),
+    Release(0),
+    Total,
+];
+
+/// The calls of the first caller. The second one finds what they made.
+pub const FIRST_CALLER: &[TextCall] = &[
+    Begin("1", 1),
+    Ready(0, 7),
+    Release(0),
+    Total,
+    Get("1"),
+    Release(0),
+];
+
+/// The calls of the second caller.
+pub const SECOND_CALLER: &[TextCall] = &[
+    Begin("1", 1),
+    Begin("2", 1),
+    Ready(1, 2),
+    Release(1),
+    Release(0),
+    Total,
+    Prune,
+];
