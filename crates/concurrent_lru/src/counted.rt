@@ -78,7 +78,8 @@ impl<K: Hash + Eq + Clone, V: Drop> CountedState<K, V> {
     /// Returns the counts and starts the counting again.
     pub fn reset_counts(&mut self) -> Counts
         ensures counted { result ≡ self.old.counts }
-        ensures anew { self.new.counts ≡ counts_from (count_of self.old.cache) (sum_of self.old.cache) }
+        ensures anew { self.new.counts ≡ counts_from (count_of self.old.cache)
+            (sum_of self.old.cache) }
         ensures cache { self.new.cache ≡ self.old.cache }
     {
         let counted = self.counts;
@@ -103,8 +104,10 @@ impl<K: Hash + Eq + Clone, V: Drop> CountedState<K, V> {
         charge: u64,
     ) -> Result<(Begun<V>, Evicted<K, V>, Place), Refusal>
         requires { 0 < charge }
-        ensures step { Stands K.eq self.old.cache (ask.begin key.now charge) (outcome_of_begin (begun_without_place result)) self.new.cache }
-        ensures counted { self.new.counts ≡ counted self.old.cache (ask.begin key.now charge) (outcome_of_begin (begun_without_place result)) self.old.counts }
+        ensures step { Stands K.eq self.old.cache (ask.begin key.now charge)
+            (outcome_of_begin (begun_without_place result)) self.new.cache }
+        ensures counted { self.new.counts ≡ counted self.old.cache (ask.begin key.now charge)
+            (outcome_of_begin (begun_without_place result)) self.old.counts }
         ensures lawful { IsLawful K.eq self.new.cache }
     {
         let next = self.state.next_stamp();
@@ -122,8 +125,10 @@ impl<K: Hash + Eq + Clone, V: Drop> CountedState<K, V> {
     /// The core's `poll`: a making started if the caller is to make the value, a refusal if a copy
     /// is refused.
     pub fn poll(&mut self, spot: &Spot) -> Result<Begun<V>, Refusal>
-        ensures step { Stands K.eq self.old.cache (ask.poll spot.now.stamp) (outcome_of_poll result) self.new.cache }
-        ensures counted { self.new.counts ≡ counted self.old.cache (ask.poll spot.now.stamp) (outcome_of_poll result) self.old.counts }
+        ensures step { Stands K.eq self.old.cache (ask.poll spot.now.stamp) (outcome_of_poll result)
+            self.new.cache }
+        ensures counted { self.new.counts ≡ counted self.old.cache (ask.poll spot.now.stamp)
+            (outcome_of_poll result) self.old.counts }
         ensures lawful { IsLawful K.eq self.new.cache }
     {
         let polled = self.state.poll_at(spot);
@@ -134,7 +139,9 @@ impl<K: Hash + Eq + Clone, V: Drop> CountedState<K, V> {
     /// The core's `ready_keyed`. Counts nothing.
     #[inline(always)]
     pub fn ready_keyed(&mut self, spot: &Spot, key: &K, value: Arc<V>) -> (Result<(), Arc<V>>, bool)
-        ensures step { HasEqualKeyAt K.eq self.old.cache spot.now.stamp key.now → Stands K.eq self.old.cache (ask.ready spot.now.stamp (arc_value value)) (outcome_of_ready result.0) self.new.cache }
+        ensures step { HasEqualKeyAt K.eq self.old.cache spot.now.stamp key.now
+            → Stands K.eq self.old.cache (ask.ready spot.now.stamp (arc_value value))
+            (outcome_of_ready result.0) self.new.cache }
         ensures counts { self.new.counts ≡ self.old.counts }
         ensures keyed { OnOk result.0 (HasEqualKeyAt K.eq self.old.cache spot.now.stamp key.now) }
         ensures same { OnErr result.0 (self.new.cache ≡ self.old.cache) }
@@ -147,8 +154,10 @@ impl<K: Hash + Eq + Clone, V: Drop> CountedState<K, V> {
 
     /// The core's `fail`: a failed making, and a removal if the entry is removed.
     pub fn fail(&mut self, spot: &Spot) -> Result<Failed<K>, Refusal>
-        ensures step { Stands K.eq self.old.cache (ask.fail spot.now.stamp) (outcome_of_fail result) self.new.cache }
-        ensures counted { self.new.counts ≡ counted self.old.cache (ask.fail spot.now.stamp) (outcome_of_fail result) self.old.counts }
+        ensures step { Stands K.eq self.old.cache (ask.fail spot.now.stamp) (outcome_of_fail result)
+            self.new.cache }
+        ensures counted { self.new.counts ≡ counted self.old.cache (ask.fail spot.now.stamp)
+            (outcome_of_fail result) self.old.counts }
         ensures lawful { IsLawful K.eq self.new.cache }
     {
         match self.state.fail_at(spot)? {
@@ -167,8 +176,10 @@ impl<K: Hash + Eq + Clone, V: Drop> CountedState<K, V> {
     /// The core's `get`: a hit, a miss or a refusal.
     #[inline(always)]
     pub fn get(&mut self, key: &K) -> Result<Option<(u64, Arc<V>, Place)>, Refusal>
-        ensures step { Stands K.eq self.old.cache (ask.get key.now) (outcome_of_get (found_without_place result)) self.new.cache }
-        ensures counted { self.new.counts ≡ counted self.old.cache (ask.get key.now) (outcome_of_get (found_without_place result)) self.old.counts }
+        ensures step { Stands K.eq self.old.cache (ask.get key.now)
+            (outcome_of_get (found_without_place result)) self.new.cache }
+        ensures counted { self.new.counts ≡ counted self.old.cache (ask.get key.now)
+            (outcome_of_get (found_without_place result)) self.old.counts }
         ensures lawful { IsLawful K.eq self.new.cache }
     {
         let found = self.state.get_at(key);
@@ -181,8 +192,10 @@ impl<K: Hash + Eq + Clone, V: Drop> CountedState<K, V> {
     pub fn read<T, G>(&mut self, key: &K, reader: G) -> Result<Option<(u64, T)>, Refusal>
     where
         G: FnOnce(&V) -> T + Drop,
-        requires callable { (v : V) → Finds K.eq self.old.cache key.now v → FnOnceTakesAt G.FnOnce reader v }
-        ensures step { Reads K.eq self.old.cache key.now (FnOnceReturnsAt G.FnOnce reader) result self.new.cache }
+        requires callable { (v : V) → Finds K.eq self.old.cache key.now v
+            → FnOnceTakesAt G.FnOnce reader v }
+        ensures step { Reads K.eq self.old.cache key.now (FnOnceReturnsAt G.FnOnce reader) result
+            self.new.cache }
         ensures counted { self.new.counts ≡ counted_look result self.old.counts }
         ensures lawful { IsLawful K.eq self.new.cache }
     {
@@ -194,8 +207,10 @@ impl<K: Hash + Eq + Clone, V: Drop> CountedState<K, V> {
     /// The core's `release`. Counts what it evicts.
     #[inline(always)]
     pub fn release(&mut self, spot: &Spot) -> Result<Evicted<K, V>, Refusal>
-        ensures step { Stands K.eq self.old.cache (ask.release spot.now.stamp) (outcome_of_release result) self.new.cache }
-        ensures counted { self.new.counts ≡ counted self.old.cache (ask.release spot.now.stamp) (outcome_of_release result) self.old.counts }
+        ensures step { Stands K.eq self.old.cache (ask.release spot.now.stamp)
+            (outcome_of_release result) self.new.cache }
+        ensures counted { self.new.counts ≡ counted self.old.cache (ask.release spot.now.stamp)
+            (outcome_of_release result) self.old.counts }
         ensures lawful { IsLawful K.eq self.new.cache }
     {
         let evicted = self.state.release_at(spot)?;
@@ -209,8 +224,10 @@ impl<K: Hash + Eq + Clone, V: Drop> CountedState<K, V> {
 
     /// The core's `advice_evict`. Counts what it evicts.
     pub fn advice_evict(&mut self, key: &K) -> Evicted<K, V>
-        ensures step { Stands K.eq self.old.cache (ask.advice_evict key.now) (outcome_of_evictions result) self.new.cache }
-        ensures counted { self.new.counts ≡ counted self.old.cache (ask.advice_evict key.now) (outcome_of_evictions result) self.old.counts }
+        ensures step { Stands K.eq self.old.cache (ask.advice_evict key.now)
+            (outcome_of_evictions result) self.new.cache }
+        ensures counted { self.new.counts ≡ counted self.old.cache (ask.advice_evict key.now)
+            (outcome_of_evictions result) self.old.counts }
         ensures lawful { IsLawful K.eq self.new.cache }
     {
         let evicted = self.state.advice_evict(key);
@@ -222,8 +239,10 @@ impl<K: Hash + Eq + Clone, V: Drop> CountedState<K, V> {
     /// The core's `invalidate`. Counts what it evicts: an idle entry now, a held one when its last
     /// pin is released.
     pub fn invalidate(&mut self, key: &K) -> Evicted<K, V>
-        ensures step { Stands K.eq self.old.cache (ask.invalidate key.now) (outcome_of_evictions result) self.new.cache }
-        ensures counted { self.new.counts ≡ counted self.old.cache (ask.invalidate key.now) (outcome_of_evictions result) self.old.counts }
+        ensures step { Stands K.eq self.old.cache (ask.invalidate key.now)
+            (outcome_of_evictions result) self.new.cache }
+        ensures counted { self.new.counts ≡ counted self.old.cache (ask.invalidate key.now)
+            (outcome_of_evictions result) self.old.counts }
         ensures lawful { IsLawful K.eq self.new.cache }
     {
         let evicted = self.state.invalidate(key);
@@ -241,8 +260,10 @@ impl<K: Hash + Eq + Clone, V: Drop> CountedState<K, V> {
         value: Arc<V>,
     ) -> Result<(Inserted<K, V>, Place), (Refusal, Arc<V>)>
         requires { 0 < charge }
-        ensures step { Inserts K.eq self.old.cache key.now charge (arc_value value) (inserted_without_place result) self.new.cache }
-        ensures inserted { IfOk result (λ r. self.new.counts ≡ replaced r.0.replaced r.0.evicted charge self.old.counts) }
+        ensures step { Inserts K.eq self.old.cache key.now charge (arc_value value)
+            (inserted_without_place result) self.new.cache }
+        ensures inserted { IfOk result (λ r. self.new.counts
+            ≡ replaced r.0.replaced r.0.evicted charge self.old.counts) }
         ensures counts { OnErr result (self.new.counts ≡ one_refusal self.old.counts) }
         ensures same { OnErr result (self.new.cache ≡ self.old.cache) }
         ensures back { IfErr result (λ e. e.1 ≡ value) }
@@ -263,8 +284,10 @@ impl<K: Hash + Eq + Clone, V: Drop> CountedState<K, V> {
 
     /// The core's `prune`. Counts what it evicts.
     pub fn prune(&mut self) -> Evicted<K, V>
-        ensures step { Stands K.eq self.old.cache ask.prune (outcome_of_evictions result) self.new.cache }
-        ensures counted { self.new.counts ≡ counted self.old.cache ask.prune (outcome_of_evictions result) self.old.counts }
+        ensures step { Stands K.eq self.old.cache ask.prune (outcome_of_evictions result)
+            self.new.cache }
+        ensures counted { self.new.counts ≡ counted self.old.cache ask.prune
+            (outcome_of_evictions result) self.old.counts }
         ensures lawful { IsLawful K.eq self.new.cache }
     {
         let evicted = self.state.prune();
@@ -275,8 +298,10 @@ impl<K: Hash + Eq + Clone, V: Drop> CountedState<K, V> {
 
     /// The core's `set_capacity`. Counts what it evicts.
     pub fn set_capacity(&mut self, capacity: u64) -> Evicted<K, V>
-        ensures step { Stands K.eq self.old.cache (ask.set_capacity capacity) (outcome_of_evictions result) self.new.cache }
-        ensures counted { self.new.counts ≡ counted self.old.cache (ask.set_capacity capacity) (outcome_of_evictions result) self.old.counts }
+        ensures step { Stands K.eq self.old.cache (ask.set_capacity capacity)
+            (outcome_of_evictions result) self.new.cache }
+        ensures counted { self.new.counts ≡ counted self.old.cache (ask.set_capacity capacity)
+            (outcome_of_evictions result) self.old.counts }
         ensures lawful { IsLawful K.eq self.new.cache }
     {
         let evicted = self.state.set_capacity(capacity);
@@ -323,7 +348,8 @@ impl<K: Hash + Eq + Clone, V: Drop> CountedState<K, V> {
 
     /// The core's `key_of`.
     pub fn key_of(&self, spot: &Spot) -> Option<&K>
-        ensures { MatchOption result (LacksStamp self.now.cache spot.now.stamp) (λ key. HasKeyAt self.now.cache spot.now.stamp key.now) }
+        ensures { MatchOption result (LacksStamp self.now.cache spot.now.stamp)
+            (λ key. HasKeyAt self.now.cache spot.now.stamp key.now) }
     {
         self.state.key_at(spot)
     }

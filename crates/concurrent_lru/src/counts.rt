@@ -160,7 +160,10 @@ impl Counts {
         requires entries_fit { entries_in self.old < 2 ^ 64 }
         requires charge { charge + self.old.removed_charge ≤ charge_in self.old }
         requires charge_fits { charge_in self.old < 2 ^ 128 }
-        ensures { self.new ≡ record self.old { evictions = entries_in self.old - self.old.removals - entries; evicted_charge = charge_in self.old - self.old.removed_charge - charge } }
+        ensures { self.new ≡ record self.old {
+          evictions = entries_in self.old - self.old.removals - entries;
+          evicted_charge = charge_in self.old - self.old.removed_charge - charge;
+        } }
     {
         self.evictions = self.entries_before + self.insertions - self.removals - entries;
         self.evicted_charge = self.charge_before + self.inserted_charge
@@ -174,7 +177,10 @@ impl Counts {
         requires entries { self.old.removals + 1 < 2 ^ 64 }
         requires charge { charge + self.old.evicted_charge ≤ charge_in self.old }
         requires charge_fits { charge_in self.old < 2 ^ 128 }
-        ensures { self.new ≡ record self.old { removals = self.old.removals + 1; removed_charge = charge_in self.old - self.old.evicted_charge - charge } }
+        ensures { self.new ≡ record self.old {
+          removals = self.old.removals + 1;
+          removed_charge = charge_in self.old - self.old.evicted_charge - charge;
+        } }
     {
         self.removals += 1;
         self.removed_charge = self.charge_before + self.inserted_charge
@@ -225,7 +231,8 @@ fn write_entries<W: fmt::Write>(
     charge: u128,
     f: &mut fmt::Formatter<W>,
 ) -> fmt::Result
-    ensures { WritesOnOk W.write_str_gives f.old result (entries_text kind.now entries charge) f.new }
+    ensures { WritesOnOk W.write_str_gives f.old result (entries_text kind.now entries charge)
+        f.new }
 {
     write!(f, ", {kind} {entries} of charge {charge}")
 }

@@ -96,7 +96,8 @@ impl<K: Hash + Eq + Clone + Drop, V: Drop, R: Wait, F: Fit<K, V>> Door<K, V, R, 
         ensures lawful { IsLawful K.eq (mutex_guard_value result.guard).cache }
         ensures settled { IsSettled (mutex_guard_value result.guard).cache }
         ensures kept { ValuesFit F.fits (mutex_guard_value result.guard).cache }
-        ensures adds_up { AddUp (mutex_guard_value result.guard).cache (mutex_guard_value result.guard).counts }
+        ensures adds_up { AddUp (mutex_guard_value result.guard).cache
+            (mutex_guard_value result.guard).counts }
     {
         let guard = match self.locked.try_lock() {
             Some(guard) => guard,
@@ -140,7 +141,8 @@ impl<'a, K: Hash + Eq + Clone + Drop, V: Drop, R: Wait, F: Fit<K, V>> Guard<'a, 
     /// `Locked::get`.
     #[inline(always)]
     pub fn get(self, key: &K) -> Result<Option<CacheHandle<'a, K, V, R, F>>, Refusal>
-        ensures found { IfOk result (λ found. IfSome found (λ h. IsHandleFor F.fits h key.now None)) }
+        ensures found { IfOk result (λ found. IfSome found
+            (λ h. IsHandleFor F.fits h key.now None)) }
         ensures never_stale { IfErr result (λ e. e ≢ Refusal.Stale) }
     {
         let Self { door, mut guard } = self;
@@ -156,7 +158,8 @@ impl<'a, K: Hash + Eq + Clone + Drop, V: Drop, R: Wait, F: Fit<K, V>> Guard<'a, 
     where
         G: FnOnce(&V) -> T + Drop,
         requires callable { (v : V) → F.fits key.now v → FnOnceTakesAt G.FnOnce reader v }
-        ensures fits { IfOk result (λ found. IfSome found (λ t. (v : V) × F.fits key.now v × FnOnceReturnsAt G.FnOnce reader v t)) }
+        ensures fits { IfOk result (λ found. IfSome found
+            (λ t. (v : V) × F.fits key.now v × FnOnceReturnsAt G.FnOnce reader v t)) }
         ensures refused { IfErr result (λ e. e ≡ Refusal.Overflow) }
     {
         let Self { door: _, mut guard } = self;
@@ -350,7 +353,8 @@ impl<'a, K: Hash + Eq + Clone + Drop, V: Drop, R: Wait, F: Fit<K, V>> WaitGuard<
     pub fn wait(self, key: &K) -> Result<Option<Lookup<'a, K, V, R, F>>, Refusal>
         requires asked { awaited_key self.waiting ≡ key.now }
         requires awake { IsAwake self }
-        ensures lookup { IfOk result (λ woken. IfSome woken (λ lookup. IsLookupFor F.fits lookup key.now (awaited_charge self.entry.waiting))) }
+        ensures lookup { IfOk result (λ woken. IfSome woken
+            (λ lookup. IsLookupFor F.fits lookup key.now (awaited_charge self.entry.waiting))) }
         ensures refused { IfErr result (λ e. e ≡ Refusal.Memory) }
     {
         let Self {

@@ -115,7 +115,8 @@ impl<K: Hash + Eq + Clone + Drop, V: Drop, F: Fit<K, V>> Locked<K, V, F> {
     /// Returns the counts and starts the counting again.
     pub fn reset_counts(&mut self) -> Counts
         ensures counted { result ≡ self.old.counts }
-        ensures anew { self.new.counts ≡ counts_from (count_of self.old.cache) (sum_of self.old.cache) }
+        ensures anew { self.new.counts ≡ counts_from (count_of self.old.cache)
+            (sum_of self.old.cache) }
         ensures cache { self.new.cache ≡ self.old.cache }
     {
         self.state.reset_counts()
@@ -125,8 +126,10 @@ impl<K: Hash + Eq + Clone + Drop, V: Drop, F: Fit<K, V>> Locked<K, V, F> {
     #[inline(always)]
     pub fn begin(&mut self, key: &K, charge: u64) -> Result<Entered<K, V, F>, Refusal>
         requires charged { 0 < charge }
-        ensures step { Stands K.eq self.old.cache (ask.begin key.now charge) (outcome_of_locked_begin result) self.new.cache }
-        ensures counted { self.new.counts ≡ counted self.old.cache (ask.begin key.now charge) (outcome_of_locked_begin result) self.old.counts }
+        ensures step { Stands K.eq self.old.cache (ask.begin key.now charge)
+            (outcome_of_locked_begin result) self.new.cache }
+        ensures counted { self.new.counts ≡ counted self.old.cache (ask.begin key.now charge)
+            (outcome_of_locked_begin result) self.old.counts }
         ensures asked { IfOk result (λ e. AsksOnEntry e key.now charge self.new) }
         ensures hit { IfOk result (λ e. IfEntered e (F.fits key.now)) }
         ensures never_stale { IfErr result (λ e. e ≢ Refusal.Stale) }
@@ -159,8 +162,10 @@ impl<K: Hash + Eq + Clone + Drop, V: Drop, F: Fit<K, V>> Locked<K, V, F> {
         charge: u64,
     ) -> Result<(Begun<V>, Evicted<K, V>, Place), Refusal>
         requires charged { 0 < charge }
-        ensures step { Stands K.eq self.old.cache (ask.begin key.now charge) (outcome_of_begin (begun_without_place result)) self.new.cache }
-        ensures counted { self.new.counts ≡ counted self.old.cache (ask.begin key.now charge) (outcome_of_begin (begun_without_place result)) self.old.counts }
+        ensures step { Stands K.eq self.old.cache (ask.begin key.now charge)
+            (outcome_of_begin (begun_without_place result)) self.new.cache }
+        ensures counted { self.new.counts ≡ counted self.old.cache (ask.begin key.now charge)
+            (outcome_of_begin (begun_without_place result)) self.old.counts }
         ensures hit { IfOk result (λ r. IfHit r.0 (F.fits key.now)) }
         ensures never_stale { IfErr result (λ e. e ≢ Refusal.Stale) }
     {
@@ -170,9 +175,12 @@ impl<K: Hash + Eq + Clone + Drop, V: Drop, F: Fit<K, V>> Locked<K, V, F> {
     /// The core's `get`. The value found fits the key.
     #[inline(always)]
     pub fn get(&mut self, key: &K) -> Result<Option<HeldPin<K, V, F>>, Refusal>
-        ensures step { Stands K.eq self.old.cache (ask.get key.now) (outcome_of_locked_get result) self.new.cache }
-        ensures counted { self.new.counts ≡ counted self.old.cache (ask.get key.now) (outcome_of_locked_get result) self.old.counts }
-        ensures asked { IfOk result (λ found. IfSome found (λ p. (p.key ≡ key.now) × (p.charge ≡ None))) }
+        ensures step { Stands K.eq self.old.cache (ask.get key.now) (outcome_of_locked_get result)
+            self.new.cache }
+        ensures counted { self.new.counts ≡ counted self.old.cache (ask.get key.now)
+            (outcome_of_locked_get result) self.old.counts }
+        ensures asked { IfOk result (λ found. IfSome found
+            (λ p. (p.key ≡ key.now) × (p.charge ≡ None))) }
         ensures hit { IfOk result (λ found. IfSome found (λ p. F.fits key.now p.value)) }
         ensures never_stale { IfErr result (λ e. e ≢ Refusal.Stale) }
     {
@@ -191,9 +199,11 @@ impl<K: Hash + Eq + Clone + Drop, V: Drop, F: Fit<K, V>> Locked<K, V, F> {
     where
         G: FnOnce(&V) -> T + Drop,
         requires callable { (v : V) → F.fits key.now v → FnOnceTakesAt G.FnOnce reader v }
-        ensures step { Reads K.eq self.old.cache key.now (FnOnceReturnsAt G.FnOnce reader) result self.new.cache }
+        ensures step { Reads K.eq self.old.cache key.now (FnOnceReturnsAt G.FnOnce reader) result
+            self.new.cache }
         ensures counted { self.new.counts ≡ counted_look result self.old.counts }
-        ensures fits { IfOk result (λ found. IfSome found (λ r. (v : V) × F.fits key.now v × FnOnceReturnsAt G.FnOnce reader v r.1)) }
+        ensures fits { IfOk result (λ found. IfSome found
+            (λ r. (v : V) × F.fits key.now v × FnOnceReturnsAt G.FnOnce reader v r.1)) }
         ensures refused { IfErr result (λ e. e ≡ Refusal.Overflow) }
     {
         self.state.read(key, reader)
@@ -221,9 +231,13 @@ impl<K: Hash + Eq + Clone + Drop, V: Drop, F: Fit<K, V>> Locked<K, V, F> {
     /// The core's `poll`, if the pin's entry has the key. The value of a hit fits the key.
     pub fn poll(&mut self, woken: Woken<K>, key: &K) -> Polled<K, V, F>
         requires asked { woken_key woken ≡ key.now }
-        ensures step { HasEqualKeyAt K.eq self.old.cache (woken_stamp woken) key.now → Stands K.eq self.old.cache (ask.poll (woken_stamp woken)) (outcome_of_locked_poll result) self.new.cache }
-        ensures counted { self.new.counts ≡ counted self.old.cache (ask.poll (woken_stamp woken)) (outcome_of_locked_poll result) self.old.counts }
-        ensures no_entry { (HasEqualKeyAt K.eq self.old.cache (woken_stamp woken) key.now → ⊥) → (result ≡ Polled.NoPin) × (self.new ≡ self.old) }
+        ensures step { HasEqualKeyAt K.eq self.old.cache (woken_stamp woken) key.now
+            → Stands K.eq self.old.cache (ask.poll (woken_stamp woken))
+            (outcome_of_locked_poll result) self.new.cache }
+        ensures counted { self.new.counts ≡ counted self.old.cache (ask.poll (woken_stamp woken))
+            (outcome_of_locked_poll result) self.old.counts }
+        ensures no_entry { (HasEqualKeyAt K.eq self.old.cache (woken_stamp woken) key.now → ⊥)
+            → (result ≡ Polled.NoPin) × (self.new ≡ self.old) }
         ensures asked { AsksOnPoll result key.now (woken_charge woken) self.new }
         ensures hit { IfPolled result (F.fits key.now) }
     {
@@ -244,9 +258,13 @@ impl<K: Hash + Eq + Clone + Drop, V: Drop, F: Fit<K, V>> Locked<K, V, F> {
 
     // The core's `poll`, if the spot's entry has the key, with its own result.
     fn poll_core(&mut self, spot: &Spot, key: &K) -> Result<Begun<V>, Refusal>
-        ensures step { HasEqualKeyAt K.eq self.old.cache spot.now.stamp key.now → Stands K.eq self.old.cache (ask.poll spot.now.stamp) (outcome_of_poll result) self.new.cache }
-        ensures counted { self.new.counts ≡ counted self.old.cache (ask.poll spot.now.stamp) (outcome_of_poll result) self.old.counts }
-        ensures no_entry { (HasEqualKeyAt K.eq self.old.cache spot.now.stamp key.now → ⊥) → (result ≡ Err Refusal.Stale) × (self.new ≡ self.old) }
+        ensures step { HasEqualKeyAt K.eq self.old.cache spot.now.stamp key.now
+            → Stands K.eq self.old.cache (ask.poll spot.now.stamp) (outcome_of_poll result)
+            self.new.cache }
+        ensures counted { self.new.counts ≡ counted self.old.cache (ask.poll spot.now.stamp)
+            (outcome_of_poll result) self.old.counts }
+        ensures no_entry { (HasEqualKeyAt K.eq self.old.cache spot.now.stamp key.now → ⊥)
+            → (result ≡ Err Refusal.Stale) × (self.new ≡ self.old) }
         ensures hit { IfOk result (λ b. IfHit b (F.fits key.now)) }
     {
         if !self.has_key(spot, key) {
@@ -271,11 +289,19 @@ impl<K: Hash + Eq + Clone + Drop, V: Drop, F: Fit<K, V>> Locked<K, V, F> {
         requires asked { made_key making ≡ key.now }
         requires fits { F.fits key.now (arc_value stored) }
         requires same { arc_value read ≡ arc_value stored }
-        ensures step { HasEqualKeyAt K.eq self.old.cache (made_stamp making) key.now → Stands K.eq self.old.cache (ask.ready (made_stamp making) (arc_value stored)) (outcome_of_ready result.1) self.new.cache }
+        ensures step { HasEqualKeyAt K.eq self.old.cache (made_stamp making) key.now
+            → Stands K.eq self.old.cache (ask.ready (made_stamp making) (arc_value stored))
+            (outcome_of_ready result.1) self.new.cache }
         ensures counts { self.new.counts ≡ self.old.counts }
-        ensures no_entry { (HasEqualKeyAt K.eq self.old.cache (made_stamp making) key.now → ⊥) → (result.1 ≡ Err stored) × (self.new ≡ self.old) }
+        ensures no_entry { (HasEqualKeyAt K.eq self.old.cache (made_stamp making) key.now → ⊥)
+            → (result.1 ≡ Err stored) × (self.new ≡ self.old) }
         ensures back { IfErr result.1 (λ a. arc_value a ≡ arc_value stored) }
-        ensures pin { result.0 ≡ record { stamp = made_stamp making; key = key.now; charge = Some (made_charge making); value = arc_value stored } }
+        ensures pin { result.0 ≡ record {
+          stamp = made_stamp making;
+          key = key.now;
+          charge = Some (made_charge making);
+          value = arc_value stored;
+        } }
         ensures quiet { IsFalse result.2 → HasNoOtherPin self.old.cache (made_stamp making) }
     {
         let Making {
@@ -298,9 +324,13 @@ impl<K: Hash + Eq + Clone + Drop, V: Drop, F: Fit<K, V>> Locked<K, V, F> {
         key: &K,
     ) -> (Sealed<Result<Failed<K>, Refusal>>, Waiters)
         requires asked { made_key making ≡ key.now }
-        ensures step { HasEqualKeyAt K.eq self.old.cache (made_stamp making) key.now → Stands K.eq self.old.cache (ask.fail (made_stamp making)) (outcome_of_fail result.0) self.new.cache }
-        ensures counted { self.new.counts ≡ counted self.old.cache (ask.fail (made_stamp making)) (outcome_of_fail result.0) self.old.counts }
-        ensures no_entry { (HasEqualKeyAt K.eq self.old.cache (made_stamp making) key.now → ⊥) → (result.0 ≡ Err Refusal.Stale) × (self.new ≡ self.old) }
+        ensures step { HasEqualKeyAt K.eq self.old.cache (made_stamp making) key.now
+            → Stands K.eq self.old.cache (ask.fail (made_stamp making)) (outcome_of_fail result.0)
+            self.new.cache }
+        ensures counted { self.new.counts ≡ counted self.old.cache (ask.fail (made_stamp making))
+            (outcome_of_fail result.0) self.old.counts }
+        ensures no_entry { (HasEqualKeyAt K.eq self.old.cache (made_stamp making) key.now → ⊥)
+            → (result.0 ≡ Err Refusal.Stale) × (self.new ≡ self.old) }
         ensures quiet { IsFalse result.1 → HasNoOtherPin self.old.cache (made_stamp making) }
     {
         let Making {
@@ -324,8 +354,10 @@ impl<K: Hash + Eq + Clone + Drop, V: Drop, F: Fit<K, V>> Locked<K, V, F> {
         &mut self,
         pin: HeldPin<K, V, F>,
     ) -> Sealed<(Arc<V>, Result<Evicted<K, V>, Refusal>)>
-        ensures step { Stands K.eq self.old.cache (ask.release pin.stamp) (outcome_of_release result.1) self.new.cache }
-        ensures counted { self.new.counts ≡ counted self.old.cache (ask.release pin.stamp) (outcome_of_release result.1) self.old.counts }
+        ensures step { Stands K.eq self.old.cache (ask.release pin.stamp)
+            (outcome_of_release result.1) self.new.cache }
+        ensures counted { self.new.counts ≡ counted self.old.cache (ask.release pin.stamp)
+            (outcome_of_release result.1) self.old.counts }
         ensures value { arc_value result.0 ≡ pin.value }
     {
         let HeldPin {
@@ -342,8 +374,10 @@ impl<K: Hash + Eq + Clone + Drop, V: Drop, F: Fit<K, V>> Locked<K, V, F> {
     ///
     /// Returns `Stale` as `release` does.
     pub fn give_up(&mut self, unread: Unread) -> Sealed<Result<Evicted<K, V>, Refusal>>
-        ensures step { Stands K.eq self.old.cache (ask.release (unread_stamp unread)) (outcome_of_release result) self.new.cache }
-        ensures counted { self.new.counts ≡ counted self.old.cache (ask.release (unread_stamp unread)) (outcome_of_release result) self.old.counts }
+        ensures step { Stands K.eq self.old.cache (ask.release (unread_stamp unread))
+            (outcome_of_release result) self.new.cache }
+        ensures counted { self.new.counts ≡ counted self.old.cache
+            (ask.release (unread_stamp unread)) (outcome_of_release result) self.old.counts }
     {
         let Unread { spot } = unread;
         Sealed::of(self.state.release(&spot))
@@ -351,8 +385,10 @@ impl<K: Hash + Eq + Clone + Drop, V: Drop, F: Fit<K, V>> Locked<K, V, F> {
 
     /// The core's `advice_evict`. Takes no memory.
     pub fn advice_evict(&mut self, key: &K) -> (Sealed<Evicted<K, V>>, Advised<K>)
-        ensures step { Stands K.eq self.old.cache (ask.advice_evict key.now) (outcome_of_evictions result.0) self.new.cache }
-        ensures counted { self.new.counts ≡ counted self.old.cache (ask.advice_evict key.now) (outcome_of_evictions result.0) self.old.counts }
+        ensures step { Stands K.eq self.old.cache (ask.advice_evict key.now)
+            (outcome_of_evictions result.0) self.new.cache }
+        ensures counted { self.new.counts ≡ counted self.old.cache (ask.advice_evict key.now)
+            (outcome_of_evictions result.0) self.old.counts }
         ensures done { result.1 ≡ key.now }
     {
         (Sealed::of(self.state.advice_evict(key)), Advised::of(key))
@@ -360,8 +396,10 @@ impl<K: Hash + Eq + Clone + Drop, V: Drop, F: Fit<K, V>> Locked<K, V, F> {
 
     /// The core's `invalidate`. Takes no memory.
     pub fn invalidate(&mut self, key: &K) -> (Sealed<Evicted<K, V>>, Invalidated<K>)
-        ensures step { Stands K.eq self.old.cache (ask.invalidate key.now) (outcome_of_evictions result.0) self.new.cache }
-        ensures counted { self.new.counts ≡ counted self.old.cache (ask.invalidate key.now) (outcome_of_evictions result.0) self.old.counts }
+        ensures step { Stands K.eq self.old.cache (ask.invalidate key.now)
+            (outcome_of_evictions result.0) self.new.cache }
+        ensures counted { self.new.counts ≡ counted self.old.cache (ask.invalidate key.now)
+            (outcome_of_evictions result.0) self.old.counts }
         ensures done { result.1 ≡ key.now }
     {
         (Sealed::of(self.state.invalidate(key)), Invalidated::of(key))
@@ -384,11 +422,15 @@ impl<K: Hash + Eq + Clone + Drop, V: Drop, F: Fit<K, V>> Locked<K, V, F> {
         requires charged { 0 < charge }
         requires fits { F.fits key.now (arc_value stored) }
         requires same { arc_value read ≡ arc_value stored }
-        ensures step { IfOk result (λ r. Replaces K.eq self.old.cache key.now charge (arc_value stored) r.0.stamp r.1.0 r.1.1 self.new.cache) }
-        ensures refused { IfErr result (λ e. RefusesToReplace K.eq self.old.cache key.now charge e.0 self.new.cache) }
-        ensures inserted { IfOk result (λ r. self.new.counts ≡ replaced r.1.0 r.1.1 charge self.old.counts) }
+        ensures step { IfOk result (λ r. Replaces K.eq self.old.cache key.now charge
+            (arc_value stored) r.0.stamp r.1.0 r.1.1 self.new.cache) }
+        ensures refused { IfErr result (λ e. RefusesToReplace K.eq self.old.cache key.now charge e.0
+            self.new.cache) }
+        ensures inserted { IfOk result (λ r. self.new.counts
+            ≡ replaced r.1.0 r.1.1 charge self.old.counts) }
         ensures counts { OnErr result (self.new.counts ≡ one_refusal self.old.counts) }
-        ensures pin { IfOk result (λ r. (r.0.key ≡ key.now) × (r.0.charge ≡ Some charge) × (r.0.value ≡ arc_value stored)) }
+        ensures pin { IfOk result (λ r. (r.0.key ≡ key.now) × (r.0.charge ≡ Some charge)
+            × (r.0.value ≡ arc_value stored)) }
         ensures never_stale { IfErr result (λ e. e.0 ≢ Refusal.Stale) }
     {
         let (inserted, place) = match self.state.insert(key, charge, stored) {
@@ -406,16 +448,20 @@ impl<K: Hash + Eq + Clone + Drop, V: Drop, F: Fit<K, V>> Locked<K, V, F> {
 
     /// The core's `prune`. Takes no memory.
     pub fn prune(&mut self) -> (Sealed<Evicted<K, V>>, Pruned)
-        ensures step { Stands K.eq self.old.cache ask.prune (outcome_of_evictions result.0) self.new.cache }
-        ensures counted { self.new.counts ≡ counted self.old.cache ask.prune (outcome_of_evictions result.0) self.old.counts }
+        ensures step { Stands K.eq self.old.cache ask.prune (outcome_of_evictions result.0)
+            self.new.cache }
+        ensures counted { self.new.counts ≡ counted self.old.cache ask.prune
+            (outcome_of_evictions result.0) self.old.counts }
     {
         (Sealed::of(self.state.prune()), Pruned::new())
     }
 
     /// The core's `set_capacity`. Takes no memory.
     pub fn set_capacity(&mut self, capacity: u64) -> (Sealed<Evicted<K, V>>, Resized)
-        ensures step { Stands K.eq self.old.cache (ask.set_capacity capacity) (outcome_of_evictions result.0) self.new.cache }
-        ensures counted { self.new.counts ≡ counted self.old.cache (ask.set_capacity capacity) (outcome_of_evictions result.0) self.old.counts }
+        ensures step { Stands K.eq self.old.cache (ask.set_capacity capacity)
+            (outcome_of_evictions result.0) self.new.cache }
+        ensures counted { self.new.counts ≡ counted self.old.cache (ask.set_capacity capacity)
+            (outcome_of_evictions result.0) self.old.counts }
         ensures done { result.1 ≡ capacity }
     {
         (

@@ -156,7 +156,8 @@ impl<K: Hash + Eq + Clone + Drop, V: Drop, R: Wait + Drop, F: Fit<K, V>> LruCach
         ensures key { IfOk result (λ h. h.key ≡ key.now) }
         ensures charge { IfOk result (λ h. h.charge ≡ Some charge) }
         ensures fits { IfOk result (λ h. F.fits key.now h.value) }
-        ensures error { IfErr result (λ e. IfInit e (λ x. FnOnceReturnsAt I.FnOnce init key.now (Err x))) }
+        ensures error { IfErr result (λ e. IfInit e
+            (λ x. FnOnceReturnsAt I.FnOnce init key.now (Err x))) }
     {
         let Ok(cache) = Arc::try_clone(this) else {
             return Err(GetError::Memory);

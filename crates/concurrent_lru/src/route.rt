@@ -75,14 +75,17 @@ impl<K: Hash + Eq + Clone + Drop, V: Drop, R: Wait, S: BuildHasher, F: Fit<K, V>
 > {
     /// Returns the shard that serves a key: its hash modulo the number of shards.
     pub fn of(&self, key: &K) -> &LruCache<K, V, R, F>
-        ensures route { slice_get self.now.shards.items (key_number S.BuildHasher S.Hasher.Hasher K.hash_input self.now.hasher key.now % vec_len self.now.shards) ≡ Some result.now }
+        ensures route { slice_get self.now.shards.items
+            (key_number S.BuildHasher S.Hasher.Hasher K.hash_input self.now.hasher key.now % vec_len
+            self.now.shards) ≡ Some result.now }
     {
         &self.shards[choose_shard(&self.hasher, key, self.shards.len())]
     }
 
     /// Returns the route to that shard, for callers that return to it without the key.
     pub fn route_of(&self, key: &K) -> Route
-        ensures route { result.index ≡ key_number S.BuildHasher S.Hasher.Hasher K.hash_input self.now.hasher key.now % vec_len self.now.shards }
+        ensures route { result.index ≡ key_number S.BuildHasher S.Hasher.Hasher K.hash_input
+            self.now.hasher key.now % vec_len self.now.shards }
         ensures within { result.index < vec_len self.now.shards }
     {
         Route {
@@ -117,7 +120,8 @@ impl<K: Hash + Eq + Clone + Drop, V: Drop, R: Wait, S: BuildHasher, F: Fit<K, V>
         entries: usize,
     ) -> Result<Reserved, Refusal>
         ensures err { IfErr result (λ e. e ≡ Refusal.Memory) }
-        ensures done { IfOk result (λ reserved. reserved ≡ (entries + vec_len self.now.shards - 1) / vec_len self.now.shards) }
+        ensures done { IfOk result (λ reserved. reserved
+            ≡ (entries + vec_len self.now.shards - 1) / vec_len self.now.shards) }
     {
         // Unwrapped and wrapped again, since the clause on the share is found by the cases of `?`.
         let reserved = shard.reserve_with_evidence(entries.div_ceil(self.shards.len()))?;

@@ -238,7 +238,8 @@ impl<K: Hash + Eq + Clone + Drop, V: Drop, R: Wait, S: BuildHasher, F: Fit<K, V>
     where
         G: FnOnce(&V) -> T + Drop,
         requires callable { (v : V) → F.fits key.now v → FnOnceTakesAt G.FnOnce reader v }
-        ensures fits { IfOk result (λ found. IfSome found (λ t. (v : V) × F.fits key.now v × FnOnceReturnsAt G.FnOnce reader v t)) }
+        ensures fits { IfOk result (λ found. IfSome found
+            (λ t. (v : V) × F.fits key.now v × FnOnceReturnsAt G.FnOnce reader v t)) }
         ensures refused { IfErr result (λ e. e ≡ Refusal.Overflow) }
     {
         self.routes.of(key).read(key, reader)
@@ -265,7 +266,8 @@ impl<K: Hash + Eq + Clone + Drop, V: Drop, R: Wait, S: BuildHasher, F: Fit<K, V>
         ensures key { IfOk result (λ h. h.key ≡ key) }
         ensures charge { IfOk result (λ h. h.charge ≡ Some charge) }
         ensures fits { IfOk result (λ h. F.fits key h.value) }
-        ensures error { IfErr result (λ e. IfInit e (λ x. FnOnceReturnsAt I.FnOnce init key (Err x))) }
+        ensures error { IfErr result (λ e. IfInit e
+            (λ x. FnOnceReturnsAt I.FnOnce init key (Err x))) }
     {
         self.get_or_try_init_by(&key, charge, init)
     }
@@ -288,7 +290,8 @@ impl<K: Hash + Eq + Clone + Drop, V: Drop, R: Wait, S: BuildHasher, F: Fit<K, V>
         ensures key { IfOk result (λ h. h.key ≡ key.now) }
         ensures charge { IfOk result (λ h. h.charge ≡ Some charge) }
         ensures fits { IfOk result (λ h. F.fits key.now h.value) }
-        ensures error { IfErr result (λ e. IfInit e (λ x. FnOnceReturnsAt I.FnOnce init key.now (Err x))) }
+        ensures error { IfErr result (λ e. IfInit e
+            (λ x. FnOnceReturnsAt I.FnOnce init key.now (Err x))) }
     {
         let held = self.routes.of(key).get_or_try_init_by(key, charge, init)?;
         Ok(CacheHandle { held })

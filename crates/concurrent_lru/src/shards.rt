@@ -38,7 +38,8 @@ pub(crate) const DEFAULT_SHARDS: usize = 16;
 #[inline(always)]
 pub(crate) fn choose_shard<K: Hash, S: BuildHasher>(hasher: &S, key: &K, shards: usize) -> usize
     requires { 0 < shards }
-    ensures chosen { result ≡ key_number S.BuildHasher S.Hasher.Hasher K.hash_input hasher.now key.now % shards }
+    ensures chosen { result ≡ key_number S.BuildHasher S.Hasher.Hasher K.hash_input hasher.now
+        key.now % shards }
     ensures within { result < shards }
 {
     let number = hasher.hash_one(key);
@@ -103,7 +104,8 @@ impl<K: Hash + Eq + Clone, V, S> Model for Shards<K, V, S> {
 
     ghost view = { λ a. record { hasher = a.hasher; caches = caches_in a.shards.items } };
 
-    ghost invariant = { λ a. (0 < length a.shards.items) × All (IsLawful K.eq) (caches_in a.shards.items) };
+    ghost invariant = { λ a. (0 < length a.shards.items)
+        × All (IsLawful K.eq) (caches_in a.shards.items) };
 }
 
 impl<K: Hash + Eq + Clone, V: Drop, S: BuildHasher + Drop> Shards<K, V, S> {
@@ -120,7 +122,9 @@ impl<K: Hash + Eq + Clone, V: Drop, S: BuildHasher + Drop> Shards<K, V, S> {
         requires some { 0 < shards }
         requires copies { CopiesAreEqual K.is_clone K.eq }
         ensures hasher { IfOk result (λ s. s.hasher ≡ hasher) }
-        ensures empty { IfOk result (λ s. s.caches ≡ replicate shards (empty_cache ((capacity + shards - 1) / shards) most_pins_by_default 0)) }
+        ensures empty { IfOk result (λ s. s.caches
+            ≡ replicate shards (empty_cache ((capacity + shards - 1) / shards) most_pins_by_default
+            0)) }
         ensures lawful { IfOk result (AreLawful K.eq) }
         ensures err { IfErr result (λ e. e ≡ Refusal.Memory) }
     {
@@ -139,7 +143,8 @@ impl<K: Hash + Eq + Clone, V: Drop, S: BuildHasher + Drop> Shards<K, V, S> {
 
     /// Returns the shard of a key: its hash modulo the number of shards.
     pub fn route(&self, key: &K) -> usize
-        ensures route { result ≡ key_shard S.BuildHasher S.Hasher.Hasher K.hash_input self.now key.now }
+        ensures route { result ≡ key_shard S.BuildHasher S.Hasher.Hasher K.hash_input self.now
+            key.now }
         ensures within { result < length self.now.caches }
     {
         choose_shard(&self.hasher, key, self.shards.len())
@@ -154,8 +159,11 @@ impl<K: Hash + Eq + Clone, V: Drop, S: BuildHasher + Drop> Shards<K, V, S> {
         charge: u64,
     ) -> Result<(usize, Begun<V>, Evicted<K, V>), Refusal>
         requires { 0 < charge }
-        ensures shard { IfOk result (λ r. r.0 ≡ key_shard S.BuildHasher S.Hasher.Hasher K.hash_input self.old key.now) }
-        ensures step { StandsAt K.eq self.old (key_shard S.BuildHasher S.Hasher.Hasher K.hash_input self.old key.now) (ask.begin key.now charge) (outcome_of_shard_begin result) self.new }
+        ensures shard { IfOk result (λ r. r.0 ≡ key_shard S.BuildHasher S.Hasher.Hasher K.hash_input
+            self.old key.now) }
+        ensures step { StandsAt K.eq self.old
+            (key_shard S.BuildHasher S.Hasher.Hasher K.hash_input self.old key.now)
+            (ask.begin key.now charge) (outcome_of_shard_begin result) self.new }
         ensures lawful { AreLawful K.eq self.new }
     {
         let shard = self.route(key);
@@ -167,8 +175,11 @@ impl<K: Hash + Eq + Clone, V: Drop, S: BuildHasher + Drop> Shards<K, V, S> {
     ///
     /// Returns `Overflow` and `Memory` as `State::get` does.
     pub fn get(&mut self, key: &K) -> Result<Option<(usize, u64, Arc<V>)>, Refusal>
-        ensures shard { IfOk result (λ found. IfSome found (λ r. r.0 ≡ key_shard S.BuildHasher S.Hasher.Hasher K.hash_input self.old key.now)) }
-        ensures step { StandsAt K.eq self.old (key_shard S.BuildHasher S.Hasher.Hasher K.hash_input self.old key.now) (ask.get key.now) (outcome_of_shard_get result) self.new }
+        ensures shard { IfOk result (λ found. IfSome found
+            (λ r. r.0 ≡ key_shard S.BuildHasher S.Hasher.Hasher K.hash_input self.old key.now)) }
+        ensures step { StandsAt K.eq self.old
+            (key_shard S.BuildHasher S.Hasher.Hasher K.hash_input self.old key.now)
+            (ask.get key.now) (outcome_of_shard_get result) self.new }
         ensures lawful { AreLawful K.eq self.new }
     {
         let shard = self.route(key);
@@ -183,8 +194,11 @@ impl<K: Hash + Eq + Clone, V: Drop, S: BuildHasher + Drop> Shards<K, V, S> {
     pub fn read<T, G>(&mut self, key: &K, reader: G) -> Result<Option<(u64, T)>, Refusal>
     where
         G: FnOnce(&V) -> T + Drop,
-        requires callable { (v : V) → FindsAt K.eq self.old (key_shard S.BuildHasher S.Hasher.Hasher K.hash_input self.old key.now) key.now v → FnOnceTakesAt G.FnOnce reader v }
-        ensures step { ReadsAt K.eq self.old (key_shard S.BuildHasher S.Hasher.Hasher K.hash_input self.old key.now) key.now (FnOnceReturnsAt G.FnOnce reader) result self.new }
+        requires callable { (v : V) → FindsAt K.eq self.old
+            (key_shard S.BuildHasher S.Hasher.Hasher K.hash_input self.old key.now) key.now v
+            → FnOnceTakesAt G.FnOnce reader v }
+        ensures step { ReadsAt K.eq self.old (key_shard S.BuildHasher S.Hasher.Hasher K.hash_input
+            self.old key.now) key.now (FnOnceReturnsAt G.FnOnce reader) result self.new }
         ensures lawful { AreLawful K.eq self.new }
     {
         let shard = self.route(key);
@@ -193,7 +207,9 @@ impl<K: Hash + Eq + Clone, V: Drop, S: BuildHasher + Drop> Shards<K, V, S> {
 
     /// `advice_evict` in the key's shard. Takes no memory.
     pub fn advice_evict(&mut self, key: &K) -> Evicted<K, V>
-        ensures step { StandsAt K.eq self.old (key_shard S.BuildHasher S.Hasher.Hasher K.hash_input self.old key.now) (ask.advice_evict key.now) (outcome_of_evictions result) self.new }
+        ensures step { StandsAt K.eq self.old
+            (key_shard S.BuildHasher S.Hasher.Hasher K.hash_input self.old key.now)
+            (ask.advice_evict key.now) (outcome_of_evictions result) self.new }
         ensures lawful { AreLawful K.eq self.new }
     {
         let shard = self.route(key);
@@ -202,7 +218,9 @@ impl<K: Hash + Eq + Clone, V: Drop, S: BuildHasher + Drop> Shards<K, V, S> {
 
     /// `invalidate` in the key's shard. Takes no memory.
     pub fn invalidate(&mut self, key: &K) -> Evicted<K, V>
-        ensures step { StandsAt K.eq self.old (key_shard S.BuildHasher S.Hasher.Hasher K.hash_input self.old key.now) (ask.invalidate key.now) (outcome_of_evictions result) self.new }
+        ensures step { StandsAt K.eq self.old
+            (key_shard S.BuildHasher S.Hasher.Hasher K.hash_input self.old key.now)
+            (ask.invalidate key.now) (outcome_of_evictions result) self.new }
         ensures lawful { AreLawful K.eq self.new }
     {
         let shard = self.route(key);
@@ -212,7 +230,8 @@ impl<K: Hash + Eq + Clone, V: Drop, S: BuildHasher + Drop> Shards<K, V, S> {
     /// `poll` in a shard. Returns `Stale` also if there is no such shard, and `Memory` as
     /// `State::poll` does.
     pub fn poll(&mut self, shard: usize, stamp: u64) -> Result<Begun<V>, Refusal>
-        ensures step { StandsAt K.eq self.old shard (ask.poll stamp) (outcome_of_poll result) self.new }
+        ensures step { StandsAt K.eq self.old shard (ask.poll stamp) (outcome_of_poll result)
+            self.new }
         ensures lawful { AreLawful K.eq self.new }
     {
         let Some(cache) = self.shards.get_mut(shard) else {
@@ -223,7 +242,8 @@ impl<K: Hash + Eq + Clone, V: Drop, S: BuildHasher + Drop> Shards<K, V, S> {
 
     /// `ready` in a shard. Returns the value also if there is no such shard. Takes no memory.
     pub fn ready(&mut self, shard: usize, stamp: u64, value: Arc<V>) -> Result<(), Arc<V>>
-        ensures step { StandsAt K.eq self.old shard (ask.ready stamp (arc_value value)) (outcome_of_ready result) self.new }
+        ensures step { StandsAt K.eq self.old shard (ask.ready stamp (arc_value value))
+            (outcome_of_ready result) self.new }
         ensures back { IfErr result (λ a. arc_value a ≡ arc_value value) }
         ensures lawful { AreLawful K.eq self.new }
     {
@@ -235,7 +255,8 @@ impl<K: Hash + Eq + Clone, V: Drop, S: BuildHasher + Drop> Shards<K, V, S> {
 
     /// `fail` in a shard. Returns `Stale` also if there is no such shard. Takes no memory.
     pub fn fail(&mut self, shard: usize, stamp: u64) -> Result<Failed<K>, Refusal>
-        ensures step { StandsAt K.eq self.old shard (ask.fail stamp) (outcome_of_fail result) self.new }
+        ensures step { StandsAt K.eq self.old shard (ask.fail stamp) (outcome_of_fail result)
+            self.new }
         ensures lawful { AreLawful K.eq self.new }
     {
         let Some(cache) = self.shards.get_mut(shard) else {
@@ -246,7 +267,8 @@ impl<K: Hash + Eq + Clone, V: Drop, S: BuildHasher + Drop> Shards<K, V, S> {
 
     /// `release` in a shard. Returns `Stale` also if there is no such shard. Takes no memory.
     pub fn release(&mut self, shard: usize, stamp: u64) -> Result<Evicted<K, V>, Refusal>
-        ensures step { StandsAt K.eq self.old shard (ask.release stamp) (outcome_of_release result) self.new }
+        ensures step { StandsAt K.eq self.old shard (ask.release stamp) (outcome_of_release result)
+            self.new }
         ensures lawful { AreLawful K.eq self.new }
     {
         let Some(cache) = self.shards.get_mut(shard) else {
@@ -257,7 +279,8 @@ impl<K: Hash + Eq + Clone, V: Drop, S: BuildHasher + Drop> Shards<K, V, S> {
 
     /// `prune` in a shard. Returns `Stale` if there is no such shard. Takes no memory.
     pub fn prune_shard(&mut self, shard: usize) -> Result<Evicted<K, V>, Refusal>
-        ensures step { StandsAt K.eq self.old shard ask.prune (outcome_of_shard_evictions result) self.new }
+        ensures step { StandsAt K.eq self.old shard ask.prune (outcome_of_shard_evictions result)
+            self.new }
         ensures lawful { AreLawful K.eq self.new }
     {
         let Some(cache) = self.shards.get_mut(shard) else {
@@ -273,7 +296,8 @@ impl<K: Hash + Eq + Clone, V: Drop, S: BuildHasher + Drop> Shards<K, V, S> {
         shard: usize,
         capacity: u64,
     ) -> Result<Evicted<K, V>, Refusal>
-        ensures step { StandsAt K.eq self.old shard (ask.set_capacity capacity) (outcome_of_shard_evictions result) self.new }
+        ensures step { StandsAt K.eq self.old shard (ask.set_capacity capacity)
+            (outcome_of_shard_evictions result) self.new }
         ensures lawful { AreLawful K.eq self.new }
     {
         let Some(cache) = self.shards.get_mut(shard) else {
@@ -285,7 +309,8 @@ impl<K: Hash + Eq + Clone, V: Drop, S: BuildHasher + Drop> Shards<K, V, S> {
     // The same for a shard that exists.
     fn set_capacity_at(&mut self, shard: usize, capacity: u64) -> Evicted<K, V>
         requires { shard < length self.old.caches }
-        ensures step { StandsAt K.eq self.old shard (ask.set_capacity capacity) (outcome_of_evictions result) self.new }
+        ensures step { StandsAt K.eq self.old shard (ask.set_capacity capacity)
+            (outcome_of_evictions result) self.new }
         ensures lawful { AreLawful K.eq self.new }
     {
         self.shards[shard].set_capacity(capacity)
@@ -295,7 +320,9 @@ impl<K: Hash + Eq + Clone, V: Drop, S: BuildHasher + Drop> Shards<K, V, S> {
     /// `capacity`. Each evicts down to it. Returns what they evicted as one chain, the entries of
     /// shard 0 first, and those of each shard oldest first. Takes no memory.
     pub fn set_capacity(&mut self, capacity: u64) -> Evicted<K, V>
-        ensures each { EachTakes K.eq self.old (ask.set_capacity ((capacity + length self.old.caches - 1) / length self.old.caches)) result self.new }
+        ensures each { EachTakes K.eq self.old
+            (ask.set_capacity ((capacity + length self.old.caches - 1) / length self.old.caches))
+            result self.new }
         ensures lawful { AreLawful K.eq self.new }
     {
         let share = capacity_per_shard(capacity, self.shards.len());
@@ -310,7 +337,8 @@ impl<K: Hash + Eq + Clone, V: Drop, S: BuildHasher + Drop> Shards<K, V, S> {
 
     /// `total` of a shard. Returns `Stale` if there is no such shard. Takes no memory.
     pub fn total_shard(&self, shard: usize) -> Result<u64, Refusal>
-        ensures step { StandsAt K.eq self.now shard ask.total (outcome_of_shard_total result) self.now }
+        ensures step { StandsAt K.eq self.now shard ask.total (outcome_of_shard_total result)
+            self.now }
         ensures lawful { AreLawful K.eq self.now }
     {
         let Some(cache) = self.shards.get(shard) else {
@@ -334,7 +362,8 @@ impl<K: Hash + Eq + Clone, V: Drop, S: BuildHasher + Drop> Shards<K, V, S> {
     /// Returns the number of entries of all shards, including those still being made and those held
     /// after an `invalidate`, or `usize::MAX` if there are more. Takes no memory.
     pub fn len(&self) -> usize
-        ensures { sum_by count_of self.now.caches < 2 ^ 64 → result ≡ sum_by count_of self.now.caches }
+        ensures { sum_by count_of self.now.caches < 2 ^ 64 → result
+            ≡ sum_by count_of self.now.caches }
     {
         let mut len: usize = 0;
         for shard in &self.shards {
@@ -345,15 +374,18 @@ impl<K: Hash + Eq + Clone, V: Drop, S: BuildHasher + Drop> Shards<K, V, S> {
 
     /// Returns whether no shard has an entry. Takes no memory.
     pub fn is_empty(&self) -> bool
-        ensures { sum_by count_of self.now.caches < 2 ^ 64 → (IsTrue result ↔ (sum_by count_of self.now.caches ≡ 0)) }
+        ensures { sum_by count_of self.now.caches < 2 ^ 64
+            → (IsTrue result ↔ (sum_by count_of self.now.caches ≡ 0)) }
     {
         self.len() == 0
     }
 
     /// Returns whether the key has a ready value in its shard.
     pub fn contains(&self, key: &K) -> bool
-        ensures yes { IsTrue result → HasReadyKeyAt K.eq self.now (key_shard S.BuildHasher S.Hasher.Hasher K.hash_input self.now key.now) key.now }
-        ensures no { IsFalse result → IsUnreadyAt K.eq self.now (key_shard S.BuildHasher S.Hasher.Hasher K.hash_input self.now key.now) key.now }
+        ensures yes { IsTrue result → HasReadyKeyAt K.eq self.now
+            (key_shard S.BuildHasher S.Hasher.Hasher K.hash_input self.now key.now) key.now }
+        ensures no { IsFalse result → IsUnreadyAt K.eq self.now
+            (key_shard S.BuildHasher S.Hasher.Hasher K.hash_input self.now key.now) key.now }
     {
         let shard = self.route(key);
         self.shards[shard].contains(key)
@@ -361,7 +393,8 @@ impl<K: Hash + Eq + Clone, V: Drop, S: BuildHasher + Drop> Shards<K, V, S> {
 
     // Returns the shard of a step, and the step that it takes.
     fn address(&self, step: ShardStep<K, V>) -> (usize, Step<K, V>)
-        ensures shard { result.0 ≡ shard_of_step (key_shard S.BuildHasher S.Hasher.Hasher K.hash_input self.now) step }
+        ensures shard { result.0 ≡ shard_of_step
+            (key_shard S.BuildHasher S.Hasher.Hasher K.hash_input self.now) step }
         ensures step { result.1 ≡ step_at_shard step }
     {
         match step {
@@ -382,8 +415,10 @@ impl<K: Hash + Eq + Clone, V: Drop, S: BuildHasher + Drop> Shards<K, V, S> {
     // Takes one step.
     fn step(&mut self, step: ShardStep<K, V>) -> (usize, Answer<K, V>)
         requires { IsCharged (request_of (step_at_shard step)) }
-        ensures shard { result.0 ≡ shard_of_step (key_shard S.BuildHasher S.Hasher.Hasher K.hash_input self.old) step }
-        ensures step { StandsAt K.eq self.old result.0 (request_of (step_at_shard step)) (outcome_of result.1) self.new }
+        ensures shard { result.0 ≡ shard_of_step
+            (key_shard S.BuildHasher S.Hasher.Hasher K.hash_input self.old) step }
+        ensures step { StandsAt K.eq self.old result.0 (request_of (step_at_shard step))
+            (outcome_of result.1) self.new }
         ensures kind { IsShardAnswerTo step result }
         ensures lawful { AreLawful K.eq self.new }
     {
@@ -404,7 +439,9 @@ impl<K: Hash + Eq + Clone, V: Drop, S: BuildHasher + Drop> Shards<K, V, S> {
         steps: Vec<ShardStep<K, V>>,
     ) -> Result<Vec<(usize, Answer<K, V>)>, Refusal>
         requires { AllByRecursion IsCharged (map request_of (map step_at_shard steps.items)) }
-        ensures run { IfOk result (λ answers. RunsApart K.eq self.old (map (request_at_shard (key_shard S.BuildHasher S.Hasher.Hasher K.hash_input self.old)) steps.items) (map outcome_at_shard answers.items) self.new) }
+        ensures run { IfOk result (λ answers. RunsApart K.eq self.old
+            (map (request_at_shard (key_shard S.BuildHasher S.Hasher.Hasher K.hash_input self.old))
+            steps.items) (map outcome_at_shard answers.items) self.new) }
         ensures kinds { IfOk result (λ answers. AllZip IsShardAnswerTo steps.items answers.items) }
         ensures err { IfErr result (λ e. e ≡ Refusal.Memory) }
         ensures same { OnErr result (self.new ≡ self.old) }

@@ -52,7 +52,8 @@ impl<K: Hash + Eq + Clone, V> Model for Table<K, V> {
 
     ghost view = { λ a. entries_of a.nodes };
 
-    ghost invariant = { λ a. IsSoundTable K.is_clone K.eq a.nodes a.by_key a.by_stamp a.total a.idle_charge };
+    ghost invariant = { λ a. IsSoundTable K.is_clone K.eq a.nodes a.by_key a.by_stamp a.total
+        a.idle_charge };
 }
 
 impl<K: Hash + Eq + Clone, V: Drop> Table<K, V> {
@@ -135,7 +136,8 @@ impl<K: Hash + Eq + Clone, V: Drop> Table<K, V> {
     /// may be any place.
     #[inline(always)]
     pub fn find_stamp(&self, spot: &Spot) -> Option<Place>
-        ensures { MatchOption result (ContainsNoStamp self.now spot.now.stamp) (λ p. map.get self.now.stamps p ≡ Some spot.now.stamp) }
+        ensures { MatchOption result (ContainsNoStamp self.now spot.now.stamp)
+            (λ p. map.get self.now.stamps p ≡ Some spot.now.stamp) }
     {
         if self.nodes.has_stamp(spot.place, spot.stamp) {
             return Some(spot.place);
@@ -145,7 +147,8 @@ impl<K: Hash + Eq + Clone, V: Drop> Table<K, V> {
 
     /// Returns the place of the entry with an equal key.
     pub fn find_key(&self, key: &K) -> Option<Place>
-        ensures { MatchOption result (ContainsNoKey K.eq self.now key.now) (λ p. IsPlaceOfKey K.eq self.now p key.now) }
+        ensures { MatchOption result (ContainsNoKey K.eq self.now key.now)
+            (λ p. IsPlaceOfKey K.eq self.now p key.now) }
     {
         self.by_key.get(key).copied()
     }
@@ -170,7 +173,8 @@ impl<K: Hash + Eq + Clone, V: Drop> Table<K, V> {
         requires fresh { ContainsNoStamp self.old stamp }
         requires fits { charges_of self.old + charge < 2 ^ 64 }
         ensures idle { self.new.idle ≡ self.old.idle }
-        ensures ok { OnOk result ((copy : K) × (K.eq copy key.now ≡ true) × (self.new.held ≡ map.insert self.old.held stamp (new_held copy charge))) }
+        ensures ok { OnOk result ((copy : K) × (K.eq copy key.now ≡ true)
+            × (self.new.held ≡ map.insert self.old.held stamp (new_held copy charge))) }
         ensures err { OnErr result (self.new ≡ self.old) }
         ensures refusal { IfErr result (λ e. e ≡ Refusal.Memory) }
         ensures work { self.new.work ≡ self.old.work }
@@ -236,10 +240,12 @@ impl<K: Hash + Eq + Clone, V: Drop> Table<K, V> {
         requires idle { ContainsIdleAt self.old place }
         requires keyed { (e : Entry K V) → GetsAt self.old place e → K.eq e.key key.now ≡ true }
         requires fresh { ContainsNoStamp self.old stamp }
-        requires fits { (e : Entry K V) → GetsAt self.old place e → charges_of self.old + charge < 2 ^ 64 + e.charge }
+        requires fits { (e : Entry K V) → GetsAt self.old place e
+            → charges_of self.old + charge < 2 ^ 64 + e.charge }
         ensures ready { IfOk result (λ r. IsSome (as_idle (entry_of r.0.value))) }
         ensures alone { IfOk result (λ r. chain_of r.0.value ≡ []) }
-        ensures ok { IfOk result (λ r. AddsOverIdle K.eq self.old place (entry_of r.0.value) stamp key.now charge self.new) }
+        ensures ok { IfOk result (λ r. AddsOverIdle K.eq self.old place (entry_of r.0.value) stamp
+            key.now charge self.new) }
         ensures err { OnErr result (self.new ≡ self.old) }
         ensures refusal { IfErr result (λ e. e ≡ Refusal.Memory) }
     {
@@ -274,8 +280,10 @@ impl<K: Hash + Eq + Clone, V: Drop> Table<K, V> {
         requires ready { IsSome (value_at self.old place) }
         requires room { pins_at self.old place + 1 < 2 ^ 32 }
         ensures value { IfOk result (λ a. value_at self.old place ≡ Some (arc_value a)) }
-        ensures revived { OnOk result (pins_at self.old place ≡ 0 → RevivesAt self.old place self.new) }
-        ensures held { OnOk result (pins_at self.old place ≢ 0 → Rewrites (held_with_pins (pins_at self.old place + 1)) self.old place self.new) }
+        ensures revived { OnOk result (pins_at self.old place ≡ 0
+            → RevivesAt self.old place self.new) }
+        ensures held { OnOk result (pins_at self.old place ≢ 0
+            → Rewrites (held_with_pins (pins_at self.old place + 1)) self.old place self.new) }
         ensures err { OnErr result (self.new ≡ self.old) }
         ensures refusal { IfErr result (λ e. e ≡ Refusal.Memory) }
     {
@@ -369,7 +377,8 @@ impl<K: Hash + Eq + Clone, V: Drop> Table<K, V> {
     pub fn take_held(&mut self, place: Place) -> Box<Node<K, V>>
         requires { ContainsHeldAt self.old place }
         ensures at { map.get self.old.stamps place ≡ Some (entry_of result.value).stamp }
-        ensures entry { map.get self.old.held (entry_of result.value).stamp ≡ Some (held_entry (entry_of result.value)) }
+        ensures entry { map.get self.old.held (entry_of result.value).stamp
+            ≡ Some (held_entry (entry_of result.value)) }
         ensures alone { chain_of result.value ≡ [] }
         ensures idle { self.new.idle ≡ self.old.idle }
         ensures held { self.new.held ≡ map.remove self.old.held (entry_of result.value).stamp }
@@ -390,7 +399,8 @@ impl<K: Hash + Eq + Clone, V: Drop> Table<K, V> {
         requires { ContainsIdleAt self.old place }
         ensures at { map.get self.old.stamps place ≡ Some (entry_of result.value).stamp }
         ensures ready { IsSome (as_idle (entry_of result.value)) }
-        ensures entry { idle_at (cache_of self.old) (entry_of result.value).stamp ≡ as_idle (entry_of result.value) }
+        ensures entry { idle_at (cache_of self.old) (entry_of result.value).stamp
+            ≡ as_idle (entry_of result.value) }
         ensures alone { chain_of result.value ≡ [] }
         ensures idle { self.new.idle ≡ without (entry_of result.value).stamp self.old.idle }
         ensures held { self.new.held ≡ self.old.held }
@@ -430,7 +440,9 @@ impl<K: Hash + Eq + Clone, V: Drop> Table<K, V> {
     // Removes the held entry at a place, if there is one. No entry is idle.
     fn take_held_at(&mut self, place: Place) -> Option<Box<Node<K, V>>>
         requires { self.old.idle ≡ [] }
-        ensures taken { MatchOption result ((map.get self.old.stamps place ≡ None) × (self.new ≡ self.old)) (λ node. TakesHeldAt self.old place (entry_of node.value) self.new) }
+        ensures taken { MatchOption result ((map.get self.old.stamps place ≡ None)
+            × (self.new ≡ self.old)) (λ node. TakesHeldAt self.old place (entry_of node.value)
+            self.new) }
         ensures alone { IfSome result (λ node. chain_of node.value ≡ []) }
     {
         if self.nodes.contains(place) {
@@ -442,10 +454,13 @@ impl<K: Hash + Eq + Clone, V: Drop> Table<K, V> {
     // Removes the oldest idle entry, if there is one.
     fn evict_oldest(&mut self) -> Option<Box<Node<K, V>>>
         ensures held { self.new.held ≡ self.old.held }
-        ensures idle { MatchOption result ((self.old.idle ≡ []) × (self.new.idle ≡ [])) (λ node. self.old.idle ≡ filter_map as_idle (entry_of node.value ∷ []) ++ self.new.idle) }
+        ensures idle { MatchOption result ((self.old.idle ≡ []) × (self.new.idle ≡ []))
+            (λ node. self.old.idle ≡ filter_map as_idle (entry_of node.value ∷ [])
+            ++ self.new.idle) }
         ensures ready { IfSome result (λ node. IsSome (as_idle (entry_of node.value))) }
         ensures alone { IfSome result (λ node. chain_of node.value ≡ []) }
-        ensures work { MatchOption result (self.new.work ≡ self.old.work) (λ _. self.new.work ≡ self.old.work + 1) }
+        ensures work { MatchOption result (self.new.work ≡ self.old.work)
+            (λ _. self.new.work ≡ self.old.work + 1) }
     {
         let place = self.nodes.oldest()?;
         Some(self.evict(place))
@@ -493,7 +508,8 @@ fn new_entry<K: Hash + Eq + Clone, V: Drop>(
     key: &K,
     charge: u64,
 ) -> Result<(Box<Node<K, V>>, K), Refusal>
-    ensures entry { IfOk result (λ r. entry_of r.0.value ≡ new_entry stamp (entry_of r.0.value).key charge) }
+    ensures entry { IfOk result (λ r. entry_of r.0.value
+        ≡ new_entry stamp (entry_of r.0.value).key charge) }
     ensures alone { IfOk result (λ r. chain_of r.0.value ≡ []) }
     ensures own { IfOk result (λ r. K.is_clone key.now (entry_of r.0.value).key) }
     ensures kept { IfOk result (λ r. K.is_clone key.now r.1) }
@@ -512,7 +528,8 @@ fn make_room<K: Hash + Eq + Drop, V: Drop>(
     by_stamp: &mut StampIndex,
     more: usize,
 ) -> Result<(), Refusal>
-    ensures ok { OnOk result ((more ≤ nodes.new.spare) × (more ≤ spare by_key.new) × HasRoomFor by_stamp.new more) }
+    ensures ok { OnOk result ((more ≤ nodes.new.spare) × (more ≤ spare by_key.new)
+        × HasRoomFor by_stamp.new more) }
     ensures refusal { IfErr result (λ e. e ≡ Refusal.Memory) }
     ensures nodes { nodes.new.nodes ≡ nodes.old.nodes }
     ensures idle { nodes.new.idle ≡ nodes.old.idle }
@@ -547,9 +564,11 @@ fn put<K: Hash + Eq + Drop, V: Drop>(
     ensures nodes { nodes.new.nodes ≡ map.insert nodes.old.nodes result (entry_of node.value) }
     ensures idle { nodes.new.idle ≡ nodes.old.idle }
     ensures work { nodes.new.work ≡ nodes.old.work }
-    ensures by_key { (k : K) → hash.get K.eq by_key.new k ≡ cond (K.eq kept k) (Some result) (hash.get K.eq by_key.old k) }
+    ensures by_key { (k : K) → hash.get K.eq by_key.new k
+        ≡ cond (K.eq kept k) (Some result) (hash.get K.eq by_key.old k) }
     ensures keeps { keeps_map by_stamp.new ≡ keeps_map by_stamp.old }
-    ensures by_stamp { keeps_map by_stamp.old ≡ true → (s : ℕ) → mapped_place by_stamp.new s ≡ cond (nat_eq (entry_of node.value).stamp s) (Some result) (mapped_place by_stamp.old s) }
+    ensures by_stamp { keeps_map by_stamp.old ≡ true → (s : ℕ) → mapped_place by_stamp.new s
+        ≡ cond (nat_eq (entry_of node.value).stamp s) (Some result) (mapped_place by_stamp.old s) }
     ensures total { total.new ≡ total.old + (entry_of node.value).charge }
 {
     let stamp = node.stamp;
@@ -569,7 +588,8 @@ fn forget_key<K: Hash + Eq + Drop, V: Drop>(
     place: Place,
 )
     requires { ContainsNode nodes.now place }
-    ensures forgotten { (e : Entry K V) → GetsEntry nodes.now place e → (k : K) → hash.get K.eq by_key.new k ≡ cond (K.eq e.key k) None (hash.get K.eq by_key.old k) }
+    ensures forgotten { (e : Entry K V) → GetsEntry nodes.now place e → (k : K)
+        → hash.get K.eq by_key.new k ≡ cond (K.eq e.key k) None (hash.get K.eq by_key.old k) }
     ensures room { spare by_key.old ≤ spare by_key.new }
 {
     let _place = by_key.remove(&nodes.node(place).key);
@@ -591,9 +611,12 @@ fn take_away<K: Hash + Eq + Drop, V: Drop>(
     ensures nodes { nodes.new.nodes ≡ map.remove nodes.old.nodes place }
     ensures idle { nodes.new.idle ≡ nodes.old.idle }
     ensures work { nodes.new.work ≡ nodes.old.work }
-    ensures by_key { (k : K) → hash.get K.eq by_key.new k ≡ cond (entry_of result.value).detached (hash.get K.eq by_key.old k) (cond (K.eq (entry_of result.value).key k) None (hash.get K.eq by_key.old k)) }
+    ensures by_key { (k : K) → hash.get K.eq by_key.new k
+        ≡ cond (entry_of result.value).detached (hash.get K.eq by_key.old k)
+        (cond (K.eq (entry_of result.value).key k) None (hash.get K.eq by_key.old k)) }
     ensures keeps { keeps_map by_stamp.new ≡ keeps_map by_stamp.old }
-    ensures by_stamp { keeps_map by_stamp.old ≡ true → (s : ℕ) → mapped_place by_stamp.new s ≡ cond (nat_eq (entry_of result.value).stamp s) None (mapped_place by_stamp.old s) }
+    ensures by_stamp { keeps_map by_stamp.old ≡ true → (s : ℕ) → mapped_place by_stamp.new s
+        ≡ cond (nat_eq (entry_of result.value).stamp s) None (mapped_place by_stamp.old s) }
     ensures room { nodes.old.spare ≤ nodes.new.spare }
     ensures key_room { spare by_key.old ≤ spare by_key.new }
     ensures stamp_room { HasRoomFor by_stamp.old 1 → HasRoomFor by_stamp.new 1 }

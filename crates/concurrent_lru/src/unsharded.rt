@@ -111,7 +111,8 @@ impl<K: Hash + Eq + Clone + Drop, V: Drop, R: Wait, F: Fit<K, V>> LruCache<K, V,
     where
         G: FnOnce(&V) -> T + Drop,
         requires callable { (v : V) → F.fits key.now v → FnOnceTakesAt G.FnOnce reader v }
-        ensures fits { IfOk result (λ found. IfSome found (λ t. (v : V) × F.fits key.now v × FnOnceReturnsAt G.FnOnce reader v t)) }
+        ensures fits { IfOk result (λ found. IfSome found
+            (λ t. (v : V) × F.fits key.now v × FnOnceReturnsAt G.FnOnce reader v t)) }
         ensures refused { IfErr result (λ e. e ≡ Refusal.Overflow) }
     {
         self.door.lock().read(key, reader)
@@ -147,7 +148,8 @@ impl<K: Hash + Eq + Clone + Drop, V: Drop, R: Wait, F: Fit<K, V>> LruCache<K, V,
         ensures key { IfOk result (λ h. h.key ≡ key) }
         ensures charge { IfOk result (λ h. h.charge ≡ Some charge) }
         ensures fits { IfOk result (λ h. F.fits key h.value) }
-        ensures error { IfErr result (λ e. IfInit e (λ x. FnOnceReturnsAt I.FnOnce init key (Err x))) }
+        ensures error { IfErr result (λ e. IfInit e
+            (λ x. FnOnceReturnsAt I.FnOnce init key (Err x))) }
     {
         self.get_or_try_init_by(&key, charge, init)
     }
@@ -170,7 +172,8 @@ impl<K: Hash + Eq + Clone + Drop, V: Drop, R: Wait, F: Fit<K, V>> LruCache<K, V,
         ensures key { IfOk result (λ h. h.key ≡ key.now) }
         ensures charge { IfOk result (λ h. h.charge ≡ Some charge) }
         ensures fits { IfOk result (λ h. F.fits key.now h.value) }
-        ensures error { IfErr result (λ e. IfInit e (λ x. FnOnceReturnsAt I.FnOnce init key.now (Err x))) }
+        ensures error { IfErr result (λ e. IfInit e
+            (λ x. FnOnceReturnsAt I.FnOnce init key.now (Err x))) }
     {
         match self.start(key, charge) {
             Err(refusal) => Err(GetError::of_refusal(refusal)),
@@ -465,7 +468,8 @@ impl<K: Hash + Eq + Clone + Drop, V: Drop, R: Wait, F: Fit<K, V>> LruCache<K, V,
     ) -> Result<CacheHandle<'a, K, V, R, F>, Refusal>
         requires asked { made_key maker.making ≡ key.now }
         requires fits { F.fits key.now value }
-        ensures handle { IfOk result (λ h. IsHandleFor F.fits h key.now (Some (made_charge maker.entry.making))) }
+        ensures handle { IfOk result (λ h. IsHandleFor F.fits h key.now
+            (Some (made_charge maker.entry.making))) }
         ensures value { IfOk result (λ h. h.value ≡ value) }
         ensures refused { IfErr result (λ e. e ≡ Refusal.Memory) }
     {

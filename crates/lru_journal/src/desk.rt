@@ -55,12 +55,15 @@ fn note<K: Hash + Eq + Clone, V: Drop, I: Identity, R: Wait>(
     tally: &mut Tally<K, I>,
     journal: &Journal<K, V>,
 )
-    requires cell { (cell.now.table.shared.table_id ≡ I.name.table) × (keeper.old.table_id ≡ I.name.table) }
+    requires cell { (cell.now.table.shared.table_id ≡ I.name.table)
+        × (keeper.old.table_id ≡ I.name.table) }
     requires keeper { cell_view keeper.old ≡ knower (cell_view keeper.old).all }
     requires last { (r : Record K) × (journal.now.records ≡ (cell_view keeper.old).all ++ r ∷ []) }
-    ensures keeper { (keeper.new.table_id ≡ I.name.table) × (cell_view keeper.new ≡ knower journal.now.records) }
+    ensures keeper { (keeper.new.table_id ≡ I.name.table)
+        × (cell_view keeper.new ≡ knower journal.now.records) }
     ensures parts { tally.new.parts ≡ tally.old.parts }
-    ensures tally { (r : Record K) → journal.now.records ≡ (cell_view keeper.old).all ++ r ∷ [] → Receives tally.old r tally.new }
+    ensures tally { (r : Record K) → journal.now.records ≡ (cell_view keeper.old).all ++ r ∷ []
+        → Receives tally.old r tally.new }
 {
     let records = journal.records();
     let number = records.len() - 1;
@@ -75,12 +78,16 @@ fn note_two<K: Hash + Eq + Clone, V: Drop, I: Identity, R: Wait>(
     tally: &mut Tally<K, I>,
     journal: &Journal<K, V>,
 )
-    requires cell { (cell.now.table.shared.table_id ≡ I.name.table) × (keeper.old.table_id ≡ I.name.table) }
+    requires cell { (cell.now.table.shared.table_id ≡ I.name.table)
+        × (keeper.old.table_id ≡ I.name.table) }
     requires keeper { cell_view keeper.old ≡ knower (cell_view keeper.old).all }
-    requires last { (r : Record K) × (s : Record K) × (journal.now.records ≡ (cell_view keeper.old).all ++ r ∷ s ∷ []) }
-    ensures keeper { (keeper.new.table_id ≡ I.name.table) × (cell_view keeper.new ≡ knower journal.now.records) }
+    requires last { (r : Record K) × (s : Record K)
+        × (journal.now.records ≡ (cell_view keeper.old).all ++ r ∷ s ∷ []) }
+    ensures keeper { (keeper.new.table_id ≡ I.name.table)
+        × (cell_view keeper.new ≡ knower journal.now.records) }
     ensures parts { tally.new.parts ≡ tally.old.parts }
-    ensures tally { (r : Record K) (s : Record K) → journal.now.records ≡ (cell_view keeper.old).all ++ r ∷ s ∷ [] → ReceivesAll tally.old (r ∷ s ∷ []) tally.new }
+    ensures tally { (r : Record K) (s : Record K) → journal.now.records ≡ (cell_view keeper.old).all
+        ++ r ∷ s ∷ [] → ReceivesAll tally.old (r ∷ s ∷ []) tally.new }
 {
     let records = journal.records();
     let first = records.len() - 2;
@@ -98,12 +105,17 @@ fn note_read<K: Hash + Eq + Clone, V: Drop, T, I: Identity, R: Wait>(
     journal: &Journal<K, V>,
     found: &Option<(u64, T)>,
 )
-    requires cell { (cell.now.table.shared.table_id ≡ I.name.table) × (keeper.old.table_id ≡ I.name.table) }
+    requires cell { (cell.now.table.shared.table_id ≡ I.name.table)
+        × (keeper.old.table_id ≡ I.name.table) }
     requires keeper { cell_view keeper.old ≡ knower (cell_view keeper.old).all }
-    requires last { (copy : K) × (journal.now.records ≡ (cell_view keeper.old).all ++ records_of_read copy found.now) }
-    ensures keeper { (keeper.new.table_id ≡ I.name.table) × (cell_view keeper.new ≡ knower journal.now.records) }
+    requires last { (copy : K) × (journal.now.records ≡ (cell_view keeper.old).all
+        ++ records_of_read copy found.now) }
+    ensures keeper { (keeper.new.table_id ≡ I.name.table)
+        × (cell_view keeper.new ≡ knower journal.now.records) }
     ensures parts { tally.new.parts ≡ tally.old.parts }
-    ensures tally { (copy : K) → journal.now.records ≡ (cell_view keeper.old).all ++ records_of_read copy found.now → ReceivesAll tally.old (records_of_read copy found.now) tally.new }
+    ensures tally { (copy : K) → journal.now.records ≡ (cell_view keeper.old).all
+        ++ records_of_read copy found.now → ReceivesAll tally.old (records_of_read copy found.now)
+        tally.new }
 {
     match found {
         None => note(rt, cell, keeper, tally, journal),
@@ -150,10 +162,14 @@ impl<K: Hash + Eq + Clone, V: Drop, I: Identity> Desk<K, V, I> {
         G: FnOnce(&V) -> T + Drop,
         requires cell { cell.now.table.shared.table_id ≡ I.name.table }
         requires callable { (v : V) → FnOnceTakesAt G.FnOnce reader v }
-        ensures recorded { AreRecorded self.old (λ found. AreOfCopy K.eq key.now (λ copy. records_of_read copy found)) result self.new }
-        ensures tallied { AreTallied tally.old (λ found. AreOfCopy K.eq key.now (λ copy. records_of_read copy found)) result tally.new }
+        ensures recorded { AreRecorded self.old
+            (λ found. AreOfCopy K.eq key.now (λ copy. records_of_read copy found)) result self.new }
+        ensures tallied { AreTallied tally.old
+            (λ found. AreOfCopy K.eq key.now (λ copy. records_of_read copy found)) result
+            tally.new }
         ensures parts { tally.new.parts ≡ tally.old.parts }
-        ensures answered { IfOk result (λ found. IfSome found (λ r. (v : V) × FnOnceReturnsAt G.FnOnce reader v r.1)) }
+        ensures answered { IfOk result (λ found. IfSome found
+            (λ r. (v : V) × FnOnceReturnsAt G.FnOnce reader v r.1)) }
         ensures never_stale { IfErr result (λ e. e ≢ Refusal.Stale) }
     {
         match self.journal.read(key, reader) {

@@ -97,9 +97,12 @@ impl<'a, K: Hash + Eq + Clone, V: Drop, R: Wait + Drop, I: Identity> Guard<'a, K
     where
         G: FnOnce(&V) -> T + Drop,
         requires callable { (v : V) → FnOnceTakesAt G.FnOnce reader v }
-        ensures tallied { AreTallied tally.old (λ found. AreOfCopy K.eq key.now (λ copy. records_of_read copy found)) result tally.new }
+        ensures tallied { AreTallied tally.old
+            (λ found. AreOfCopy K.eq key.now (λ copy. records_of_read copy found)) result
+            tally.new }
         ensures parts { tally.new.parts ≡ tally.old.parts }
-        ensures answered { IfOk result (λ found. IfSome found (λ r. (v : V) × FnOnceReturnsAt G.FnOnce reader v r.1)) }
+        ensures answered { IfOk result (λ found. IfSome found
+            (λ r. (v : V) × FnOnceReturnsAt G.FnOnce reader v r.1)) }
         ensures never_stale { IfErr result (λ e. e ≢ Refusal.Stale) }
     {
         let Self { door, mut guard } = self;

@@ -197,11 +197,14 @@ pub(crate) fn append<K, E: Noted<K>, I: Identity, R: Wait>(
     number: usize,
     noted: &Record<K>,
 )
-    requires cell { (cell.now.table.shared.table_id ≡ I.name.table) × (keeper.old.table_id ≡ I.name.table) }
-    requires keeper { (cell_view keeper.old ≡ knower (cell_view keeper.old).all) × (length (cell_view keeper.old).all ≡ number) }
+    requires cell { (cell.now.table.shared.table_id ≡ I.name.table)
+        × (keeper.old.table_id ≡ I.name.table) }
+    requires keeper { (cell_view keeper.old ≡ knower (cell_view keeper.old).all)
+        × (length (cell_view keeper.old).all ≡ number) }
     requires noted { noted.now ≡ E.made }
     requires room { number + 1 < 2 ^ 64 }
-    ensures keeper { (keeper.new.table_id ≡ I.name.table) × (cell_view keeper.new ≡ knower ((cell_view keeper.old).all ++ noted.now ∷ [])) }
+    ensures keeper { (keeper.new.table_id ≡ I.name.table)
+        × (cell_view keeper.new ≡ knower ((cell_view keeper.old).all ++ noted.now ∷ [])) }
     ensures tally { tally.new ≡ hand_with_receipt tally.old number noted.now }
     ensures past { AllBelow number tally.old.receipts }
 {

@@ -81,7 +81,10 @@ impl<
         charge: u64,
     ) -> Result<Started<V>, Refusal>
         requires { 0 < charge }
-        ensures tallied { IsTallied tally.old (λ started. IsOfCopy K.eq key.now (λ copy. record_of (ask.begin copy charge) (told_of_started started))) result tally.new }
+        ensures tallied { IsTallied tally.old
+            (λ started. IsOfCopy K.eq key.now
+            (λ copy. record_of (ask.begin copy charge) (told_of_started started))) result
+            tally.new }
         ensures parts { tally.new.parts ≡ tally.old.parts }
         ensures never_stale { IfErr result (λ e. e ≢ Refusal.Stale) }
     {
@@ -94,7 +97,9 @@ impl<
     ///
     /// Returns `Stale` if no held entry has the stamp.
     pub fn poll(&self, tally: &mut Tally<K, I>, stamp: u64) -> Result<Started<V>, Refusal>
-        ensures tallied { IsTallied tally.old (λ started r. r ≡ record_of (ask.poll stamp) (told_of_started started)) result tally.new }
+        ensures tallied { IsTallied tally.old
+            (λ started r. r ≡ record_of (ask.poll stamp) (told_of_started started)) result
+            tally.new }
         ensures parts { tally.new.parts ≡ tally.old.parts }
         ensures never_overflow { IfErr result (λ e. e ≢ Refusal.Overflow) }
     {
@@ -111,7 +116,8 @@ impl<
         stamp: u64,
         value: Arc<V>,
     ) -> Result<(), (Refusal, Arc<V>)>
-        ensures tallied { IsTallied tally.old (λ _ r. r ≡ record_of (ask.ready stamp tt) Told.Done) result tally.new }
+        ensures tallied { IsTallied tally.old (λ _ r. r ≡ record_of (ask.ready stamp tt) Told.Done)
+            result tally.new }
         ensures parts { tally.new.parts ≡ tally.old.parts }
         ensures never_overflow { IfErr result (λ e. e.0 ≢ Refusal.Overflow) }
         ensures back { IfErr result (λ e. arc_value e.1 ≡ arc_value value) }
@@ -123,7 +129,8 @@ impl<
     ///
     /// Returns `Stale` if no entry is being made under that stamp.
     pub fn fail(&self, tally: &mut Tally<K, I>, stamp: u64) -> Result<Failed<K>, Refusal>
-        ensures tallied { IsTallied tally.old (λ failed r. r ≡ record_of (ask.fail stamp) (told_of_failed failed)) result tally.new }
+        ensures tallied { IsTallied tally.old
+            (λ failed r. r ≡ record_of (ask.fail stamp) (told_of_failed failed)) result tally.new }
         ensures parts { tally.new.parts ≡ tally.old.parts }
         ensures never_overflow { IfErr result (λ e. e ≢ Refusal.Overflow) }
     {
@@ -134,7 +141,9 @@ impl<
     ///
     /// Returns `Overflow` if the entry has the maximum number of pins.
     pub fn get(&self, tally: &mut Tally<K, I>, key: &K) -> Result<Option<Pin<V>>, Refusal>
-        ensures tallied { IsTallied tally.old (λ found. IsOfCopy K.eq key.now (λ copy. record_of (ask.get copy) (told_of_pin found))) result tally.new }
+        ensures tallied { IsTallied tally.old
+            (λ found. IsOfCopy K.eq key.now (λ copy. record_of (ask.get copy) (told_of_pin found)))
+            result tally.new }
         ensures parts { tally.new.parts ≡ tally.old.parts }
         ensures never_stale { IfErr result (λ e. e ≢ Refusal.Stale) }
     {
@@ -163,9 +172,12 @@ impl<
     where
         G: FnOnce(&V) -> T + Drop,
         requires callable { (v : V) → FnOnceTakesAt G.FnOnce reader v }
-        ensures tallied { AreTallied tally.old (λ found. AreOfCopy K.eq key.now (λ copy. records_of_read copy found)) result tally.new }
+        ensures tallied { AreTallied tally.old
+            (λ found. AreOfCopy K.eq key.now (λ copy. records_of_read copy found)) result
+            tally.new }
         ensures parts { tally.new.parts ≡ tally.old.parts }
-        ensures answered { IfOk result (λ found. IfSome found (λ r. (v : V) × FnOnceReturnsAt G.FnOnce reader v r.1)) }
+        ensures answered { IfOk result (λ found. IfSome found
+            (λ r. (v : V) × FnOnceReturnsAt G.FnOnce reader v r.1)) }
         ensures never_stale { IfErr result (λ e. e ≢ Refusal.Stale) }
     {
         self.door.lock().read(tally, key, reader)
@@ -175,7 +187,8 @@ impl<
     ///
     /// Returns `Stale` if no held and ready entry has its stamp.
     pub fn release(&self, tally: &mut Tally<K, I>, pin: Pin<V>) -> Result<(), (Refusal, Pin<V>)>
-        ensures tallied { IsTallied tally.old (λ _ r. r ≡ record_of (ask.release pin.stamp) Told.Done) result tally.new }
+        ensures tallied { IsTallied tally.old
+            (λ _ r. r ≡ record_of (ask.release pin.stamp) Told.Done) result tally.new }
         ensures parts { tally.new.parts ≡ tally.old.parts }
         ensures never_overflow { IfErr result (λ e. e.0 ≢ Refusal.Overflow) }
         ensures back { IfErr result (λ e. e.1 ≡ pin) }
@@ -192,7 +205,9 @@ impl<
 
     /// Evicts the entry of a key if it is idle. Otherwise nothing happens.
     pub fn advice_evict(&self, tally: &mut Tally<K, I>, key: &K) -> Result<(), Refusal>
-        ensures tallied { IsTallied tally.old (λ _. IsOfCopy K.eq key.now (λ copy. record_of (ask.advice_evict copy) Told.Done)) result tally.new }
+        ensures tallied { IsTallied tally.old
+            (λ _. IsOfCopy K.eq key.now (λ copy. record_of (ask.advice_evict copy) Told.Done))
+            result tally.new }
         ensures parts { tally.new.parts ≡ tally.old.parts }
         ensures memory { IfErr result (λ e. e ≡ Refusal.Memory) }
     {
@@ -207,7 +222,9 @@ impl<
     ///
     /// If the call is refused, the key keeps its value.
     pub fn invalidate(&self, tally: &mut Tally<K, I>, key: &K) -> Result<(), Refusal>
-        ensures tallied { IsTallied tally.old (λ _. IsOfCopy K.eq key.now (λ copy. record_of (ask.invalidate copy) Told.Done)) result tally.new }
+        ensures tallied { IsTallied tally.old
+            (λ _. IsOfCopy K.eq key.now (λ copy. record_of (ask.invalidate copy) Told.Done)) result
+            tally.new }
         ensures parts { tally.new.parts ≡ tally.old.parts }
         ensures memory { IfErr result (λ e. e ≡ Refusal.Memory) }
     {
@@ -218,7 +235,8 @@ impl<
 
     /// Evicts every idle entry.
     pub fn prune(&self, tally: &mut Tally<K, I>) -> Result<(), Refusal>
-        ensures tallied { IsTallied tally.old (λ _ r. r ≡ record_of ask.prune Told.Done) result tally.new }
+        ensures tallied { IsTallied tally.old (λ _ r. r ≡ record_of ask.prune Told.Done) result
+            tally.new }
         ensures parts { tally.new.parts ≡ tally.old.parts }
         ensures memory { IfErr result (λ e. e ≡ Refusal.Memory) }
     {
@@ -232,7 +250,8 @@ impl<
     ///
     /// If the call is refused, the capacity stays as it was.
     pub fn set_capacity(&self, tally: &mut Tally<K, I>, capacity: u64) -> Result<(), Refusal>
-        ensures tallied { IsTallied tally.old (λ _ r. r ≡ record_of (ask.set_capacity capacity) Told.Done) result tally.new }
+        ensures tallied { IsTallied tally.old
+            (λ _ r. r ≡ record_of (ask.set_capacity capacity) Told.Done) result tally.new }
         ensures parts { tally.new.parts ≡ tally.old.parts }
         ensures memory { IfErr result (λ e. e ≡ Refusal.Memory) }
     {
@@ -246,7 +265,8 @@ impl<
 
     /// Returns the sum of the charges of all entries, including those still being made.
     pub fn total(&self, tally: &mut Tally<K, I>) -> Result<u64, Refusal>
-        ensures tallied { IsTallied tally.old (λ total r. r ≡ record_of ask.total (Told.Total total)) result tally.new }
+        ensures tallied { IsTallied tally.old
+            (λ total r. r ≡ record_of ask.total (Told.Total total)) result tally.new }
         ensures parts { tally.new.parts ≡ tally.old.parts }
         ensures memory { IfErr result (λ e. e ≡ Refusal.Memory) }
     {

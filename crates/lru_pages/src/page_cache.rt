@@ -46,7 +46,8 @@ impl<'a, B: Blocks, R: Wait> PageCache<'a, B, R> {
         ensures key { IfOk result (λ h. h.key ≡ number) }
         ensures charge { IfOk result (λ h. h.charge ≡ Some 1) }
         ensures number { IfOk result (λ h. h.value.number ≡ number) }
-        ensures fault { IfErr result (λ e. IfInit e (λ x. B.is_fault self.now.reader.now number x)) }
+        ensures fault { IfErr result (λ e. IfInit e
+            (λ x. B.is_fault self.now.reader.now number x)) }
     {
         let reader = self.reader;
         self.pages
@@ -65,8 +66,10 @@ impl<'a, B: Blocks, R: Wait> PageCache<'a, B, R> {
     pub fn read<T, G>(&self, number: u64, visit: G) -> Result<Option<T>, Refusal>
     where
         G: FnOnce(&[u8]) -> T + Drop,
-        requires callable { (p : PageOf B) → p.number ≡ number → FnOnceTakesAt G.FnOnce visit p.bytes }
-        ensures page { IfOk result (λ found. IfSome found (λ t. (p : PageOf B) × (p.number ≡ number) × FnOnceReturnsAt G.FnOnce visit p.bytes t)) }
+        requires callable { (p : PageOf B) → p.number ≡ number
+            → FnOnceTakesAt G.FnOnce visit p.bytes }
+        ensures page { IfOk result (λ found. IfSome found (λ t. (p : PageOf B) × (p.number ≡ number)
+            × FnOnceReturnsAt G.FnOnce visit p.bytes t)) }
         ensures refused { IfErr result (λ e. e ≡ Refusal.Overflow) }
     {
         self.pages.read(

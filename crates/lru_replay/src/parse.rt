@@ -61,7 +61,8 @@ fn wrong_of<'a>(name: &'a str) -> Wrong<'a> {
 
 fn parse_making<'a>(key: &'a str, charge: &'a str, outcome: &'a str) -> Result<Making, Wrong<'a>>
     ensures read { IfOk result (SpellsMaking key.now charge.now outcome.now) }
-    ensures all { (making : Making) → SpellsMaking key.now charge.now outcome.now making → result ≡ Ok making }
+    ensures all { (making : Making) → SpellsMaking key.now charge.now outcome.now making → result
+        ≡ Ok making }
 {
     Ok(Making {
         key: parse_number(key)?,

@@ -32,7 +32,8 @@ impl<T> Slots<T> {
     pub fn replace(&mut self, slot: Slot, kept: Option<T>) -> Option<T>
         ensures before { result ≡ kept_in self.old slot }
         ensures after { kept_in self.new slot ≡ kept }
-        ensures others { (other : Slot) → other ≢ slot → kept_in self.new other ≡ kept_in self.old other }
+        ensures others { (other : Slot) → other ≢ slot → kept_in self.new other
+            ≡ kept_in self.old other }
     {
         match slot {
             Slot::Zero => mem::replace(&mut self.zero, kept),

@@ -97,7 +97,8 @@ impl Curve {
 
     /// Returns the least capacity with at least `hits` hits, or `None` if no capacity has so many.
     pub fn least_capacity(&self, hits: usize) -> Option<u64>
-        ensures { MatchOption result (length self.now.weights < hits) (IsLeastFor hits (λ capacity. hits_in capacity self.now)) }
+        ensures { MatchOption result (length self.now.weights < hits)
+            (IsLeastFor hits (λ capacity. hits_in capacity self.now)) }
     {
         if hits == 0 {
             return Some(0);
@@ -114,7 +115,8 @@ fn reuses<K>(
     weights: &[Option<u64>],
 ) -> Result<Vec<(u64, u64)>, AllocError>
     requires { length trace.now ≡ length weights.now }
-    ensures permutation { IfOk result (λ r. IsPermutation (reused (map (λ u. u.1) trace.now) weights.now) r.items) }
+    ensures permutation { IfOk result (λ r. IsPermutation
+        (reused (map (λ u. u.1) trace.now) weights.now) r.items) }
     ensures rising { IfOk result (λ r. IsNonDecreasingBy (λ p. p.0) r.items) }
 {
     let mut reused = Vec::new(alloc);

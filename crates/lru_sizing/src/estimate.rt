@@ -135,7 +135,8 @@ impl Estimate {
     /// Returns the least capacity at which `hits` returns this many or more, or `None` if there is
     /// none.
     pub fn least_capacity(&self, hits: u64) -> Option<u64>
-        ensures { MatchOption result ((capacity : ℕ) → estimated_hits capacity self.now < hits) (IsLeastFor hits (λ capacity. estimated_hits capacity self.now)) }
+        ensures { MatchOption result ((capacity : ℕ) → estimated_hits capacity self.now < hits)
+            (IsLeastFor hits (λ capacity. estimated_hits capacity self.now)) }
     {
         if hits == 0 {
             return Some(0);
@@ -155,7 +156,8 @@ fn scale_weights<K>(
     weights: &[Option<u64>],
 ) -> Result<Vec<Option<u64>>, AllocError>
     requires { length sampled.now ≡ length weights.now }
-    ensures scaled { IfOk result (λ r. r.items ≡ scaled sample.one_in (map (λ u. u.1) sampled.now) weights.now) }
+    ensures scaled { IfOk result (λ r. r.items ≡ scaled sample.one_in (map (λ u. u.1) sampled.now)
+        weights.now) }
     ensures len { IfOk result (λ r. vec_len r ≡ length weights.now) }
 {
     let mut scaled = Vec::new(alloc);

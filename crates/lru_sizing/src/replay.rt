@@ -36,7 +36,8 @@ pub fn replay<K: Hash + Eq + Clone + Drop>(
 ) -> Result<Vec<bool>, Refusal>
     requires charged { AllByRecursion (λ u. 0 < u.1) trace.now }
     requires copies { CopiesAreEqual K.is_clone K.eq }
-    ensures hits { IfOk result (λ hits. hits.items ≡ map (fits capacity) (reuse_weights K.eq trace.now)) }
+    ensures hits { IfOk result (λ hits. hits.items
+        ≡ map (fits capacity) (reuse_weights K.eq trace.now)) }
     ensures charged { OnOk result (HaveOneCharge K.eq trace.now) }
     ensures err { IfErr result (λ e. IsRefusedFor K.eq trace.now e) }
 {
@@ -94,7 +95,8 @@ fn use_once<K: Hash + Eq + Clone + Drop>(
 ) -> Result<bool, lru_core::Refusal>
     requires charged { 0 < charge }
     requires none_held { cache.old.cache.held ≡ finmap.empty }
-    ensures used { IfOk result (λ hit. IsUsedOnce K.eq cache.old.cache key.now charge hit cache.new.cache) }
+    ensures used { IfOk result (λ hit. IsUsedOnce K.eq cache.old.cache key.now charge hit
+        cache.new.cache) }
     ensures stamps { cache.new.cache.next ≤ cache.old.cache.next + 1 }
     ensures err { IfErr result (λ e. Refuses K.eq cache.old.cache (ask.begin key.now charge) e) }
 {
@@ -116,7 +118,8 @@ fn use_once<K: Hash + Eq + Clone + Drop>(
 // Stores the value of an entry that is being made.
 fn give<K: Hash + Eq + Clone + Drop>(cache: &mut State<K, ()>, stamp: u64, value: Arc<()>)
     requires { (e : Held K (Unit {0})) × Holds cache.old.cache stamp e making }
-    ensures { Step K.eq cache.old.cache (ask.ready stamp (arc_value value)) say.done [] cache.new.cache }
+    ensures { Step K.eq cache.old.cache (ask.ready stamp (arc_value value)) say.done []
+        cache.new.cache }
 {
     match cache.ready(stamp, value) {
         Ok(()) => {}

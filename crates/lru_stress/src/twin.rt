@@ -99,7 +99,8 @@ fn work_from<I: Identity + Send + Sync, R: Threads + Wait + Drop + Send + Sync>(
             ensures { IfOk result (λ done. done.0.parts ≡ one.parts) }
         { work(cache, shift, one, worker) },
         move || -> Result<(Tally<u64, I>, Accepted), Trouble>
-            requires { IsSync R.row × IsSend R.row × IsSync I.row × IsSend I.row × (1 < workers) × (workers < tally.parts + 1) }
+            requires { IsSync R.row × IsSend R.row × IsSync I.row × IsSend I.row × (1 < workers)
+                × (workers < tally.parts + 1) }
             ensures { IfOk result (λ done. done.0.parts ≡ tally.parts) }
         { work_from(rt, cache, shift, tally, worker.wrapping_add(1), workers - 1) },
     );

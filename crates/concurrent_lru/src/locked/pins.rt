@@ -128,7 +128,12 @@ impl<K: Hash + Eq + Clone, V, F: Fit<K, V>> Model for HeldPin<K, V, F> {
 
     ghost Value = { PinOf K V };
 
-    ghost view = { λ p. record { stamp = p.spot.stamp; key = p.asked.value; charge = p.charge.value; value = arc_value p.value } };
+    ghost view = { λ p. record {
+      stamp = p.spot.stamp;
+      key = p.asked.value;
+      charge = p.charge.value;
+      value = arc_value p.value;
+    } };
 
     ghost invariant = { λ p. F.fits p.asked.value (arc_value p.value) };
 }
@@ -137,7 +142,12 @@ impl<K: Hash + Eq + Clone, V, F: Fit<K, V>> HeldPin<K, V, F> {
     // Creates a pin in the spot's entry. A `get` has no charge.
     pub(super) fn of(spot: Spot, key: &K, charge: Option<u64>, value: Arc<V>) -> Self
         requires { F.fits key.now (arc_value value) }
-        ensures { result ≡ record { stamp = spot.stamp; key = key.now; charge = charge; value = arc_value value } }
+        ensures { result ≡ record {
+          stamp = spot.stamp;
+          key = key.now;
+          charge = charge;
+          value = arc_value value;
+        } }
     {
         HeldPin {
             spot,

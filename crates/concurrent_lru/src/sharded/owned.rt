@@ -129,7 +129,10 @@ impl<
     // Returns `Memory` if the copy of the `Arc` is refused.
     fn of(cache: &Arc<LruCache<K, V, R, S, F>>, key: &K) -> Result<Self, Refusal>
         ensures cache { IfOk result (λ shard. arc_value shard.cache ≡ arc_value cache.now) }
-        ensures route { IfOk result (λ shard. shard.route.index ≡ key_number S.BuildHasher S.Hasher.Hasher K.hash_input (arc_value cache.now).routes.hasher key.now % vec_len (arc_value cache.now).routes.shards) }
+        ensures route { IfOk result (λ shard. shard.route.index
+            ≡ key_number S.BuildHasher S.Hasher.Hasher K.hash_input
+            (arc_value cache.now).routes.hasher key.now % vec_len
+            (arc_value cache.now).routes.shards) }
         ensures err { IfErr result (λ e. e ≡ Refusal.Memory) }
     {
         let route = cache.routes.route_of(key);
@@ -139,7 +142,8 @@ impl<
 
     // Returns the shard, a cache of one lock.
     fn get(&self) -> &unsharded::LruCache<K, V, R, F>
-        ensures { slice_get (arc_value self.now.cache).routes.shards.items self.now.route.index ≡ Some result.now }
+        ensures { slice_get (arc_value self.now.cache).routes.shards.items self.now.route.index
+            ≡ Some result.now }
     {
         self.cache.routes.at(self.route)
     }
@@ -217,7 +221,8 @@ impl<
         ensures key { IfOk result (λ h. h.key ≡ key.now) }
         ensures charge { IfOk result (λ h. h.charge ≡ Some charge) }
         ensures fits { IfOk result (λ h. F.fits key.now h.value) }
-        ensures error { IfErr result (λ e. IfInit e (λ x. FnOnceReturnsAt I.FnOnce init key.now (Err x))) }
+        ensures error { IfErr result (λ e. IfInit e
+            (λ x. FnOnceReturnsAt I.FnOnce init key.now (Err x))) }
     {
         let Ok(shard) = OwnedShard::of(this, key) else {
             return Err(GetError::Memory);

@@ -35,7 +35,8 @@ impl StampIndex {
     pub(super) fn insert(&mut self, stamp: u64, place: Place)
         requires { HasRoomFor self.old 1 }
         ensures keeps { keeps_map self.new ≡ keeps_map self.old }
-        ensures places { keeps_map self.old ≡ true → (s : ℕ) → mapped_place self.new s ≡ cond (nat_eq stamp s) (Some place) (mapped_place self.old s) }
+        ensures places { keeps_map self.old ≡ true → (s : ℕ) → mapped_place self.new s
+            ≡ cond (nat_eq stamp s) (Some place) (mapped_place self.old s) }
     {
         if let StampIndex::Mapped(places) = self {
             // Never refused, since there is room; no node had the stamp before.
@@ -46,7 +47,8 @@ impl StampIndex {
     // Removes the place of a node that was taken.
     pub(super) fn remove(&mut self, stamp: u64)
         ensures keeps { keeps_map self.new ≡ keeps_map self.old }
-        ensures places { keeps_map self.old ≡ true → (s : ℕ) → mapped_place self.new s ≡ cond (nat_eq stamp s) None (mapped_place self.old s) }
+        ensures places { keeps_map self.old ≡ true → (s : ℕ) → mapped_place self.new s
+            ≡ cond (nat_eq stamp s) None (mapped_place self.old s) }
         ensures room { HasRoomFor self.old 1 → HasRoomFor self.new 1 }
     {
         if let StampIndex::Mapped(places) = self {
@@ -58,7 +60,8 @@ impl StampIndex {
     #[inline(never)]
     pub(super) fn find<K: Drop, V: Drop>(&self, nodes: &Nodes<K, V>, stamp: u64) -> Option<Place>
         ensures mapped { keeps_map self.now ≡ true → result ≡ mapped_place self.now stamp }
-        ensures seen { keeps_map self.now ≡ false → MatchOption result (IsNewStamp nodes.now stamp) (λ p. HasStampAt nodes.now p stamp) }
+        ensures seen { keeps_map self.now ≡ false → MatchOption result (IsNewStamp nodes.now stamp)
+            (λ p. HasStampAt nodes.now p stamp) }
     {
         match self {
             StampIndex::Mapped(places) => places.get(&stamp).copied(),
