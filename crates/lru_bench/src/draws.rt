@@ -1,7 +1,7 @@
 //! Keys drawn before the timing starts, which each worker reads from a position of its own.
 
 use crate::failure::Failure;
-use crate::keys::Keys;
+use crate::keys::{Keys, Source};
 use std::alloc::{AllocError, Global};
 use std::fs::{File, Files};
 use std::io::Read;
@@ -19,7 +19,7 @@ pub struct Draws {
 impl Draws {
     /// Draws `count` keys uniformly from those below `entries`.
     pub fn even(alloc: Global, entries: NonZeroU64, count: u32) -> Result<Draws, AllocError> {
-        let mut drawn = Keys::of(entries);
+        let mut drawn = Keys::of_worker(entries, 0);
         let mut keys = Vec::new(alloc);
         for _ in 0..count {
             keys.push(drawn.draw())?;
@@ -52,16 +52,16 @@ impl Draws {
         Ok(Draws { keys })
     }
 
-    /// Returns all keys in order.
-    pub fn keys(&self) -> &[u64] {
-        self.keys.as_slice()
+    /// How many keys there are.
+    pub fn len(&self) -> u64 {
+        self.keys.len() as u64
     }
 
-    /// Returns the draws of a worker, from its own position on.
+    /// The draws of a worker, from its own place on.
     pub fn of_worker(&self, worker: u16) -> Drawing<'_> {
         let place = usize::from(worker).wrapping_mul(APART);
         Drawing {
-            keys: self.keys(),
+            keys: self.keys.as_slice(),
             place: place.checked_rem(self.keys.len()).unwrap_or(0),
         }
     }
@@ -74,9 +74,10 @@ pub struct Drawing<'a> {
     place: usize,
 }
 
-impl Drawing<'_> {
-    /// Returns the next key, or `None` if there are no keys at all.
-    pub fn draw(&mut self) -> Option<u64> {
+// Without end, unless there are no keys at all.
+impl Source for Drawing<'_> {
+    #[inline(always)]
+    fn next_key(&mut self) -> Option<u64> {
         if self.place >= self.keys.len() {
             self.place = 0;
         }
@@ -95,7 +96,7 @@ mod tests {
     fn bytes_are_keys_of_four(rt: HostRuntime) -> Result<(), Fail> {
         let alloc = rt.alloc();
         let draws = Draws::of_bytes(alloc, &[1, 0, 0, 0, 0, 2, 0, 0, 255, 255, 255, 255])?;
-        assert_eq!(rt; draws.keys(), [1, 512, 4_294_967_295].as_slice());
+        assert_eq!(rt; draws.keys.as_slice(), [1, 512, 4_294_967_295].as_slice());
         for cut in [0, 3, 5] {
             let bytes = vec![in alloc; 0u8; cut]?;
             assert_eq!(rt; Draws::of_bytes(alloc, &bytes).err(), Some(Failure::Keys));
@@ -109,7 +110,7 @@ mod tests {
         // 131,072 is 2 modulo 3.
         let mut drawing = draws.of_worker(1);
         for key in [9, 7, 8, 9] {
-            assert_eq!(rt; drawing.draw(), Some(key));
+            assert_eq!(rt; drawing.next_key(), Some(key));
         }
         Ok(())
     }

@@ -2,7 +2,7 @@
 //!
 //! Each failure has its line on standard error, and its exit status.
 
-use crate::plan::MOST_ENTRIES;
+use crate::request::MOST_ENTRIES;
 use concurrent_lru::lru_core::Refusal;
 use lru_stress::outcome::Trouble;
 use std::alloc::{AllocError, AllocFailed};
@@ -14,8 +14,8 @@ use std::io::Write;
 pub enum Failure {
     /// The arguments are invalid.
     Usage,
-    /// An argument is not a number of entries, or it is out of range.
-    Entries,
+    /// A word after `time` is no workload, and no number of entries within bounds.
+    Word,
     /// A call of the cache was refused, or memory for the program's own data.
     Refused(Refusal),
     /// The file of keys has none, or its last is incomplete.
@@ -33,11 +33,12 @@ impl Failure {
         let told = match self {
             Failure::Usage => writeln!(
                 err,
-                "usage: lru_bench check | time [ENTRIES ..] | mostly FILE, ENTRIES from 1 to {MOST_ENTRIES}"
+                "usage: lru_bench check | time [WORD ..] [read_mostly FILE]"
             ),
-            Failure::Entries => writeln!(
+            Failure::Word => writeln!(
                 err,
-                "lru_bench: ENTRIES is a number from 1 to {MOST_ENTRIES}"
+                "lru_bench: WORD is hit_get, hit_read, hit_init, miss_evict, stress, threads, \
+                 sizes, or a number of entries from 1 to {MOST_ENTRIES}"
             ),
             Failure::Refused(refusal) => writeln!(err, "refused {}", refusal.code()),
             Failure::Keys => writeln!(err, "the file has no keys of four bytes"),
@@ -47,7 +48,7 @@ impl Failure {
             }
         };
         match (self, told) {
-            (Failure::Usage | Failure::Entries, Ok(())) => 2,
+            (Failure::Usage | Failure::Word, Ok(())) => 2,
             _ => 1,
         }
     }

@@ -6,6 +6,12 @@ ghost use Rattle.std.specs.Prelude.{◌<◌};
 
 use std::num::NonZeroU64;
 
+/// Where the keys of a worker come from.
+pub trait Source {
+    /// The next key; none where there are no more.
+    fn next_key(&mut self) -> Option<u64>;
+}
+
 /// Draws keys below a number of entries.
 #[derive(Drop)]
 pub struct Keys {
@@ -15,15 +21,16 @@ pub struct Keys {
 }
 
 impl Keys {
-    /// Creates a generator of keys below `entries`, in its initial state.
-    pub fn of(entries: NonZeroU64) -> Keys {
+    /// The keys from 0 up to `entries`, from a worker's own state of the generator on.
+    pub fn of_worker(entries: NonZeroU64, worker: u16) -> Keys {
         Keys {
             entries: entries.get(),
-            state: 1,
+            state: u64::from(worker).wrapping_mul(77).wrapping_add(1),
         }
     }
 
     /// Returns the next key.
+    #[inline(always)]
     pub fn draw(&mut self) -> u64
         ensures { result < self.old.entries }
     {
@@ -33,6 +40,29 @@ impl Keys {
             .wrapping_mul(6_364_136_223_846_793_005)
             .wrapping_add(1_442_695_040_888_963_407);
         (self.state >> 33) % self.entries
+    }
+}
+
+impl Source for Keys {
+    #[inline(always)]
+    fn next_key(&mut self) -> Option<u64> {
+        Some(self.draw())
+    }
+}
+
+/// Keys one after another.
+#[derive(Drop)]
+pub struct Ascending {
+    /// Returns the next key.
+    pub next: u64,
+}
+
+impl Source for Ascending {
+    #[inline(always)]
+    fn next_key(&mut self) -> Option<u64> {
+        let key = self.next;
+        self.next = key.wrapping_add(1);
+        Some(key)
     }
 }
 
@@ -113,9 +143,16 @@ mod tests {
 
     #[test]
     fn draws_the_same_keys_each_time(rt: HostRuntime) -> Result<(), Fail> {
-        let mut keys = Keys::of(NonZeroU64::new(1_000).ok_or("1,000 is not 0")?);
-        for key in [774, 153, 196, 870, 34] {
-            assert_eq!(rt; keys.draw(), key);
+        let entries = NonZeroU64::new(1_000).ok_or("1,000 is not 0")?;
+        let drawn = [
+            (0, [774, 153, 196, 870, 34]),
+            (1, [358, 198, 231, 968, 304]),
+        ];
+        for (worker, expected) in drawn {
+            let mut keys = Keys::of_worker(entries, worker);
+            for key in expected {
+                assert_eq!(rt; keys.draw(), key, "of worker {worker}");
+            }
         }
         Ok(())
     }

@@ -3,16 +3,24 @@
 #![tactic(auto)]
 
 mod bench;
+mod caches;
 mod draws;
 mod failure;
+mod hits;
 mod keys;
 mod mostly;
+mod operation;
 mod parts;
 mod plan;
 mod program;
 mod report;
+mod request;
+mod size;
 mod stress;
+mod system;
 mod uses;
+mod workers;
+mod workload;
 
 use failure::Failure;
 use lru_support::words;

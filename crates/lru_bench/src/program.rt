@@ -3,7 +3,8 @@
 use crate::bench;
 use crate::draws::Draws;
 use crate::failure::Failure;
-use crate::plan::{Mostly, Plan, Shown};
+use crate::plan::{Mostly, Plan};
+use crate::request::Request;
 use std::alloc::Global;
 use std::fs::Files;
 use std::io::Write;
@@ -13,21 +14,19 @@ use std::sync::Wait;
 use std::thread;
 use std::thread::Threads;
 
-/// Runs the program on its arguments and returns the exit status.
+/// Runs the program on the words after its name and answers the status to end with.
 ///
-/// - `check` runs small workloads and writes the sums of the values that they read to `out`, one on
-///   each line; these are always the same. Status 0.
-/// - `time`, with numbers of entries after it or none, runs long workloads and writes the
-///   nanoseconds of an operation to `out`, and the number of processors to `err`. Status 0. If an
-///   argument is not a number from 1 to 10,000,000, a line goes to `err` before anything is run.
-///   Status 2.
-/// - `mostly`, with the path of a file of keys, does the same for the workload of reads that mostly
-///   hit, on that file's keys, and writes each hit ratio to `err`.
-/// - Any other arguments write the usage line to `err`. Status 2.
-///
-/// If a call is refused, `refused` and the refusal's code are written to `err`; if a call of the
-/// stress workload returns no value, or that of another key, `stress failed`; if the system fails,
-/// as at a write, a line about it. The status is 1 in each case.
+/// `check` runs each workload small and writes the sums of the values that it read to `out`, a
+/// line each, which never change: status 0. `time` runs workloads long and writes how many
+/// nanoseconds an operation took, and to `err` how many processors there are: status 0. The words
+/// after it say which workloads, on how many entries, and whether in more threads than one, as
+/// `Request::of_words` reads them; the last two may be `read_mostly` and the path of a file of
+/// keys, for reads that mostly hit, whose hit ratios go to `err`. A word that `time` does not know
+/// is refused by a line on `err`, before anything is run: status 2. Any other words write the
+/// usage line to `err`: status 2. Where a call is refused, `refused` and the refusal's number go
+/// to `err`, and the status is 1. Where a call of the stress workload gets no value, or that of
+/// another key, `stress failed` goes to `err`, and the status is 1. Where the system fails, as at
+/// a write, a line says so on `err`, and the status is 1.
 pub fn program<R: Threads + Wait + Clock + RandomSource + Files + Sync, O: Write, E: Write>(
     rt: &R,
     alloc: Global,
@@ -48,28 +47,28 @@ fn run<R: Threads + Wait + Clock + RandomSource + Files + Sync, O: Write, E: Wri
     out: &mut O,
     err: &mut E,
 ) -> Result<(), Failure> {
-    if let [word, path] = words
-        && word.as_str() == "mostly"
-    {
-        let mostly = Mostly::time(Draws::of_file(rt, alloc, path.as_str())?);
-        tell_machine(rt, err)?;
-        return bench::run_mostly(rt, alloc, &mostly, out, err);
+    match words {
+        [word] if word.as_str() == "check" => {
+            bench::run(rt, alloc, &Plan::check(alloc)?, out, err)
+        }
+        [word, asked @ ..] if word.as_str() == "time" => {
+            let plan = timed(rt, alloc, asked)?;
+            tell_machine(rt, err)?;
+            bench::run(rt, alloc, &plan, out, err)
+        }
+        _ => Err(Failure::Usage),
     }
-    let plan = plan(alloc, words)?;
-    if plan.shown == Shown::Time {
-        tell_machine(rt, err)?;
-        return bench::run(rt, alloc, &plan, out);
-    }
-    bench::run(rt, alloc, &plan, out)?;
-    bench::run_mostly(rt, alloc, &Mostly::check(alloc)?, out, err)
 }
 
-// Returns the plan that the arguments ask for.
-fn plan(alloc: Global, words: &[String]) -> Result<Plan, Failure> {
+// What the words after `time` ask for.
+fn timed<R: Files>(rt: &R, alloc: Global, words: &[String]) -> Result<Plan, Failure> {
     match words {
-        [word] if word.as_str() == "check" => Plan::check(alloc),
-        [word, entries @ ..] if word.as_str() == "time" => Plan::time(alloc, entries),
-        _ => Err(Failure::Usage),
+        [rest @ .., word, path] if word.as_str() == "read_mostly" => {
+            let request = Request::of_words(alloc, rest, true)?;
+            let draws = Draws::of_file(rt, alloc, path.as_str())?;
+            Ok(Plan::time(request, Some(Mostly::time(draws))))
+        }
+        _ => Ok(Plan::time(Request::of_words(alloc, words, false)?, None)),
     }
 }
 

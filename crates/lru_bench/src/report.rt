@@ -2,6 +2,8 @@
 
 use crate::failure::Failure;
 use crate::plan::Shown;
+use crate::system::System;
+use crate::workload::Workload;
 use std::fmt;
 use std::io::Write;
 use std::rt::Clock;
@@ -10,35 +12,22 @@ use std::time::{Duration, Instant};
 /// A workload that was run.
 #[derive(Clone, Copy)]
 pub struct Work {
-    /// The cache: on one lock or in shards.
-    pub system: &'static str,
-    /// The workload's name.
-    pub name: &'static str,
+    /// What the operations are asked of.
+    pub system: System,
+    /// What they are.
+    pub workload: Workload,
     /// The capacity of the cache.
     pub entries: u64,
-    /// The number of threads that shared the operations.
+    /// How many threads shared the operations.
     pub threads: u16,
     /// The number of operations of each thread.
     pub operations: u32,
 }
 
 impl Work {
-    /// Creates a workload of this name on this cache, with a capacity, a number of threads and a
-    /// number of operations of each.
-    pub fn new(
-        system: &'static str,
-        name: &'static str,
-        entries: u64,
-        threads: u16,
-        operations: u32,
-    ) -> Work {
-        Work {
-            system,
-            name,
-            entries,
-            threads,
-            operations,
-        }
+    // The operations of all threads.
+    fn total(&self) -> u64 {
+        u64::from(self.operations).saturating_mul(u64::from(self.threads))
     }
 }
 
@@ -47,23 +36,29 @@ impl fmt::Display for Work {
         write!(
             f,
             "{} {} {} {}",
-            self.system, self.name, self.entries, self.threads
+            self.system, self.workload, self.entries, self.threads
         )
     }
 }
 
-/// Writes a line for each workload.
+/// Writes a line for each workload, and one more for its hits where those are told.
 #[derive(Drop)]
-pub struct Report<'a, R, O> {
+pub struct Report<'a, R, O, E> {
     rt: &'a R,
     out: &'a mut O,
+    err: &'a mut E,
     shown: Shown,
 }
 
-impl<'a, R: Clock, O: Write> Report<'a, R, O> {
+impl<'a, R: Clock, O: Write, E: Write> Report<'a, R, O, E> {
     /// Creates a report without lines.
-    pub fn new(rt: &'a R, out: &'a mut O, shown: Shown) -> Report<'a, R, O> {
-        Report { rt, out, shown }
+    pub fn new(rt: &'a R, out: &'a mut O, err: &'a mut E, shown: Shown) -> Report<'a, R, O, E> {
+        Report {
+            rt,
+            out,
+            err,
+            shown,
+        }
     }
 
     /// Runs a workload, which answers the sum of the values that it read, and writes its line.
@@ -83,6 +78,22 @@ impl<'a, R: Clock, O: Write> Report<'a, R, O> {
         }
         Ok(())
     }
+
+    /// Writes how many of a workload's operations hit, where times are shown: other schedules have
+    /// other hits.
+    pub fn tell_hits(&mut self, work: &Work, hits: u64) -> Result<(), Failure> {
+        match self.shown {
+            Shown::Sum => {}
+            Shown::Time => {
+                writeln!(
+                    self.err,
+                    "# hits {work} {}",
+                    HitRatio::of(hits, work.total())
+                )?;
+            }
+        }
+        Ok(())
+    }
 }
 
 /// The time of an operation, in tenths of a nanosecond.
@@ -96,10 +107,9 @@ impl PerOperation {
     /// down, or 0 if it had none.
     pub fn of(taken: Duration, work: &Work) -> PerOperation {
         let nanoseconds = u64::try_from(taken.as_nanos()).unwrap_or(u64::MAX);
-        let operations = u64::from(work.operations).saturating_mul(u64::from(work.threads));
         let tenths = nanoseconds
             .saturating_mul(10)
-            .checked_div(operations)
+            .checked_div(work.total())
             .unwrap_or(0);
         PerOperation { tenths }
     }
@@ -108,6 +118,29 @@ impl PerOperation {
 impl fmt::Display for PerOperation {
     fn fmt<W: fmt::Write>(&self, f: &mut fmt::Formatter<W>) -> fmt::Result {
         write!(f, "{}.{}", self.tenths / 10, self.tenths % 10)
+    }
+}
+
+/// The fraction of operations that found their value, in ten-thousandths.
+#[derive(Clone, Copy)]
+pub struct HitRatio {
+    parts: u64,
+}
+
+impl HitRatio {
+    /// Returns `hits` divided by `operations`, rounded down, or 0 if there were none.
+    pub fn of(hits: u64, operations: u64) -> HitRatio {
+        let parts = hits
+            .saturating_mul(10_000)
+            .checked_div(operations)
+            .unwrap_or(0);
+        HitRatio { parts }
+    }
+}
+
+impl fmt::Display for HitRatio {
+    fn fmt<W: fmt::Write>(&self, f: &mut fmt::Formatter<W>) -> fmt::Result {
+        write!(f, "{}.{:04}", self.parts / 10_000, self.parts % 10_000)
     }
 }
 
@@ -126,9 +159,51 @@ mod tests {
             (1, 0, 9, "0.0"),
         ];
         for (threads, operations, nanoseconds, text) in cases {
-            let work = Work::new("port-unsharded", "stress", 100, threads, operations);
+            let work = Work {
+                system: System::OneLock,
+                workload: Workload::Stress,
+                entries: 100,
+                threads,
+                operations,
+            };
             let each = PerOperation::of(Duration::from_nanos(nanoseconds), &work);
             assert_eq!(rt; format!(in alloc; "{each}")?.as_str(), text);
+        }
+        Ok(())
+    }
+
+    #[test]
+    fn tells_ten_thousandths(rt: HostRuntime) -> Result<(), Fail> {
+        let alloc = rt.alloc();
+        let cases = [
+            (918, 1000, "0.9180"),
+            (1, 3, "0.3333"),
+            (7, 7, "1.0000"),
+            (0, 0, "0.0000"),
+        ];
+        for (hits, operations, text) in cases {
+            let ratio = HitRatio::of(hits, operations);
+            assert_eq!(rt; format!(in alloc; "{ratio}")?.as_str(), text);
+        }
+        Ok(())
+    }
+
+    #[test]
+    fn hits_are_told_beside_times_alone(rt: HostRuntime) -> Result<(), Fail> {
+        let alloc = rt.alloc();
+        let work = Work {
+            system: System::ReadInShards(64),
+            workload: Workload::ReadMostly,
+            entries: 100,
+            threads: 2,
+            operations: 500,
+        };
+        let line = "# hits port-sharded-64-read read_mostly 100 2 0.9180\n";
+        for (shown, told) in [(Shown::Sum, ""), (Shown::Time, line)] {
+            let (mut out, mut err) = (Vec::new(alloc), Vec::new(alloc));
+            Report::new(&rt, &mut out, &mut err, shown).tell_hits(&work, 918)?;
+            assert_eq!(rt; str::from_utf8(&out)?, "");
+            assert_eq!(rt; str::from_utf8(&err)?, told);
         }
         Ok(())
     }

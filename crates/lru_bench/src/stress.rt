@@ -1,22 +1,57 @@
-//! The stress workload on caches whose values are their keys.
+//! The stress workload on caches whose values are their keys, and on the parts of the cache, where
+//! each key is present.
 ghost use Rattle.std.specs.Prelude.{◌<◌};
 
-use lru_stress::outcome::Trouble;
-use lru_stress::plan::Plan;
+use crate::bench::Bench;
+use crate::failure::Failure;
+use crate::parts::{Parts, PartsInShards};
+use crate::report::Work;
+use crate::system::{SHARDS, System};
+use crate::workload::Workload;
+use lru_stress::plan::{KEYS, Plan};
 use lru_stress::workers::{Answer, StressTarget, Unmade, share};
 use lru_support::cached::Cached;
 use lru_support::calls::WorkerCall;
-use std::alloc::Global;
+use std::io::Write;
+use std::random::RandomSource;
+use std::rt::Clock;
+use std::sync::Wait;
 use std::thread::Threads;
 
 // The seed of all calls.
 const SEED: u64 = 1;
 
-/// A reference to an unsharded or a sharded cache. The value of a key is the key.
+// The capacity on one lock, and in shards.
+const LOCK_CAPACITY: u64 = 100;
+
+const SHARDS_CAPACITY: u64 = 128;
+
+/// How many workers there are, and how many calls each makes.
+#[derive(Clone, Copy)]
+pub struct Load {
+    /// The workers.
+    pub workers: u16,
+    /// The calls of each.
+    pub calls: u32,
+}
+
+impl Load {
+    // The workload on a system of this capacity.
+    fn work(self, system: System, capacity: u64) -> Work {
+        Work {
+            system,
+            workload: Workload::Stress,
+            entries: capacity,
+            threads: u16::from(self.workers),
+            operations: self.calls,
+        }
+    }
+}
+
+// A reference to a cache of one lock or in shards. The value of a key is the key.
 #[derive(Drop)]
-pub struct Keyed<C> {
-    /// The reference.
-    pub cache: C,
+struct Keyed<C> {
+    cache: C,
 }
 
 impl<C: Cached<u64>> StressTarget for Keyed<C> {
@@ -40,24 +75,48 @@ fn make(call: &WorkerCall) -> Result<u64, Unmade> {
     }
 }
 
-/// Has each of several workers make `calls` calls one after another, without yielding, and returns
-/// the sum of what was read by the calls whose making would not fail. The sum is the same on every
-/// schedule.
-///
-/// Returns `Refused` if a thread could not be started or memory was refused to a call, and else
-/// `Failed` if a call had the wrong answer.
-pub fn stress<R: Threads + Sync, C: StressTarget + Sync>(
-    rt: &R,
-    alloc: Global,
-    cache: &C,
-    workers: u16,
-    calls: u32,
-) -> Result<u64, Trouble> {
-    let mut plan = Plan::new(SEED);
-    plan.workers = workers;
-    plan.calls = calls;
-    plan.rests = false;
-    Ok(share(rt, alloc, &plan, cache)?.key_sum)
+impl<
+    R: Threads + Wait + Clock + RandomSource + Sync,
+    W: Wait + Clone + Drop + Sync,
+    O: Write,
+    E: Write,
+> Bench<'_, R, W, O, E> {
+    /// The parts under one lock, and in shards.
+    pub fn stress_parts(&mut self, load: Load) -> Result<(), Failure> {
+        let parts = Parts::filled(self.alloc, self.wait.clone()?, KEYS)?;
+        let work = load.work(System::Parts, LOCK_CAPACITY);
+        self.stress(&parts, load, &work)?;
+        let parts = PartsInShards::filled(self.alloc, &self.wait, KEYS)?;
+        let work = load.work(System::PartsInShards, SHARDS_CAPACITY);
+        self.stress(&parts, load, &work)
+    }
+
+    /// A cache of one lock, and one in shards.
+    pub fn stress_caches(&mut self, load: Load) -> Result<(), Failure> {
+        let cache = self.on_one_lock(LOCK_CAPACITY)?;
+        let work = load.work(System::OneLock, LOCK_CAPACITY);
+        self.stress(&Keyed { cache: &cache }, load, &work)?;
+        let cache = self.in_shards(SHARDS_CAPACITY, SHARDS)?;
+        let work = load.work(System::Shards(SHARDS), SHARDS_CAPACITY);
+        self.stress(&Keyed { cache: &cache }, load, &work)
+    }
+
+    // Has each worker make its calls, one after another with no rest. The sum of what was read by
+    // those whose making would not fail is the same on every schedule.
+    fn stress<C: StressTarget + Sync>(
+        &mut self,
+        cache: &C,
+        load: Load,
+        work: &Work,
+    ) -> Result<(), Failure> {
+        let mut plan = Plan::new(SEED);
+        plan.workers = load.workers;
+        plan.calls = load.calls;
+        plan.rests = false;
+        let (rt, alloc) = (self.rt, self.alloc);
+        self.report
+            .time(work, || Ok(share(rt, alloc, &plan, cache)?.key_sum))
+    }
 }
 
 #[cfg(test)]

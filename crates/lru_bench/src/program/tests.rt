@@ -6,27 +6,29 @@ use lru_support::words::words;
 use lru_support::writer::Limited;
 use std::test::Fail;
 
-const USAGE: &str =
-    "usage: lru_bench check | time [ENTRIES ..] | mostly FILE, ENTRIES from 1 to 10000000\n";
+const USAGE: &str = "usage: lru_bench check | time [WORD ..] [read_mostly FILE]\n";
 
-const ENTRIES: &str = "lru_bench: ENTRIES is a number from 1 to 10000000\n";
+const WORD: &str =
+    "lru_bench: WORD is hit_get, hit_read, hit_init, miss_evict, stress, threads, sizes, \
+     or a number of entries from 1 to 10000000\n";
 
 const SYSTEM: &str = "a file, a write, the clock or random numbers failed\n";
 
 #[test]
 fn tells_its_usage(rt: HostRuntime) -> Result<(), Fail> {
     let alloc = rt.alloc();
-    let wrong: [(&[&str], &str); 10] = [
+    let wrong: [(&[&str], &str); 11] = [
         (&[], USAGE),
-        (&["mostly"], USAGE),
-        (&["mostly", "a", "b"], USAGE),
         (&["times"], USAGE),
         (&["check", "8"], USAGE),
-        (&["time", "0"], ENTRIES),
-        (&["time", "8", "few"], ENTRIES),
-        (&["time", ""], ENTRIES),
-        (&["time", "10000001"], ENTRIES),
-        (&["time", "18446744073709551615"], ENTRIES),
+        (&["read_mostly", "keys"], USAGE),
+        (&["time", "0"], WORD),
+        (&["time", "8", "few"], WORD),
+        (&["time", ""], WORD),
+        (&["time", "10000001"], WORD),
+        (&["time", "read_mostly"], WORD),
+        (&["time", "read_mostly", "keys", "8"], WORD),
+        (&["time", "few", "read_mostly", "keys"], WORD),
     ];
     for (wrong, said) in wrong {
         let (mut out, mut err) = (Vec::new(alloc), Vec::new(alloc));
@@ -41,7 +43,7 @@ fn tells_its_usage(rt: HostRuntime) -> Result<(), Fail> {
 #[test]
 fn tells_that_a_file_is_not_there(rt: HostRuntime) -> Result<(), Fail> {
     let alloc = rt.alloc();
-    let words = words(alloc, &["mostly", "no such folder/zipf.bin"])?;
+    let words = words(alloc, &["time", "read_mostly", "no such folder/zipf.bin"])?;
     let (mut out, mut err) = (Vec::new(alloc), Vec::new(alloc));
     let status = program(&rt, alloc, &words, &mut out, &mut err);
     assert_eq!(rt; status, 1);

@@ -1,0 +1,43 @@
+//! Empty caches, on one lock and in shards.
+ghost use Rattle.std.specs.Prelude.{◌<◌};
+
+use crate::bench::Bench;
+use crate::failure::Failure;
+use concurrent_lru::{sharded, unsharded};
+use std::hash::RandomState;
+use std::io::Write;
+use std::random::RandomSource;
+use std::rt::Clock;
+use std::sync::Wait;
+use std::thread::Threads;
+
+impl<
+    R: Threads + Wait + Clock + RandomSource + Sync,
+    W: Wait + Clone + Drop + Sync,
+    O: Write,
+    E: Write,
+> Bench<'_, R, W, O, E> {
+    /// A cache of one lock.
+    pub fn on_one_lock(&self, capacity: u64) -> Result<unsharded::LruCache<u64, u64, W>, Failure> {
+        Ok(unsharded::LruCache::new(self.alloc, self.wait.clone()?, capacity))
+    }
+
+    /// A cache in so many shards, over which its hasher spreads the keys at random.
+    pub fn in_shards(
+        &self,
+        capacity: u64,
+        shards: usize,
+    ) -> Result<sharded::LruCache<u64, u64, W>, Failure>
+        requires { 0 < shards }
+    {
+        let hasher = RandomState::new(self.rt)?;
+        let made: Result<sharded::LruCache<u64, u64, W>, _> = sharded::LruCache::with_shards_hasher(
+            self.alloc,
+            self.wait.clone()?,
+            capacity,
+            shards,
+            hasher,
+        );
+        Ok(made?)
+    }
+}

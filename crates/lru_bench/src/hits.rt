@@ -1,0 +1,120 @@
+//! Hits and misses on a full cache of one lock or in shards, in any number of threads.
+ghost use Rattle.std.specs.Prelude.{◌<◌};
+
+use crate::bench::Bench;
+use crate::failure::Failure;
+use crate::operation::{Get, Init, Make, Operation, Read};
+use crate::report::Work;
+use crate::size::Size;
+use crate::system::System;
+use crate::workers;
+use crate::workers::Asked;
+use crate::workload::Workload;
+use lru_support::cached::Cached;
+use std::io::Write;
+use std::random::RandomSource;
+use std::rt::Clock;
+use std::sync::Wait;
+use std::thread::Threads;
+
+impl<
+    R: Threads + Wait + Clock + RandomSource + Sync,
+    W: Wait + Clone + Drop + Sync,
+    O: Write,
+    E: Write,
+> Bench<'_, R, W, O, E> {
+    /// On one lock: the hits, and then the misses on the same cache, whose oldest entries then lie
+    /// anywhere in memory.
+    pub fn use_one_lock(&mut self, size: &Size<'_>) -> Result<(), Failure> {
+        let cache = self.on_one_lock(size.entries.get())?;
+        workers::fill(&Make { cache: &cache }, size.entries)?;
+        if size.has_hits() {
+            self.hits(&cache, System::OneLock, size)?;
+        } else {
+            mix(&cache, size)?;
+        }
+        self.misses(&cache, System::OneLock, size)
+    }
+
+    /// On one lock: the misses on a cache that has room for twice its entries.
+    pub fn use_room(&mut self, size: &Size<'_>) -> Result<(), Failure> {
+        let entries = size.entries.get();
+        let cache = self.on_one_lock(entries)?;
+        cache.reserve(usize::try_from(entries.saturating_mul(2)).unwrap_or(usize::MAX))?;
+        workers::fill(&Make { cache: &cache }, size.entries)?;
+        mix(&cache, size)?;
+        self.misses(&cache, System::Reserved, size)
+    }
+
+    /// In so many shards: the hits on a cache in which all entries fit, however they are spread
+    /// over the shards, and the misses on another one, which has no room left.
+    pub fn use_shards(&mut self, shards: usize, size: &Size<'_>) -> Result<(), Failure>
+        requires { 0 < shards }
+    {
+        let (system, entries) = (System::Shards(shards), size.entries.get());
+        if size.has_hits() {
+            let roomy = self.in_shards(entries.saturating_mul(shards as u64), shards)?;
+            workers::fill(&Make { cache: &roomy }, size.entries)?;
+            self.hits(&roomy, system, size)?;
+        }
+        if size.has_misses() {
+            let full = self.in_shards(entries, shards)?;
+            workers::fill(&Make { cache: &full }, size.entries)?;
+            mix(&full, size)?;
+            self.misses(&full, system, size)?;
+        }
+        Ok(())
+    }
+
+    // The workloads of present keys.
+    fn hits<C: Cached<u64> + Sync + Drop>(
+        &mut self,
+        cache: C,
+        system: System,
+        size: &Size<'_>,
+    ) -> Result<(), Failure> {
+        let present = Asked::Present(size.entries);
+        let work = size.work(system, Workload::HitGet);
+        self.time(&Get { cache }, present, size, &work)?;
+        let work = size.work(system, Workload::HitRead);
+        self.time(&Read { cache }, present, size, &work)?;
+        let work = size.work(system, Workload::HitInit);
+        self.time(&Init { cache }, present, size, &work)
+    }
+
+    // The workload of absent keys, for each of which an idle one is evicted.
+    fn misses<C: Cached<u64> + Sync + Drop>(
+        &mut self,
+        cache: C,
+        system: System,
+        size: &Size<'_>,
+    ) -> Result<(), Failure> {
+        let work = size.work(system, Workload::MissEvict);
+        self.time(&Make { cache }, Asked::Absent, size, &work)
+    }
+
+    /// Times a workload, where it is wanted.
+    pub fn time<U: Operation + Sync>(
+        &mut self,
+        operation: &U,
+        asked: Asked<'_>,
+        size: &Size<'_>,
+        work: &Work,
+    ) -> Result<(), Failure> {
+        if !size.plan.wants(work.workload) {
+            return Ok(());
+        }
+        let rt = self.rt;
+        self.report.time(work, || {
+            Ok(workers::run(rt, operation, asked, work.threads, work.operations)?.sum)
+        })
+    }
+}
+
+// Uses present keys as often as a workload does, which leaves the oldest entries anywhere in
+// memory.
+fn mix<C: Cached<u64>>(cache: C, size: &Size<'_>) -> Result<(), Failure> {
+    let present = Asked::Present(size.entries);
+    workers::work(&Make { cache }, present, 0, size.plan.operations)?;
+    Ok(())
+}

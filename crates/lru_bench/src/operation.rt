@@ -1,0 +1,120 @@
+//! One operation of a workload, on a cache of one lock or in shards. Each handle is dropped at
+//! once.
+
+use concurrent_lru::lru_core::Refusal;
+use lru_support::cached::Cached;
+
+/// The result of an operation: the value, and whether it was present.
+#[derive(Clone, Copy)]
+pub struct Found {
+    /// The value; 0 where there was none.
+    pub value: u64,
+    /// Whether it was there.
+    pub is_hit: bool,
+}
+
+impl Found {
+    /// A value that was there, or none.
+    #[inline(always)]
+    pub fn of(value: Option<u64>) -> Found {
+        Found {
+            value: value.unwrap_or(0),
+            is_hit: value.is_some(),
+        }
+    }
+}
+
+/// An operation on a key. It has no associated type, since the checker covers no closure of a
+/// thread over one that has.
+pub trait Operation {
+    /// Makes the operation.
+    fn run(&self, key: u64) -> Result<Found, Refusal>;
+}
+
+/// `get`.
+#[derive(Drop)]
+pub struct Get<C> {
+    /// A reference to the cache.
+    pub cache: C,
+}
+
+impl<C: Cached<u64>> Operation for Get<C> {
+    #[inline(always)]
+    fn run(&self, key: u64) -> Result<Found, Refusal> {
+        match self.cache.get(key)? {
+            Some(handle) => Ok(Found::of(Some(*C::value_of(&handle)))),
+            None => Ok(Found::of(None)),
+        }
+    }
+}
+
+/// `read`.
+#[derive(Drop)]
+pub struct Read<C> {
+    /// A reference to the cache.
+    pub cache: C,
+}
+
+impl<C: Cached<u64>> Operation for Read<C> {
+    #[inline(always)]
+    fn run(&self, key: u64) -> Result<Found, Refusal> {
+        Ok(Found::of(self.cache.read(key, |value| *value)?))
+    }
+}
+
+/// `get_or_init` of a present key. A value that had to be made is 0.
+#[derive(Drop)]
+pub struct Init<C> {
+    /// A reference to the cache.
+    pub cache: C,
+}
+
+impl<C: Cached<u64>> Operation for Init<C> {
+    #[inline(always)]
+    fn run(&self, key: u64) -> Result<Found, Refusal> {
+        let handle = self.cache.get_or_init(key, 1, |_| 0)?;
+        Ok(Found::of(Some(*C::value_of(&handle))))
+    }
+}
+
+/// `get_or_init`, which makes the key itself as its value where there is none.
+#[derive(Drop)]
+pub struct Make<C> {
+    /// A reference to the cache.
+    pub cache: C,
+}
+
+impl<C: Cached<u64>> Operation for Make<C> {
+    #[inline(always)]
+    fn run(&self, key: u64) -> Result<Found, Refusal> {
+        find_or_make(self.cache, key)
+    }
+}
+
+/// `read`, and `get_or_init` where nothing is found.
+#[derive(Drop)]
+pub struct ReadOrMake<C> {
+    /// A reference to the cache.
+    pub cache: C,
+}
+
+impl<C: Cached<u64>> Operation for ReadOrMake<C> {
+    #[inline(always)]
+    fn run(&self, key: u64) -> Result<Found, Refusal> {
+        match self.cache.read(key, |value| *value)? {
+            Some(value) => Ok(Found::of(Some(value))),
+            None => find_or_make(self.cache, key),
+        }
+    }
+}
+
+#[inline(always)]
+fn find_or_make<C: Cached<u64>>(cache: C, key: u64) -> Result<Found, Refusal> {
+    let mut is_hit = true;
+    let handle = cache.get_or_init(key, 1, |key| {
+        is_hit = false;
+        *key
+    })?;
+    let value = *C::value_of(&handle);
+    Ok(Found { value, is_hit })
+}

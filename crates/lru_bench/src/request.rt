@@ -1,0 +1,183 @@
+//! What the words after `time` ask for.
+
+use crate::failure::Failure;
+use crate::keys::FIRST_ABSENT;
+use crate::workload::{ALL, Workload};
+use std::alloc::{AllocError, Global};
+use std::num::NonZeroU64;
+
+/// The most entries that a cache is filled with: with more, keys that should be absent would be
+/// there.
+pub const MOST_ENTRIES: u64 = FIRST_ABSENT;
+
+/// How many threads make hits and misses, run after run, where more than one does.
+pub const MORE_THREADS: [u16; 3] = [2, 4, 8];
+
+// How many entries a cache has, run after run, where no word says it.
+const ENTRIES: [u64; 2] = [1_000, 1_000_000];
+
+// How many it has by the word `sizes`.
+const SIZES: [u64; 4] = [1_000, 10_000, 100_000, 1_000_000];
+
+/// What is to be timed.
+#[derive(Drop)]
+pub struct Request {
+    /// The workloads, apart from reads that mostly hit.
+    pub workloads: Vec<Workload>,
+    /// How many entries a cache has, run after run.
+    pub entries: Vec<NonZeroU64>,
+    /// How many threads make hits and misses, run after run, after one has.
+    pub threads: Vec<u16>,
+}
+
+impl Request {
+    /// What these words ask for: each is a workload, a number of entries, `sizes` for several of
+    /// these, or `threads` for more threads than one. Without a number there are 1,000 and
+    /// 1,000,000 entries. Without a workload all are run, unless reads that mostly hit are asked
+    /// for, which is then the only one.
+    ///
+    /// `Word` at any other word.
+    pub fn of_words(alloc: Global, words: &[String], has_mostly: bool) -> Result<Request, Failure> {
+        let mut request = Request {
+            workloads: Vec::new(alloc),
+            entries: Vec::new(alloc),
+            threads: Vec::new(alloc),
+        };
+        for word in words {
+            request.add(alloc, word.as_str())?;
+        }
+        if request.workloads.is_empty() && !has_mostly {
+            request.workloads = ALL.iter().copied().collect(alloc)?;
+        }
+        if request.entries.is_empty() {
+            request.entries = sizes(alloc, &ENTRIES)?;
+        }
+        Ok(request)
+    }
+
+    fn add(&mut self, alloc: Global, word: &str) -> Result<(), Failure> {
+        match word {
+            "sizes" => self.entries = sizes(alloc, &SIZES)?,
+            "threads" => self.threads = MORE_THREADS.iter().copied().collect(alloc)?,
+            _ => match Workload::named(word) {
+                Some(workload) => self.workloads.push(workload)?,
+                None => self.entries.push(number(word).ok_or(Failure::Word)?)?,
+            },
+        }
+        Ok(())
+    }
+}
+
+/// Those of the numbers that are above 0.
+pub fn sizes(alloc: Global, numbers: &[u64]) -> Result<Vec<NonZeroU64>, AllocError> {
+    numbers
+        .iter()
+        .filter_map(|number| NonZeroU64::new(*number))
+        .collect(alloc)
+}
+
+// Parses a number of entries within the range. A sign is not a digit, though `parse` accepts one.
+fn number(word: &str) -> Option<NonZeroU64> {
+    if word.starts_with('+') {
+        return None;
+    }
+    match word.parse::<u64>() {
+        Ok(number) if number <= MOST_ENTRIES => NonZeroU64::new(number),
+        _ => None,
+    }
+}
+
+#[cfg(test)]
+mod tests {
+    use super::*;
+    use lru_support::words::words;
+
+    // The numbers of entries that these words ask for.
+    fn entries(alloc: Global, asked: &[&str]) -> Result<Vec<u64>, Failure> {
+        let request = Request::of_words(alloc, &words(alloc, asked)?, false)?;
+        Ok(
+            request
+                .entries
+                .iter()
+                .map(|size| size.get())
+                .collect(alloc)?,
+        )
+    }
+
+    #[test]
+    fn times_the_sizes_it_is_told(rt: HostRuntime) -> Result<(), Failure> {
+        let alloc = rt.alloc();
+        let cases: [(&[&str], &[u64]); 5] = [
+            (&[], &[1_000, 1_000_000]),
+            (&["stress", "threads"], &[1_000, 1_000_000]),
+            (&["8", "hit_get", "3"], &[8, 3]),
+            (&["10000000", "1"], &[10_000_000, 1]),
+            (&["sizes"], &[1_000, 10_000, 100_000, 1_000_000]),
+        ];
+        for (asked, expected) in cases {
+            assert_eq!(rt; entries(alloc, asked)?.as_slice(), expected, "at {asked:?}");
+        }
+        Ok(())
+    }
+
+    #[test]
+    fn times_no_other_sizes(rt: HostRuntime) {
+        for word in [
+            "0",
+            "-1",
+            "+1",
+            " 1",
+            "",
+            "few",
+            "read_mostly",
+            "10000001",
+            "18446744073709551615",
+        ] {
+            assert_eq!(rt;
+                entries(rt.alloc(), &["8", word]).err(),
+                Some(Failure::Word),
+                "at {word}"
+            );
+        }
+    }
+
+    #[test]
+    fn runs_what_it_is_told(rt: HostRuntime) -> Result<(), Failure> {
+        let alloc = rt.alloc();
+        let cases: [(&[&str], bool, &[Workload]); 5] = [
+            (&["8", "threads"], false, &ALL),
+            (&["hit_read", "8"], false, &[Workload::HitRead]),
+            (
+                &["stress", "miss_evict"],
+                true,
+                &[Workload::Stress, Workload::MissEvict],
+            ),
+            (
+                &["hit_get", "hit_init"],
+                false,
+                &[Workload::HitGet, Workload::HitInit],
+            ),
+            (&["8"], true, &[]),
+        ];
+        for (asked, has_mostly, expected) in cases {
+            let request = Request::of_words(alloc, &words(alloc, asked)?, has_mostly)?;
+            assert_eq!(rt; request.workloads.as_slice(), expected, "at {asked:?}");
+        }
+        Ok(())
+    }
+
+    #[test]
+    fn runs_in_more_threads_where_it_is_told(rt: HostRuntime) -> Result<(), Failure> {
+        let alloc = rt.alloc();
+        let cases: [(&[&str], &[u16]); 3] = [
+            (&[], &[]),
+            (&["hit_get", "8"], &[]),
+            (&["hit_get", "threads"], &[2, 4, 8]),
+        ];
+        for (asked, expected) in cases {
+            let request = Request::of_words(alloc, &words(alloc, asked)?, false)?;
+            assert_eq!(rt; request.threads.as_slice(), expected, "at {asked:?}");
+        }
+        Ok(())
+    }
+}

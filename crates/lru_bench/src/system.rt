@@ -1,0 +1,72 @@
+//! What is measured, by the name that its lines begin with.
+
+use std::fmt;
+
+/// The number of shards that a cache has where nothing else is said.
+pub const SHARDS: usize = 16;
+
+/// More shards, for caches that many threads share.
+pub const MORE_SHARDS: usize = 64;
+
+/// The most shards that are measured.
+pub const MOST_SHARDS: usize = 256;
+
+/// What the operations of a workload are asked of.
+#[derive(Clone, Copy)]
+pub enum System {
+    /// A map of std's, with no lock.
+    Map,
+    /// The parts of the cache under one lock, with no rule of a cache.
+    Parts,
+    /// The parts in 16 shards.
+    PartsInShards,
+    /// The cache of one lock.
+    OneLock,
+    /// The cache of one lock, which has reserved room for twice its entries.
+    Reserved,
+    /// The cache in so many shards.
+    Shards(usize),
+    /// The cache of one lock, asked by `read` and only then by `get_or_init`.
+    ReadOnOneLock,
+    /// The cache in so many shards, asked so.
+    ReadInShards(usize),
+}
+
+// One word. The number of shards is left out where it is 16.
+impl fmt::Display for System {
+    fn fmt<W: fmt::Write>(&self, f: &mut fmt::Formatter<W>) -> fmt::Result {
+        match self {
+            System::Map => f.write_str("std-map"),
+            System::Parts => f.write_str("parts-unsharded"),
+            System::PartsInShards => f.write_str("parts-sharded"),
+            System::OneLock => f.write_str("port-unsharded"),
+            System::Reserved => f.write_str("port-unsharded-reserved"),
+            System::Shards(SHARDS) => f.write_str("port-sharded"),
+            System::Shards(shards) => write!(f, "port-sharded-{shards}"),
+            System::ReadOnOneLock => f.write_str("port-unsharded-read"),
+            System::ReadInShards(SHARDS) => f.write_str("port-sharded-read"),
+            System::ReadInShards(shards) => write!(f, "port-sharded-{shards}-read"),
+        }
+    }
+}
+
+#[cfg(test)]
+mod tests {
+    use super::*;
+    use std::test::Fail;
+
+    #[test]
+    fn sixteen_shards_are_not_told(rt: HostRuntime) -> Result<(), Fail> {
+        let alloc = rt.alloc();
+        let cases = [
+            (System::Shards(16), "port-sharded"),
+            (System::Shards(64), "port-sharded-64"),
+            (System::ReadInShards(16), "port-sharded-read"),
+            (System::ReadInShards(256), "port-sharded-256-read"),
+        ];
+        for (system, name) in cases {
+            assert_eq!(rt; format!(in alloc; "{system}")?.as_str(), name);
+        }
+        Ok(())
+    }
+}

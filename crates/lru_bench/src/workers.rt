@@ -1,0 +1,191 @@
+//! Workers that make one operation on the keys of a workload, each on keys of its own.
+
+use crate::draws::Draws;
+use crate::keys::{Ascending, FIRST_ABSENT, Keys, Source};
+use crate::operation::{Found, Operation};
+use concurrent_lru::lru_core::Refusal;
+use std::num::NonZeroU64;
+use std::sync::Wait;
+use std::sync::atomic::{AtomicU64, Ordering};
+use std::thread;
+use std::thread::Threads;
+
+/// The keys of a workload.
+#[derive(Clone, Copy)]
+pub enum Asked<'a> {
+    /// Drawn evenly from those below a number, all of which are present.
+    Present(NonZeroU64),
+    /// Absent ones, each asked for once.
+    Absent,
+    /// Those that were drawn before.
+    Drawn(&'a Draws),
+}
+
+/// What came of operations: the sum of the values, and how many were there.
+#[derive(Clone, Copy)]
+pub struct Told {
+    /// The sum of the values that were read.
+    pub sum: u64,
+    /// How many operations found their value.
+    pub hits: u64,
+}
+
+impl Told {
+    #[inline(always)]
+    fn add(&mut self, found: Found) {
+        self.sum = self.sum.wrapping_add(found.value);
+        self.hits = self.hits.wrapping_add(u64::from(found.is_hit));
+    }
+}
+
+/// Makes the operation so often in each of some threads, or, where there is one, in the caller's.
+///
+/// `Memory` where a thread could not be started, or a call was refused.
+pub fn run<R: Threads + Wait + Sync, U: Operation + Sync>(
+    rt: &R,
+    operation: &U,
+    asked: Asked<'_>,
+    threads: u16,
+    operations: u32,
+) -> Result<Told, Refusal> {
+    if threads == 1 {
+        work(operation, asked, 0, operations)
+    } else {
+        share(rt, operation, asked, threads, operations)
+    }
+}
+
+/// Makes the operation so often in each of some threads, none of which is the caller's.
+///
+/// `Memory` where a thread could not be started, or a call was refused.
+pub fn share<R: Threads + Wait + Sync, U: Operation + Sync>(
+    rt: &R,
+    operation: &U,
+    asked: Asked<'_>,
+    threads: u16,
+    operations: u32,
+) -> Result<Told, Refusal> {
+    let (sum, hits, ended) = (AtomicU64::new(0), AtomicU64::new(0), AtomicU64::new(0));
+    let (all, there, done) = (&sum, &hits, &ended);
+    thread::scope(thread::scope_env(), rt, |scope| {
+        for worker in 0..threads {
+            let _started = scope.spawn(move || {
+                if let Ok(told) = work(operation, asked, worker, operations) {
+                    all.fetch_add(told.sum, Ordering::SeqCst);
+                    there.fetch_add(told.hits, Ordering::SeqCst);
+                    done.fetch_add(1, Ordering::SeqCst);
+                }
+            });
+        }
+    });
+    if ended.load(Ordering::SeqCst) == u64::from(threads) {
+        Ok(Told {
+            sum: sum.load(Ordering::SeqCst),
+            hits: hits.load(Ordering::SeqCst),
+        })
+    } else {
+        Err(Refusal::Memory)
+    }
+}
+
+/// One worker's operations.
+pub fn work<U: Operation>(
+    operation: &U,
+    asked: Asked<'_>,
+    worker: u16,
+    operations: u32,
+) -> Result<Told, Refusal> {
+    let count = u64::from(operations);
+    match asked {
+        Asked::Present(entries) => operate(operation, Keys::of_worker(entries, worker), count),
+        Asked::Absent => {
+            let before = u64::from(worker).wrapping_mul(count);
+            let first = FIRST_ABSENT.wrapping_add(before);
+            operate(operation, Ascending { next: first }, count)
+        }
+        Asked::Drawn(draws) => operate(operation, draws.of_worker(worker), count),
+    }
+}
+
+/// Makes the operation once on each key from 0 up to `entries`.
+pub fn fill<U: Operation>(operation: &U, entries: NonZeroU64) -> Result<Told, Refusal> {
+    operate(operation, Ascending { next: 0 }, entries.get())
+}
+
+/// Makes the operation once on each of these keys, in their order.
+pub fn ask_all<U: Operation>(operation: &U, draws: &Draws) -> Result<Told, Refusal> {
+    operate(operation, draws.of_worker(0), draws.len())
+}
+
+// Makes the operation on so many keys, or on fewer where the source has no more.
+fn operate<U: Operation, S: Source + Drop>(
+    operation: &U,
+    mut source: S,
+    count: u64,
+) -> Result<Told, Refusal> {
+    let mut told = Told { sum: 0, hits: 0 };
+    for _ in 0..count {
+        let Some(key) = source.next_key() else {
+            return Ok(told);
+        };
+        told.add(operation.run(key)?);
+    }
+    Ok(told)
+}
+
+#[cfg(test)]
+mod tests {
+    use super::*;
+    use std::test::Fail;
+
+    // Finds even keys, whose values are the keys, and is refused one key.
+    #[derive(Drop)]
+    struct Even {
+        refused: u64,
+    }
+
+    impl Operation for Even {
+        fn run(&self, key: u64) -> Result<Found, Refusal> {
+            if key == self.refused {
+                return Err(Refusal::Memory);
+            }
+            Ok(Found::of((key % 2 == 0).then_some(key)))
+        }
+    }
+
+    #[test]
+    fn tells_what_all_workers_read(rt: HostRuntime) {
+        let even = Even { refused: 0 };
+        for (threads, sum, hits) in [(1, 20_000_002, 2), (2, 40_000_012, 4), (3, 60_000_030, 6)] {
+            let told = run(&rt, &even, Asked::Absent, threads, 4);
+            let told = told.map(|told| (told.sum, told.hits));
+            assert_eq!(rt; told, Ok((sum, hits)), "of {threads} threads");
+        }
+    }
+
+    #[test]
+    fn one_worker_may_have_a_thread_of_its_own(rt: HostRuntime) {
+        let told = share(&rt, &Even { refused: 0 }, Asked::Absent, 1, 4);
+        let told = told.map(|told| (told.sum, told.hits));
+        assert_eq!(rt; told, Ok((20_000_002, 2)));
+    }
+
+    #[test]
+    fn each_key_is_asked_for(rt: HostRuntime) -> Result<(), Fail> {
+        let entries = NonZeroU64::new(5).ok_or("5 is not 0")?;
+        let told = fill(&Even { refused: 9 }, entries).map(|told| (told.sum, told.hits));
+        assert_eq!(rt; told, Ok((6, 3)));
+        let draws = Draws::even(rt.alloc(), entries, 0)?;
+        let told = share(&rt, &Even { refused: 9 }, Asked::Drawn(&draws), 2, 4);
+        assert_eq!(rt; told.map(|told| told.hits), Ok(0), "of no keys");
+        Ok(())
+    }
+
+    #[test]
+    fn a_refusal_of_one_worker_is_told(rt: HostRuntime) {
+        for (threads, refused) in [(1, 10_000_003), (2, 10_000_007), (3, 10_000_000)] {
+            let told = run(&rt, &Even { refused }, Asked::Absent, threads, 4);
+            assert_eq!(rt; told.err(), Some(Refusal::Memory), "in {threads} threads");
+        }
+    }
+}

@@ -1,0 +1,53 @@
+//! What is run, by the name that its lines have, which is also the word that asks for it.
+
+use std::fmt;
+
+/// A kind of operation, and how often it is made.
+#[derive(Clone, Copy, Debug, PartialEq, Eq)]
+pub enum Workload {
+    /// `get` of present keys.
+    HitGet,
+    /// `read` of present keys.
+    HitRead,
+    /// `get_or_init` of present keys.
+    HitInit,
+    /// `get_or_init` of absent keys on a full cache.
+    MissEvict,
+    /// The calls of the stress workload.
+    Stress,
+    /// Reads that mostly hit.
+    ReadMostly,
+}
+
+/// The workloads whose keys are drawn while they are run, in the order in which they are.
+pub const ALL: [Workload; 5] = [
+    Workload::HitGet,
+    Workload::HitRead,
+    Workload::HitInit,
+    Workload::MissEvict,
+    Workload::Stress,
+];
+
+impl Workload {
+    /// The workload of this name, where it is one of `ALL`.
+    pub fn named(name: &str) -> Option<Workload> {
+        ALL.iter().find(|workload| workload.name() == name).copied()
+    }
+
+    fn name(self) -> &'static str {
+        match self {
+            Workload::HitGet => "hit_get",
+            Workload::HitRead => "hit_read",
+            Workload::HitInit => "hit_init",
+            Workload::MissEvict => "miss_evict",
+            Workload::Stress => "stress",
+            Workload::ReadMostly => "read_mostly",
+        }
+    }
+}
+
+impl fmt::Display for Workload {
+    fn fmt<W: fmt::Write>(&self, f: &mut fmt::Formatter<W>) -> fmt::Result {
+        f.write_str(self.name())
+    }
+}

@@ -1,0 +1,290 @@
+#!/usr/bin/env python3
+"""usage: pictures.py FOLDER MEASURED..
+Draws two pictures of measured lines, `SYSTEM WORKLOAD ENTRIES THREADS NANOSECONDS` each, which
+stand in one or more files; of several lines of one kind the least counts. In FOLDER:
+speed-threads.svg  the time of a call by the number of threads, of reads that mostly hit
+speed-entries.svg  the time of a hit and of a miss by the number of entries, of one thread
+What was measured at one number of threads or of entries alone has no picture."""
+import collections
+import math
+import sys
+from html import escape
+from pathlib import Path
+from typing import NamedTuple
+
+# The width of a picture, and of what is left and right of its lines: numbers, and labels.
+WIDTH, LEFT, RIGHT = 860, 64, 270
+
+# The heights of the titles, of a chart with its own, and of the marks and words below its lines.
+HEAD, CHART, ABOVE, BELOW = 74, 480, 16, 72
+
+# How near a label may be to the next one.
+STEP = 17
+
+# The colours of a system, on light and on dark paper.
+COLOURS = {
+    "port-unsharded": ("#00707c", "#4fd0de"),
+    "port-sharded": ("#0b62c4", "#6cb6ff"),
+    "port-sharded-64": ("#2f3fb8", "#98a8ff"),
+    "port-sharded-256": ("#6a2bb8", "#c09cf5"),
+    "orig-unsharded": ("#b4470f", "#ff9d5c"),
+    "orig-sharded": ("#b4470f", "#ff9d5c"),
+    "leveldb-sharded": ("#2e7d32", "#7bc67e"),
+    "rocksdb-unsharded": ("#846400", "#e0c04a"),
+    "rocksdb-sharded": ("#846400", "#e0c04a"),
+    "rocksdb-hyper": ("#a0267a", "#f08fd0"),
+    "tbb": ("#566b1e", "#b9cf70"),
+    "caffeine": ("#8b1a1a", "#f28b82"),
+}
+
+OTHER_COLOURS = ("#5a5a5a", "#b4b4b4")
+
+# What the parts of a system's name are called. A number is one of shards.
+CALLED = {
+    "std-map": "std's map",
+    "port": "this cache",
+    "orig": "original",
+    "leveldb": "LevelDB",
+    "rocksdb": "RocksDB",
+    "tbb": "oneTBB",
+    "caffeine": "Caffeine",
+    "parts": "this cache's parts",
+    "unsharded": "one lock",
+    "sharded": "16 shards",
+    "hyper": "HyperClock",
+    "reserved": "room reserved",
+}
+
+
+class Point(NamedTuple):
+    """A measured time: across is the number of threads or of entries."""
+
+    across: int
+    ns: float
+
+
+class Chart(NamedTuple):
+    """Lines over one axis: of each system its points in order."""
+
+    title: str
+    axis: str
+    lines: dict
+    # What labels leave out.
+    common: str
+
+    @property
+    def marks(self):
+        """The numbers of threads or of entries at which something was measured."""
+        return sorted({point.across for line in self.lines.values() for point in line})
+
+
+class Frame(NamedTuple):
+    """Where the points of a chart are in the picture."""
+
+    top: float
+    marks: list
+    low: float
+    high: float
+
+    @property
+    def bottom(self):
+        return self.top + CHART - ABOVE - BELOW
+
+    def x(self, across):
+        part = math.log(across / self.marks[0]) / math.log(self.marks[-1] / self.marks[0])
+        return LEFT + part * (WIDTH - LEFT - RIGHT)
+
+    def y(self, ns):
+        part = math.log(ns / self.low) / math.log(self.high / self.low)
+        return self.bottom - part * (self.bottom - self.top)
+
+
+def least_of(paths):
+    """The least nanoseconds of each (system, workload, entries, threads)."""
+    least = {}
+    for line in (line for path in paths for line in Path(path).read_text("utf-8").splitlines()):
+        words = line.split()
+        if len(words) == 5 and words[0] != "#":
+            kind = (words[0], words[1], int(words[2]), int(words[3]))
+            least[kind] = min(float(words[4]), least.get(kind, math.inf))
+    return least
+
+
+def lines_of(points):
+    """The points (system, across, nanoseconds) by system, each in order."""
+    lines = collections.defaultdict(list)
+    for system, across, ns in sorted(points):
+        lines[system].append(Point(across, ns))
+    return dict(lines)
+
+
+def by_threads(least):
+    """The chart of reads that mostly hit, by threads."""
+    points = [
+        (system, threads, ns)
+        for (system, work, _, threads), ns in least.items()
+        if work == "read_mostly"
+    ]
+    return Chart("Reads of which most hit", "threads", lines_of(points), "")
+
+
+def by_entries(least, title, works):
+    """A chart of one thread on one lock, by entries. Of each workload the systems get an ending."""
+    points = [
+        (system + works[work], entries, ns)
+        for (system, work, entries, threads), ns in least.items()
+        if work in works and threads == 1
+    ]
+    return Chart(title, "entries", lines_of(points), "one lock")
+
+
+def label(system, common):
+    """What a system is called, without what all are."""
+    name, *parts = [system] if system in CALLED else system.split("-")
+    if any(part.isdigit() for part in parts):
+        parts.remove("sharded")
+    words = [CALLED.get(name, name)]
+    words += [f"{part} shards" if part.isdigit() else CALLED.get(part, part) for part in parts]
+    return ", ".join(word for word in words if word != common)
+
+
+def is_variant(system):
+    """Whether a system is another one, asked by `read` or with room reserved."""
+    return system.endswith(("-read", "-reserved"))
+
+
+def colours(system):
+    return COLOURS.get(system.removesuffix("-read").removesuffix("-reserved"), OTHER_COLOURS)
+
+
+def apart(wanted, top, bottom):
+    """Places as near to these wanted ones as can be, a step from each other and within bounds.
+    The wanted ones are in order. Each block of places that would overlap is round its own mean."""
+    blocks = []
+    for number, place in enumerate(wanted):
+        blocks.append([place - number * STEP, 1])
+        while len(blocks) > 1 and blocks[-2][0] > blocks[-1][0]:
+            (mean, count), (more, others) = blocks[-2:]
+            blocks[-2:] = [[(mean * count + more * others) / (count + others), count + others]]
+    starts = [mean for mean, count in blocks for _ in range(count)]
+    last = bottom - (len(wanted) - 1) * STEP
+    return [max(top, min(start, last)) + number * STEP for number, start in enumerate(starts)]
+
+
+def ticks(low, high):
+    """Round numbers on a logarithmic axis."""
+    factors = (1, 2, 5) if high / low > 4 else (1, 2, 3, 4, 5, 6, 8)
+    steps = [factor * 10**power for power in range(7) for factor in factors]
+    return [step for step in steps if low <= step <= high]
+
+
+def frame_of(chart, top):
+    """A frame in which all points of a chart are."""
+    points = [point for line in chart.lines.values() for point in line]
+    times = [point.ns for point in points]
+    return Frame(top + ABOVE, chart.marks, min(times) / 1.2, max(times) * 1.2)
+
+
+def text(x, y, words, kind="plain"):
+    return f'<text class="{kind}" x="{x:.1f}" y="{y:.1f}">{escape(words, quote=False)}</text>'
+
+
+def level(y, kind):
+    """A line over the whole chart."""
+    return f'<path class="{kind}" d="M{LEFT} {y:.1f}H{WIDTH - RIGHT}"/>'
+
+
+def axes(chart, frame):
+    out = [text(LEFT, frame.top - ABOVE - 2, chart.title, kind="strong")]
+    for tick in ticks(frame.low, frame.high):
+        y = frame.y(tick)
+        out += [level(y, "grid"), text(LEFT - 8, y + 4, f"{tick:,}", kind="right")]
+    out.append(level(frame.bottom, "axis"))
+    for mark in frame.marks:
+        out.append(text(frame.x(mark), frame.bottom + 20, f"{mark:,}", kind="middle"))
+    middle = (LEFT + WIDTH - RIGHT) / 2
+    return out + [text(middle, frame.bottom + 40, chart.axis, kind="middle")]
+
+
+def drawn(system, line, frame, place, common):
+    """A line with its points, and the label at its end, at this height."""
+    ends = [(frame.x(point.across), frame.y(point.ns)) for point in line]
+    (x, y), beside = ends[-1], WIDTH - RIGHT + 26
+    kind = system + (" dashed" if is_variant(system) else "")
+    path = "M" + "L".join(f"{x:.1f} {y:.1f}" for x, y in ends)
+    out = [f'<path class="line {kind}" d="{path}"/>']
+    out += [f'<circle class="{system}" cx="{x:.1f}" cy="{y:.1f}" r="3"/>' for x, y in ends]
+    out.append(f'<path class="leader {system}" d="M{x + 5:.1f} {y:.1f}L{beside - 5} {place:.1f}"/>')
+    words = f"{label(system, common)}: {line[-1].ns:,.0f}"
+    return out + [text(beside, place + 4.5, words, kind=system)]
+
+
+def panel(chart, top):
+    """The chart, this far down."""
+    frame = frame_of(chart, top)
+    lines = sorted(chart.lines.items(), key=lambda item: frame.y(item[1][-1].ns))
+    wanted = [frame.y(line[-1].ns) for _, line in lines]
+    places = apart(wanted, frame.top, frame.bottom)
+    out = axes(chart, frame)
+    for (system, line), place in zip(lines, places):
+        out += drawn(system, line, frame, place, chart.common)
+    return out
+
+
+def rules(systems, shade, paper, ink, grid):
+    """The colours on light (0) or dark (1) paper."""
+    out = [f".paper {{ fill: {paper} }}", f"text {{ fill: {ink} }}", f".grid {{ stroke: {grid} }}"]
+    for system in sorted(systems):
+        colour = colours(system)[shade]
+        out.append(f"path.{system} {{ stroke: {colour} }}")
+        out.append(f"text.{system}, circle.{system} {{ fill: {colour} }}")
+    return out
+
+
+def picture(title, charts):
+    """An SVG of one chart, or of some below each other."""
+    systems = {system for chart in charts for system in chart.lines}
+    height = HEAD + CHART * len(charts)
+    tops = range(HEAD, height, CHART)
+    body = [line for chart, top in zip(charts, tops) for line in panel(chart, top)]
+    return "\n".join([
+        f'<svg xmlns="http://www.w3.org/2000/svg" viewBox="0 0 {WIDTH} {height}" role="img">',
+        f"<title>{escape(title)}</title>",
+        "<style>",
+        "text { font: 13px system-ui, sans-serif } .strong, .title { font-weight: 600 }",
+        ".title { font-size: 17px } .middle { text-anchor: middle } .right { text-anchor: end }",
+        "path { fill: none } .line { stroke-width: 2 } .dashed { stroke-dasharray: 6 4 }",
+        ".leader { stroke-width: 1; opacity: 0.5 } .axis { stroke: #888888 }",
+        *rules(systems, 0, "#ffffff", "#1a1a1a", "#e0e0e0"),
+        "@media (prefers-color-scheme: dark) {",
+        *rules(systems, 1, "#14171c", "#e8e8e8", "#333a44"),
+        "}",
+        "</style>",
+        f'<rect class="paper" width="{WIDTH}" height="{height}"/>',
+        text(LEFT, 26, title, kind="title"),
+        text(LEFT, 46, "nanoseconds a call, on a logarithmic scale: lower is faster"),
+        *body,
+        "</svg>",
+    ]) + "\n"
+
+
+def main():
+    if len(sys.argv) < 3:
+        sys.exit(__doc__)
+    folder, least = Path(sys.argv[1]), least_of(sys.argv[2:])
+    pictures = {
+        "speed-threads.svg": ("Time of a call by threads", [by_threads(least)]),
+        "speed-entries.svg": ("Time of a call by entries, with one thread and one lock", [
+            by_entries(least, "Hit", {"hit_get": "", "hit_read": "-read"}),
+            by_entries(least, "Miss: one entry comes, one leaves", {"miss_evict": ""}),
+        ]),
+    }
+    for name, (title, charts) in pictures.items():
+        if all(len(chart.marks) > 1 for chart in charts):
+            (folder / name).write_text(picture(title, charts), encoding="utf-8")
+        else:
+            print(f"{name} is not drawn: too few lines of it", file=sys.stderr)
+
+
+if __name__ == "__main__":
+    main()
