@@ -8,7 +8,7 @@ use crate::report::Work;
 use crate::size::Size;
 use crate::system::System;
 use crate::workers;
-use crate::workers::Asked;
+use crate::workers::WorkloadKeys;
 use crate::workload::Workload;
 use lru_support::cached::Cached;
 use std::io::Write;
@@ -73,7 +73,7 @@ impl<
         system: System,
         size: &Size<'_>,
     ) -> Result<(), Failure> {
-        let present = Asked::Present(size.entries);
+        let present = WorkloadKeys::Present(size.entries);
         let work = size.work(system, Workload::HitGet);
         self.time(&Get { cache }, present, size, &work)?;
         let work = size.work(system, Workload::HitRead);
@@ -90,14 +90,14 @@ impl<
         size: &Size<'_>,
     ) -> Result<(), Failure> {
         let work = size.work(system, Workload::MissEvict);
-        self.time(&Make { cache }, Asked::Absent, size, &work)
+        self.time(&Make { cache }, WorkloadKeys::Absent, size, &work)
     }
 
     /// Times a workload, where it is wanted.
     pub fn time<U: Operation + Sync>(
         &mut self,
         operation: &U,
-        asked: Asked<'_>,
+        asked: WorkloadKeys<'_>,
         size: &Size<'_>,
         work: &Work,
     ) -> Result<(), Failure> {
@@ -114,7 +114,7 @@ impl<
 // Uses present keys as often as a workload does, which leaves the oldest entries anywhere in
 // memory.
 fn mix<C: Cached<u64>>(cache: C, size: &Size<'_>) -> Result<(), Failure> {
-    let present = Asked::Present(size.entries);
+    let present = WorkloadKeys::Present(size.entries);
     workers::work(&Make { cache }, present, 0, size.plan.operations)?;
     Ok(())
 }

@@ -9,7 +9,7 @@ use crate::plan::Mostly;
 use crate::report::Work;
 use crate::system::System;
 use crate::workers;
-use crate::workers::ReadTarget;
+use crate::workers::WorkloadKeys;
 use std::io::Write;
 use std::random::RandomSource;
 use std::rt::Clock;
@@ -58,7 +58,7 @@ impl<
         work: &Work,
     ) -> Result<(), Failure> {
         workers::ask_all(operation, &mostly.draws)?;
-        let target = ReadTarget::Drawn(&mostly.draws);
+        let target = WorkloadKeys::Drawn(&mostly.draws);
         let (rt, mut hits) = (self.rt, 0);
         self.report.time(work, || {
             let totals = workers::share(rt, operation, target, work.threads, work.operations)?;

@@ -8,7 +8,7 @@ use crate::operation::{Found, Operation};
 use crate::parts::Parts;
 use crate::size::Size;
 use crate::system::System;
-use crate::workers::Asked;
+use crate::workers::WorkloadKeys;
 use crate::workload::Workload;
 use concurrent_lru::lru_core::Refusal;
 use std::alloc::{AllocError, Global};
@@ -55,7 +55,7 @@ impl<
     pub fn use_map(&mut self, size: &Size<'_>) -> Result<(), Failure> {
         let map = map_of(self.alloc, size.entries.get())?;
         let work = size.work(System::Map, Workload::HitGet);
-        let present = Asked::Present(size.entries);
+        let present = WorkloadKeys::Present(size.entries);
         self.time(&LookUp { map: &map }, present, size, &work)
     }
 
@@ -64,7 +64,7 @@ impl<
     pub fn use_parts(&mut self, size: &Size<'_>) -> Result<(), Failure> {
         let parts = Parts::filled(self.alloc, self.wait.clone()?, size.entries.get())?;
         let work = size.work(System::Parts, Workload::HitGet);
-        let present = Asked::Present(size.entries);
+        let present = WorkloadKeys::Present(size.entries);
         self.time(&HitParts { parts: &parts }, present, size, &work)?;
         if !size.has_misses() {
             return Ok(());

@@ -12,7 +12,7 @@ use std::thread::Threads;
 
 /// The keys of a workload.
 #[derive(Clone, Copy)]
-pub enum Asked<'a> {
+pub enum WorkloadKeys<'a> {
     /// Drawn evenly from those below a number, all of which are present.
     Present(NonZeroU64),
     /// Absent ones, each asked for once.
@@ -23,14 +23,14 @@ pub enum Asked<'a> {
 
 /// What came of operations: the sum of the values, and how many were there.
 #[derive(Clone, Copy)]
-pub struct Told {
+pub struct Totals {
     /// The sum of the values that were read.
     pub sum: u64,
     /// How many operations found their value.
     pub hits: u64,
 }
 
-impl Told {
+impl Totals {
     #[inline(always)]
     fn add(&mut self, found: Found) {
         self.sum = self.sum.wrapping_add(found.value);
@@ -44,10 +44,10 @@ impl Told {
 pub fn run<R: Threads + Wait + Sync, U: Operation + Sync>(
     rt: &R,
     operation: &U,
-    asked: Asked<'_>,
+    asked: WorkloadKeys<'_>,
     threads: u16,
     operations: u32,
-) -> Result<Told, Refusal> {
+) -> Result<Totals, Refusal> {
     if threads == 1 {
         work(operation, asked, 0, operations)
     } else {
@@ -61,10 +61,10 @@ pub fn run<R: Threads + Wait + Sync, U: Operation + Sync>(
 pub fn share<R: Threads + Wait + Sync, U: Operation + Sync>(
     rt: &R,
     operation: &U,
-    asked: Asked<'_>,
+    asked: WorkloadKeys<'_>,
     threads: u16,
     operations: u32,
-) -> Result<Told, Refusal> {
+) -> Result<Totals, Refusal> {
     let (sum, hits, ended) = (AtomicU64::new(0), AtomicU64::new(0), AtomicU64::new(0));
     let (all, there, done) = (&sum, &hits, &ended);
     thread::scope(thread::scope_env(), rt, |scope| {
@@ -79,7 +79,7 @@ pub fn share<R: Threads + Wait + Sync, U: Operation + Sync>(
         }
     });
     if ended.load(Ordering::SeqCst) == u64::from(threads) {
-        Ok(Told {
+        Ok(Totals {
             sum: sum.load(Ordering::SeqCst),
             hits: hits.load(Ordering::SeqCst),
         })
@@ -91,29 +91,33 @@ pub fn share<R: Threads + Wait + Sync, U: Operation + Sync>(
 /// One worker's operations.
 pub fn work<U: Operation>(
     operation: &U,
-    asked: Asked<'_>,
+    asked: WorkloadKeys<'_>,
     worker: u16,
     operations: u32,
-) -> Result<Told, Refusal> {
+) -> Result<Totals, Refusal> {
     let count = u64::from(operations);
     match asked {
-        Asked::Present(entries) => operate(operation, Keys::of_worker(entries, worker), count),
-        Asked::Absent => {
+        WorkloadKeys::Present(entries) => operate(
+            operation,
+            Keys::of_worker(entries, worker),
+            count,
+        ),
+        WorkloadKeys::Absent => {
             let before = u64::from(worker).wrapping_mul(count);
             let first = FIRST_ABSENT.wrapping_add(before);
             operate(operation, Ascending { next: first }, count)
         }
-        Asked::Drawn(draws) => operate(operation, draws.of_worker(worker), count),
+        WorkloadKeys::Drawn(draws) => operate(operation, draws.of_worker(worker), count),
     }
 }
 
 /// Makes the operation once on each key from 0 up to `entries`.
-pub fn fill<U: Operation>(operation: &U, entries: NonZeroU64) -> Result<Told, Refusal> {
+pub fn fill<U: Operation>(operation: &U, entries: NonZeroU64) -> Result<Totals, Refusal> {
     operate(operation, Ascending { next: 0 }, entries.get())
 }
 
 /// Makes the operation once on each of these keys, in their order.
-pub fn ask_all<U: Operation>(operation: &U, draws: &Draws) -> Result<Told, Refusal> {
+pub fn ask_all<U: Operation>(operation: &U, draws: &Draws) -> Result<Totals, Refusal> {
     operate(operation, draws.of_worker(0), draws.len())
 }
 
@@ -122,8 +126,8 @@ fn operate<U: Operation, S: Source + Drop>(
     operation: &U,
     mut source: S,
     count: u64,
-) -> Result<Told, Refusal> {
-    let mut told = Told { sum: 0, hits: 0 };
+) -> Result<Totals, Refusal> {
+    let mut told = Totals { sum: 0, hits: 0 };
     for _ in 0..count {
         let Some(key) = source.next_key() else {
             return Ok(told);
@@ -157,7 +161,7 @@ mod tests {
     fn tells_what_all_workers_read(rt: HostRuntime) {
         let even = Even { refused: 0 };
         for (threads, sum, hits) in [(1, 20_000_002, 2), (2, 40_000_012, 4), (3, 60_000_030, 6)] {
-            let told = run(&rt, &even, Asked::Absent, threads, 4);
+            let told = run(&rt, &even, WorkloadKeys::Absent, threads, 4);
             let told = told.map(|told| (told.sum, told.hits));
             assert_eq!(rt; told, Ok((sum, hits)), "of {threads} threads");
         }
@@ -165,7 +169,7 @@ mod tests {
 
     #[test]
     fn one_worker_may_have_a_thread_of_its_own(rt: HostRuntime) {
-        let told = share(&rt, &Even { refused: 0 }, Asked::Absent, 1, 4);
+        let told = share(&rt, &Even { refused: 0 }, WorkloadKeys::Absent, 1, 4);
         let told = told.map(|told| (told.sum, told.hits));
         assert_eq!(rt; told, Ok((20_000_002, 2)));
     }
@@ -176,7 +180,7 @@ mod tests {
         let told = fill(&Even { refused: 9 }, entries).map(|told| (told.sum, told.hits));
         assert_eq!(rt; told, Ok((6, 3)));
         let draws = Draws::even(rt.alloc(), entries, 0)?;
-        let told = share(&rt, &Even { refused: 9 }, Asked::Drawn(&draws), 2, 4);
+        let told = share(&rt, &Even { refused: 9 }, WorkloadKeys::Drawn(&draws), 2, 4);
         assert_eq!(rt; told.map(|told| told.hits), Ok(0), "of no keys");
         Ok(())
     }
@@ -184,7 +188,7 @@ mod tests {
     #[test]
     fn a_refusal_of_one_worker_is_told(rt: HostRuntime) {
         for (threads, refused) in [(1, 10_000_003), (2, 10_000_007), (3, 10_000_000)] {
-            let told = run(&rt, &Even { refused }, Asked::Absent, threads, 4);
+            let told = run(&rt, &Even { refused }, WorkloadKeys::Absent, threads, 4);
             assert_eq!(rt; told.err(), Some(Refusal::Memory), "in {threads} threads");
         }
     }
