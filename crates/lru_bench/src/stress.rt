@@ -83,10 +83,10 @@ impl<
 > Bench<'_, R, W, O, E> {
     /// The parts under one lock, and in shards.
     pub fn stress_parts(&mut self, load: Load) -> Result<(), Failure> {
-        let parts = Parts::filled(self.alloc, self.wait.clone()?, KEYS)?;
+        let parts = Parts::with_keys(self.alloc, self.wait.clone()?, KEYS)?;
         let work = load.work(System::Parts, LOCK_CAPACITY);
         self.stress(&parts, load, &work)?;
-        let parts = PartsInShards::filled(self.alloc, &self.wait, KEYS)?;
+        let parts = PartsInShards::with_keys(self.alloc, &self.wait, KEYS)?;
         let work = load.work(System::PartsInShards, SHARDS_CAPACITY);
         self.stress(&parts, load, &work)
     }

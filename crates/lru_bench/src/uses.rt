@@ -62,7 +62,7 @@ impl<
     /// The parts of the cache, as a `get` of a present key and a `get_or_init` of an absent one
     /// need them.
     pub fn use_parts(&mut self, size: &Size<'_>) -> Result<(), Failure> {
-        let parts = Parts::filled(self.alloc, self.wait.clone()?, size.entries.get())?;
+        let parts = Parts::with_keys(self.alloc, self.wait.clone()?, size.entries.get())?;
         let work = size.work(System::Parts, Workload::HitGet);
         let present = WorkloadKeys::Present(size.entries);
         self.time(&HitParts { parts: &parts }, present, size, &work)?;
