@@ -17,7 +17,7 @@ pub const MORE_THREADS: [u16; 3] = [2, 4, 8];
 const ENTRIES: [u64; 2] = [1_000, 1_000_000];
 
 // How many it has by the word `sizes`.
-const SIZES: [u64; 4] = [1_000, 10_000, 100_000, 1_000_000];
+const EVERY_SIZE: [u64; 4] = [1_000, 10_000, 100_000, 1_000_000];
 
 /// What is to be timed.
 #[derive(Drop)]
@@ -57,7 +57,7 @@ impl Request {
 
     fn add(&mut self, alloc: Global, word: &str) -> Result<(), Failure> {
         match word {
-            "sizes" => self.entries = sizes(alloc, &SIZES)?,
+            "sizes" => self.entries = sizes(alloc, &EVERY_SIZE)?,
             "threads" => self.threads = MORE_THREADS.iter().copied().collect(alloc)?,
             _ => match Workload::named(word) {
                 Some(workload) => self.workloads.push(workload)?,
