@@ -1,5 +1,5 @@
 //! Callers of one value: the second comes while the first makes it, and waits or finds what the
-//! first made. And makers that use the cache for other keys, three deep.
+//! first made.
 ghost use Rattle.std.specs.Prelude.{◌<◌};
 
 use lru_support::cached::Cached;
@@ -121,42 +121,6 @@ pub fn value_beside_total<T: Threads, C: MakingCache + Sync>(
     cache: &C,
 ) -> (Option<u64>, u128) {
     thread::join(rt, move || cache.find(), move || cache.charged())
-}
-
-/// Makes key 1, whose `init` makes key 2, whose `init` makes key 3. Each value has one digit more
-/// than the value that it was made of. Returns 0 if a key could not be made.
-pub fn makes_three_deep<C: Cached<u64>>(cache: C) -> u64 {
-    match cache.get_or_init(1, 1, |_| one_digit_more(makes_two_deep(cache))) {
-        Ok(handle) => *C::value_of(&handle),
-        Err(_) => 0,
-    }
-}
-
-fn makes_two_deep<C: Cached<u64>>(cache: C) -> u64 {
-    match cache.get_or_init(2, 1, |_| one_digit_more(makes_one(cache))) {
-        Ok(handle) => *C::value_of(&handle),
-        Err(_) => 0,
-    }
-}
-
-fn makes_one<C: Cached<u64>>(cache: C) -> u64 {
-    match cache.get_or_init(3, 1, |_| 1) {
-        Ok(handle) => *C::value_of(&handle),
-        Err(_) => 0,
-    }
-}
-
-fn one_digit_more(digits: u64) -> u64 {
-    digits.saturating_mul(10).saturating_add(1)
-}
-
-/// Returns the values of the keys 1 to 3, each if it is ready.
-pub fn values_of_three<C: Cached<u64>>(cache: C) -> [Option<u64>; 3] {
-    [
-        value_found(cache, 1),
-        value_found(cache, 2),
-        value_found(cache, 3),
-    ]
 }
 
 /// Returns what a handle of key 1 reads after its value was invalidated, what is found then,

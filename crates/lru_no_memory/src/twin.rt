@@ -52,19 +52,39 @@ fn play_twin<I: Identity, R: Wait, O: Write, E: Write>(
     requires { opening ≡ I.name }
 {
     let (cache, mut whole) = LruCache::<String, u64, &R, I>::new(alloc, rt, opening);
-    let mut one = Caller::new(&cache, whole.split(&cache));
-    let mut two = Caller::new(&cache, whole.split(&cache));
-    let mut ended = calls::play(alloc, &mut one, first, report);
-    if ended.is_ok() {
-        ended = calls::play(alloc, &mut two, second, report);
-    }
-    whole.join(&cache, one.tally());
-    whole.join(&cache, two.tally());
+    let one = whole.split(&cache);
+    let two = whole.split(&cache);
+    let (one, ended) = play_calls(alloc, &cache, one, Ok(()), first, report);
+    let (two, ended) = play_calls(alloc, &cache, two, ended, second, report);
+    whole.join(&cache, one);
+    whole.join(&cache, two);
     let journal = cache.into_journal(whole);
     if ended.is_ok() {
         report.records(journal.records());
     }
     ended
+}
+
+// Makes calls with one part of the tally, which it gives back; none where those before were ended
+// by a refusal.
+fn play_calls<R: Wait + Drop, I: Identity, O: Write, E: Write>(
+    alloc: Global,
+    cache: &LruCache<String, u64, R, I>,
+    tally: Tally<String, I>,
+    before: Result<(), Refusal>,
+    calls: &[TextCall],
+    report: &mut Report<'_, O, E>,
+) -> (Tally<String, I>, Result<(), Refusal>)
+    requires { tally.parts ≡ 1 }
+    ensures { result.0.parts ≡ 1 }
+{
+    let mut caller = Caller { cache, tally };
+    let ended = match before {
+        Ok(()) => calls::play(alloc, &mut caller, calls, report),
+        Err(refusal) => Err(refusal),
+    };
+    let Caller { cache: _, tally } = caller;
+    (tally, ended)
 }
 
 // A caller of a twin, with one part of its tally.
@@ -75,20 +95,7 @@ struct Caller<'c, R: Wait, I: Identity> {
 }
 
 impl<'c, R: Wait + Drop, I: Identity> Caller<'c, R, I> {
-    fn new(cache: &'c LruCache<String, u64, R, I>, tally: Tally<String, I>) -> Caller<'c, R, I>
-        requires { tally.parts ≡ 1 }
-    {
-        Caller { cache, tally }
-    }
-
-    fn tally(self) -> Tally<String, I>
-        ensures { result.parts ≡ 1 }
-    {
-        let Self { cache: _, tally } = self;
-        tally
-    }
-
-    // Releases a pin, and again if it was refused for lack of memory.
+    // Gives a pin back; one that comes back for want of memory is given once more.
     fn give_back<O: Write, E: Write>(
         &mut self,
         call: TextCall,

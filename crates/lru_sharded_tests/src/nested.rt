@@ -1,8 +1,45 @@
 //! Makers that use the cache for other keys, three deep, in the same shard and in another.
 
 use concurrent_lru::sharded::LruCache;
-use lru_fixtures::makings::{makes_three_deep, values_of_three};
 use lru_support::hashers::ByOwnNumber;
+use std::sync::Wait;
+
+type Cache<R> = LruCache<u64, u64, R, ByOwnNumber>;
+
+// Key 1, whose `init` makes key 2. A value has a digit more than the one that it was made of.
+fn makes_three_deep<R: Wait>(cache: &Cache<R>) -> u64 {
+    match cache.get_or_init(1, 1, |_| one_digit_more(makes_two_deep(cache))) {
+        Ok(handle) => *handle.value(),
+        Err(_) => 0,
+    }
+}
+
+// Key 2, whose `init` makes key 3.
+fn makes_two_deep<R: Wait>(cache: &Cache<R>) -> u64 {
+    match cache.get_or_init(2, 1, |_| one_digit_more(makes_one(cache))) {
+        Ok(handle) => *handle.value(),
+        Err(_) => 0,
+    }
+}
+
+fn makes_one<R: Wait>(cache: &Cache<R>) -> u64 {
+    match cache.get_or_init(3, 1, |_| 1) {
+        Ok(handle) => *handle.value(),
+        Err(_) => 0,
+    }
+}
+
+fn one_digit_more(digits: u64) -> u64 {
+    digits.saturating_mul(10).saturating_add(1)
+}
+
+// Returns the value of a key, if it is ready.
+fn found<R: Wait>(cache: &Cache<R>, key: u64) -> Option<u64> {
+    match cache.get(key) {
+        Ok(Some(handle)) => Some(*handle.value()),
+        _ => None,
+    }
+}
 
 // The capacity of two shards, and the values that stay. Each value that was made within another is
 // released first; the keys 1 and 3 have the same shard.
@@ -15,11 +52,17 @@ const LEFT: [(u64, [Option<u64>; 3]); 3] = [
 #[test]
 fn makers_use_the_cache_three_deep(rt: HostRuntime) {
     for (capacity, left) in LEFT {
-        let made: Result<LruCache<u64, u64, &HostRuntime, ByOwnNumber>, _> =
-            LruCache::with_shards_hasher(rt.alloc(), &rt, capacity, 2, ByOwnNumber);
+        let made: Result<Cache<&HostRuntime>, _> = LruCache::with_shards_hasher(
+            rt.alloc(),
+            &rt,
+            capacity,
+            2,
+            ByOwnNumber,
+        );
         let cache = made.expect(&rt, "memory");
         assert_eq!(rt; makes_three_deep(&cache), 111);
         assert_eq!(rt; cache.total_charge(), u128::from(capacity.min(3)));
-        assert_eq!(rt; values_of_three(&cache), left, "at capacity {capacity}");
+        let values = [found(&cache, 1), found(&cache, 2), found(&cache, 3)];
+        assert_eq!(rt; values, left, "at capacity {capacity}");
     }
 }

@@ -1,7 +1,42 @@
 //! Makers that use the cache for other keys, three deep.
 
 use concurrent_lru::unsharded::LruCache;
-use lru_fixtures::makings::{makes_three_deep, values_of_three};
+use std::sync::Wait;
+
+// Key 1, whose `init` makes key 2. A value has a digit more than the one that it was made of.
+fn makes_three_deep<R: Wait>(cache: &LruCache<u64, u64, R>) -> u64 {
+    match cache.get_or_init(1, 1, |_| one_digit_more(makes_two_deep(cache))) {
+        Ok(handle) => *handle.value(),
+        Err(_) => 0,
+    }
+}
+
+// Key 2, whose `init` makes key 3.
+fn makes_two_deep<R: Wait>(cache: &LruCache<u64, u64, R>) -> u64 {
+    match cache.get_or_init(2, 1, |_| one_digit_more(makes_one(cache))) {
+        Ok(handle) => *handle.value(),
+        Err(_) => 0,
+    }
+}
+
+fn makes_one<R: Wait>(cache: &LruCache<u64, u64, R>) -> u64 {
+    match cache.get_or_init(3, 1, |_| 1) {
+        Ok(handle) => *handle.value(),
+        Err(_) => 0,
+    }
+}
+
+fn one_digit_more(digits: u64) -> u64 {
+    digits.saturating_mul(10).saturating_add(1)
+}
+
+// Returns the value of a key, if it is ready.
+fn found<R: Wait>(cache: &LruCache<u64, u64, R>, key: u64) -> Option<u64> {
+    match cache.get(key) {
+        Ok(Some(handle)) => Some(*handle.value()),
+        _ => None,
+    }
+}
 
 // The capacity, and the values that stay. Each value that was made within another is released
 // first.
@@ -18,6 +53,7 @@ fn makers_use_the_cache_three_deep(rt: HostRuntime) {
         let cache: LruCache<u64, u64, &HostRuntime> = LruCache::new(rt.alloc(), &rt, capacity);
         assert_eq!(rt; makes_three_deep(&cache), 111);
         assert_eq!(rt; cache.total_charge(), capacity);
-        assert_eq!(rt; values_of_three(&cache), left, "at capacity {capacity}");
+        let values = [found(&cache, 1), found(&cache, 2), found(&cache, 3)];
+        assert_eq!(rt; values, left, "at capacity {capacity}");
     }
 }
