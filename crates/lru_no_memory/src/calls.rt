@@ -62,7 +62,7 @@ pub trait AskedByText {
     );
 
     /// Makes a call that hands over plain numbers. Answers as `CallTarget::ask` does.
-    fn ask_plainly<O: Write, E: Write>(
+    fn ask_with_numbers<O: Write, E: Write>(
         &mut self,
         alloc: Global,
         call: TextCall,
@@ -86,7 +86,7 @@ impl<A: AskedByText> CallTarget<TextCall> for A {
                 self.store(call, stamp, Arc::new(alloc, value)?, report);
                 Ok(false)
             }
-            _ => self.ask_plainly(alloc, call, report),
+            _ => self.ask_with_numbers(alloc, call, report),
         }
     }
 }
