@@ -5,10 +5,8 @@ pub mod Inserted
 pub mod BytesCopies
 pub mod ChainCodes
 pub mod EvictedSent
+pub mod HandleSent
+pub mod Moved
 pub mod Opened
-pub mod BytesCacheAsBox
-pub mod BytesChainAsBox
-pub mod BytesOpened
-pub mod WordsCacheAsBox
-pub mod WordsChainAsBox
-pub mod WordsOpened
+pub mod BytesForms
+pub mod WordsForms

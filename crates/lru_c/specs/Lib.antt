@@ -5,9 +5,9 @@ pub mod Inserts
 pub mod Handles
 pub mod Chains
 pub mod Opened
-pub mod BytesCacheOwned
-pub mod BytesChainOwned
+pub mod Held
+pub mod Calls
+pub mod BytesHeld
 pub mod BytesCalls
-pub mod WordsCacheOwned
-pub mod WordsChainOwned
+pub mod WordsHeld
 pub mod WordsCalls

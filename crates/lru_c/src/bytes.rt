@@ -2,26 +2,22 @@
 ghost use Rattle.std.specs.Prelude.{◌≡◌, ◌==◌, [], false, is_some, true, None, Some, MatchBool, MatchOption};
 ghost use Rattle.concurrent_lru.specs.Cache.{count_of, empty_cache, most_pins_by_default, sum_of};
 ghost use Rattle.concurrent_lru.specs.Request as ask;
-ghost use Rattle.lru_c.specs.Chains.{chain_code, entries_in, IntoChain, TellsFirst};
+ghost use Rattle.lru_c.specs.Calls.{entries_of, Asks, AsksWithMemory, Frees, Numbers, Reserves};
+ghost use Rattle.lru_c.specs.Chains.{chain_code, entries_in, TellsFirst};
 ghost use Rattle.lru_c.specs.Codes as codes;
 ghost use Rattle.lru_c.specs.Opened.{Opens};
 ghost use Rattle.lru_c.specs.Told.{bare};
-ghost use Rattle.lru_c.specs.BytesCalls.{entries_of, Asks, AsksByKey, AsksWithMemory, Begins, Contains, FreesInto, InsertsInto, KeyOf, Numbers, Reserves};
+ghost use Rattle.lru_c.specs.BytesCalls.{bytes_eq, AsksByKey, Begins, Contains, InsertsInto, Into, KeyOf};
 
+mod by_key;
 pub mod cache;
-pub mod cache_at;
-pub mod cache_handle;
-mod calls;
-pub mod chain;
-pub mod chain_at;
-mod chain_calls;
-pub mod chain_handle;
+pub mod handles;
 
-use crate::bytes::cache_handle::LruBytes;
-use crate::bytes::chain_handle::LruBytesEvicted;
-use crate::code;
+use crate::bytes::handles::{LruBytes, LruBytesEvicted};
+use crate::chain_calls::{insert_into_chain, into_chain};
+use crate::handle::{open, take};
 use crate::told::{LruGone, LruTold};
-use concurrent_lru::lru_core::Evicted;
+use crate::{calls, chain_calls, code};
 use core::mem::replace_with;
 use std::alloc::Global;
 
@@ -31,12 +27,14 @@ use std::alloc::Global;
 /// `OPEN` where the handle is open already, and `MEMORY`: the handle is as it was.
 #[unsafe(no_mangle)]
 pub extern "C" fn lru_bytes_new(alloc: Global, capacity: u64, out: &mut LruBytes) -> u32
-    ensures { Opens out.old.is_open out.old.cache.held (λ c. c.state.cache ≡ empty_cache capacity most_pins_by_default 0) result out.new.cache.held }
+    ensures { Opens out.old.is_open out.old.cache.held
+        (λ c. c.state.cache ≡ empty_cache capacity most_pins_by_default 0)
+        result out.new.cache.held }
 {
     if out.is_open {
         return code::OPEN;
     }
-    match calls::make(alloc, capacity, 0, u32::MAX) {
+    match calls::make(alloc, capacity, 0, u32::MAX, Vec::new(alloc)) {
         Ok(cache) => {
             *out = cache;
             code::DONE
@@ -58,7 +56,11 @@ pub extern "C" fn lru_bytes_new_with_limits(
     most_pins: u32,
     out: &mut LruBytes,
 ) -> u32
-    ensures { MatchBool (most_pins == 0) ((result ≡ codes.no_pins) × (out.new.cache.held ≡ out.old.cache.held)) (Opens out.old.is_open out.old.cache.held (λ c. c.state.cache ≡ empty_cache capacity most_pins first_stamp) result out.new.cache.held) }
+    ensures { MatchBool (most_pins == 0)
+        ((result ≡ codes.no_pins) × (out.new.cache.held ≡ out.old.cache.held))
+        (Opens out.old.is_open out.old.cache.held
+        (λ c. c.state.cache ≡ empty_cache capacity most_pins first_stamp)
+        result out.new.cache.held) }
 {
     if most_pins == 0 {
         return code::NO_PINS;
@@ -66,7 +68,7 @@ pub extern "C" fn lru_bytes_new_with_limits(
     if out.is_open {
         return code::OPEN;
     }
-    match calls::make(alloc, capacity, first_stamp, most_pins) {
+    match calls::make(alloc, capacity, first_stamp, most_pins, Vec::new(alloc)) {
         Ok(cache) => {
             *out = cache;
             code::DONE
@@ -81,22 +83,17 @@ pub extern "C" fn lru_bytes_new_with_limits(
 /// `CLOSED` where the cache or the chain is not open, and `NOT_EMPTY` where the chain has entries.
 #[unsafe(no_mangle)]
 pub extern "C" fn lru_bytes_free(cache: &mut LruBytes, left: &mut LruBytesEvicted) -> u32
-    ensures { FreesInto left.old.chain.held left.new.chain.held result cache.old.cache.held cache.new.cache.held }
+    ensures { Into left.old left.new result cache.old cache.new
+        (λ o out n. (n ≡ None) × Frees o result out) }
 {
-    let filled = replace_with(left, (), chain_calls::is_filled);
-    if filled != code::DONE {
-        return filled;
-    }
-    let (answer, taken) = replace_with(cache, (), calls::free);
-    replace_with(left, (Evicted::none(), taken), chain_calls::put);
-    answer
+    into_chain(cache, (), left, calls::free)
 }
 
 /// Asks for the value of a key and pins its entry, which is made where there is none. What the
 /// charge of a new entry evicted is put into a chain, oldest first.
 ///
-/// `NO_CHARGE` for a charge of 0, `CLOSED` where the cache or the chain is not open, `NOT_EMPTY` where
-/// the chain has entries, and the refusals of the core: nothing changes.
+/// `NO_CHARGE` for a charge of 0, `CLOSED` where the cache or the chain is not open, `NOT_EMPTY`
+/// where the chain has entries, and the refusals of the core: nothing changes.
 #[unsafe(no_mangle)]
 pub extern "C" fn lru_bytes_begin_nonnull(
     cache: &mut LruBytes,
@@ -104,15 +101,10 @@ pub extern "C" fn lru_bytes_begin_nonnull(
     charge: u64,
     gone: &mut LruBytesEvicted,
 ) -> LruTold
-    ensures { IntoChain (entries_of gone.old.chain.held) (entries_of gone.new.chain.held) result.code cache.old.cache.held cache.new.cache.held (λ out. Begins cache.old.cache.held key.now charge result out cache.new.cache.held) }
+    ensures { Into gone.old gone.new result.code cache.old cache.new
+        (λ o out n. Begins o key.now charge result out n) }
 {
-    let filled = replace_with(gone, (), chain_calls::is_filled);
-    if filled != code::DONE {
-        return LruTold::bare(filled);
-    }
-    let (answer, taken) = replace_with(cache, (key, charge), calls::begin);
-    replace_with(gone, (Evicted::none(), taken), chain_calls::put);
-    answer
+    into_chain(cache, (key, charge), gone, by_key::begin)
 }
 
 /// Asks again for a value that was being made.
@@ -120,7 +112,7 @@ pub extern "C" fn lru_bytes_begin_nonnull(
 /// `STALE` where no held entry has the stamp.
 #[unsafe(no_mangle)]
 pub extern "C" fn lru_bytes_poll(cache: &mut LruBytes, stamp: u64) -> LruTold
-    ensures { Asks cache.old.cache.held (ask.poll stamp) result [] cache.new.cache.held }
+    ensures { Asks bytes_eq cache.old.cache.held (ask.poll stamp) result [] cache.new.cache.held }
 {
     replace_with(cache, stamp, calls::poll)
 }
@@ -130,7 +122,8 @@ pub extern "C" fn lru_bytes_poll(cache: &mut LruBytes, stamp: u64) -> LruTold
 /// `STALE` where none is being made under the stamp; `MEMORY`, and then it is still being made.
 #[unsafe(no_mangle)]
 pub extern "C" fn lru_bytes_ready(cache: &mut LruBytes, stamp: u64, value: u64) -> u32
-    ensures { AsksWithMemory cache.old.cache.held (ask.ready stamp value) (bare result) [] cache.new.cache.held }
+    ensures { AsksWithMemory bytes_eq cache.old.cache.held (ask.ready stamp value)
+        (bare result) [] cache.new.cache.held }
 {
     replace_with(cache, (stamp, value), calls::ready)
 }
@@ -140,7 +133,8 @@ pub extern "C" fn lru_bytes_ready(cache: &mut LruBytes, stamp: u64, value: u64) 
 /// `STALE` where none is being made under the stamp.
 #[unsafe(no_mangle)]
 pub extern "C" fn lru_bytes_fail(cache: &mut LruBytes, stamp: u64) -> u32
-    ensures { Asks cache.old.cache.held (ask.fail stamp) (bare result) [] cache.new.cache.held }
+    ensures { Asks bytes_eq cache.old.cache.held (ask.fail stamp)
+        (bare result) [] cache.new.cache.held }
 {
     replace_with(cache, stamp, calls::fail)
 }
@@ -152,7 +146,7 @@ pub extern "C" fn lru_bytes_fail(cache: &mut LruBytes, stamp: u64) -> u32
 pub extern "C" fn lru_bytes_get_nonnull(cache: &mut LruBytes, key: &[u8]) -> LruTold
     ensures { AsksByKey cache.old.cache.held ask.get key.now result [] cache.new.cache.held }
 {
-    replace_with(cache, key, calls::get)
+    replace_with(cache, key, by_key::get)
 }
 
 /// Whether a key has a value: `DONE` or `MISSED`. Pins nothing and moves nothing.
@@ -160,7 +154,7 @@ pub extern "C" fn lru_bytes_get_nonnull(cache: &mut LruBytes, key: &[u8]) -> Lru
 pub extern "C" fn lru_bytes_contains_nonnull(cache: &mut LruBytes, key: &[u8]) -> u32
     ensures { Contains cache.old.cache.held key.now result cache.new.cache.held }
 {
-    replace_with(cache, key, calls::contains)
+    replace_with(cache, key, by_key::contains)
 }
 
 /// Gives a pin of a ready entry back. With its last pin the entry becomes the newest idle one, and
@@ -173,15 +167,10 @@ pub extern "C" fn lru_bytes_release(
     stamp: u64,
     gone: &mut LruBytesEvicted,
 ) -> u32
-    ensures { IntoChain (entries_of gone.old.chain.held) (entries_of gone.new.chain.held) result cache.old.cache.held cache.new.cache.held (λ out. Asks cache.old.cache.held (ask.release stamp) (bare result) out cache.new.cache.held) }
+    ensures { Into gone.old gone.new result cache.old cache.new
+        (λ o out n. Asks bytes_eq o (ask.release stamp) (bare result) out n) }
 {
-    let filled = replace_with(gone, (), chain_calls::is_filled);
-    if filled != code::DONE {
-        return filled;
-    }
-    let (answer, taken) = replace_with(cache, stamp, calls::release);
-    replace_with(gone, (Evicted::none(), taken), chain_calls::put);
-    answer
+    into_chain(cache, stamp, gone, calls::release)
 }
 
 /// Evicts the entry of a key into a chain, where it is idle; else nothing happens, now or later.
@@ -191,43 +180,34 @@ pub extern "C" fn lru_bytes_advice_evict_nonnull(
     key: &[u8],
     gone: &mut LruBytesEvicted,
 ) -> u32
-    ensures { IntoChain (entries_of gone.old.chain.held) (entries_of gone.new.chain.held) result cache.old.cache.held cache.new.cache.held (λ out. AsksByKey cache.old.cache.held ask.advice_evict key.now (bare result) out cache.new.cache.held) }
+    ensures { Into gone.old gone.new result cache.old cache.new
+        (λ o out n. AsksByKey o ask.advice_evict key.now (bare result) out n) }
 {
-    let filled = replace_with(gone, (), chain_calls::is_filled);
-    if filled != code::DONE {
-        return filled;
-    }
-    let (answer, taken) = replace_with(cache, key, calls::advice_evict);
-    replace_with(gone, (Evicted::none(), taken), chain_calls::put);
-    answer
+    into_chain(cache, key, gone, by_key::advice_evict)
 }
 
-/// Detaches the entry of a key, so that no call by the key finds it. An idle entry is evicted into a
-/// chain; a held one is found by its stamp still, and is evicted with its last pin. Where the key has
-/// no entry, nothing happens.
+/// Detaches the entry of a key, so that no call by the key finds it. An idle entry is evicted into
+/// a chain; a held one is found by its stamp still, and is evicted with its last pin. Where the key
+/// has no entry, nothing happens.
 #[unsafe(no_mangle)]
 pub extern "C" fn lru_bytes_invalidate_nonnull(
     cache: &mut LruBytes,
     key: &[u8],
     gone: &mut LruBytesEvicted,
 ) -> u32
-    ensures { IntoChain (entries_of gone.old.chain.held) (entries_of gone.new.chain.held) result cache.old.cache.held cache.new.cache.held (λ out. AsksByKey cache.old.cache.held ask.invalidate key.now (bare result) out cache.new.cache.held) }
+    ensures { Into gone.old gone.new result cache.old cache.new
+        (λ o out n. AsksByKey o ask.invalidate key.now (bare result) out n) }
 {
-    let filled = replace_with(gone, (), chain_calls::is_filled);
-    if filled != code::DONE {
-        return filled;
-    }
-    let (answer, taken) = replace_with(cache, key, calls::invalidate);
-    replace_with(gone, (Evicted::none(), taken), chain_calls::put);
-    answer
+    into_chain(cache, key, gone, by_key::invalidate)
 }
 
 /// Puts a value in, whatever the key has: detaches the entry of the key as an invalidate does, and
 /// makes a new one, in which the caller has a pin: `DONE` with its stamp. The entry that was idle
 /// under the key, and then what the charge evicted, oldest first, are put into a chain.
 ///
-/// `NO_CHARGE` for a charge of 0, `CLOSED` where the cache or the chain is not open, `NOT_EMPTY` where
-/// the chain has entries, `OVERFLOW` and `MEMORY`: nothing changes, and the value is not taken.
+/// `NO_CHARGE` for a charge of 0, `CLOSED` where the cache or the chain is not open, `NOT_EMPTY`
+/// where the chain has entries, `OVERFLOW` and `MEMORY`: nothing changes, and the value is not
+/// taken.
 #[unsafe(no_mangle)]
 pub extern "C" fn lru_bytes_insert_nonnull(
     cache: &mut LruBytes,
@@ -236,29 +216,19 @@ pub extern "C" fn lru_bytes_insert_nonnull(
     value: u64,
     gone: &mut LruBytesEvicted,
 ) -> LruTold
-    ensures { IntoChain (entries_of gone.old.chain.held) (entries_of gone.new.chain.held) result.code cache.old.cache.held cache.new.cache.held (λ out. InsertsInto cache.old.cache.held key.now charge value result out cache.new.cache.held) }
+    ensures { Into gone.old gone.new result.code cache.old cache.new
+        (λ o out n. InsertsInto o key.now charge value result out n) }
 {
-    let filled = replace_with(gone, (), chain_calls::is_filled);
-    if filled != code::DONE {
-        return LruTold::bare(filled);
-    }
-    let (answer, taken) = replace_with(cache, (key, charge, value), calls::insert);
-    replace_with(gone, taken, chain_calls::put);
-    answer
+    insert_into_chain(cache, (key, charge, value), gone, by_key::insert)
 }
 
 /// Evicts each idle entry into a chain, oldest first.
 #[unsafe(no_mangle)]
 pub extern "C" fn lru_bytes_prune(cache: &mut LruBytes, gone: &mut LruBytesEvicted) -> u32
-    ensures { IntoChain (entries_of gone.old.chain.held) (entries_of gone.new.chain.held) result cache.old.cache.held cache.new.cache.held (λ out. Asks cache.old.cache.held ask.prune (bare result) out cache.new.cache.held) }
+    ensures { Into gone.old gone.new result cache.old cache.new
+        (λ o out n. Asks bytes_eq o ask.prune (bare result) out n) }
 {
-    let filled = replace_with(gone, (), chain_calls::is_filled);
-    if filled != code::DONE {
-        return filled;
-    }
-    let (answer, taken) = replace_with(cache, (), calls::prune);
-    replace_with(gone, (Evicted::none(), taken), chain_calls::put);
-    answer
+    into_chain(cache, (), gone, calls::prune)
 }
 
 /// Sets the capacity, and evicts at once what is idle and too much for it.
@@ -268,15 +238,10 @@ pub extern "C" fn lru_bytes_set_capacity(
     capacity: u64,
     gone: &mut LruBytesEvicted,
 ) -> u32
-    ensures { IntoChain (entries_of gone.old.chain.held) (entries_of gone.new.chain.held) result cache.old.cache.held cache.new.cache.held (λ out. Asks cache.old.cache.held (ask.set_capacity capacity) (bare result) out cache.new.cache.held) }
+    ensures { Into gone.old gone.new result cache.old cache.new
+        (λ o out n. Asks bytes_eq o (ask.set_capacity capacity) (bare result) out n) }
 {
-    let filled = replace_with(gone, (), chain_calls::is_filled);
-    if filled != code::DONE {
-        return filled;
-    }
-    let (answer, taken) = replace_with(cache, capacity, calls::set_capacity);
-    replace_with(gone, (Evicted::none(), taken), chain_calls::put);
-    answer
+    into_chain(cache, capacity, gone, calls::set_capacity)
 }
 
 /// Makes room for this many entries in all. No entry changes in any case.
@@ -323,10 +288,10 @@ pub extern "C" fn lru_bytes_key_of_nonnull(
 ) -> LruTold
     ensures { KeyOf cache.old.cache.held stamp result buffer.old buffer.new cache.new.cache.held }
 {
-    match replace_with(cache, (), calls::take) {
+    match replace_with(cache, None, take) {
         Some(taken) => {
-            let told = calls::copy_key(&taken.state, stamp, buffer);
-            *cache = LruBytes::of(taken);
+            let told = by_key::copy_key(&taken.state, stamp, buffer);
+            *cache = open(taken);
             told
         }
         None => LruTold::bare(code::CLOSED),
@@ -338,7 +303,8 @@ pub extern "C" fn lru_bytes_key_of_nonnull(
 /// `OPEN` where the handle is open already, and `MEMORY`: the handle is as it was.
 #[unsafe(no_mangle)]
 pub extern "C" fn lru_bytes_evicted_new(alloc: Global, out: &mut LruBytesEvicted) -> u32
-    ensures { Opens out.old.is_open out.old.chain.held (λ c. entries_in (entries_of (Some c)) ≡ []) result out.new.chain.held }
+    ensures { Opens out.old.is_open out.old.chain.held (λ c. entries_in (entries_of (Some c)) ≡ [])
+        result out.new.chain.held }
 {
     if out.is_open {
         return code::OPEN;
@@ -358,7 +324,8 @@ pub extern "C" fn lru_bytes_evicted_new(alloc: Global, out: &mut LruBytesEvicted
 #[unsafe(no_mangle)]
 pub extern "C" fn lru_bytes_evicted_free(chain: &mut LruBytesEvicted) -> u32
     ensures code { result ≡ chain_code (entries_of chain.old.chain.held) }
-    ensures chain { MatchBool (result == codes.done) (chain.new.chain.held ≡ None) (chain.new.chain.held ≡ chain.old.chain.held) }
+    ensures chain { MatchBool (result == codes.done) (chain.new.chain.held ≡ None)
+        (chain.new.chain.held ≡ chain.old.chain.held) }
 {
     let filled = replace_with(chain, (), chain_calls::is_filled);
     if filled != code::DONE {
@@ -372,7 +339,11 @@ pub extern "C" fn lru_bytes_evicted_free(chain: &mut LruBytesEvicted) -> u32
 #[unsafe(no_mangle)]
 pub extern "C" fn lru_bytes_evicted_pop(chain: &mut LruBytesEvicted, out: &mut LruGone) -> bool
     ensures stays { is_some chain.new.chain.held ≡ is_some chain.old.chain.held }
-    ensures first { MatchBool result (TellsFirst (entries_in (entries_of chain.old.chain.held)) out.new (entries_in (entries_of chain.new.chain.held))) ((entries_in (entries_of chain.old.chain.held) ≡ []) × (entries_in (entries_of chain.new.chain.held) ≡ []) × (out.new ≡ out.old)) }
+    ensures first { MatchBool result
+        (TellsFirst (entries_in (entries_of chain.old.chain.held)) out.new
+        (entries_in (entries_of chain.new.chain.held)))
+        ((entries_in (entries_of chain.old.chain.held) ≡ []) ×
+        (entries_in (entries_of chain.new.chain.held) ≡ []) × (out.new ≡ out.old)) }
 {
     match replace_with(chain, (), chain_calls::pop) {
         Some(gone) => {
@@ -387,7 +358,8 @@ pub extern "C" fn lru_bytes_evicted_pop(chain: &mut LruBytesEvicted, out: &mut L
 #[unsafe(no_mangle)]
 pub extern "C" fn lru_bytes_evicted_is_empty(chain: &mut LruBytesEvicted) -> bool
     ensures same { chain.new.chain.held ≡ chain.old.chain.held }
-    ensures empty { MatchBool (chain_code (entries_of chain.old.chain.held) == codes.not_empty) (result ≡ false) (result ≡ true) }
+    ensures empty { MatchBool (chain_code (entries_of chain.old.chain.held) == codes.not_empty)
+        (result ≡ false) (result ≡ true) }
 {
     replace_with(chain, (), chain_calls::is_filled) != code::NOT_EMPTY
 }

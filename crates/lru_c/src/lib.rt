@@ -3,10 +3,14 @@
 //! each call.
 #![tactic(auto)]
 
+pub mod at;
 pub mod bytes;
-mod chains;
+pub mod cache;
+mod calls;
+pub mod chain;
+mod chain_calls;
 pub mod code;
-pub mod parts;
+pub mod handle;
 mod steps;
 pub mod told;
 pub mod words;

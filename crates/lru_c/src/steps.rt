@@ -1,4 +1,5 @@
-//! The steps of a cache of words, for keys of any type: each as the core takes it, told as C is told.
+//! The steps of a cache of words, for keys of any type: each as the core takes it, told as C is
+//! told.
 ghost use Rattle.std.specs.Prelude.{◌≡◌, ◌<◌, ◌==◌, ◌⊎◌, [], MatchBool};
 ghost use Rattle.std.specs.Arc.{arc_value};
 ghost use Rattle.concurrent_lru.specs.Cache.{count_of, sum_of};
@@ -20,7 +21,9 @@ pub(crate) fn begin<K: Hash + Eq + Clone>(
     key: &K,
     charge: u64,
 ) -> (LruTold, Evicted<K, u64>)
-    ensures { MatchBool (charge == 0) ((result.0 ≡ bare codes.no_charge) × IsSame state.old.cache result.1 state.new.cache) (Asks K.eq state.old.cache (ask.begin key.now charge) result.0 result.1 state.new.cache) }
+    ensures { MatchBool (charge == 0)
+        ((result.0 ≡ bare codes.no_charge) × IsSame state.old.cache result.1 state.new.cache)
+        (Asks K.eq state.old.cache (ask.begin key.now charge) result.0 result.1 state.new.cache) }
 {
     if charge == 0 {
         return (LruTold::bare(code::NO_CHARGE), Evicted::none());
@@ -34,7 +37,8 @@ pub(crate) fn begin_charged<K: Hash + Eq + Clone>(
     charge: u64,
 ) -> (LruTold, Evicted<K, u64>)
     requires { 0 < charge }
-    ensures { Asks K.eq state.old.cache (ask.begin key.now charge) result.0 result.1 state.new.cache }
+    ensures { Asks K.eq state.old.cache (ask.begin key.now charge) result.0 result.1
+        state.new.cache }
 {
     match state.begin(key, charge) {
         Ok((begun, gone)) => (told_of_begun(begun), gone),
@@ -67,7 +71,8 @@ pub(crate) fn ready<K: Hash + Eq + Clone>(
     stamp: u64,
     value: u64,
 ) -> u32
-    ensures { AsksWithMemory K.eq state.old.cache (ask.ready stamp value) (bare result) [] state.new.cache }
+    ensures { AsksWithMemory K.eq state.old.cache (ask.ready stamp value)
+        (bare result) [] state.new.cache }
 {
     match Arc::new(alloc, value) {
         Ok(shared) => ready_shared(state, stamp, shared),
@@ -80,7 +85,8 @@ fn ready_shared<K: Hash + Eq + Clone>(
     stamp: u64,
     shared: Arc<u64>,
 ) -> u32
-    ensures { AsksWithMemory K.eq state.old.cache (ask.ready stamp (arc_value shared)) (bare result) [] state.new.cache }
+    ensures { AsksWithMemory K.eq state.old.cache (ask.ready stamp (arc_value shared))
+        (bare result) [] state.new.cache }
 {
     match state.ready(stamp, shared) {
         Ok(()) => code::DONE,
@@ -128,7 +134,8 @@ pub(crate) fn release<K: Hash + Eq + Clone>(
     state: &mut State<K, u64>,
     stamp: u64,
 ) -> (u32, Evicted<K, u64>)
-    ensures { Asks K.eq state.old.cache (ask.release stamp) (bare result.0) result.1 state.new.cache }
+    ensures { Asks K.eq state.old.cache (ask.release stamp)
+        (bare result.0) result.1 state.new.cache }
 {
     match state.release(stamp) {
         Ok(gone) => (code::DONE, gone),
@@ -140,7 +147,8 @@ pub(crate) fn advice_evict<K: Hash + Eq + Clone>(
     state: &mut State<K, u64>,
     key: &K,
 ) -> (u32, Evicted<K, u64>)
-    ensures { Asks K.eq state.old.cache (ask.advice_evict key.now) (bare result.0) result.1 state.new.cache }
+    ensures { Asks K.eq state.old.cache (ask.advice_evict key.now)
+        (bare result.0) result.1 state.new.cache }
 {
     (code::DONE, state.advice_evict(key))
 }
@@ -149,7 +157,8 @@ pub(crate) fn invalidate<K: Hash + Eq + Clone>(
     state: &mut State<K, u64>,
     key: &K,
 ) -> (u32, Evicted<K, u64>)
-    ensures { Asks K.eq state.old.cache (ask.invalidate key.now) (bare result.0) result.1 state.new.cache }
+    ensures { Asks K.eq state.old.cache (ask.invalidate key.now)
+        (bare result.0) result.1 state.new.cache }
 {
     (code::DONE, state.invalidate(key))
 }
@@ -163,7 +172,8 @@ pub(crate) fn insert<K: Hash + Eq + Clone>(
     value: u64,
 ) -> (LruTold, (Evicted<K, u64>, Evicted<K, u64>))
     requires { 0 < charge }
-    ensures { TellsInsert K.eq state.old.cache key.now charge value result.0 result.1.0 result.1.1 state.new.cache }
+    ensures { TellsInsert K.eq state.old.cache key.now charge value result.0 result.1.0 result.1.1
+        state.new.cache }
 {
     match Arc::new(alloc, value) {
         Ok(shared) => insert_shared(state, key, charge, shared),
@@ -178,7 +188,8 @@ fn insert_shared<K: Hash + Eq + Clone>(
     shared: Arc<u64>,
 ) -> (LruTold, (Evicted<K, u64>, Evicted<K, u64>))
     requires { 0 < charge }
-    ensures { TellsInsert K.eq state.old.cache key.now charge (arc_value shared) result.0 result.1.0 result.1.1 state.new.cache }
+    ensures { TellsInsert K.eq state.old.cache key.now charge
+        (arc_value shared) result.0 result.1.0 result.1.1 state.new.cache }
 {
     match state.insert(key, charge, shared) {
         Ok(inserted) => {
@@ -220,7 +231,8 @@ pub(crate) fn set_capacity<K: Hash + Eq + Clone>(
     state: &mut State<K, u64>,
     capacity: u64,
 ) -> (u32, Evicted<K, u64>)
-    ensures { Asks K.eq state.old.cache (ask.set_capacity capacity) (bare result.0) result.1 state.new.cache }
+    ensures { Asks K.eq state.old.cache (ask.set_capacity capacity)
+        (bare result.0) result.1 state.new.cache }
 {
     (code::DONE, state.set_capacity(capacity))
 }

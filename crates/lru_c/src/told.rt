@@ -1,5 +1,5 @@
 //! What a call tells C.
-ghost use Rattle.std.specs.Prelude.{◌≡◌};
+ghost use Rattle.std.specs.Prelude.{◌≡◌, ℕ};
 ghost use Rattle.lru_c.specs.Told.{told, bare};
 
 /// What a call tells: which answer it is, and the numbers that go with it.
@@ -38,4 +38,28 @@ pub struct LruGone {
     pub charge: u64,
     /// The value.
     pub value: u64,
+}
+
+// What a call that refuses for a chain answers: a code, or what is told with it.
+pub(crate) trait Answer: Sized {
+    ghost code: { Self → ℕ };
+
+    fn of_code(number: u32) -> Self
+        ensures { code result ≡ number };
+}
+
+impl Answer for u32 {
+    ghost code = { λ c. c };
+
+    fn of_code(number: u32) -> u32 {
+        number
+    }
+}
+
+impl Answer for LruTold {
+    ghost code = { λ t. t.code };
+
+    fn of_code(number: u32) -> LruTold {
+        LruTold::bare(number)
+    }
 }

@@ -2,28 +2,23 @@
 ghost use Rattle.std.specs.Prelude.{◌≡◌, ◌==◌, ⊤, [], false, is_some, true, None, Some, MatchBool, MatchOption};
 ghost use Rattle.concurrent_lru.specs.Cache.{count_of, empty_cache, most_pins_by_default, sum_of};
 ghost use Rattle.concurrent_lru.specs.Request as ask;
-ghost use Rattle.lru_c.specs.Chains.{chain_code, entries_in, IntoChain, TellsFirst};
+ghost use Rattle.lru_c.specs.Calls.{entries_of, Asks, AsksWithMemory, Frees, Numbers, Reserves};
+ghost use Rattle.lru_c.specs.Chains.{chain_code, entries_in, TellsFirst};
 ghost use Rattle.lru_c.specs.Codes as codes;
 ghost use Rattle.lru_c.specs.Opened.{Opens};
 ghost use Rattle.lru_c.specs.Told.{bare};
-ghost use Rattle.lru_c.specs.WordsCalls.{entries_of, Asks, AsksWithMemory, Begins, Contains, FreesInto, InsertsInto, KeyOf, Numbers, Reserves};
+ghost use Rattle.lru_c.specs.WordsCalls.{words, words_eq, Begins, Contains, InsertsInto, Into, KeyOf};
 
+mod by_key;
 pub mod cache;
-pub mod cache_at;
-pub mod cache_handle;
-mod calls;
-pub mod chain;
-pub mod chain_at;
-mod chain_calls;
-pub mod chain_handle;
+pub mod handles;
 pub mod key;
 
-use crate::code;
+use crate::chain_calls::{insert_into_chain, into_chain};
 use crate::told::{LruGone, LruTold};
-use crate::words::cache_handle::LruWords;
-use crate::words::chain_handle::LruWordsEvicted;
+use crate::words::handles::{LruWords, LruWordsEvicted};
 use crate::words::key::Words;
-use concurrent_lru::lru_core::Evicted;
+use crate::{calls, chain_calls, code};
 use core::mem::replace_with;
 use std::alloc::Global;
 
@@ -33,12 +28,14 @@ use std::alloc::Global;
 /// `OPEN` where the handle is open already, and `MEMORY`: the handle is as it was.
 #[unsafe(no_mangle)]
 pub extern "C" fn lru_words_new(alloc: Global, capacity: u64, out: &mut LruWords) -> u32
-    ensures { Opens out.old.is_open out.old.cache.held (λ c. c.state.cache ≡ empty_cache capacity most_pins_by_default 0) result out.new.cache.held }
+    ensures { Opens out.old.is_open out.old.cache.held
+        (λ c. c.state.cache ≡ empty_cache capacity most_pins_by_default 0)
+        result out.new.cache.held }
 {
     if out.is_open {
         return code::OPEN;
     }
-    match calls::make(alloc, capacity, 0, u32::MAX) {
+    match calls::make(alloc, capacity, 0, u32::MAX, ()) {
         Ok(cache) => {
             *out = cache;
             code::DONE
@@ -60,7 +57,11 @@ pub extern "C" fn lru_words_new_with_limits(
     most_pins: u32,
     out: &mut LruWords,
 ) -> u32
-    ensures { MatchBool (most_pins == 0) ((result ≡ codes.no_pins) × (out.new.cache.held ≡ out.old.cache.held)) (Opens out.old.is_open out.old.cache.held (λ c. c.state.cache ≡ empty_cache capacity most_pins first_stamp) result out.new.cache.held) }
+    ensures { MatchBool (most_pins == 0)
+        ((result ≡ codes.no_pins) × (out.new.cache.held ≡ out.old.cache.held))
+        (Opens out.old.is_open out.old.cache.held
+        (λ c. c.state.cache ≡ empty_cache capacity most_pins first_stamp)
+        result out.new.cache.held) }
 {
     if most_pins == 0 {
         return code::NO_PINS;
@@ -68,7 +69,7 @@ pub extern "C" fn lru_words_new_with_limits(
     if out.is_open {
         return code::OPEN;
     }
-    match calls::make(alloc, capacity, first_stamp, most_pins) {
+    match calls::make(alloc, capacity, first_stamp, most_pins, ()) {
         Ok(cache) => {
             *out = cache;
             code::DONE
@@ -83,22 +84,17 @@ pub extern "C" fn lru_words_new_with_limits(
 /// `CLOSED` where the cache or the chain is not open, and `NOT_EMPTY` where the chain has entries.
 #[unsafe(no_mangle)]
 pub extern "C" fn lru_words_free(cache: &mut LruWords, left: &mut LruWordsEvicted) -> u32
-    ensures { FreesInto left.old.chain.held left.new.chain.held result cache.old.cache.held cache.new.cache.held }
+    ensures { Into left.old left.new result cache.old cache.new
+        (λ o out n. (n ≡ None) × Frees o result out) }
 {
-    let filled = replace_with(left, (), chain_calls::is_filled);
-    if filled != code::DONE {
-        return filled;
-    }
-    let (answer, taken) = replace_with(cache, (), calls::free);
-    replace_with(left, (Evicted::none(), taken), chain_calls::put);
-    answer
+    into_chain(cache, (), left, calls::free)
 }
 
 /// Asks for the value of a key and pins its entry, which is made where there is none. What the
 /// charge of a new entry evicted is put into a chain, oldest first.
 ///
-/// `NO_CHARGE` for a charge of 0, `CLOSED` where the cache or the chain is not open, `NOT_EMPTY` where
-/// the chain has entries, and the refusals of the core: nothing changes.
+/// `NO_CHARGE` for a charge of 0, `CLOSED` where the cache or the chain is not open, `NOT_EMPTY`
+/// where the chain has entries, and the refusals of the core: nothing changes.
 #[unsafe(no_mangle)]
 pub extern "C" fn lru_words_begin(
     cache: &mut LruWords,
@@ -107,15 +103,15 @@ pub extern "C" fn lru_words_begin(
     charge: u64,
     gone: &mut LruWordsEvicted,
 ) -> LruTold
-    ensures { IntoChain (entries_of gone.old.chain.held) (entries_of gone.new.chain.held) result.code cache.old.cache.held cache.new.cache.held (λ out. Begins cache.old.cache.held (record { first = first; second = second }) charge result out cache.new.cache.held) }
+    ensures { Into gone.old gone.new result.code cache.old cache.new
+        (λ o out n. Begins o (words first second) charge result out n) }
 {
-    let filled = replace_with(gone, (), chain_calls::is_filled);
-    if filled != code::DONE {
-        return LruTold::bare(filled);
-    }
-    let (answer, taken) = replace_with(cache, (Words { first, second }, charge), calls::begin);
-    replace_with(gone, (Evicted::none(), taken), chain_calls::put);
-    answer
+    into_chain(
+        cache,
+        (Words { first, second }, charge),
+        gone,
+        by_key::begin,
+    )
 }
 
 /// Asks again for a value that was being made.
@@ -123,7 +119,7 @@ pub extern "C" fn lru_words_begin(
 /// `STALE` where no held entry has the stamp.
 #[unsafe(no_mangle)]
 pub extern "C" fn lru_words_poll(cache: &mut LruWords, stamp: u64) -> LruTold
-    ensures { Asks cache.old.cache.held (ask.poll stamp) result [] cache.new.cache.held }
+    ensures { Asks words_eq cache.old.cache.held (ask.poll stamp) result [] cache.new.cache.held }
 {
     replace_with(cache, stamp, calls::poll)
 }
@@ -133,7 +129,8 @@ pub extern "C" fn lru_words_poll(cache: &mut LruWords, stamp: u64) -> LruTold
 /// `STALE` where none is being made under the stamp; `MEMORY`, and then it is still being made.
 #[unsafe(no_mangle)]
 pub extern "C" fn lru_words_ready(cache: &mut LruWords, stamp: u64, value: u64) -> u32
-    ensures { AsksWithMemory cache.old.cache.held (ask.ready stamp value) (bare result) [] cache.new.cache.held }
+    ensures { AsksWithMemory words_eq cache.old.cache.held (ask.ready stamp value)
+        (bare result) [] cache.new.cache.held }
 {
     replace_with(cache, (stamp, value), calls::ready)
 }
@@ -143,7 +140,8 @@ pub extern "C" fn lru_words_ready(cache: &mut LruWords, stamp: u64, value: u64) 
 /// `STALE` where none is being made under the stamp.
 #[unsafe(no_mangle)]
 pub extern "C" fn lru_words_fail(cache: &mut LruWords, stamp: u64) -> u32
-    ensures { Asks cache.old.cache.held (ask.fail stamp) (bare result) [] cache.new.cache.held }
+    ensures { Asks words_eq cache.old.cache.held (ask.fail stamp)
+        (bare result) [] cache.new.cache.held }
 {
     replace_with(cache, stamp, calls::fail)
 }
@@ -153,17 +151,18 @@ pub extern "C" fn lru_words_fail(cache: &mut LruWords, stamp: u64) -> u32
 /// `OVERFLOW` where the entry has all its pins, `MEMORY` and `CLOSED`: nothing changes.
 #[unsafe(no_mangle)]
 pub extern "C" fn lru_words_get(cache: &mut LruWords, first: u64, second: u64) -> LruTold
-    ensures { Asks cache.old.cache.held (ask.get (record { first = first; second = second })) result [] cache.new.cache.held }
+    ensures { Asks words_eq cache.old.cache.held (ask.get (words first second)) result []
+        cache.new.cache.held }
 {
-    replace_with(cache, Words { first, second }, calls::get)
+    replace_with(cache, Words { first, second }, by_key::get)
 }
 
 /// Whether a key has a value: `DONE` or `MISSED`. Pins nothing and moves nothing.
 #[unsafe(no_mangle)]
 pub extern "C" fn lru_words_contains(cache: &mut LruWords, first: u64, second: u64) -> u32
-    ensures { Contains cache.old.cache.held (record { first = first; second = second }) result cache.new.cache.held }
+    ensures { Contains cache.old.cache.held (words first second) result cache.new.cache.held }
 {
-    replace_with(cache, Words { first, second }, calls::contains)
+    replace_with(cache, Words { first, second }, by_key::contains)
 }
 
 /// Gives a pin of a ready entry back. With its last pin the entry becomes the newest idle one, and
@@ -176,15 +175,10 @@ pub extern "C" fn lru_words_release(
     stamp: u64,
     gone: &mut LruWordsEvicted,
 ) -> u32
-    ensures { IntoChain (entries_of gone.old.chain.held) (entries_of gone.new.chain.held) result cache.old.cache.held cache.new.cache.held (λ out. Asks cache.old.cache.held (ask.release stamp) (bare result) out cache.new.cache.held) }
+    ensures { Into gone.old gone.new result cache.old cache.new
+        (λ o out n. Asks words_eq o (ask.release stamp) (bare result) out n) }
 {
-    let filled = replace_with(gone, (), chain_calls::is_filled);
-    if filled != code::DONE {
-        return filled;
-    }
-    let (answer, taken) = replace_with(cache, stamp, calls::release);
-    replace_with(gone, (Evicted::none(), taken), chain_calls::put);
-    answer
+    into_chain(cache, stamp, gone, calls::release)
 }
 
 /// Evicts the entry of a key into a chain, where it is idle; else nothing happens, now or later.
@@ -195,20 +189,15 @@ pub extern "C" fn lru_words_advice_evict(
     second: u64,
     gone: &mut LruWordsEvicted,
 ) -> u32
-    ensures { IntoChain (entries_of gone.old.chain.held) (entries_of gone.new.chain.held) result cache.old.cache.held cache.new.cache.held (λ out. Asks cache.old.cache.held (ask.advice_evict (record { first = first; second = second })) (bare result) out cache.new.cache.held) }
+    ensures { Into gone.old gone.new result cache.old cache.new
+        (λ o out n. Asks words_eq o (ask.advice_evict (words first second)) (bare result) out n) }
 {
-    let filled = replace_with(gone, (), chain_calls::is_filled);
-    if filled != code::DONE {
-        return filled;
-    }
-    let (answer, taken) = replace_with(cache, Words { first, second }, calls::advice_evict);
-    replace_with(gone, (Evicted::none(), taken), chain_calls::put);
-    answer
+    into_chain(cache, Words { first, second }, gone, by_key::advice_evict)
 }
 
-/// Detaches the entry of a key, so that no call by the key finds it. An idle entry is evicted into a
-/// chain; a held one is found by its stamp still, and is evicted with its last pin. Where the key has
-/// no entry, nothing happens.
+/// Detaches the entry of a key, so that no call by the key finds it. An idle entry is evicted into
+/// a chain; a held one is found by its stamp still, and is evicted with its last pin. Where the key
+/// has no entry, nothing happens.
 #[unsafe(no_mangle)]
 pub extern "C" fn lru_words_invalidate(
     cache: &mut LruWords,
@@ -216,23 +205,19 @@ pub extern "C" fn lru_words_invalidate(
     second: u64,
     gone: &mut LruWordsEvicted,
 ) -> u32
-    ensures { IntoChain (entries_of gone.old.chain.held) (entries_of gone.new.chain.held) result cache.old.cache.held cache.new.cache.held (λ out. Asks cache.old.cache.held (ask.invalidate (record { first = first; second = second })) (bare result) out cache.new.cache.held) }
+    ensures { Into gone.old gone.new result cache.old cache.new
+        (λ o out n. Asks words_eq o (ask.invalidate (words first second)) (bare result) out n) }
 {
-    let filled = replace_with(gone, (), chain_calls::is_filled);
-    if filled != code::DONE {
-        return filled;
-    }
-    let (answer, taken) = replace_with(cache, Words { first, second }, calls::invalidate);
-    replace_with(gone, (Evicted::none(), taken), chain_calls::put);
-    answer
+    into_chain(cache, Words { first, second }, gone, by_key::invalidate)
 }
 
 /// Puts a value in, whatever the key has: detaches the entry of the key as an invalidate does, and
 /// makes a new one, in which the caller has a pin: `DONE` with its stamp. The entry that was idle
 /// under the key, and then what the charge evicted, oldest first, are put into a chain.
 ///
-/// `NO_CHARGE` for a charge of 0, `CLOSED` where the cache or the chain is not open, `NOT_EMPTY` where
-/// the chain has entries, `OVERFLOW` and `MEMORY`: nothing changes, and the value is not taken.
+/// `NO_CHARGE` for a charge of 0, `CLOSED` where the cache or the chain is not open, `NOT_EMPTY`
+/// where the chain has entries, `OVERFLOW` and `MEMORY`: nothing changes, and the value is not
+/// taken.
 #[unsafe(no_mangle)]
 pub extern "C" fn lru_words_insert(
     cache: &mut LruWords,
@@ -242,33 +227,24 @@ pub extern "C" fn lru_words_insert(
     value: u64,
     gone: &mut LruWordsEvicted,
 ) -> LruTold
-    ensures { IntoChain (entries_of gone.old.chain.held) (entries_of gone.new.chain.held) result.code cache.old.cache.held cache.new.cache.held (λ out. InsertsInto cache.old.cache.held (record { first = first; second = second }) charge value result out cache.new.cache.held) }
+    ensures { Into gone.old gone.new result.code cache.old cache.new
+        (λ o out n. InsertsInto o (words first second) charge value result out n) }
 {
-    let filled = replace_with(gone, (), chain_calls::is_filled);
-    if filled != code::DONE {
-        return LruTold::bare(filled);
-    }
-    let (answer, taken) = replace_with(
+    insert_into_chain(
         cache,
         (Words { first, second }, charge, value),
-        calls::insert,
-    );
-    replace_with(gone, taken, chain_calls::put);
-    answer
+        gone,
+        by_key::insert,
+    )
 }
 
 /// Evicts each idle entry into a chain, oldest first.
 #[unsafe(no_mangle)]
 pub extern "C" fn lru_words_prune(cache: &mut LruWords, gone: &mut LruWordsEvicted) -> u32
-    ensures { IntoChain (entries_of gone.old.chain.held) (entries_of gone.new.chain.held) result cache.old.cache.held cache.new.cache.held (λ out. Asks cache.old.cache.held ask.prune (bare result) out cache.new.cache.held) }
+    ensures { Into gone.old gone.new result cache.old cache.new
+        (λ o out n. Asks words_eq o ask.prune (bare result) out n) }
 {
-    let filled = replace_with(gone, (), chain_calls::is_filled);
-    if filled != code::DONE {
-        return filled;
-    }
-    let (answer, taken) = replace_with(cache, (), calls::prune);
-    replace_with(gone, (Evicted::none(), taken), chain_calls::put);
-    answer
+    into_chain(cache, (), gone, calls::prune)
 }
 
 /// Sets the capacity, and evicts at once what is idle and too much for it.
@@ -278,15 +254,10 @@ pub extern "C" fn lru_words_set_capacity(
     capacity: u64,
     gone: &mut LruWordsEvicted,
 ) -> u32
-    ensures { IntoChain (entries_of gone.old.chain.held) (entries_of gone.new.chain.held) result cache.old.cache.held cache.new.cache.held (λ out. Asks cache.old.cache.held (ask.set_capacity capacity) (bare result) out cache.new.cache.held) }
+    ensures { Into gone.old gone.new result cache.old cache.new
+        (λ o out n. Asks words_eq o (ask.set_capacity capacity) (bare result) out n) }
 {
-    let filled = replace_with(gone, (), chain_calls::is_filled);
-    if filled != code::DONE {
-        return filled;
-    }
-    let (answer, taken) = replace_with(cache, capacity, calls::set_capacity);
-    replace_with(gone, (Evicted::none(), taken), chain_calls::put);
-    answer
+    into_chain(cache, capacity, gone, calls::set_capacity)
 }
 
 /// Makes room for this many entries in all. No entry changes in any case.
@@ -329,10 +300,12 @@ pub extern "C" fn lru_words_key_of(
     first: &mut u64,
     second: &mut u64,
 ) -> u32
-    ensures told { KeyOf cache.old.cache.held stamp result (record { first = first.new; second = second.new }) cache.new.cache.held }
-    ensures kept { MatchBool (result == codes.done) ⊤ ((first.new ≡ first.old) × (second.new ≡ second.old)) }
+    ensures told { KeyOf cache.old.cache.held stamp result
+        (words first.new second.new) cache.new.cache.held }
+    ensures kept { MatchBool (result == codes.done) ⊤
+        ((first.new ≡ first.old) × (second.new ≡ second.old)) }
 {
-    let (code, key) = replace_with(cache, stamp, calls::key_of);
+    let (code, key) = replace_with(cache, stamp, by_key::key_of);
     if code != code::DONE {
         return code;
     }
@@ -346,7 +319,8 @@ pub extern "C" fn lru_words_key_of(
 /// `OPEN` where the handle is open already, and `MEMORY`: the handle is as it was.
 #[unsafe(no_mangle)]
 pub extern "C" fn lru_words_evicted_new(alloc: Global, out: &mut LruWordsEvicted) -> u32
-    ensures { Opens out.old.is_open out.old.chain.held (λ c. entries_in (entries_of (Some c)) ≡ []) result out.new.chain.held }
+    ensures { Opens out.old.is_open out.old.chain.held (λ c. entries_in (entries_of (Some c)) ≡ [])
+        result out.new.chain.held }
 {
     if out.is_open {
         return code::OPEN;
@@ -366,7 +340,8 @@ pub extern "C" fn lru_words_evicted_new(alloc: Global, out: &mut LruWordsEvicted
 #[unsafe(no_mangle)]
 pub extern "C" fn lru_words_evicted_free(chain: &mut LruWordsEvicted) -> u32
     ensures code { result ≡ chain_code (entries_of chain.old.chain.held) }
-    ensures chain { MatchBool (result == codes.done) (chain.new.chain.held ≡ None) (chain.new.chain.held ≡ chain.old.chain.held) }
+    ensures chain { MatchBool (result == codes.done) (chain.new.chain.held ≡ None)
+        (chain.new.chain.held ≡ chain.old.chain.held) }
 {
     let filled = replace_with(chain, (), chain_calls::is_filled);
     if filled != code::DONE {
@@ -380,7 +355,11 @@ pub extern "C" fn lru_words_evicted_free(chain: &mut LruWordsEvicted) -> u32
 #[unsafe(no_mangle)]
 pub extern "C" fn lru_words_evicted_pop(chain: &mut LruWordsEvicted, out: &mut LruGone) -> bool
     ensures stays { is_some chain.new.chain.held ≡ is_some chain.old.chain.held }
-    ensures first { MatchBool result (TellsFirst (entries_in (entries_of chain.old.chain.held)) out.new (entries_in (entries_of chain.new.chain.held))) ((entries_in (entries_of chain.old.chain.held) ≡ []) × (entries_in (entries_of chain.new.chain.held) ≡ []) × (out.new ≡ out.old)) }
+    ensures first { MatchBool result
+        (TellsFirst (entries_in (entries_of chain.old.chain.held)) out.new
+        (entries_in (entries_of chain.new.chain.held)))
+        ((entries_in (entries_of chain.old.chain.held) ≡ []) ×
+        (entries_in (entries_of chain.new.chain.held) ≡ []) × (out.new ≡ out.old)) }
 {
     match replace_with(chain, (), chain_calls::pop) {
         Some(gone) => {
@@ -395,7 +374,8 @@ pub extern "C" fn lru_words_evicted_pop(chain: &mut LruWordsEvicted, out: &mut L
 #[unsafe(no_mangle)]
 pub extern "C" fn lru_words_evicted_is_empty(chain: &mut LruWordsEvicted) -> bool
     ensures same { chain.new.chain.held ≡ chain.old.chain.held }
-    ensures empty { MatchBool (chain_code (entries_of chain.old.chain.held) == codes.not_empty) (result ≡ false) (result ≡ true) }
+    ensures empty { MatchBool (chain_code (entries_of chain.old.chain.held) == codes.not_empty)
+        (result ≡ false) (result ≡ true) }
 {
     replace_with(chain, (), chain_calls::is_filled) != code::NOT_EMPTY
 }

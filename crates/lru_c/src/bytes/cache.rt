@@ -1,40 +1,30 @@
-//! What the handle of a cache leads to: the cache, and room for a key.
+//! The steps of a cache by the bytes of a key.
 //! A look-up takes a whole key, so the bytes that are asked are copied into one that is kept.
 ghost use Rattle.std.specs.Prelude.{◌≡◌, [], true};
 ghost use Rattle.concurrent_lru.specs.Request as ask;
 
+use crate::cache::Cache;
 use crate::told::LruTold;
 use crate::{code, steps};
-use concurrent_lru::lru_core::{Evicted, State};
-use std::alloc::Global;
+use concurrent_lru::lru_core::Evicted;
 
-/// A cache whose keys are bytes.
-#[derive(Drop)]
-pub struct BytesCache {
-    /// What values are put on the heap by.
-    pub alloc: Global,
-    /// The cache.
-    pub state: State<Vec<u8>, u64>,
-    /// The key that was asked last. It grows as longer keys are asked.
-    pub key: Vec<u8>,
-}
-
-impl BytesCache {
+impl Cache<Vec<u8>, Vec<u8>> {
     ghost use Rattle.lru_c.specs.BytesCalls.{bytes_eq, BeginsByKey, ContainsBytes};
     ghost use Rattle.lru_c.specs.Inserts.{TellsInsertOf};
     ghost use Rattle.lru_c.specs.Told.{bare, Asks, AsksOf};
 
     // Copies the bytes of a key into the room for one. False where the room can't grow.
     fn keep(&mut self, key: &[u8]) -> bool
-        ensures kept { result ≡ true → self.new.key.items ≡ key.now }
+        ensures kept { result ≡ true → self.new.room.items ≡ key.now }
         ensures state { self.new.state ≡ self.old.state }
     {
-        self.key.clear();
-        self.key.extend_from_slice(key).is_ok()
+        self.room.clear();
+        self.room.extend_from_slice(key).is_ok()
     }
 
     pub(crate) fn begin(&mut self, key: &[u8], charge: u64) -> (LruTold, Evicted<Vec<u8>, u64>)
-        ensures { BeginsByKey self.old.state.cache key.now charge result.0 result.1 self.new.state.cache }
+        ensures { BeginsByKey self.old.state.cache key.now charge result.0 result.1
+            self.new.state.cache }
     {
         if charge == 0 {
             return (LruTold::bare(code::NO_CHARGE), Evicted::none());
@@ -42,34 +32,37 @@ impl BytesCache {
         if !self.keep(key) {
             return (LruTold::bare(code::MEMORY), Evicted::none());
         }
-        steps::begin_charged(&mut self.state, &self.key, charge)
+        steps::begin_charged(&mut self.state, &self.room, charge)
     }
 
     pub(crate) fn get(&mut self, key: &[u8]) -> LruTold
-        ensures { AsksOf bytes_eq (λ k. k.items ≡ key.now) self.old.state.cache ask.get result [] self.new.state.cache }
+        ensures { AsksOf bytes_eq (λ k. k.items ≡ key.now) self.old.state.cache ask.get result []
+            self.new.state.cache }
     {
         if !self.keep(key) {
             return LruTold::bare(code::MEMORY);
         }
-        steps::get(&mut self.state, &self.key)
+        steps::get(&mut self.state, &self.room)
     }
 
     pub(crate) fn advice_evict(&mut self, key: &[u8]) -> (u32, Evicted<Vec<u8>, u64>)
-        ensures { AsksOf bytes_eq (λ k. k.items ≡ key.now) self.old.state.cache ask.advice_evict (bare result.0) result.1 self.new.state.cache }
+        ensures { AsksOf bytes_eq (λ k. k.items ≡ key.now) self.old.state.cache ask.advice_evict
+            (bare result.0) result.1 self.new.state.cache }
     {
         if !self.keep(key) {
             return (code::MEMORY, Evicted::none());
         }
-        steps::advice_evict(&mut self.state, &self.key)
+        steps::advice_evict(&mut self.state, &self.room)
     }
 
     pub(crate) fn invalidate(&mut self, key: &[u8]) -> (u32, Evicted<Vec<u8>, u64>)
-        ensures { AsksOf bytes_eq (λ k. k.items ≡ key.now) self.old.state.cache ask.invalidate (bare result.0) result.1 self.new.state.cache }
+        ensures { AsksOf bytes_eq (λ k. k.items ≡ key.now) self.old.state.cache ask.invalidate
+            (bare result.0) result.1 self.new.state.cache }
     {
         if !self.keep(key) {
             return (code::MEMORY, Evicted::none());
         }
-        steps::invalidate(&mut self.state, &self.key)
+        steps::invalidate(&mut self.state, &self.room)
     }
 
     pub(crate) fn insert(
@@ -78,7 +71,8 @@ impl BytesCache {
         charge: u64,
         value: u64,
     ) -> (LruTold, (Evicted<Vec<u8>, u64>, Evicted<Vec<u8>, u64>))
-        ensures { TellsInsertOf bytes_eq (λ k. k.items ≡ key.now) self.old.state.cache charge value result.0 result.1.0 result.1.1 self.new.state.cache }
+        ensures { TellsInsertOf bytes_eq (λ k. k.items ≡ key.now) self.old.state.cache charge value
+            result.0 result.1.0 result.1.1 self.new.state.cache }
     {
         if charge == 0 {
             return steps::refused(code::NO_CHARGE);
@@ -86,7 +80,7 @@ impl BytesCache {
         if !self.keep(key) {
             return steps::refused(code::MEMORY);
         }
-        steps::insert(&mut self.state, self.alloc, &self.key, charge, value)
+        steps::insert(&mut self.state, self.alloc, &self.room, charge, value)
     }
 
     pub(crate) fn contains(&mut self, key: &[u8]) -> u32
@@ -96,6 +90,6 @@ impl BytesCache {
         if !self.keep(key) {
             return code::MEMORY;
         }
-        steps::contains(&self.state, &self.key)
+        steps::contains(&self.state, &self.room)
     }
 }

@@ -1,8 +1,0 @@
-use Rattle.std.proofs.Common.{inr, refl, subst}
-use Rattle.lru_c.specs.BytesCalls.{bytes_eq}
-use Rattle.lru_c.specs.Opened.{TellsReady}
-use Rattle.lru_c.proofs.bytes.cache.BytesCache.contains.Goals as goal
-
-pub returns-clause-contains : goal.returns-clause-contains
-returns-clause-contains c =
-    inr (c.keep.new.self.key, c.if-not-keep.ensures.kept refl, subst (λ s. TellsReady bytes_eq s.cache c.keep.new.self.key c.contains.result) c.keep.ensures.state c.contains.ensures)

@@ -1,5 +1,0 @@
-use Rattle.lru_c.proofs.WordsOpened.{begins}
-use Rattle.lru_c.proofs.words.calls.begin.Goals as goal
-
-pub returns-in-Ok : goal.returns-in-Ok
-returns-in-Ok c = begins c.in-Ok.ensures c.of.ensures c.deref_mut.result.now c.deref_mut.ensures.value c.args.asked.0 c.args.asked.1 c.begin-answer.result.0 c.begin-answer.result.1 c.begin-answer.ensures

@@ -1,0 +1,23 @@
+-- A pointer may go to another thread, as what it owns may.
+use denote.Struct.Struct.{exits_of}
+use denote.Struct.Owning.{shape, fields, to}
+use denote.Param.Send.{IsSend, AllSend, owning_send, struct_send, sendable}
+use denote.Param.SendFields.{declared_send}
+use Rattle.std.proofs.Crossing as heap
+use Rattle.std_alloc.proofs.SendSync.{quiet}
+use Rattle.std_heap.proofs.Global.TheSendSync as handle
+use Rattle.lru_c.proofs.EvictedSent.{evicted_send}
+use Rattle.lru_c.proofs.HandleSent.{held_keyless}
+use Rattle.lru_c.specs.WordsHeld.{chain_row, key_row}
+use Rattle.lru_c.specs.contracts.chain.Chain as Chain
+use Rattle.lru_c.specs.contracts.words.handles.WordsChainAt.{the_row, the_type}
+
+-- the chain has no more than two chains of evicted entries
+inner : IsSend chain_row
+inner = declared_send (Chain.the_type key_row) (search (sendable, heap.crosses, evicted_send) depth 12)
+
+pub send : IsSend the_row
+send =
+    let all : AllSend (fields the_type) = (search sendable, (handle.the_field_send, tt)) in
+    owning_send the_type all (λ d. held_keyless chain_row inner d.alloc d.at d.held)
+    (λ k. quiet (to the_type) (exits_of k (fields the_type)) ((struct_send (shape the_type) all).leaving k))

@@ -1,0 +1,165 @@
+//! The handles of caches and chains whose keys are bytes, as C holds them.
+ghost use Rattle.std.specs.Prelude.{◌≡◌, Option, is_some};
+ghost use Rattle.lru_c.specs.BytesHeld.{BytesCache as HeldCache, BytesChain as HeldChain, bytes_cache_coded, bytes_cache_owns, bytes_chain_coded, bytes_chain_owns};
+
+use crate::at::At;
+use crate::cache::Cache;
+use crate::chain::Chain;
+use crate::handle::Handle;
+use std::alloc::Global;
+use std::marker::{Model, Send};
+
+/// A cache whose keys are bytes. A look-up takes a whole key, so the bytes that are asked are
+/// copied into one that is kept.
+pub type BytesCache = Cache<Vec<u8>, Vec<u8>>;
+
+/// A chain of entries of such caches.
+pub type BytesChain = Chain<Vec<u8>>;
+
+/// A pointer of C. Where `held` is some, it owns that cache as a box does; else it owns nothing.
+#[repr(C)]
+#[derive(Drop)]
+pub struct BytesCacheAt {
+    at: *mut u8,
+    alloc: Global,
+    pub ghost held: { Option HeldCache } by { bytes_cache_coded },
+}
+
+impl Model for BytesCacheAt {
+    ghost also_owns = { λ c. bytes_cache_owns c.alloc c.at c.held };
+}
+
+// One call at a time, from any thread.
+unsafe impl Send for BytesCacheAt {}
+
+impl BytesCacheAt {
+    fn of(parts: At<BytesCache, Global>) -> BytesCacheAt
+        ensures { result.held ≡ parts.held }
+    {
+        let At { ptr, alloc } = parts;
+        BytesCacheAt {
+            at: ptr as *mut u8,
+            alloc,
+        }
+    }
+
+    fn into_parts(self) -> At<BytesCache, Global>
+        ensures { result.held ≡ self.held }
+    {
+        let BytesCacheAt { at, alloc } = self;
+        At {
+            ptr: at as *mut BytesCache,
+            alloc,
+        }
+    }
+}
+
+/// A cache as C holds it: a pointer, and whether it is open, which a call can test. All zeros is a
+/// handle that is not open.
+#[repr(C)]
+#[derive(Drop)]
+pub struct LruBytes {
+    /// The pointer, with what it owns.
+    pub cache: BytesCacheAt,
+    /// Whether it owns anything.
+    pub is_open: bool,
+    pub ghost agrees: { is_some cache.held ≡ is_open },
+}
+
+impl Handle for LruBytes {
+    type To = BytesCache;
+
+    ghost held = { λ h. h.cache.held };
+
+    fn of_parts(at: At<BytesCache, Global>, is_open: bool) -> LruBytes
+        requires { is_some at.held ≡ is_open }
+        ensures { result.cache.held ≡ at.held }
+    {
+        LruBytes {
+            cache: BytesCacheAt::of(at),
+            is_open,
+        }
+    }
+
+    fn into_parts(self) -> (At<BytesCache, Global>, bool)
+        ensures held { result.0.held ≡ self.cache.held }
+        ensures is_open { is_some result.0.held ≡ result.1 }
+    {
+        let LruBytes { cache, is_open } = self;
+        (cache.into_parts(), is_open)
+    }
+}
+
+/// A pointer of C. Where `held` is some, it owns that chain as a box does; else it owns nothing.
+#[repr(C)]
+#[derive(Drop)]
+pub struct BytesChainAt {
+    at: *mut u8,
+    alloc: Global,
+    pub ghost held: { Option HeldChain } by { bytes_chain_coded },
+}
+
+impl Model for BytesChainAt {
+    ghost also_owns = { λ c. bytes_chain_owns c.alloc c.at c.held };
+}
+
+// One call at a time, from any thread.
+unsafe impl Send for BytesChainAt {}
+
+impl BytesChainAt {
+    fn of(parts: At<BytesChain, Global>) -> BytesChainAt
+        ensures { result.held ≡ parts.held }
+    {
+        let At { ptr, alloc } = parts;
+        BytesChainAt {
+            at: ptr as *mut u8,
+            alloc,
+        }
+    }
+
+    fn into_parts(self) -> At<BytesChain, Global>
+        ensures { result.held ≡ self.held }
+    {
+        let BytesChainAt { at, alloc } = self;
+        At {
+            ptr: at as *mut BytesChain,
+            alloc,
+        }
+    }
+}
+
+/// A chain as C holds it: a pointer, and whether it is open, which a call can test. All zeros is a
+/// handle that is not open.
+#[repr(C)]
+#[derive(Drop)]
+pub struct LruBytesEvicted {
+    /// The pointer, with what it owns.
+    pub chain: BytesChainAt,
+    /// Whether it owns anything.
+    pub is_open: bool,
+    pub ghost agrees: { is_some chain.held ≡ is_open },
+}
+
+impl Handle for LruBytesEvicted {
+    type To = BytesChain;
+
+    ghost held = { λ h. h.chain.held };
+
+    fn of_parts(at: At<BytesChain, Global>, is_open: bool) -> LruBytesEvicted
+        requires { is_some at.held ≡ is_open }
+        ensures { result.chain.held ≡ at.held }
+    {
+        LruBytesEvicted {
+            chain: BytesChainAt::of(at),
+            is_open,
+        }
+    }
+
+    fn into_parts(self) -> (At<BytesChain, Global>, bool)
+        ensures held { result.0.held ≡ self.chain.held }
+        ensures is_open { is_some result.0.held ≡ result.1 }
+    {
+        let LruBytesEvicted { chain, is_open } = self;
+        (chain.into_parts(), is_open)
+    }
+}

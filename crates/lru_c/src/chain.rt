@@ -1,0 +1,55 @@
+//! What the handle of a chain leads to.
+ghost use Rattle.std.specs.Prelude.{◌≡◌, ◌++◌, Some};
+ghost use Rattle.lru_c.specs.Chains.{chain_code, Pops};
+
+use crate::code;
+use crate::told::LruGone;
+use concurrent_lru::lru_core::{Evicted, Gone};
+
+/// What a call took out of a cache, oldest first: these, and then those.
+#[derive(Drop)]
+pub struct Chain<K> {
+    /// What is popped first.
+    pub first: Evicted<K, u64>,
+    /// What is popped after it.
+    pub rest: Evicted<K, u64>,
+}
+
+impl<K: Drop> Chain<K> {
+    // Whether it takes more.
+    pub(crate) fn is_filled(&self) -> u32
+        ensures { result ≡ chain_code (Some (self.now.first ++ self.now.rest)) }
+    {
+        if !self.first.is_empty() {
+            return code::NOT_EMPTY;
+        }
+        if !self.rest.is_empty() {
+            return code::NOT_EMPTY;
+        }
+        code::DONE
+    }
+
+    // Takes the oldest entry out.
+    pub(crate) fn pop(&mut self) -> Option<LruGone>
+        ensures { Pops (self.old.first ++ self.old.rest) result (self.new.first ++ self.new.rest) }
+    {
+        match self.first.pop() {
+            Some(gone) => Some(told(&gone)),
+            None => match self.rest.pop() {
+                Some(gone) => Some(told(&gone)),
+                None => None,
+            },
+        }
+    }
+}
+
+fn told<K>(gone: &Gone<K, u64>) -> LruGone
+    ensures { (result.stamp ≡ gone.now.stamp) × (result.charge ≡ gone.now.charge) ×
+        (result.value ≡ gone.now.value.value) }
+{
+    LruGone {
+        stamp: gone.stamp,
+        charge: gone.charge,
+        value: *gone.value,
+    }
+}

@@ -1,0 +1,165 @@
+//! The handles of caches and chains whose keys are two words, as C holds them.
+ghost use Rattle.std.specs.Prelude.{◌≡◌, Option, is_some};
+ghost use Rattle.lru_c.specs.WordsHeld.{WordsCache as HeldCache, WordsChain as HeldChain, words_cache_coded, words_cache_owns, words_chain_coded, words_chain_owns};
+
+use crate::at::At;
+use crate::cache::Cache;
+use crate::chain::Chain;
+use crate::handle::Handle;
+use crate::words::key::Words;
+use std::alloc::Global;
+use std::marker::{Model, Send};
+
+/// A cache whose keys are two words.
+pub type WordsCache = Cache<Words, ()>;
+
+/// A chain of entries of such caches.
+pub type WordsChain = Chain<Words>;
+
+/// A pointer of C. Where `held` is some, it owns that cache as a box does; else it owns nothing.
+#[repr(C)]
+#[derive(Drop)]
+pub struct WordsCacheAt {
+    at: *mut u8,
+    alloc: Global,
+    pub ghost held: { Option HeldCache } by { words_cache_coded },
+}
+
+impl Model for WordsCacheAt {
+    ghost also_owns = { λ c. words_cache_owns c.alloc c.at c.held };
+}
+
+// One call at a time, from any thread.
+unsafe impl Send for WordsCacheAt {}
+
+impl WordsCacheAt {
+    fn of(parts: At<WordsCache, Global>) -> WordsCacheAt
+        ensures { result.held ≡ parts.held }
+    {
+        let At { ptr, alloc } = parts;
+        WordsCacheAt {
+            at: ptr as *mut u8,
+            alloc,
+        }
+    }
+
+    fn into_parts(self) -> At<WordsCache, Global>
+        ensures { result.held ≡ self.held }
+    {
+        let WordsCacheAt { at, alloc } = self;
+        At {
+            ptr: at as *mut WordsCache,
+            alloc,
+        }
+    }
+}
+
+/// A cache as C holds it: a pointer, and whether it is open, which a call can test. All zeros is a
+/// handle that is not open.
+#[repr(C)]
+#[derive(Drop)]
+pub struct LruWords {
+    /// The pointer, with what it owns.
+    pub cache: WordsCacheAt,
+    /// Whether it owns anything.
+    pub is_open: bool,
+    pub ghost agrees: { is_some cache.held ≡ is_open },
+}
+
+impl Handle for LruWords {
+    type To = WordsCache;
+
+    ghost held = { λ h. h.cache.held };
+
+    fn of_parts(at: At<WordsCache, Global>, is_open: bool) -> LruWords
+        requires { is_some at.held ≡ is_open }
+        ensures { result.cache.held ≡ at.held }
+    {
+        LruWords {
+            cache: WordsCacheAt::of(at),
+            is_open,
+        }
+    }
+
+    fn into_parts(self) -> (At<WordsCache, Global>, bool)
+        ensures held { result.0.held ≡ self.cache.held }
+        ensures is_open { is_some result.0.held ≡ result.1 }
+    {
+        let LruWords { cache, is_open } = self;
+        (cache.into_parts(), is_open)
+    }
+}
+
+/// A pointer of C. Where `held` is some, it owns that chain as a box does; else it owns nothing.
+#[repr(C)]
+#[derive(Drop)]
+pub struct WordsChainAt {
+    at: *mut u8,
+    alloc: Global,
+    pub ghost held: { Option HeldChain } by { words_chain_coded },
+}
+
+impl Model for WordsChainAt {
+    ghost also_owns = { λ c. words_chain_owns c.alloc c.at c.held };
+}
+
+// One call at a time, from any thread.
+unsafe impl Send for WordsChainAt {}
+
+impl WordsChainAt {
+    fn of(parts: At<WordsChain, Global>) -> WordsChainAt
+        ensures { result.held ≡ parts.held }
+    {
+        let At { ptr, alloc } = parts;
+        WordsChainAt {
+            at: ptr as *mut u8,
+            alloc,
+        }
+    }
+
+    fn into_parts(self) -> At<WordsChain, Global>
+        ensures { result.held ≡ self.held }
+    {
+        let WordsChainAt { at, alloc } = self;
+        At {
+            ptr: at as *mut WordsChain,
+            alloc,
+        }
+    }
+}
+
+/// A chain as C holds it: a pointer, and whether it is open, which a call can test. All zeros is a
+/// handle that is not open.
+#[repr(C)]
+#[derive(Drop)]
+pub struct LruWordsEvicted {
+    /// The pointer, with what it owns.
+    pub chain: WordsChainAt,
+    /// Whether it owns anything.
+    pub is_open: bool,
+    pub ghost agrees: { is_some chain.held ≡ is_open },
+}
+
+impl Handle for LruWordsEvicted {
+    type To = WordsChain;
+
+    ghost held = { λ h. h.chain.held };
+
+    fn of_parts(at: At<WordsChain, Global>, is_open: bool) -> LruWordsEvicted
+        requires { is_some at.held ≡ is_open }
+        ensures { result.chain.held ≡ at.held }
+    {
+        LruWordsEvicted {
+            chain: WordsChainAt::of(at),
+            is_open,
+        }
+    }
+
+    fn into_parts(self) -> (At<WordsChain, Global>, bool)
+        ensures held { result.0.held ≡ self.chain.held }
+        ensures is_open { is_some result.0.held ≡ result.1 }
+    {
+        let LruWordsEvicted { chain, is_open } = self;
+        (chain.into_parts(), is_open)
+    }
+}
