@@ -1,7 +1,6 @@
 //! The calls on a cache behind a handle, which is handed in and handed back, for keys of any type.
 ghost use Rattle.std.specs.Prelude.{◌≡◌, ◌<◌, [], None, IfOk, MatchOption};
-ghost use Rattle.concurrent_lru.specs.Keys.{CopiesAreEqual};
-ghost use Rattle.concurrent_lru.specs.Cache.{count_of, empty_cache, sum_of};
+ghost use Rattle.concurrent_lru.specs.Cache.{CopiesAreEqual, count_of, empty_cache, sum_of};
 ghost use Rattle.concurrent_lru.specs.Request as ask;
 ghost use Rattle.lru_c.specs.Told.{bare};
 ghost use Rattle.lru_c.specs.Calls.{Asks, AsksWithMemory, Frees, Numbers, Reserves};
