@@ -4,15 +4,13 @@ ghost use Rattle.std.specs.Prelude.{◌<◌};
 use crate::counted::{Book, CountedValue};
 use crate::outcome::{Check, Counts, Trouble};
 use crate::plan::Plan;
-use crate::workers;
-use crate::workers::{Answer, StressTarget, Unmade};
+use crate::workers::{Answer, Notes, StressTarget, Unmade};
 use concurrent_lru::{sharded, unsharded};
 use lru_support::cached::Cached;
 use lru_support::calls::WorkerCall;
 use std::alloc::Global;
 use std::hash::{BuildHasherDefault, FoldHasher};
 use std::sync::Arc;
-use std::thread::Threads;
 
 /// The hasher of the cache in shards.
 pub type KeyHasher = BuildHasherDefault<FoldHasher>;
@@ -23,11 +21,10 @@ pub type Cache<R> = unsharded::LruCache<u64, CountedValue, R>;
 /// The cache in shards.
 pub type Shards<R> = sharded::LruCache<u64, CountedValue, R, KeyHasher>;
 
-// A reference to a cache, and how it is asked.
+/// A reference to a cache, how it is asked, and the book of its values.
 #[derive(Drop)]
-struct CheckedCache<C> {
+pub struct CheckedCache<C> {
     cache: C,
-    /// The book of the values.
     book: Arc<Book>,
     // How often an `init` yields.
     yields: u32,
@@ -61,48 +58,42 @@ impl<C: Cached<CountedValue>> StressTarget for CheckedCache<C> {
     }
 }
 
-/// Has all workers make their calls on an empty cache, whose total may be at most `allowed` in the
-/// end, and returns what was counted.
-///
-/// Returns `Refused` if memory was refused to a call or a worker could not have its own thread, and
-/// else the first check that failed.
-pub fn share<R: Threads + Sync, C: Cached<CountedValue> + Sync>(
-    rt: &R,
-    alloc: Global,
-    plan: &Plan,
-    cache: C,
-    allowed: u128,
-) -> Result<Counts, Trouble> {
-    let book = Arc::new(alloc, Book::new())?;
-    let checked = CheckedCache {
-        cache,
-        book,
-        yields: plan.yields,
-        looks: plan.looks,
-    };
-    let noted = workers::share(rt, alloc, plan, &checked)?;
-    let counts = Counts {
-        makings: checked.book.inits(),
-        hits: noted.hits,
-        evictions: checked.book.dropped(),
-        meetings: noted.meetings,
-        greatest: noted.greatest,
-    };
-    check(cache, &checked.book, allowed)?;
-    Ok(counts)
-}
+impl<C: Cached<CountedValue>> CheckedCache<C> {
+    /// Returns an empty cache of whose values a new book is kept, to be asked as the plan says.
+    ///
+    /// Returns `Refused` if memory was refused.
+    pub fn of(alloc: Global, plan: &Plan, cache: C) -> Result<CheckedCache<C>, Trouble> {
+        let book = Arc::new(alloc, Book::new())?;
+        Ok(CheckedCache {
+            cache,
+            book,
+            yields: plan.yields,
+            looks: plan.looks,
+        })
+    }
 
-// Checks a cache that no worker uses any more.
-fn check<C: Cached<CountedValue>>(cache: C, book: &Book, allowed: u128) -> Result<(), Trouble> {
-    if cache.total_charge() > allowed {
-        return Err(Trouble::Failed(Check::Total));
+    /// Checks the cache once no worker uses it any more, whose total may be at most `allowed`, and
+    /// returns what was counted.
+    ///
+    /// Returns the first check that failed.
+    pub fn finish(&self, noted: Notes, allowed: u128) -> Result<Counts, Trouble> {
+        let counts = Counts {
+            makings: self.book.inits(),
+            hits: noted.hits,
+            evictions: self.book.dropped(),
+            meetings: noted.meetings,
+            greatest: noted.greatest,
+        };
+        if self.cache.total_charge() > allowed {
+            return Err(Trouble::Failed(Check::Total));
+        }
+        self.cache.prune();
+        if self.cache.total_charge() != 0 {
+            return Err(Trouble::Failed(Check::Prune));
+        }
+        if self.book.dropped() != self.book.made() {
+            return Err(Trouble::Failed(Check::Drops));
+        }
+        Ok(counts)
     }
-    cache.prune();
-    if cache.total_charge() != 0 {
-        return Err(Trouble::Failed(Check::Prune));
-    }
-    if book.dropped() != book.made() {
-        return Err(Trouble::Failed(Check::Drops));
-    }
-    Ok(())
 }

@@ -1,9 +1,9 @@
 //! The three parts of a stress run: a cache of one lock, a cache in shards, and a twin.
 
-use crate::checked::{Cache, Shards};
+use crate::checked::{Cache, CheckedCache, Shards};
 use crate::outcome::{Counts, Trouble};
 use crate::plan::Plan;
-use crate::{checked, twin};
+use crate::{twin, workers};
 use concurrent_lru::sharded::capacity_per_shard;
 use lru_journal::journal::Opening;
 use std::alloc::Global;
@@ -65,7 +65,9 @@ fn on_one_lock<R: Threads + Wait + Clone + Drop + Send + Sync>(
     plan: &Plan,
 ) -> Result<Counts, Trouble> {
     let cache: Cache<R> = Cache::new(alloc, rt.clone()?, plan.lock_capacity);
-    checked::share(rt, alloc, plan, &cache, u128::from(plan.lock_capacity))
+    let checked = CheckedCache::of(alloc, plan, &cache)?;
+    let noted = workers::share(rt, alloc, plan, &checked)?;
+    checked.finish(noted, u128::from(plan.lock_capacity))
 }
 
 fn in_shards<R: Threads + Wait + Clone + Drop + Send + Sync>(
@@ -81,7 +83,9 @@ fn in_shards<R: Threads + Wait + Clone + Drop + Send + Sync>(
         BuildHasherDefault::new(),
     );
     let cache = made?;
-    checked::share(rt, alloc, plan, &cache, allowed_in_shards(plan))
+    let checked = CheckedCache::of(alloc, plan, &cache)?;
+    let noted = workers::share(rt, alloc, plan, &checked)?;
+    checked.finish(noted, allowed_in_shards(plan))
 }
 
 // Returns the sum of the shards' capacities: each share is rounded up.

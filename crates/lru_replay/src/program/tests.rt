@@ -171,7 +171,9 @@ fn tells_what_a_line_should_be(rt: HostRuntime) -> Result<(), Fail> {
         let input = format!(in alloc; "new 1\n{line}\nprune\n")?;
         let said = format!(in alloc; "line 2: expected {said}\n")?;
         let ended = ends(&rt, alloc, &[], input.as_str().as_bytes(), ROOM)?;
-        ended.ends_with(&line, 1, "new 1 => done []\n", said.as_str())?;
+        assert_eq!(rt; ended.err()?, said.as_str(), "at {line}");
+        assert_eq!(rt; ended.out()?, "new 1 => done []\n", "at {line}");
+        assert_eq!(rt; ended.status, 1, "at {line}");
     }
     Ok(())
 }
