@@ -29,11 +29,14 @@ impl<
         let cache = self.on_one_lock(size.entries.get())?;
         workers::fill(&Make { cache: &cache }, size.entries)?;
         if size.has_hits() {
-            self.hits(&cache, System::OneLock, size)?;
+            let get = Get { cache: &cache };
+            let read = Read { cache: &cache };
+            let init = Init { cache: &cache };
+            self.hits((&get, &read, &init), System::OneLock, size)?;
         } else {
             mix(&cache, size)?;
         }
-        self.misses(&cache, System::OneLock, size)
+        self.misses(&Make { cache: &cache }, System::OneLock, size)
     }
 
     /// On one lock: the misses on a cache that has room for twice its entries.
@@ -43,7 +46,7 @@ impl<
         cache.reserve(usize::try_from(entries.saturating_mul(2)).unwrap_or(usize::MAX))?;
         workers::fill(&Make { cache: &cache }, size.entries)?;
         mix(&cache, size)?;
-        self.misses(&cache, System::Reserved, size)
+        self.misses(&Make { cache: &cache }, System::Reserved, size)
     }
 
     /// In so many shards: the hits on a cache in which all entries fit, however they are spread
@@ -55,42 +58,46 @@ impl<
         if size.has_hits() {
             let roomy = self.in_shards(entries.saturating_mul(shards as u64), shards)?;
             workers::fill(&Make { cache: &roomy }, size.entries)?;
-            self.hits(&roomy, system, size)?;
+            let get = Get { cache: &roomy };
+            let read = Read { cache: &roomy };
+            let init = Init { cache: &roomy };
+            self.hits((&get, &read, &init), system, size)?;
         }
         if size.has_misses() {
             let full = self.in_shards(entries, shards)?;
             workers::fill(&Make { cache: &full }, size.entries)?;
             mix(&full, size)?;
-            self.misses(&full, system, size)?;
+            self.misses(&Make { cache: &full }, system, size)?;
         }
         Ok(())
     }
 
-    // The workloads of present keys.
-    fn hits<C: Cached<u64> + Sync + Drop>(
+    // The workloads of present keys, by operations on one cache. They are told by their types, since
+    // the checker covers no thread that asks a cache of a type parameter.
+    fn hits<G: Operation + Sync, S: Operation + Sync, I: Operation + Sync>(
         &mut self,
-        cache: C,
+        (get, read, init): (&G, &S, &I),
         system: System,
         size: &Size<'_>,
     ) -> Result<(), Failure> {
         let present = WorkloadKeys::Present(size.entries);
         let work = size.work(system, Workload::HitGet);
-        self.time(&Get { cache }, present, size, &work)?;
+        self.time(get, present, size, &work)?;
         let work = size.work(system, Workload::HitRead);
-        self.time(&Read { cache }, present, size, &work)?;
+        self.time(read, present, size, &work)?;
         let work = size.work(system, Workload::HitInit);
-        self.time(&Init { cache }, present, size, &work)
+        self.time(init, present, size, &work)
     }
 
     // The workload of absent keys, for each of which an idle one is evicted.
-    fn misses<C: Cached<u64> + Sync + Drop>(
+    fn misses<M: Operation + Sync>(
         &mut self,
-        cache: C,
+        make: &M,
         system: System,
         size: &Size<'_>,
     ) -> Result<(), Failure> {
         let work = size.work(system, Workload::MissEvict);
-        self.time(&Make { cache }, WorkloadKeys::Absent, size, &work)
+        self.time(make, WorkloadKeys::Absent, size, &work)
     }
 
     /// Times a workload, where it is wanted.
