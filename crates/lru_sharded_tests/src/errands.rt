@@ -3,11 +3,7 @@
 
 use concurrent_lru::sharded::LruCache;
 use lru_fixtures::errands::{Outcome, Sent, causes, outcome_in};
-use lru_fixtures::gates::Cause;
 use lru_support::hashers::ByOwnNumber;
-use std::alloc::Global;
-use std::sync::Wait;
-use std::thread::Threads;
 
 // Values 2 and 4 are evicted as one chain, and the errand of 2 evicts 3 and then 1.
 const CLEARED: Outcome = Outcome {
@@ -16,29 +12,16 @@ const CLEARED: Outcome = Outcome {
     found: 1,
 };
 
-// Returns the outcome of a cause in a new cache of two shards, which share this capacity.
-fn outcome<R: Wait + Threads + Send + Sync>(
-    rt: &R,
-    alloc: Global,
-    cause: Cause,
-    capacity: u64,
-) -> Option<Outcome> {
-    let made: Result<LruCache<u64, Sent, &R, ByOwnNumber>, _> = LruCache::with_shards_hasher(
-        alloc,
-        rt,
-        capacity,
-        2,
-        ByOwnNumber,
-    );
-    let cache = made.ok()?;
-    outcome_in(rt, alloc, &&cache, cause)
-}
-
 #[test]
 fn drops_may_use_the_cache(rt: HostRuntime) {
     for (cause, capacity, wanted) in causes(CLEARED) {
+        let own = rt.clone().expect(&rt, "memory");
+        // Two shards, which share the capacity.
+        let made: Result<LruCache<u64, Sent, HostRuntime, ByOwnNumber>, _> =
+            LruCache::with_shards_hasher(rt.alloc(), own, capacity, 2, ByOwnNumber);
+        let cache = made.expect(&rt, "memory");
         assert_eq!(rt;
-            outcome(&rt, rt.alloc(), cause, capacity),
+            outcome_in(&rt, rt.alloc(), &&cache, cause),
             Some(wanted),
             "{cause:?}"
         );

@@ -2,12 +2,9 @@
 //! In each gate two threads have to meet; where one held the lock, a limit of looks would end it.
 
 use concurrent_lru::sharded::LruCache;
-use lru_fixtures::gates::{CAUSES, Cause, Slow, total_in_drop};
+use lru_fixtures::gates::{CAUSES, Slow, total_in_drop};
 use lru_fixtures::meetings::{Shown, makers_meet, text_while_read};
 use lru_support::hashers::ByOwnNumber;
-use std::alloc::Global;
-use std::sync::Wait;
-use std::thread::Threads;
 
 type Cache<V, R> = LruCache<u64, V, R, ByOwnNumber>;
 
@@ -28,29 +25,21 @@ fn makers_run_without_the_lock_of_their_shard(rt: HostRuntime) {
     }
 }
 
-// Returns the total while a new cache of two shards, with this capacity each, drops a value.
-fn total_of<R: Wait + Threads + Sync + Send>(
-    rt: &R,
-    alloc: Global,
-    cause: Cause,
-    share: u64,
-) -> Option<u128> {
-    let made: Result<Cache<Slow, &R>, _> = LruCache::with_shards_hasher(
-        alloc,
-        rt,
-        share.saturating_mul(2),
-        2,
-        ByOwnNumber,
-    );
-    let cache = made.ok()?;
-    total_in_drop(rt, alloc, &&cache, cause)
-}
-
 #[test]
 fn drops_run_without_the_lock_of_their_shard(rt: HostRuntime) {
     for (cause, share, total) in CAUSES {
+        let own = rt.clone().expect(&rt, "memory");
+        // Two shards, each with this share of the capacity.
+        let made: Result<Cache<Slow, HostRuntime>, _> = LruCache::with_shards_hasher(
+            rt.alloc(),
+            own,
+            share.saturating_mul(2),
+            2,
+            ByOwnNumber,
+        );
+        let cache = made.expect(&rt, "memory");
         assert_eq!(rt;
-            total_of(&rt, rt.alloc(), cause, share),
+            total_in_drop(&rt, rt.alloc(), &&cache, cause),
             Some(total),
             "{cause:?}"
         );
