@@ -1,5 +1,6 @@
-/* Refuses one request for memory: the one with the number that the environment variable REFUSED_REQUEST names, from 1 on.
- * Loaded before the C library (LD_PRELOAD), whose malloc and realloc it stands in for. */
+/* Refuses one request for memory: the one with the number that the environment variable
+ * REFUSED_REQUEST names, from 1 on. Loaded before the C library (LD_PRELOAD), whose malloc and
+ * realloc it stands in for. */
 typedef unsigned long size;
 
 extern void *__libc_malloc(size);
