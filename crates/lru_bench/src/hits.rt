@@ -72,7 +72,7 @@ impl<
         Ok(())
     }
 
-    // The workloads of present keys, by operations on one cache. They are told by their types, since
+    // The workloads of present keys, by operations on one cache. Each has a type of its own, since
     // the checker covers no thread that asks a cache of a type parameter.
     fn hits<G: Operation + Sync, S: Operation + Sync, I: Operation + Sync>(
         &mut self,

@@ -1,6 +1,6 @@
 //! One trait for references to either of the two caches that threads share.
 //!
-//! Keys are `u64`.
+//! Keys are `u64`. Look-ups are inlined, since the benchmark times them through this trait.
 ghost use Rattle.std.specs.Prelude.{◌<◌};
 ghost use Rattle.std.specs.Fn.{FnOnceTakesAt};
 
@@ -85,14 +85,17 @@ pub trait Cached<V>: Copy {
 impl<'a, V: Drop, R: Wait> Cached<V> for &'a unsharded::LruCache<u64, V, R> {
     type Handle = unsharded::CacheHandle<'a, u64, V, R>;
 
+    #[inline(always)]
     fn value_of(handle: &Self::Handle) -> &V {
         handle.value()
     }
 
+    #[inline(always)]
     fn get(self, key: u64) -> Result<Option<Self::Handle>, Refusal> {
         unsharded::LruCache::get(self, key)
     }
 
+    #[inline(always)]
     fn read<T, G>(self, key: u64, reader: G) -> Result<Option<T>, Refusal>
     where
         G: FnOnce(&V) -> T + Drop,
@@ -101,6 +104,7 @@ impl<'a, V: Drop, R: Wait> Cached<V> for &'a unsharded::LruCache<u64, V, R> {
         unsharded::LruCache::read(self, &key, reader)
     }
 
+    #[inline(always)]
     fn get_or_init<I>(self, key: u64, charge: u64, init: I) -> Result<Self::Handle, Refusal>
     where
         I: FnOnce(&u64) -> V + Drop,
@@ -110,6 +114,7 @@ impl<'a, V: Drop, R: Wait> Cached<V> for &'a unsharded::LruCache<u64, V, R> {
         unsharded::LruCache::get_or_init(self, key, charge, init)
     }
 
+    #[inline(always)]
     fn get_or_try_init<E, I>(
         self,
         key: u64,
@@ -174,14 +179,17 @@ impl<'a, V: Drop, R: Wait> Cached<V> for &'a unsharded::LruCache<u64, V, R> {
 impl<'a, V: Drop, R: Wait, S: BuildHasher> Cached<V> for &'a sharded::LruCache<u64, V, R, S> {
     type Handle = sharded::CacheHandle<'a, u64, V, R>;
 
+    #[inline(always)]
     fn value_of(handle: &Self::Handle) -> &V {
         handle.value()
     }
 
+    #[inline(always)]
     fn get(self, key: u64) -> Result<Option<Self::Handle>, Refusal> {
         sharded::LruCache::get(self, key)
     }
 
+    #[inline(always)]
     fn read<T, G>(self, key: u64, reader: G) -> Result<Option<T>, Refusal>
     where
         G: FnOnce(&V) -> T + Drop,
@@ -190,6 +198,7 @@ impl<'a, V: Drop, R: Wait, S: BuildHasher> Cached<V> for &'a sharded::LruCache<u
         sharded::LruCache::read(self, &key, reader)
     }
 
+    #[inline(always)]
     fn get_or_init<I>(self, key: u64, charge: u64, init: I) -> Result<Self::Handle, Refusal>
     where
         I: FnOnce(&u64) -> V + Drop,
@@ -199,6 +208,7 @@ impl<'a, V: Drop, R: Wait, S: BuildHasher> Cached<V> for &'a sharded::LruCache<u
         sharded::LruCache::get_or_init(self, key, charge, init)
     }
 
+    #[inline(always)]
     fn get_or_try_init<E, I>(
         self,
         key: u64,
