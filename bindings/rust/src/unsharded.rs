@@ -161,7 +161,11 @@ impl<K: Key + ?Sized, V> LruCache<K, V> {
         K: Borrow<Q>,
         Q: Key<Form = K::Form> + ?Sized,
     {
-        match self.begin(key.written(), charge)? {
+        let mut evicted = Evicted::new();
+        let asked = self.begin(key.written(), charge, &mut evicted)?;
+        // If one of these panics, `asked` is dropped too and gives its pin back.
+        drop(evicted);
+        match asked {
             Asked::Found(handle) => Ok(handle),
             Asked::Making(making) => {
                 let value = init(key).map_err(GetError::Init)?;
@@ -214,7 +218,13 @@ impl<K: Key + ?Sized, V> LruCache<K, V> {
             .core
             .insert(written, charge, value, &mut evicted);
         match inserted {
-            Ok((stamp, value)) => Ok(self.handle(stamp, value)),
+            Ok((stamp, value)) => {
+                let handle = self.handle(stamp, value);
+                // If one of these panics, the handle is dropped too. As a return value it would
+                // be leaked.
+                drop(evicted);
+                Ok(handle)
+            }
             Err((refusal, _value)) => Err(refusal),
         }
     }
@@ -277,11 +287,10 @@ impl<K: Key + ?Sized, V> LruCache<K, V> {
         &self,
         written: Written<'_, K::Form>,
         charge: u64,
+        evicted: &mut Evicted<V>,
     ) -> Result<Asked<'_, K, V>, Refusal> {
-        // Declared before the lock is taken, so that it is dropped after the lock is released.
-        let mut evicted = Evicted::new();
         let mut shared = self.lock();
-        let mut begun = shared.core.begin(written, charge, &mut evicted)?;
+        let mut begun = shared.core.begin(written, charge, evicted)?;
         loop {
             match begun {
                 Begun::Hit(stamp, value) => return Ok(Asked::Found(self.handle(stamp, value))),
