@@ -495,7 +495,9 @@ fn stress() -> Result<(), Refusal> {
                 for _ in 0..10_000 {
                     random = random.wrapping_mul(6364136223846793005).wrapping_add(1);
                     let key = (random >> 33) % 100;
-                    let charge = 1 + (random >> 40) % 4;
+                    // The same for all values of a key: a caller that waited and then makes the
+                    // value makes it for an entry with the charge of another caller.
+                    let charge = 1 + key % 4;
                     let fails = (random >> 50) % 10 >= 8;
                     let value = || {
                         made.fetch_add(charge, Ordering::Relaxed);
