@@ -28,6 +28,7 @@
 //  - Deleters run without the mutex, so they may be slow and may call the cache. LevelDB's cache
 //    runs them with the mutex held.
 //  - The destructor deletes entries that are still pinned. LevelDB's asserts that there are none.
+//    Deleters that the destructor runs must not call the cache.
 //
 // Nothing here throws, and the header compiles with -fno-exceptions. If LevelDB was built without
 // run-time type information, compile the file that includes this header with -fno-rtti.

@@ -35,6 +35,8 @@ static_assert(std::is_nothrow_move_assignable_v<Numbers::Handle>);
 static_assert(!std::is_copy_constructible_v<Numbers::Handle>);
 static_assert(!std::is_copy_assignable_v<Numbers::Handle>);
 static_assert(!std::is_move_constructible_v<Numbers>);
+static_assert(!std::is_move_constructible_v<lru::ShardedCache<int>>);
+static_assert(!std::is_copy_constructible_v<lru::ShardedCache<int>>);
 static_assert(std::is_base_of_v<std::bad_alloc, lru::OutOfMemory>);
 static_assert(std::is_base_of_v<std::overflow_error, lru::Overflow>);
 static_assert(std::is_base_of_v<std::invalid_argument, lru::ZeroCharge>);
