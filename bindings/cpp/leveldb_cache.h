@@ -66,6 +66,9 @@ class BasicLevelDBCache : public leveldb::Cache {
   BasicLevelDBCache(const BasicLevelDBCache&) = delete;
   BasicLevelDBCache& operator=(const BasicLevelDBCache&) = delete;
 
+  // These are as leveldb/cache.h describes them, with the differences above. Any thread may call
+  // them at any time.
+
   Handle* Insert(const leveldb::Slice& key, void* value, std::size_t charge,
                  void (*deleter)(const leveldb::Slice& key, void* value)) override {
     Entry* entry = Entry::New(key, value, deleter);
@@ -234,13 +237,17 @@ class BasicLevelDBCache : public leveldb::Cache {
   std::atomic<std::uint64_t> last_id_{0};
 };
 
+// Caches keys of any length.
 using LevelDBCache = BasicLevelDBCache<std::string_view>;
+
+// Caches keys of 16 bytes only. Insert returns entries of other keys, but they are not cached.
 using LevelDBBlockCache = BasicLevelDBCache<Words>;
 
-// A cache with the given capacity, or null if there is no memory for it. The caller deletes it
-// after the last database that uses it.
+// A LevelDBCache with the given capacity, or null if there is no memory for it. The caller deletes
+// it after the last database that uses it.
 inline leveldb::Cache* NewLevelDBCache(std::size_t capacity) { return LevelDBCache::New(capacity); }
 
+// The same, for a LevelDBBlockCache.
 inline leveldb::Cache* NewLevelDBBlockCache(std::size_t capacity) {
   return LevelDBBlockCache::New(capacity);
 }

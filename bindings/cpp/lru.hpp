@@ -122,6 +122,7 @@ class Handle {
     if (cache_ != nullptr) std::exchange(cache_, nullptr)->release(stamp_);
   }
 
+  // Exchanges the values of two handles.
   void swap(Handle& other) noexcept {
     std::swap(cache_, other.cache_);
     std::swap(stamp_, other.stamp_);
@@ -239,7 +240,7 @@ class Cache {
     if (code != LRU_DONE) detail::throw_refusal(code);
   }
 
-  // Evicts every idle value.
+  // Evicts every idle value, the least recently released first.
   void prune() {
     Evicted evicted;
     const std::lock_guard<std::mutex> lock(mutex_);
@@ -392,7 +393,8 @@ class ShardedCache {
     return sum([](const Shard& shard) { return shard.capacity(); });
   }
 
-  // Sets the capacity, of which each shard gets an equal share, rounded up.
+  // Sets the capacity, of which each shard gets an equal share, rounded up. Idle values that exceed
+  // it are evicted at once.
   void set_capacity(std::uint64_t capacity) {
     for (Shard& shard : shards_) shard.set_capacity(share(capacity, shards_.size()));
   }
