@@ -93,6 +93,8 @@ class BasicLevelDBCache : public leveldb::Cache {
     Shard& shard = ShardOf(key);
     const std::lock_guard<std::mutex> lock(shard.mutex);
     const lru_told told = shard.core.get(Stored(key));
+    // It is a miss too if the entry has 2^32 - 1 handles. If the key is longer than any before and
+    // there is no memory for a copy, it has no entry.
     if (told.code != LRU_HIT) return nullptr;
     return reinterpret_cast<Handle*>(Core::node_of(told.value));
   }

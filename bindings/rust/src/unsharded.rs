@@ -166,7 +166,7 @@ impl<K: Key + ?Sized, V> LruCache<K, V> {
     {
         let mut evicted = Evicted::new();
         let asked = self.begin(key.written(), charge, &mut evicted)?;
-        // If one of these panics, `asked` is dropped too and gives its pin back.
+        // If the drop of a value panics, `asked` is dropped too, which gives its pin back.
         drop(evicted);
         match asked {
             Asked::Found(handle) => Ok(handle),
@@ -216,7 +216,7 @@ impl<K: Key + ?Sized, V> LruCache<K, V> {
         let written = key.written();
         let value = Box::new(value);
         let mut evicted = Evicted::new();
-        // The guard is dropped at the end of this statement, before what the call returned.
+        // The lock is released at the end of this statement, before any value is dropped.
         let inserted = self
             .lock()
             .core
@@ -224,8 +224,8 @@ impl<K: Key + ?Sized, V> LruCache<K, V> {
         match inserted {
             Ok((stamp, value)) => {
                 let handle = self.handle(stamp, value);
-                // If one of these panics, the handle is dropped too. As a return value it would
-                // be leaked.
+                // If the drop of a value panics, the handle is dropped too. It would be leaked if
+                // it were the return value already.
                 drop(evicted);
                 Ok(handle)
             }
