@@ -1,54 +1,54 @@
 /* lru.h - a least-recently-used cache of heavy values, with pinned entries.
  *
- * An entry has a key, a charge above 0 (its weight, in units of the caller's choice), a value and
- * pins.  While an entry has a pin it is held and is never evicted.  An entry with no pin is idle.
- * Idle entries are evicted, the one that was used longest ago first, while the total of all
- * charges is above the capacity.  The capacity is no hard limit: what is held stays, and counts.
+ * An entry has a key, a value, a charge and pins. Its charge is its weight, in units of the
+ * caller's choice, and is above 0. An entry with a pin is held, and is never evicted. An entry
+ * without a pin is idle. While the total of all charges is above the capacity, idle entries are
+ * evicted, the one that was released longest ago first. The capacity is not a hard limit: held
+ * entries stay, and count.
  *
- * A value is one word (uint64_t) that belongs to the caller, mostly the address of an object.  The
- * cache never looks at it and never deletes what it stands for.  Entries that leave the cache are
- * handed out in a chain, oldest first; the caller pops them and deletes the values, with no lock
- * held if it likes.
+ * A value is one word (uint64_t) of the caller's, usually the address of an object. The cache never
+ * looks at it and never deletes the object. Entries that leave the cache are put into a chain,
+ * oldest first. The caller pops them and deletes their values, which needs no lock on the cache.
  *
- * A miss is answered once: the caller that is told LRU_MAKE makes the value and gives it with
- * ready, or gives up with fail.  Callers that ask for the same key in the meantime are told
- * LRU_WAIT; they have a pin already, and ask again with poll.
+ * If a key has no value, one caller is told LRU_MAKE: it makes the value and passes it to `ready`,
+ * or gives up with `fail`. Callers that ask for the same key in the meantime are told LRU_WAIT.
+ * They have a pin already, and ask again with `poll`.
  *
- * Two families of calls differ in their keys alone:
+ * There are two families of functions, which differ only in their keys:
  *
- *     lru_bytes_*   keys of bytes; the cache keeps a copy of each
- *     lru_words_*   keys of 16 bytes, passed as two words; cheaper to hash, compare and store
+ *     lru_bytes_*   keys are byte strings; the cache keeps its own copies
+ *     lru_words_*   keys are 16 bytes, passed as two words, and faster to look up
  *
- * The library is proved: each call is one step of the cache that docs/DEFINITIONS.md defines, or
- * is refused with a code and changes nothing.  It takes no lock and starts no thread.
+ * The library is proved: each call is one step of the cache that docs/DEFINITIONS.md defines, or is
+ * refused with a code and changes nothing. The library takes no lock and starts no thread.
  *
- * WHAT THE CALLER KEEPS.  The proofs rest on these, and nothing tests them at run time:
+ * WHAT THE CALLER MUST ENSURE. The proofs rely on the following, and it is not checked at run time:
  *
- *  1. One call at a time for each handle, whatever thread it comes from.  Where threads share a
- *     cache, a mutex round each call serves.  Caches and chains may move between threads.
+ *  1. There is one call at a time on each handle, from whatever thread. If threads share a cache, a
+ *     mutex around each call is enough. Caches and chains may move between threads.
  *  2. A handle (lru_bytes, lru_words, lru_bytes_evicted, lru_words_evicted) is all zeros before its
- *     `new`, as after `= {0}`.  Its members are never read, written or compared, and where it is
- *     copied, one of the two copies is never used again.
- *  3. Pointers to handles and to results are not null and point to whole objects, which do not
- *     overlap: a call's cache, chain, key and result are four different objects.
- *  4. A key is `length` bytes that can be read and that nobody writes during the call.  Its
- *     length is below 2^63.
- *  5. malloc, realloc and free belong to one allocator; malloc and realloc align a block to each
- *     power of two up to 16 that divides its size.
- *  6. No call is made from a signal handler, nor in the forked child of a process with threads.
+ *     `new`, for example by `= {0}`. Its members are never read, written or compared. If a handle
+ *     is copied, only one of the two copies is used from then on.
+ *  3. Pointers to handles and to results are not null. They point to whole objects that do not
+ *     overlap: the cache, the chain, the key and the result of a call are four different objects.
+ *  4. A key is `length` readable bytes, which nobody writes during the call. Its length is below
+ *     2^63.
+ *  5. malloc, realloc and free belong to one allocator, and malloc and realloc align a block to
+ *     each power of two up to 16 that divides its size.
+ *  6. No call is made from a signal handler, or in the forked child of a process with threads.
  *
- * What is cheap to test is tested and answered with a code: a charge of 0, a limit of 0 pins, a
- * null key with a length, a handle that is not open (never opened, refused at its opening, or
- * freed), a handle that is open already, a chain that still holds entries, a buffer that is too
- * small, a stamp that no entry in that state has.
+ * What is cheap to check is checked, and answered with a code: a charge of 0, a limit of 0 pins, a
+ * null key with a length, a handle that is not open (it was never opened, its opening was refused,
+ * or it was freed), a handle that is open already, a chain that still holds entries, a buffer that
+ * is too small, and a stamp that names no entry in the right state.
  *
- * COMING FROM ANOTHER CACHE.  Entries are evicted when a key is asked for with `begin`, when a last
- * pin is given back with `release` and when the capacity is set; many caches evict at inserts
- * alone.  `begin` leaves the charge of a present entry what it was.  `advice_evict` leaves an entry
- * that is held as it is: it can still be found, and becomes idle with its last release.
- * `invalidate` detaches such an entry from its key: it is found no more, and leaves with its last
- * release.  `insert` does the same to the entry that it replaces.  An entry that is still being
- * made, or that was detached and is still held, has its charge in the total.
+ * COMING FROM ANOTHER CACHE. Entries are evicted by `begin`, by the `release` of a last pin and by
+ * `set_capacity`; many caches evict only when an entry is inserted. `begin` does not change the
+ * charge of an entry that exists. `advice_evict` does nothing to a held entry: it can still be
+ * found, and becomes idle with its last release. `invalidate` detaches a held entry from its key:
+ * the key no longer finds it, and it is evicted with its last release. `insert` does the same to
+ * the entry that it replaces. An entry counts towards the total while its value is being made, and
+ * when it is detached but still held.
  */
 #ifndef LRU_H
 #define LRU_H
@@ -61,28 +61,28 @@
 extern "C" {
 #endif
 
-/* What a call answers.  After a code of 7 or more, except LRU_NUMBER, nothing has changed: no entry
+/* The result of a call. After a code of 7 or more, except LRU_NUMBER, nothing has changed: no entry
  * was added, moved, pinned or evicted, and nothing was put into a chain. */
 typedef uint32_t lru_code;
 
 enum {
     /* Answers. */
     LRU_MAKE = 0,    /* pinned; the caller makes the value now, then calls ready or fail */
-    LRU_WAIT = 1,    /* pinned; somebody else makes the value: ask again with poll */
+    LRU_WAIT = 1,    /* pinned; another caller makes the value: ask again with poll */
     LRU_HIT = 2,     /* pinned; the value is told */
     LRU_DONE = 3,    /* done */
-    LRU_LEFT = 4,    /* fail: others wait; the next of them that polls is told LRU_MAKE */
+    LRU_LEFT = 4,    /* fail: others wait, and the next of them that polls is told LRU_MAKE */
     LRU_REMOVED = 5, /* fail: nobody waits, and the entry is gone */
-    LRU_MISSED = 6,  /* get, contains: the key has no entry, or its value is not there yet */
+    LRU_MISSED = 6,  /* get, contains: the key has no entry, or its value is still being made */
 
     /* Refusals of the cache. */
-    LRU_OVERFLOW = 7, /* a number is at its end: the total of charges, the stamps or the pins */
-    LRU_STALE = 8,    /* no entry that the call is for has the stamp */
-    LRU_MEMORY = 9,   /* malloc or realloc answered null */
+    LRU_OVERFLOW = 7, /* a number would overflow: the total of charges, the stamps or the pins */
+    LRU_STALE = 8,    /* the stamp names no entry that the call is for */
+    LRU_MEMORY = 9,   /* malloc or realloc returned null */
 
-    LRU_NUMBER = 10, /* the number that was asked for is told as the value */
+    LRU_NUMBER = 10, /* no refusal: the number that was asked for is told as the value */
 
-    /* Refusals of a call that cannot be right. */
+    /* Refusals of calls that cannot be right. */
     LRU_NO_CHARGE = 11, /* a charge of 0 */
     LRU_NO_PINS = 12,   /* a limit of 0 pins */
     LRU_NULL_KEY = 13,  /* a null key with a length above 0 */
@@ -92,12 +92,13 @@ enum {
     LRU_NO_ROOM = 17    /* key_of: the buffer is too small; the key's length is told as the value */
 };
 
-/* What a call tells.  A member that the code does not speak of is 0. */
+/* The result of a call that tells more than a code. A member is 0 if it is not described for the
+ * code. */
 typedef struct lru_told {
     uint64_t stamp; /* LRU_MAKE, LRU_WAIT, LRU_HIT, and LRU_DONE of insert: the number that names
-                       the entry, for poll, ready, fail, release and key_of.  A stamp is never
-                       given twice. */
-    uint64_t value; /* LRU_HIT: the value.  LRU_NUMBER: the number.  LRU_NO_ROOM: the length. */
+                       the entry in poll, ready, fail, release and key_of. A cache never gives the
+                       same stamp to two entries. */
+    uint64_t value; /* LRU_HIT: the value. LRU_NUMBER: the number. LRU_NO_ROOM: the length. */
     lru_code code;
 } lru_told;
 
@@ -108,8 +109,8 @@ typedef struct lru_gone {
     uint64_t value; /* the caller's again, to be deleted */
 } lru_gone;
 
-/* A cache, and a chain of entries that left one.  All zeros: not open.  Only the calls below touch
- * their members. */
+/* Handles: a cache, and a chain of entries that left one. A handle of all zeros is not open. Only
+ * the library uses the members. */
 typedef struct lru_bytes {
     void *at;
     bool open;
@@ -132,165 +133,170 @@ typedef struct lru_words_evicted {
 
 /* ------------------------------------------------------------------ keys of bytes: the cache */
 
-/* Opens an empty cache that evicts idle entries while the total of charges is above `capacity`.
- * Its first entry gets the stamp 0, and an entry may have 2^32 - 1 pins.
+/* Opens an empty cache that evicts idle entries while the total of charges is above `capacity`. Its
+ * first entry gets the stamp 0, and an entry may have up to 2^32 - 1 pins. The caller frees the
+ * cache with lru_bytes_free.
  *
- * Asks for memory.  LRU_DONE; LRU_MEMORY; LRU_OPEN. */
+ * Allocates. LRU_DONE; LRU_MEMORY; LRU_OPEN. */
 lru_code lru_bytes_new(uint64_t capacity, lru_bytes *out);
 
-/* The same with limits: the first entry gets the stamp `first_stamp`, and an entry may have
+/* The same, but the first entry gets the stamp `first_stamp`, and an entry may have up to
  * `most_pins` pins.
  *
- * Asks for memory.  LRU_DONE; LRU_NO_PINS where `most_pins` is 0; LRU_MEMORY; LRU_OPEN. */
+ * Allocates. LRU_DONE; LRU_NO_PINS if `most_pins` is 0; LRU_MEMORY; LRU_OPEN. */
 lru_code lru_bytes_new_with_limits(uint64_t capacity, uint64_t first_stamp, uint32_t most_pins,
                                    lru_bytes *out);
 
-/* Frees a cache and puts all entries that have a value into `left`, those that are held too: their
- * values are the caller's to delete, and their stamps mean nothing from then on.  Entries that
- * are still being made have no value and are not told.  `cache` is closed and can be opened anew.
+/* Frees a cache and puts all entries that have a value into `left`, including those that are held:
+ * their values are the caller's to delete, and their stamps are no longer valid. Entries whose
+ * value is still being made are not put there. `cache` is closed, and can be opened again.
  *
- * The idle entries come first, oldest first; what was held follows in no particular order.
+ * The idle entries come first, oldest first; held entries follow, in no particular order.
  *
- * Asks for no memory.  LRU_DONE; LRU_CLOSED; LRU_NOT_EMPTY. */
+ * Does not allocate. LRU_DONE; LRU_CLOSED; LRU_NOT_EMPTY. */
 lru_code lru_bytes_free(lru_bytes *cache, lru_bytes_evicted *left);
 
-/* Asks for the value of a key and pins its entry, which is made where there is none.  `charge`,
- * above 0, is that of a new entry; the charge of a present one stays what it was.  What the new
- * charge evicted is put into `gone`, oldest first.  The pin is given back by release after
- * LRU_HIT or ready, and by fail.
+/* Asks for the value of a key and pins its entry, or adds an entry if there is none. `charge`,
+ * above 0, is the charge of a new entry; an entry that exists keeps its charge. What the new charge
+ * evicts is put into `gone`, oldest first. The pin is given back by `release` after LRU_HIT or
+ * `ready`, or by `fail`.
  *
- * Asks for memory for a new entry, and where the key is longer than each one before.
- * LRU_MAKE with the stamp; LRU_WAIT with the stamp; LRU_HIT with the stamp and the value;
- * LRU_OVERFLOW where the total would pass 2^64 - 1, where the stamps are used up or where the
- * entry has all the pins that it may have; LRU_MEMORY; LRU_NO_CHARGE; LRU_NULL_KEY; LRU_CLOSED;
- * LRU_NOT_EMPTY. */
+ * Allocates for a new entry, and if the key is longer than any before. LRU_MAKE with the stamp;
+ * LRU_WAIT with the stamp; LRU_HIT with the stamp and the value; LRU_OVERFLOW if the total would
+ * exceed 2^64 - 1, if the stamps are used up or if the entry has as many pins as it may have;
+ * LRU_MEMORY; LRU_NO_CHARGE; LRU_NULL_KEY; LRU_CLOSED; LRU_NOT_EMPTY. */
 static inline lru_told lru_bytes_begin(lru_bytes *cache, const void *key, size_t length,
                                        uint64_t charge, lru_bytes_evicted *gone);
 
-/* Asks again after LRU_WAIT.  No pin is added or taken.
+/* Asks again after LRU_WAIT. No pin is added or taken.
  *
- * Asks for no memory.  LRU_WAIT; LRU_MAKE where the maker failed and the caller makes the value
- * now; LRU_HIT with the value; LRU_STALE where no held entry has the stamp; LRU_CLOSED. */
+ * Does not allocate. LRU_WAIT with the stamp; LRU_MAKE with the stamp if the other caller failed:
+ * this one makes the value now; LRU_HIT with the stamp and the value; LRU_STALE if no held entry
+ * has the stamp; LRU_CLOSED. */
 lru_told lru_bytes_poll(lru_bytes *cache, uint64_t stamp);
 
-/* Gives the value of an entry that is being made.  The value is the cache's until it is handed out
- * in a chain, but after a refusal it is still the caller's.
+/* Stores the value of an entry whose value is being made. The value belongs to the cache until it
+ * is handed out in a chain; after a refusal it still belongs to the caller.
  *
- * Asks for memory.  LRU_DONE; LRU_STALE where no entry is being made under the stamp; LRU_MEMORY,
- * and then the entry is still being made: try again, or fail; LRU_CLOSED. */
+ * Allocates. LRU_DONE; LRU_STALE if no entry with the stamp has its value being made; LRU_MEMORY:
+ * the value is still being made, so try again or call `fail`; LRU_CLOSED. */
 lru_code lru_bytes_ready(lru_bytes *cache, uint64_t stamp, uint64_t value);
 
-/* Gives up making a value, and the pin with it.
+/* Gives up making a value, and gives back the pin.
  *
- * Asks for no memory.  LRU_LEFT; LRU_REMOVED; LRU_STALE where no entry is being made under the
- * stamp; LRU_CLOSED. */
+ * Does not allocate. LRU_LEFT; LRU_REMOVED; LRU_STALE if no entry with the stamp has its value
+ * being made; LRU_CLOSED. */
 lru_code lru_bytes_fail(lru_bytes *cache, uint64_t stamp);
 
-/* The value of a key that is ready, pinned once more.
+/* Finds the value of a key and pins its entry. Adds no entry if there is none.
  *
- * Asks for memory where the key is longer than each one before.  LRU_HIT with the stamp and the
- * value; LRU_MISSED; LRU_OVERFLOW where the entry has all the pins that it may have; LRU_MEMORY;
- * LRU_NULL_KEY; LRU_CLOSED. */
+ * Allocates if the key is longer than any before. LRU_HIT with the stamp and the value; LRU_MISSED;
+ * LRU_OVERFLOW if the entry has as many pins as it may have; LRU_MEMORY; LRU_NULL_KEY;
+ * LRU_CLOSED. */
 static inline lru_told lru_bytes_get(lru_bytes *cache, const void *key, size_t length);
 
-/* Whether a key has a value, as get would find it.  Pins nothing and moves nothing.
+/* Whether a key has a value that `get` would find. Pins nothing and does not change the order.
  *
- * Asks for memory where the key is longer than each one before.  LRU_DONE where it has one;
- * LRU_MISSED; LRU_MEMORY; LRU_NULL_KEY; LRU_CLOSED. */
+ * Allocates if the key is longer than any before. LRU_DONE if it has one; LRU_MISSED; LRU_MEMORY;
+ * LRU_NULL_KEY; LRU_CLOSED. */
 static inline lru_code lru_bytes_contains(lru_bytes *cache, const void *key, size_t length);
 
-/* Gives one pin of an entry back.  With its last pin the entry becomes the newest idle one; what
- * is then evicted, maybe this entry itself, is put into `gone`, oldest first.
+/* Gives back one pin of an entry. If it was the last, the entry becomes the newest idle one, or is
+ * evicted if it is detached. What is evicted, perhaps this entry itself, is put into `gone`, oldest
+ * first.
  *
- * Asks for no memory.  LRU_DONE; LRU_STALE where no held entry with a value has the stamp;
- * LRU_CLOSED; LRU_NOT_EMPTY. */
+ * Does not allocate. LRU_DONE; LRU_STALE if no held entry with a value has the stamp; LRU_CLOSED;
+ * LRU_NOT_EMPTY. */
 lru_code lru_bytes_release(lru_bytes *cache, uint64_t stamp, lru_bytes_evicted *gone);
 
-/* Evicts the entry of a key where it is idle; else nothing happens, now or later.
+/* Evicts the entry of a key into `gone` if it is idle. Otherwise nothing happens, now or later.
  *
- * Asks for memory where the key is longer than each one before.  LRU_DONE; LRU_MEMORY;
+ * Allocates if the key is longer than any before. LRU_DONE in either case; LRU_MEMORY;
  * LRU_NULL_KEY; LRU_CLOSED; LRU_NOT_EMPTY. */
 static inline lru_code lru_bytes_advice_evict(lru_bytes *cache, const void *key, size_t length,
                                               lru_bytes_evicted *gone);
 
-/* Detaches the entry of a key, so that no call by the key finds it: the next begin makes a new
- * one.  An idle entry is evicted at once.  A held one, with a value or without, is found by its
- * stamp still, so its holders poll, give its value, fail and release as before; it is evicted with
- * its last release.  Where the key has no entry, nothing happens.
+/* Detaches the entry of a key, so that no call finds it by the key: the next `begin` adds a new
+ * one. An idle entry is evicted into `gone`. A held one, with or without a value, is still found by
+ * its stamp, so its holders poll, call `ready` or `fail`, and release as before; it is evicted with
+ * its last release. If the key has no entry, nothing happens.
  *
- * Asks for memory where the key is longer than each one before.  LRU_DONE; LRU_MEMORY;
- * LRU_NULL_KEY; LRU_CLOSED; LRU_NOT_EMPTY. */
+ * Allocates if the key is longer than any before. LRU_DONE in each case; LRU_MEMORY; LRU_NULL_KEY;
+ * LRU_CLOSED; LRU_NOT_EMPTY. */
 static inline lru_code lru_bytes_invalidate(lru_bytes *cache, const void *key, size_t length,
                                             lru_bytes_evicted *gone);
 
-/* Puts a value in, whatever the key has: detaches the entry of the key as invalidate does, and
- * makes a new one with this charge, above 0, and this value.  The caller has a pin in it, to be
- * given back by release.  The entry that was idle under the key, and then, oldest first, what the
- * charge evicted are put into `gone`.
+/* Gives a key a value, whatever it had before: detaches the entry of the key as `invalidate` does,
+ * and adds a new one with this value and this charge, which is above 0. The caller has a pin of it,
+ * to be given back by `release`. If the old entry was idle, it is put into `gone`, followed by what
+ * the charge evicts, oldest first.
  *
- * Asks for memory.  LRU_DONE with the stamp, and the value is the cache's; LRU_OVERFLOW where the
- * total would pass 2^64 - 1, not counting an idle entry of the key, or where the stamps are used
- * up; LRU_MEMORY; LRU_NO_CHARGE; LRU_NULL_KEY; LRU_CLOSED; LRU_NOT_EMPTY.  After a refusal the key
- * keeps its entry, and the value is still the caller's. */
+ * Allocates. LRU_DONE with the stamp: the value belongs to the cache; LRU_OVERFLOW if the total
+ * would exceed 2^64 - 1, without an idle entry of the key, or if the stamps are used up;
+ * LRU_MEMORY; LRU_NO_CHARGE; LRU_NULL_KEY; LRU_CLOSED; LRU_NOT_EMPTY. After a refusal the key keeps
+ * its entry, and the value still belongs to the caller. */
 static inline lru_told lru_bytes_insert(lru_bytes *cache, const void *key, size_t length,
                                         uint64_t charge, uint64_t value, lru_bytes_evicted *gone);
 
-/* Evicts each idle entry, oldest first.
+/* Evicts all idle entries into `gone`, oldest first.
  *
- * Asks for no memory.  LRU_DONE; LRU_CLOSED; LRU_NOT_EMPTY. */
+ * Does not allocate. LRU_DONE; LRU_CLOSED; LRU_NOT_EMPTY. */
 lru_code lru_bytes_prune(lru_bytes *cache, lru_bytes_evicted *gone);
 
-/* Sets the capacity; what is idle and too much for it is evicted at once, oldest first.
+/* Sets the capacity. While the total is above it, idle entries are evicted into `gone`, oldest
+ * first.
  *
- * Asks for no memory.  LRU_DONE; LRU_CLOSED; LRU_NOT_EMPTY. */
+ * Does not allocate. LRU_DONE; LRU_CLOSED; LRU_NOT_EMPTY. */
 lru_code lru_bytes_set_capacity(lru_bytes *cache, uint64_t capacity, lru_bytes_evicted *gone);
 
-/* Makes room for `entries` entries in all, so that no begin grows a map before there are more.
+/* Makes room for `entries` entries in all, so that no `begin` grows a map until there are more.
  *
- * Asks for memory.  LRU_DONE; LRU_MEMORY; LRU_CLOSED. */
+ * Allocates. LRU_DONE; LRU_MEMORY; LRU_CLOSED. */
 lru_code lru_bytes_reserve(lru_bytes *cache, size_t entries);
 
-/* The total of the charges of all entries; the capacity; the number of all entries, held and idle,
- * those that are still being made included.
+/* The total of the charges of all entries; the capacity; and the number of all entries. Entries
+ * whose value is being made and detached entries count.
  *
- * Ask for no memory and take the same time however many entries there are.  LRU_NUMBER with the
+ * These do not allocate, and take the same time however many entries there are. LRU_NUMBER with the
  * number as the value; LRU_CLOSED. */
 lru_told lru_bytes_total(lru_bytes *cache);
 lru_told lru_bytes_capacity(lru_bytes *cache);
 lru_told lru_bytes_len(lru_bytes *cache);
 
-/* Copies the key of an entry, held or idle, to the first bytes of a buffer of `room` bytes.
+/* Copies the key of an entry, held or idle, to the start of a buffer of `room` bytes.
  *
- * Asks for no memory.  LRU_NUMBER with the key's length as the value; LRU_NO_ROOM with its
- * length, and nothing is written; LRU_STALE where no entry has the stamp; LRU_CLOSED. */
+ * Does not allocate. LRU_NUMBER with the length of the key as the value; LRU_NO_ROOM with the
+ * length of the key as the value if it is more than `room`; LRU_STALE if no entry has the stamp;
+ * LRU_CLOSED. Nothing is written unless the code is LRU_NUMBER. */
 static inline lru_told lru_bytes_key_of(lru_bytes *cache, uint64_t stamp, void *buffer,
                                         size_t room);
 
 /* ------------------------------------------------------------------ keys of bytes: the chains */
 
-/* Opens an empty chain.  One chain serves any number of calls and of caches, one at a time; as it
- * is popped with no lock, mostly each thread has one of its own.
+/* Opens an empty chain. A chain may be used for any number of calls and caches, one at a time. It
+ * can be popped without a lock if each thread has its own. The caller frees it with
+ * lru_bytes_evicted_free.
  *
- * Asks for memory.  LRU_DONE; LRU_MEMORY; LRU_OPEN. */
+ * Allocates. LRU_DONE; LRU_MEMORY; LRU_OPEN. */
 lru_code lru_bytes_evicted_new(lru_bytes_evicted *out);
 
 /* Frees an empty chain, and closes it.
  *
- * Asks for no memory.  LRU_DONE; LRU_NOT_EMPTY, and it is open still; LRU_CLOSED. */
+ * Does not allocate. LRU_DONE; LRU_NOT_EMPTY: the chain is still open; LRU_CLOSED. */
 lru_code lru_bytes_evicted_free(lru_bytes_evicted *chain);
 
-/* Takes the oldest entry out of a chain, and tells it.  False where none is left or the chain is
- * not open; then `out` is not written.  Asks for no memory. */
+/* Removes the oldest entry of a chain and writes it to `out`; its value is the caller's again.
+ * False if no entry is left or the chain is not open, and `out` is not written. Does not
+ * allocate. */
 bool lru_bytes_evicted_pop(lru_bytes_evicted *chain, lru_gone *out);
 
-/* Whether no entry is left; true too where the chain is not open.  Asks for no memory. */
+/* Whether no entry is left, or the chain is not open. Does not allocate. */
 bool lru_bytes_evicted_is_empty(lru_bytes_evicted *chain);
 
 /* --------------------------------------------------------------------- keys of two words */
 
-/* As the calls above.  The key is (first, second), two keys are equal where both words are, and no
- * call asks for memory but new, new_with_limits, begin for a new entry, ready, insert and
- * reserve. */
+/* As the calls above. The key is (first, second); two keys are equal if both words are. Only new,
+ * new_with_limits, begin for a new entry, ready, insert, reserve and evicted_new allocate. */
 lru_code lru_words_new(uint64_t capacity, lru_words *out);
 lru_code lru_words_new_with_limits(uint64_t capacity, uint64_t first_stamp, uint32_t most_pins,
                                    lru_words *out);
@@ -316,8 +322,8 @@ lru_told lru_words_total(lru_words *cache);
 lru_told lru_words_capacity(lru_words *cache);
 lru_told lru_words_len(lru_words *cache);
 
-/* The key of an entry, held or idle.  LRU_DONE, and both words are written; LRU_STALE where no
- * entry has the stamp; LRU_CLOSED. */
+/* Writes the key of an entry, held or idle. LRU_DONE; LRU_STALE if no entry has the stamp;
+ * LRU_CLOSED. Nothing is written unless the code is LRU_DONE. */
 lru_code lru_words_key_of(lru_words *cache, uint64_t stamp, uint64_t *first, uint64_t *second);
 
 lru_code lru_words_evicted_new(lru_words_evicted *out);
@@ -327,8 +333,9 @@ bool lru_words_evicted_is_empty(lru_words_evicted *chain);
 
 /* ------------------------------------------------------- keys of bytes that are never null */
 
-/* What the calls by a key of bytes come down to.  A `_nonnull` call takes a pointer that is not
- * null, for a length of 0 too; a binding whose slices are never null may call it directly. */
+/* The functions behind the calls above that take a key or a buffer of bytes. The pointer must not
+ * be null, even if the length is 0. A binding for a language whose slices are never null may call
+ * them directly. */
 lru_told lru_bytes_begin_nonnull(lru_bytes *cache, const uint8_t *key, size_t length,
                                  uint64_t charge, lru_bytes_evicted *gone);
 lru_told lru_bytes_get_nonnull(lru_bytes *cache, const uint8_t *key, size_t length);
@@ -341,6 +348,7 @@ lru_told lru_bytes_insert_nonnull(lru_bytes *cache, const uint8_t *key, size_t l
                                   uint64_t charge, uint64_t value, lru_bytes_evicted *gone);
 lru_told lru_bytes_key_of_nonnull(lru_bytes *cache, uint64_t stamp, uint8_t *buffer, size_t room);
 
+/* The calls that also take a null pointer. These first three names are internal. */
 static const uint8_t lru_empty_key[1] = {0};
 
 static inline const uint8_t *lru_key_or_empty(const void *key) {
@@ -392,7 +400,7 @@ static inline lru_told lru_bytes_insert(lru_bytes *cache, const void *key, size_
     return lru_bytes_insert_nonnull(cache, lru_key_or_empty(key), length, charge, value, gone);
 }
 
-/* A null buffer is one without room. */
+/* A null buffer has no room. */
 static inline lru_told lru_bytes_key_of(lru_bytes *cache, uint64_t stamp, void *buffer,
                                         size_t room) {
     uint8_t none[1];

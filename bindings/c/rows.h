@@ -1,16 +1,16 @@
-/* Worked rows: each shows one rule of the cache at work.  This file is included once for each
- * family of keys, with
+/* Worked examples, called rows: each shows one rule of the cache. This file is included once for
+ * each family of keys, with
  *
- *     FAMILY(name)    the family's call or type of that name, as lru_bytes_get
- *     TYPE            the type of its caches, as lru_bytes
+ *     FAMILY(name)    the family's function or type of that name, such as lru_bytes_get
+ *     TYPE            the type of its caches, such as lru_bytes
  *     KEY(k)          the arguments that pass the number k as a key
  *
- * The value of a key is the key itself, where a row does not say otherwise. */
+ * The value of a key is the key itself unless a row says otherwise. */
 
 typedef struct FAMILY(stage) {
     TYPE cache;
     FAMILY(evicted) gone;
-    uint64_t left[64]; /* the values that were evicted so far */
+    uint64_t left[64]; /* the values evicted so far */
     size_t length;
 } FAMILY(stage);
 
@@ -27,7 +27,7 @@ static void FAMILY(open)(FAMILY(stage) *s, uint64_t capacity) {
     CHECK(FAMILY(evicted_new)(&s->gone), LRU_DONE);
 }
 
-/* Pops what a call evicted, and answers how much it was. */
+/* Pops what a call evicted, and returns the number of entries. */
 static size_t FAMILY(note)(FAMILY(stage) *s) {
     lru_gone gone;
     size_t before = s->length;
@@ -45,7 +45,7 @@ static lru_told FAMILY(ask)(FAMILY(stage) *s, uint64_t k, uint64_t charge) {
     return told;
 }
 
-/* Pins the entry of a key, whose value is made where it is not there, and answers its stamp. */
+/* Pins the entry of a key, makes its value if there is none, and returns its stamp. */
 static uint64_t FAMILY(hold)(FAMILY(stage) *s, uint64_t k, uint64_t charge) {
     lru_told told = FAMILY(ask)(s, k, charge);
     if (told.code == LRU_MAKE)
@@ -55,7 +55,7 @@ static uint64_t FAMILY(hold)(FAMILY(stage) *s, uint64_t k, uint64_t charge) {
     return told.stamp;
 }
 
-/* Gives a pin back, and answers how many entries that evicted. */
+/* Gives a pin back, and returns the number of entries that this evicts. */
 static size_t FAMILY(let_go)(FAMILY(stage) *s, uint64_t stamp) {
     CHECK(FAMILY(release)(&s->cache, stamp, &s->gone), LRU_DONE);
     return FAMILY(note)(s);
@@ -85,7 +85,7 @@ static uint64_t FAMILY(total_of)(FAMILY(stage) *s) {
     return told.value;
 }
 
-/* Evicts all idle entries, and answers how many they were. */
+/* Evicts all idle entries, and returns their number. */
 static size_t FAMILY(prune_all)(FAMILY(stage) *s) {
     s->length = 0;
     CHECK(FAMILY(prune)(&s->cache, &s->gone), LRU_DONE);
@@ -105,7 +105,7 @@ static void FAMILY(close)(FAMILY(stage) *s) {
                    sizeof wanted / sizeof wanted[0]);                                             \
     } while (0)
 
-/* Rows 1 and 2: a present key keeps its value; after an eviction it is made anew. */
+/* Rows 1 and 2: a key keeps its value; after an eviction the value is made again. */
 static void FAMILY(row_1_2)(void) {
     FAMILY(stage) s;
     lru_told told;
@@ -128,7 +128,7 @@ static void FAMILY(row_1_2)(void) {
     FAMILY(close)(&s);
 }
 
-/* Row 3: an advice evicts an idle entry, and does nothing to one that is pinned. */
+/* Row 3: advice_evict evicts an idle entry, and does nothing to one that is pinned. */
 static void FAMILY(row_3)(void) {
     FAMILY(stage) s;
     uint64_t stamp;
@@ -160,7 +160,7 @@ static void FAMILY(row_4)(void) {
     FAMILY(close)(&s);
 }
 
-/* Row 5: a pinned entry stays, whatever comes, and leaves as the newest once it is released. */
+/* Row 5: a pinned entry stays, whatever happens, and is the newest once it is released. */
 static void FAMILY(row_5)(void) {
     FAMILY(stage) s;
     uint64_t four;
@@ -183,7 +183,7 @@ static void FAMILY(row_5)(void) {
     FAMILY(close)(&s);
 }
 
-/* Row 6: a making that fails leaves no entry, and the next one may succeed. */
+/* Row 6: if making a value fails, no entry is left, and the next attempt may succeed. */
 static void FAMILY(row_6)(void) {
     FAMILY(stage) s;
     lru_told told;
@@ -202,7 +202,7 @@ static void FAMILY(row_6)(void) {
     FAMILY(close)(&s);
 }
 
-/* Row 8: the charge counts from the begin, so a making that fails has evicted others. */
+/* Row 8: the charge counts from begin on, so others are evicted even if making the value fails. */
 static void FAMILY(row_8)(void) {
     FAMILY(stage) s;
     lru_told told;
@@ -233,7 +233,7 @@ static void FAMILY(row_9)(void) {
     FAMILY(close)(&s);
 }
 
-/* Row 10: a present entry keeps the charge that it was made with. */
+/* Row 10: an entry keeps the charge that it was added with. */
 static void FAMILY(row_10)(void) {
     FAMILY(stage) s;
 
@@ -280,7 +280,7 @@ static void FAMILY(row_12)(void) {
     FAMILY(close)(&s);
 }
 
-/* Row 13: a look-up makes an entry the newest, where it is still there to be found. */
+/* Row 13: a look-up makes an entry the newest, if it is still there to be found. */
 static void FAMILY(row_13)(void) {
     FAMILY(stage) s;
 
@@ -303,7 +303,7 @@ static void FAMILY(row_13)(void) {
     FAMILY(close)(&s);
 }
 
-/* Row 15: a charge that would take the total past its end is refused before anything is evicted. */
+/* Row 15: a charge that would overflow the total is refused before anything is evicted. */
 static void FAMILY(row_15)(void) {
     FAMILY(stage) s;
 
@@ -316,7 +316,7 @@ static void FAMILY(row_15)(void) {
     FAMILY(close)(&s);
 }
 
-/* Row 16: a maker that fails leaves the making to the next that asks; old stamps are stale. */
+/* Row 16: if one caller fails, the next that asks makes the value; old stamps are stale. */
 static void FAMILY(row_16)(void) {
     FAMILY(stage) s;
     lru_told told;
@@ -350,7 +350,7 @@ static void FAMILY(row_16)(void) {
     FAMILY(close)(&s);
 }
 
-/* Row 17: at capacity 0 an entry leaves with its release. */
+/* Row 17: with a capacity of 0 an entry is evicted at its release. */
 static void FAMILY(row_17)(void) {
     FAMILY(stage) s;
 
@@ -361,7 +361,7 @@ static void FAMILY(row_17)(void) {
     FAMILY(close)(&s);
 }
 
-/* Row 18: the last stamp is never given, and an entry takes no more pins than it may have. */
+/* Row 18: the last stamp is never given, and an entry gets no more pins than it may have. */
 static void FAMILY(row_18)(void) {
     FAMILY(stage) s;
 
@@ -378,7 +378,7 @@ static void FAMILY(row_18)(void) {
     FAMILY(close)(&s);
 }
 
-/* Row 19: a smaller capacity evicts the oldest at once; a larger one brings none of them back. */
+/* Row 19: a smaller capacity evicts the oldest at once; a larger one does not bring them back. */
 static void FAMILY(row_19)(void) {
     FAMILY(stage) s;
 
@@ -398,12 +398,12 @@ static void FAMILY(row_19)(void) {
     FAMILY(close)(&s);
 }
 
-/* An invalidate: the key finds its entry no more, whoever holds it still has it. */
+/* invalidate: the key no longer finds its entry, and whoever holds the entry still has it. */
 static void FAMILY(invalidates)(void) {
     FAMILY(stage) s;
     uint64_t first, second;
 
-    /* an idle entry leaves at once */
+    /* an idle entry is evicted at once */
     FAMILY(open)(&s, 10);
     FAMILY(make)(&s, 1, 3);
     CHECK(FAMILY(invalidate)(&s.cache, KEY(1), &s.gone), LRU_DONE);
@@ -413,7 +413,7 @@ static void FAMILY(invalidates)(void) {
     CHECK(FAMILY(note)(&s), 0);
     CHECK(FAMILY(total_of)(&s), 0);
 
-    /* a held one leaves with its last release, and has its charge until then */
+    /* a held one is evicted with its last release, and counts until then */
     first = FAMILY(hold)(&s, 2, 3);
     CHECK(FAMILY(hold)(&s, 2, 3), first);
     CHECK(FAMILY(invalidate)(&s.cache, KEY(2), &s.gone), LRU_DONE);
@@ -434,8 +434,8 @@ static void FAMILY(invalidates)(void) {
     FAMILY(close)(&s);
 }
 
-/* An invalidate of an entry that is being made: those who wait get its value, and a later begin
- * makes a new one. */
+/* invalidate while a value is being made: those who wait get the value, and a later begin adds a
+ * new entry. */
 static void FAMILY(invalidates_a_making)(void) {
     FAMILY(stage) s;
     uint64_t first, second;
@@ -458,7 +458,7 @@ static void FAMILY(invalidates_a_making)(void) {
     EVICTED(&s, 10);
     CHECK(FAMILY(let_go)(&s, second), 0);
 
-    /* a making that fails */
+    /* making the value fails */
     told = FAMILY(ask)(&s, 2, 3);
     CHECK(FAMILY(invalidate)(&s.cache, KEY(2), &s.gone), LRU_DONE);
     CHECK(FAMILY(fail)(&s.cache, told.stamp), LRU_REMOVED);
@@ -466,7 +466,7 @@ static void FAMILY(invalidates_a_making)(void) {
     FAMILY(close)(&s);
 }
 
-/* The stamp of an entry that was put in with a value. */
+/* Inserts a value, and returns the stamp of its entry. */
 static uint64_t FAMILY(put)(FAMILY(stage) *s, uint64_t k, uint64_t charge, uint64_t value) {
     lru_told told = FAMILY(insert)(&s->cache, KEY(k), charge, value, &s->gone);
     CHECK(told.code, LRU_DONE);
@@ -475,7 +475,7 @@ static uint64_t FAMILY(put)(FAMILY(stage) *s, uint64_t k, uint64_t charge, uint6
     return told.stamp;
 }
 
-/* An insert: replaces the entry of the key, whoever holds it, and then evicts. */
+/* insert: replaces the entry of the key, whoever holds it, and then evicts. */
 static void FAMILY(inserts)(void) {
     FAMILY(stage) s;
     uint64_t first, second;
@@ -519,7 +519,7 @@ static void FAMILY(inserts)(void) {
     FAMILY(close)(&s);
 }
 
-/* What a free hands out: idle entries, oldest first, then those that are held, each once. */
+/* What free hands out: idle entries, oldest first, then those that are held, each once. */
 static void FAMILY(frees)(void) {
     FAMILY(stage) s;
     uint64_t k;
@@ -527,13 +527,13 @@ static void FAMILY(frees)(void) {
     FAMILY(open_with_limits)(&s, 100, 1000000, 3);
     for (k = 1; k <= 6; k++)
         FAMILY(make)(&s, k, 1);
-    FAMILY(hold)(&s, 2, 1);               /* held by one pin */
-    FAMILY(hold)(&s, 5, 1);               /* held by three */
+    FAMILY(hold)(&s, 2, 1); /* held by one pin */
+    FAMILY(hold)(&s, 5, 1); /* held by three */
     FAMILY(hold)(&s, 5, 1);
     FAMILY(hold)(&s, 5, 1);
     CHECK(FAMILY(ask)(&s, 7, 1).code, LRU_MAKE); /* still being made */
     CHECK(FAMILY(ask)(&s, 7, 1).code, LRU_WAIT);
-    CHECK(FAMILY(ask)(&s, 8, 1).code, LRU_MAKE); /* left by its maker, while another waits */
+    CHECK(FAMILY(ask)(&s, 8, 1).code, LRU_MAKE); /* given up, while another caller waits */
     CHECK(FAMILY(ask)(&s, 8, 1).code, LRU_WAIT);
     CHECK(FAMILY(fail)(&s.cache, 1000007), LRU_LEFT);
     CHECK(FAMILY(ask)(&s, 9, 1).code, LRU_MAKE); /* detached, with a value and without */
@@ -543,18 +543,18 @@ static void FAMILY(frees)(void) {
     CHECK(FAMILY(len)(&s.cache).value, 10);
     CHECK(FAMILY(free)(&s.cache, &s.gone), LRU_DONE);
     CHECK(FAMILY(note)(&s), 7);
-    sort(s.left + 4, 3); /* what was held comes in no particular order */
+    sort(s.left + 4, 3); /* held entries come in no particular order */
     EVICTED(&s, 1, 3, 4, 6, 2, 5, 9);
     CHECK(FAMILY(evicted_free)(&s.gone), LRU_DONE);
 
-    /* the handle can be opened anew */
+    /* the handle can be opened again */
     CHECK(FAMILY(new)(1, &s.cache), LRU_DONE);
     CHECK(FAMILY(evicted_new)(&s.gone), LRU_DONE);
     CHECK(FAMILY(len)(&s.cache).value, 0);
     FAMILY(close)(&s);
 }
 
-/* A code for each misuse that is cheap to test; nothing changes. */
+/* Each misuse that is cheap to check has a code, and changes nothing. */
 static void FAMILY(misuse)(void) {
     FAMILY(stage) s;
     TYPE closed = {0};

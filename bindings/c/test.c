@@ -1,6 +1,5 @@
-/* Tests of the library from C: the worked rows that need no thread, what a free hands out, and a
- * code for each misuse that a call can test.  Prints each failure; the status tells whether there
- * was any. */
+/* Tests the library from C: the worked rows that need no threads, what free hands out, and the
+ * codes for misuse. Prints each failure, and exits with 1 if there is any. */
 #include "lru.h"
 
 #include <inttypes.h>
@@ -64,7 +63,7 @@ static const void *bytes_of(uint64_t k) {
 #undef TYPE
 #undef KEY
 
-/* Keys of bytes: of any length, also none; null is the empty key where the length is 0. */
+/* Keys of bytes have any length, and null is the empty key if the length is 0. */
 static void keys_of_bytes(void) {
     lru_bytes cache = {0};
     lru_bytes_evicted gone = {0};
@@ -115,7 +114,7 @@ static void keys_of_bytes(void) {
 
     CHECK(lru_bytes_reserve(&cache, 1000), LRU_DONE);
     CHECK(lru_bytes_free(&cache, &gone), LRU_DONE);
-    /* both were held, so they come in no particular order */
+    /* both are held, so they come in no particular order */
     CHECK(lru_bytes_evicted_pop(&gone, &left), true);
     uint64_t first = left.value;
     CHECK(lru_bytes_evicted_pop(&gone, &left), true);
@@ -125,7 +124,7 @@ static void keys_of_bytes(void) {
     CHECK(lru_bytes_key_of(&cache, 0, key, sizeof key).code, LRU_CLOSED);
 }
 
-/* Keys of two words: both count. */
+/* Both words of a key count. */
 static void keys_of_words(void) {
     lru_words cache = {0};
     lru_words_evicted gone = {0};

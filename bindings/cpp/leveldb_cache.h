@@ -28,6 +28,7 @@
 //  - Deleters run without the mutex, so they may be slow and may call the cache. LevelDB's cache
 //    runs them with the mutex held.
 //  - The destructor deletes entries that are still pinned. LevelDB's asserts that there are none.
+//    Deleters that the destructor runs must not call the cache.
 //
 // Nothing here throws, and the header compiles with -fno-exceptions. If LevelDB was built without
 // run-time type information, compile the file that includes this header with -fno-rtti.
@@ -65,6 +66,9 @@ class BasicLevelDBCache : public leveldb::Cache {
   BasicLevelDBCache(const BasicLevelDBCache&) = delete;
   BasicLevelDBCache& operator=(const BasicLevelDBCache&) = delete;
 
+  // These are as leveldb/cache.h describes them, with the differences above. Any thread may call
+  // them at any time.
+
   Handle* Insert(const leveldb::Slice& key, void* value, std::size_t charge,
                  void (*deleter)(const leveldb::Slice& key, void* value)) override {
     Entry* entry = Entry::New(key, value, deleter);
@@ -89,6 +93,8 @@ class BasicLevelDBCache : public leveldb::Cache {
     Shard& shard = ShardOf(key);
     const std::lock_guard<std::mutex> lock(shard.mutex);
     const lru_told told = shard.core.get(Stored(key));
+    // It is a miss too if the entry has 2^32 - 1 handles. If the key is longer than any before and
+    // there is no memory for a copy, it has no entry.
     if (told.code != LRU_HIT) return nullptr;
     return reinterpret_cast<Handle*>(Core::node_of(told.value));
   }
@@ -233,13 +239,17 @@ class BasicLevelDBCache : public leveldb::Cache {
   std::atomic<std::uint64_t> last_id_{0};
 };
 
+// Caches keys of any length.
 using LevelDBCache = BasicLevelDBCache<std::string_view>;
+
+// Caches keys of 16 bytes only. Insert returns entries of other keys, but they are not cached.
 using LevelDBBlockCache = BasicLevelDBCache<Words>;
 
-// A cache with the given capacity, or null if there is no memory for it. The caller deletes it
-// after the last database that uses it.
+// A LevelDBCache with the given capacity, or null if there is no memory for it. The caller deletes
+// it after the last database that uses it.
 inline leveldb::Cache* NewLevelDBCache(std::size_t capacity) { return LevelDBCache::New(capacity); }
 
+// The same, for a LevelDBBlockCache.
 inline leveldb::Cache* NewLevelDBBlockCache(std::size_t capacity) {
   return LevelDBBlockCache::New(capacity);
 }

@@ -86,7 +86,8 @@ struct Node {
 }  // namespace detail
 
 // A pinned value: it is neither evicted nor deleted while the handle lives. A handle is moved, not
-// copied. It is empty after it was moved from or reset, and `get` returns an empty one on a miss.
+// copied. It is empty once it has been moved from or reset, and Cache::get returns an empty one if
+// the key has no value.
 //
 // A handle may be used and destroyed on any thread, by one thread at a time. All handles of a value
 // refer to the same object, on whatever threads they are: a value that is changed needs a lock of
@@ -121,6 +122,7 @@ class Handle {
     if (cache_ != nullptr) std::exchange(cache_, nullptr)->release(stamp_);
   }
 
+  // Exchanges the values of two handles.
   void swap(Handle& other) noexcept {
     std::swap(cache_, other.cache_);
     std::swap(stamp_, other.stamp_);
@@ -147,7 +149,8 @@ class Handle {
 //
 // No lock is held while `init` makes a value or a value is deleted. So both may take long, and may
 // call the cache. But `init` must not ask for the key whose value it makes, and must not wait for
-// another thread that does: it would wait for itself. Destructors of values must not throw.
+// another thread that does: it would wait for itself. The same applies to the destructors of values
+// that are evicted for the new one. Destructors of values must not throw.
 template <class Value, class Key>
 class Cache {
  public:
@@ -159,7 +162,8 @@ class Cache {
     if (!core_.open(capacity)) throw OutOfMemory();
   }
 
-  // Deletes all values. There must be no handle left: it would dangle.
+  // Deletes all values. There must be no handle left, as it would dangle, and the destructors of
+  // the values must not call this cache.
   ~Cache() = default;
 
   Cache(const Cache&) = delete;
@@ -212,7 +216,7 @@ class Cache {
     const lru_told told = core_.insert(key, charge, node.get(), &evicted);
     lock.unlock();
     if (told.code != LRU_DONE) detail::throw_refusal(told.code);
-    return Handle(this, told.stamp, &node.release()->value);
+    return Handle(this, told.stamp, std::addressof(node.release()->value));
   }
 
   // Takes the key's value away: the next caller that asks for the key makes a new one. Handles of
@@ -236,7 +240,7 @@ class Cache {
     if (code != LRU_DONE) detail::throw_refusal(code);
   }
 
-  // Evicts every idle value.
+  // Evicts every idle value, the least recently released first.
   void prune() {
     Evicted evicted;
     const std::lock_guard<std::mutex> lock(mutex_);
@@ -282,7 +286,7 @@ class Cache {
 
     Handle end(std::unique_ptr<Node> node) {
       cache_->ready(stamp_, node.get());
-      return Handle(std::exchange(cache_, nullptr), stamp_, &node.release()->value);
+      return Handle(std::exchange(cache_, nullptr), stamp_, std::addressof(node.release()->value));
     }
 
    private:
@@ -291,7 +295,7 @@ class Cache {
   };
 
   Handle handle(const lru_told& told) {
-    return Handle(this, told.stamp, &core_.node_of(told.value)->value);
+    return Handle(this, told.stamp, std::addressof(core_.node_of(told.value)->value));
   }
 
   // Finds the key's value, or waits until another caller has made it: LRU_HIT. Or begins to make
@@ -354,6 +358,12 @@ class ShardedCache {
   }
 
   // As for Cache.
+  ~ShardedCache() = default;
+
+  ShardedCache(const ShardedCache&) = delete;
+  ShardedCache& operator=(const ShardedCache&) = delete;
+
+  // As for Cache.
   Handle get(Key key) { return shard(key).get(key); }
   template <class Init>
   Handle get_or_init(Key key, std::uint64_t charge, Init&& init) {
@@ -383,7 +393,8 @@ class ShardedCache {
     return sum([](const Shard& shard) { return shard.capacity(); });
   }
 
-  // Sets the capacity, of which each shard gets an equal share, rounded up.
+  // Sets the capacity, of which each shard gets an equal share, rounded up. Idle values that exceed
+  // it are evicted at once.
   void set_capacity(std::uint64_t capacity) {
     for (Shard& shard : shards_) shard.set_capacity(share(capacity, shards_.size()));
   }

@@ -27,9 +27,9 @@ struct Words {
 template <>
 struct std::hash<lru::Words> {
   std::size_t operator()(lru::Words key) const noexcept {
-    // Both words affect all bits, so that neighbouring blocks of a file lie in different shards.
-    const std::uint64_t mixed =
-        (key.first * 0x9e3779b97f4a7c15u ^ key.second) * 0xbf58476d1ce4e5b9u;
+    // Folded twice, so that the low bits, which choose the shard, depend on all bits of both words.
+    std::uint64_t mixed = key.first * 0x9e3779b97f4a7c15u ^ key.second;
+    mixed = (mixed ^ mixed >> 32) * 0xbf58476d1ce4e5b9u;
     return static_cast<std::size_t>(mixed ^ mixed >> 32);
   }
 };

@@ -2,9 +2,13 @@
 #include <atomic>
 #include <chrono>
 #include <condition_variable>
+#include <cstddef>
 #include <cstdint>
+#include <cstdio>
+#include <functional>
 #include <memory>
 #include <mutex>
+#include <set>
 #include <stdexcept>
 #include <string>
 #include <string_view>
@@ -31,6 +35,8 @@ static_assert(std::is_nothrow_move_assignable_v<Numbers::Handle>);
 static_assert(!std::is_copy_constructible_v<Numbers::Handle>);
 static_assert(!std::is_copy_assignable_v<Numbers::Handle>);
 static_assert(!std::is_move_constructible_v<Numbers>);
+static_assert(!std::is_move_constructible_v<lru::ShardedCache<int>>);
+static_assert(!std::is_copy_constructible_v<lru::ShardedCache<int>>);
 static_assert(std::is_base_of_v<std::bad_alloc, lru::OutOfMemory>);
 static_assert(std::is_base_of_v<std::overflow_error, lru::Overflow>);
 static_assert(std::is_base_of_v<std::invalid_argument, lru::ZeroCharge>);
@@ -395,6 +401,15 @@ void shards_have_equal_shares() {
   CHECK(!texts.get("one") && *texts.get("two") == "2" && texts.total_charge() == 3);
 }
 
+void high_bits_of_a_key_choose_its_shard_too() {
+  std::set<std::size_t> firsts, seconds;
+  for (std::uint64_t n = 0; n < 1000; n++) {
+    firsts.insert(std::hash<lru::Words>()({n << 48, 1}) % 16);
+    seconds.insert(std::hash<lru::Words>()({1, n << 48}) % 16);
+  }
+  CHECK(firsts.size() == 16 && seconds.size() == 16);
+}
+
 void values_may_be_move_only_or_neither() {
   lru::Cache<std::unique_ptr<int>> owners(10);
   const auto owner = owners.get_or_init("1", 1, [](std::string_view) { return new int(1); });
@@ -424,7 +439,8 @@ int main() {
   a_cache_deletes_what_is_left_oldest_release_first();
   a_capacity_is_set_at_any_time();
   shards_have_equal_shares();
+  high_bits_of_a_key_choose_its_shard_too();
   values_may_be_move_only_or_neither();
-  std::printf("lru.hpp: 18 tests, %d checks failed\n", failed_checks);
+  std::printf("lru.hpp: 19 tests, %d checks failed\n", failed_checks);
   return failed_checks == 0 ? 0 : 1;
 }

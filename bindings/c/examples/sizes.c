@@ -1,7 +1,5 @@
-/* Prints the sizes of files, on a thread for each, through a cache of open files that the threads
- * share. If two need the same file at once, one opens it and the other waits.
- *
- *     sizes FILE..     at most 100 of them */
+/* Prints the sizes of up to 100 files, on a thread for each, through a cache of open files that the
+ * threads share. If two need the same file at once, one opens it and the other waits. */
 #define _POSIX_C_SOURCE 200809L
 #include <pthread.h>
 #include <stdio.h>
@@ -20,7 +18,7 @@ static void close_evicted(lru_bytes_evicted *gone) {
         fclose((FILE *)(uintptr_t)entry.value);
 }
 
-/* Finds or opens a file, and pins it until `unpin` with its stamp. Null if it cannot be opened. */
+/* Finds or opens a file and pins it: the pin is released by its stamp. Null if that fails. */
 static FILE *pin(const char *path, lru_bytes_evicted *gone, uint64_t *stamp) {
     pthread_mutex_lock(&lock);
     lru_told told = lru_bytes_begin(&cache, path, strlen(path), 1, gone);
@@ -31,33 +29,22 @@ static FILE *pin(const char *path, lru_bytes_evicted *gone, uint64_t *stamp) {
     pthread_mutex_unlock(&lock);
     close_evicted(gone);
     *stamp = told.stamp;
-    if (told.code == LRU_HIT)
+    if (told.code != LRU_MAKE) /* LRU_HIT, or an error, which has the value 0 */
         return (FILE *)(uintptr_t)told.value;
-    if (told.code != LRU_MAKE) /* LRU_MEMORY or LRU_OVERFLOW */
-        return NULL;
-
     FILE *file = fopen(path, "rb");
     pthread_mutex_lock(&lock);
-    if (file == NULL || lru_bytes_ready(&cache, *stamp, (uintptr_t)file) != LRU_DONE) {
+    bool kept = file != NULL && lru_bytes_ready(&cache, *stamp, (uintptr_t)file) == LRU_DONE;
+    if (!kept)
         lru_bytes_fail(&cache, *stamp); /* gives the pin back */
-        if (file != NULL)
-            fclose(file);
-        file = NULL;
-    }
     pthread_mutex_unlock(&lock);
     pthread_cond_broadcast(&ended);
-    return file;
-}
-
-static void unpin(uint64_t stamp, lru_bytes_evicted *gone) {
-    pthread_mutex_lock(&lock);
-    lru_bytes_release(&cache, stamp, gone);
-    pthread_mutex_unlock(&lock);
-    close_evicted(gone);
+    if (file != NULL && !kept)
+        fclose(file);
+    return kept ? file : NULL;
 }
 
 static void *print_size(void *path) {
-    lru_bytes_evicted gone = {0}; /* each thread has one of its own */
+    lru_bytes_evicted gone = {0}; /* each thread has its own */
     if (lru_bytes_evicted_new(&gone) != LRU_DONE)
         return NULL;
     uint64_t stamp;
@@ -67,8 +54,11 @@ static void *print_size(void *path) {
         printf("%lld %s\n", (long long)about.st_size, (const char *)path);
     else
         fprintf(stderr, "sizes: cannot read %s\n", (const char *)path);
+    pthread_mutex_lock(&lock);
     if (file != NULL)
-        unpin(stamp, &gone);
+        lru_bytes_release(&cache, stamp, &gone);
+    pthread_mutex_unlock(&lock);
+    close_evicted(&gone);
     lru_bytes_evicted_free(&gone);
     return NULL;
 }
@@ -76,16 +66,14 @@ static void *print_size(void *path) {
 int main(int argc, char **argv) {
     pthread_t threads[100];
     lru_bytes_evicted gone = {0};
-    int started = 0;
     if (lru_bytes_new(20, &cache) != LRU_DONE || lru_bytes_evicted_new(&gone) != LRU_DONE)
         return 1;
-    for (; started < 100 && started < argc - 1; started++)
-        if (pthread_create(&threads[started], NULL, print_size, argv[started + 1]) != 0)
+    for (int i = 0; i < 100 && i < argc - 1; i++)
+        if (pthread_create(&threads[i], NULL, print_size, argv[i + 1]) != 0)
             return 1;
-    while (started > 0)
-        pthread_join(threads[--started], NULL);
+    for (int i = 0; i < 100 && i < argc - 1; i++)
+        pthread_join(threads[i], NULL);
     lru_bytes_free(&cache, &gone); /* hands out all that is left */
     close_evicted(&gone);
-    lru_bytes_evicted_free(&gone);
-    return 0;
+    return lru_bytes_evicted_free(&gone) == LRU_DONE ? 0 : 1;
 }

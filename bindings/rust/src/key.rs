@@ -39,7 +39,7 @@ pub trait Key {
     /// [`Bytes`] or [`Words`].
     type Form: Form;
 
-    /// The bytes or the words of this key.
+    /// Returns the bytes or the words of this key.
     fn written(&self) -> Written<'_, Self::Form>;
 }
 

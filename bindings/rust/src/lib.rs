@@ -34,9 +34,9 @@
 //!
 //! # Building
 //!
-//! The build script looks for the archive of the core, `liblru.a`, in the folder that the
-//! environment variable `LRU_LIB_DIR` names, or else in `bindings/c/build` of this repository,
-//! where `make -C bindings/c` puts it.
+//! The build script looks for the archive of the core, `liblru.a`, in the folder whose absolute
+//! path is in the environment variable `LRU_LIB_DIR`. If it is not set, it looks in
+//! `bindings/c/build` of this repository, where `make -C bindings/c` puts the archive.
 
 mod error;
 mod ffi;

@@ -41,7 +41,7 @@ impl<K: Key + ?Sized, V> LruCache<K, V> {
     ///
     /// # Errors
     ///
-    /// [`Refusal::Memory`].
+    /// [`Refusal::Memory`] if there is no memory for the cache.
     pub fn new(capacity: u64) -> Result<Self, Refusal> {
         LruCache::with_shards_hasher(capacity, SHARDS, RandomState::new())
     }
@@ -52,7 +52,7 @@ impl<K: Key + ?Sized, V, S> LruCache<K, V, S> {
     ///
     /// # Errors
     ///
-    /// [`Refusal::Memory`].
+    /// [`Refusal::Memory`] if there is no memory for the cache.
     pub fn with_shards_hasher(
         capacity: u64,
         shards: NonZeroUsize,
@@ -75,15 +75,15 @@ impl<K: Key + ?Sized, V, S> LruCache<K, V, S> {
         }
     }
 
-    /// The total of the charges of all values, including those that are being made. The shards are
-    /// read one after another, so while other threads call the cache it is no snapshot.
+    /// Returns the total of the charges of all values, including those that are being made. The
+    /// shards are read one after another, so it is no snapshot if other threads call the cache.
     pub fn total_charge(&self) -> u128 {
         let totals = self.shards.iter().map(|shard| shard.total_charge());
         totals.map(u128::from).sum()
     }
 
-    /// The total of the capacities of all shards. Rounding may make it more than the capacity that
-    /// was set.
+    /// Returns the total of the capacities of all shards. Rounding may make it more than the
+    /// capacity that was set.
     pub fn capacity(&self) -> u128 {
         let capacities = self.shards.iter().map(|shard| shard.capacity());
         capacities.map(u128::from).sum()
@@ -220,11 +220,11 @@ impl<K: Key + ?Sized, V, S> fmt::Debug for LruCache<K, V, S> {
     }
 }
 
-/// A pinned value: it is not evicted while the handle lives.
+/// A pinned value, as [`unsharded::CacheHandle`].
 pub struct CacheHandle<'a, K: Key + ?Sized, V>(unsharded::CacheHandle<'a, K, V>);
 
 impl<K: Key + ?Sized, V> CacheHandle<'_, K, V> {
-    /// The value.
+    /// Returns the value.
     pub fn value(&self) -> &V {
         self.0.value()
     }

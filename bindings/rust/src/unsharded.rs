@@ -22,7 +22,8 @@ use crate::proved::{Begun, Core, Evicted};
 ///
 /// No lock is held while values are made or dropped. So `init` and `Drop` of a value may be slow,
 /// may panic, and may call the cache. But `init` must not ask for the key whose value it makes, and
-/// must not wait for another thread that does: it would wait for itself.
+/// must not wait for another thread that does: it would wait for itself. The same applies to the
+/// `Drop` of a value that is evicted for the new one.
 ///
 /// Keys are passed by reference, as in [`HashMap`](std::collections::HashMap): a cache with keys of
 /// type `String` takes a `&str`.
@@ -81,7 +82,7 @@ impl<K: Key + ?Sized, V> LruCache<K, V> {
     ///
     /// # Errors
     ///
-    /// [`Refusal::Memory`].
+    /// [`Refusal::Memory`] if there is no memory for the cache.
     pub fn new(capacity: u64) -> Result<Self, Refusal> {
         Ok(LruCache {
             shared: Mutex::new(Shared {
@@ -121,9 +122,11 @@ impl<K: Key + ?Sized, V> LruCache<K, V> {
     ///
     /// # Errors
     ///
-    /// [`Refusal::ZeroCharge`] if `charge` is 0, [`Refusal::Overflow`] and [`Refusal::Memory`]. In
-    /// these cases `init` does not run and nothing is evicted, with one exception: if there is no
-    /// memory to store the value that `init` has made, it is dropped as if `init` had failed.
+    /// [`Refusal::ZeroCharge`] if `charge` is 0. [`Refusal::Overflow`] if the total of all charges
+    /// would exceed `u64::MAX` or the value has `u32::MAX` handles. [`Refusal::Memory`] if there is
+    /// no memory for a new entry. In these cases `init` does not run and nothing is evicted, with
+    /// one exception: if there is no memory to store the value that `init` has made, the call fails
+    /// with [`Refusal::Memory`] and the value is dropped, as if `init` had failed.
     pub fn get_or_init<Q>(
         &self,
         key: &Q,
@@ -161,7 +164,11 @@ impl<K: Key + ?Sized, V> LruCache<K, V> {
         K: Borrow<Q>,
         Q: Key<Form = K::Form> + ?Sized,
     {
-        match self.begin(key.written(), charge)? {
+        let mut evicted = Evicted::new();
+        let asked = self.begin(key.written(), charge, &mut evicted)?;
+        // If the drop of a value panics, `asked` is dropped too, which gives its pin back.
+        drop(evicted);
+        match asked {
             Asked::Found(handle) => Ok(handle),
             Asked::Making(making) => {
                 let value = init(key).map_err(GetError::Init)?;
@@ -178,8 +185,9 @@ impl<K: Key + ?Sized, V> LruCache<K, V> {
     ///
     /// # Errors
     ///
-    /// [`Refusal::ZeroCharge`] if `charge` is 0, [`Refusal::Overflow`] and [`Refusal::Memory`]. The
-    /// key keeps its old value then, and the new one is dropped.
+    /// [`Refusal::ZeroCharge`] if `charge` is 0, [`Refusal::Overflow`] if the total of all charges
+    /// would exceed `u64::MAX`, and [`Refusal::Memory`]. The key keeps its old value then, and the
+    /// new one is dropped.
     ///
     /// # Examples
     ///
@@ -208,13 +216,19 @@ impl<K: Key + ?Sized, V> LruCache<K, V> {
         let written = key.written();
         let value = Box::new(value);
         let mut evicted = Evicted::new();
-        // The guard is dropped at the end of this statement, before what the call returned.
+        // The lock is released at the end of this statement, before any value is dropped.
         let inserted = self
             .lock()
             .core
             .insert(written, charge, value, &mut evicted);
         match inserted {
-            Ok((stamp, value)) => Ok(self.handle(stamp, value)),
+            Ok((stamp, value)) => {
+                let handle = self.handle(stamp, value);
+                // If the drop of a value panics, the handle is dropped too. It would be leaked if
+                // it were the return value already.
+                drop(evicted);
+                Ok(handle)
+            }
             Err((refusal, _value)) => Err(refusal),
         }
     }
@@ -256,12 +270,12 @@ impl<K: Key + ?Sized, V> LruCache<K, V> {
         self.lock().core.prune(&mut evicted);
     }
 
-    /// The total of the charges of all values, including those that are being made.
+    /// Returns the total of the charges of all values, including those that are being made.
     pub fn total_charge(&self) -> u64 {
         self.lock().core.total()
     }
 
-    /// The capacity.
+    /// Returns the capacity.
     pub fn capacity(&self) -> u64 {
         self.lock().core.capacity()
     }
@@ -277,11 +291,10 @@ impl<K: Key + ?Sized, V> LruCache<K, V> {
         &self,
         written: Written<'_, K::Form>,
         charge: u64,
+        evicted: &mut Evicted<V>,
     ) -> Result<Asked<'_, K, V>, Refusal> {
-        // Declared before the lock is taken, so that it is dropped after the lock is released.
-        let mut evicted = Evicted::new();
         let mut shared = self.lock();
-        let mut begun = shared.core.begin(written, charge, &mut evicted)?;
+        let mut begun = shared.core.begin(written, charge, evicted)?;
         loop {
             match begun {
                 Begun::Hit(stamp, value) => return Ok(Asked::Found(self.handle(stamp, value))),
@@ -375,6 +388,9 @@ impl<K: Key + ?Sized, V> Drop for Making<'_, K, V> {
 }
 
 /// A pinned value: it is not evicted while the handle lives.
+///
+/// Without its last handle the value is idle, and is evicted at once if the total of all charges is
+/// above the capacity. If a handle is forgotten, its value stays until the cache is dropped.
 pub struct CacheHandle<'a, K: Key + ?Sized, V> {
     cache: &'a LruCache<K, V>,
     stamp: u64,
@@ -390,7 +406,7 @@ unsafe impl<K: Key + ?Sized, V: Send + Sync> Send for CacheHandle<'_, K, V> {}
 unsafe impl<K: Key + ?Sized, V: Send + Sync> Sync for CacheHandle<'_, K, V> {}
 
 impl<K: Key + ?Sized, V> CacheHandle<'_, K, V> {
-    /// The value.
+    /// Returns the value.
     pub fn value(&self) -> &V {
         // SAFETY: the handle has a pin of the entry, so the value is not dropped before the handle
         // is. Nothing has mutable access to a value in the cache.

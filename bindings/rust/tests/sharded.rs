@@ -146,7 +146,9 @@ fn stress() -> Result<(), Refusal> {
                 for call in 0..10_000u64 {
                     let random = numbers.hash_one((seed, call));
                     let key = random % 100;
-                    let charge = 1 + (random >> 20) % 4;
+                    // The same for all values of a key: a caller that waited and then makes the
+                    // value makes it for an entry with the charge of another caller.
+                    let charge = 1 + key % 4;
                     let fails = (random >> 40) % 10 >= 8;
                     let value = || {
                         made.fetch_add(charge, Ordering::Relaxed);

@@ -435,6 +435,40 @@ fn a_panicking_drop_loses_no_other() -> Result<(), Refusal> {
     Ok(())
 }
 
+#[test]
+fn a_panicking_drop_leaves_no_pin() -> Result<(), Refusal> {
+    struct Panics(bool);
+
+    impl Drop for Panics {
+        fn drop(&mut self) {
+            assert!(!self.0, "the drop of a value");
+        }
+    }
+
+    let cache = LruCache::<u32, Panics>::new(1)?;
+    cache.get_or_init(&1, 1, |_| Panics(true))?;
+    // This evicts 1, before `init` runs.
+    let caught = thread::scope(|scope| {
+        scope
+            .spawn(|| cache.get_or_init(&2, 1, |_| Panics(false)).map(drop))
+            .join()
+    });
+    assert!(caught.is_err());
+    assert_eq!(cache.total_charge(), 0);
+    cache.get_or_init(&2, 1, |_| Panics(true))?;
+    // This evicts 2.
+    let caught = thread::scope(|scope| {
+        scope
+            .spawn(|| cache.insert(&3, 1, Panics(false)).map(drop))
+            .join()
+    });
+    assert!(caught.is_err());
+    assert!(cache.get(&3)?.is_some());
+    cache.prune();
+    assert_eq!(cache.total_charge(), 0);
+    Ok(())
+}
+
 /// Adds its charge when it is dropped.
 struct Counted<'a> {
     charge: u64,
@@ -461,7 +495,9 @@ fn stress() -> Result<(), Refusal> {
                 for _ in 0..10_000 {
                     random = random.wrapping_mul(6364136223846793005).wrapping_add(1);
                     let key = (random >> 33) % 100;
-                    let charge = 1 + (random >> 40) % 4;
+                    // The same for all values of a key: a caller that waited and then makes the
+                    // value makes it for an entry with the charge of another caller.
+                    let charge = 1 + key % 4;
                     let fails = (random >> 50) % 10 >= 8;
                     let value = || {
                         made.fetch_add(charge, Ordering::Relaxed);
