@@ -1,6 +1,6 @@
 """Refuses each request for memory of the programs in turn, and checks that nothing is lost.
 
-The program `lru_no_memory` runs scripts of calls, repeats each call that was refused for want of memory, and prints every
+The program `lru_no_memory` runs scripts of calls, repeats each call that was refused for lack of memory, and prints every
 answer. Each of its scripts is run here with its first request refused, then with its second, and so on, until a run makes
 no further request. A run passes if it prints what it prints with ample memory. A run that ends with status 1 and `refused 1`,
 after printing a beginning of that, met the refusal in a request of the script's own, and passes too. Anything else fails:

@@ -128,7 +128,8 @@ impl<K: Hash + Eq + Clone + Drop, V: Drop, R: Wait + Clone, S: BuildHasher + Dro
     Anything,
 > {
     /// Creates an empty cache of one or more shards, each with `capacity_per_shard` of the
-    /// capacity.
+    /// capacity. If their number is a power of two up to 256, a call finds the shard of its key
+    /// without a division.
     ///
     /// Returns `Memory` as `new` does.
     pub fn with_shards_hasher(

@@ -33,8 +33,8 @@ pub fn capacity_per_shard(capacity: u64, shards: usize) -> u64
 // The number of shards of a cache that is created without one.
 pub(crate) const DEFAULT_SHARDS: usize = 16;
 
-// Returns the shard of a key: its hash modulo the number of shards. For the default number of
-// shards the compiler uses a mask, since a 64-bit division takes as long as acquiring the lock.
+// Returns the shard of a key: its hash modulo the number of shards. For a power of two up to 256
+// the compiler uses a mask, since a 64-bit division takes as long as acquiring the lock.
 #[inline(always)]
 pub(crate) fn choose_shard<K: Hash, S: BuildHasher>(hasher: &S, key: &K, shards: usize) -> usize
     requires { 0 < shards }
@@ -43,11 +43,18 @@ pub(crate) fn choose_shard<K: Hash, S: BuildHasher>(hasher: &S, key: &K, shards:
     ensures within { result < shards }
 {
     let number = hasher.hash_one(key);
-    if shards == DEFAULT_SHARDS {
-        (number % DEFAULT_SHARDS as u64) as usize
-    } else {
-        (number % shards as u64) as usize
-    }
+    let shard = match shards {
+        2 => number % 2,
+        4 => number % 4,
+        8 => number % 8,
+        16 => number % 16,
+        32 => number % 32,
+        64 => number % 64,
+        128 => number % 128,
+        256 => number % 256,
+        _ => number % shards as u64,
+    };
+    shard as usize
 }
 
 /// A step of a run over shards. Charges are above 0. A step with a key goes to the key's shard; the

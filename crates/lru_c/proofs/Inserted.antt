@@ -1,4 +1,5 @@
--- What an insert of the core did, told as C is told; an insert by the bytes of a key is the insert of the key that was made of them.
+-- What an insert of the core did, told as C is told; an insert by the bytes of a key is the insert
+-- of the key that was made of them.
 use Rattle.std.proofs.Common.{◌≡◌, ℕ, Bool, List, [], inl, inr, refl, sym, ◌∙◌, ap, subst}
 use Rattle.concurrent_lru.specs.Cache.{Cache, Idle, IsLawful}
 use Rattle.concurrent_lru.specs.Inserts.{Replaces, RefusesToReplace}

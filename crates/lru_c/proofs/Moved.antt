@@ -1,4 +1,5 @@
--- A struct of a pointer and an allocator that takes another one's fields, and owns what that one owned.
+-- A struct of a pointer and an allocator that takes another one's fields, and owns what that one
+-- owned.
 use mathlib.Core.Path.{◌≡◌, refl, sym, ◌∙◌, subst}
 use mathlib.Core.List.{List, [], ◌∷◌, ◌++◌}
 use lib.Dec.{T, lit<}
@@ -80,7 +81,8 @@ both false y p q = absurd p
 word_typed : (to : Sym) (p : Ptr) (hv : Val) → Fits Z hv → T (has_ty (ty_struct to two) (word p hv)) × WT (word p hv)
 word_typed to p hv fa = (both (has_ty ty_ptr (ptr_val p)) (has_ty (α Z) hv && true) (ptr_typed p).0 (and_tt (has_ty (α Z) hv) fa.0), ((ptr_typed p).1, (fa.1, tt)))
 
--- a struct of these fields that owns, beside them, what lies behind the pointer, of which its ghost field tells
+-- a struct of these fields that owns, beside them, what lies behind the pointer, of which its ghost
+-- field tells
 pub record Form (X : Type 0) (owned : Heap.the_row.Denot → Ptr → X → Fml) : Type 2 where
   pub row : RattleType
   pub name : Sym

@@ -1,4 +1,5 @@
--- The pointers of C to caches and chains whose keys are two words, and the ones that boxes are made of.
+-- The pointers of C to caches and chains whose keys are two words, and the ones that boxes are made
+-- of.
 use mathlib.Core.Path.{refl}
 use Rattle.std.specs.Prelude.{Option}
 use Rattle.lru_c.specs.WordsHeld.{WordsCache, WordsChain, words_cache_owns, words_chain_owns, cache_row, chain_row}

@@ -29,7 +29,9 @@ bytes_eq a b = pointwise nat_eq a.items b.items
 abbrev pub Entries : Type 0
 Entries = List (Idle Key ℕ)
 
--- A call on a cache that puts what it took out into a chain, told with both handles before and after it. Where the chain took more, this holds of the cache before, what is in the chain now, and the cache after; else the call told why, and nothing changed.
+-- A call on a cache that puts what it took out into a chain, told with both handles before and
+-- after it. Where the chain took more, this holds of the cache before, what is in the chain now,
+-- and the cache after; else the call told why, and nothing changed.
 abbrev pub Into : LruBytesEvicted → LruBytesEvicted → ℕ → LruBytes → LruBytes → (Option BytesCache → Entries → Option BytesCache → Type 0) → Type 0
 Into before after c old new Step =
     IntoChain (entries_of before.chain.held) (entries_of after.chain.held) c old new (λ out. Step old.cache.held out new.cache.held)
@@ -39,7 +41,8 @@ abbrev pub BeginsByKey : Cache Key ℕ → List ℕ → ℕ → LruTold → Entr
 BeginsByKey old bytes charge t gone new =
     MatchBool (charge == 0) ((t ≡ bare code.no_charge) × IsSame old gone new) (tells.AsksOf bytes_eq (λ key. key.items ≡ bytes) old (λ key. ask.begin key charge) t gone new)
 
--- The call took one step by a key of these bytes, and told its outcome; or memory was refused, and nothing changed.
+-- The call took one step by a key of these bytes, and told its outcome; or memory was refused, and
+-- nothing changed.
 abbrev pub AsksByKey : Option BytesCache → (Key → Request Key ℕ) → List ℕ → LruTold → Entries → Option BytesCache → Type 0
 AsksByKey old r bytes t gone new = OnCache old (λ o n. tells.AsksOf bytes_eq (λ key. key.items ≡ bytes) o r t gone n) t gone new
 
@@ -63,7 +66,9 @@ ContainsBytes cache bytes c = (c ≡ code.memory) ⊎ ((key : Key) × (key.items
 abbrev pub Contains : Option BytesCache → List ℕ → ℕ → Option BytesCache → Type 0
 Contains old bytes c new = OnOpen old new (λ o n. ContainsBytes o.state.cache bytes c × (n.state.cache ≡ o.state.cache)) (c ≡ code.closed)
 
--- The key of a stamp was copied to the front of a buffer and its length told, or its length and that there is no room, or that there is no such key; the rest of the buffer and the cache are the same.
+-- The key of a stamp was copied to the front of a buffer and its length told, or its length and
+-- that there is no room, or that there is no such key; the rest of the buffer and the cache are the
+-- same.
 abbrev pub CopiesKey : Cache Key ℕ → ℕ → LruTold → List ℕ → List ℕ → Type 0
 CopiesKey cache stamp t before after =
     ((key : Key) × HasKeyAt cache stamp key × (t ≡ told code.number 0 (length key.items)) × (after ≡ key.items ++ drop (length key.items) before))

@@ -17,12 +17,14 @@ entries_of None = None
 entries_of (Some c) = Some (c.first ++ c.rest)
 
 module _ {K R : Type 0} where
-  -- Of an open handle, this holds of the cache before the call and after it; of one that is not, that was told and nothing was put into a chain.
+  -- Of an open handle, this holds of the cache before the call and after it; of one that is not,
+  -- that was told and nothing was put into a chain.
   abbrev pub OnCache : Option (Inner K R) → (Cache K ℕ → Cache K ℕ → Type 0) → LruTold → List (Idle K ℕ) → Option (Inner K R) → Type 0
   OnCache old Step t gone new = OnOpen old new (λ o n. Step o.state.cache n.state.cache) ((t ≡ bare code.closed) × (gone ≡ []))
 
   module _ (E : K → K → Bool) where
-    -- The call took one step of the cache behind a handle, and told its outcome; or told that the handle is not open.
+    -- The call took one step of the cache behind a handle, and told its outcome; or told that the
+    -- handle is not open.
     abbrev pub Asks : Option (Inner K R) → Request K ℕ → LruTold → List (Idle K ℕ) → Option (Inner K R) → Type 0
     Asks old r t gone new = OnCache old (λ o n. tells.Asks E o r t gone n) t gone new
 

@@ -26,6 +26,8 @@ module _ {K : Type 0} where
   Pops old told new = MatchOption told ((old ≡ []) × (new ≡ [])) (λ g. TellsFirst old g new)
 
 module _ {K A : Type 0} where
-  -- A call that puts what it took out into a chain, told with the entries of the chain before and after it. Where the chain took more, the call did this with what is in the chain now; else it told why, and nothing changed.
+  -- A call that puts what it took out into a chain, told with the entries of the chain before and
+  -- after it. Where the chain took more, the call did this with what is in the chain now; else it
+  -- told why, and nothing changed.
   abbrev pub IntoChain : Option (List (Idle K ℕ)) → Option (List (Idle K ℕ)) → ℕ → A → A → (List (Idle K ℕ) → Type 0) → Type 0
   IntoChain before after c old new Step = MatchBool (chain_code before == code.done) (MatchOption after ⊥ Step) ((c ≡ chain_code before) × (after ≡ before) × (new ≡ old))

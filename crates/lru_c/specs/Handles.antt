@@ -2,7 +2,8 @@
 use Rattle.std.specs.Prelude.{Option, Some, None}
 
 module _ {A : Type 0} where
-  -- Where the handle is open it stays open, and this holds of what it led to and what it leads to; else it stays closed, and this holds.
+  -- Where the handle is open it stays open, and this holds of what it led to and what it leads to;
+  -- else it stays closed, and this holds.
   abbrev pub OnOpen : Option A → Option A → (A → A → Type 0) → Type 0 → Type 0
   OnOpen None None Step Closed = Closed
   OnOpen (Some old) (Some new) Step Closed = Step old new

@@ -1,4 +1,5 @@
--- What an insert tells C: the stamp of the new entry, or why there is none. E is the equality of keys.
+-- What an insert tells C: the stamp of the new entry, or why there is none. E is the equality of
+-- keys.
 use Rattle.std.specs.Prelude.{◌≡◌, ◌⊎◌, ◌==◌, ℕ, Bool, List, [], MatchBool}
 use Rattle.concurrent_lru.specs.Cache.{Cache, Idle, IsLawful}
 use Rattle.concurrent_lru.specs.Inserts.{Replaces, RefusesToReplace}
@@ -26,7 +27,8 @@ module _ {K : Type 0} where
     TellsInsert old k charge v t replaced evicted new =
         TellsNewStamp old k charge v t replaced evicted new ⊎ (TellsRefusal old k charge t replaced evicted new ⊎ ((t ≡ bare code.memory) × IsUntouched old replaced evicted new))
 
-    -- The same of a call that refuses a charge of 0, and that first makes a key of these bytes, or the like: it is of a key for which this holds.
+    -- The same of a call that refuses a charge of 0, and that first makes a key of these bytes, or
+    -- the like: it is of a key for which this holds.
     abbrev pub TellsInsertOf : (K → Type 0) → Cache K ℕ → ℕ → ℕ → LruTold → List (Idle K ℕ) → List (Idle K ℕ) → Cache K ℕ → Type 0
     TellsInsertOf IsKey old charge v t replaced evicted new =
         MatchBool (charge == 0) ((t ≡ bare code.no_charge) × IsUntouched old replaced evicted new)

@@ -5,7 +5,8 @@ use Rattle.concurrent_lru.specs.Ready.{HasReadyKey}
 use Rattle.concurrent_lru.specs.Steps.{IsUnready}
 use Rattle.lru_c.specs.Codes as code
 
--- A call that opens a handle: where it is open already, or no memory is had, it stays what it was; else it leads to what is new.
+-- A call that opens a handle: where it is open already, or no memory is had, it stays what it was;
+-- else it leads to what is new.
 abbrev pub Opens : {A : Type 0} → Bool → Option A → (A → Type 0) → ℕ → Option A → Type 0
 Opens is_open old IsNew c new = MatchBool is_open ((c ≡ code.opened) × (new ≡ old)) (MatchBool (c == code.memory) (new ≡ old) ((c ≡ code.done) × MatchOption new ⊥ IsNew))
 

@@ -44,7 +44,8 @@ module _ {K : Type 0} where
   failed_code failed.Left = code.left
   failed_code (failed.Removed k) = code.removed
 
-  -- The outcome that is told, where no key was removed: what was put into a chain goes with it. Any other code reads as a sum, and no step that is told so has that outcome.
+  -- The outcome that is told, where no key was removed: what was put into a chain goes with it. Any
+  -- other code reads as a sum, and no step that is told so has that outcome.
   abbrev pub outcome_told : LruTold → List (Idle K ℕ) → Outcome K ℕ
   outcome_told t gone =
       cond (t.code == code.make) (accepted (say.make t.stamp) gone) (cond (t.code == code.wait) (accepted (say.wait t.stamp) gone) (
@@ -63,7 +64,8 @@ module _ {K : Type 0} where
   IsSame old gone new = (new ≡ old) × (gone ≡ [])
 
   module _ (E : K → K → Bool) where
-    -- The call took one step of the cache, and told its outcome. A key that was removed is not told.
+    -- The call took one step of the cache, and told its outcome. A key that was removed is not
+    -- told.
     abbrev pub Tells : Cache K ℕ → Request K ℕ → LruTold → List (Idle K ℕ) → Cache K ℕ → Type 0
     Tells old r t gone new =
         MatchBool (t.code == code.removed) ((k : K) × Stands E old r (accepted (say.removed k) gone) new) (Stands E old r (outcome_told t gone) new)
@@ -72,10 +74,12 @@ module _ {K : Type 0} where
     abbrev pub Asks : Cache K ℕ → Request K ℕ → LruTold → List (Idle K ℕ) → Cache K ℕ → Type 0
     Asks old r t gone new = Tells old r t gone new × IsQuiet (outcome_told t gone) gone × IsLawful E new
 
-    -- The same of a call that first asks for memory of its own: where that is refused nothing changed.
+    -- The same of a call that first asks for memory of its own: where that is refused nothing
+    -- changed.
     abbrev pub AsksWithMemory : Cache K ℕ → Request K ℕ → LruTold → List (Idle K ℕ) → Cache K ℕ → Type 0
     AsksWithMemory old r t gone new = MatchBool (t.code == code.memory) (IsSame old gone new) (Asks old r t gone new)
 
-    -- The same of a call that first makes a key of these bytes, or the like: it is of a key for which this holds.
+    -- The same of a call that first makes a key of these bytes, or the like: it is of a key for
+    -- which this holds.
     abbrev pub AsksOf : (K → Type 0) → Cache K ℕ → (K → Request K ℕ) → LruTold → List (Idle K ℕ) → Cache K ℕ → Type 0
     AsksOf IsKey old r t gone new = MatchBool (t.code == code.memory) (IsSame old gone new) ((key : K) × IsKey key × Asks old (r key) t gone new)

@@ -26,7 +26,9 @@ words first second = record { first = first; second = second }
 abbrev pub Entries : Type 0
 Entries = List (Idle Words ℕ)
 
--- A call on a cache that puts what it took out into a chain, told with both handles before and after it. Where the chain took more, this holds of the cache before, what is in the chain now, and the cache after; else the call told why, and nothing changed.
+-- A call on a cache that puts what it took out into a chain, told with both handles before and
+-- after it. Where the chain took more, this holds of the cache before, what is in the chain now,
+-- and the cache after; else the call told why, and nothing changed.
 abbrev pub Into : LruWordsEvicted → LruWordsEvicted → ℕ → LruWords → LruWords → (Option WordsCache → Entries → Option WordsCache → Type 0) → Type 0
 Into before after c old new Step =
     IntoChain (entries_of before.chain.held) (entries_of after.chain.held) c old new (λ out. Step old.cache.held out new.cache.held)

@@ -21,7 +21,8 @@ use Rattle.core.specs.contracts.clone.Clone+copy.TheImpl as Copied
 abbrev pub key_row : RattleType
 key_row = Words.the_row
 
--- what keys are copied by, which stands in the type of a cache beside what they are hashed and compared by
+-- what keys are copied by, which stands in the type of a cache beside what they are hashed and
+-- compared by
 abbrev pub cloned : Cloned.Ghosts key_row.Denot
 cloned = Copied.ghosts key_row
 

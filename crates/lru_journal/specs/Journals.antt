@@ -40,7 +40,7 @@ module _ {K V : Type 0} where
     pub legal : Replays E (start j.began) j.records (without_values j.cache)
 
   -- From old, a journal may do this with the request: an accepted one is the cache's step and adds
-  -- its own record; a refused one changes nothing, for want of memory or as the cache refuses it.
+  -- its own record; a refused one changes nothing, for lack of memory or as the cache refuses it.
   abbrev pub Journals : (K → K → Bool) → Journaled K V → Request K V → Outcome K V → Journaled K V → Type 0
   Journals E old r (accepted reply evicted) new =
       Step E old.cache r reply evicted new.cache
@@ -48,7 +48,7 @@ module _ {K V : Type 0} where
   Journals E old r (refused e) new = ((e ≡ Memory) ⊎ Refuses E old.cache r e) × (new ≡ old)
 
   -- From old, a journal may read the key: an accepted read is the cache's and adds its records; a
-  -- refused one changes nothing, for want of memory or as the cache refuses it.
+  -- refused one changes nothing, for lack of memory or as the cache refuses it.
   abbrev pub JournalsRead : {T : Type 0} → (K → K → Bool) → Journaled K V → K → (V → T → Type 0) → Result (Option (ℕ × T)) Refusal → Journaled K V → Type 0
   JournalsRead E old k answers (Ok found) new =
       Reads E old.cache k answers (Ok found) new.cache

@@ -52,7 +52,7 @@ pub trait AskedByText {
         report: &mut Report<'_, O, E>,
     ) -> Result<bool, Refusal>;
 
-    /// Stores the value of this stamp; one that comes back for want of memory is stored once more.
+    /// Stores the value of this stamp; one that comes back for lack of memory is stored once more.
     fn store<O: Write, E: Write>(
         &mut self,
         call: TextCall,

@@ -95,7 +95,7 @@ struct Caller<'c, R: Wait, I: Identity> {
 }
 
 impl<'c, R: Wait + Drop, I: Identity> Caller<'c, R, I> {
-    // Gives a pin back; one that comes back for want of memory is given once more.
+    // Gives a pin back; one that comes back for lack of memory is given once more.
     fn give_back<O: Write, E: Write>(
         &mut self,
         call: TextCall,

@@ -11,8 +11,8 @@ use std::thread::Threads;
 
 /// Runs the program on the words after its name and answers the status to end with.
 ///
-/// `rows` writes the worked rows to `out`: status 0. `stress SEED`, where SEED is digits from 0 to 9
-/// alone and no number past `u64::MAX`, runs the stress workload from this seed, in which each
+/// `rows` writes the worked rows to `out`: status 0. `stress SEED`, where SEED is digits from 0 to
+/// 9 alone and no number past `u64::MAX`, runs the stress workload from this seed, in which each
 /// worker makes `calls` calls, and writes `stress ok` to `out`: status 0. Where a check of it
 /// fails, `stress failed` goes to `err`, and the status is 1. Any other words write the usage line
 /// to `err`: status 2. Where a call is refused that no row asks to be, or a thread can't be

@@ -20,7 +20,7 @@ fn read_after_name<R: Env + AllocGlobal>(rt: &R) -> io::Result<Vec<String>> {
     Ok(env::args(rt)?.skip(1).collect(rt.alloc())?)
 }
 
-/// A program's failure where its words cannot be read for this error: its own for want of memory,
+/// A program's failure where its words cannot be read for this error: its own for lack of memory,
 /// or the one for a word that is no text.
 pub fn failure_of<F: From<AllocError> + Drop>(error: &io::Error, not_text: F) -> F {
     match error.kind() {

@@ -1,4 +1,4 @@
--- A refusal for want of memory, as an outcome.
+-- A refusal for lack of memory, as an outcome.
 use Rattle.std.proofs.Common.{◌≡◌, Bool, List, Option, Result, Ok, Err, refl, sym, ◌∙◌, subst, ℕ}
 use Rattle.std.specs.Result.{IsErrAnd}
 use Rattle.std.specs.declared.sync.Arc.{Arc}

@@ -58,7 +58,7 @@ pub const AT_LAST_STAMP: Limits = Limits {
     room: 0,
 };
 
-/// A begin that was refused for want of memory has not used up the last stamp but one.
+/// A begin that was refused for lack of memory has not used up the last stamp but one.
 pub const LAST_STAMP: &[TextCall] = &[
     Begin("1", 1),
     Begin("2", 1),
