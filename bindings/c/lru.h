@@ -113,22 +113,22 @@ typedef struct lru_gone {
  * the library uses the members. */
 typedef struct lru_bytes {
     void *at;
-    bool open;
+    uint64_t open;
 } lru_bytes;
 
 typedef struct lru_bytes_evicted {
     void *at;
-    bool open;
+    uint64_t open;
 } lru_bytes_evicted;
 
 typedef struct lru_words {
     void *at;
-    bool open;
+    uint64_t open;
 } lru_words;
 
 typedef struct lru_words_evicted {
     void *at;
-    bool open;
+    uint64_t open;
 } lru_words_evicted;
 
 /* ------------------------------------------------------------------ keys of bytes: the cache */

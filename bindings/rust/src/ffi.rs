@@ -8,14 +8,14 @@ use std::ptr;
 #[repr(C)]
 pub struct Handle {
     at: *mut c_void,
-    open: bool,
+    open: u64,
 }
 
 impl Handle {
     /// A handle that is not open.
     pub const CLOSED: Handle = Handle {
         at: ptr::null_mut(),
-        open: false,
+        open: 0,
     };
 }
 

@@ -28,11 +28,11 @@ use std::alloc::Global;
 /// `OPEN` where the handle is open already, and `MEMORY`: the handle is as it was.
 #[unsafe(no_mangle)]
 pub extern "C" fn lru_words_new(alloc: Global, capacity: u64, out: &mut LruWords) -> u32
-    ensures { Opens out.old.is_open out.old.cache.held
+    ensures { Opens (out.old.is_open == 1) out.old.cache.held
         (λ c. c.state.cache ≡ empty_cache capacity most_pins_by_default 0)
         result out.new.cache.held }
 {
-    if out.is_open {
+    if out.is_open == 1 {
         return code::OPEN;
     }
     match calls::make(alloc, capacity, 0, u32::MAX, ()) {
@@ -59,14 +59,14 @@ pub extern "C" fn lru_words_new_with_limits(
 ) -> u32
     ensures { MatchBool (most_pins == 0)
         ((result ≡ codes.no_pins) × (out.new.cache.held ≡ out.old.cache.held))
-        (Opens out.old.is_open out.old.cache.held
+        (Opens (out.old.is_open == 1) out.old.cache.held
         (λ c. c.state.cache ≡ empty_cache capacity most_pins first_stamp)
         result out.new.cache.held) }
 {
     if most_pins == 0 {
         return code::NO_PINS;
     }
-    if out.is_open {
+    if out.is_open == 1 {
         return code::OPEN;
     }
     match calls::make(alloc, capacity, first_stamp, most_pins, ()) {
@@ -319,10 +319,10 @@ pub extern "C" fn lru_words_key_of(
 /// `OPEN` where the handle is open already, and `MEMORY`: the handle is as it was.
 #[unsafe(no_mangle)]
 pub extern "C" fn lru_words_evicted_new(alloc: Global, out: &mut LruWordsEvicted) -> u32
-    ensures { Opens out.old.is_open out.old.chain.held (λ c. entries_in (entries_of (Some c)) ≡ [])
-        result out.new.chain.held }
+    ensures { Opens (out.old.is_open == 1) out.old.chain.held
+        (λ c. entries_in (entries_of (Some c)) ≡ []) result out.new.chain.held }
 {
-    if out.is_open {
+    if out.is_open == 1 {
         return code::OPEN;
     }
     match chain_calls::make(alloc) {

@@ -1,5 +1,5 @@
 //! The handles of caches and chains whose keys are bytes, as C holds them.
-ghost use Rattle.std.specs.Prelude.{◌≡◌, Option, is_some};
+ghost use Rattle.std.specs.Prelude.{◌≡◌, ◌==◌, Option, is_some};
 ghost use Rattle.lru_c.specs.BytesHeld.{BytesCache as HeldCache, BytesChain as HeldChain, bytes_cache_coded, bytes_cache_owns, bytes_chain_coded, bytes_chain_owns};
 
 use crate::at::At;
@@ -61,9 +61,10 @@ impl BytesCacheAt {
 pub struct LruBytes {
     /// The pointer, with what it owns.
     pub cache: BytesCacheAt,
-    /// Whether it owns anything.
-    pub is_open: bool,
-    pub ghost agrees: { is_some cache.held ≡ is_open },
+    /// 1 if it owns anything, else 0. A word, since a `bool` would be followed by padding, which is
+    /// copied wherever the struct is.
+    pub is_open: u64,
+    pub ghost agrees: { is_some cache.held ≡ (is_open == 1) },
 }
 
 impl Handle for LruBytes {
@@ -77,7 +78,7 @@ impl Handle for LruBytes {
     {
         LruBytes {
             cache: BytesCacheAt::of(at),
-            is_open,
+            is_open: if is_open { 1 } else { 0 },
         }
     }
 
@@ -86,7 +87,7 @@ impl Handle for LruBytes {
         ensures is_open { is_some result.0.held ≡ result.1 }
     {
         let LruBytes { cache, is_open } = self;
-        (cache.into_parts(), is_open)
+        (cache.into_parts(), is_open == 1)
     }
 }
 
@@ -135,9 +136,10 @@ impl BytesChainAt {
 pub struct LruBytesEvicted {
     /// The pointer, with what it owns.
     pub chain: BytesChainAt,
-    /// Whether it owns anything.
-    pub is_open: bool,
-    pub ghost agrees: { is_some chain.held ≡ is_open },
+    /// 1 if it owns anything, else 0. A word, since a `bool` would be followed by padding, which is
+    /// copied wherever the struct is.
+    pub is_open: u64,
+    pub ghost agrees: { is_some chain.held ≡ (is_open == 1) },
 }
 
 impl Handle for LruBytesEvicted {
@@ -151,7 +153,7 @@ impl Handle for LruBytesEvicted {
     {
         LruBytesEvicted {
             chain: BytesChainAt::of(at),
-            is_open,
+            is_open: if is_open { 1 } else { 0 },
         }
     }
 
@@ -160,6 +162,6 @@ impl Handle for LruBytesEvicted {
         ensures is_open { is_some result.0.held ≡ result.1 }
     {
         let LruBytesEvicted { chain, is_open } = self;
-        (chain.into_parts(), is_open)
+        (chain.into_parts(), is_open == 1)
     }
 }

@@ -1,5 +1,5 @@
 //! The handles of caches and chains whose keys are two words, as C holds them.
-ghost use Rattle.std.specs.Prelude.{◌≡◌, Option, is_some};
+ghost use Rattle.std.specs.Prelude.{◌≡◌, ◌==◌, Option, is_some};
 ghost use Rattle.lru_c.specs.WordsHeld.{WordsCache as HeldCache, WordsChain as HeldChain, words_cache_coded, words_cache_owns, words_chain_coded, words_chain_owns};
 
 use crate::at::At;
@@ -61,9 +61,10 @@ impl WordsCacheAt {
 pub struct LruWords {
     /// The pointer, with what it owns.
     pub cache: WordsCacheAt,
-    /// Whether it owns anything.
-    pub is_open: bool,
-    pub ghost agrees: { is_some cache.held ≡ is_open },
+    /// 1 if it owns anything, else 0. A word, since a `bool` would be followed by padding, which is
+    /// copied wherever the struct is.
+    pub is_open: u64,
+    pub ghost agrees: { is_some cache.held ≡ (is_open == 1) },
 }
 
 impl Handle for LruWords {
@@ -77,7 +78,7 @@ impl Handle for LruWords {
     {
         LruWords {
             cache: WordsCacheAt::of(at),
-            is_open,
+            is_open: if is_open { 1 } else { 0 },
         }
     }
 
@@ -86,7 +87,7 @@ impl Handle for LruWords {
         ensures is_open { is_some result.0.held ≡ result.1 }
     {
         let LruWords { cache, is_open } = self;
-        (cache.into_parts(), is_open)
+        (cache.into_parts(), is_open == 1)
     }
 }
 
@@ -135,9 +136,10 @@ impl WordsChainAt {
 pub struct LruWordsEvicted {
     /// The pointer, with what it owns.
     pub chain: WordsChainAt,
-    /// Whether it owns anything.
-    pub is_open: bool,
-    pub ghost agrees: { is_some chain.held ≡ is_open },
+    /// 1 if it owns anything, else 0. A word, since a `bool` would be followed by padding, which is
+    /// copied wherever the struct is.
+    pub is_open: u64,
+    pub ghost agrees: { is_some chain.held ≡ (is_open == 1) },
 }
 
 impl Handle for LruWordsEvicted {
@@ -151,7 +153,7 @@ impl Handle for LruWordsEvicted {
     {
         LruWordsEvicted {
             chain: WordsChainAt::of(at),
-            is_open,
+            is_open: if is_open { 1 } else { 0 },
         }
     }
 
@@ -160,6 +162,6 @@ impl Handle for LruWordsEvicted {
         ensures is_open { is_some result.0.held ≡ result.1 }
     {
         let LruWordsEvicted { chain, is_open } = self;
-        (chain.into_parts(), is_open)
+        (chain.into_parts(), is_open == 1)
     }
 }
