@@ -280,7 +280,7 @@ static void FAMILY(row_12)(void) {
     FAMILY(close)(&s);
 }
 
-/* Row 13: a look-up makes an entry the newest, if it is still there to be found. */
+/* Row 13: a lookup makes an entry the newest, if it is still there to be found. */
 static void FAMILY(row_13)(void) {
     FAMILY(stage) s;
 

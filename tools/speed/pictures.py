@@ -128,7 +128,7 @@ def by_threads(least):
         for (system, work, _, threads), ns in least.items()
         if work == "read_mostly" and system not in CLOSE
     ]
-    return Chart("read_mostly: 95 of 100 calls hit", "threads", lines_of(points), "")
+    return Chart("read_mostly", "threads", lines_of(points), "")
 
 
 def by_entries(least, title, works):
