@@ -1,11 +1,12 @@
 #!/usr/bin/env python3
-"""Notes on this machine what has passed, by the checksum of the files that it reads, so that it need not run again.
+"""Records on this machine what has passed, by the checksum of what it reads, so that it need not
+run again.
 
     kept.py NAME [--with TEXT] PATH .. -- COMMAND ..
 
-runs the command, unless it has passed here under this name with the same files, command and text, and with the same kit.
-A PATH is a file or a folder of the repository. The notes lie in ~/.cache/concurrent_lru, or in $XDG_CACHE_HOME; to run
-everything again, remove them.
+runs the command, unless it has passed here under this name with the same files, command, text and
+kit. A PATH is a file or a folder of the repository. The records are in ~/.cache/concurrent_lru, or
+in $XDG_CACHE_HOME/concurrent_lru; without them, everything runs again.
 """
 import functools
 import hashlib
@@ -15,26 +16,28 @@ import subprocess
 import sys
 
 TOP = pathlib.Path(__file__).resolve().parent.parent
-NOTES = pathlib.Path(os.environ.get("XDG_CACHE_HOME") or pathlib.Path.home() / ".cache") / "concurrent_lru"
-# what builds leave in the tree, which git ignores too
+CACHES = pathlib.Path(os.environ.get("XDG_CACHE_HOME") or pathlib.Path.home() / ".cache")
+RECORDS = CACHES / "concurrent_lru"
+# folders that builds make, which git ignores too
 MADE = {"out", "build", "target", "__pycache__"}
 
 
 @functools.cache
 def kit():
-    """The line that names the kit and the proofs of its library."""
+    """The line that identifies the kit."""
     return subprocess.run(["rt", "version"], capture_output=True, check=True).stdout
 
 
 def files_in(path):
-    """The file, or the files of the folder that were not built."""
+    """The file itself, or the files of the folder, without what builds made."""
     if path.is_file():
         return [path]
-    return sorted(it for it in path.rglob("*") if it.is_file() and not MADE & set(it.relative_to(path).parts))
+    found = (it for it in path.rglob("*") if not MADE & set(it.relative_to(path).parts))
+    return sorted(it for it in found if it.is_file())
 
 
 def checksum(paths, *texts):
-    """A checksum of the kit, of these files and folders, by name and content, and of these texts."""
+    """A checksum of the kit, of the names and contents of these files and folders, and of texts."""
     found = hashlib.sha256(kit() + "\0".join(texts).encode())
     for path in sorted({file for path in paths for file in files_in(path)}):
         content = path.read_bytes()
@@ -42,15 +45,15 @@ def checksum(paths, *texts):
     return found.hexdigest()
 
 
-def note_of(name, checksum):
-    """What was noted when this passed with these files, or None."""
-    note = NOTES / f"{name}-{checksum}"
-    return note.read_text() if note.exists() else None
+def recorded(name, checksum):
+    """What was recorded when this passed with this checksum, or None."""
+    record = RECORDS / f"{name}-{checksum}"
+    return record.read_text() if record.exists() else None
 
 
-def keep(name, checksum, text):
-    NOTES.mkdir(parents=True, exist_ok=True)
-    (NOTES / f"{name}-{checksum}").write_text(text)
+def record(name, checksum, text):
+    RECORDS.mkdir(parents=True, exist_ok=True)
+    (RECORDS / f"{name}-{checksum}").write_text(text)
 
 
 def main():
@@ -62,13 +65,13 @@ def main():
     text = ""
     if paths[:1] == ["--with"]:
         text, paths = paths[1], paths[2:]
-    sum_now = checksum([TOP / it for it in paths], text, *command)
-    if note_of(name, sum_now) is not None:
+    read = checksum([TOP / it for it in paths], text, *command)
+    if recorded(name, read) is not None:
         print(f"{name}: passed on this machine before, with the same files")
         return 0
     status = subprocess.run(command, cwd=TOP).returncode
     if not status:
-        keep(name, sum_now, "")
+        record(name, read, "")
     return status
 
 
