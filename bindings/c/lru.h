@@ -57,6 +57,8 @@
 #include <stddef.h>
 #include <stdint.h>
 
+#define LRU_VERSION "1.0.0"
+
 #ifdef __cplusplus
 extern "C" {
 #endif
