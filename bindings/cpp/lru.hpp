@@ -189,7 +189,8 @@ class Cache {
   // evicted if it fails.
   //
   // `charge` is what the value counts for against the capacity, in units of the caller's choice; it
-  // must be above 0. If the value exists already or is being made, its charge does not change.
+  // must be above 0, even if the key has a value. If the value exists already or is being made, its
+  // charge does not change.
   //
   // Throws ZeroCharge, Overflow and OutOfMemory before `init` runs, and nothing changes. If there
   // is no memory for the value, or to keep it once it is made, std::bad_alloc is thrown as if by
@@ -344,13 +345,15 @@ class Cache {
 
 // A cache of several shards, each a Cache with its own lock and an equal share of the capacity,
 // rounded up. `Hash` chooses the shard of a key. Threads contend less, but a value is evicted when
-// its own shard is full.
+// its own shard is full. A shard whose share is smaller than a charge does not keep such a value
+// once it is idle: with 16 shards, take a capacity of well over 16 charges, or fewer shards.
 template <class Value, class Key = std::string_view, class Hash = std::hash<Key>>
 class ShardedCache {
  public:
   using Handle = lru::Handle<Value, Key>;
 
-  // An empty cache. Throws std::bad_alloc, and std::invalid_argument if `shards` is 0.
+  // An empty cache. Throws std::bad_alloc, and std::invalid_argument if `shards` is 0. `capacity`
+  // is that of all shards together.
   explicit ShardedCache(std::uint64_t capacity, std::size_t shards = 16, Hash hash = Hash())
       : hash_(std::move(hash)) {
     if (shards == 0) throw std::invalid_argument("lru: the number of shards is 0");

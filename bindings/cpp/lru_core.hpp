@@ -7,6 +7,7 @@
 #include <cstdint>
 #include <functional>
 #include <string_view>
+#include <type_traits>
 #include <utility>
 
 #include "lru.h"
@@ -39,7 +40,7 @@ namespace detail {
 
 // The functions of lru.h, for each kind of key.
 template <class Key>
-struct Calls;
+struct Calls {};
 
 template <>
 struct Calls<std::string_view> {
@@ -147,6 +148,9 @@ class Evicted {
 // that evicted to `evicted`.
 template <class Node, class Key>
 class Core {
+  static_assert(std::is_same_v<Key, std::string_view> || std::is_same_v<Key, Words>,
+                "lru: a key is a std::string_view or an lru::Words");
+
  public:
   Core() = default;
 

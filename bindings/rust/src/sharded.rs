@@ -17,7 +17,8 @@ const SHARDS: NonZeroUsize = NonZeroUsize::new(16).unwrap();
 ///
 /// Each shard is an [`unsharded::LruCache`] with its own lock and an equal share of the capacity,
 /// rounded up. The hasher chooses the shard of a key. Threads contend less, but a value is evicted
-/// when its own shard is full.
+/// when its own shard is full. A shard whose share is smaller than a charge does not keep such a
+/// value once it is idle: with 16 shards, take a capacity of well over 16 charges, or fewer shards.
 ///
 /// # Examples
 ///

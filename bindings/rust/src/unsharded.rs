@@ -122,11 +122,12 @@ impl<K: Key + ?Sized, V> LruCache<K, V> {
     ///
     /// # Errors
     ///
-    /// [`Refusal::ZeroCharge`] if `charge` is 0. [`Refusal::Overflow`] if the total of all charges
-    /// would exceed `u64::MAX` or the value has `u32::MAX` handles. [`Refusal::Memory`] if there is
-    /// no memory for a new entry. In these cases `init` does not run and nothing is evicted, with
-    /// one exception: if there is no memory to store the value that `init` has made, the call fails
-    /// with [`Refusal::Memory`] and the value is dropped, as if `init` had failed.
+    /// [`Refusal::ZeroCharge`] if `charge` is 0, even if the key has a value. [`Refusal::Overflow`]
+    /// if the total of all charges would exceed `u64::MAX` or the value has `u32::MAX` handles.
+    /// [`Refusal::Memory`] if there is no memory for a new entry. In these cases `init` does not
+    /// run and nothing is evicted, with one exception: if there is no memory to store the value
+    /// that `init` has made, the call fails with [`Refusal::Memory`] and the value is dropped, as
+    /// if `init` had failed.
     pub fn get_or_init<Q>(
         &self,
         key: &Q,
