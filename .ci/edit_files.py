@@ -18,8 +18,7 @@ of the folders a first line says who refuses the edit, and why:
 FUNCTION is named by its path in the crate, and REASON is one of:
 
 - `clause NAME`: the `ensures` clause of that name; `its one clause` if there is one without a name
-- `clause NAME of TRAIT`: a clause of the method in a trait of the crate
-- `contract of TRAIT`: what a trait of another crate demands of the method
+- `clause NAME of TRAIT`: a clause of the method that the trait declares
 - `invariant` or `invariant of TYPE`: the `ghost invariant` of the method's own or another type
 - `invariant NAME of TYPE`: a named `ghost` condition on the fields of a type
 - `requires NAME of FUNCTION` or `requires of FUNCTION`: what a function that it calls requires
@@ -35,11 +34,10 @@ COMMENTS = ("#", "--", "//")
 NAME = r"[A-Za-z_][A-Za-z0-9_]*"
 FUNCTION = rf"(?:{NAME}::)*{NAME}"
 REASONS = [
-    rf"its one clause",
+    "its one clause",
     rf"clause (?P<clause>{NAME})",
     rf"clause (?P<clause>{NAME}) of (?P<trait>{NAME})",
-    rf"contract of (?P<contract>{NAME})",
-    rf"invariant",
+    "invariant",
     rf"invariant of (?P<type>{NAME})",
     rf"invariant (?P<condition>{NAME}) of (?P<type>{NAME})",
     rf"requires of (?P<callee>{FUNCTION})",
@@ -67,7 +65,6 @@ class Reason:
     text: str
     clause: str = ""
     trait: str = ""
-    contract: str = ""
     type: str = ""
     condition: str = ""
     requires: str = ""
@@ -151,20 +148,24 @@ class Edit:
             raise BadEdit(f"it changes {file}, which is not below src/")
         self.changes.append(Change(file, old, new))
 
-    def edited(self):
-        """Returns the texts of the files that it changes, or raises BadEdit."""
-        before, texts = {}, {}
+    def edited(self, texts=None):
+        """Returns these texts of files as the edit leaves them, with the files that it changes.
+
+        A file that is not among the texts is read. Raises BadEdit if the edit does not apply."""
+        texts = dict(texts or {})
+        is_changed = False
         for change in self.changes:
             path = self.crate / change.file
             if path not in texts:
                 if not path.is_file():
                     raise BadEdit(f"there is no file {change.file}")
-                before[path] = texts[path] = path.read_text(encoding="utf-8")
+                texts[path] = path.read_text(encoding="utf-8")
             found = texts[path].count(change.old)
             if found != 1:
                 raise BadEdit(f"'{change.old}' stands {found} times in {change.file}")
             texts[path] = texts[path].replace(change.old, change.new)
-        if texts == before:
+            is_changed |= change.old != change.new
+        if not is_changed:
             raise BadEdit("it changes nothing")
         return texts
 
