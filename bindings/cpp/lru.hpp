@@ -248,7 +248,24 @@ class Cache {
     core_.prune(&evicted);
   }
 
-  // The total of the charges of all values, including those that are being made.
+  // Whether the key has a value, as `get` looks for it. Pins nothing, and does not count as a use.
+  // Throws OutOfMemory if the key is longer than any before and there is no memory for a copy.
+  bool contains(Key key) const {
+    std::unique_lock<std::mutex> lock(mutex_);
+    const lru_code code = core_.contains(key);
+    lock.unlock();
+    if (code != LRU_DONE && code != LRU_MISSED) detail::throw_refusal(code);
+    return code == LRU_DONE;
+  }
+
+  // The number of values, including those that are being made, and those that were invalidated or
+  // replaced and still have a handle.
+  std::uint64_t len() const {
+    const std::lock_guard<std::mutex> lock(mutex_);
+    return core_.len();
+  }
+
+  // The total of the charges of these values.
   std::uint64_t total_charge() const {
     const std::lock_guard<std::mutex> lock(mutex_);
     return core_.total();
@@ -376,6 +393,7 @@ class ShardedCache {
   Handle insert(Key key, std::uint64_t charge, V&& value) {
     return shard(key).insert(key, charge, std::forward<V>(value));
   }
+  bool contains(Key key) const { return shard(key).contains(key); }
   void invalidate(Key key) { shard(key).invalidate(key); }
   void advice_evict(Key key) { shard(key).advice_evict(key); }
 
@@ -384,8 +402,13 @@ class ShardedCache {
     for (Shard& shard : shards_) shard.prune();
   }
 
-  // The total of the charges of all values, or 2^64 - 1 if it is more. The shards are read one
-  // after another, so while other threads call the cache it is no snapshot.
+  // The number of values. The shards are read one after another, so while other threads call the
+  // cache it is no snapshot.
+  std::uint64_t len() const {
+    return sum([](const Shard& shard) { return shard.len(); });
+  }
+
+  // The total of the charges of all values, or 2^64 - 1 if it is more. No snapshot, as `len`.
   std::uint64_t total_charge() const {
     return sum([](const Shard& shard) { return shard.total_charge(); });
   }
@@ -423,6 +446,7 @@ class ShardedCache {
   }
 
   Shard& shard(const Key& key) { return shards_[hash_(key) % shards_.size()]; }
+  const Shard& shard(const Key& key) const { return shards_[hash_(key) % shards_.size()]; }
 
   std::deque<Shard> shards_;
   Hash hash_;

@@ -223,6 +223,30 @@ void an_invalidate_takes_a_value_away() {
   CHECK(*cache.get(key(1)) == 2 && cache.total_charge() == 4);
 }
 
+template <class Cache, class Key>
+void looks_only(Key one, Key two, Key three) {
+  Cache cache(2);
+  CHECK(!cache.contains(one) && cache.len() == 0);
+  const auto zero = [](Key) { return 0; };
+  const auto asks = [&](Key) { return cache.contains(one) || cache.len() != 1 ? 1 : 0; };
+  CHECK(*cache.get_or_init(one, 1, asks) == 0);
+  cache.get_or_init(two, 1, zero);
+  CHECK(cache.contains(one) && cache.contains(two) && cache.len() == 2);
+  // Not a use: the first value is still the oldest.
+  cache.get_or_init(three, 1, zero);
+  CHECK(!cache.contains(one) && cache.contains(two) && cache.contains(three));
+  auto held = cache.get(two);
+  cache.invalidate(two);
+  CHECK(!cache.contains(two) && cache.len() == 2);
+  held.reset();
+  CHECK(cache.contains(three) && cache.len() == 1);
+}
+
+void contains_and_len_look_only() {
+  looks_only<Numbers>(key(1), key(2), key(3));
+  looks_only<lru::Cache<int>, std::string_view>("one", "two", "three");
+}
+
 // A barrier for two threads.
 class Meeting {
  public:
@@ -396,6 +420,7 @@ void shards_have_equal_shares() {
     texts.get_or_init(text, 1, [](std::string_view k) { return std::string(k); });
   }
   CHECK(texts.total_charge() == 3 && *texts.get("two") == "two");
+  CHECK(texts.len() == 3 && texts.contains("two") && !texts.contains("four"));
   CHECK(*texts.insert("two", 2, "2") == "2" && texts.total_charge() == 4);
   texts.invalidate("one");
   CHECK(!texts.get("one") && *texts.get("two") == "2" && texts.total_charge() == 3);
@@ -431,6 +456,7 @@ int main() {
   refusals_are_exceptions();
   an_insert_replaces_whatever_is_there();
   an_invalidate_takes_a_value_away();
+  contains_and_len_look_only();
   a_making_that_is_invalidated_is_not_waited_for();
   others_wait_for_one_making();
   one_that_waits_takes_a_failed_making_over();
@@ -441,6 +467,6 @@ int main() {
   shards_have_equal_shares();
   high_bits_of_a_key_choose_its_shard_too();
   values_may_be_move_only_or_neither();
-  std::printf("lru.hpp: 19 tests, %d checks failed\n", failed_checks);
+  std::printf("lru.hpp: 20 tests, %d checks failed\n", failed_checks);
   return failed_checks == 0 ? 0 : 1;
 }

@@ -271,7 +271,33 @@ impl<K: Key + ?Sized, V> LruCache<K, V> {
         self.lock().core.prune(&mut evicted);
     }
 
-    /// Returns the total of the charges of all values, including those that are being made.
+    /// Returns whether the key has a value, as [`get`](Self::get) looks for it. Pins nothing, and
+    /// does not count as a use.
+    ///
+    /// # Errors
+    ///
+    /// [`Refusal::Memory`] if the key is longer than any before and there is no memory for a copy.
+    pub fn contains<Q>(&self, key: &Q) -> Result<bool, Refusal>
+    where
+        K: Borrow<Q>,
+        Q: Key<Form = K::Form> + ?Sized,
+    {
+        let written = key.written();
+        self.lock().core.contains(written)
+    }
+
+    /// Returns the number of values, including those that are being made, and those that were
+    /// invalidated or replaced and still have a handle.
+    pub fn len(&self) -> u64 {
+        self.lock().core.len()
+    }
+
+    /// Returns whether [`len`](Self::len) is 0.
+    pub fn is_empty(&self) -> bool {
+        self.len() == 0
+    }
+
+    /// Returns the total of the charges of these values.
     pub fn total_charge(&self) -> u64 {
         self.lock().core.total()
     }
