@@ -162,9 +162,9 @@ class Cache {
     if (!core_.open(capacity)) throw OutOfMemory();
   }
 
-  // Deletes all values. There must be no handle left, as it would dangle, and the destructors of
-  // the values must not call this cache.
-  ~Cache() = default;
+  // Deletes all values. There must be no handle left, as it would dangle; this is asserted. The
+  // destructors of the values must not call this cache.
+  ~Cache() { assert(pins_ == 0 && "lru: a handle outlives its cache"); }
 
   Cache(const Cache&) = delete;
   Cache& operator=(const Cache&) = delete;
@@ -175,6 +175,7 @@ class Cache {
   Handle get(Key key) {
     std::unique_lock<std::mutex> lock(mutex_);
     const lru_told told = core_.get(key);
+    if (told.code == LRU_HIT) pins_++;
     lock.unlock();
     if (told.code == LRU_MISSED) return Handle();
     if (told.code != LRU_HIT) detail::throw_refusal(told.code);
@@ -215,6 +216,7 @@ class Cache {
     Evicted evicted;
     std::unique_lock<std::mutex> lock(mutex_);
     const lru_told told = core_.insert(key, charge, node.get(), &evicted);
+    if (told.code == LRU_DONE) pins_++;
     lock.unlock();
     if (told.code != LRU_DONE) detail::throw_refusal(told.code);
     return Handle(this, told.stamp, std::addressof(node.release()->value));
@@ -326,6 +328,7 @@ class Cache {
       ended_.wait(lock);
       told = core_.poll(told.stamp);
     }
+    if (told.code == LRU_HIT || told.code == LRU_MAKE) pins_++;
     lock.unlock();
     if (told.code != LRU_HIT && told.code != LRU_MAKE) detail::throw_refusal(told.code);
     return told;
@@ -343,6 +346,7 @@ class Cache {
   void fail(std::uint64_t stamp) noexcept {
     std::unique_lock<std::mutex> lock(mutex_);
     [[maybe_unused]] const lru_code code = core_.fail(stamp);
+    pins_--;
     lock.unlock();
     assert(code == LRU_LEFT || code == LRU_REMOVED);
     ended_.notify_all();
@@ -353,11 +357,13 @@ class Cache {
     const std::lock_guard<std::mutex> lock(mutex_);
     [[maybe_unused]] const lru_code code = core_.release(stamp, &evicted);
     assert(code == LRU_DONE);
+    pins_--;
   }
 
   mutable std::mutex mutex_;
   std::condition_variable ended_;  // notified when a caller has made a value, or has failed
   detail::Core<Node, Key> core_;
+  std::uint64_t pins_ = 0;  // of handles and of values that are being made
 };
 
 // A cache of several shards, each a Cache with its own lock and an equal share of the capacity,

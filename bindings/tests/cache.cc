@@ -1,7 +1,11 @@
 // Tests lru::Cache and lru::ShardedCache.
+#include <sys/wait.h>
+#include <unistd.h>
+
 #include <atomic>
 #include <chrono>
 #include <condition_variable>
+#include <csignal>
 #include <cstddef>
 #include <cstdint>
 #include <cstdio>
@@ -435,6 +439,36 @@ void high_bits_of_a_key_choose_its_shard_too() {
   CHECK(firsts.size() == 16 && seconds.size() == 16);
 }
 
+// Whether a process that does this is ended by `abort`.
+template <class Action>
+bool aborts(Action action) {
+  const pid_t child = fork();
+  if (child == 0) {
+    if (std::freopen("/dev/null", "w", stderr) == nullptr) _exit(2);
+    action();
+    _exit(0);
+  }
+  int status = 0;
+  CHECK(child > 0 && waitpid(child, &status, 0) == child);
+  return WIFSIGNALED(status) && WTERMSIG(status) == SIGABRT;
+}
+
+void a_handle_that_outlives_its_cache_is_asserted_against() {
+  const auto outlives = [](auto take) {
+    return aborts([&] {
+      auto cache = std::make_unique<Numbers>(10);
+      cache->insert(key(1), 1, 1);
+      const Numbers::Handle handle = take(*cache);
+      cache.reset();
+      _exit(1);
+    });
+  };
+  CHECK(outlives([](Numbers& cache) { return cache.get(key(1)); }));
+  CHECK(outlives([](Numbers& cache) { return cache.insert(key(1), 1, 2); }));
+  CHECK(outlives([](Numbers& cache) { return cache.get_or_init(key(1), 1, returns(2)); }));
+  CHECK(outlives([](Numbers& cache) { return cache.get_or_init(key(2), 1, returns(2)); }));
+}
+
 void values_may_be_move_only_or_neither() {
   lru::Cache<std::unique_ptr<int>> owners(10);
   const auto owner = owners.get_or_init("1", 1, [](std::string_view) { return new int(1); });
@@ -466,7 +500,8 @@ int main() {
   a_capacity_is_set_at_any_time();
   shards_have_equal_shares();
   high_bits_of_a_key_choose_its_shard_too();
+  a_handle_that_outlives_its_cache_is_asserted_against();
   values_may_be_move_only_or_neither();
-  std::printf("lru.hpp: 20 tests, %d checks failed\n", failed_checks);
+  std::printf("lru.hpp: 21 tests, %d checks failed\n", failed_checks);
   return failed_checks == 0 ? 0 : 1;
 }
