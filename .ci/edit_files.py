@@ -18,7 +18,7 @@ of the folders a first line says who refuses the edit, and why:
 FUNCTION is named by its path in the crate, and REASON is one of:
 
 - `clause NAME`: the `ensures` clause of that name; `its one clause` if there is one without a name
-- `clause NAME of TRAIT`: a clause of the method that the trait declares
+- `clause NAME of TRAIT` or `its one clause of TRAIT`: a clause that the trait declares
 - `invariant` or `invariant of TYPE`: the `ghost invariant` of the method's own or another type
 - `invariant NAME of TYPE`: a named `ghost` condition on the fields of a type
 - `requires NAME of FUNCTION` or `requires of FUNCTION`: what a function that it calls requires
@@ -35,6 +35,7 @@ NAME = r"[A-Za-z_][A-Za-z0-9_]*"
 FUNCTION = rf"(?:{NAME}::)*{NAME}"
 REASONS = [
     "its one clause",
+    rf"its one clause of (?P<trait>{NAME})",
     rf"clause (?P<clause>{NAME})",
     rf"clause (?P<clause>{NAME}) of (?P<trait>{NAME})",
     "invariant",
