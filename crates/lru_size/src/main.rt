@@ -12,6 +12,7 @@ mod options;
 mod plot;
 mod program;
 mod progress;
+mod sample;
 mod scale;
 mod table;
 mod trace;

@@ -7,6 +7,7 @@ use crate::lines::Lines;
 use crate::options::{Options, Request};
 use crate::plot::Plot;
 use crate::progress::Progress;
+use crate::sample;
 use crate::table::write_table;
 use crate::trace::Trace;
 use lru_sizing::curve::Curve;
@@ -17,10 +18,6 @@ use lru_sizing::reuse_weights::reuse_weights;
 use std::alloc::Global;
 use std::fs::{self, File, Files};
 use std::io::{BufRead, Write};
-
-/// The least number of sampled keys that a curve is estimated from. docs/SIZING.md has the errors
-/// that were measured with so many.
-const LEAST_KEYS: usize = 100;
 
 /// The streams of a run.
 #[derive(Drop)]
@@ -110,6 +107,13 @@ fn size<O: Write>(
             trace.total_uses,
             trace.keys()
         )?;
+        if let Some(points) = sample::measured_error(trace) {
+            writeln!(
+                out,
+                "estimated hit ratios, which in measurements were wrong by up to {points} \
+                    percentage points"
+            )?;
+        }
         return estimate(alloc, trace);
     }
     writeln!(out, "{} uses of {} keys", trace.total_uses, trace.keys())?;
@@ -125,19 +129,9 @@ fn size<O: Write>(
     Ok(HitCurve::Exact(Curve::new(alloc, &trace.uses, &weights)?))
 }
 
-// Estimates the curve from the sampled uses. Fails with `FewKeys` or `NoReuse` if there are not all
-// keys in the sample, and too few for an estimate.
+// Estimates the curve from the sampled uses.
 fn estimate(alloc: Global, trace: &Trace) -> Result<HitCurve, Failure> {
-    let is_part = trace.sample.one_in > 1;
-    if is_part && trace.keys() < LEAST_KEYS {
-        return Err(Failure::FewKeys {
-            keys: trace.keys(),
-            wanted: LEAST_KEYS,
-        });
-    }
-    if is_part && trace.keys() == trace.uses.len() {
-        return Err(Failure::NoReuse);
-    }
+    sample::check(trace)?;
     match Estimate::new(alloc, trace.sample, &trace.uses, trace.total_uses) {
         Ok(estimate) => Ok(HitCurve::Estimated(estimate)),
         // The place is one among the sampled uses, and so not a line.

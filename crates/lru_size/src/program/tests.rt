@@ -131,6 +131,9 @@ fn estimates_from_enough_keys(rt: HostRuntime) -> Result<(), Fail> {
     assert_eq!(rt; output.err()?, "");
     assert_eq!(rt; output.status, 0);
     assert!(rt; output.out()?.starts_with("2000 uses, "));
+    assert!(rt;
+        output.out()?.contains("\nestimated hit ratios, which in measurements were wrong ")
+    );
     // half of the uses hit where there is room for all keys
     assert!(rt; output.out()?.contains("\ngreatest hit ratio 5"));
     assert!(rt; !output.out()?.contains("capacity 0 on"));

@@ -1,0 +1,77 @@
+//! What an estimate from a sample of the keys is worth.
+
+use crate::failure::Failure;
+use crate::trace::Trace;
+
+/// The least number of sampled keys that a curve is estimated from.
+pub const LEAST_KEYS: usize = 100;
+
+// On the traces that docs/SIZING.md names, a hit ratio that was estimated from n keys was wrong by
+// at most this many percentage points, divided by the square root of n.
+const ERROR_OF_ONE_KEY: u64 = 250;
+
+/// Fails with `FewKeys` or `NoReuse` if a trace has a sample that is too small for an estimate. All
+/// keys are never too few.
+pub fn check(trace: &Trace) -> Result<(), Failure> {
+    if is_whole(trace) {
+        return Ok(());
+    }
+    if trace.keys() < LEAST_KEYS {
+        return Err(Failure::FewKeys {
+            keys: trace.keys(),
+            wanted: LEAST_KEYS,
+        });
+    }
+    if trace.keys() == trace.uses.len() {
+        return Err(Failure::NoReuse);
+    }
+    Ok(())
+}
+
+/// Returns the greatest error that was measured of hit ratios estimated from a sample of this size,
+/// in percentage points rounded up, or `None` if the sample has all keys, so that there is none.
+pub fn measured_error(trace: &Trace) -> Option<u64> {
+    if is_whole(trace) {
+        return None;
+    }
+    Some(error_of(trace.keys() as u64))
+}
+
+fn is_whole(trace: &Trace) -> bool {
+    trace.sample.one_in == 1
+}
+
+// The least number whose square, times the number of keys, is that of the error of one key.
+fn error_of(keys: u64) -> u64 {
+    for points in 1..ERROR_OF_ONE_KEY {
+        if points.saturating_mul(points).saturating_mul(keys)
+            >= ERROR_OF_ONE_KEY * ERROR_OF_ONE_KEY
+        {
+            return points;
+        }
+    }
+    ERROR_OF_ONE_KEY
+}
+
+#[cfg(test)]
+mod tests {
+    use super::*;
+    use std::test::Fail;
+
+    #[test]
+    fn errors_are_rounded_up(rt: HostRuntime) -> Result<(), Fail> {
+        for (keys, points) in [
+            (0, 250),
+            (1, 250),
+            (100, 25),
+            (625, 10),
+            (626, 10),
+            (1_000, 8),
+        ] {
+            assert_eq!(rt; error_of(keys), points, "of {keys}");
+        }
+        assert_eq!(rt; error_of(62_500), 1);
+        assert_eq!(rt; error_of(u64::MAX), 1);
+        Ok(())
+    }
+}
