@@ -255,7 +255,7 @@ impl<K: Hash + Eq + Clone + Drop, V: Drop, R: Wait, S: BuildHasher, F: Fit<K, V>
     ///
     /// Returns `Init` if `init` returned that error, `Overflow` if the entry has the maximum of
     /// pins or the sum of the shard's charges would pass the maximum of a `u64`, and `Memory` if a
-    /// copy of the key or a slot is refused. A value that was made is then dropped.
+    /// copy of the key or a slot is refused. A value that was made by then is dropped.
     #[inline(always)]
     pub fn get_or_try_init<E, I>(
         &self,
@@ -299,7 +299,7 @@ impl<K: Hash + Eq + Clone + Drop, V: Drop, R: Wait, S: BuildHasher, F: Fit<K, V>
             (λ x. FnOnceReturnsAt I.FnOnce init key.now (Err x))) }
     {
         let (shard, tag) = self.route(key);
-        let turn = match shard.enter(&self.rt, tag, key) {
+        let turn = match shard.enter(&self.rt, tag, key, charge) {
             Ok(turn) => turn,
             Err(refusal) => return Err(error_of(refusal)),
         };
@@ -364,7 +364,7 @@ impl<K: Hash + Eq + Clone + Drop, V: Drop, R: Wait, S: BuildHasher, F: Fit<K, V>
         ensures never_stale { IfErr result (λ e. e ≢ Refusal.Stale) }
     {
         let (shard, tag) = self.route(key);
-        let (place, pin) = match shard.enter(&self.rt, tag, key)? {
+        let (place, pin) = match shard.enter(&self.rt, tag, key, charge)? {
             Turn::Hit(place, pin) => (place, pin),
             Turn::Make(ticket) => {
                 let value = init(key);

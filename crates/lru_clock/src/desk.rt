@@ -60,10 +60,11 @@ impl<K: Eq + Drop> Desk<K> {
         }
     }
 
-    /// Returns whether one charge more keeps the total within the capacity.
-    pub fn has_room(&self, charge: u64) -> bool {
+    /// Returns whether one charge more would take the total above the capacity, so that entries are
+    /// to leave. For a total that no `u64` holds none are, since the charge is refused.
+    pub fn is_above(&self, charge: u64) -> bool {
         match self.seats.total().checked_add(charge) {
-            Some(total) => total <= self.capacity,
+            Some(total) => total > self.capacity,
             None => false,
         }
     }

@@ -79,7 +79,7 @@ impl<K: Hash + Eq + Clone + Drop, V: Drop, F: Fit<K, V>> Shard<K, V, F> {
 
     // Releases the lock, and then drops the entry that left under it.
     fn unlock(&self, guard: MutexGuard<'_, Desk<K>>, leaver: Leaver<K, V, F>) {
-        let is_above = !guard.has_room(0);
+        let is_above = guard.is_above(0);
         if self.is_above.load(SeqCst) != is_above {
             self.is_above.store(is_above, SeqCst);
         }
@@ -115,10 +115,10 @@ impl<K: Hash + Eq + Clone + Drop, V: Drop, F: Fit<K, V>> Shard<K, V, F> {
 
     // Evicts one entry if one charge more would take the total above the capacity.
     fn make_room(&self, desk: &mut Desk<K>, charge: u64) -> Leaver<K, V, F> {
-        if desk.has_room(charge) {
-            None
-        } else {
+        if desk.is_above(charge) {
             self.evict(desk)
+        } else {
+            None
         }
     }
 
@@ -146,7 +146,7 @@ impl<K: Hash + Eq + Clone + Drop, V: Drop, F: Fit<K, V>> Shard<K, V, F> {
         for _ in rt.forever() {
             let mut guard = self.lock(rt);
             let leaver = self.make_room(&mut guard, charge);
-            if leaver.is_none() || guard.has_room(charge) {
+            if leaver.is_none() || !guard.is_above(charge) {
                 return (guard, leaver);
             }
             self.unlock(guard, leaver);

@@ -131,19 +131,35 @@ impl<K: Eq + Drop, V: Drop, F: Fit<K, V>> Slot<K, V, F> {
             let pins = pins_of(seen);
             // Above the maximum, another caller is comparing its key.
             if pins <= most_pins {
-                let next = if is_use && seen < MOST_CHANCES {
+                let is_chance = is_use && seen < MOST_CHANCES;
+                let next = if is_chance {
                     seen + ONE_CHANCE + ONE_READER
                 } else {
                     seen + ONE_READER
                 };
                 let (found, claim) = self.cell.turn(seen, next);
                 if found == seen {
-                    return Pin::of_key(claim, key, pins == most_pins);
+                    let pinned = Pin::of_key(claim, key, pins == most_pins);
+                    if is_chance && matches!(&pinned, Ok(None)) {
+                        self.lose_chance();
+                    }
+                    return pinned;
                 }
                 claim.done();
             }
         }
         Ok(None)
+    }
+
+    // Takes a chance back that was given to the entry of another key. If the word changes at that
+    // moment, the entry keeps it.
+    #[inline(never)]
+    fn lose_chance(&self) {
+        let seen = self.cell.load();
+        if state_of(seen) == PRESENT && seen >= ONE_CHANCE {
+            let (_, claim) = self.cell.turn(seen, seen - ONE_CHANCE);
+            claim.done();
+        }
     }
 
     /// Returns whether the entry, if there is one, is pinned.

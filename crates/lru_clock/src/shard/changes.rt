@@ -111,7 +111,7 @@ impl<K: Hash + Eq + Clone + Drop, V: Drop, F: Fit<K, V>> Shard<K, V, F> {
                 return Err(refusal);
             }
             let leaver = self.replace(&mut guard, tag, key, charge);
-            if leaver.is_some() && !guard.has_room(charge) {
+            if leaver.is_some() && guard.is_above(charge) {
                 self.unlock(guard, leaver);
                 continue;
             }
@@ -264,7 +264,7 @@ impl<K: Hash + Eq + Clone + Drop, V: Drop, F: Fit<K, V>> Shard<K, V, F> {
                 return;
             };
             let leaver = self.make_room(&mut guard, 0);
-            let is_done = leaver.is_none() || guard.has_room(0);
+            let is_done = leaver.is_none() || !guard.is_above(0);
             self.unlock(guard, leaver);
             if is_done {
                 return;

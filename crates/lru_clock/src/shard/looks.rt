@@ -68,24 +68,36 @@ impl<K: Hash + Eq + Clone + Drop, V: Drop, F: Fit<K, V>> Shard<K, V, F> {
     ///
     /// Returns `Overflow` and `Memory` as `begin` does.
     #[inline(always)]
-    pub fn enter<R: Wait>(&self, rt: &R, tag: u32, key: &K) -> Result<Turn<'_, K, V, F>, Refusal>
+    pub fn enter<R: Wait>(
+        &self,
+        rt: &R,
+        tag: u32,
+        key: &K,
+        charge: u64,
+    ) -> Result<Turn<'_, K, V, F>, Refusal>
         ensures pin { IfOk result
             (λ turn. IfHit turn (λ p. (p.key ≡ key.now) × F.fits key.now p.value)) }
         ensures never_stale { IfErr result (λ e. e ≢ Refusal.Stale) }
     {
         match self.find(tag, key, true)? {
             Some((place, pin)) => Ok(Turn::Hit(place, pin)),
-            None => self.begin(rt, tag, key),
+            None => self.begin(rt, tag, key, charge),
         }
     }
 
     /// Pins the key's entry, or begins the making of its value. Waits while another caller makes
     /// it.
     ///
-    /// Returns `Overflow` if the entry has the maximum of pins, and `Memory` if a copy of the key
-    /// is refused.
+    /// Returns `Overflow` if the entry has the maximum of pins, or if the charge would take the
+    /// total past the maximum of a `u64`, and `Memory` if a copy of the key is refused.
     #[inline(never)]
-    pub fn begin<R: Wait>(&self, rt: &R, tag: u32, key: &K) -> Result<Turn<'_, K, V, F>, Refusal>
+    pub fn begin<R: Wait>(
+        &self,
+        rt: &R,
+        tag: u32,
+        key: &K,
+        charge: u64,
+    ) -> Result<Turn<'_, K, V, F>, Refusal>
         ensures pin { IfOk result
             (λ turn. IfHit turn (λ p. (p.key ≡ key.now) × F.fits key.now p.value)) }
         ensures never_stale { IfErr result (λ e. e ≢ Refusal.Stale) }
@@ -96,12 +108,22 @@ impl<K: Hash + Eq + Clone + Drop, V: Drop, F: Fit<K, V>> Shard<K, V, F> {
                 return Ok(Turn::Hit(place, pin));
             }
             if !guard.makings.contains(key) {
-                let own = key.clone()?;
-                return Ok(Turn::Make(guard.makings.begin(own)?));
+                return Ok(Turn::Make(self.start(&mut guard, key, charge)?));
             }
             guard = self.wait(rt, guard);
         }
         unreachable!()
+    }
+
+    // Begins the making of a key's value, and returns its ticket.
+    fn start(&self, desk: &mut Desk<K>, key: &K, charge: u64) -> Result<u64, Refusal>
+        ensures { IfErr result (λ e. e ≢ Refusal.Stale) }
+    {
+        if desk.seats.total().checked_add(charge).is_none() {
+            return Err(Refusal::Overflow);
+        }
+        let own = key.clone()?;
+        Ok(desk.makings.begin(own)?)
     }
 
     // Waits until a making ends or is invalidated.
