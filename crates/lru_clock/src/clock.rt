@@ -120,8 +120,9 @@ impl<
         Cache::with_most_pins(alloc, rt, capacity, shards, hasher, MOST_PINS)
     }
 
-    /// `marked` with another maximum of pins that an entry may have. It is 1,073,741,822 otherwise,
-    /// and cannot be greater.
+    /// `marked` with another maximum of pins that an entry may have, from 1 to 1,073,741,822, which
+    /// it is otherwise. A number outside of that range stands for the nearest one in it. Whoever
+    /// compares an entry's key has a pin of it for that moment.
     ///
     /// Returns `Memory` as `new` does.
     pub fn with_most_pins(
@@ -137,7 +138,7 @@ impl<
         ensures err { IfErr result (λ e. e ≡ Refusal.Memory) }
     {
         let share = capacity_per_shard(capacity, shards);
-        let most_pins = most_pins.min(MOST_PINS);
+        let most_pins = most_pins.max(1).min(MOST_PINS);
         let mut all = Vec::new(alloc);
         for _ in 0..shards {
             all.push(Shard::new(alloc, share, most_pins)?)?;

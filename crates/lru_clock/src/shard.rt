@@ -189,21 +189,42 @@ impl<K: Hash + Eq + Clone + Drop, V: Drop, F: Fit<K, V>> Shard<K, V, F> {
             Err(refusal) => return Err((refusal, Some(kept))),
         };
         let Some(slot) = self.slot(place) else {
+            desk.seats.vacate(place);
             return Err((Refusal::Overflow, Some(kept)));
         };
-        if let Err(kept) = slot.fill(kept) {
+        if let Err(kept) = slot.fill(kept, !seat.is_listed) {
+            desk.seats.vacate(place);
             return Err((Refusal::Overflow, Some(kept)));
         }
         // Nobody else can have pinned it so often, or taken it out under the lock.
-        let Ok(Some(pin)) = slot.pin(key, self.most_pins, false) else {
+        let Ok(Some(pin)) = self.pin_new(slot, key, seat.is_listed) else {
             return Err((Refusal::Overflow, None));
         };
-        if !seat.is_listed {
-            slot.mark();
-        } else if let Some(index) = self.store.index() {
-            index.add(seat.tag, place);
+        if seat.is_listed {
+            if let Some(index) = self.store.index() {
+                index.add(seat.tag, place);
+            }
         }
         Ok((place, pin))
+    }
+
+    // Pins an entry that was just stored. A caller with an old word of the index may find its slot,
+    // so an entry that is not listed must be hidden from the start.
+    fn pin_new<'a>(
+        &self,
+        slot: &'a Slot<K, V, F>,
+        key: &K,
+        is_listed: bool,
+    ) -> Result<Option<Pin<'a, K, V, F>>, Refusal>
+        ensures pin { IfOk result (λ found. IfSome found
+            (λ p. (p.key ≡ key.now) × F.fits key.now p.value)) }
+        ensures refused { IfErr result (λ e. e ≡ Refusal.Overflow) }
+    {
+        if is_listed {
+            slot.pin(key, self.most_pins, false)
+        } else {
+            slot.pin_invalidated(key)
+        }
     }
 
     // Takes a vacant place and counts its entry.

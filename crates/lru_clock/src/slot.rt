@@ -167,8 +167,27 @@ impl<K: Eq + Drop, V: Drop, F: Fit<K, V>> Slot<K, V, F> {
         pins_of(self.cell.load()) != 0
     }
 
-    /// Stores an entry in a free slot, or returns it.
-    pub fn fill(&self, kept: Kept<K, V, F>) -> Result<(), Kept<K, V, F>>
+    /// Pins an invalidated entry of this key, for the caller that stored it under the lock.
+    pub fn pin_invalidated(&self, key: &K) -> Result<Option<Pin<'_, K, V, F>>, Refusal>
+        ensures pin { IfOk result (λ found. IfSome found
+            (λ p. (p.key ≡ key.now) × F.fits key.now p.value)) }
+        ensures refused { IfErr result (λ e. e ≡ Refusal.Overflow) }
+    {
+        let seen = self.cell.load();
+        if state_of(seen) != MARKED || pins_of(seen) > MOST_PINS {
+            return Ok(None);
+        }
+        let (found, claim) = self.cell.turn(seen, seen + ONE_READER);
+        if found != seen {
+            claim.done();
+            return Ok(None);
+        }
+        Pin::of_key(claim, key, false)
+    }
+
+    /// Stores an entry in a free slot, or returns it. One that was invalidated before it came can
+    /// be pinned by `pin_invalidated` alone.
+    pub fn fill(&self, kept: Kept<K, V, F>, is_invalidated: bool) -> Result<(), Kept<K, V, F>>
         requires { F.fits kept.key kept.value }
     {
         let seen = self.cell.load();
@@ -180,7 +199,11 @@ impl<K: Eq + Drop, V: Drop, F: Fit<K, V>> Slot<K, V, F> {
             claim.done();
             return Err(kept);
         }
-        let _ = claim.put(Some(kept), PRESENT);
+        if is_invalidated {
+            let _ = claim.put(Some(kept), MARKED);
+        } else {
+            let _ = claim.put(Some(kept), PRESENT);
+        }
         Ok(())
     }
 
