@@ -43,7 +43,10 @@ fn a_value_is_made_and_found(rt: HostRuntime) {
     assert_eq!(rt; found(&cache, 7), Ok(Some(70)));
     assert_eq!(rt; cache.read(&7, |value| value.wrapping_add(1)), Ok(Some(71)));
     assert_eq!(rt; (cache.contains(&7), cache.contains(&8)), (true, false));
-    assert_eq!(rt; (cache.len(), cache.is_empty(), cache.total_charge()), (1, false, 3));
+    assert_eq!(rt;
+        (cache.len(), cache.is_empty(), cache.total_charge()),
+        (1, false, 3)
+    );
     let failed = cache.get_or_try_init(8, 1, |_| -> Result<u64, u8> { Err(9) });
     assert!(rt; matches!(&failed, Err(GetError::Init(9))));
     drop(failed);
@@ -54,8 +57,12 @@ fn a_value_is_made_and_found(rt: HostRuntime) {
         ..Counts::default()
     };
     assert_eq!(rt; cache.counts(), counts);
-    assert_eq!(rt; format!(in rt.alloc(); "{cache:?}").expect(&rt, "memory").as_str(),
-        "Cache { capacity: 10, total_charge: 3, len: 1 }");
+    assert_eq!(rt;
+        format!(in rt.alloc(); "{cache:?}")
+            .expect(&rt, "memory")
+            .as_str(),
+        "Cache { capacity: 10, total_charge: 3, len: 1 }"
+    );
 }
 
 #[test]
@@ -69,9 +76,15 @@ fn entries_leave(rt: HostRuntime) {
     assert_eq!(rt; (*old, cache.len(), cache.pinned_charge()), (11, 4, 2));
     // The held value stays for its holder, and its charge with it.
     let new = cache.insert(&1, 1, 12).expect(&rt, "memory");
-    assert_eq!(rt; (*old, *new, cache.len(), cache.total_charge()), (11, 12, 5, 9));
+    assert_eq!(rt;
+        (*old, *new, cache.len(), cache.total_charge()),
+        (11, 12, 5, 9)
+    );
     drop(old);
-    assert_eq!(rt; (cache.len(), cache.total_charge(), found(&cache, 1)), (4, 7, Ok(Some(12))));
+    assert_eq!(rt;
+        (cache.len(), cache.total_charge(), found(&cache, 1)),
+        (4, 7, Ok(Some(12)))
+    );
     cache.invalidate(&1);
     assert_eq!(rt; (found(&cache, 1), cache.len(), *new), (Ok(None), 4, 12));
     drop(new);
@@ -123,7 +136,10 @@ fn many_entries_share_a_small_capacity(rt: HostRuntime) {
         assert_eq!(rt; made(&cache, key, 1), Ok(key.wrapping_mul(10)));
     }
     assert_eq!(rt; (cache.len(), cache.total_charge(), *held), (100, 100, 5));
-    assert_eq!(rt; (found(&cache, 1_000), found(&cache, 299)), (Ok(Some(5)), Ok(Some(2_990))));
+    assert_eq!(rt;
+        (found(&cache, 1_000), found(&cache, 299)),
+        (Ok(Some(5)), Ok(Some(2_990)))
+    );
     assert_eq!(rt; found(&cache, 0), Ok(None));
 }
 
@@ -146,8 +162,7 @@ fn a_handle_proves_its_value(rt: HostRuntime) {
         10,
         2,
         hasher,
-    )
-    .expect(&rt, "memory");
+    ).expect(&rt, "memory");
     for key in 0..50u64 {
         let handle = cache
             .get_or_init(key, 1, |key| *key * 2)
@@ -162,12 +177,18 @@ fn a_handle_proves_its_value(rt: HostRuntime) {
 #[test]
 fn caches_are_made_with_shards(rt: HostRuntime) {
     let hasher = RandomState::new(&rt).expect(&rt, "memory");
-    let cache: Cache<u64, u64, &HostRuntime> = Cache::new(rt.alloc(), &rt, 160, hasher)
-        .expect(&rt, "memory");
+    let cache: Cache<u64, u64, &HostRuntime> = Cache::new(rt.alloc(), &rt, 160, hasher).expect(
+        &rt, "memory",
+    );
     assert_eq!(rt; cache.capacity(), 160);
     let hasher = RandomState::new(&rt).expect(&rt, "memory");
-    let cache: Cache<u64, u64, &HostRuntime> = Cache::with_shards(rt.alloc(), &rt, 7, 3, hasher)
-        .expect(&rt, "memory");
+    let cache: Cache<u64, u64, &HostRuntime> = Cache::with_shards(
+        rt.alloc(),
+        &rt,
+        7,
+        3,
+        hasher,
+    ).expect(&rt, "memory");
     // Each share is rounded up.
     assert_eq!(rt; cache.capacity(), 9);
 }

@@ -7,7 +7,6 @@ use std::hash::RandomState;
 use std::sync::Wait;
 use std::sync::atomic::AtomicU64;
 use std::sync::atomic::Ordering::SeqCst;
-use std::test::Fail;
 use std::thread;
 use std::thread::Threads;
 
@@ -63,26 +62,35 @@ fn callers<R: Threads + Wait + Sync>(rt: &R, cache: &Cache<u64, u64, &R>) -> (u6
 }
 
 #[test]
-fn one_fails_and_one_makes_for_the_others(rt: HostRuntime) -> Result<(), Fail> {
-    let hasher = RandomState::new(&rt)?;
-    let cache = Cache::with_shards(rt.alloc(), &rt, 10, 2, hasher)?;
+fn one_fails_and_one_makes_for_the_others(rt: HostRuntime) {
+    let hasher = RandomState::new(&rt).expect(&rt, "memory");
+    let cache = Cache::with_shards(rt.alloc(), &rt, 10, 2, hasher).expect(&rt, "memory");
     assert_eq!(rt; callers(&rt, &cache), (2, 1, 3));
     assert_eq!(rt; (cache.len(), cache.total_charge()), (1, 1));
-    Ok(())
 }
 
 #[test]
-fn an_invalidated_making_is_for_its_maker_alone(rt: HostRuntime) -> Result<(), Fail> {
-    let hasher = RandomState::new(&rt)?;
-    let cache: Cache<u64, u64, &HostRuntime> = Cache::with_shards(rt.alloc(), &rt, 10, 2, hasher)?;
-    let handle = cache.get_or_init(1, 3, |key| {
-        cache.invalidate(key);
-        5
-    })?;
-    assert_eq!(rt; (*handle, cache.contains(&1), cache.total_charge()), (5, false, 3));
-    let next = cache.get_or_init(1, 1, |_| 6)?;
+fn an_invalidated_making_is_for_its_maker_alone(rt: HostRuntime) {
+    let hasher = RandomState::new(&rt).expect(&rt, "memory");
+    let cache: Cache<u64, u64, &HostRuntime> = Cache::with_shards(
+        rt.alloc(),
+        &rt,
+        10,
+        2,
+        hasher,
+    ).expect(&rt, "memory");
+    let handle = cache
+        .get_or_init(1, 3, |key| {
+            cache.invalidate(key);
+            5
+        })
+        .expect(&rt, "memory");
+    assert_eq!(rt;
+        (*handle, cache.contains(&1), cache.total_charge()),
+        (5, false, 3)
+    );
+    let next = cache.get_or_init(1, 1, |_| 6).expect(&rt, "memory");
     assert_eq!(rt; (*handle, *next, cache.total_charge()), (5, 6, 4));
     drop(handle);
     assert_eq!(rt; (cache.len(), cache.total_charge()), (1, 1));
-    Ok(())
 }

@@ -161,7 +161,14 @@ impl Plain {
         let (place, entry) = self.find(key)?;
         let chances = entry.chances.wrapping_add(1).min(3);
         let pins = entry.pins.wrapping_add(1);
-        self.set(place, Some(Entry { chances, pins, ..entry }));
+        self.set(
+            place,
+            Some(Entry {
+                chances,
+                pins,
+                ..entry
+            }),
+        );
         Some((entry.number, place))
     }
 

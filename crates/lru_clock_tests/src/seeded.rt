@@ -10,7 +10,6 @@ use rand_core::{Rng, SeedableRng};
 use rand_xoshiro::Xoshiro256PlusPlus;
 use std::alloc::{AllocError, Global};
 use std::sync::Wait;
-use std::test::Fail;
 
 // The number of calls of a run.
 const CALLS: u64 = 1_500;
@@ -22,7 +21,7 @@ type Values<R> = Cache<u64, Logged<R>, R, ByOwnNumber>;
 
 type Kept<'a, R> = CacheHandle<'a, u64, Logged<R>, R>;
 
-#[derive(Clone, Copy, Debug)]
+#[derive(Clone, Copy)]
 enum Call {
     Get(u64),
     Make(u64, u64),
@@ -170,39 +169,71 @@ fn answer_plain(
     }
 }
 
-// Makes the calls that a seed determines on both. Fails at the first call where they differ in the
-// number that they return, in the values that leave, or in what is left.
-fn agree<R: Wait + Clone + Drop>(rt: &R, alloc: Global, seed: u64) -> Result<(), Fail> {
-    let log = DropLog::new(alloc, rt)?;
-    let capacity = 5 + seed * 3;
-    let cache: Values<R> = Cache::with_shards_hasher(alloc, rt.clone()?, capacity, 1, ByOwnNumber)?;
+// Makes a call on both. Returns whether they agree in the number that they return, in the values
+// that leave, and in what is left.
+fn agrees_at<'a, R: Wait + Clone + Drop>(
+    cache: &'a Values<R>,
+    log: &DropLog<R>,
+    kept: &mut Vec<Kept<'a, R>>,
+    plain: &mut Plain,
+    kept_plain: &mut Vec<usize>,
+    call: Call,
+    number: u64,
+) -> bool {
+    log.clear();
+    plain.clear_gone();
+    let Ok(answered) = answer(cache, log, kept, call, number) else {
+        return false;
+    };
+    let Ok(wanted) = answer_plain(plain, kept_plain, call, number) else {
+        return false;
+    };
+    answered == wanted
+        && log.is(plain.gone())
+        && cache.len() == plain.len()
+        && cache.total_charge() == u128::from(plain.total())
+}
+
+// Makes the calls that a seed determines on both. Returns the number of the first one at which they
+// differ.
+fn first_difference<R: Wait + Clone + Drop>(
+    alloc: Global,
+    cache: &Values<R>,
+    log: &DropLog<R>,
+    capacity: u64,
+    seed: u64,
+) -> Option<u64> {
     let mut plain = Plain::new(alloc, capacity);
     let mut generator = Xoshiro256PlusPlus::seed_from_u64(seed);
     let mut kept = Vec::new(alloc);
     let mut kept_plain = Vec::new(alloc);
     for number in 0..CALLS {
         let call = draw(&mut generator);
-        let answered = answer(&cache, &log, &mut kept, call, number)?;
-        let wanted = answer_plain(&mut plain, &mut kept_plain, call, number)?;
-        if answered != wanted
-            || !log.is(plain.gone())
-            || cache.len() != plain.len()
-            || cache.total_charge() != u128::from(plain.total())
-        {
-            return Err(Fail::new(format_args!(
-                "at call {number} of seed {seed}, {call:?}: {answered:?} for {wanted:?}"
-            )));
+        if !agrees_at(
+            cache,
+            log,
+            &mut kept,
+            &mut plain,
+            &mut kept_plain,
+            call,
+            number,
+        ) {
+            return Some(number);
         }
-        log.clear();
-        plain.clear_gone();
     }
-    Ok(())
+    None
 }
 
 #[test]
-fn one_thread_is_answered_as_by_a_plain_clock(rt: HostRuntime) -> Result<(), Fail> {
+fn one_thread_is_answered_as_by_a_plain_clock(rt: HostRuntime) {
     for seed in 0..6u64 {
-        agree(&rt, rt.alloc(), seed)?;
+        let log = DropLog::new(rt.alloc(), &rt).expect(&rt, "memory");
+        let own = rt.clone().expect(&rt, "memory");
+        let capacity = 5 + seed * 3;
+        let cache = Cache::with_shards_hasher(rt.alloc(), own, capacity, 1, ByOwnNumber).expect(
+            &rt, "memory",
+        );
+        let difference = first_difference(rt.alloc(), &cache, &log, capacity, seed);
+        assert_eq!(rt; difference, None, "at this call of seed {seed}");
     }
-    Ok(())
 }

@@ -9,7 +9,6 @@ use std::hash::RandomState;
 use std::sync::Wait;
 use std::sync::atomic::AtomicU64;
 use std::sync::atomic::Ordering::SeqCst;
-use std::test::Fail;
 use std::thread;
 use std::thread::Threads;
 
@@ -52,10 +51,14 @@ type Storm<'a, R> = Cache<u64, Stamped, &'a R>;
 
 // Finds or makes a key's value, which must be the key's and have at least this version.
 fn asks<R: Wait>(cache: &Storm<'_, R>, board: &Board, key: u64, least: u64) {
-    let made = cache.get_or_init(key, 1 + key % 3, |key| Stamped {
-        key: *key,
-        version: board.version(),
-    });
+    let made = cache.get_or_init(
+        key,
+        1 + key % 3,
+        |key| Stamped {
+            key: *key,
+            version: board.version(),
+        },
+    );
     match made {
         Ok(handle) => board.note(handle.key == key && handle.version >= least),
         Err(_) => board.note(false),
@@ -118,13 +121,12 @@ fn storm<R: Threads + Wait + Sync>(rt: &R, cache: &Storm<'_, R>) -> u64 {
 }
 
 #[test]
-fn threads_share_a_cache(rt: HostRuntime) -> Result<(), Fail> {
-    let hasher = RandomState::new(&rt)?;
-    let cache = Cache::with_shards(rt.alloc(), &rt, CAPACITY, 2, hasher)?;
+fn threads_share_a_cache(rt: HostRuntime) {
+    let hasher = RandomState::new(&rt).expect(&rt, "memory");
+    let cache = Cache::with_shards(rt.alloc(), &rt, CAPACITY, 2, hasher).expect(&rt, "memory");
     assert_eq!(rt; storm(&rt, &cache), 0);
     assert!(rt; cache.total_charge() <= u128::from(CAPACITY));
     assert_eq!(rt; cache.pinned_charge(), 0);
     cache.prune();
     assert_eq!(rt; (cache.len(), cache.total_charge()), (0, 0));
-    Ok(())
 }
