@@ -20,7 +20,9 @@
  *     lru_words_*   keys are 16 bytes, passed as two words, and faster to look up
  *
  * The library is proved: each call is one step of the cache that docs/DEFINITIONS.md defines, or is
- * refused with a code and changes nothing. The library takes no lock and starts no thread.
+ * refused with a code and changes nothing. The library takes no lock and starts no thread. The
+ * archive is for Linux with glibc, and also links into a shared object. Programs that share a cache
+ * among threads are compiled and linked with -pthread.
  *
  * WHAT THE CALLER MUST ENSURE. The proofs rely on the following, and it is not checked at run time:
  *
@@ -36,6 +38,13 @@
  *  5. malloc, realloc and free belong to one allocator, and malloc and realloc align a block to
  *     each power of two up to 16 that divides its size.
  *  6. No call is made from a signal handler, or in the forked child of a process with threads.
+ *
+ * TWO RULES FOR PINS. Without them the calls still do what is proved, but not what is meant:
+ *
+ *  7. Each pin is given back once. A stamp names an entry and not a pin, so if one of two holders
+ *     releases twice, the second call takes the other holder's pin, and its value may be evicted.
+ *  8. A stamp is passed only to the cache that told it. Another cache may have an entry with the
+ *     same stamp, and would release that.
  *
  * What is cheap to check is checked, and answered with a code: a charge of 0, a limit of 0 pins, a
  * null key with a length, a handle that is not open (it was never opened, its opening was refused,
@@ -56,6 +65,8 @@
 #include <stdbool.h>
 #include <stddef.h>
 #include <stdint.h>
+
+#define LRU_VERSION "1.0.0"
 
 #ifdef __cplusplus
 extern "C" {
@@ -168,7 +179,8 @@ lru_code lru_bytes_free(lru_bytes *cache, lru_bytes_evicted *left);
 static inline lru_told lru_bytes_begin(lru_bytes *cache, const void *key, size_t length,
                                        uint64_t charge, lru_bytes_evicted *gone);
 
-/* Asks again after LRU_WAIT. No pin is added or taken.
+/* Asks again after LRU_WAIT. No pin is added or taken. The caller that makes the value must not
+ * ask: it would be told LRU_WAIT, to wait for itself.
  *
  * Does not allocate. LRU_WAIT with the stamp; LRU_MAKE with the stamp if the other caller failed:
  * this one makes the value now; LRU_HIT with the stamp and the value; LRU_STALE if no held entry

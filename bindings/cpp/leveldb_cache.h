@@ -14,7 +14,8 @@
 //  - Release evicts too. LevelDB's cache evicts only in Insert, so a shard whose pinned entries
 //    exceeded its capacity stays above it until the next Insert. Here a shard is above its capacity
 //    only while all of its entries are pinned. In particular, an entry larger than its shard's
-//    capacity is evicted at its last Release.
+//    capacity is evicted at its last Release. So a cache with room for fewer than 16 blocks keeps
+//    almost nothing.
 //  - Erase of a pinned entry, and Insert over one. The key finds the old entry no more, as in
 //    LevelDB, but the old entry keeps its charge until its last Release, as its memory is still in
 //    use. In LevelDB's cache it has no charge from then on.

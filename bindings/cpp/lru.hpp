@@ -162,9 +162,9 @@ class Cache {
     if (!core_.open(capacity)) throw OutOfMemory();
   }
 
-  // Deletes all values. There must be no handle left, as it would dangle, and the destructors of
-  // the values must not call this cache.
-  ~Cache() = default;
+  // Deletes all values. There must be no handle left, as it would dangle; this is asserted. The
+  // destructors of the values must not call this cache.
+  ~Cache() { assert(pins_ == 0 && "lru: a handle outlives its cache"); }
 
   Cache(const Cache&) = delete;
   Cache& operator=(const Cache&) = delete;
@@ -175,6 +175,7 @@ class Cache {
   Handle get(Key key) {
     std::unique_lock<std::mutex> lock(mutex_);
     const lru_told told = core_.get(key);
+    if (told.code == LRU_HIT) pins_++;
     lock.unlock();
     if (told.code == LRU_MISSED) return Handle();
     if (told.code != LRU_HIT) detail::throw_refusal(told.code);
@@ -189,7 +190,8 @@ class Cache {
   // evicted if it fails.
   //
   // `charge` is what the value counts for against the capacity, in units of the caller's choice; it
-  // must be above 0. If the value exists already or is being made, its charge does not change.
+  // must be above 0, even if the key has a value. If the value exists already or is being made, its
+  // charge does not change.
   //
   // Throws ZeroCharge, Overflow and OutOfMemory before `init` runs, and nothing changes. If there
   // is no memory for the value, or to keep it once it is made, std::bad_alloc is thrown as if by
@@ -214,6 +216,7 @@ class Cache {
     Evicted evicted;
     std::unique_lock<std::mutex> lock(mutex_);
     const lru_told told = core_.insert(key, charge, node.get(), &evicted);
+    if (told.code == LRU_DONE) pins_++;
     lock.unlock();
     if (told.code != LRU_DONE) detail::throw_refusal(told.code);
     return Handle(this, told.stamp, std::addressof(node.release()->value));
@@ -247,7 +250,24 @@ class Cache {
     core_.prune(&evicted);
   }
 
-  // The total of the charges of all values, including those that are being made.
+  // Whether the key has a value, as `get` looks for it. Pins nothing, and does not count as a use.
+  // Throws OutOfMemory if the key is longer than any before and there is no memory for a copy.
+  bool contains(Key key) const {
+    std::unique_lock<std::mutex> lock(mutex_);
+    const lru_code code = core_.contains(key);
+    lock.unlock();
+    if (code != LRU_DONE && code != LRU_MISSED) detail::throw_refusal(code);
+    return code == LRU_DONE;
+  }
+
+  // The number of values, including those that are being made, and those that were invalidated or
+  // replaced and still have a handle.
+  std::uint64_t len() const {
+    const std::lock_guard<std::mutex> lock(mutex_);
+    return core_.len();
+  }
+
+  // The total of the charges of these values.
   std::uint64_t total_charge() const {
     const std::lock_guard<std::mutex> lock(mutex_);
     return core_.total();
@@ -308,6 +328,7 @@ class Cache {
       ended_.wait(lock);
       told = core_.poll(told.stamp);
     }
+    if (told.code == LRU_HIT || told.code == LRU_MAKE) pins_++;
     lock.unlock();
     if (told.code != LRU_HIT && told.code != LRU_MAKE) detail::throw_refusal(told.code);
     return told;
@@ -325,6 +346,7 @@ class Cache {
   void fail(std::uint64_t stamp) noexcept {
     std::unique_lock<std::mutex> lock(mutex_);
     [[maybe_unused]] const lru_code code = core_.fail(stamp);
+    pins_--;
     lock.unlock();
     assert(code == LRU_LEFT || code == LRU_REMOVED);
     ended_.notify_all();
@@ -335,22 +357,26 @@ class Cache {
     const std::lock_guard<std::mutex> lock(mutex_);
     [[maybe_unused]] const lru_code code = core_.release(stamp, &evicted);
     assert(code == LRU_DONE);
+    pins_--;
   }
 
   mutable std::mutex mutex_;
   std::condition_variable ended_;  // notified when a caller has made a value, or has failed
   detail::Core<Node, Key> core_;
+  std::uint64_t pins_ = 0;  // of handles and of values that are being made
 };
 
 // A cache of several shards, each a Cache with its own lock and an equal share of the capacity,
 // rounded up. `Hash` chooses the shard of a key. Threads contend less, but a value is evicted when
-// its own shard is full.
+// its own shard is full. A shard whose share is smaller than a charge does not keep such a value
+// once it is idle: with 16 shards, take a capacity of well over 16 charges, or fewer shards.
 template <class Value, class Key = std::string_view, class Hash = std::hash<Key>>
 class ShardedCache {
  public:
   using Handle = lru::Handle<Value, Key>;
 
-  // An empty cache. Throws std::bad_alloc, and std::invalid_argument if `shards` is 0.
+  // An empty cache. Throws std::bad_alloc, and std::invalid_argument if `shards` is 0. `capacity`
+  // is that of all shards together.
   explicit ShardedCache(std::uint64_t capacity, std::size_t shards = 16, Hash hash = Hash())
       : hash_(std::move(hash)) {
     if (shards == 0) throw std::invalid_argument("lru: the number of shards is 0");
@@ -373,6 +399,7 @@ class ShardedCache {
   Handle insert(Key key, std::uint64_t charge, V&& value) {
     return shard(key).insert(key, charge, std::forward<V>(value));
   }
+  bool contains(Key key) const { return shard(key).contains(key); }
   void invalidate(Key key) { shard(key).invalidate(key); }
   void advice_evict(Key key) { shard(key).advice_evict(key); }
 
@@ -381,8 +408,13 @@ class ShardedCache {
     for (Shard& shard : shards_) shard.prune();
   }
 
-  // The total of the charges of all values, or 2^64 - 1 if it is more. The shards are read one
-  // after another, so while other threads call the cache it is no snapshot.
+  // The number of values. The shards are read one after another, so while other threads call the
+  // cache it is no snapshot.
+  std::uint64_t len() const {
+    return sum([](const Shard& shard) { return shard.len(); });
+  }
+
+  // The total of the charges of all values, or 2^64 - 1 if it is more. No snapshot, as `len`.
   std::uint64_t total_charge() const {
     return sum([](const Shard& shard) { return shard.total_charge(); });
   }
@@ -420,6 +452,7 @@ class ShardedCache {
   }
 
   Shard& shard(const Key& key) { return shards_[hash_(key) % shards_.size()]; }
+  const Shard& shard(const Key& key) const { return shards_[hash_(key) % shards_.size()]; }
 
   std::deque<Shard> shards_;
   Hash hash_;

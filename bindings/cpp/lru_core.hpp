@@ -7,6 +7,7 @@
 #include <cstdint>
 #include <functional>
 #include <string_view>
+#include <type_traits>
 #include <utility>
 
 #include "lru.h"
@@ -39,7 +40,7 @@ namespace detail {
 
 // The functions of lru.h, for each kind of key.
 template <class Key>
-struct Calls;
+struct Calls {};
 
 template <>
 struct Calls<std::string_view> {
@@ -56,6 +57,7 @@ struct Calls<std::string_view> {
   static constexpr auto set_capacity = lru_bytes_set_capacity;
   static constexpr auto total = lru_bytes_total;
   static constexpr auto capacity = lru_bytes_capacity;
+  static constexpr auto len = lru_bytes_len;
   static constexpr auto make_chain = lru_bytes_evicted_new;
   static constexpr auto free_chain = lru_bytes_evicted_free;
   static constexpr auto pop = lru_bytes_evicted_pop;
@@ -66,6 +68,9 @@ struct Calls<std::string_view> {
   }
   static lru_told get(Cache* cache, std::string_view key) {
     return lru_bytes_get(cache, key.data(), key.size());
+  }
+  static lru_code contains(Cache* cache, std::string_view key) {
+    return lru_bytes_contains(cache, key.data(), key.size());
   }
   static lru_code advice_evict(Cache* cache, std::string_view key, Chain* gone) {
     return lru_bytes_advice_evict(cache, key.data(), key.size(), gone);
@@ -94,6 +99,7 @@ struct Calls<Words> {
   static constexpr auto set_capacity = lru_words_set_capacity;
   static constexpr auto total = lru_words_total;
   static constexpr auto capacity = lru_words_capacity;
+  static constexpr auto len = lru_words_len;
   static constexpr auto make_chain = lru_words_evicted_new;
   static constexpr auto free_chain = lru_words_evicted_free;
   static constexpr auto pop = lru_words_evicted_pop;
@@ -104,6 +110,9 @@ struct Calls<Words> {
   }
   static lru_told get(Cache* cache, Words key) {
     return lru_words_get(cache, key.first, key.second);
+  }
+  static lru_code contains(Cache* cache, Words key) {
+    return lru_words_contains(cache, key.first, key.second);
   }
   static lru_code advice_evict(Cache* cache, Words key, Chain* gone) {
     return lru_words_advice_evict(cache, key.first, key.second, gone);
@@ -147,6 +156,9 @@ class Evicted {
 // that evicted to `evicted`.
 template <class Node, class Key>
 class Core {
+  static_assert(std::is_same_v<Key, std::string_view> || std::is_same_v<Key, Words>,
+                "lru: a key is a std::string_view or an lru::Words");
+
  public:
   Core() = default;
 
@@ -179,6 +191,7 @@ class Core {
   }
   lru_code fail(std::uint64_t stamp) noexcept { return Calls::fail(&cache_, stamp); }
   lru_told get(Key key) noexcept { return Calls::get(&cache_, key); }
+  lru_code contains(Key key) const noexcept { return Calls::contains(&cache_, key); }
   lru_code release(std::uint64_t stamp, Evicted<Node>* evicted) noexcept {
     const lru_code code = Calls::release(&cache_, stamp, &chain_);
     take_evicted(evicted);
@@ -210,6 +223,7 @@ class Core {
   }
   std::uint64_t total() const noexcept { return Calls::total(&cache_).value; }
   std::uint64_t capacity() const noexcept { return Calls::capacity(&cache_).value; }
+  std::uint64_t len() const noexcept { return Calls::len(&cache_).value; }
 
   // The node of a value that the library told.
   static Node* node_of(std::uint64_t value) noexcept {
@@ -230,7 +244,7 @@ class Core {
     while (Calls::pop(&chain_, &gone)) evicted->add(node_of(gone.value));
   }
 
-  // Mutable because total and capacity take a pointer that is not const.
+  // Mutable because the calls that only look take a pointer that is not const.
   mutable typename Calls::Cache cache_ = {};
   typename Calls::Chain chain_ = {};
 };

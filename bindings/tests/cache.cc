@@ -1,7 +1,11 @@
 // Tests lru::Cache and lru::ShardedCache.
+#include <sys/wait.h>
+#include <unistd.h>
+
 #include <atomic>
 #include <chrono>
 #include <condition_variable>
+#include <csignal>
 #include <cstddef>
 #include <cstdint>
 #include <cstdio>
@@ -223,6 +227,30 @@ void an_invalidate_takes_a_value_away() {
   CHECK(*cache.get(key(1)) == 2 && cache.total_charge() == 4);
 }
 
+template <class Cache, class Key>
+void looks_only(Key one, Key two, Key three) {
+  Cache cache(2);
+  CHECK(!cache.contains(one) && cache.len() == 0);
+  const auto zero = [](Key) { return 0; };
+  const auto asks = [&](Key) { return cache.contains(one) || cache.len() != 1 ? 1 : 0; };
+  CHECK(*cache.get_or_init(one, 1, asks) == 0);
+  cache.get_or_init(two, 1, zero);
+  CHECK(cache.contains(one) && cache.contains(two) && cache.len() == 2);
+  // Not a use: the first value is still the oldest.
+  cache.get_or_init(three, 1, zero);
+  CHECK(!cache.contains(one) && cache.contains(two) && cache.contains(three));
+  auto held = cache.get(two);
+  cache.invalidate(two);
+  CHECK(!cache.contains(two) && cache.len() == 2);
+  held.reset();
+  CHECK(cache.contains(three) && cache.len() == 1);
+}
+
+void contains_and_len_look_only() {
+  looks_only<Numbers>(key(1), key(2), key(3));
+  looks_only<lru::Cache<int>, std::string_view>("one", "two", "three");
+}
+
 // A barrier for two threads.
 class Meeting {
  public:
@@ -396,6 +424,7 @@ void shards_have_equal_shares() {
     texts.get_or_init(text, 1, [](std::string_view k) { return std::string(k); });
   }
   CHECK(texts.total_charge() == 3 && *texts.get("two") == "two");
+  CHECK(texts.len() == 3 && texts.contains("two") && !texts.contains("four"));
   CHECK(*texts.insert("two", 2, "2") == "2" && texts.total_charge() == 4);
   texts.invalidate("one");
   CHECK(!texts.get("one") && *texts.get("two") == "2" && texts.total_charge() == 3);
@@ -408,6 +437,36 @@ void high_bits_of_a_key_choose_its_shard_too() {
     seconds.insert(std::hash<lru::Words>()({1, n << 48}) % 16);
   }
   CHECK(firsts.size() == 16 && seconds.size() == 16);
+}
+
+// Whether a process that does this is ended by `abort`.
+template <class Action>
+bool aborts(Action action) {
+  const pid_t child = fork();
+  if (child == 0) {
+    if (std::freopen("/dev/null", "w", stderr) == nullptr) _exit(2);
+    action();
+    _exit(0);
+  }
+  int status = 0;
+  CHECK(child > 0 && waitpid(child, &status, 0) == child);
+  return WIFSIGNALED(status) && WTERMSIG(status) == SIGABRT;
+}
+
+void a_handle_that_outlives_its_cache_is_asserted_against() {
+  const auto outlives = [](auto take) {
+    return aborts([&] {
+      auto cache = std::make_unique<Numbers>(10);
+      cache->insert(key(1), 1, 1);
+      const Numbers::Handle handle = take(*cache);
+      cache.reset();
+      _exit(1);
+    });
+  };
+  CHECK(outlives([](Numbers& cache) { return cache.get(key(1)); }));
+  CHECK(outlives([](Numbers& cache) { return cache.insert(key(1), 1, 2); }));
+  CHECK(outlives([](Numbers& cache) { return cache.get_or_init(key(1), 1, returns(2)); }));
+  CHECK(outlives([](Numbers& cache) { return cache.get_or_init(key(2), 1, returns(2)); }));
 }
 
 void values_may_be_move_only_or_neither() {
@@ -431,6 +490,7 @@ int main() {
   refusals_are_exceptions();
   an_insert_replaces_whatever_is_there();
   an_invalidate_takes_a_value_away();
+  contains_and_len_look_only();
   a_making_that_is_invalidated_is_not_waited_for();
   others_wait_for_one_making();
   one_that_waits_takes_a_failed_making_over();
@@ -440,7 +500,8 @@ int main() {
   a_capacity_is_set_at_any_time();
   shards_have_equal_shares();
   high_bits_of_a_key_choose_its_shard_too();
+  a_handle_that_outlives_its_cache_is_asserted_against();
   values_may_be_move_only_or_neither();
-  std::printf("lru.hpp: 19 tests, %d checks failed\n", failed_checks);
+  std::printf("lru.hpp: 21 tests, %d checks failed\n", failed_checks);
   return failed_checks == 0 ? 0 : 1;
 }

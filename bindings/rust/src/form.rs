@@ -41,6 +41,11 @@ pub(crate) mod sealed {
         /// # Safety
         ///
         /// As for [`Stamped`].
+        unsafe fn contains(cache: *mut Handle, key: Self::Written<'_>) -> u32;
+
+        /// # Safety
+        ///
+        /// As for [`Stamped`].
         unsafe fn advice_evict(
             cache: *mut Handle,
             key: Self::Written<'_>,
@@ -83,6 +88,7 @@ pub(crate) mod sealed {
             unsafe extern "C" fn(cache: *mut Handle, capacity: u64, gone: *mut Handle) -> u32,
         pub total: unsafe extern "C" fn(cache: *mut Handle) -> Told,
         pub capacity: unsafe extern "C" fn(cache: *mut Handle) -> Told,
+        pub len: unsafe extern "C" fn(cache: *mut Handle) -> Told,
         pub new_chain: unsafe extern "C" fn(out: *mut Handle) -> u32,
         pub free_chain: unsafe extern "C" fn(chain: *mut Handle) -> u32,
         pub pop: unsafe extern "C" fn(chain: *mut Handle, out: *mut Gone) -> bool,
@@ -113,6 +119,8 @@ macro_rules! stamped {
             fn total(cache: *mut Handle) -> Told;
             #[link_name = concat!($prefix, "_capacity")]
             fn capacity(cache: *mut Handle) -> Told;
+            #[link_name = concat!($prefix, "_len")]
+            fn len(cache: *mut Handle) -> Told;
             #[link_name = concat!($prefix, "_evicted_new")]
             fn new_chain(out: *mut Handle) -> u32;
             #[link_name = concat!($prefix, "_evicted_free")]
@@ -131,6 +139,7 @@ macro_rules! stamped {
             set_capacity,
             total,
             capacity,
+            len,
             new_chain,
             free_chain,
             pop,
@@ -151,6 +160,7 @@ unsafe extern "C" {
         gone: *mut Handle,
     ) -> Told;
     fn lru_bytes_get_nonnull(cache: *mut Handle, key: *const u8, length: usize) -> Told;
+    fn lru_bytes_contains_nonnull(cache: *mut Handle, key: *const u8, length: usize) -> u32;
     fn lru_bytes_advice_evict_nonnull(
         cache: *mut Handle,
         key: *const u8,
@@ -189,6 +199,11 @@ impl sealed::Calls for Bytes {
         unsafe { lru_bytes_get_nonnull(cache, key.as_ptr(), key.len()) }
     }
 
+    unsafe fn contains(cache: *mut Handle, key: &[u8]) -> u32 {
+        // SAFETY: as in `begin`.
+        unsafe { lru_bytes_contains_nonnull(cache, key.as_ptr(), key.len()) }
+    }
+
     unsafe fn advice_evict(cache: *mut Handle, key: &[u8], gone: *mut Handle) -> u32 {
         // SAFETY: as in `begin`.
         unsafe { lru_bytes_advice_evict_nonnull(cache, key.as_ptr(), key.len(), gone) }
@@ -224,6 +239,7 @@ unsafe extern "C" {
         gone: *mut Handle,
     ) -> Told;
     fn lru_words_get(cache: *mut Handle, first: u64, second: u64) -> Told;
+    fn lru_words_contains(cache: *mut Handle, first: u64, second: u64) -> u32;
     fn lru_words_advice_evict(
         cache: *mut Handle,
         first: u64,
@@ -259,6 +275,11 @@ impl sealed::Calls for Words {
     unsafe fn get(cache: *mut Handle, [first, second]: [u64; 2]) -> Told {
         // SAFETY: as in `begin`.
         unsafe { lru_words_get(cache, first, second) }
+    }
+
+    unsafe fn contains(cache: *mut Handle, [first, second]: [u64; 2]) -> u32 {
+        // SAFETY: as in `begin`.
+        unsafe { lru_words_contains(cache, first, second) }
     }
 
     unsafe fn advice_evict(

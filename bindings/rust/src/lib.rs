@@ -34,9 +34,10 @@
 //!
 //! # Building
 //!
-//! The build script looks for the archive of the core, `liblru.a`, in the folder whose absolute
-//! path is in the environment variable `LRU_LIB_DIR`. If it is not set, it looks in
-//! `bindings/c/build` of this repository, where `make -C bindings/c` puts the archive.
+//! A package of this crate has the archive of the core, `liblru.a`, for one target: it needs
+//! nothing else. In the repository, the build script looks for the archive in `bindings/c/build`,
+//! where `make -C bindings/c` puts it. The environment variable `LRU_LIB_DIR` may name another
+//! folder by its absolute path.
 
 mod error;
 mod ffi;

@@ -112,6 +112,16 @@ impl<F: Form, V> Core<F, V> {
         }
     }
 
+    /// Whether `get` would find a value of the key.
+    pub(crate) fn contains(&mut self, key: F::Written<'_>) -> Result<bool, Refusal> {
+        // SAFETY: the cache was opened for this form, and this core has the only copy.
+        let code = unsafe { F::contains(&mut self.cache, key) };
+        match code {
+            ffi::MISSED => Ok(false),
+            code => done(code).map(|()| true),
+        }
+    }
+
     /// Gives back a pin of an entry that has a value.
     pub(crate) fn release(&mut self, stamp: u64, evicted: &mut Evicted<V>) {
         // SAFETY: both handles were opened for this form, and this core has the only copies.
@@ -184,6 +194,13 @@ impl<F: Form, V> Core<F, V> {
     pub(crate) fn total(&mut self) -> u64 {
         // SAFETY: the cache was opened for this form, and this core has the only copy.
         let told = unsafe { (Self::CALLS.total)(&mut self.cache) };
+        told.value
+    }
+
+    /// The number of entries.
+    pub(crate) fn len(&mut self) -> u64 {
+        // SAFETY: the cache was opened for this form, and this core has the only copy.
+        let told = unsafe { (Self::CALLS.len)(&mut self.cache) };
         told.value
     }
 

@@ -17,7 +17,8 @@ const SHARDS: NonZeroUsize = NonZeroUsize::new(16).unwrap();
 ///
 /// Each shard is an [`unsharded::LruCache`] with its own lock and an equal share of the capacity,
 /// rounded up. The hasher chooses the shard of a key. Threads contend less, but a value is evicted
-/// when its own shard is full.
+/// when its own shard is full. A shard whose share is smaller than a charge does not keep such a
+/// value once it is idle: with 16 shards, take a capacity of well over 16 charges, or fewer shards.
 ///
 /// # Examples
 ///
@@ -75,8 +76,19 @@ impl<K: Key + ?Sized, V, S> LruCache<K, V, S> {
         }
     }
 
-    /// Returns the total of the charges of all values, including those that are being made. The
-    /// shards are read one after another, so it is no snapshot if other threads call the cache.
+    /// Returns the number of values, including those that are being made, and those that were
+    /// invalidated or replaced and still have a handle. The shards are read one after another, so
+    /// it is no snapshot if other threads call the cache.
+    pub fn len(&self) -> u64 {
+        self.shards.iter().map(|shard| shard.len()).sum()
+    }
+
+    /// Returns whether [`len`](Self::len) is 0.
+    pub fn is_empty(&self) -> bool {
+        self.len() == 0
+    }
+
+    /// Returns the total of the charges of these values. No snapshot, as [`len`](Self::len).
     pub fn total_charge(&self) -> u128 {
         let totals = self.shards.iter().map(|shard| shard.total_charge());
         totals.map(u128::from).sum()
@@ -173,6 +185,20 @@ impl<K: Key + ?Sized, V, S: BuildHasher> LruCache<K, V, S> {
     {
         let handle = self.shard(key).insert(key, charge, value)?;
         Ok(CacheHandle(handle))
+    }
+
+    /// Returns whether the key has a value, as [`get`](Self::get) looks for it. Pins nothing, and
+    /// does not count as a use.
+    ///
+    /// # Errors
+    ///
+    /// As [`unsharded::LruCache::contains`].
+    pub fn contains<Q>(&self, key: &Q) -> Result<bool, Refusal>
+    where
+        K: Borrow<Q>,
+        Q: Key<Form = K::Form> + Hash + ?Sized,
+    {
+        self.shard(key).contains(key)
     }
 
     /// Takes the key's value away: the next caller that asks for the key makes a new one. Handles

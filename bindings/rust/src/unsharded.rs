@@ -122,11 +122,12 @@ impl<K: Key + ?Sized, V> LruCache<K, V> {
     ///
     /// # Errors
     ///
-    /// [`Refusal::ZeroCharge`] if `charge` is 0. [`Refusal::Overflow`] if the total of all charges
-    /// would exceed `u64::MAX` or the value has `u32::MAX` handles. [`Refusal::Memory`] if there is
-    /// no memory for a new entry. In these cases `init` does not run and nothing is evicted, with
-    /// one exception: if there is no memory to store the value that `init` has made, the call fails
-    /// with [`Refusal::Memory`] and the value is dropped, as if `init` had failed.
+    /// [`Refusal::ZeroCharge`] if `charge` is 0, even if the key has a value. [`Refusal::Overflow`]
+    /// if the total of all charges would exceed `u64::MAX` or the value has `u32::MAX` handles.
+    /// [`Refusal::Memory`] if there is no memory for a new entry. In these cases `init` does not
+    /// run and nothing is evicted, with one exception: if there is no memory to store the value
+    /// that `init` has made, the call fails with [`Refusal::Memory`] and the value is dropped, as
+    /// if `init` had failed.
     pub fn get_or_init<Q>(
         &self,
         key: &Q,
@@ -270,7 +271,33 @@ impl<K: Key + ?Sized, V> LruCache<K, V> {
         self.lock().core.prune(&mut evicted);
     }
 
-    /// Returns the total of the charges of all values, including those that are being made.
+    /// Returns whether the key has a value, as [`get`](Self::get) looks for it. Pins nothing, and
+    /// does not count as a use.
+    ///
+    /// # Errors
+    ///
+    /// [`Refusal::Memory`] if the key is longer than any before and there is no memory for a copy.
+    pub fn contains<Q>(&self, key: &Q) -> Result<bool, Refusal>
+    where
+        K: Borrow<Q>,
+        Q: Key<Form = K::Form> + ?Sized,
+    {
+        let written = key.written();
+        self.lock().core.contains(written)
+    }
+
+    /// Returns the number of values, including those that are being made, and those that were
+    /// invalidated or replaced and still have a handle.
+    pub fn len(&self) -> u64 {
+        self.lock().core.len()
+    }
+
+    /// Returns whether [`len`](Self::len) is 0.
+    pub fn is_empty(&self) -> bool {
+        self.len() == 0
+    }
+
+    /// Returns the total of the charges of these values.
     pub fn total_charge(&self) -> u64 {
         self.lock().core.total()
     }

@@ -52,9 +52,10 @@ fn an_entry_leaves_where_its_own_shard_is_full() -> Result<(), Refusal> {
         cache.get_or_init(&key, 1, |key| key * 10)?;
     }
     let is_there = |key| Ok::<_, Refusal>(cache.get(&key)?.as_deref() == Some(&(key * 10)));
-    assert!(!is_there(0)?);
+    assert!(!is_there(0)? && !cache.contains(&0)?);
     assert!(is_there(1)? && is_there(2)? && is_there(3)? && is_there(4)?);
-    assert_eq!(cache.total_charge(), 4);
+    assert!(cache.contains(&1)? && cache.contains(&4)? && !cache.is_empty());
+    assert_eq!((cache.total_charge(), cache.len()), (4, 4));
     Ok(())
 }
 

@@ -40,6 +40,27 @@ fn advice_evict_takes_only_what_no_handle_has() -> Result<(), Refusal> {
     Ok(())
 }
 
+#[test]
+fn contains_and_len_look_only() -> Result<(), Refusal> {
+    let cache = LruCache::<String, u32>::new(2)?;
+    assert!(!cache.contains("one")? && cache.is_empty());
+    // A value that is being made counts, and is not there yet.
+    let seen = cache.get_or_init("one", 1, |_| u32::from(cache.contains("one") == Ok(false)))?;
+    assert_eq!(*seen, 1);
+    drop(seen);
+    cache.get_or_init("two", 1, |_| 2)?;
+    assert!(cache.contains("one")? && cache.contains("two")? && cache.len() == 2);
+    // Not a use: the first value is still the oldest.
+    cache.get_or_init("three", 1, |_| 3)?;
+    assert!(!cache.contains("one")? && cache.contains("two")? && cache.contains("three")?);
+    let held = cache.get("two")?;
+    cache.invalidate("two")?;
+    assert!(!cache.contains("two")? && cache.len() == 2);
+    drop(held);
+    assert!(cache.contains("three")? && cache.len() == 1);
+    Ok(())
+}
+
 /// Records its number when it is dropped.
 struct Recorded {
     number: u32,

@@ -36,8 +36,19 @@ pub enum Failure {
     Usage(String),
     /// An argument is not UTF-8.
     NotUtf8,
+    /// The plot and the CSV file would go to the same place.
+    OneFile,
     /// Memory ran out.
     OutOfMemory,
+    /// The trace has no line.
+    NoUses,
+    /// The sample has `keys` keys, fewer than the `wanted` ones that an estimate needs.
+    FewKeys {
+        keys: usize,
+        wanted: usize,
+    },
+    /// No key of the sample is used twice, so the sample says nothing of hits.
+    NoReuse,
     /// A line of the trace is not a use: it has the word `found` where something else was expected.
     Line {
         line: u64,
@@ -89,8 +100,8 @@ impl Failure {
 
     /// Writes a message to `err`, and returns the exit status of the program.
     ///
-    /// The status is 2 if the arguments or a line of the trace are to blame, and otherwise 1. It is
-    /// also 1 if the message cannot be written.
+    /// The status is 2 if the arguments or the trace are to blame, and otherwise 1. It is also 1 if
+    /// the message cannot be written.
     pub fn report<E: Write>(self, err: &mut E) -> u8 {
         match writeln!(err, "lru_size: {self}") {
             Ok(()) => self.status(),
@@ -102,6 +113,10 @@ impl Failure {
         match self {
             Failure::Usage(_)
             | Failure::NotUtf8
+            | Failure::OneFile
+            | Failure::NoUses
+            | Failure::FewKeys { .. }
+            | Failure::NoReuse
             | Failure::Line { .. }
             | Failure::TwoCharges { .. } => 2,
             _ => 1,
@@ -114,7 +129,18 @@ impl fmt::Display for Failure {
         match self {
             Failure::Usage(text) => f.write_str(message_of(text.as_str())),
             Failure::NotUtf8 => write!(f, "an argument is not valid UTF-8"),
+            Failure::OneFile => write!(f, "--svg and --csv name the same file"),
             Failure::OutOfMemory => write!(f, "out of memory"),
+            Failure::NoUses => write!(f, "the trace is empty"),
+            Failure::FewKeys { keys, wanted } => write!(
+                f,
+                "too few keys in the sample: {keys}, and an estimate needs {wanted}; choose a \
+                    smaller N"
+            ),
+            Failure::NoReuse => write!(
+                f,
+                "no key in the sample is used twice, so hits cannot be estimated: choose a smaller N"
+            ),
             Failure::Line {
                 line,
                 expected,

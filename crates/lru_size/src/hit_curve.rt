@@ -61,8 +61,11 @@ impl HitCurve {
 
     /// Returns the least capacity with at least `percent` percent of the greatest hit ratio.
     /// `percent` is at most 100.
-    pub fn knee(&self, percent: u64) -> u64 {
+    ///
+    /// Returns `None` if that would be the capacity 0, at which no use hits: then no use hits at
+    /// any capacity, or the curve is estimated from too small a sample to tell.
+    pub fn knee(&self, percent: u64) -> Option<u64> {
         let hits = mul_div_ceil(self.most_hits(), percent, 100);
-        self.least_capacity(hits).unwrap_or(0)
+        self.least_capacity(hits).filter(|capacity| *capacity > 0)
     }
 }

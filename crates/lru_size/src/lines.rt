@@ -6,6 +6,9 @@ use lru_support::lines;
 use std::alloc::Global;
 use std::io::BufRead;
 
+// What some editors write at the head of a file.
+const BYTE_ORDER_MARK: char = '\u{feff}';
+
 /// A use of a key.
 #[derive(Clone, Copy)]
 pub struct Use<'a> {
@@ -63,6 +66,10 @@ impl<I: BufRead> Lines<I> {
         let Some(key) = words.next() else {
             return Err(self.error(Expected::Use, None));
         };
+        // It would be part of the first key, which would be another key than on later lines.
+        if key.starts_with(BYTE_ORDER_MARK) {
+            return Err(self.error(Expected::Use, Some(key)));
+        }
         let charge = match words.next() {
             Some(word) => self.parse_charge(word)?,
             None => 1,

@@ -5,11 +5,17 @@ use clap::error::ErrorKind;
 use clap::{Arg, ArgAction, ArgMatches, Command, Error, value_parser};
 use std::alloc::{AllocError, Global};
 
+/// The version of the program, which is that of the whole repository.
+const VERSION: &str = "1.0.0";
+
+/// The path that means standard output.
+const STANDARD_OUTPUT: &str = "-";
+
 /// What the arguments ask for.
 #[derive(Drop)]
 pub enum Request<'a> {
-    /// The help text, which is given here.
-    Help(String),
+    /// The help text or the version, which is given here.
+    Text(String),
     /// A hit curve.
     Size(Options<'a>),
 }
@@ -19,7 +25,7 @@ pub enum Request<'a> {
 pub struct Options<'a> {
     /// The capacities of the table's rows, in order. If empty, evenly spaced capacities are used.
     pub capacities: Vec<u64>,
-    /// The path to write the plot to; `-` is standard output.
+    /// The path to write the plot to; `-` is standard output. It is not that of the CSV file.
     pub svg: Option<&'a str>,
     /// The path to write the CSV file to; `-` is standard output.
     pub csv: Option<&'a str>,
@@ -34,7 +40,8 @@ impl<'a> Request<'a> {
     ///
     /// # Errors
     ///
-    /// `Usage` if the arguments are invalid, and `OutOfMemory` if memory runs out.
+    /// `Usage` if the arguments are invalid, `OneFile` if the plot and the CSV file would go to the
+    /// same place, and `OutOfMemory` if memory runs out.
     pub fn parse(alloc: Global, args: &'a [String]) -> Result<Request<'a>, Failure> {
         match command(alloc)?.try_get_matches_from(args) {
             Ok(matches) => Ok(Request::Size(Options::from_matches(alloc, &matches)?)),
@@ -42,7 +49,7 @@ impl<'a> Request<'a> {
         }
     }
 
-    // The parser reports a request for the help as an error too.
+    // The parser reports a request for the help or the version as an error too.
     fn from_error(alloc: Global, error: &Error) -> Result<Request<'a>, Failure> {
         if matches!(error.kind(), ErrorKind::OutOfMemory) {
             return Err(Failure::OutOfMemory);
@@ -51,13 +58,18 @@ impl<'a> Request<'a> {
         if error.use_stderr() {
             Err(Failure::Usage(text))
         } else {
-            Ok(Request::Help(text))
+            Ok(Request::Text(text))
         }
     }
 }
 
 impl<'a> Options<'a> {
-    fn from_matches(alloc: Global, matches: &ArgMatches<'a>) -> Result<Options<'a>, AllocError> {
+    /// Whether the plot or the CSV file goes to standard output, in place of the table.
+    pub fn replace_table(&self) -> bool {
+        self.svg == Some(STANDARD_OUTPUT) || self.csv == Some(STANDARD_OUTPUT)
+    }
+
+    fn from_matches(alloc: Global, matches: &ArgMatches<'a>) -> Result<Options<'a>, Failure> {
         let mut capacities = Vec::new(alloc);
         if let Some(values) = matches.get_many::<u64>("capacities") {
             for capacity in values {
@@ -67,10 +79,14 @@ impl<'a> Options<'a> {
                 }
             }
         }
+        let (svg, csv) = (matches.get_str("svg"), matches.get_str("csv"));
+        if svg.is_some() && svg == csv {
+            return Err(Failure::OneFile);
+        }
         Ok(Options {
             capacities,
-            svg: matches.get_str("svg"),
-            csv: matches.get_str("csv"),
+            svg,
+            csv,
             check: matches.get_one::<u64>("check"),
             sample: matches.get_one::<u64>("sample"),
         })
@@ -83,17 +99,19 @@ fn command<'a>(alloc: Global) -> Result<Command<'a>, AllocError> {
             "Reads a trace from standard input, a line KEY [CHARGE] for each use, and prints how \
             many uses hit at each capacity.",
         )
+        .version(VERSION)
         .no_binary_name(true)
         .arg(capacities(alloc))?
         .arg(file(
             alloc,
             "svg",
-            "Write the curve to FILE as an SVG image (- is standard output)",
+            "Write the curve to FILE as an SVG image; if FILE is -, to standard output, instead of \
+                the table",
         ))?
         .arg(file(
             alloc,
             "csv",
-            "Write the curve to FILE as CSV (- is standard output)",
+            "Write the curve to FILE as CSV; if FILE is -, to standard output, instead of the table",
         ))?
         .arg(check(alloc))?
         .arg(sample(alloc)?)
@@ -130,7 +148,7 @@ fn sample<'a>(alloc: Global) -> Result<Arg<'a>, AllocError> {
     Arg::new(alloc, "sample")
         .long("sample")
         .value_name("N")
-        .help("Estimate the curve from about one key in N")
+        .help("Estimate the curve from about one key in N, at least 100 keys")
         .action(ArgAction::Set)
         .value_parser(value_parser!(u64).range(1..))
         .conflicts_with("check")

@@ -175,18 +175,17 @@ impl<'a> Plot<'a> {
     // A mark at each knee, once if several are at one capacity. The labels are below the curve and
     // above it in turn, so that neighbors do not overlap.
     fn write_knees<O: Write>(&self, out: &mut O) -> io::Result<()> {
-        if self.curve.most_hits() == 0 {
-            return Ok(());
-        }
         let mut side = Side::Below;
         let mut previous = None;
         for percent in KNEES {
-            let capacity = self.curve.knee(percent);
-            if previous != Some(capacity) {
+            let knee = self.curve.knee(percent);
+            if let Some(capacity) = knee
+                && knee != previous
+            {
                 self.write_knee(capacity, side, out)?;
                 side = side.opposite();
             }
-            previous = Some(capacity);
+            previous = knee;
         }
         Ok(())
     }

@@ -18,6 +18,10 @@ use std::alloc::Global;
 use std::fs::{self, File, Files};
 use std::io::{BufRead, Write};
 
+/// The least number of sampled keys that a curve is estimated from. docs/SIZING.md has the errors
+/// that were measured with so many.
+const LEAST_KEYS: usize = 100;
+
 /// The streams of a run.
 #[derive(Drop)]
 pub struct Streams<'a, I, O, E> {
@@ -33,13 +37,14 @@ pub struct Streams<'a, I, O, E> {
 
 /// Runs the program with the arguments after its name, and returns its exit status.
 ///
-/// The trace is read to its end. The table then goes to `out`, and the plot and the CSV file go
-/// where the arguments say.
+/// The trace is read to its end. The plot and the CSV file then go where the arguments say, and the
+/// table goes to `out`, unless one of the two takes its place there.
 ///
-/// The exit status is 0 on success. It is 2 if the arguments are invalid, if a line of the trace is
-/// not a use, or if a key has two charges. It is 1 if reading or writing fails, if memory runs out,
-/// if the charges of the keys add up to more than `u64::MAX`, or if a replay contradicts the curve.
-/// On failure, a message that starts with the program's name goes to `err`.
+/// The exit status is 0 on success. It is 2 if the arguments are invalid, if the trace is empty, if
+/// a line of it is not a use, if a key has two charges, or if the sample is too small. It is 1 if
+/// reading or writing fails, if memory runs out, if the charges of the keys add up to more than
+/// `u64::MAX`, or if a replay contradicts the curve. On failure, a message that starts with the
+/// program's name goes to `err`, and nothing to `out` except what was written before a write failed.
 pub fn program<F: Files<File = File>, I: BufRead + Drop, O: Write, E: Write>(
     alloc: Global,
     files: &F,
@@ -69,13 +74,17 @@ fn run<F: Files<File = File>, I: BufRead + Drop, O: Write, E: Write>(
     progress: &mut Progress<'_, E>,
 ) -> Result<(), Failure> {
     match Request::parse(alloc, args)? {
-        Request::Help(text) => out.write_all(text.as_bytes())?,
+        Request::Text(text) => out.write_all(text.as_bytes())?,
         Request::Size(options) => {
             let sample = Sample::one_in(options.sample.unwrap_or(1));
             let trace = Trace::read(alloc, sample, &mut Lines::new(alloc, input), progress)?;
-            let curve = size(alloc, &options, &trace, out)?;
-            write_table(alloc, &curve, &options.capacities, out)?;
-            out.flush()?;
+            let mut table = Vec::new(alloc);
+            let curve = size(alloc, &options, &trace, &mut table)?;
+            write_table(alloc, &curve, &options.capacities, &mut table)?;
+            if !options.replace_table() {
+                out.write_all(&table)?;
+                out.flush()?;
+            }
             write_files(alloc, files, &options, &curve, out)?;
         }
     }
@@ -83,13 +92,17 @@ fn run<F: Files<File = File>, I: BufRead + Drop, O: Write, E: Write>(
     Ok(())
 }
 
-// Writes the lines about the trace to `out`, and computes the curve.
+// Writes the lines about the trace to `out`, and computes the curve. Fails with `NoUses` if the trace
+// is empty.
 fn size<O: Write>(
     alloc: Global,
     options: &Options<'_>,
     trace: &Trace,
     out: &mut O,
 ) -> Result<HitCurve, Failure> {
+    if trace.total_uses == 0 {
+        return Err(Failure::NoUses);
+    }
     if options.sample.is_some() {
         writeln!(
             out,
@@ -112,8 +125,19 @@ fn size<O: Write>(
     Ok(HitCurve::Exact(Curve::new(alloc, &trace.uses, &weights)?))
 }
 
-// Estimates the curve from the sampled uses.
+// Estimates the curve from the sampled uses. Fails with `FewKeys` or `NoReuse` if there are not all
+// keys in the sample, and too few for an estimate.
 fn estimate(alloc: Global, trace: &Trace) -> Result<HitCurve, Failure> {
+    let is_part = trace.sample.one_in > 1;
+    if is_part && trace.keys() < LEAST_KEYS {
+        return Err(Failure::FewKeys {
+            keys: trace.keys(),
+            wanted: LEAST_KEYS,
+        });
+    }
+    if is_part && trace.keys() == trace.uses.len() {
+        return Err(Failure::NoReuse);
+    }
     match Estimate::new(alloc, trace.sample, &trace.uses, trace.total_uses) {
         Ok(estimate) => Ok(HitCurve::Estimated(estimate)),
         // The place is one among the sampled uses, and so not a line.

@@ -119,11 +119,9 @@ fn write_knees<O: Write>(curve: &HitCurve, out: &mut O) -> io::Result<()> {
         curve.full_capacity()
     )?;
     for percent in KNEES {
-        writeln!(
-            out,
-            "{percent}% of it from capacity {} on",
-            curve.knee(percent)
-        )?;
+        if let Some(capacity) = curve.knee(percent) {
+            writeln!(out, "{percent}% of it from capacity {capacity} on")?;
+        }
     }
     Ok(())
 }

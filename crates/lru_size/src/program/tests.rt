@@ -8,7 +8,7 @@ use lru_support::writer::Limited;
 use std::alloc::Global;
 use std::env;
 use std::fs::{self, File, Files};
-use std::io::{BufRead, BufReader};
+use std::io::{BufRead, BufReader, Write};
 use std::rt::Env;
 use std::test::Fail;
 
@@ -68,10 +68,10 @@ fn prints_ten_capacities_by_default(rt: HostRuntime) -> Result<(), Fail> {
     assert_eq!(rt; output.status, 0);
     // A line about the trace, the header, ten rows and five lines of knees.
     assert_eq!(rt; output.out()?.lines().count(), 17);
-    let empty: &[u8] = b"";
-    let output = run(rt.alloc(), &rt, &[], empty, ROOM)?;
+    let once: &[u8] = b"a\nb\n";
+    let output = run(rt.alloc(), &rt, &[], once, ROOM)?;
     assert_eq!(rt; output.status, 0);
-    assert!(rt; output.out()?.starts_with("0 uses of 0 keys\n"));
+    assert!(rt; output.out()?.starts_with("2 uses of 2 keys\n"));
     assert!(rt; output.out()?.ends_with("\nno use hits at any capacity\n"));
     Ok(())
 }
@@ -113,11 +113,145 @@ fn estimates_from_all_keys(rt: HostRuntime) -> Result<(), Fail> {
     Ok(())
 }
 
+// A trace that uses the keys from 0 to `keys` this many times each, one after the other.
+fn rounds(alloc: Global, keys: u32, times: u32) -> Result<Vec<u8>, Fail> {
+    let mut trace = Vec::new(alloc);
+    for _ in 0..times {
+        for key in 0..keys {
+            writeln!(trace, "k{key}")?;
+        }
+    }
+    Ok(trace)
+}
+
+#[test]
+fn estimates_from_enough_keys(rt: HostRuntime) -> Result<(), Fail> {
+    let trace = rounds(rt.alloc(), 1_000, 2)?;
+    let output = run(rt.alloc(), &rt, &["--sample", "4"], trace.as_slice(), ROOM)?;
+    assert_eq!(rt; output.err()?, "");
+    assert_eq!(rt; output.status, 0);
+    assert!(rt; output.out()?.starts_with("2000 uses, "));
+    // half of the uses hit where there is room for all keys
+    assert!(rt; output.out()?.contains("\ngreatest hit ratio 5"));
+    assert!(rt; !output.out()?.contains("capacity 0 on"));
+    Ok(())
+}
+
+// Among so many hits of one key that is not in the sample, the sample does not tell where the rest
+// begins: these lines are left out.
+#[test]
+fn prints_no_knee_at_capacity_zero(rt: HostRuntime) -> Result<(), Fail> {
+    let mut trace = rounds(rt.alloc(), 1_000, 2)?;
+    for _ in 0..20_000u32 {
+        trace.write_all(b"hot\n")?;
+    }
+    let output = run(rt.alloc(), &rt, &["--sample", "4"], trace.as_slice(), ROOM)?;
+    assert_eq!(rt; (output.status, output.err()?), (0, ""));
+    assert!(rt; output.out()?.contains("\ngreatest hit ratio 9"));
+    assert!(rt; !output.out()?.contains("% of it from"));
+    let plot = run(
+        rt.alloc(),
+        &rt,
+        &["--sample", "4", "--svg", "-"],
+        trace.as_slice(),
+        ROOM,
+    )?;
+    assert_eq!(rt; (plot.status, plot.err()?), (0, ""));
+    assert!(rt; !plot.out()?.contains("<circle"));
+    Ok(())
+}
+
+#[test]
+fn rejects_samples_that_are_too_small(rt: HostRuntime) -> Result<(), Fail> {
+    let alloc = rt.alloc();
+    let (few, once) = (rounds(alloc, 90, 5)?, rounds(alloc, 1_000, 1)?);
+    let cases: [(&[u8], &str, &str); 3] = [
+        (
+            few.as_slice(),
+            "1000000",
+            "too few keys in the sample: 0, and an estimate needs 100; choose a smaller N",
+        ),
+        (
+            few.as_slice(),
+            "2",
+            ", and an estimate needs 100; choose a smaller N",
+        ),
+        (
+            once.as_slice(),
+            "2",
+            "no key in the sample is used twice, so hits cannot be estimated: choose a smaller N",
+        ),
+    ];
+    for (trace, one_in, message) in cases {
+        let output = run(alloc, &rt, &["--sample", one_in], trace, ROOM)?;
+        assert_eq!(rt; output.status, 2, "at {message}");
+        assert_eq!(rt; output.out()?, "", "at {message}");
+        let wanted = format!(in alloc; "{message}\n")?;
+        assert!(rt; output.err()?.ends_with(wanted.as_str()), "at {message}");
+    }
+    // all keys are a sample of any size
+    for trace in [few.as_slice(), once.as_slice()] {
+        let output = run(alloc, &rt, &["--sample", "1"], trace, ROOM)?;
+        assert_eq!(rt; output.status, 0);
+    }
+    Ok(())
+}
+
+#[test]
+fn rejects_an_empty_trace(rt: HostRuntime) -> Result<(), Fail> {
+    let empty: &[u8] = b"";
+    let cases: [&[&str]; 3] = [&[], &["--sample", "2"], &["--csv", "-"]];
+    for args in cases {
+        let output = run(rt.alloc(), &rt, args, empty, ROOM)?;
+        output.ends_with(&args, 2, "", "lru_size: the trace is empty\n")?;
+    }
+    Ok(())
+}
+
+#[test]
+fn writes_one_thing_to_standard_output(rt: HostRuntime) -> Result<(), Fail> {
+    let svg = run(
+        rt.alloc(),
+        &rt,
+        &["--svg", "-", "--check", "7"],
+        TRACE,
+        ROOM,
+    )?;
+    assert_eq!(rt; (svg.status, svg.err()?), (0, ""));
+    assert!(rt; svg.out()?.starts_with("<svg ") && svg.out()?.ends_with("</svg>\n"));
+    let csv = run(
+        rt.alloc(),
+        &rt,
+        &["--csv", "-", "--capacities", "5"],
+        TRACE,
+        ROOM,
+    )?;
+    assert_eq!(rt; (csv.status, csv.err()?), (0, ""));
+    assert!(rt; csv.out()?.starts_with("capacity,uses,hits,charge_made\n"));
+    assert!(rt; csv.out()?.ends_with("\n12,7,3,14\n"));
+    for path in ["-", "same"] {
+        let both = run(
+            rt.alloc(),
+            &rt,
+            &["--svg", path, "--csv", path],
+            TRACE,
+            ROOM,
+        )?;
+        let wanted = "lru_size: --svg and --csv name the same file\n";
+        both.ends_with(&path, 2, "", wanted)?;
+    }
+    Ok(())
+}
+
 #[test]
 fn rejects_invalid_lines(rt: HostRuntime) -> Result<(), Fail> {
     let charge = "expected a charge from 1 to 18446744073709551615, found";
     let alloc = rt.alloc();
-    let cases: [(&[u8], String); 8] = [
+    let cases: [(&[u8], String); 9] = [
+        (
+            b"\xef\xbb\xbfa\na\n",
+            format!(in alloc; "line 1: expected KEY [CHARGE], found \"\\u{{feff}}a\"")?,
+        ),
         (
             b"a\n\nb\n",
             format!(in alloc; "line 2: expected KEY [CHARGE]")?,
@@ -206,6 +340,20 @@ fn prints_its_help(rt: HostRuntime) -> Result<(), Fail> {
 }
 
 #[test]
+fn prints_its_version(rt: HostRuntime) -> Result<(), Fail> {
+    for word in ["--version", "-V"] {
+        let output = run(rt.alloc(), &rt, &[word], TRACE, ROOM)?;
+        assert_eq!(rt; (output.status, output.err()?), (0, ""));
+        let version = output.out()?.strip_prefix("lru_size ");
+        assert!(rt;
+            version.is_some_and(|it| it.split('.').count() == 3),
+            "at {word}"
+        );
+    }
+    Ok(())
+}
+
+#[test]
 fn fails_if_the_input_cannot_be_read(rt: HostRuntime) -> Result<(), Fail> {
     let input = BufReader::new(rt.alloc(), Broken(b"a 2\nb"))?;
     let output = run(rt.alloc(), &rt, &[], input, ROOM)?;
@@ -267,6 +415,6 @@ fn writes_files(rt: HostRuntime) -> Result<(), Fail> {
     );
     assert!(rt; csv.as_str().ends_with("\n12,7,3,14\n"));
     let output = run(rt.alloc(), &rt, &["--csv", "-"], TRACE, ROOM)?;
-    assert!(rt; output.out()?.ends_with(csv.as_str()));
+    assert_eq!(rt; output.out()?, csv.as_str());
     Ok(())
 }
