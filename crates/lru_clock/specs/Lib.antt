@@ -1,0 +1,3 @@
+-- The definitions that the contracts of the clock cite.
+pub mod Pins
+pub mod Turns

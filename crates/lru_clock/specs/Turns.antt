@@ -1,0 +1,10 @@
+-- What a caller that found no entry is to do.
+use Rattle.std.specs.Prelude.{⊤}
+use Rattle.lru_clock.specs.Pins.{PinOf}
+use Rattle.lru_clock.specs.declared.shard.Turn.{Turn}
+use Rattle.lru_clock.specs.declared.shard.Turn.TheVariants as turn
+
+-- P of the pin, if the entry is there
+abbrev pub IfHit : {K V F : Type 0} → Turn K V F → (PinOf K V → Type 0) → Type 0
+IfHit (turn.Make t) P = ⊤
+IfHit (turn.Hit n p) P = P p

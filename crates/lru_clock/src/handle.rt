@@ -1,0 +1,118 @@
+//! Handles, each of which pins the value that it reads.
+//!
+//! Neither reading nor dropping one acquires a lock, except as `Drop` says.
+ghost use Rattle.std.specs.Prelude.{◌≡◌};
+
+use crate::shard::Shard;
+use crate::slot::{Pin, Released};
+use concurrent_lru::fit::{Anything, Fit};
+use std::fmt;
+use std::hash::Hash;
+use std::marker::Model;
+use std::ops::Deref;
+use std::snapshot::Snapshot;
+use std::sync::Wait;
+
+/// A pinned value: its entry is neither freed nor evicted while the handle exists. A handle that is
+/// forgotten keeps its pin forever.
+///
+/// Clauses see the key and the charge that were asked for (`get` has no charge), and the value,
+/// which fits that key by the mark `F`.
+pub struct CacheHandle<'a, K: Hash + Eq + Clone, V, R: Wait, F: Fit<K, V> = Anything> {
+    rt: &'a R,
+    shard: &'a Shard<K, V, F>,
+    place: u32,
+    pin: Pin<'a, K, V, F>,
+    charge: Snapshot<Option<u64>>,
+}
+
+impl<'a, K: Hash + Eq + Clone, V, R: Wait, F: Fit<K, V>> Model for CacheHandle<'a, K, V, R, F> {
+    ghost use Rattle.concurrent_lru.specs.Pins.{HandleOf};
+
+    ghost Value = { HandleOf K V };
+
+    ghost view = { λ h. record { key = h.pin.key; charge = h.charge.value; value = h.pin.value } };
+}
+
+impl<'a, K: Hash + Eq + Clone, V, R: Wait, F: Fit<K, V>> CacheHandle<'a, K, V, R, F> {
+    // Creates a handle of a pin, with the shard and the place where it was acquired.
+    #[inline(always)]
+    pub(crate) fn new(
+        rt: &'a R,
+        shard: &'a Shard<K, V, F>,
+        place: u32,
+        pin: Pin<'a, K, V, F>,
+        charge: Option<u64>,
+    ) -> Self
+        ensures key { result.key ≡ pin.entry.key }
+        ensures charge { result.charge ≡ charge }
+        ensures value { result.value ≡ pin.entry.value }
+    {
+        CacheHandle {
+            rt,
+            shard,
+            place,
+            pin,
+            charge: Snapshot::of(&charge),
+        }
+    }
+
+    /// Returns the value. Acquires no lock.
+    #[inline(always)]
+    pub fn value(&self) -> &V
+        ensures value { result.now ≡ self.now.value }
+        ensures fits { F.fits self.now.key result.now }
+    {
+        self.pin.value()
+    }
+}
+
+impl<'a, K: Hash + Eq + Clone, V, R: Wait, F: Fit<K, V>> Deref for CacheHandle<'a, K, V, R, F> {
+    type Target = V;
+
+    ghost deref_gives = { λ h v. v ≡ h.value };
+
+    #[inline(always)]
+    fn deref(&self) -> &V
+        ensures value { result.now ≡ self.now.value }
+        ensures fits { F.fits self.now.key result.now }
+    {
+        self.value()
+    }
+}
+
+// Prints as the value does.
+impl<'a, K: Hash + Eq + Clone, V: fmt::Debug, R: Wait, F: Fit<K, V>> fmt::Debug
+    for CacheHandle<'a, K, V, R, F> {
+    ghost debug_output = { λ h. V.debug_output h.value };
+
+    fn fmt<W: fmt::Write>(&self, f: &mut fmt::Formatter<W>) -> fmt::Result {
+        fmt::Debug::fmt(self.value(), f)
+    }
+}
+
+// Releases the pin without a lock. The last release of an invalidated entry takes it out under the
+// lock. The last release of another entry, if the total is above the capacity, evicts down to it if
+// the lock is free.
+impl<K: Hash + Eq + Clone + Drop, V: Drop, R: Wait, F: Fit<K, V>> Drop
+    for CacheHandle<'_, K, V, R, F> {
+    #[inline(always)]
+    fn drop(self) {
+        let Self {
+            rt,
+            shard,
+            place,
+            pin,
+            charge: _,
+        } = self;
+        match pin.release() {
+            Released::Pinned => {}
+            Released::Idle => {
+                if shard.is_above() {
+                    shard.settle();
+                }
+            }
+            Released::Invalidated => shard.take_invalidated(rt, place),
+        }
+    }
+}

@@ -1,0 +1,83 @@
+//! The keys whose values are being made, under the lock of a shard.
+
+use std::alloc::{AllocError, Global};
+
+// A key whose value is being made, under a ticket that no other making has had.
+#[derive(Drop)]
+struct Making<K> {
+    key: K,
+    ticket: u64,
+}
+
+/// The keys whose values are being made, and how many callers wait for one of them.
+#[derive(Drop)]
+pub struct Makings<K> {
+    makings: Vec<Making<K>>,
+    next_ticket: u64,
+    waiting: u64,
+}
+
+impl<K: Eq + Drop> Makings<K> {
+    /// Creates an empty list.
+    pub fn new(alloc: Global) -> Self {
+        Makings {
+            makings: Vec::new(alloc),
+            next_ticket: 0,
+            waiting: 0,
+        }
+    }
+
+    /// Returns whether the key's value is being made.
+    pub fn contains(&self, key: &K) -> bool {
+        self.makings.iter().any(|making| making.key == *key)
+    }
+
+    /// Begins the making of a key's value, and returns its ticket.
+    ///
+    /// Returns `AllocError` if the allocator refuses.
+    pub fn begin(&mut self, key: K) -> Result<u64, AllocError> {
+        let ticket = self.next_ticket;
+        self.makings.push(Making { key, ticket })?;
+        self.next_ticket = ticket.wrapping_add(1);
+        Ok(ticket)
+    }
+
+    /// Ends a making, and returns its key unless the key was invalidated meanwhile.
+    pub fn end(&mut self, ticket: u64) -> Option<K> {
+        let at = self
+            .makings
+            .iter()
+            .position(|making| making.ticket == ticket)?;
+        self.remove(at)
+    }
+
+    /// Invalidates the making of a key's value: callers that come from now on make another. Returns
+    /// the key that it had.
+    pub fn invalidate(&mut self, key: &K) -> Option<K> {
+        let at = self.makings.iter().position(|making| making.key == *key)?;
+        self.remove(at)
+    }
+
+    fn remove(&mut self, at: usize) -> Option<K> {
+        if at >= self.makings.len() {
+            return None;
+        }
+        let Making { key, ticket: _ } = self.makings.swap_remove(at);
+        Some(key)
+    }
+
+    /// One caller more waits.
+    pub fn add_waiting(&mut self) {
+        self.waiting = self.waiting.wrapping_add(1);
+    }
+
+    /// A caller has waited.
+    pub fn remove_waiting(&mut self) {
+        self.waiting = self.waiting.wrapping_sub(1);
+    }
+
+    /// Returns whether a caller waits.
+    pub fn has_waiting(&self) -> bool {
+        self.waiting != 0
+    }
+}

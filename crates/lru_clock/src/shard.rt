@@ -1,0 +1,244 @@
+//! A shard: its slots and their index, and the lock of those who change them.
+//!
+//! Each time that the lock is held, one entry leaves at the most, and it is dropped after the lock
+//! is released. So nothing is collected under the lock, and a call that evicts several entries
+//! takes the lock as many times.
+ghost use Rattle.std.specs.Prelude.{◌≡◌, ◌≢◌, ◌<◌, IfErr, IfOk, IfSome, true};
+ghost use Rattle.concurrent_lru.specs.Cache.{CopiesAreEqual};
+ghost use Rattle.lru_clock.specs.Turns.{IfHit};
+
+mod changes;
+mod looks;
+
+use crate::desk::Desk;
+use crate::seats::Seat;
+use crate::slot::{Kept, Leaver, Pin, Slot};
+use crate::store::Store;
+use concurrent_lru::fit::Fit;
+use concurrent_lru::sharded::Refusal;
+use crossbeam_utils::CachePadded;
+use std::alloc::{AllocError, Global};
+use std::hash::Hash;
+use std::marker::PhantomData;
+use std::sync::atomic::AtomicBool;
+use std::sync::atomic::Ordering::SeqCst;
+use std::sync::{Condvar, Mutex, MutexGuard, Wait};
+
+/// A shard of a cache.
+#[derive(Drop)]
+pub struct Shard<K: Hash + Eq + Clone, V, F: Fit<K, V>> {
+    store: Store<K, V, F>,
+    most_pins: u64,
+    // Whether the total was above the capacity when the lock was last released.
+    is_above: AtomicBool,
+    alloc: Global,
+    desk: CachePadded<Mutex<Desk<K>>>,
+    // Wakes those who wait for a value that another caller makes.
+    made: CachePadded<Condvar>,
+    ghost within: { most_pins < 1073741823 },
+    ghost copies: { CopiesAreEqual K.is_clone K.eq },
+}
+
+/// What a caller that found no entry is to do.
+pub enum Turn<'a, K: Eq, V, F: Fit<K, V>> {
+    /// Make the value, under this ticket.
+    Make(u64),
+    /// Nothing: the entry is there.
+    Hit(u32, Pin<'a, K, V, F>),
+}
+
+impl<K: Hash + Eq + Clone + Drop, V: Drop, F: Fit<K, V>> Shard<K, V, F> {
+    /// Creates a shard without entries.
+    ///
+    /// Returns `AllocError` if the allocator refuses.
+    pub fn new(alloc: Global, capacity: u64, most_pins: u64) -> Result<Self, AllocError>
+        requires within { most_pins < 1073741823 }
+        requires copies { CopiesAreEqual K.is_clone K.eq }
+    {
+        Ok(Shard {
+            store: Store::new(alloc)?,
+            most_pins,
+            is_above: AtomicBool::new(false),
+            alloc,
+            desk: CachePadded::new(Mutex::new(Desk::new(alloc, capacity))),
+            made: CachePadded::new(Condvar::new()),
+        })
+    }
+
+    #[inline(always)]
+    fn slot(&self, place: u32) -> Option<&Slot<K, V, F>> {
+        self.store.slot(place)
+    }
+
+    fn lock<R: Wait>(&self, rt: &R) -> MutexGuard<'_, Desk<K>> {
+        match self.desk.try_lock() {
+            Some(guard) => guard,
+            None => self.desk.lock(rt),
+        }
+    }
+
+    // Releases the lock, and then drops the entry that left under it.
+    fn unlock(&self, guard: MutexGuard<'_, Desk<K>>, leaver: Leaver<K, V, F>) {
+        let is_above = guard.is_above(0);
+        if self.is_above.load(SeqCst) != is_above {
+            self.is_above.store(is_above, SeqCst);
+        }
+        if let Some(sealed) = leaver {
+            drop(sealed.open(guard));
+        }
+    }
+
+    // Wakes the callers that wait for a making.
+    fn wake(&self, desk: &Desk<K>) {
+        if desk.makings.has_waiting() {
+            self.made.notify_all();
+        }
+    }
+
+    // An entry has left its slot.
+    fn vacate(&self, desk: &mut Desk<K>, place: u32) {
+        if let Some(seat) = desk.seats.get(place) {
+            if seat.is_listed {
+                self.unlist(desk, place, seat.tag);
+            }
+        }
+        desk.seats.vacate(place);
+        desk.counts.evictions = desk.counts.evictions.wrapping_add(1);
+    }
+
+    fn unlist(&self, desk: &mut Desk<K>, place: u32, tag: u32) {
+        if let Some(index) = self.store.index() {
+            index.remove(tag, place);
+        }
+        desk.seats.unlist(place);
+    }
+
+    // Evicts one entry if one charge more would take the total above the capacity.
+    fn make_room(&self, desk: &mut Desk<K>, charge: u64) -> Leaver<K, V, F> {
+        if desk.is_above(charge) {
+            self.evict(desk)
+        } else {
+            None
+        }
+    }
+
+    // Moves the hand of the clock until an entry leaves. After four rounds each entry that nobody
+    // has pinned or used has lost its chances and left.
+    fn evict(&self, desk: &mut Desk<K>) -> Leaver<K, V, F> {
+        for _ in 0..desk.seats.len().wrapping_mul(4) {
+            let place = desk.move_hand();
+            if let Some(slot) = self.slot(place) {
+                if let Some(leaver) = slot.pass() {
+                    self.vacate(desk, place);
+                    return Some(leaver);
+                }
+            }
+        }
+        None
+    }
+
+    // Acquires the lock once there is room for a charge, or nothing more that can leave.
+    fn lock_with_room<R: Wait>(
+        &self,
+        rt: &R,
+        charge: u64,
+    ) -> (MutexGuard<'_, Desk<K>>, Leaver<K, V, F>) {
+        for _ in rt.forever() {
+            let mut guard = self.lock(rt);
+            let leaver = self.make_room(&mut guard, charge);
+            if leaver.is_none() || !guard.is_above(charge) {
+                return (guard, leaver);
+            }
+            self.unlock(guard, leaver);
+        }
+        unreachable!()
+    }
+
+    // Sees that an entry of this charge can be stored: that there is a vacant place, and that the
+    // sum of the charges stays within a `u64`.
+    fn admit(&self, desk: &mut Desk<K>, charge: u64) -> Result<(), Refusal>
+        ensures { IfErr result (λ e. e ≢ Refusal.Stale) }
+    {
+        if desk.seats.total().checked_add(charge).is_none() {
+            return Err(Refusal::Overflow);
+        }
+        if desk.seats.has_vacant() {
+            return Ok(());
+        }
+        self.store.grow(self.alloc, &mut desk.seats)
+    }
+
+    // Stores an entry in a vacant place, and pins it without a chance. If it is not listed, it was
+    // invalidated before it came, and only this caller gets it.
+    //
+    // Returns the entry with the refusal if it is refused.
+    fn put(
+        &self,
+        desk: &mut Desk<K>,
+        seat: Seat,
+        key: &K,
+        kept: Kept<K, V, F>,
+    ) -> Result<(u32, Pin<'_, K, V, F>), (Refusal, Option<Kept<K, V, F>>)>
+        requires fits { F.fits kept.key kept.value }
+        ensures pin { IfOk result
+            (λ found. (found.1.key ≡ key.now) × F.fits key.now found.1.value) }
+        ensures never_stale { IfErr result (λ e. e.0 ≢ Refusal.Stale) }
+    {
+        let place = match self.seat(desk, seat) {
+            Ok(place) => place,
+            Err(refusal) => return Err((refusal, Some(kept))),
+        };
+        let Some(slot) = self.slot(place) else {
+            desk.seats.vacate(place);
+            return Err((Refusal::Overflow, Some(kept)));
+        };
+        if let Err(kept) = slot.fill(kept, !seat.is_listed) {
+            desk.seats.vacate(place);
+            return Err((Refusal::Overflow, Some(kept)));
+        }
+        // Nobody else can have pinned it so often, or taken it out under the lock.
+        let Ok(Some(pin)) = self.pin_new(slot, key, seat.is_listed) else {
+            return Err((Refusal::Overflow, None));
+        };
+        if seat.is_listed {
+            if let Some(index) = self.store.index() {
+                index.add(seat.tag, place);
+            }
+        }
+        Ok((place, pin))
+    }
+
+    // Pins an entry that was just stored. A caller with an old word of the index may find its slot,
+    // so an entry that is not listed must be hidden from the start.
+    fn pin_new<'a>(
+        &self,
+        slot: &'a Slot<K, V, F>,
+        key: &K,
+        is_listed: bool,
+    ) -> Result<Option<Pin<'a, K, V, F>>, Refusal>
+        ensures pin { IfOk result (λ found. IfSome found
+            (λ p. (p.key ≡ key.now) × F.fits key.now p.value)) }
+        ensures refused { IfErr result (λ e. e ≡ Refusal.Overflow) }
+    {
+        if is_listed {
+            slot.pin(key, self.most_pins, false)
+        } else {
+            slot.pin_invalidated(key)
+        }
+    }
+
+    // Takes a vacant place and counts its entry.
+    fn seat(&self, desk: &mut Desk<K>, seat: Seat) -> Result<u32, Refusal>
+        ensures { IfErr result (λ e. e ≢ Refusal.Stale) }
+    {
+        self.admit(desk, seat.charge)?;
+        let Some(place) = desk.seats.take_vacant() else {
+            return Err(Refusal::Overflow);
+        };
+        if !desk.seats.set(place, seat) {
+            desk.seats.give_back(place);
+            return Err(Refusal::Overflow);
+        }
+        Ok(place)
+    }
+}

@@ -1,0 +1,274 @@
+//! The calls that change a shard. Each holds the lock once for each entry that leaves, and once
+//! more for what it changes itself.
+ghost use Rattle.std.specs.Prelude.{◌≡◌, ◌≢◌, ◌<◌, IfErr, IfOk, IfSome};
+ghost use Rattle.concurrent_lru.specs.Cache.{CopiesAreEqual};
+
+use crate::desk::Desk;
+use crate::seats::Seat;
+use crate::shard::Shard;
+use crate::slot::{Kept, Leaver, Pin};
+use concurrent_lru::fit::Fit;
+use concurrent_lru::sharded::Refusal;
+use std::hash::Hash;
+use std::marker::PhantomData;
+use std::sync::Wait;
+
+impl<K: Hash + Eq + Clone + Drop, V: Drop, F: Fit<K, V>> Shard<K, V, F> {
+    // Copies the key of a new entry.
+    fn new_entry(&self, key: &K, value: V) -> Result<Kept<K, V, F>, Refusal>
+        requires fits { F.fits key.now value }
+        ensures fits { IfOk result (λ kept. F.fits kept.key kept.value) }
+        ensures err { IfErr result (λ e. e ≡ Refusal.Memory) }
+    {
+        Ok(Kept {
+            key: key.clone()?,
+            value,
+            mark: PhantomData,
+        })
+    }
+
+    /// Stores the value that was made under a ticket, ends the making, and returns a pin of the
+    /// entry. A value whose key was invalidated meanwhile is stored for this caller alone.
+    ///
+    /// Returns `Memory` and `Overflow` if the entry is refused; the making then counts as failed.
+    #[inline(never)]
+    pub fn finish<R: Wait>(
+        &self,
+        rt: &R,
+        tag: u32,
+        key: &K,
+        charge: u64,
+        value: V,
+        ticket: u64,
+    ) -> Result<(u32, Pin<'_, K, V, F>), Refusal>
+        requires fits { F.fits key.now value }
+        ensures pin { IfOk result
+            (λ found. (found.1.key ≡ key.now) × F.fits key.now found.1.value) }
+        ensures never_stale { IfErr result (λ e. e ≢ Refusal.Stale) }
+    {
+        let kept = match self.new_entry(key, value) {
+            Ok(kept) => kept,
+            Err(refusal) => {
+                self.fail(rt, ticket);
+                return Err(refusal);
+            }
+        };
+        let (mut guard, leaver) = self.lock_with_room(rt, charge);
+        let making = guard.makings.end(ticket);
+        let seat = Seat {
+            charge,
+            tag,
+            is_listed: making.is_some(),
+        };
+        let stored = self.put(&mut guard, seat, key, kept);
+        if stored.is_ok() {
+            guard.counts.makings = guard.counts.makings.wrapping_add(1);
+        } else {
+            guard.counts.failures = guard.counts.failures.wrapping_add(1);
+        }
+        self.wake(&guard);
+        self.unlock(guard, leaver);
+        match stored {
+            Ok(found) => Ok(found),
+            Err((refusal, refused)) => {
+                drop(refused);
+                Err(refusal)
+            }
+        }
+    }
+
+    /// Ends a making that failed.
+    pub fn fail<R: Wait>(&self, rt: &R, ticket: u64) {
+        let mut guard = self.lock(rt);
+        let making = guard.makings.end(ticket);
+        guard.counts.failures = guard.counts.failures.wrapping_add(1);
+        self.wake(&guard);
+        drop(guard);
+        drop(making);
+    }
+
+    /// Stores a value, replacing what the key has, and returns a pin of the entry.
+    ///
+    /// Returns `Memory` and `Overflow` if the entry is refused; what the key has then stays.
+    pub fn insert<R: Wait>(
+        &self,
+        rt: &R,
+        tag: u32,
+        key: &K,
+        charge: u64,
+        value: V,
+    ) -> Result<(u32, Pin<'_, K, V, F>), Refusal>
+        requires fits { F.fits key.now value }
+        ensures pin { IfOk result
+            (λ found. (found.1.key ≡ key.now) × F.fits key.now found.1.value) }
+        ensures never_stale { IfErr result (λ e. e ≢ Refusal.Stale) }
+    {
+        let kept = self.new_entry(key, value)?;
+        for _ in rt.forever() {
+            let mut guard = self.lock(rt);
+            if let Err(refusal) = self.admit(&mut guard, charge) {
+                drop(guard);
+                return Err(refusal);
+            }
+            let leaver = self.replace(&mut guard, tag, key, charge);
+            if leaver.is_some() && guard.is_above(charge) {
+                self.unlock(guard, leaver);
+                continue;
+            }
+            let making = guard.makings.invalidate(key);
+            let seat = Seat {
+                charge,
+                tag,
+                is_listed: true,
+            };
+            let stored = self.put(&mut guard, seat, key, kept);
+            guard.counts.insertions = guard.counts.insertions.wrapping_add(1);
+            self.wake(&guard);
+            self.unlock(guard, leaver);
+            drop(making);
+            return match stored {
+                Ok(found) => Ok(found),
+                Err((refusal, refused)) => {
+                    drop(refused);
+                    Err(refusal)
+                }
+            };
+        }
+        unreachable!()
+    }
+
+    // Invalidates the key's entry. If that does not make it leave, another one may leave to make
+    // room for the charge.
+    fn replace(&self, desk: &mut Desk<K>, tag: u32, key: &K, charge: u64) -> Leaver<K, V, F> {
+        match self.invalidate_entry(desk, tag, key) {
+            Some(leaver) => Some(leaver),
+            None => self.make_room(desk, charge),
+        }
+    }
+
+    // Invalidates the key's entry, which leaves if nobody has pinned it.
+    fn invalidate_entry(&self, desk: &mut Desk<K>, tag: u32, key: &K) -> Leaver<K, V, F> {
+        let place = self.place_of(tag, key)?;
+        let slot = self.slot(place)?;
+        slot.mark();
+        self.unlist(desk, place, tag);
+        let leaver = slot.take_invalidated();
+        if leaver.is_some() {
+            self.vacate(desk, place);
+        }
+        leaver
+    }
+
+    /// Invalidates the key's entry, and the making of its value.
+    pub fn invalidate<R: Wait>(&self, rt: &R, tag: u32, key: &K) {
+        let mut guard = self.lock(rt);
+        let leaver = self.invalidate_entry(&mut guard, tag, key);
+        let making = guard.makings.invalidate(key);
+        self.wake(&guard);
+        self.unlock(guard, leaver);
+        drop(making);
+    }
+
+    /// Evicts the key's entry if nobody has pinned it, whatever its chances.
+    pub fn advise<R: Wait>(&self, rt: &R, tag: u32, key: &K) {
+        let mut guard = self.lock(rt);
+        let leaver = match self.place_of(tag, key) {
+            Some(place) => self.take_idle(&mut guard, place),
+            None => None,
+        };
+        self.unlock(guard, leaver);
+    }
+
+    // Evicts the entry of a place if nobody has pinned it.
+    fn take_idle(&self, desk: &mut Desk<K>, place: u32) -> Leaver<K, V, F> {
+        let leaver = self.slot(place)?.take_idle();
+        if leaver.is_some() {
+            self.vacate(desk, place);
+        }
+        leaver
+    }
+
+    /// Evicts every entry that nobody has pinned, whatever its chances.
+    pub fn prune<R: Wait>(&self, rt: &R) {
+        let mut next = 0;
+        for _ in rt.forever() {
+            let mut guard = self.lock(rt);
+            let leaver = self.take_next_idle(&mut guard, &mut next);
+            let is_done = leaver.is_none();
+            self.unlock(guard, leaver);
+            if is_done {
+                return;
+            }
+        }
+        unreachable!()
+    }
+
+    // Evicts the first entry from a place on that nobody has pinned.
+    fn take_next_idle(&self, desk: &mut Desk<K>, next: &mut u32) -> Leaver<K, V, F> {
+        for place in *next..desk.seats.places() {
+            if let Some(leaver) = self.take_idle(desk, place) {
+                *next = place;
+                return Some(leaver);
+            }
+        }
+        None
+    }
+
+    /// Sets the capacity, and evicts down to it.
+    pub fn set_capacity<R: Wait>(&self, rt: &R, capacity: u64) {
+        let mut guard = self.lock(rt);
+        guard.capacity = capacity;
+        self.unlock(guard, None);
+        let (guard, leaver) = self.lock_with_room(rt, 0);
+        self.unlock(guard, leaver);
+    }
+
+    /// Adds slots until there are so many.
+    ///
+    /// Returns `Memory` and `Overflow` as `Store::grow` does. No entry changes.
+    pub fn reserve<R: Wait>(&self, rt: &R, entries: usize) -> Result<(), Refusal>
+        ensures { IfErr result (λ e. e ≢ Refusal.Stale) }
+    {
+        let mut guard = self.lock(rt);
+        for _ in guard.seats.len()..entries {
+            self.store.grow(self.alloc, &mut guard.seats)?;
+        }
+        Ok(())
+    }
+
+    /// Takes out an invalidated entry whose last pin was released.
+    #[inline(never)]
+    pub fn take_invalidated<R: Wait>(&self, rt: &R, place: u32) {
+        let mut guard = self.lock(rt);
+        let leaver = match self.slot(place) {
+            Some(slot) => slot.take_invalidated(),
+            None => None,
+        };
+        if leaver.is_some() {
+            self.vacate(&mut guard, place);
+        }
+        self.unlock(guard, leaver);
+    }
+
+    /// Returns whether the total was above the capacity when the lock was last released.
+    #[inline(always)]
+    pub fn is_above(&self) -> bool {
+        self.is_above.load(std::sync::atomic::Ordering::SeqCst)
+    }
+
+    /// Evicts down to the capacity, for as long as the lock is free.
+    #[inline(never)]
+    pub fn settle(&self) {
+        for _ in 0..u64::MAX {
+            let Some(mut guard) = self.desk.try_lock() else {
+                return;
+            };
+            let leaver = self.make_room(&mut guard, 0);
+            let is_done = leaver.is_none() || !guard.is_above(0);
+            self.unlock(guard, leaver);
+            if is_done {
+                return;
+            }
+        }
+    }
+}

@@ -1,0 +1,213 @@
+//! The calls that look at a shard: hits, without the lock; and under it a second look, the start
+//! of a making, and sums.
+ghost use Rattle.std.specs.Prelude.{◌≡◌, ◌≢◌, ◌<◌, IfErr, IfOk, IfSome};
+ghost use Rattle.concurrent_lru.specs.Cache.{CopiesAreEqual};
+ghost use Rattle.lru_clock.specs.Turns.{IfHit};
+
+use crate::desk::{Counts, Desk};
+use crate::shard::{Shard, Turn};
+use crate::slot::Pin;
+use concurrent_lru::fit::Fit;
+use concurrent_lru::sharded::Refusal;
+use std::hash::Hash;
+use std::sync::{MutexGuard, Wait};
+
+impl<K: Hash + Eq + Clone + Drop, V: Drop, F: Fit<K, V>> Shard<K, V, F> {
+    /// Pins the key's entry, and returns it with its place. A use gives it a chance. Without the
+    /// lock an entry may be missed while the index is written.
+    ///
+    /// Returns `Overflow` if the entry has the maximum of pins.
+    #[inline(always)]
+    pub fn find(
+        &self,
+        tag: u32,
+        key: &K,
+        is_use: bool,
+    ) -> Result<Option<(u32, Pin<'_, K, V, F>)>, Refusal>
+        ensures pin { IfOk result (λ found. IfSome found
+            (λ f. (f.1.key ≡ key.now) × F.fits key.now f.1.value)) }
+        ensures refused { IfErr result (λ e. e ≡ Refusal.Overflow) }
+    {
+        let Some(index) = self.store.index() else {
+            return Ok(None);
+        };
+        let mut probe = index.probe(tag);
+        for _ in 0..u64::MAX {
+            let Some(place) = index.next(&mut probe) else {
+                return Ok(None);
+            };
+            if let Some(slot) = self.slot(place) {
+                if let Some(pin) = slot.pin(key, self.most_pins, is_use)? {
+                    return Ok(Some((place, pin)));
+                }
+            }
+        }
+        Ok(None)
+    }
+
+    /// `find` under the lock, where no entry is missed.
+    #[inline(never)]
+    pub fn find_locked<R: Wait>(
+        &self,
+        rt: &R,
+        tag: u32,
+        key: &K,
+        is_use: bool,
+    ) -> Result<Option<(u32, Pin<'_, K, V, F>)>, Refusal>
+        ensures pin { IfOk result (λ found. IfSome found
+            (λ f. (f.1.key ≡ key.now) × F.fits key.now f.1.value)) }
+        ensures refused { IfErr result (λ e. e ≡ Refusal.Overflow) }
+    {
+        let guard = self.lock(rt);
+        let found = self.find(tag, key, is_use);
+        drop(guard);
+        found
+    }
+
+    /// Pins the key's entry without the lock, or else begins as `begin` does.
+    ///
+    /// Returns `Overflow` and `Memory` as `begin` does.
+    #[inline(always)]
+    pub fn enter<R: Wait>(
+        &self,
+        rt: &R,
+        tag: u32,
+        key: &K,
+        charge: u64,
+    ) -> Result<Turn<'_, K, V, F>, Refusal>
+        ensures pin { IfOk result
+            (λ turn. IfHit turn (λ p. (p.key ≡ key.now) × F.fits key.now p.value)) }
+        ensures never_stale { IfErr result (λ e. e ≢ Refusal.Stale) }
+    {
+        match self.find(tag, key, true)? {
+            Some((place, pin)) => Ok(Turn::Hit(place, pin)),
+            None => self.begin(rt, tag, key, charge),
+        }
+    }
+
+    /// Pins the key's entry, or begins the making of its value. Waits while another caller makes
+    /// it.
+    ///
+    /// Returns `Overflow` if the entry has the maximum of pins, or if the charge would take the
+    /// total past the maximum of a `u64`, and `Memory` if a copy of the key is refused.
+    #[inline(never)]
+    pub fn begin<R: Wait>(
+        &self,
+        rt: &R,
+        tag: u32,
+        key: &K,
+        charge: u64,
+    ) -> Result<Turn<'_, K, V, F>, Refusal>
+        ensures pin { IfOk result
+            (λ turn. IfHit turn (λ p. (p.key ≡ key.now) × F.fits key.now p.value)) }
+        ensures never_stale { IfErr result (λ e. e ≢ Refusal.Stale) }
+    {
+        let mut guard = self.lock(rt);
+        for _ in rt.forever() {
+            if let Some((place, pin)) = self.find(tag, key, true)? {
+                return Ok(Turn::Hit(place, pin));
+            }
+            if !guard.makings.contains(key) {
+                return Ok(Turn::Make(self.start(&mut guard, key, charge)?));
+            }
+            guard = self.wait(rt, guard);
+        }
+        unreachable!()
+    }
+
+    // Begins the making of a key's value, and returns its ticket.
+    fn start(&self, desk: &mut Desk<K>, key: &K, charge: u64) -> Result<u64, Refusal>
+        ensures { IfErr result (λ e. e ≢ Refusal.Stale) }
+    {
+        if desk.seats.total().checked_add(charge).is_none() {
+            return Err(Refusal::Overflow);
+        }
+        let own = key.clone()?;
+        Ok(desk.makings.begin(own)?)
+    }
+
+    // Waits until a making ends or is invalidated.
+    fn wait<'a, R: Wait>(
+        &'a self,
+        rt: &R,
+        guard: MutexGuard<'a, Desk<K>>,
+    ) -> MutexGuard<'a, Desk<K>> {
+        let mut guard = guard;
+        guard.counts.waits = guard.counts.waits.wrapping_add(1);
+        guard.makings.add_waiting();
+        let mut guard = self.made.wait(rt, guard);
+        guard.makings.remove_waiting();
+        guard
+    }
+
+    /// Returns the place of the key's entry, which it has pinned for a moment, under the lock.
+    pub fn place_of(&self, tag: u32, key: &K) -> Option<u32> {
+        let index = self.store.index()?;
+        let mut probe = index.probe(tag);
+        for _ in 0..u64::MAX {
+            let place = index.next(&mut probe)?;
+            if self.has_key(place, key) {
+                return Some(place);
+            }
+        }
+        None
+    }
+
+    // Returns whether the entry of a place has a key. One with the maximum of pins is refused only
+    // after its key was compared.
+    fn has_key(&self, place: u32, key: &K) -> bool {
+        let Some(slot) = self.slot(place) else {
+            return false;
+        };
+        match slot.pin(key, self.most_pins, false) {
+            Ok(Some(pin)) => {
+                pin.release();
+                true
+            }
+            Ok(None) => false,
+            Err(_) => true,
+        }
+    }
+
+    /// Returns whether the key has an entry.
+    pub fn contains<R: Wait>(&self, rt: &R, tag: u32, key: &K) -> bool {
+        let guard = self.lock(rt);
+        let place = self.place_of(tag, key);
+        drop(guard);
+        place.is_some()
+    }
+
+    /// Returns the capacity.
+    pub fn capacity<R: Wait>(&self, rt: &R) -> u64 {
+        self.lock(rt).capacity
+    }
+
+    /// Returns the sum of the charges.
+    pub fn total_charge<R: Wait>(&self, rt: &R) -> u64 {
+        self.lock(rt).seats.total()
+    }
+
+    /// Returns the sum of the charges of the entries that somebody has pinned.
+    pub fn pinned_charge<R: Wait>(&self, rt: &R) -> u64 {
+        let guard = self.lock(rt);
+        let mut pinned = 0u64;
+        for place in 0..guard.seats.places() {
+            if let (Some(seat), Some(slot)) = (guard.seats.get(place), self.slot(place)) {
+                if slot.is_pinned() {
+                    pinned = pinned.saturating_add(seat.charge);
+                }
+            }
+        }
+        pinned
+    }
+
+    /// Returns the number of entries.
+    pub fn len<R: Wait>(&self, rt: &R) -> usize {
+        self.lock(rt).seats.entries()
+    }
+
+    /// Returns the counts.
+    pub fn counts<R: Wait>(&self, rt: &R) -> Counts {
+        self.lock(rt).counts
+    }
+}

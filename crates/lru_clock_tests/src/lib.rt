@@ -1,0 +1,16 @@
+//! Tests of `lru_clock`: each call once, a seeded run beside a plain cache, a storm of threads, and
+//! callers that make and wait.
+//!
+//! They are apart from the cache, so that its crate is proved once.
+#![tactic(auto)]
+
+#[cfg(test)]
+mod calls;
+#[cfg(test)]
+mod makings;
+#[cfg(test)]
+mod plain;
+#[cfg(test)]
+mod seeded;
+#[cfg(test)]
+mod storm;
