@@ -1,0 +1,4 @@
+pub mod Cycle
+pub mod Probes
+pub mod Entries
+pub mod Gaps
