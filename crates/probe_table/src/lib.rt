@@ -4,5 +4,6 @@
 //! they lead to.
 #![tactic(auto)]
 
+pub mod numbers;
 pub mod open_table;
 pub mod probes;

@@ -1,11 +1,15 @@
 //! Slots that are probed one after another, from the home of a mark to the first empty slot.
-ghost use Rattle.std.specs.Prelude.{◌≡◌, ◌≢◌, ℕ, ◌+◌, ◌<◌, ◌≤◌, length, bit_or, slice_set};
+ghost use Rattle.std.specs.Prelude.{◌≡◌, ◌≢◌, ℕ, ◌+◌, ◌<◌, ◌≤◌, length, bit_or, IfOk, vec_len};
 ghost use Rattle.probe_table.specs.Cycle.{next_of as next_in, steps, home_of as home_in};
 ghost use Rattle.probe_table.specs.Probes.{marks_of, mark_at, end_at, HasEmpty, IsEmptyAt, IsFilledAt, Finds, IsReached};
 ghost use Rattle.probe_table.specs.Entries.{count, entry, AreApart, Has, IsSame, Adds, Removes, Holds};
 ghost use Rattle.probe_table.specs.Gaps.{IsGap};
 
-/// The bit that every mark has, so that none is 0.
+use std::alloc::{AllocError, Global};
+
+/// The bit that every mark has, so that 0 can mean an empty slot and a slot needs no other word. It
+/// is the highest, since only the lowest bits choose a home; hashes that differ in it alone have the
+/// same mark, and the caller tells their items apart as it does those of equal hashes.
 pub(crate) const FILLED: u64 = 0x8000_0000_0000_0000;
 
 /// A slot of a table: an item and its mark. The mark of an empty slot is 0.
@@ -102,6 +106,30 @@ pub(crate) fn find_mark<T: Copy>(slots: &[Slot<T>], mark: u64, from: usize) -> P
     }
 }
 
+/// Goes on with a search behind a slot with the mark.
+#[inline(always)]
+pub(crate) fn find_next<T: Copy>(slots: &[Slot<T>], at: usize) -> Probe
+    requires within { at < length slots.now }
+    requires ends { HasEmpty (marks_of slots.now) }
+    requires filled { IsFilledAt (marks_of slots.now) at }
+    ensures { Finds (marks_of slots.now) (mark_at (marks_of slots.now) at)
+        (next_in (length slots.now) at) result }
+{
+    let mark = mark_in(slots, at);
+    let next = next_of(slots.len(), at);
+    find_mark(slots, mark, next)
+}
+
+/// Returns the item in a slot.
+#[inline(always)]
+pub(crate) fn item_in<T: Copy>(slots: &[Slot<T>], at: usize) -> T
+    requires within { at < length slots.now }
+    requires filled { IsFilledAt (marks_of slots.now) at }
+    ensures { Holds slots.now at (entry (mark_at (marks_of slots.now) at) result) }
+{
+    slots[at].item
+}
+
 /// Returns the first empty slot from a slot on.
 pub(crate) fn find_empty<T: Copy>(slots: &[Slot<T>], from: usize) -> usize
     requires within { from < length slots.now }
@@ -195,4 +223,57 @@ pub(crate) fn put_in<T: Copy>(slots: &mut [Slot<T>], at: usize, mark: u64, item:
     ensures count { count slots.new ≡ count slots.old + 1 }
 {
     slots[at] = Slot { mark, item };
+}
+
+/// Adds an entry, for which a slot is empty, where the search for its mark ends.
+pub(crate) fn put<T: Copy>(slots: &mut [Slot<T>], mark: u64, item: T)
+    requires filled { mark ≢ 0 }
+    requires room { count slots.old < length slots.old }
+    requires reached { IsReached (marks_of slots.old) }
+    requires apart { AreApart slots.old }
+    requires absent { (s : _) → Has slots.old s → s.item ≢ item }
+    ensures reached { IsReached (marks_of slots.new) }
+    ensures apart { AreApart slots.new }
+    ensures adds { Adds slots.old slots.new (entry mark item) }
+    ensures count { count slots.new ≡ count slots.old + 1 }
+{
+    let home = home_of(slots.len(), mark);
+    let at = find_empty(slots, home);
+    put_in(slots, at, mark, item);
+}
+
+/// Copies each entry into slots that are empty.
+pub(crate) fn copy_all<T: Copy>(from: &[Slot<T>], to: &mut [Slot<T>])
+    requires apart { AreApart from.now }
+    requires vacant { (k : ℕ) → IsEmptyAt (marks_of to.old) k }
+    requires room { count from.now < length to.old }
+    ensures reached { IsReached (marks_of to.new) }
+    ensures apart { AreApart to.new }
+    ensures same { IsSame from.now to.new }
+    ensures count { count to.new ≡ count from.now }
+{
+    for slot in from {
+        if slot.mark != 0 {
+            put(to, slot.mark, slot.item);
+        }
+    }
+}
+
+/// Makes so many slots that are empty.
+pub(crate) fn empty_slots<T: Copy>(
+    alloc: Global,
+    count: usize,
+    filler: T,
+) -> Result<Vec<Slot<T>>, AllocError>
+    ensures len { IfOk result (λ v. vec_len v ≡ count) }
+    ensures vacant { IfOk result (λ v. (k : ℕ) → IsEmptyAt (marks_of v.items) k) }
+{
+    let mut slots = Vec::with_capacity(alloc, count)?;
+    for _i in 0..count {
+        slots.push(Slot {
+            mark: 0,
+            item: filler,
+        })?;
+    }
+    Ok(slots)
 }

@@ -1,11 +1,21 @@
 -- The marks of slots that are read and written.
-use Rattle.std.proofs.Common.{◌≡◌, ◌≢◌, ℕ, zero, suc, ◌+◌, ◌<◌, ◌≤◌, List, [], ◌∷◌, length, get_or, set, map, refl, sym, ap, ◌∙◌, arith}
+use Rattle.std.proofs.Common.{◌≡◌, ◌≢◌, ℕ, zero, suc, ◌+◌, ◌<◌, ◌≤◌, List, [], ◌∷◌, length, get_or, set, map, refl, sym, ap, ◌∙◌, arith, bit_or, max, ◌^◌}
+use Rattle.std.specs.Int.{bit_at}
+use Rattle.std.proofs.lemmas.Nat.Bits.{bit_at_or, bit_at-pow_same, bit_at-zero}
 use Rattle.std.proofs.lemmas.List.{length-map, map-set, get_or-map}
 use Rattle.probe_table.specs.Cycle.{next_of}
 use Rattle.probe_table.specs.Probes.{marks_of, mark_at, IsFilledAt, HasEmpty, run_at, end_at, walk_at}
 use Rattle.probe_table.specs.declared.probes.Slot.{Slot}
 use Rattle.probe_table.proofs.Probing.Circle.{next_within}
 use Rattle.probe_table.proofs.Probing.Runs.{run_on, end_on, walk_past}
+
+-- a mark has the bit that 0 lacks
+pub mark_filled : (hash : ℕ) → bit_or hash (2 ^ 63) ≢ 0
+mark_filled hash e =
+    let here : bit_at (bit_or hash (2 ^ 63)) 63 ≡ max (bit_at hash 63) (bit_at (2 ^ 63) 63) = bit_at_or hash (2 ^ 63) 63 in
+    let one : bit_at (2 ^ 63) 63 ≡ 1 = bit_at-pow_same 63 in
+    let none : bit_at (bit_or hash (2 ^ 63)) 63 ≡ 0 = ap (λ t. bit_at t 63) e ∙ bit_at-zero 63 in
+    omega (arith, here, one, none)
 
 module _ {T : Type 0} where
   pub length-marks : (slots : List (Slot T)) → length (marks_of slots) ≡ length slots
