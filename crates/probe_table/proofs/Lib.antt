@@ -1,0 +1,3 @@
+pub mod Probing
+pub mod Contents
+pub mod Tables

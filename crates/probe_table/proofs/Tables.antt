@@ -1,0 +1,4 @@
+pub mod Walks
+pub mod Changes
+pub mod Views
+pub mod Lookups

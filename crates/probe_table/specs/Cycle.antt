@@ -1,0 +1,14 @@
+-- Slots in a circle: which comes next, and how far it is from one to another.
+use Rattle.std.specs.Prelude.{ℕ, ◌+◌, ◌-◌, nat_lt, bit_and, if◌then◌else◌}
+
+-- the slot after this one, of n; after the last comes the first
+abbrev pub next_of : ℕ → ℕ → ℕ
+next_of n at = if nat_lt (at + 1) n then at + 1 else 0
+
+-- how many steps it is from one slot on to another
+abbrev pub steps : ℕ → ℕ → ℕ → ℕ
+steps n from to = if nat_lt to from then n - from + to else to - from
+
+-- the slot at which a walk for this mark begins
+abbrev pub home_of : ℕ → ℕ → ℕ
+home_of n mark = bit_and mark (n - 1)
