@@ -4,7 +4,7 @@ ghost use Rattle.probe_table.specs.Entries.{count, entry, Has, Holds};
 ghost use Rattle.probe_table.specs.OpenTable.{mark_of, IsVacancy};
 ghost use Rattle.probe_table.specs.Numbers.{hash_for, IsHashed};
 
-use crate::open_table::{OpenTable, Cursor, Step, Vacancy};
+use crate::open_table::{Cursor, OpenTable, Step, Vacancy};
 use std::alloc::{AllocError, Global};
 
 /// Numbers, each found by its hash.
@@ -26,7 +26,7 @@ pub fn find(table: &OpenTable<u64>, hash: u64, number: u64) -> Result<Cursor, Va
     requires { (s : _) → Has table.now s → s.item ≡ number → s.mark ≡ mark_of hash }
     ensures { MatchResult result (λ cursor. Holds table.now cursor (entry (mark_of hash) number))
         (λ vacancy. ((s : _) → Has table.now s → s.item ≢ number)
-            × IsVacancy table.now (mark_of hash) vacancy) }
+        × IsVacancy table.now (mark_of hash) vacancy) }
 {
     let mut at = table.first(hash);
     'walk: loop {

@@ -18,8 +18,8 @@ ghost use Rattle.probe_table.specs.Entries.{count, entry, Has, Holds, IsSame, Ad
 ghost use Rattle.probe_table.specs.OpenTable.{mark_of as mark_for, capacity, IsFilled, IsVacancy, HasMark, EndsAt, walk, step_for};
 
 use crate::probes::{
-    Probe, Slot, copy_all, empty_slots, find_mark, find_next, home_of, item_in, mark_of, put, put_in,
-    take_out,
+    Probe, Slot, copy_all, empty_slots, find_mark, find_next, home_of, item_in, mark_of, put,
+    put_in, take_out,
 };
 use std::alloc::{AllocError, Global};
 use std::marker::Model;

@@ -153,7 +153,7 @@ fn close_hole<T: Copy>(slots: &mut [Slot<T>], hole: usize, at: usize) -> usize
     ensures hole { result < length slots.old }
     ensures gap { (start : ℕ) → IsGap (length slots.old) (marks_of slots.old) start hole at
         → IsGap (length slots.old) (marks_of slots.new) start result
-            (next_in (length slots.old) at) }
+        (next_in (length slots.old) at) }
     ensures same { IsSame slots.old slots.new }
     ensures apart { AreApart slots.old → AreApart slots.new }
     ensures count { count slots.new ≡ count slots.old }

@@ -119,10 +119,13 @@ gap_start n ms at long some lt full r =
       reached = λ k m h in_m above below. elim (cases_eq m at) [
         | inl e ↦
             let in_k : k < n = in_slots n end within ms long some.2 r k (was k h) in
-            inr (e, elim (cases_lt (rank n end at) (rank n end k)) [
-              | inl less ↦ omega arith
-              | inr le ↦ absurd (apart k h (rank_same n end within k at in_k lt (let here : rank n end m ≡ rank n end at = ap (rank n end) e in omega arith)))
-            ])
+            inr (
+              e,
+              elim (cases_lt (rank n end at) (rank n end k)) [
+                | inl less ↦ omega arith
+                | inr le ↦ absurd (apart k h (rank_same n end within k at in_k lt (let here : rank n end m ≡ rank n end at = ap (rank n end) e in omega arith)))
+              ],
+            )
         | inr ne ↦ inl (λ none. reached_from n end within ms long some.2 r k m (was k h) in_m (subst (λ t. rank n end t ≤ rank n end m) (same k h) above) below (sym (rest m ne) ∙ none))
       ];
     }
@@ -202,10 +205,13 @@ module _ (n : ℕ) (ms : List ℕ) (start hole at : ℕ) (g : IsGap n ms start h
         upright = g.upright;
         reached = λ k l h in_l above below. elim (g.reached k l h in_l above below) [
           | inl filled ↦ inl filled
-          | inr over ↦ inr (over.0, beyond k h (λ e.
-              let there : rank n g.end (home_of n (mark_at ms k)) ≡ rank n g.end home = ap (λ t. rank n g.end (home_of n (mark_at ms t))) e in
-              let here : rank n g.end l ≡ rank n g.end hole = ap (rank n g.end) over.0 in
-              omega arith) over.1)
+          | inr over ↦ inr (
+            over.0,
+            beyond k h (λ e.
+                let there : rank n g.end (home_of n (mark_at ms k)) ≡ rank n g.end home = ap (λ t. rank n g.end (home_of n (mark_at ms t))) e in
+                let here : rank n g.end l ≡ rank n g.end hole = ap (rank n g.end) over.0 in
+                omega arith) over.1,
+          )
         ];
       }
 

@@ -50,8 +50,7 @@ module _ (ms : List ℕ) where
     step_on n at long lt h =
         let step : steps (length ms) (next_of (length ms) at) e + 1 ≡ steps (length ms) at e = steps_from_next (length ms) at e lt within (apart at h) in
         let less : steps (length ms) at e < length ms = steps_within (length ms) at e lt within in
-        let near : steps (length ms) (next_of (length ms) at) e < n = omega arith in
-        (
+        let near : steps (length ms) (next_of (length ms) at) e < n = omega arith in (
           ap (λ k. run k ms at) long ∙ run_filled n at h ∙ ap (λ l. at ∷ l) (sym (run_more n (next_of (length ms) at) (next_within (length ms) at lt) near) ∙ ap (λ k. run k ms (next_of (length ms) at)) (sym long)),
           ap (λ k. end k ms at) long ∙ end_filled n at h ∙ sym (end_more n (next_of (length ms) at) (next_within (length ms) at lt) near) ∙ ap (λ k. end k ms (next_of (length ms) at)) (sym long),
         )
