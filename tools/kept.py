@@ -15,7 +15,8 @@ import pathlib
 import subprocess
 import sys
 
-TOP = pathlib.Path(__file__).resolve().parent.parent
+from crate_list import TOP
+
 CACHES = pathlib.Path(os.environ.get("XDG_CACHE_HOME") or pathlib.Path.home() / ".cache")
 RECORDS = CACHES / "concurrent_lru"
 # folders that builds make, which git ignores too
