@@ -1,4 +1,5 @@
 -- What the slots of nodes show.
 pub mod NodeWrites
 pub mod PointersTied
+pub mod Listings
 pub mod SlotViews

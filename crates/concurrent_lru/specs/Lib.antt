@@ -6,6 +6,7 @@ pub mod Messages
 pub mod Steps
 pub mod Runs
 pub mod NodeTable
+pub mod Probing
 pub mod Order
 pub mod Cells
 pub mod CellOwnership
@@ -15,11 +16,13 @@ pub mod Relinks
 pub mod SlotPointers
 pub mod SlotWrites
 pub mod SlotTable
+pub mod Listing
 pub mod Representation
 pub mod Entries
 pub mod Counted
 pub mod Counts
 pub mod CountedCalls
+pub mod KeyHashes
 pub mod StampIndex
 pub mod Indexes
 pub mod Chain

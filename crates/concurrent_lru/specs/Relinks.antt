@@ -3,7 +3,7 @@ use Rattle.std.specs.Prelude.{◌≡◌, ◌≢◌, ℕ, List, Option, Some, Non
 use Rattle.std.specs.declared.alloc.Global.{Global}
 use denote.RawPtr.{Ptr}
 use Rattle.concurrent_lru.specs.Cells.{Cell, cell_at, slot_at, AtSlot}
-use Rattle.concurrent_lru.specs.NodeTable.{Entry, entry_of, chain_of}
+use Rattle.concurrent_lru.specs.NodeTable.{Entry, entry_of, hash_of, chain_of}
 use Rattle.concurrent_lru.specs.declared.list.Node.{Node, out-Node}
 
 abbrev pub NodeCell : Type 0 → Type 0 → Type 0
@@ -34,12 +34,14 @@ module _ {K V : Type 0} where
   -- the same node in its own slot
   pub record IsPlaced (old new : Node K V) (slot : ℕ) : Type 0 where
     pub entry : entry_of new ≡ entry_of old
+    pub hash : hash_of new ≡ hash_of old
     pub chain : chain_of new ≡ chain_of old
     pub place : place_of new ≡ slot
 
   -- the same node with other links
   pub record IsRelinked (old new : Node K V) (b a : Option Ptr) : Type 0 where
     pub entry : entry_of new ≡ entry_of old
+    pub hash : hash_of new ≡ hash_of old
     pub chain : chain_of new ≡ chain_of old
     pub place : place_of new ≡ place_of old
     pub before : before_link new ≡ b
@@ -58,6 +60,7 @@ module _ {K V : Type 0} where
   -- the same node with another entry
   pub record IsRevalued (old new : Node K V) (e : Entry K V) : Type 0 where
     pub entry : entry_of new ≡ e
+    pub hash : hash_of new ≡ hash_of old
     pub chain : chain_of new ≡ chain_of old
     pub place : place_of new ≡ place_of old
     pub before : before_link new ≡ before_link old

@@ -4,13 +4,13 @@ use Rattle.std.specs.FinMap.{FinMap}
 use Rattle.std.specs.List.{list_any}
 use Rattle.std.specs.Ordering.{nat_cmp}
 use denote.RawPtr.{Ptr}
-use Rattle.slab.specs.Slab.{slab_len}
 use Rattle.concurrent_lru.specs.Order.{Link, link, IsOrder, order}
 use Rattle.concurrent_lru.specs.Slots.{map_of_slots}
 use Rattle.concurrent_lru.specs.Cells.{cell_at, slot_at, AtSlot, OfSlot}
 use Rattle.concurrent_lru.specs.NodeTable.{NodeTable, Entry, entry_of, chain_of}
 use Rattle.concurrent_lru.specs.Relinks.{NodeCell, NodeCells, LeftJoined, RightJoined, before_link, after_link, slot_in, before_at, after_at}
 use Rattle.concurrent_lru.specs.SlotPointers.{IsTied, cells_of}
+use Rattle.concurrent_lru.specs.Listing.{IsListed, hash_in, spare_of}
 use Rattle.concurrent_lru.specs.declared.list.links.Order.{Order}
 use Rattle.concurrent_lru.specs.declared.list.slots.Slots.{Slots}
 
@@ -57,8 +57,12 @@ module _ {K V : Type 0} where
   abbrev pub idle_of : Order K V → List ℕ
   idle_of o = idle_places (cells_of o.slots) o.oldest
 
+  -- the hashes by slot
+  abbrev pub hashes_of : Order K V → FinMap nat_cmp ℕ
+  hashes_of o = map_of_slots (map hash_in (cells_of o.slots))
+
   abbrev pub node_table_of : Order K V → ℕ → NodeTable K V
-  node_table_of o work = record { nodes = nodes_of o; idle = idle_of o; spare = o.slots.pointers.capacity - slab_len o.slots.pointers; work = work; looks = o.slots.looks.count }
+  node_table_of o work = record { nodes = nodes_of o; hashes = hashes_of o; idle = idle_of o; spare = spare_of o.slots; work = work; looks = o.slots.looks.count }
 
   -- each link leads to the neighbour, and nothing hangs on a node
   pub record IsWellLinked (o : Order K V) : Type 0 where
@@ -67,6 +71,11 @@ module _ {K V : Type 0} where
     pub good : AreGood (cells_of o.slots) (idle_of o)
     pub last_good : IsGood (cells_of o.slots) o.newest
     pub ends : (k : ℕ) → IsEnd (cell_at (cells_of o.slots) k)
+
+  -- and the table by hash leads to the nodes
+  pub record IsWhole (o : Order K V) : Type 0 where
+    pub linked : IsWellLinked o
+    pub listed : IsListed o.slots
 
   -- the slot is in the order, or is not
   abbrev pub Lists : Order K V → ℕ → Type 0

@@ -9,14 +9,13 @@ ghost use Rattle.concurrent_lru.specs.Inserts.{Inserts};
 ghost use Rattle.concurrent_lru.specs.Reads.{Finds, Reads};
 ghost use Rattle.concurrent_lru.specs.Ready.{HasEqualKeyAt, HasReadyKey};
 ghost use Rattle.concurrent_lru.specs.Request as ask;
-ghost use Rattle.concurrent_lru.specs.Results.{outcome_of_begin, outcome_of_poll, outcome_of_ready, outcome_of_fail, outcome_of_get, outcome_of_release, outcome_of_evictions, begun_without_place, found_without_place, inserted_without_place};
+ghost use Rattle.concurrent_lru.specs.Results.{outcome_of_begin, outcome_of_poll, outcome_of_ready, outcome_of_fail, outcome_of_get, outcome_of_release, outcome_of_evictions, begun_without_hint, found_without_hint, inserted_without_hint};
 ghost use Rattle.concurrent_lru.specs.Runs.{Stands};
 ghost use Rattle.concurrent_lru.specs.Steps.{IsUnready};
 
 use crate::counts::Counts;
-use crate::list::Place;
 use crate::lru_core::{Begun, Evicted, Failed, Inserted, Refusal, State};
-use crate::table::Spot;
+use crate::table::{Hint, Spot};
 use std::alloc::Global;
 use std::fmt;
 use std::hash::Hash;
@@ -27,8 +26,8 @@ use std::sync::Arc;
 ///
 /// Clauses see the abstract cache and the counts. The type's invariant is that the cache is lawful
 /// and that the counts add up to its entries and their charges. Each call is the core's call of the
-/// same name, and counts its outcome. A call that pins an entry also returns its place, and a call
-/// on an entry that is there takes its spot.
+/// same name, and counts its outcome. A call that pins an entry also returns a hint of it, and a
+/// call on an entry that is there takes its spot.
 #[derive(Drop)]
 pub struct CountedState<K: Hash + Eq + Clone, V> {
     state: State<K, V>,
@@ -102,12 +101,12 @@ impl<K: Hash + Eq + Clone, V: Drop> CountedState<K, V> {
         &mut self,
         key: &K,
         charge: u64,
-    ) -> Result<(Begun<V>, Evicted<K, V>, Place), Refusal>
+    ) -> Result<(Begun<V>, Evicted<K, V>, Hint), Refusal>
         requires { 0 < charge }
         ensures step { Stands K.eq self.old.cache (ask.begin key.now charge)
-            (outcome_of_begin (begun_without_place result)) self.new.cache }
+            (outcome_of_begin (begun_without_hint result)) self.new.cache }
         ensures counted { self.new.counts ≡ counted self.old.cache (ask.begin key.now charge)
-            (outcome_of_begin (begun_without_place result)) self.old.counts }
+            (outcome_of_begin (begun_without_hint result)) self.old.counts }
         ensures lawful { IsLawful K.eq self.new.cache }
     {
         let next = self.state.next_stamp();
@@ -175,11 +174,11 @@ impl<K: Hash + Eq + Clone, V: Drop> CountedState<K, V> {
 
     /// The core's `get`: a hit, a miss or a refusal.
     #[inline(always)]
-    pub fn get(&mut self, key: &K) -> Result<Option<(u64, Arc<V>, Place)>, Refusal>
+    pub fn get(&mut self, key: &K) -> Result<Option<(u64, Arc<V>, Hint)>, Refusal>
         ensures step { Stands K.eq self.old.cache (ask.get key.now)
-            (outcome_of_get (found_without_place result)) self.new.cache }
+            (outcome_of_get (found_without_hint result)) self.new.cache }
         ensures counted { self.new.counts ≡ counted self.old.cache (ask.get key.now)
-            (outcome_of_get (found_without_place result)) self.old.counts }
+            (outcome_of_get (found_without_hint result)) self.old.counts }
         ensures lawful { IsLawful K.eq self.new.cache }
     {
         let found = self.state.get_at(key);
@@ -258,10 +257,10 @@ impl<K: Hash + Eq + Clone, V: Drop> CountedState<K, V> {
         key: &K,
         charge: u64,
         value: Arc<V>,
-    ) -> Result<(Inserted<K, V>, Place), (Refusal, Arc<V>)>
+    ) -> Result<(Inserted<K, V>, Hint), (Refusal, Arc<V>)>
         requires { 0 < charge }
         ensures step { Inserts K.eq self.old.cache key.now charge (arc_value value)
-            (inserted_without_place result) self.new.cache }
+            (inserted_without_hint result) self.new.cache }
         ensures inserted { IfOk result (λ r. self.new.counts
             ≡ replaced r.0.replaced r.0.evicted charge self.old.counts) }
         ensures counts { OnErr result (self.new.counts ≡ one_refusal self.old.counts) }
@@ -377,8 +376,8 @@ fn count_look<T>(counts: &mut Counts, found: &Result<Option<T>, Refusal>)
 // Counts the result of a begin, except an insertion: a hit, a wait, a refusal, or a miss that
 // starts a making.
 #[inline(always)]
-fn count_begin<K, V>(counts: &mut Counts, begun: &Result<(Begun<V>, Evicted<K, V>, Place), Refusal>)
-    ensures { counts.new ≡ counted_begin (begun_without_place begun.now) counts.old }
+fn count_begin<K, V>(counts: &mut Counts, begun: &Result<(Begun<V>, Evicted<K, V>, Hint), Refusal>)
+    ensures { counts.new ≡ counted_begin (begun_without_hint begun.now) counts.old }
 {
     match begun {
         Ok((Begun::Hit(_, _), _, _)) => counts.hit(),
@@ -394,8 +393,8 @@ fn count_begin<K, V>(counts: &mut Counts, begun: &Result<(Begun<V>, Evicted<K, V
 // Whether a begin inserted an entry, which then has the stamp that was the next one. A making that
 // is taken over has an earlier stamp.
 #[inline(always)]
-fn is_insertion<K, V>(begun: &Result<(Begun<V>, Evicted<K, V>, Place), Refusal>, next: u64) -> bool
-    ensures { result ≡ is_insertion (begun_without_place begun.now) next }
+fn is_insertion<K, V>(begun: &Result<(Begun<V>, Evicted<K, V>, Hint), Refusal>, next: u64) -> bool
+    ensures { result ≡ is_insertion (begun_without_hint begun.now) next }
 {
     match begun {
         Ok((Begun::Make(stamp), _, _)) => *stamp == next,

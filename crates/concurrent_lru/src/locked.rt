@@ -15,7 +15,7 @@ ghost use Rattle.concurrent_lru.specs.Pins.{made_stamp, made_key, made_charge, w
 ghost use Rattle.concurrent_lru.specs.Reads.{Reads};
 ghost use Rattle.concurrent_lru.specs.Ready.{ValuesFit, HasEqualKeyAt, HasReadyKey};
 ghost use Rattle.concurrent_lru.specs.Request as ask;
-ghost use Rattle.concurrent_lru.specs.Results.{outcome_of_begin, outcome_of_poll, outcome_of_ready, outcome_of_fail, outcome_of_release, outcome_of_evictions, begun_without_place};
+ghost use Rattle.concurrent_lru.specs.Results.{outcome_of_begin, outcome_of_poll, outcome_of_ready, outcome_of_fail, outcome_of_release, outcome_of_evictions, begun_without_hint};
 ghost use Rattle.concurrent_lru.specs.Runs.{Stands};
 ghost use Rattle.concurrent_lru.specs.Steps.{IsUnready};
 ghost use Rattle.concurrent_lru.specs.ThreadedCalls.{IfHit};
@@ -30,10 +30,9 @@ pub use self::waiters::Waiters;
 use crate::counted::CountedState;
 use crate::counts::Counts;
 use crate::fit::Fit;
-use crate::list::Place;
 use crate::lru_core::{Begun, Evicted, Failed, Inserted, Refusal};
 use crate::sealed::Sealed;
-use crate::table::Spot;
+use crate::table::{Hint, Spot};
 use std::alloc::Global;
 use std::fmt;
 use std::hash::Hash;
@@ -48,8 +47,9 @@ use std::sync::Arc;
 /// entries and their charges. Each call counts its outcome, as `counted` of specs/CountedCalls.antt
 /// defines.
 ///
-/// It has no map by stamp. A debt holds the spot of its entry, the stamp and the place, and a
-/// pinned entry stays at its place, so the call that settles a debt finds the entry there at once.
+/// It has no map by stamp. A debt holds the spot of its entry, the stamp with the hash of the key
+/// and the place, and a pinned entry stays at its place, so the call that settles a debt finds the
+/// entry at once.
 /// Only a stamp from elsewhere, or one whose entry has left, costs a look at every entry.
 #[derive(Drop)]
 pub struct Locked<K: Hash + Eq + Clone, V, F: Fit<K, V>> {
@@ -134,38 +134,38 @@ impl<K: Hash + Eq + Clone + Drop, V: Drop, F: Fit<K, V>> Locked<K, V, F> {
         ensures hit { IfOk result (λ e. IfEntered e (F.fits key.now)) }
         ensures never_stale { IfErr result (λ e. e ≢ Refusal.Stale) }
     {
-        let (begun, evicted, place) = self.begin_core(key, charge)?;
+        let (begun, evicted, hint) = self.begin_core(key, charge)?;
         match begun {
             Begun::Make(stamp) => {
-                let making = Making::of(Spot { stamp, place }, key, charge);
+                let making = Making::of(Spot { stamp, hint }, key, charge);
                 Ok(Entered::Make(making, Sealed::of(evicted)))
             }
             // A begin that finds an entry evicts nothing, so there is nothing to seal.
             Begun::Wait(stamp) => {
                 prove!(evicted.is_empty());
-                let spot = Spot { stamp, place };
+                let spot = Spot { stamp, hint };
                 Ok(Entered::Wait(Waiting::of(spot, key, charge, self)))
             }
             Begun::Hit(stamp, value) => {
                 prove!(evicted.is_empty());
-                let spot = Spot { stamp, place };
+                let spot = Spot { stamp, hint };
                 Ok(Entered::Hit(HeldPin::of(spot, key, Some(charge), value)))
             }
         }
     }
 
-    // The core's `begin`, with its own result, and the place of the entry.
+    // The core's `begin`, with its own result, and a hint of the entry.
     #[inline(always)]
     fn begin_core(
         &mut self,
         key: &K,
         charge: u64,
-    ) -> Result<(Begun<V>, Evicted<K, V>, Place), Refusal>
+    ) -> Result<(Begun<V>, Evicted<K, V>, Hint), Refusal>
         requires charged { 0 < charge }
         ensures step { Stands K.eq self.old.cache (ask.begin key.now charge)
-            (outcome_of_begin (begun_without_place result)) self.new.cache }
+            (outcome_of_begin (begun_without_hint result)) self.new.cache }
         ensures counted { self.new.counts ≡ counted self.old.cache (ask.begin key.now charge)
-            (outcome_of_begin (begun_without_place result)) self.old.counts }
+            (outcome_of_begin (begun_without_hint result)) self.old.counts }
         ensures hit { IfOk result (λ r. IfHit r.0 (F.fits key.now)) }
         ensures never_stale { IfErr result (λ e. e ≢ Refusal.Stale) }
     {
@@ -186,8 +186,8 @@ impl<K: Hash + Eq + Clone + Drop, V: Drop, F: Fit<K, V>> Locked<K, V, F> {
     {
         match self.state.get(key)? {
             None => Ok(None),
-            Some((stamp, value, place)) => {
-                let spot = Spot { stamp, place };
+            Some((stamp, value, hint)) => {
+                let spot = Spot { stamp, hint };
                 Ok(Some(HeldPin::of(spot, key, None, value)))
             }
         }
@@ -433,7 +433,7 @@ impl<K: Hash + Eq + Clone + Drop, V: Drop, F: Fit<K, V>> Locked<K, V, F> {
             × (r.0.value ≡ arc_value stored)) }
         ensures never_stale { IfErr result (λ e. e.0 ≢ Refusal.Stale) }
     {
-        let (inserted, place) = match self.state.insert(key, charge, stored) {
+        let (inserted, hint) = match self.state.insert(key, charge, stored) {
             Ok(inserted) => inserted,
             Err((refusal, stored)) => return Err((refusal, Sealed::of((stored, read)))),
         };
@@ -442,7 +442,7 @@ impl<K: Hash + Eq + Clone + Drop, V: Drop, F: Fit<K, V>> Locked<K, V, F> {
             replaced,
             evicted,
         } = inserted;
-        let pin = HeldPin::of(Spot { stamp, place }, key, Some(charge), read);
+        let pin = HeldPin::of(Spot { stamp, hint }, key, Some(charge), read);
         Ok((pin, Sealed::of((replaced, evicted))))
     }
 

@@ -1,24 +1,27 @@
 //! The entries of a cache as one value: nodes, lookup of their places by key and by stamp, and the
 //! total of the charges. The only rule of the cache decided here is the order of eviction; when
 //! things happen is up to the core.
+//!
+//! A key is hashed by `hash_of`, once in a call of the core, which passes the hash on with the key.
 ghost use Rattle.std.specs.Prelude.{◌≡◌, ◌≢◌, ℕ, ◌+◌, ◌<◌, ◌≤◌, ◌^◌, Some, None, [], IsSome, OnOk, OnErr, IfOk, IfErr, IfSome, MatchOption, filter_map, length, ◌∷◌, ◌++◌, true, cond, nat_eq};
 ghost use Rattle.std.specs.Arc.{arc_value};
-ghost use Rattle.std.specs.HashMap as hash;
-ghost use Rattle.std.specs.HashMap.{spare};
 ghost use Rattle.concurrent_lru.specs.Cache.{count_of, idle_at, pinned_of, IsFront, CopiesAreEqual};
 ghost use Rattle.std.specs.FinMap as map;
-ghost use Rattle.concurrent_lru.specs.NodeTable.{Entry, entry_of, new_entry, chain_of, phase_of, value_of, ContainsNode, LacksIdle, IsNewStamp};
+ghost use Rattle.concurrent_lru.specs.NodeTable.{Entry, entry_of, hash_of as hash_in, new_entry, chain_of, phase_of, value_of, ContainsNode, LacksIdle, IsNewStamp};
 ghost use Rattle.concurrent_lru.specs.Representation.{as_idle, held_entry, GetsEntry};
 ghost use Rattle.concurrent_lru.specs.Entries.{cache_of, charges_of, ContainsEntry, ContainsNoStamp, ContainsNoKey, IsPlaceOfKey, ContainsPlace, ContainsIdleAt, ContainsHeldAt, ContainsFoundAt, GetsAt, LacksMakingAt, IsReadyAt, ReadiesAt, Rewrites, RevivesAt, RestsAt, AddsOverHeld, AddsOverIdle, pins_at, value_at, held_with_pins, new_held};
+ghost use Rattle.concurrent_lru.specs.KeyHashes.{key_hash};
 ghost use Rattle.concurrent_lru.specs.Reads.{RenewsAt};
 ghost use Rattle.concurrent_lru.specs.StampIndex.{keeps_map, mapped_place, HasRoomFor};
 ghost use Rattle.concurrent_lru.specs.Steps.{without, held_in_phase, held_detached};
 ghost use Rattle.concurrent_lru.specs.TakeAll.{TakesHeld, TakesHeldAt};
 
+mod key_hashes;
 mod spot;
 mod stamp_index;
 
-pub use self::spot::Spot;
+pub use self::key_hashes::hash_of;
+pub use self::spot::{Hint, Spot};
 use crate::eviction::{Evicted, reverse};
 use crate::list::{Node, Nodes, Phase, Place, Refusal};
 use crate::table::stamp_index::StampIndex;
@@ -34,7 +37,6 @@ use std::sync::Arc;
 #[derive(Drop)]
 pub struct Table<K: Hash + Eq + Clone, V> {
     nodes: Nodes<K, V>,
-    by_key: HashMap<K, Place>,
     by_stamp: StampIndex,
     total: u64,
     // The idle entries' part of the total.
@@ -52,8 +54,10 @@ impl<K: Hash + Eq + Clone, V> Model for Table<K, V> {
 
     ghost view = { λ a. entries_of a.nodes };
 
-    ghost invariant = { λ a. IsSoundTable K.is_clone K.eq a.nodes a.by_key a.by_stamp a.total
-        a.idle_charge };
+    ghost use Rattle.concurrent_lru.specs.KeyHashes.{key_hash};
+
+    ghost invariant = { λ a. IsSoundTable K.is_clone K.eq (key_hash K.hash_input) a.nodes a.by_stamp
+        a.total a.idle_charge };
 }
 
 impl<K: Hash + Eq + Clone, V: Drop> Table<K, V> {
@@ -69,8 +73,8 @@ impl<K: Hash + Eq + Clone, V: Drop> Table<K, V> {
     }
 
     // Creates a table with no entries and no map by stamp: adding or removing an entry costs one
-    // write less, but a lookup by stamp visits every node unless it begins at its entry's place.
-    // For callers that keep the places of what they pinned. Takes no memory.
+    // write less, but a lookup by stamp visits every node unless its hint leads to the entry. For
+    // callers that keep the hints of what they pinned. Takes no memory.
     pub(crate) fn without_stamp_map(alloc: Global) -> Table<K, V>
         requires { CopiesAreEqual K.is_clone K.eq }
         ensures idle { result.idle ≡ [] }
@@ -92,7 +96,6 @@ impl<K: Hash + Eq + Clone, V: Drop> Table<K, V> {
     {
         Table {
             nodes: Nodes::new(alloc),
-            by_key: HashMap::new(alloc),
             by_stamp,
             total: 0,
             idle_charge: 0,
@@ -106,9 +109,8 @@ impl<K: Hash + Eq + Clone, V: Drop> Table<K, V> {
         ensures err { IfErr result (λ e. e ≡ Refusal.Memory) }
         ensures same { self.new ≡ self.old }
     {
-        // Detached entries have no key here, so beside them this reserves more room, never less.
-        let more = entries.saturating_sub(self.by_key.len());
-        make_room(&mut self.nodes, &mut self.by_key, &mut self.by_stamp, more)
+        let more = entries.saturating_sub(self.nodes.len());
+        make_room(&mut self.nodes, &mut self.by_stamp, more)
     }
 
     /// Returns the number of entries.
@@ -132,25 +134,40 @@ impl<K: Hash + Eq + Clone, V: Drop> Table<K, V> {
         self.total - self.idle_charge
     }
 
-    /// Returns the place of the entry with this stamp. The lookup begins at the spot's place, which
-    /// may be any place.
+    /// Returns the place of the entry with this stamp. The lookup begins with the spot's hint,
+    /// which may be any.
     #[inline(always)]
     pub fn find_stamp(&self, spot: &Spot) -> Option<Place>
         ensures { MatchOption result (ContainsNoStamp self.now spot.now.stamp)
             (λ p. map.get self.now.stamps p ≡ Some spot.now.stamp) }
     {
-        if self.nodes.has_stamp(spot.place, spot.stamp) {
-            return Some(spot.place);
+        match self.nodes.find_stamp_by_hash(spot.hint.hash, spot.stamp) {
+            Some(place) => Some(place),
+            None => self.find_stamp_near(spot.hint.place, spot.stamp),
         }
-        self.by_stamp.find(&self.nodes, spot.stamp)
     }
 
-    /// Returns the place of the entry with an equal key.
-    pub fn find_key(&self, key: &K) -> Option<Place>
+    // Returns the place of the entry with this stamp, which may be detached. The lookup begins at
+    // `near`, which may be any place.
+    #[inline(never)]
+    fn find_stamp_near(&self, near: Place, stamp: u64) -> Option<Place>
+        ensures { MatchOption result (ContainsNoStamp self.now stamp)
+            (λ p. map.get self.now.stamps p ≡ Some stamp) }
+    {
+        if self.nodes.has_stamp(near, stamp) {
+            return Some(near);
+        }
+        self.by_stamp.find(&self.nodes, stamp)
+    }
+
+    /// Returns the place of the entry with an equal key. `hash` is the hash of the key.
+    #[inline(always)]
+    pub fn find_key(&self, hash: u64, key: &K) -> Option<Place>
+        requires { hash ≡ key_hash K.hash_input key.now }
         ensures { MatchOption result (ContainsNoKey K.eq self.now key.now)
             (λ p. IsPlaceOfKey K.eq self.now p key.now) }
     {
-        self.by_key.get(key).copied()
+        self.nodes.find_key(hash, key)
     }
 
     /// Returns the node at a place.
@@ -164,11 +181,20 @@ impl<K: Hash + Eq + Clone, V: Drop> Table<K, V> {
         self.nodes.node(place)
     }
 
-    /// Adds a new entry, held by one pin, whose value is being made, and returns its place.
+    /// Adds a new entry, held by one pin, whose value is being made, and returns its place. `hash`
+    /// is the hash of the key.
     ///
     /// Returns `Memory` if a copy of the key or a growth is refused; then nothing changes.
     #[inline(never)]
-    pub fn add(&mut self, alloc: Global, stamp: u64, key: &K, charge: u64) -> Result<Place, Refusal>
+    pub fn add(
+        &mut self,
+        alloc: Global,
+        stamp: u64,
+        hash: u64,
+        key: &K,
+        charge: u64,
+    ) -> Result<Place, Refusal>
+        requires hash { hash ≡ key_hash K.hash_input key.now }
         requires absent { ContainsNoKey K.eq self.old key.now }
         requires fresh { ContainsNoStamp self.old stamp }
         requires fits { charges_of self.old + charge < 2 ^ 64 }
@@ -179,16 +205,9 @@ impl<K: Hash + Eq + Clone, V: Drop> Table<K, V> {
         ensures refusal { IfErr result (λ e. e ≡ Refusal.Memory) }
         ensures work { self.new.work ≡ self.old.work }
     {
-        let (node, kept) = new_entry(alloc, stamp, key, charge)?;
-        make_room(&mut self.nodes, &mut self.by_key, &mut self.by_stamp, 1)?;
-        Ok(put(
-            &mut self.nodes,
-            &mut self.by_key,
-            &mut self.by_stamp,
-            &mut self.total,
-            node,
-            kept,
-        ))
+        let node = new_entry(alloc, stamp, hash, key, charge)?;
+        make_room(&mut self.nodes, &mut self.by_stamp, 1)?;
+        Ok(put(&mut self.nodes, &mut self.by_stamp, &mut self.total, node))
     }
 
     /// Adds a new entry, as `add` does, and detaches the held one that the key had. Everything that
@@ -200,9 +219,11 @@ impl<K: Hash + Eq + Clone, V: Drop> Table<K, V> {
         alloc: Global,
         place: Place,
         stamp: u64,
+        hash: u64,
         key: &K,
         charge: u64,
     ) -> Result<Place, Refusal>
+        requires hash { hash ≡ key_hash K.hash_input key.now }
         requires held { ContainsFoundAt self.old place }
         requires keyed { (e : Entry K V) → GetsAt self.old place e → K.eq e.key key.now ≡ true }
         requires fresh { ContainsNoStamp self.old stamp }
@@ -211,18 +232,10 @@ impl<K: Hash + Eq + Clone, V: Drop> Table<K, V> {
         ensures err { OnErr result (self.new ≡ self.old) }
         ensures refusal { IfErr result (λ e. e ≡ Refusal.Memory) }
     {
-        let (node, kept) = new_entry(alloc, stamp, key, charge)?;
-        make_room(&mut self.nodes, &mut self.by_key, &mut self.by_stamp, 1)?;
-        forget_key(&self.nodes, &mut self.by_key, place);
+        let node = new_entry(alloc, stamp, hash, key, charge)?;
+        make_room(&mut self.nodes, &mut self.by_stamp, 1)?;
         self.nodes.set_detached(place);
-        Ok(put(
-            &mut self.nodes,
-            &mut self.by_key,
-            &mut self.by_stamp,
-            &mut self.total,
-            node,
-            kept,
-        ))
+        Ok(put(&mut self.nodes, &mut self.by_stamp, &mut self.total, node))
     }
 
     /// Adds a new entry, as `add` does, and removes the idle one that the key had, which is
@@ -234,9 +247,11 @@ impl<K: Hash + Eq + Clone, V: Drop> Table<K, V> {
         alloc: Global,
         place: Place,
         stamp: u64,
+        hash: u64,
         key: &K,
         charge: u64,
     ) -> Result<(Box<Node<K, V>>, Place), Refusal>
+        requires hash { hash ≡ key_hash K.hash_input key.now }
         requires idle { ContainsIdleAt self.old place }
         requires keyed { (e : Entry K V) → GetsAt self.old place e → K.eq e.key key.now ≡ true }
         requires fresh { ContainsNoStamp self.old stamp }
@@ -249,25 +264,12 @@ impl<K: Hash + Eq + Clone, V: Drop> Table<K, V> {
         ensures err { OnErr result (self.new ≡ self.old) }
         ensures refusal { IfErr result (λ e. e ≡ Refusal.Memory) }
     {
-        let (node, kept) = new_entry(alloc, stamp, key, charge)?;
-        make_room(&mut self.nodes, &mut self.by_key, &mut self.by_stamp, 1)?;
+        let node = new_entry(alloc, stamp, hash, key, charge)?;
+        make_room(&mut self.nodes, &mut self.by_stamp, 1)?;
         self.nodes.remove(place);
-        let old = take_away(
-            &mut self.nodes,
-            &mut self.by_key,
-            &mut self.by_stamp,
-            &mut self.total,
-            place,
-        );
+        let old = take_away(&mut self.nodes, &mut self.by_stamp, &mut self.total, place);
         self.idle_charge -= old.charge;
-        let new = put(
-            &mut self.nodes,
-            &mut self.by_key,
-            &mut self.by_stamp,
-            &mut self.total,
-            node,
-            kept,
-        );
+        let new = put(&mut self.nodes, &mut self.by_stamp, &mut self.total, node);
         Ok((old, new))
     }
 
@@ -311,7 +313,6 @@ impl<K: Hash + Eq + Clone, V: Drop> Table<K, V> {
         requires { ContainsFoundAt self.old place }
         ensures { Rewrites held_detached self.old place self.new }
     {
-        forget_key(&self.nodes, &mut self.by_key, place);
         self.nodes.set_detached(place);
     }
 
@@ -385,13 +386,7 @@ impl<K: Hash + Eq + Clone, V: Drop> Table<K, V> {
         ensures stamps { self.new.stamps ≡ map.remove self.old.stamps place }
         ensures work { self.new.work ≡ self.old.work }
     {
-        take_away(
-            &mut self.nodes,
-            &mut self.by_key,
-            &mut self.by_stamp,
-            &mut self.total,
-            place,
-        )
+        take_away(&mut self.nodes, &mut self.by_stamp, &mut self.total, place)
     }
 
     /// Removes an idle entry. Takes no memory.
@@ -408,13 +403,7 @@ impl<K: Hash + Eq + Clone, V: Drop> Table<K, V> {
         ensures work { self.new.work ≡ self.old.work + 1 }
     {
         self.nodes.remove(place);
-        let node = take_away(
-            &mut self.nodes,
-            &mut self.by_key,
-            &mut self.by_stamp,
-            &mut self.total,
-            place,
-        );
+        let node = take_away(&mut self.nodes, &mut self.by_stamp, &mut self.total, place);
         self.idle_charge -= node.charge;
         node
     }
@@ -500,72 +489,65 @@ impl<K: Hash + Eq + Clone, V: Drop> Table<K, V> {
     }
 }
 
-// The node of a new entry, and the copy of its key that finds its place.
+// The node of a new entry.
 #[inline(always)]
 fn new_entry<K: Hash + Eq + Clone, V: Drop>(
     alloc: Global,
     stamp: u64,
+    hash: u64,
     key: &K,
     charge: u64,
-) -> Result<(Box<Node<K, V>>, K), Refusal>
-    ensures entry { IfOk result (λ r. entry_of r.0.value
-        ≡ new_entry stamp (entry_of r.0.value).key charge) }
-    ensures alone { IfOk result (λ r. chain_of r.0.value ≡ []) }
-    ensures own { IfOk result (λ r. K.is_clone key.now (entry_of r.0.value).key) }
-    ensures kept { IfOk result (λ r. K.is_clone key.now r.1) }
+) -> Result<Box<Node<K, V>>, Refusal>
+    ensures entry { IfOk result (λ n. entry_of n.value
+        ≡ new_entry stamp (entry_of n.value).key charge) }
+    ensures hash { IfOk result (λ n. hash_in n.value ≡ hash) }
+    ensures alone { IfOk result (λ n. chain_of n.value ≡ []) }
+    ensures own { IfOk result (λ n. K.is_clone key.now (entry_of n.value).key) }
     ensures refusal { IfErr result (λ e. e ≡ Refusal.Memory) }
 {
     let own = key.clone()?;
-    let kept = key.clone()?;
-    let node = Box::new(alloc, Node::new(stamp, own, charge))?;
-    Ok((node, kept))
+    let node = Box::new(alloc, Node::new(stamp, hash, own, charge))?;
+    Ok(node)
 }
 
 // Reserves room for `more` more entries, so that their inserts cannot fail.
-fn make_room<K: Hash + Eq + Drop, V: Drop>(
+fn make_room<K: Drop, V: Drop>(
     nodes: &mut Nodes<K, V>,
-    by_key: &mut HashMap<K, Place>,
     by_stamp: &mut StampIndex,
     more: usize,
 ) -> Result<(), Refusal>
-    ensures ok { OnOk result ((more ≤ nodes.new.spare) × (more ≤ spare by_key.new)
-        × HasRoomFor by_stamp.new more) }
+    ensures ok { OnOk result ((more ≤ nodes.new.spare) × HasRoomFor by_stamp.new more) }
     ensures refusal { IfErr result (λ e. e ≡ Refusal.Memory) }
     ensures nodes { nodes.new.nodes ≡ nodes.old.nodes }
+    ensures hashes { nodes.new.hashes ≡ nodes.old.hashes }
     ensures idle { nodes.new.idle ≡ nodes.old.idle }
     ensures work { nodes.new.work ≡ nodes.old.work }
-    ensures by_key { (k : K) → hash.get K.eq by_key.new k ≡ hash.get K.eq by_key.old k }
     ensures keeps { keeps_map by_stamp.new ≡ keeps_map by_stamp.old }
     ensures by_stamp { (s : ℕ) → mapped_place by_stamp.new s ≡ mapped_place by_stamp.old s }
 {
     nodes.reserve(more)?;
-    by_key.reserve(more)?;
     by_stamp.reserve(more)?;
     Ok(())
 }
 
-// Inserts a new node, for which there is room and whose key finds none. Returns its place.
+// Inserts a new node, for which there is room. Returns its place.
 #[inline(always)]
-fn put<K: Hash + Eq + Drop, V: Drop>(
+fn put<K: Drop, V: Drop>(
     nodes: &mut Nodes<K, V>,
-    by_key: &mut HashMap<K, Place>,
     by_stamp: &mut StampIndex,
     total: &mut u64,
     node: Box<Node<K, V>>,
-    kept: K,
 ) -> Place
     requires room { 0 < nodes.old.spare }
-    requires key_room { 0 < spare by_key.old }
     requires stamp_room { HasRoomFor by_stamp.old 1 }
     requires alone { chain_of node.value ≡ [] }
     requires fresh { IsNewStamp nodes.old (entry_of node.value).stamp }
     requires fits { total.old + (entry_of node.value).charge < 2 ^ 64 }
     ensures free { map.get nodes.old.nodes result ≡ None }
     ensures nodes { nodes.new.nodes ≡ map.insert nodes.old.nodes result (entry_of node.value) }
+    ensures hashes { nodes.new.hashes ≡ map.insert nodes.old.hashes result (hash_in node.value) }
     ensures idle { nodes.new.idle ≡ nodes.old.idle }
     ensures work { nodes.new.work ≡ nodes.old.work }
-    ensures by_key { (k : K) → hash.get K.eq by_key.new k
-        ≡ cond (K.eq kept k) (Some result) (hash.get K.eq by_key.old k) }
     ensures keeps { keeps_map by_stamp.new ≡ keeps_map by_stamp.old }
     ensures by_stamp { keeps_map by_stamp.old ≡ true → (s : ℕ) → mapped_place by_stamp.new s
         ≡ cond (nat_eq (entry_of node.value).stamp s) (Some result) (mapped_place by_stamp.old s) }
@@ -574,31 +556,14 @@ fn put<K: Hash + Eq + Drop, V: Drop>(
     let stamp = node.stamp;
     let charge = node.charge;
     let place = nodes.insert_reserved(node);
-    // Never refused, since there is room.
-    let _before = by_key.insert(kept, place);
     by_stamp.insert(stamp, place);
     *total += charge;
     place
 }
 
-// Removes the key of a node from the map by key.
-fn forget_key<K: Hash + Eq + Drop, V: Drop>(
-    nodes: &Nodes<K, V>,
-    by_key: &mut HashMap<K, Place>,
-    place: Place,
-)
-    requires { ContainsNode nodes.now place }
-    ensures forgotten { (e : Entry K V) → GetsEntry nodes.now place e → (k : K)
-        → hash.get K.eq by_key.new k ≡ cond (K.eq e.key k) None (hash.get K.eq by_key.old k) }
-    ensures room { spare by_key.old ≤ spare by_key.new }
-{
-    let _place = by_key.remove(&nodes.node(place).key);
-}
-
-// Removes a node that is in no order, with its map entries and its charge.
-fn take_away<K: Hash + Eq + Drop, V: Drop>(
+// Removes a node that is in no order, with its stamp and its charge.
+fn take_away<K: Drop, V: Drop>(
     nodes: &mut Nodes<K, V>,
-    by_key: &mut HashMap<K, Place>,
     by_stamp: &mut StampIndex,
     total: &mut u64,
     place: Place,
@@ -609,37 +574,43 @@ fn take_away<K: Hash + Eq + Drop, V: Drop>(
     ensures entry { GetsEntry nodes.old place (entry_of result.value) }
     ensures alone { chain_of result.value ≡ [] }
     ensures nodes { nodes.new.nodes ≡ map.remove nodes.old.nodes place }
+    ensures hashes { nodes.new.hashes ≡ map.remove nodes.old.hashes place }
     ensures idle { nodes.new.idle ≡ nodes.old.idle }
     ensures work { nodes.new.work ≡ nodes.old.work }
-    ensures by_key { (k : K) → hash.get K.eq by_key.new k
-        ≡ cond (entry_of result.value).detached (hash.get K.eq by_key.old k)
-        (cond (K.eq (entry_of result.value).key k) None (hash.get K.eq by_key.old k)) }
     ensures keeps { keeps_map by_stamp.new ≡ keeps_map by_stamp.old }
     ensures by_stamp { keeps_map by_stamp.old ≡ true → (s : ℕ) → mapped_place by_stamp.new s
         ≡ cond (nat_eq (entry_of result.value).stamp s) None (mapped_place by_stamp.old s) }
     ensures room { nodes.old.spare ≤ nodes.new.spare }
-    ensures key_room { spare by_key.old ≤ spare by_key.new }
     ensures stamp_room { HasRoomFor by_stamp.old 1 → HasRoomFor by_stamp.new 1 }
     ensures total { total.new + (entry_of result.value).charge ≡ total.old }
 {
     let node = nodes.take(place);
-    // The key of a detached node leads to a newer entry, if to any.
-    if !node.detached {
-        let _place = by_key.remove(&node.key);
-    }
     by_stamp.remove(node.stamp);
     *total -= node.charge;
     node
 }
 
-// Prints the ready entries as a map. An entry that is being made or detached is not shown.
+// Returns the value of a node if it is printed: if it is ready, and the node is not detached.
+fn shown<K: Drop, V: Drop>(node: &Node<K, V>) -> Option<&V> {
+    match &node.phase {
+        Phase::Ready(value) if !node.detached => Some(&**value),
+        _ => None,
+    }
+}
+
+// Prints the ready entries as a map, in the order of their places. An entry that is being made or
+// detached is not shown.
 impl<K: Hash + Eq + Clone + fmt::Debug, V: Drop + fmt::Debug> fmt::Debug for Table<K, V> {
     fn fmt<W: fmt::Write>(&self, f: &mut fmt::Formatter<W>) -> fmt::Result {
         let mut map = f.debug_map();
-        for place in self.by_key.values() {
-            let node = self.node(*place);
-            if let Phase::Ready(value) = &node.phase {
-                map.entry(&node.key, &**value);
+        let end = self.nodes.end_of_places();
+        for number in 0..end {
+            let place = Place::at(number);
+            if self.nodes.contains(place) {
+                let node = self.nodes.node(place);
+                if let Some(value) = shown(node) {
+                    map.entry(&node.key, value);
+                }
             }
         }
         map.finish()

@@ -1,4 +1,4 @@
-//! Keys of other kinds: text, whose copies allocate, and keys that all have the same hash.
+//! Keys of other kinds: text, whose copies allocate, and keys that share hashes.
 
 use concurrent_lru::lru_core::State;
 use lru_fixtures::makes::make;
@@ -53,4 +53,56 @@ fn tells_keys_of_one_hash_apart(rt: HostRuntime) {
         let (stamp, value) = found.expect(&rt, "all keys fit");
         assert_eq!(rt; (stamp, *value), (number, number));
     }
+}
+
+// A key whose hash is that of its group.
+#[derive(Clone, Copy, PartialEq, Eq)]
+#[derive_where(Hash)]
+struct Grouped {
+    group: u64,
+    #[derive_where(skip(Hash))]
+    number: u64,
+}
+
+impl Grouped {
+    fn of(number: usize) -> Grouped {
+        let number = number as u64;
+        Grouped {
+            group: number % 5,
+            number,
+        }
+    }
+}
+
+// Whether the cache has those of the keys that the model has, and as many.
+fn agrees(state: &State<Grouped, u64>, model: &[bool; 64]) -> bool {
+    for number in 0..64 {
+        if state.contains(&Grouped::of(number)) != model[number] {
+            return false;
+        }
+    }
+    state.len() == model.iter().filter(|there| **there).count()
+}
+
+// Equal hashes beside others, growth, and removals from every part of a run of entries, against a
+// plain model.
+#[test]
+fn a_model_agrees_on_keys_of_few_hashes(rt: HostRuntime) -> Result<(), Fail> {
+    let alloc = rt.alloc();
+    let mut model = [false; 64];
+    let mut state: State<Grouped, u64> = State::new(alloc, 64);
+    let mut x = 12345u32;
+    for _ in 0..1000 {
+        x = x.wrapping_mul(1664525).wrapping_add(1013904223);
+        let number = (x >> 16) as usize % 64;
+        let key = Grouped::of(number);
+        if model[number] {
+            let _old = state.invalidate(&key);
+        } else {
+            let _stamp = make(&mut state, &key, 1, Arc::new(alloc, 0)?);
+        }
+        model[number] = !model[number];
+        assert!(rt; agrees(&state, &model));
+    }
+    Ok(())
 }

@@ -14,7 +14,7 @@ fn keeps_a_node_from_its_insert_to_its_end(rt: HostRuntime) -> Result<(), Fail> 
     let mut nodes: Nodes<u64, u64> = Nodes::new(alloc);
     assert!(rt; nodes.oldest().is_none());
     nodes.reserve(1)?;
-    let place = nodes.insert_reserved(Box::new(alloc, Node::new(5, 1, 3))?);
+    let place = nodes.insert_reserved(Box::new(alloc, Node::new(5, 1, 1, 3))?);
     let node = nodes.node(place);
     assert_eq!(rt;
         (node.stamp, node.key, node.charge, node.pins),
@@ -44,10 +44,10 @@ fn gives_a_free_place_out_again(rt: HostRuntime) -> Result<(), Fail> {
     let alloc = rt.alloc();
     let mut nodes: Nodes<u64, u64> = Nodes::new(alloc);
     nodes.reserve(3)?;
-    let first = nodes.insert_reserved(Box::new(alloc, Node::new(0, 1, 1))?);
-    let second = nodes.insert_reserved(Box::new(alloc, Node::new(1, 2, 1))?);
+    let first = nodes.insert_reserved(Box::new(alloc, Node::new(0, 1, 1, 1))?);
+    let second = nodes.insert_reserved(Box::new(alloc, Node::new(1, 2, 2, 1))?);
     drop(nodes.take(first));
-    let third = nodes.insert_reserved(Box::new(alloc, Node::new(2, 3, 1))?);
+    let third = nodes.insert_reserved(Box::new(alloc, Node::new(2, 3, 3, 1))?);
     assert!(rt; third == first);
     assert!(rt; third != second);
     Ok(())

@@ -6,7 +6,7 @@ use Rattle.std.specs.FinMap.{values, empty}
 use Rattle.std.proofs.lemmas.Bool.{eqb-true, eq-eqb, true≢false}
 use Rattle.std.specs.declared.sync.Arc.{Arc}
 use Rattle.std.specs.declared.alloc.Global.{Global}
-use Rattle.concurrent_lru.specs.Results.{outcome_of_begin, outcome_of_get, outcome_of_poll, outcome_of_ready, found_without_place}
+use Rattle.concurrent_lru.specs.Results.{outcome_of_begin, outcome_of_get, outcome_of_poll, outcome_of_ready, found_without_hint}
 use Rattle.concurrent_lru.specs.Ready.{HasEqualKeyAt}
 use Rattle.concurrent_lru.specs.declared.step.Begun.{Begun}
 use Rattle.concurrent_lru.specs.declared.step.Begun.TheVariants as begun
@@ -23,6 +23,7 @@ use Rattle.concurrent_lru.specs.Steps.{Step, with_capacity}
 use Rattle.concurrent_lru.specs.declared.counts.Counts.{Counts}
 use Rattle.concurrent_lru.specs.declared.list.Refusal.{Refusal}
 use Rattle.concurrent_lru.specs.declared.list.Refusal.TheVariants.{Memory, Overflow, Stale}
+use Rattle.concurrent_lru.specs.declared.table.spot.Hint.{Hint}
 use Rattle.concurrent_lru.proofs.AddedUp.SizesOfSteps.{Resizes, KeepsSize, Evicts, same_size, settled_size, joined_size, left_size, phase_size, hit_size, made_size, removed_size, rested_size, ended_size, detached_size, dropped_size, stayed_size, pruned_size, evicts_none}
 use Rattle.concurrent_lru.proofs.Steps.EmptyCache.{no_entries, empty_sum, empty_lawful}
 
@@ -283,7 +284,7 @@ module _ {K V : Type 0} where
         (subst (λ d. IsSoundlyCounted E d (counts_from 0 0)) (sym is_empty) record { lawful = empty_lawful E capacity most_pins_by_default 0; adds_up = empty_adds_up capacity most_pins_by_default })
 
   -- the answers of the core's calls, and of those that count them
-  pub get_counted : (c : Cache K V) (k : K) (r : Result (Option (ℕ × Arc V Global × ℕ)) Refusal) (n : Counts) → counted_look r n ≡ counted c (ask.get k) (outcome_of_get (found_without_place r)) n
+  pub get_counted : (c : Cache K V) (k : K) (r : Result (Option (ℕ × Arc V Global × Hint)) Refusal) (n : Counts) → counted_look r n ≡ counted c (ask.get k) (outcome_of_get (found_without_hint r)) n
   get_counted c k (Ok (Some found)) n = refl
   get_counted c k (Ok None) n = refl
   get_counted c k (Err e) n = refl

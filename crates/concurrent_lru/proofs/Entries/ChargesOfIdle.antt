@@ -2,7 +2,6 @@
 -- rest.
 use Rattle.std.proofs.Common.{◌≡◌, ℕ, ◌+◌, ◌-◌, ◌≤◌, Bool, Some, refl, ◌∙◌, arith}
 use Rattle.std.specs.FinMap.{get, remove}
-use Rattle.std.specs.HashMap.{HashMap}
 use Rattle.concurrent_lru.specs.Cache.{Idle, Held, charges}
 use Rattle.concurrent_lru.specs.Entries.{Entries, charges_of}
 use Rattle.concurrent_lru.specs.Indexes.{IsStored, entries_of}
@@ -16,7 +15,7 @@ use Rattle.concurrent_lru.proofs.Entries.SumsOfHeld.{sum-remove}
 use Rattle.concurrent_lru.proofs.Lists.Members.{IsIn}
 use Rattle.concurrent_lru.proofs.Steps.BeginOfAbsent.{as_idle-ready}
 
-module _ {K V S : Type 0} {C : K → K → Type 0} {E : K → K → Bool} {t : NodeTable K V} {by_key : HashMap K ℕ S} {by_stamp : StampIndex} (r : IsStored C E t by_key by_stamp) (p : ℕ) (e : Entry K V) (at : get t.nodes p ≡ Some e) (idle : IsIn p t.idle) where
+module _ {K V : Type 0} {C : K → K → Type 0} {E : K → K → Bool} {H : K → ℕ} {t : NodeTable K V} {by_stamp : StampIndex} (r : IsStored C E H t by_stamp) (p : ℕ) (e : Entry K V) (at : get t.nodes p ≡ Some e) (idle : IsIn p t.idle) where
   -- what is left of the sum, and the charge that goes with it
   pub charges_left : (u : Entries K V) → u.idle ≡ without e.stamp (entries_of t).idle → charges u.idle + e.charge ≡ charges (entries_of t).idle
   charges_left u left =

@@ -6,7 +6,6 @@ use Rattle.std.specs.Option.{option_and_then}
 use Rattle.std.specs.Ordering.{nat_cmp}
 use Rattle.std.specs.Cmp.{nat_cmp_total, nat_eq_equiv}
 use Rattle.std.specs.FinMap.{FinMap, get, remove, empty, keys, get-empty, same_map, nat_cmp-IsAntisymmetric}
-use Rattle.std.specs.HashMap.{HashMap}
 use Rattle.std.proofs.lemmas.Bool.{eqb-true, eq-eqb, ne_eqb, true≢false}
 use Rattle.std.proofs.lemmas.Option.{none-some, same_Some}
 use Rattle.concurrent_lru.specs.Cache.{Idle, Held, Phase, making, untaken, ready}
@@ -151,7 +150,7 @@ module _ {K V : Type 0} where
         absurd (omega (arith, end, low, high))
   ] refl
 
-module _ {K V S : Type 0} {C : K → K → Type 0} {E : K → K → Bool} {t : NodeTable K V} {by_key : HashMap K ℕ S} {by_stamp : StampIndex} (r : IsStored C E t by_key by_stamp) where
+module _ {K V : Type 0} {C : K → K → Type 0} {E : K → K → Bool} {H : K → ℕ} {t : NodeTable K V} {by_stamp : StampIndex} (r : IsStored C E H t by_stamp) where
   -- all held entries lie at places with a node
   pub held_between : (b : ℕ) → ((p : ℕ) → b ≤ p → get t.nodes p ≡ None) → AreHeldBetween (entries_of t) 0 b
   held_between b past = λ s h at.

@@ -1,10 +1,7 @@
 -- The node at a place that an entry has.
 use Rattle.std.proofs.Common.{◌≡◌, ◌≢◌, ℕ, inr, List, [], ◌∷◌, ◌++◌, Option, Bool, true, false, Some, None, refl, sym, ap, ◌∙◌, subst, eqb, ◌==◌}
 use Rattle.std.specs.Prelude.{IsSome, is_some, slice_get}
-use Rattle.std.specs.Cmp.{IsEquivalence}
 use Rattle.std.specs.FinMap.{get, keys}
-use Rattle.std.specs.HashMap as hash
-use Rattle.std.specs.HashMap.{HashMap}
 use Rattle.std.proofs.lemmas.Bool.{true≢false, eqb-true, eq-eqb, ne_eqb}
 use Rattle.std.proofs.lemmas.Option.{none-some, same_Some}
 use Rattle.concurrent_lru.specs.Cache.{Idle, Held, ready, idle_at, held_at}
@@ -16,11 +13,11 @@ use Rattle.concurrent_lru.specs.Indexes.{IsStored, entries_of}
 use Rattle.concurrent_lru.proofs.Entries.NodesOfSetAndAdd.{held_in-get, held_in-found}
 use Rattle.concurrent_lru.proofs.Lists.Members.{IsIn, in_self}
 use Rattle.concurrent_lru.proofs.Steps.BeginOfAbsent.{found_idle, idle_in-get, as_idle-ready}
-use Rattle.std.specs.List.{AllByRecursion, filter_map, cons_option}
+use Rattle.std.specs.List.{filter_map, cons_option}
 use Rattle.std.specs.Option.{option_and_then, option_map, option_map_or}
 use Rattle.concurrent_lru.specs.Steps.{without}
 use Rattle.concurrent_lru.proofs.Entries.SumsOfCharges.{stamps_apart, first_out}
-use Rattle.concurrent_lru.proofs.Entries.PlacesOfNodes.{get_stamps, all_values}
+use Rattle.concurrent_lru.proofs.Entries.PlacesOfNodes.{get_stamps}
 
 module _ {K V : Type 0} where
   pub record IsNodeAt (t : NodeTable K V) (p s : ℕ) : Type 0 where
@@ -44,7 +41,7 @@ pub some_of : {A : Type 0} (o : Rattle.std.proofs.Common.Option A) → IsSome o 
 some_of None h = absurd (true≢false (sym h))
 some_of (Some x) h = (x, refl)
 
-module _ {K V S : Type 0} {C : K → K → Type 0} {E : K → K → Bool} {t : NodeTable K V} {by_key : HashMap K ℕ S} {by_stamp : StampIndex} (r : IsStored C E t by_key by_stamp) where
+module _ {K V : Type 0} {C : K → K → Type 0} {E : K → K → Bool} {H : K → ℕ} {t : NodeTable K V} {by_stamp : StampIndex} (r : IsStored C E H t by_stamp) where
   node_of : (p s : ℕ) → get (entries_of t).stamps p ≡ Some s → IsNodeAt t p s
   node_of p s h = elim (get t.nodes p) as (λ o. get t.nodes p ≡ o → option_map (λ x. x.stamp) o ≡ Some s → IsNodeAt t p s) [
     | None ↦ λ at k. absurd (none-some s k)
@@ -133,10 +130,6 @@ module _ {K V S : Type 0} {C : K → K → Type 0} {E : K → K → Bool} {t : N
       let pinned = held_node p e (found_place p h) at in
       let same : h.2 ≡ held_entry e = same_Some _ _ (sym h.3 ∙ sym (ap (held_at (cache_of (entries_of t))) stamp) ∙ held_found p e at pinned) in
       ap (λ y. y.detached) (sym same) ∙ h.4
-
-  -- each place in the map of keys is shown
-  pub values_are_places : IsEquivalence E → hash.IsUnique E by_key → AllByRecursion (λ p. ContainsPlace (entries_of t) p) (hash.values by_key)
-  values_are_places eq apart = all_values eq (λ p. ContainsPlace (entries_of t) p) by_key.entries apart (λ k p h. (let n = r.indexed.key_kept k p h in (n.0.stamp, place_at p n.0 n.1)))
 
   -- a stamp that no entry has is no held one's, nor is an idle one's
   pub unheld : (s : ℕ) → ContainsNoStamp (entries_of t) s → get (held_in t (keys t.nodes)) s ≡ None

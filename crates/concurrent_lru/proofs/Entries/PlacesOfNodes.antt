@@ -142,16 +142,3 @@ module _ {K V : Type 0} where
 
   pub empty_held : (t : NodeTable K V) → t.nodes ≡ empty → held_in t (keys t.nodes) ≡ empty
   empty_held t n = ap (λ xs. from_entries (filter_map (held_at_place t.nodes) xs)) (no_keys t n)
-
-module _ {K X : Type 0} {E : K → K → Bool} (eq : IsEquivalence E) where
-  -- what holds of each value that is found holds of all values
-  pub all_values : (P : X → Type 0) (es : List (K × X)) → IsDistinct E (keys_of es) → ((k : K) (x : X) → lookup (E k) es ≡ Some x → P x) → AllByRecursion P (values_of es)
-  unfolding IsDistinct
-  all_values P [] d h = tt
-  all_values P (e ∷ es) d h = (
-    h e.0 e.1 (lookup_head (E e.0) e es (eq.refl e.0)),
-    all_values P es d.1 (λ k x found. elim (E k e.0) as (λ b. E k e.0 ≡ b → P x) [
-      | true ↦ λ b. absurd (none-some x (sym (lookup-none (E k) es (none_past_head eq k e es d b)) ∙ found))
-      | false ↦ λ b. h k x (lookup_tail (E k) e es b ∙ found)
-    ] refl),
-  )

@@ -5,7 +5,6 @@ use Rattle.std.specs.List.{filter}
 use Rattle.std.specs.Ordering.{nat_cmp}
 use Rattle.std.specs.Cmp.{nat_cmp_total}
 use Rattle.std.specs.FinMap.{FinMap, get, insert, get-insert, same_map, nat_cmp-IsAntisymmetric}
-use Rattle.std.specs.HashMap.{HashMap}
 use Rattle.concurrent_lru.specs.Cache.{Idle, charges}
 use Rattle.concurrent_lru.specs.Entries.{charges_of}
 use Rattle.concurrent_lru.specs.NodeTable.{Entry, NodeTable, entry_with_pins}
@@ -38,25 +37,26 @@ module _ {K V : Type 0} where
     pub at : get t.nodes p ≡ Some e
     pub there : IsIn p t.idle
     pub nodes : t'.nodes ≡ t.nodes
+    pub hashes : t'.hashes ≡ t.hashes
     pub idle : t'.idle ≡ filter (λ q. not (eqb q p)) t.idle ++ p ∷ []
     pub work : t'.work ≡ t.work + 2
 
   -- the nodes between the pin and the release
   abbrev between : NodeTable K V → ℕ → Entry K V → NodeTable K V
-  between t p e = record { nodes = insert t.nodes p (entry_with_pins 1 e); idle = filter (λ q. not (eqb q p)) t.idle; spare = 0; work = t.work + 1; looks = 0 }
+  between t p e = record { nodes = insert t.nodes p (entry_with_pins 1 e); hashes = t.hashes; idle = filter (λ q. not (eqb q p)) t.idle; spare = 0; work = t.work + 1; looks = 0 }
 
-module _ {K V S : Type 0} {C : K → K → Type 0} {E : K → K → Bool} {t t' : NodeTable K V} {by_key : HashMap K ℕ S} {by_stamp : StampIndex} {p : ℕ} {e : Entry K V} (r : IsStored C E t by_key by_stamp) (w : Renews t t' p e) where
+module _ {K V : Type 0} {C : K → K → Type 0} {E : K → K → Bool} {H : K → ℕ} {t t' : NodeTable K V} {by_stamp : StampIndex} {p : ℕ} {e : Entry K V} (r : IsStored C E H t by_stamp) (w : Renews t t' p e) where
   pins : WritesNode t (between t p e) p e (entry_with_pins 1 e)
   pins = record { at = w.at; nodes = refl; stamp = refl }
 
   releases : WritesNode (between t p e) t' p (entry_with_pins 1 e) e
   releases = record { at = inserted_at t.nodes p (entry_with_pins 1 e); nodes = w.nodes ∙ sym (insert_back t.nodes p (entry_with_pins 1 e) e w.at); stamp = refl }
 
-  stored_between : IsStored C E (between t p e) by_key by_stamp
-  stored_between = stored_revived r pins refl refl refl refl
+  stored_between : IsStored C E H (between t p e) by_stamp
+  stored_between = stored_revived r pins refl refl refl refl refl
 
-  pub stored_renewed : IsStored C E t' by_key by_stamp
-  stored_renewed = let l = idle_like r p e w.at w.there in stored_rested stored_between releases refl refl l.0 w.idle refl l.1 l.2 (r.indexed.idle_kept p e w.at l.1)
+  pub stored_renewed : IsStored C E H t' by_stamp
+  stored_renewed = let l = idle_like r p e w.at w.there in stored_rested stored_between releases refl refl w.hashes l.0 w.idle refl l.1 l.2 (r.indexed.idle_kept p e w.at l.1)
 
   pub entries_renewed : RenewsAt (entries_of t) p (entries_of t')
   entries_renewed =

@@ -3,9 +3,6 @@
 use Rattle.std.proofs.Common.{◌≡◌, ℕ, Bool, ◌<◌, ◌+◌, ◌++◌, ◌∷◌, [], false, not, cond, Some, None, refl, sym, ap, ◌∙◌, eqb, ◌==◌, arith}
 use Rattle.std.specs.List.{filter}
 use Rattle.std.specs.FinMap.{get, insert, remove, keys}
-use Rattle.std.specs.Cmp.{IsEquivalence}
-use Rattle.std.specs.HashMap as hash
-use Rattle.std.specs.HashMap.{HashMap}
 use Rattle.std.proofs.lemmas.Bool.{true≢false, eq-eqb, ne_eqb}
 use Rattle.concurrent_lru.specs.Cache.{ready}
 use Rattle.concurrent_lru.specs.Steps.{without}
@@ -17,17 +14,18 @@ use Rattle.concurrent_lru.proofs.Entries.NodesOfSetAndAdd.{WritesNode, written_r
 use Rattle.concurrent_lru.proofs.Steps.BeginOfHeld.{revived_idle}
 use Rattle.concurrent_lru.proofs.Steps.Release.{pinned_writes}
 use Rattle.concurrent_lru.proofs.Entries.PlacesOfNodes.{represents_keys, held_alike, stamps_same}
-use Rattle.concurrent_lru.proofs.Entries.IndexedByMaps.{indexed_written, indexed_detached}
-use Rattle.concurrent_lru.proofs.Entries.FoundByMaps.{alike_get}
+use Rattle.concurrent_lru.proofs.Entries.IndexedByStamp.{indexed_written}
+use Rattle.concurrent_lru.proofs.Entries.HashesOfNodes.{hashed_written}
 
 pub not_zero : (n : ℕ) → 0 < n → (n == 0) ≡ false
 not_zero n h = ne_eqb n 0 (λ z. absurd (omega arith))
 
-module _ {K V S : Type 0} {C : K → K → Type 0} {E : K → K → Bool} {t t' : NodeTable K V} {by_key : HashMap K ℕ S} {by_stamp : StampIndex} {p : ℕ} {e f : Entry K V} (r : IsStored C E t by_key by_stamp) (w : WritesNode t t' p e f) (same_key : f.key ≡ e.key) (same_found : f.detached ≡ e.detached) where
-  stored_over : (f.pins ≡ 0 → e.detached ≡ false) → IsRepresentation t' (keys t.nodes) → IsStored C E t' by_key by_stamp
-  stored_over idle there = record {
+module _ {K V : Type 0} {C : K → K → Type 0} {E : K → K → Bool} {H : K → ℕ} {t t' : NodeTable K V} {by_stamp : StampIndex} {p : ℕ} {e f : Entry K V} (r : IsStored C E H t by_stamp) (w : WritesNode t t' p e f) (same_key : f.key ≡ e.key) (same_found : f.detached ≡ e.detached) where
+  stored_over : t'.hashes ≡ t.hashes → (f.pins ≡ 0 → e.detached ≡ false) → IsRepresentation t' (keys t.nodes) → IsStored C E H t' by_stamp
+  stored_over hashes idle there = record {
     represents = represents_keys t' (keys t.nodes) there;
-    indexed = indexed_written p e f r.indexed w.nodes w.at same_key w.stamp same_found idle;
+    indexed = indexed_written p e f r.indexed w.nodes w.at w.stamp (λ none. same_found ∙ idle none);
+    hashed = hashed_written H t.nodes t'.nodes t.hashes t'.hashes p e f w.nodes w.at same_key hashes r.hashed;
     copies = r.copies;
   }
 
@@ -38,8 +36,8 @@ module _ {K V S : Type 0} {C : K → K → Type 0} {E : K → K → Bool} {t t' 
   stamps_over = ap stamps_of w.nodes ∙ stamps_same t.nodes p e f w.at w.stamp
 
   -- held before and after
-  pub stored_written : t'.idle ≡ t.idle → (e.pins == 0) ≡ false → (f.pins == 0) ≡ false → IsStored C E t' by_key by_stamp
-  stored_written i h k = stored_over (λ none. absurd (true≢false (sym (eq-eqb f.pins 0 none) ∙ k))) (written_represents r.represents w i h k)
+  pub stored_written : t'.hashes ≡ t.hashes → t'.idle ≡ t.idle → (e.pins == 0) ≡ false → (f.pins == 0) ≡ false → IsStored C E H t' by_stamp
+  stored_written hashes i h k = stored_over hashes (λ none. absurd (true≢false (sym (eq-eqb f.pins 0 none) ∙ k))) (written_represents r.represents w i h k)
 
   pub entries_written : t'.idle ≡ t.idle → (e.pins == 0) ≡ false → (f.pins == 0) ≡ false → t'.work ≡ t.work → entries_of t' ≡ record (entries_of t) { held = insert (held_in t (keys t.nodes)) e.stamp (held_entry f) }
   entries_written i h k work =
@@ -49,8 +47,8 @@ module _ {K V S : Type 0} {C : K → K → Type 0} {E : K → K → Bool} {t t' 
       λ j. record { idle = idle j; held = held j; stamps = same j; work = work j }
 
   -- idle before, held after
-  pub stored_revived : t'.idle ≡ filter (λ q. not (eqb q p)) t.idle → (f.pins == 0) ≡ false → IsStored C E t' by_key by_stamp
-  stored_revived i k = stored_over (λ none. absurd (true≢false (sym (eq-eqb f.pins 0 none) ∙ k))) (revived_represents r.represents w i k)
+  pub stored_revived : t'.hashes ≡ t.hashes → t'.idle ≡ filter (λ q. not (eqb q p)) t.idle → (f.pins == 0) ≡ false → IsStored C E H t' by_stamp
+  stored_revived hashes i k = stored_over hashes (λ none. absurd (true≢false (sym (eq-eqb f.pins 0 none) ∙ k))) (revived_represents r.represents w i k)
 
   pub entries_revived : (v : V) → t'.idle ≡ filter (λ q. not (eqb q p)) t.idle → e.pins ≡ 0 → e.phase ≡ ready v → (f.pins == 0) ≡ false → t'.work ≡ t.work + 1 → entries_of t' ≡ record (entries_of t) { idle = without e.stamp (idle_in t); held = insert (held_in t (keys t.nodes)) e.stamp (held_entry f); work = t.work + 1 }
   entries_revived v i z ph k work =
@@ -60,8 +58,8 @@ module _ {K V S : Type 0} {C : K → K → Type 0} {E : K → K → Bool} {t t' 
       λ j. record { idle = idle j; held = held j; stamps = same j; work = work j }
 
   -- held before, idle after
-  pub stored_rested : (v : V) → t'.idle ≡ t.idle ++ p ∷ [] → (e.pins == 0) ≡ false → f.pins ≡ 0 → f.phase ≡ ready v → e.detached ≡ false → IsStored C E t' by_key by_stamp
-  stored_rested v i h z ph found = stored_over (λ _. found) (rested_represents r.represents w v i h z ph)
+  pub stored_rested : t'.hashes ≡ t.hashes → (v : V) → t'.idle ≡ t.idle ++ p ∷ [] → (e.pins == 0) ≡ false → f.pins ≡ 0 → f.phase ≡ ready v → e.detached ≡ false → IsStored C E H t' by_stamp
+  stored_rested hashes v i h z ph found = stored_over hashes (λ _. found) (rested_represents r.represents w v i h z ph)
 
   pub entries_rested : (v : V) → t'.idle ≡ t.idle ++ p ∷ [] → (e.pins == 0) ≡ false → f.pins ≡ 0 → f.phase ≡ ready v → t'.work ≡ t.work + 1
       → entries_of t' ≡ record (entries_of t) { idle = idle_in t ++ record { stamp = f.stamp; key = f.key; charge = f.charge; value = v } ∷ []; held = remove (held_in t (keys t.nodes)) e.stamp; work = t.work + 1 }
@@ -76,22 +74,23 @@ module _ {K V : Type 0} where
   pub rests_nodes : (old mid new : NodeTable K V) (p : ℕ) (e : Entry K V) → get old.nodes p ≡ Some e → mid.nodes ≡ update_at (entry_with_pins 0) old.nodes p → new.nodes ≡ mid.nodes → WritesNode old new p e (entry_with_pins 0 e)
   rests_nodes old mid new p e at changed same = pinned_writes old new p 0 e at (same ∙ changed)
 
-module _ {K V S : Type 0} {C : K → K → Type 0} {E : K → K → Bool} {t t' : NodeTable K V} {by_key : HashMap K ℕ S} {by_stamp : StampIndex} {p : ℕ} {e : Entry K V} (r : IsStored C E t by_key by_stamp) (w : WritesNode t t' p e (entry_with_pins 1 e)) where
+module _ {K V : Type 0} {C : K → K → Type 0} {E : K → K → Bool} {H : K → ℕ} {t t' : NodeTable K V} {by_stamp : StampIndex} {p : ℕ} {e : Entry K V} (r : IsStored C E H t by_stamp) (w : WritesNode t t' p e (entry_with_pins 1 e)) where
   pub entries_revived_by_one : (v : V) → t'.idle ≡ filter (λ q. not (eqb q p)) t.idle → e.pins ≡ 0 → e.phase ≡ ready v → t'.work ≡ t.work + 1
       → entries_of t' ≡ record (entries_of t) { idle = without e.stamp (idle_in t); held = insert (held_in t (keys t.nodes)) e.stamp (record { key = e.key; charge = e.charge; pins = 1; detached = false; phase = ready v }); work = t.work + 1 }
   entries_revived_by_one v i z ph work = let found = r.indexed.idle_kept p e w.at z in entries_revived r w refl refl v i z ph refl work
       ∙ (λ j. record (entries_of t) { idle = without e.stamp (idle_in t); held = insert (held_in t (keys t.nodes)) e.stamp (record { key = e.key; charge = e.charge; pins = 1; detached = found j; phase = ph j }); work = t.work + 1 })
 
-module _ {K V S : Type 0} {C : K → K → Type 0} {E : K → K → Bool} (eq : IsEquivalence E) {t t' : NodeTable K V} {by_key by_key' : HashMap K ℕ S} {by_stamp : StampIndex} {p : ℕ} {e : Entry K V} (r : IsStored C E t by_key by_stamp) (w : WritesNode t t' p e (entry_detached e)) where
+module _ {K V : Type 0} {C : K → K → Type 0} {E : K → K → Bool} {H : K → ℕ} {t t' : NodeTable K V} {by_stamp : StampIndex} {p : ℕ} {e : Entry K V} (r : IsStored C E H t by_stamp) (w : WritesNode t t' p e (entry_detached e)) where
   -- held before and after, and detached from its key
-  pub stored_detached : t'.idle ≡ t.idle → (e.pins == 0) ≡ false → e.detached ≡ false → ((k : K) → hash.get E by_key' k ≡ cond (E e.key k) None (hash.get E by_key k)) → IsStored C E t' by_key' by_stamp
-  stored_detached i h found forgets = record {
+  pub stored_detached : t'.hashes ≡ t.hashes → t'.idle ≡ t.idle → (e.pins == 0) ≡ false → IsStored C E H t' by_stamp
+  stored_detached hashes i h = record {
     represents = represents_keys t' (keys t.nodes) (written_represents r.represents w i h h);
-    indexed = indexed_detached (alike_get eq by_key) r.indexed p e (entry_detached e) w.nodes w.at refl w.stamp found refl (λ none. true≢false (sym (eq-eqb e.pins 0 none) ∙ h)) forgets;
+    indexed = indexed_written p e (entry_detached e) r.indexed w.nodes w.at w.stamp (λ none. absurd (true≢false (sym (eq-eqb e.pins 0 none) ∙ h)));
+    hashed = hashed_written H t.nodes t'.nodes t.hashes t'.hashes p e (entry_detached e) w.nodes w.at refl hashes r.hashed;
     copies = r.copies;
   }
 
-module _ {K V S : Type 0} {C : K → K → Type 0} {E : K → K → Bool} {t t' : NodeTable K V} {by_key : HashMap K ℕ S} {by_stamp : StampIndex} {p : ℕ} {e : Entry K V} (r : IsStored C E t by_key by_stamp) (w : WritesNode t t' p e (entry_detached e)) where
+module _ {K V : Type 0} {C : K → K → Type 0} {E : K → K → Bool} {H : K → ℕ} {t t' : NodeTable K V} {by_stamp : StampIndex} {p : ℕ} {e : Entry K V} (r : IsStored C E H t by_stamp) (w : WritesNode t t' p e (entry_detached e)) where
   pub entries_detached : t'.idle ≡ t.idle → (e.pins == 0) ≡ false → t'.work ≡ t.work → entries_of t' ≡ record (entries_of t) { held = insert (held_in t (keys t.nodes)) e.stamp (held_entry (entry_detached e)) }
   entries_detached i h work =
       let there = written_represents r.represents w i h h in

@@ -12,6 +12,7 @@ use Rattle.concurrent_lru.specs.NodeTable.{Entry}
 use Rattle.concurrent_lru.specs.Representation.{as_idle, held_entry}
 use Rattle.concurrent_lru.specs.Entries.{Entries, AddsOverHeld, AddsOverIdle, GetsAt, cache_with, charges_of}
 use Rattle.concurrent_lru.specs.declared.list.Refusal.TheVariants.{Memory, Overflow}
+use Rattle.concurrent_lru.specs.declared.table.spot.Hint.{Hint}
 use Rattle.concurrent_lru.proofs.Entries.EntryAtPlace.{seen_ready, idle_here}
 use Rattle.concurrent_lru.proofs.Entries.StepsOfEntries.{makes, detaches, drops}
 use Rattle.concurrent_lru.proofs.Entries.SumsOfCharges.{sum_written, sum_evicted, idle_bound}
@@ -71,8 +72,8 @@ module _ {K V : Type 0} (E : K → K → Bool) (laws : IsEquivalence E) (capacit
           let same : charges_of w.mid ≡ charges_of t = sum_written t w.mid r.stamp r.entry (held_detached r.entry) (ap (λ u. u.idle) r.changed) (ap (λ u. u.held) r.changed) r.held refl in
           makes E capacity most next w.mid added new k w.added.copy charge out absent w.added.same_key (omega (arith, fits, same)) low w.added.idle w.added.held held front
 
-      pub remakes_held : (p : ℕ) → Remakes E old k charge (Ok (record { stamp = next; place = p }, [], out)) (cache_with capacity most (next + 1) new)
-      remakes_held p = (cache_with capacity most next w.mid, inr (inl gone), inl makes_held)
+      pub remakes_held : (h : Hint) → Remakes E old k charge (Ok (record { stamp = next; hint = h }, [], out)) (cache_with capacity most (next + 1) new)
+      remakes_held h = (cache_with capacity most next w.mid, inr (inl gone), inl makes_held)
 
       pub held_lawful : 0 < charge → 0 < most → IsLawful E (cache_with capacity most (next + 1) new)
       held_lawful some pins = makes_lawful E _ _ k charge next out laws (detaches_lawful E old _ k [] l gone) some pins makes_held
@@ -136,8 +137,8 @@ module _ {K V : Type 0} (E : K → K → Bool) (laws : IsEquivalence E) (capacit
           let less : charges_of w.mid + e.charge ≡ charges_of t = sum_evicted t w.mid e.stamp shown l.idle_apart (w.idle ∙ ap (λ s. without s t.idle) stamp) w.held shown_at in
           makes E capacity most next w.mid added new k w.added.copy charge out absent w.added.same_key (omega (arith, fits, less)) low w.added.idle w.added.held held front
 
-      pub remakes_idle : (p : ℕ) → Remakes E old k charge (Ok (record { stamp = next; place = p }, replaced, out)) (cache_with capacity most (next + 1) new)
-      remakes_idle p = (cache_with capacity most next w.mid, inl left, inl makes_idle)
+      pub remakes_idle : (h : Hint) → Remakes E old k charge (Ok (record { stamp = next; hint = h }, replaced, out)) (cache_with capacity most (next + 1) new)
+      remakes_idle h = (cache_with capacity most next w.mid, inl left, inl makes_idle)
 
       pub idle_lawful : 0 < charge → 0 < most → IsLawful E (cache_with capacity most (next + 1) new)
       idle_lawful some pins = makes_lawful E _ _ k charge next out laws (drops_lawful E old _ k replaced l left) some pins makes_idle

@@ -4,8 +4,22 @@ use denote.RawPtr.{Ptr}
 use Rattle.concurrent_lru.specs.Cells.{cell, cell_at, put_at, slot_at, write_to, AtFirst, AtSlot, OfSlot}
 use Rattle.concurrent_lru.specs.NodeTable.{Entry, entry_of}
 use Rattle.concurrent_lru.specs.Relinks.{NodeCell, NodeCells, before_link, after_link, before_in, after_in, before_at, after_at, IsRelinked, Relinks, Unlinks, IsRevalued, Revalues}
+use Rattle.concurrent_lru.specs.SlotWrites.{OnlyWrites, OnlyLooksAndWrites}
 use Rattle.concurrent_lru.specs.declared.list.Node.{Node}
+use Rattle.concurrent_lru.specs.declared.list.slots.Slots.{Slots}
 use Rattle.concurrent_lru.proofs.Memory.CellSlots.{slot_of_held, value_at_slot, put_same, put_other, write_is_put}
+
+-- ---- one write after another
+module _ {K V : Type 0} where
+  -- a look, or a write, changes nothing else
+  pub only_looked : (s t : Slots K V) → t ≡ record s { looks = t.looks } → OnlyLooksAndWrites s t
+  only_looked s t e = e ∙ ap (λ m. record s { memory = m; looks = t.looks }) (sym (ap (λ (x : Slots K V). x.memory) e))
+
+  pub only_wrote : (s t : Slots K V) → OnlyWrites s t → OnlyLooksAndWrites s t
+  only_wrote s t e = e ∙ ap (λ l. record s { memory = t.memory; looks = l }) (sym (ap (λ (x : Slots K V). x.looks) e))
+
+  pub then_writes : (s t u : Slots K V) → OnlyLooksAndWrites s t → OnlyLooksAndWrites t u → OnlyLooksAndWrites s u
+  then_writes s t u e f = f ∙ ap (λ (x : Slots K V). record x { memory = u.memory; looks = u.looks }) e
 
 -- the node at p, which is now, is written to new
 module _ {K V : Type 0} (cs : NodeCells K V) (p : Ptr) (now new : Node K V) (value : AtFirst cs p (λ _ c. now ≡ c.value)) where

@@ -1,6 +1,6 @@
 -- What the slots show: the node at a place, whether it is idle, and what an insert, a write and a
 -- removal do to both.
-use Rattle.std.proofs.Common.{◌≡◌, ◌≢◌, ℕ, ◌-◌, List, [], ◌∷◌, map, Option, Some, None, refl, sym, ap, ◌∙◌, subst, arith, ◌≤◌, IsSome, inl, inr, Bool, eqb}
+use Rattle.std.proofs.Common.{◌≡◌, ◌≢◌, ℕ, List, [], ◌∷◌, map, Option, Some, None, refl, sym, ap, ◌∙◌, subst, arith, ◌≤◌, IsSome, inl, inr, Bool, eqb}
 use Rattle.std.proofs.Common.{is_some}
 use Rattle.std.specs.List.{list_any}
 use Rattle.std.proofs.lemmas.Bool.{cases_eq}
@@ -14,14 +14,18 @@ use Rattle.concurrent_lru.specs.Order.{Link, link, first_or, last_or, Absent, Li
 use Rattle.concurrent_lru.specs.Slots.{map_of_slots}
 use Rattle.concurrent_lru.specs.NodeTable.{NodeTable, Entry, entry_of}
 use Rattle.concurrent_lru.specs.Relinks.{NodeCell, NodeCells, slot_in, before_in, after_in, before_at, after_at}
-use Rattle.concurrent_lru.specs.SlotTable.{link_of, link_at, entry_in, entry_at, idle_places, idle_of, nodes_of, node_table_of, IsGood, AreGood, IsEnd, IsWellLinked, Lists}
-use Rattle.concurrent_lru.specs.SlotWrites.{OnlyWrites, Rewrites, RewritesLink}
-use Rattle.concurrent_lru.proofs.Lists.SlotsAsMaps.{map_of_slots_at, made_insert, made_remove}
+use Rattle.concurrent_lru.specs.SlotTable.{IsWhole, link_of, link_at, entry_in, entry_at, idle_places, idle_of, nodes_of, node_table_of, IsGood, AreGood, IsEnd, IsWellLinked, Lists}
+use Rattle.concurrent_lru.specs.SlotWrites.{OnlyWrites, OnlyLooksAndWrites, Rewrites, RewritesLink}
+use Rattle.concurrent_lru.specs.Listing.{unless, listing_in, hash_in, KeepsListings, spare_of}
+use Rattle.concurrent_lru.specs.Probing.Entries.{entry}
+use Rattle.concurrent_lru.specs.Probing.OpenTable.{mark_of}
+use Rattle.concurrent_lru.proofs.Nodes.Listings.{looked_keeps, listed_kept}
+use Rattle.concurrent_lru.proofs.Lists.SlotsAsMaps.{map_of_slots_at, made_insert, made_remove, made_same}
 use Rattle.concurrent_lru.proofs.Order.Links.{Same, linked_same}
 use Rattle.concurrent_lru.specs.NodeTable.{update_at}
 use Rattle.std.specs.List.{IsDistinct}
 use Rattle.std.specs.Option.{option_map_or}
-use Rattle.slab.specs.Slab.{get, slab_len}
+use Rattle.slab.specs.Slab.{get}
 use Rattle.concurrent_lru.proofs.Memory.CellSlots.{slot_of_held, value_at_slot, slots_kept}
 use Rattle.concurrent_lru.proofs.Order.Appending.{some_cell, distinct, read, link_told_at, links_same, get_or-map_option, table_looked}
 use Rattle.concurrent_lru.proofs.Order.TakingOut.{present_in}
@@ -199,6 +203,14 @@ module _ {K V : Type 0} where
         ];
       }
 
+    pub hashes_written : (q : ℕ) → hash_in (cell_at ds q) ≡ hash_in (cell_at cs q)
+    hashes_written = alike hash_in (ap Some r.node.hash)
+
+    pub listings_written : ((e : Entry K V) → (f e).detached ≡ e.detached) → KeepsListings cs ds
+    listings_written kept q =
+        let same : (entry_of r.new.value).detached ≡ (entry_of r.old.value).detached = ap (λ (e : Entry K V). e.detached) r.node.entry ∙ kept (entry_of r.old.value) in
+        (hashes_written q, alike listing_in (λ i. unless (same i) (entry (mark_of (r.node.hash i)) (record { ptr = r.at i }))) q)
+
     pub nodes_written : (v : NodeTable K V) (w p : ℕ) → node_table_of o w ≡ v → slot ≡ p → map_of_slots (map entry_in ds) ≡ update_at f v.nodes p
     nodes_written v w p e is =
         let at : fin.get v.nodes p ≡ Some (entry_of r.old.value) = node_had o w v e slot p is ∙ ap entry_in r.was in
@@ -210,9 +222,10 @@ module _ {K V : Type 0} where
     pub at : LeadsTo new.slots p k
     pub idle : idle_of new ≡ idle_of old
     pub nodes : nodes_of new ≡ update_at f (nodes_of old) k
+    pub listings : KeepsListings (cells_of old.slots) (cells_of new.slots)
 
-  pub written : (o : Order K V) (u t : Slots K V) {k : ℕ} {p : Ptr} (f : Entry K V → Entry K V) → IsWellLinked o → u ≡ record o.slots { looks = u.looks } → IsTied u → LeadsTo o.slots p k → OnlyWrites u t → RewritesLink u t p f → IsWritten o (record o { slots = t }) k p f
-  written o u t {k} {p} f kept rest tied link slots cells =
+  pub written : (o : Order K V) (u t : Slots K V) {k : ℕ} {p : Ptr} (f : Entry K V → Entry K V) → ((e : Entry K V) → (f e).detached ≡ e.detached) → IsWellLinked o → u ≡ record o.slots { looks = u.looks } → IsTied u → LeadsTo o.slots p k → OnlyWrites u t → RewritesLink u t p f → IsWritten o (record o { slots = t }) k p f
+  written o u t {k} {p} f found kept rest tied link slots cells =
       let now : Order K V = record o { slots = u } in
       let same : cells_of u ≡ cells_of o.slots = ap (λ x. x.memory.cells) rest in
       let at : LeadsTo u p k = ap (λ l. slot_at l p) same ∙ link in
@@ -223,6 +236,7 @@ module _ {K V : Type 0} where
         at = slots_all now t k f pointers r (Some p) ∙ at;
         idle = idle_written now t k f pointers r looked ∙ ap (λ l. idle_places l o.oldest) same;
         nodes = nodes_written now t k f pointers r (node_table_of now 0) 0 k refl refl ∙ ap (λ l. update_at f (map_of_slots (map entry_in l)) k) same;
+        listings = looked_keeps o.slots u (cells_of t) rest (listings_written now t k f pointers r found);
       }
 
   -- what is in the order has a node, and stands there once
@@ -234,9 +248,30 @@ module _ {K V : Type 0} where
   pub idle_distinct : (o : Order K V) → IsWellLinked o → IsDistinct eqb (idle_of o)
   idle_distinct o t = distinct (idle_of o) t.ordered.distinct
 
-  -- as much to spare as before
-  pub spare_same : (o : Order K V) (t : Slots K V) (v : NodeTable K V) (w : ℕ) → node_table_of o w ≡ v → t.pointers ≡ o.slots.pointers → v.spare ≤ t.pointers.capacity - slab_len t.pointers
+  -- ---- the hashes, and the room to spare
+  pub hashes_same : (cs ds : NodeCells K V) → ((q : ℕ) → hash_in (cell_at ds q) ≡ hash_in (cell_at cs q)) → map_of_slots (map hash_in ds) ≡ map_of_slots (map hash_in cs)
+  hashes_same cs ds same = made_same (map hash_in cs) (map hash_in ds) (λ q. get_or-map_option hash_in refl ds q ∙ same q ∙ sym (get_or-map_option hash_in refl cs q))
+
+  pub hashes_inserted : (cs ds : NodeCells K V) (slot x : ℕ) → ((q : ℕ) → q ≢ slot → cell_at ds q ≡ cell_at cs q) → hash_in (cell_at ds slot) ≡ Some x → map_of_slots (map hash_in ds) ≡ fin.insert (map_of_slots (map hash_in cs)) slot x
+  hashes_inserted cs ds slot x others h = made_insert (map hash_in cs) (map hash_in ds) slot x (get_or-map_option hash_in refl ds slot ∙ h)
+      (λ q ne. get_or-map_option hash_in refl ds q ∙ ap hash_in (others q ne) ∙ sym (get_or-map_option hash_in refl cs q))
+
+  pub hashes_removed : (cs ds : NodeCells K V) (slot : ℕ) → ((q : ℕ) → q ≢ slot → cell_at ds q ≡ cell_at cs q) → cell_at ds slot ≡ None → map_of_slots (map hash_in ds) ≡ fin.remove (map_of_slots (map hash_in cs)) slot
+  hashes_removed cs ds slot others h = made_remove (map hash_in cs) (map hash_in ds) slot (get_or-map_option hash_in refl ds slot ∙ ap hash_in h)
+      (λ q ne. get_or-map_option hash_in refl ds q ∙ ap hash_in (others q ne) ∙ sym (get_or-map_option hash_in refl cs q))
+
+  pub hash_had : (o : Order K V) (w : ℕ) (v : NodeTable K V) → node_table_of o w ≡ v → (k p : ℕ) → k ≡ p → fin.get v.hashes p ≡ hash_in (cell_at (cells_of o.slots) k)
+  hash_had o w v e k p f = (λ i. fin.get (sym e i).hashes (sym f i)) ∙ map_of_slots_at (map hash_in (cells_of o.slots)) k ∙ get_or-map_option hash_in refl (cells_of o.slots) k
+
+  -- at least as much to spare as before
+  pub spare_kept : (o : Order K V) (t : Slots K V) (v : NodeTable K V) (w : ℕ) → node_table_of o w ≡ v → spare_of o.slots ≤ spare_of t → v.spare ≤ spare_of t
+  spare_kept o t v w e le = subst (λ n. n ≤ spare_of t) (ap (λ (x : NodeTable K V). x.spare) e) le
+
+  pub spare_same : (o : Order K V) (t : Slots K V) (v : NodeTable K V) (w : ℕ) → node_table_of o w ≡ v → OnlyLooksAndWrites o.slots t → v.spare ≤ spare_of t
   spare_same o t v w e same =
-      let was : o.slots.pointers.capacity - slab_len o.slots.pointers ≡ v.spare = ap (λ x. x.spare) e in
-      let now : t.pointers.capacity - slab_len t.pointers ≡ o.slots.pointers.capacity - slab_len o.slots.pointers = ap (λ l. l.capacity - slab_len l) same in
-      omega (arith, was, now)
+      let kept : spare_of t ≡ spare_of o.slots = ap spare_of same in
+      spare_kept o t v w e (let was = spare_of o.slots in let now = spare_of t in let is : now ≡ was = kept in omega (arith, is))
+
+  -- ---- what a change of links or entries leaves whole
+  pub whole_kept : (o q : Order K V) → IsWhole o → IsWellLinked q → OnlyLooksAndWrites o.slots q.slots → KeepsListings (cells_of o.slots) (cells_of q.slots) → IsWhole q
+  whole_kept o q whole linked rest keeps = record { linked = linked; listed = listed_kept o.slots q.slots (ap (λ (s : Slots K V). s.by_hash) rest) keeps whole.listed }

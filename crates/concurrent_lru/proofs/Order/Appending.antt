@@ -14,8 +14,10 @@ use Rattle.concurrent_lru.specs.Slots.{map_of_slots}
 use Rattle.concurrent_lru.specs.Relinks.{NodeCell, NodeCells, Relinks, slot_in, before_link, after_link, before_in, after_in, before_at, after_at}
 use Rattle.concurrent_lru.specs.SlotTable.{link_of, link_at, entry_in, idle_places, nodes_of, idle_of, IsGood, IsGoodAt, AreGood, IsEnd, IsWellLinked, Omits, order_with}
 use Rattle.concurrent_lru.specs.SlotWrites.{SetsLinks, SetsAfter}
+use Rattle.concurrent_lru.specs.Listing.{hash_in, KeepsListings}
 use Rattle.concurrent_lru.proofs.Memory.CellSlots.{slots_kept}
 use Rattle.concurrent_lru.proofs.Lists.SlotsAsMaps.{made_same}
+use Rattle.concurrent_lru.proofs.Nodes.Listings.{listed_alike}
 use Rattle.concurrent_lru.proofs.Order.Links.{order_read, order_push, first_of}
 
 -- ---- lists of places
@@ -66,9 +68,10 @@ module _ {K V : Type 0} where
     pub pointers : (q : ℕ) → ptr_in (cell_at ds q) ≡ ptr_in (cell_at cs q)
     pub places : (q : ℕ) → place_in (cell_at ds q) ≡ place_in (cell_at cs q)
     pub ends : (q : ℕ) → IsEnd (cell_at cs q) → IsEnd (cell_at ds q)
+    pub hashes : (q : ℕ) → hash_in (cell_at ds q) ≡ hash_in (cell_at cs q)
 
   pub quiet_same : (cs ds : NodeCells K V) → ds ≡ cs → Quiet cs ds
-  quiet_same cs ds e = subst (Quiet cs) (sym e) (record { entries = λ q. refl; pointers = λ q. refl; places = λ q. refl; ends = λ q h. h })
+  quiet_same cs ds e = subst (Quiet cs) (sym e) (record { entries = λ q. refl; pointers = λ q. refl; places = λ q. refl; ends = λ q h. h; hashes = λ q. refl })
 
   pub quiet_trans : (cs ds es : NodeCells K V) → Quiet cs ds → Quiet ds es → Quiet cs es
   quiet_trans cs ds es a b = record {
@@ -76,7 +79,11 @@ module _ {K V : Type 0} where
     pointers = λ q. b.pointers q ∙ a.pointers q;
     places = λ q. b.places q ∙ a.places q;
     ends = λ q h. b.ends q (a.ends q h);
+    hashes = λ q. b.hashes q ∙ a.hashes q;
   }
+
+  pub quiet_listings : (cs ds : NodeCells K V) → Quiet cs ds → KeepsListings cs ds
+  quiet_listings cs ds u k = (u.hashes k, listed_alike (cell_at ds k) (cell_at cs k) (u.entries k) (u.pointers k) (u.hashes k))
 
   -- each link leads where it led
   pub link_kept : (cs ds : NodeCells K V) → Quiet cs ds → (w : Option Ptr) → slot_in ds w ≡ slot_in cs w
@@ -113,6 +120,10 @@ module _ {K V : Type 0} where
       ends = λ q h. elim (cases_eq q k) [
         | inl is ↦ subst IsEnd (sym (ap (cell_at ds) is ∙ r.now)) (r.node.chain ∙ subst IsEnd (ap (cell_at cs) is ∙ r.was) h)
         | inr ne ↦ subst IsEnd (sym (r.others q ne)) h
+      ];
+      hashes = λ q. elim (cases_eq q k) [
+        | inl is ↦ ap (λ j. hash_in (cell_at ds j)) is ∙ ap hash_in r.now ∙ ap Some r.node.hash ∙ sym (ap hash_in r.was) ∙ sym (ap (λ j. hash_in (cell_at cs j)) is)
+        | inr ne ↦ ap hash_in (r.others q ne)
       ];
     }
 
@@ -256,11 +267,12 @@ module _ {K V : Type 0} where
   -- a slot appended to the order
   pub record IsAppended (old new : Order K V) (k : ℕ) : Type 0 where
     pub linked : IsWellLinked new
+    pub quiet : Quiet (cells_of old.slots) (cells_of new.slots)
     pub nodes : nodes_of new ≡ nodes_of old
     pub idle : idle_of new ≡ idle_of old ++ k ∷ []
 
   appended : (o : Order K V) (t : Slots K V) (q : Option ℕ) (k : ℕ) (p : Ptr) → IsWellLinked o → t.pointers ≡ o.slots.pointers → LeadsTo o.slots p k → Pushed (cells_of o.slots) (cells_of t) q (idle_of o) k → IsAppended o (order_with t q (Some p)) k
-  appended o t q k p kept same at u = record { linked = table_pushed o t q k p kept same at u; nodes = entries_kept (cells_of o.slots) (cells_of t) u.quiet; idle = read (cells_of t) q (Some k) (idle_of o ++ k ∷ []) u.ordered }
+  appended o t q k p kept same at u = record { linked = table_pushed o t q k p kept same at u; quiet = u.quiet; nodes = entries_kept (cells_of o.slots) (cells_of t) u.quiet; idle = read (cells_of t) q (Some k) (idle_of o ++ k ∷ []) u.ordered }
 
   -- a look changes no node
   pub table_looked : (o : Order K V) (t : Slots K V) → t ≡ record o.slots { looks = t.looks } → IsTied t → IsWellLinked o → IsWellLinked (record o { slots = t })

@@ -220,7 +220,7 @@ module _ {K V : Type 0} where
     parts_at : (xs : List ℕ) × (ys : List ℕ) × (idle_of o ≡ xs ++ k ∷ ys)
     parts_at = cut_at (idle_of o) k there
 
-    quiet_out : Quiet (cells_of o.slots) (cells_of q.slots)
+    pub quiet_out : Quiet (cells_of o.slots) (cells_of q.slots)
     quiet_out = quiet3 (cells_of o.slots) c.unlinked c.joined (cells_of q.slots) o.oldest q.oldest o.newest q.newest c.before c.after k (idle_of o) parts_at.0 parts_at.1 parts_at.2 kept.ordered kept.good kept.last_good c.apart.cut c.apart.was_before c.apart.was_after c.left c.right
 
     order_out : IsOrder (link_at (cells_of q.slots)) q.oldest (slot_in (cells_of q.slots) q.newest) (parts_at.0 ++ parts_at.1)

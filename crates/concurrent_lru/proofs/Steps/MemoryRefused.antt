@@ -6,13 +6,14 @@ use Rattle.std.specs.declared.alloc.Global.{Global}
 use Rattle.concurrent_lru.specs.declared.list.Refusal.{Refusal}
 use Rattle.concurrent_lru.specs.declared.list.Refusal.TheVariants.{Memory}
 use Rattle.concurrent_lru.specs.declared.step.Begun.{Begun}
+use Rattle.concurrent_lru.specs.declared.table.spot.Hint.{Hint}
 use Rattle.concurrent_lru.specs.Cache.{Cache, Idle}
 use Rattle.concurrent_lru.specs.Request.{Request}
 use Rattle.concurrent_lru.specs.Runs.{Stands, TakesMemory, Refuses}
-use Rattle.concurrent_lru.specs.Results.{outcome_of_begin, outcome_of_poll, outcome_of_get, begun_without_place, found_without_place}
+use Rattle.concurrent_lru.specs.Results.{outcome_of_begin, outcome_of_poll, outcome_of_get, begun_without_hint, found_without_hint}
 
 module _ {K V : Type 0} where
-  pub begun_memory : (E : K → K → Bool) (old : Cache K V) (req : Request K V) (r : Result (Begun V × List (Idle K V) × ℕ) Refusal) (x : Refusal) → IsErrAnd r (λ e. e ≡ x) → x ≡ Memory → TakesMemory E old req → Stands E old req (outcome_of_begin (begun_without_place r)) old
+  pub begun_memory : (E : K → K → Bool) (old : Cache K V) (req : Request K V) (r : Result (Begun V × List (Idle K V) × Hint) Refusal) (x : Refusal) → IsErrAnd r (λ e. e ≡ x) → x ≡ Memory → TakesMemory E old req → Stands E old req (outcome_of_begin (begun_without_hint r)) old
   begun_memory E old req (Ok v) x h m t = absurd h
   begun_memory E old req (Err e) x h m t = subst (λ y. Refuses E old req y × (old ≡ old)) (sym (h ∙ m)) (t, refl)
 
@@ -20,6 +21,6 @@ module _ {K V : Type 0} where
   polled_memory E old req (Ok v) x h m t = absurd h
   polled_memory E old req (Err e) x h m t = subst (λ y. Refuses E old req y × (old ≡ old)) (sym (h ∙ m)) (t, refl)
 
-  pub got_memory : (E : K → K → Bool) (old : Cache K V) (req : Request K V) (r : Result (Option (ℕ × Arc V Global × ℕ)) Refusal) (x : Refusal) → IsErrAnd r (λ e. e ≡ x) → x ≡ Memory → TakesMemory E old req → Stands E old req (outcome_of_get (found_without_place r)) old
+  pub got_memory : (E : K → K → Bool) (old : Cache K V) (req : Request K V) (r : Result (Option (ℕ × Arc V Global × Hint)) Refusal) (x : Refusal) → IsErrAnd r (λ e. e ≡ x) → x ≡ Memory → TakesMemory E old req → Stands E old req (outcome_of_get (found_without_hint r)) old
   got_memory E old req (Ok v) x h m t = absurd h
   got_memory E old req (Err e) x h m t = subst (λ y. Refuses E old req y × (old ≡ old)) (sym (h ∙ m)) (t, refl)

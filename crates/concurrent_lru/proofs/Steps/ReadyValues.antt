@@ -15,7 +15,7 @@ use Rattle.concurrent_lru.specs.Ready.{IsSoundUnderLock, EqualKeysFit, HasReady,
 use Rattle.concurrent_lru.specs.Reply as say
 use Rattle.concurrent_lru.specs.Request as ask
 use Rattle.concurrent_lru.specs.Request.{Request}
-use Rattle.concurrent_lru.specs.Results.{outcome_of_begin, outcome_of_poll, outcome_of_ready, outcome_of_get, begun_without_place, found_without_place}
+use Rattle.concurrent_lru.specs.Results.{outcome_of_begin, outcome_of_poll, outcome_of_ready, outcome_of_get, begun_without_hint, found_without_hint}
 use Rattle.concurrent_lru.specs.Runs.{Outcome, accepted, refused, Refuses, Stands}
 use Rattle.concurrent_lru.specs.Steps.{with_capacity, with_held, without_held, without, one_more_pin, one_pin_less, held_in_phase, held_by_one, idle_again, Makes, Joins, Revives, Hits, ChangesPhase, Leaves, Removes, Rests, Drops, held_detached}
 use Rattle.concurrent_lru.specs.ThreadedCalls.{IfHit}
@@ -23,6 +23,7 @@ use Rattle.concurrent_lru.specs.declared.list.Refusal.{Refusal}
 use Rattle.concurrent_lru.specs.declared.list.Refusal.TheVariants.{Stale}
 use Rattle.concurrent_lru.specs.declared.step.Begun.{Begun}
 use Rattle.concurrent_lru.specs.declared.step.Begun.TheVariants as rust
+use Rattle.concurrent_lru.specs.declared.table.spot.Hint.{Hint}
 use Rattle.concurrent_lru.proofs.Entries.NodesOfSetAndAdd.{inserted_at, inserted_other}
 use Rattle.concurrent_lru.proofs.Steps.EmptyCache.{empty_lawful}
 use Rattle.concurrent_lru.proofs.Lists.Removals.{removed_some}
@@ -282,7 +283,7 @@ module _ {K V : Type 0} (E : K → K → Bool) where
       (at.0, at.2, inr (s, t.entry, t.holds.at, sym same, t.holds.phase))
 
   -- a refusal of these requests is not that of a stamp
-  pub begin_never_stale : (old new : Cache K V) (k : K) (charge : ℕ) (r : Result (Begun V × List (Idle K V) × ℕ) Refusal) → Stands E old (ask.begin k charge) (outcome_of_begin (begun_without_place r)) new → IfErr r (λ e. e ≢ Stale)
+  pub begin_never_stale : (old new : Cache K V) (k : K) (charge : ℕ) (r : Result (Begun V × List (Idle K V) × Hint) Refusal) → Stands E old (ask.begin k charge) (outcome_of_begin (begun_without_hint r)) new → IfErr r (λ e. e ≢ Stale)
   begin_never_stale old new k charge (Ok x) h = tt
   begin_never_stale old new k charge (Err e) h = λ is. subst (λ x. Refuses E old (ask.begin k charge) x) is h.0
 
@@ -345,13 +346,13 @@ module _ {K V : Type 0} (E : K → K → Bool) where
     keyed_kept old new s k v (Err a) eq law lawful fit keyed same stands kept = subst (ValuesFit fits) (sym same) kept
 
     -- and a value that a request answers fits the key asked
-    pub begin_hit : (old new : Cache K V) (k : K) (charge : ℕ) (r : Result (Begun V × List (Idle K V) × ℕ) Refusal) → EqualKeysFit E fits → ValuesFit fits old → Stands E old (ask.begin k charge) (outcome_of_begin (begun_without_place r)) new → IfOk r (λ x. IfHit x.0 (fits k))
+    pub begin_hit : (old new : Cache K V) (k : K) (charge : ℕ) (r : Result (Begun V × List (Idle K V) × Hint) Refusal) → EqualKeysFit E fits → ValuesFit fits old → Stands E old (ask.begin k charge) (outcome_of_begin (begun_without_hint r)) new → IfOk r (λ x. IfHit x.0 (fits k))
     begin_hit old new k charge (Ok (rust.Make s, out, p)) law kept h = tt
     begin_hit old new k charge (Ok (rust.Wait s, out, p)) law kept h = tt
     begin_hit old new k charge (Ok (rust.Hit s a, out, p)) law kept h = kept_for old k a.value law kept (hits_ready old new k s a.value out h)
     begin_hit old new k charge (Err e) law kept h = tt
 
-    pub get_hit : (old new : Cache K V) (k : K) (r : Result (Option (ℕ × Arc V Global × ℕ)) Refusal) → EqualKeysFit E fits → ValuesFit fits old → Stands E old (ask.get k) (outcome_of_get (found_without_place r)) new → IfOk r (λ found. IfSome found (λ x. fits k x.1.value))
+    pub get_hit : (old new : Cache K V) (k : K) (r : Result (Option (ℕ × Arc V Global × Hint)) Refusal) → EqualKeysFit E fits → ValuesFit fits old → Stands E old (ask.get k) (outcome_of_get (found_without_hint r)) new → IfOk r (λ found. IfSome found (λ x. fits k x.1.value))
     get_hit old new k (Ok None) law kept h = tt
     get_hit old new k (Ok (Some x)) law kept h = kept_for old k x.1.value law kept (hits_ready old new k x.0 x.1.value [] h)
     get_hit old new k (Err e) law kept h = tt

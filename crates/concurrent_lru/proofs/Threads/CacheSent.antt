@@ -21,6 +21,9 @@ use Rattle.concurrent_lru.specs.contracts.list.Nodes.TheInside as nodes_inside
 use Rattle.concurrent_lru.specs.contracts.list.links.Order as order
 use Rattle.concurrent_lru.specs.contracts.list.memory.At as at
 use Rattle.concurrent_lru.specs.contracts.list.memory.Memory as memory
+use Rattle.concurrent_lru.specs.contracts.list.open_table.OpenTable as open_table
+use Rattle.concurrent_lru.specs.contracts.list.open_table.OpenTable.TheInside as open_table_inside
+use Rattle.concurrent_lru.specs.contracts.list.probes.Slot as entry
 use Rattle.concurrent_lru.specs.contracts.list.slots.Slots as slots
 use Rattle.concurrent_lru.specs.contracts.lru_core.State as state
 use Rattle.concurrent_lru.specs.contracts.lru_core.State.TheInside as state_inside
@@ -55,13 +58,21 @@ module _ (K V : RattleType) (key : IsSend K) (value : IsSend V) (shared : IsSync
   pointers_send = view_send (slab_inside.the_row (at.the_row (node.the_row K V)) global.the_row allocator.ghosts) _ _ _ _
       (declared_send (slab_inside.the_type (at.the_row (node.the_row K V)) global.the_row allocator.ghosts) (search (sendable, crosses, at_sent.the_send) depth 12))
 
+  -- The table by hash is Send, as its entries are.
+  entry_send : IsSend (entry.the_row (at.the_row (node.the_row K V)))
+  entry_send = declared_send (entry.the_type (at.the_row (node.the_row K V))) (search (sendable, crosses, at_sent.the_send) depth 12)
+
+  by_hash_send : (c : clone.Ghosts (at.the_row (node.the_row K V)).Denot) → IsSend (open_table.the_row (at.the_row (node.the_row K V)) c)
+  by_hash_send c = view_send (open_table_inside.the_row (at.the_row (node.the_row K V)) c) _ _ _ _
+      (declared_send (open_table_inside.the_type (at.the_row (node.the_row K V)) c) (search (sendable, crosses, entry_send, at_sent.the_send) depth 12))
+
   -- The memory of the nodes is Send.
   memory_send : IsSend (memory.the_row (node.the_row K V) global.the_row allocator.ghosts)
   memory_send = Memory-send (node.the_row K V) global.the_row allocator.ghosts node_send frees
 
   -- The slots of a cache are Send.
   slots_send : IsSend (slots.the_row K V)
-  slots_send = declared_send (slots.the_type K V) (search (sendable, crosses, global_sent.the_send, pointers_send, memory_send, work_send) depth 12)
+  slots_send = declared_send (slots.the_type K V) (search (sendable, crosses, global_sent.the_send, pointers_send, by_hash_send, memory_send, work_send) depth 12)
 
   -- The order of the idle ones is Send.
   order_send : IsSend (order.the_row K V)
@@ -70,7 +81,7 @@ module _ (K V : RattleType) (key : IsSend K) (value : IsSend V) (shared : IsSync
   -- The nodes of a cache are Send.
   pub nodes_send : IsSend (nodes.the_row K V)
   nodes_send = view_send (nodes_inside.the_row K V) _ _ _ _
-      (owner_send (nodes_inside.the_type K V) (search (sendable, crosses, order_send, work_send) depth 12) (λ d. tt) (λ k x w. (((tt, (tt, (tt, tt))), tt), (tt, tt))))
+      (owner_send (nodes_inside.the_type K V) (search (sendable, crosses, order_send, work_send) depth 12) (λ d. tt) (λ k x w. (((tt, (tt, (tt, (tt, tt)))), tt), (tt, tt))))
 
   module _ (h : hash.Ghosts K.Denot) (e : partial_eq.Ghosts K.Denot) (c : clone.Ghosts K.Denot) where
     -- The entries of a cache are Send.
@@ -98,13 +109,21 @@ module _ (K V : RattleType) (key : IsSync K) (value : IsSend V) (shared : IsSync
   pointers_sync = view_sync (slab_inside.the_row (at.the_row (node.the_row K V)) global.the_row allocator.ghosts) _ _ _ _
       (declared_sync (slab_inside.the_type (at.the_row (node.the_row K V)) global.the_row allocator.ghosts) (search (sendable, crosses, at_sent.the_sync) depth 12))
 
+  -- The table by hash is Sync, as its entries are.
+  entry_sync : IsSync (entry.the_row (at.the_row (node.the_row K V)))
+  entry_sync = declared_sync (entry.the_type (at.the_row (node.the_row K V))) (search (sendable, crosses, at_sent.the_sync) depth 12)
+
+  by_hash_sync : (c : clone.Ghosts (at.the_row (node.the_row K V)).Denot) → IsSync (open_table.the_row (at.the_row (node.the_row K V)) c)
+  by_hash_sync c = view_sync (open_table_inside.the_row (at.the_row (node.the_row K V)) c) _ _ _ _
+      (declared_sync (open_table_inside.the_type (at.the_row (node.the_row K V)) c) (search (sendable, crosses, entry_sync, at_sent.the_sync) depth 12))
+
   -- The memory of the nodes is Sync.
   memory_sync : IsSync (memory.the_row (node.the_row K V) global.the_row allocator.ghosts)
   memory_sync = Memory-sync (node.the_row K V) global.the_row allocator.ghosts node_sync
 
   -- The slots of a cache are Sync.
   slots_sync : IsSync (slots.the_row K V)
-  slots_sync = declared_sync (slots.the_type K V) (search (sendable, crosses, global_sent.the_sync, pointers_sync, memory_sync, work_sync) depth 12)
+  slots_sync = declared_sync (slots.the_type K V) (search (sendable, crosses, global_sent.the_sync, pointers_sync, by_hash_sync, memory_sync, work_sync) depth 12)
 
   -- The order of the idle ones is Sync.
   order_sync : IsSync (order.the_row K V)

@@ -2,7 +2,8 @@
 ghost use Rattle.std.specs.Prelude.{◌≡◌, ◌+◌, ◌∷◌, [], ◌++◌, OnOk, OnErr, IfErr};
 ghost use Rattle.concurrent_lru.specs.NodeTable.{HasValue, GivesValue, pinned_once};
 ghost use Rattle.concurrent_lru.specs.SlotPointers.{IsTied, cells_of, HasNode, LeadsTo};
-ghost use Rattle.concurrent_lru.specs.SlotWrites.{OnlyWrites};
+ghost use Rattle.concurrent_lru.specs.SlotWrites.{OnlyWrites, OnlyLooksAndWrites};
+ghost use Rattle.concurrent_lru.specs.Listing.{IsListed, KeepsListings};
 ghost use Rattle.concurrent_lru.specs.SlotTable.{IsWellLinked, IsGood, Lists, Omits, ListsLink, LosesLink, JoinsLeft, JoinsRight, OnlyLooked, nodes_of, idle_of, idle_without, entry_at};
 
 use crate::list::slots::Slots;
@@ -22,6 +23,7 @@ impl<K: Drop, V: Drop> Order<K, V> {
     // Creates an order with no nodes.
     pub(super) fn new(alloc: Global) -> Order<K, V>
         ensures linked { IsWellLinked result }
+        ensures listed { IsListed result.slots }
         ensures empty { cells_of result.slots ≡ [] }
         ensures idle { idle_of result ≡ [] }
     {
@@ -40,7 +42,8 @@ impl<K: Drop, V: Drop> Order<K, V> {
         ensures linked { IsWellLinked self.new }
         ensures nodes { nodes_of self.new ≡ nodes_of self.old }
         ensures idle { idle_of self.new ≡ idle_of self.old ++ slot ∷ [] }
-        ensures pointers { self.new.slots.pointers ≡ self.old.slots.pointers }
+        ensures rest { OnlyLooksAndWrites self.old.slots self.new.slots }
+        ensures listings { KeepsListings (cells_of self.old.slots) (cells_of self.new.slots) }
         ensures looks { self.new.slots.looks.count ≡ self.old.slots.looks.count + 1 }
     {
         let own = self.slots.look(slot);
@@ -55,7 +58,8 @@ impl<K: Drop, V: Drop> Order<K, V> {
         ensures linked { IsWellLinked self.new }
         ensures nodes { nodes_of self.new ≡ nodes_of self.old }
         ensures idle { idle_of self.new ≡ idle_of self.old ++ slot ∷ [] }
-        ensures pointers { self.new.slots.pointers ≡ self.old.slots.pointers }
+        ensures rest { OnlyLooksAndWrites self.old.slots self.new.slots }
+        ensures listings { KeepsListings (cells_of self.old.slots) (cells_of self.new.slots) }
         ensures looks { self.new.slots.looks ≡ self.old.slots.looks }
     {
         let newest = self.newest;
@@ -102,7 +106,8 @@ impl<K: Drop, V: Drop> Order<K, V> {
         ensures linked { IsWellLinked self.new }
         ensures nodes { nodes_of self.new ≡ nodes_of self.old }
         ensures idle { LosesLink self.old self.new own }
-        ensures pointers { self.new.slots.pointers ≡ self.old.slots.pointers }
+        ensures rest { OnlyLooksAndWrites self.old.slots self.new.slots }
+        ensures listings { KeepsListings (cells_of self.old.slots) (cells_of self.new.slots) }
         ensures looks { self.new.slots.looks ≡ self.old.slots.looks }
     {
         let (before, after) = self.slots.unlink(own);
@@ -117,7 +122,8 @@ impl<K: Drop, V: Drop> Order<K, V> {
         ensures linked { IsWellLinked self.new }
         ensures nodes { nodes_of self.new ≡ nodes_of self.old }
         ensures idle { idle_of self.new ≡ idle_without self.old slot }
-        ensures pointers { self.new.slots.pointers ≡ self.old.slots.pointers }
+        ensures rest { OnlyLooksAndWrites self.old.slots self.new.slots }
+        ensures listings { KeepsListings (cells_of self.old.slots) (cells_of self.new.slots) }
         ensures looks { self.new.slots.looks.count ≡ self.old.slots.looks.count + 1 }
     {
         let own = self.slots.look(slot);
@@ -132,7 +138,8 @@ impl<K: Drop, V: Drop> Order<K, V> {
         ensures linked { IsWellLinked self.new }
         ensures nodes { nodes_of self.new ≡ nodes_of self.old }
         ensures idle { idle_of self.new ≡ idle_without self.old slot ++ slot ∷ [] }
-        ensures pointers { self.new.slots.pointers ≡ self.old.slots.pointers }
+        ensures rest { OnlyLooksAndWrites self.old.slots self.new.slots }
+        ensures listings { KeepsListings (cells_of self.old.slots) (cells_of self.new.slots) }
         ensures looks { self.new.slots.looks.count ≡ self.old.slots.looks.count + 1 }
     {
         let node = self.slots.look(slot);
@@ -153,7 +160,8 @@ impl<K: Drop, V: Drop> Order<K, V> {
         ensures idle { OnOk result (idle_of self.new ≡ idle_without self.old slot) }
         ensures same { OnErr result (OnlyLooked self.old self.new) }
         ensures refusal { IfErr result (λ e. e ≡ Refusal.Memory) }
-        ensures pointers { self.new.slots.pointers ≡ self.old.slots.pointers }
+        ensures rest { OnlyLooksAndWrites self.old.slots self.new.slots }
+        ensures listings { KeepsListings (cells_of self.old.slots) (cells_of self.new.slots) }
         ensures looks { self.new.slots.looks.count ≡ self.old.slots.looks.count + 1 }
     {
         let own = self.slots.look(slot);

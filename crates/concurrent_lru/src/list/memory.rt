@@ -9,10 +9,20 @@ ghost use Rattle.concurrent_lru.specs.CellOwnership.{cells_own, cells_lent};
 
 use std::alloc::{AllocError, Allocator};
 use std::marker::{Model, PhantomData, Send, Sync};
+use std::ptr;
 
 // The address of a value. It owns nothing.
 pub(super) struct At<T> {
     pub(super) ptr: *mut T,
+}
+
+impl<T> At<T> {
+    // Returns an address that leads to no value, and that nothing reads through.
+    pub(super) fn nowhere() -> At<T> {
+        At {
+            ptr: ptr::null_mut(),
+        }
+    }
 }
 
 impl<T> Clone for At<T> {

@@ -1,14 +1,34 @@
-//! An entry's stamp with a hint of its place.
+//! An entry's stamp with a hint of where it is.
 use crate::list::Place;
 
-/// The stamp of an entry, and the place where a lookup of it begins.
+/// Where a lookup of an entry begins: among the entries with this hash, and then at this place.
 ///
-/// An entry stays at its place until it is removed, so a lookup that begins there ends there. The
-/// place is only a hint: any place will do, and no clause sees it.
+/// An entry that is found by its key has the hash of that key until it is removed, and each entry
+/// stays at its place. Both are only hints: any hash and any place will do, and no clause says
+/// anything of them.
+#[derive(Clone, Copy)]
+pub struct Hint {
+    /// The hash of the key.
+    pub hash: u64,
+    /// Where the entry was.
+    pub place: Place,
+}
+
+impl Hint {
+    // Returns some hint, which may lead to no entry.
+    pub(crate) fn first() -> Hint {
+        Hint {
+            hash: 0,
+            place: Place::first(),
+        }
+    }
+}
+
+/// The stamp of an entry, and the hint with which a lookup of it begins.
 #[derive(Clone, Copy)]
 pub struct Spot {
     /// The number that identifies the entry.
     pub stamp: u64,
     /// Where the entry was.
-    pub place: Place,
+    pub hint: Hint,
 }

@@ -3,14 +3,14 @@ use Rattle.concurrent_lru.specs.Cache.{charges, count_of, sum_of}
 use Rattle.concurrent_lru.specs.CountedCalls.{counted, evicted, is_insertion}
 use Rattle.concurrent_lru.specs.Counts.{inserted}
 use Rattle.concurrent_lru.specs.Request as ask
-use Rattle.concurrent_lru.specs.Results.{outcome_of_begin, begun_without_place}
+use Rattle.concurrent_lru.specs.Results.{outcome_of_begin, begun_without_hint}
 use Rattle.concurrent_lru.proofs.AddedUp.CountsOfSteps.{Owes, begin_counted, begin_inserted, can_evict, told_evicted, soundly_counted}
 use Rattle.concurrent_lru.proofs.counted.CountedState.begin.Goals as goal
 
 pub invariant_of-self : goal.invariant_of-self
 invariant_of-self g c =
     let old = c.self.inside.state.cache in
-    let r = begun_without_place c.begin_at-begun.result in
+    let r = begun_without_hint c.begin_at-begun.result in
     let not = ap (is_insertion r) (sym c.next_stamp-next.ensures) ∙ sym c.is_insertion.ensures ∙ c.if-not-is_insertion.true in
     soundly_counted {E = g.K.PartialEq.eq} old c.begin_at-begun.new.self.cache c.self.inside.counts c.count_begin.new.counts (ask.begin c.args.key.now c.args.charge) (outcome_of_begin r) c.self.invariant c.begin_at-begun.ensures.step c.begin_at-begun.ensures.lawful
     (c.count_begin.ensures ∙ begin_counted old c.args.key.now c.args.charge r c.self.inside.counts not)
@@ -18,21 +18,21 @@ invariant_of-self g c =
 pub returns-then-not-is_insertion-clause-counted : goal.returns-then-not-is_insertion-clause-counted
 returns-then-not-is_insertion-clause-counted g c =
     let old = c.self.inside.state.cache in
-    let r = begun_without_place c.begin_at-begun.result in
+    let r = begun_without_hint c.begin_at-begun.result in
     let not = ap (is_insertion r) (sym c.next_stamp-next.ensures) ∙ sym c.is_insertion.ensures ∙ c.if-not-is_insertion.true in
     subst (λ x. c.count_begin.new.counts ≡ counted x.cache (ask.begin c.args.key.now c.args.charge) (outcome_of_begin r) x.counts) c.self.view_is
     (c.count_begin.ensures ∙ begin_counted old c.args.key.now c.args.charge r c.self.inside.counts not)
 
 pub insert-requires-clause-entries : goal.insert-requires-clause-entries
 insert-requires-clause-entries g c =
-    let r = begun_without_place c.begin_at-begun.result in
+    let r = begun_without_hint c.begin_at-begun.result in
     let is = ap (is_insertion r) (sym c.next_stamp-next.ensures) ∙ sym c.is_insertion.ensures ∙ c.if-not-is_insertion.false in
     let i = begin_inserted g.K.PartialEq.eq c.self.inside.state.cache c.begin_at-begun.new.self.cache c.args.key.now c.args.charge r c.self.inside.counts c.self.invariant c.begin_at-begun.ensures.step is in
     subst (λ m. m.insertions + 1 < 2 ^ 64) (sym (c.count_begin.ensures ∙ i.asked)) i.insertions_fit
 
 pub insert-requires-clause-charge : goal.insert-requires-clause-charge
 insert-requires-clause-charge g c =
-    let r = begun_without_place c.begin_at-begun.result in
+    let r = begun_without_hint c.begin_at-begun.result in
     let is = ap (is_insertion r) (sym c.next_stamp-next.ensures) ∙ sym c.is_insertion.ensures ∙ c.if-not-is_insertion.false in
     let i = begin_inserted g.K.PartialEq.eq c.self.inside.state.cache c.begin_at-begun.new.self.cache c.args.key.now c.args.charge r c.self.inside.counts c.self.invariant c.begin_at-begun.ensures.step is in
     subst (λ m. m.inserted_charge + c.args.charge < 2 ^ 128) (sym (c.count_begin.ensures ∙ i.asked)) i.charge_fits
@@ -40,7 +40,7 @@ insert-requires-clause-charge g c =
 pub evict-requires : goal.evict-requires
 evict-requires g c =
     let new = c.begin_at-begun.new.self.cache in
-    let r = begun_without_place c.begin_at-begun.result in
+    let r = begun_without_hint c.begin_at-begun.result in
     let m = c.insert.new.self in
     let is = ap (is_insertion r) (sym c.next_stamp-next.ensures) ∙ sym c.is_insertion.ensures ∙ c.if-not-is_insertion.false in
     let i = begin_inserted g.K.PartialEq.eq c.self.inside.state.cache new c.args.key.now c.args.charge r c.self.inside.counts c.self.invariant c.begin_at-begun.ensures.step is in
@@ -56,7 +56,7 @@ pub invariant_of-self-2 : goal.invariant_of-self-2
 invariant_of-self-2 g c =
     let old = c.self.inside.state.cache in
     let new = c.begin_at-begun.new.self.cache in
-    let r = begun_without_place c.begin_at-begun.result in
+    let r = begun_without_hint c.begin_at-begun.result in
     let m = c.insert.new.self in
     let is = ap (is_insertion r) (sym c.next_stamp-next.ensures) ∙ sym c.is_insertion.ensures ∙ c.if-not-is_insertion.false in
     let i = begin_inserted g.K.PartialEq.eq old new c.args.key.now c.args.charge r c.self.inside.counts c.self.invariant c.begin_at-begun.ensures.step is in
@@ -69,7 +69,7 @@ pub returns-clause-counted : goal.returns-clause-counted
 returns-clause-counted g c =
     let old = c.self.inside.state.cache in
     let new = c.begin_at-begun.new.self.cache in
-    let r = begun_without_place c.begin_at-begun.result in
+    let r = begun_without_hint c.begin_at-begun.result in
     let m = c.insert.new.self in
     let is = ap (is_insertion r) (sym c.next_stamp-next.ensures) ∙ sym c.is_insertion.ensures ∙ c.if-not-is_insertion.false in
     let i = begin_inserted g.K.PartialEq.eq old new c.args.key.now c.args.charge r c.self.inside.counts c.self.invariant c.begin_at-begun.ensures.step is in

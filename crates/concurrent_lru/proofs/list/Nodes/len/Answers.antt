@@ -23,6 +23,6 @@ returns g c =
     let i = c.self.inside in
     c.len.ensures
     ∙ sym (count-alike (map entry_in (cells_of i.order.slots)) i.order.slots.pointers.slots (λ k.
-    ap is_some (get_or-map_option entry_in refl (cells_of i.order.slots) k) ∙ cell_filled (cell_at (cells_of i.order.slots) k) ∙ ap is_some (c.self.invariant.tied.pointers k) ∙ slot_filled _))
+    ap is_some (get_or-map_option entry_in refl (cells_of i.order.slots) k) ∙ cell_filled (cell_at (cells_of i.order.slots) k) ∙ ap is_some (c.self.invariant.linked.tied.pointers k) ∙ slot_filled _))
     ∙ sym (map_of_slots-len (map entry_in (cells_of i.order.slots)))
     ∙ ap (λ v. len v.nodes) c.self.view_is

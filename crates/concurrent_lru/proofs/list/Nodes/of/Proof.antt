@@ -29,7 +29,7 @@ use Rattle.std.proofs.alloc.Calls.{Goes-blank, handle_tells}
 use Rattle.std.proofs.raw_atomic.Walks.{proved_at, leaves}
 use Rattle.concurrent_lru.proofs.list.links.Order.TheLaws as order_laws
 use Rattle.concurrent_lru.proofs.work.Work.TheLaws as work_laws
-use Rattle.concurrent_lru.specs.SlotTable.{IsWellLinked}
+use Rattle.concurrent_lru.specs.SlotTable.{IsWhole}
 use Rattle.concurrent_lru.specs.contracts.list.links.Order as order
 use Rattle.concurrent_lru.specs.contracts.work.Work as work
 use Rattle.concurrent_lru.specs.contracts.list.Nodes as nodes
@@ -64,7 +64,7 @@ of_spec 𝓤 𝓛 𝓜 𝓡 wired K V L N =
     (#self (layouts (a_type ∷ a_type ∷ []) (K, (V, tt)))) fn (code.unfolded 𝓤 H 𝓜 𝓡 wired (K, (V, tt))) (λ z are.
     let κs = z.0.0 in let a = z.0.3 in let vss = z.0.4 in let Post : Val → SProp 𝓤 = (walk_of 𝓛 En hs c).post z in
     let laws : Laws S = order_laws.the_row_laws X Y (param_laws 0 K L) (param_laws 1 V N) in
-    qed 𝓛 ((raw (alive 𝓛 En.signature κs z.0.1) ⊛ ‵ (owns (types_at En.signature.params κs) a vss)) ∷ raw (fact 𝓤 _) ∷ raw (fact 𝓤 _) ∷ raw (fact 𝓤 (IsWellLinked a.0)) ∷ []) ∵
+    qed 𝓛 ((raw (alive 𝓛 En.signature κs z.0.1) ⊛ ‵ (owns (types_at En.signature.params κs) a vss)) ∷ raw (fact 𝓤 _) ∷ raw (fact 𝓤 _) ∷ raw (fact 𝓤 (IsWhole a.0)) ∷ []) ∵
     move ! (3 ∷ []) $ heard ! _ (λ ok. keep ! (0 ∷ []) $ split ! $ move ! (1 ∷ []) $
     fsplit ! $ tells ! S laws a.0 vss.0 (λ u e t. move ! (1 ∷ []) $
     fsplit ! $ tells ! W work_laws.the_row_laws a.1.0 vss.1.0 (λ u1 e1 t1.
@@ -84,4 +84,4 @@ of_spec 𝓤 𝓛 𝓜 𝓡 wired K V L N =
     fpack ! ((x : F.Denot) × ((nodes.the_view X Y x ≡ r) × nodes.the_invariant X Y x)) (λ x. fsep (F.own_val x.0 (v ∷ [])) ftrue) (whole, (refl, ok)) $
     use0 𝓛 (raw (fact 𝓤 (r ≡ r))) (fact_i 𝓤 (r ≡ r) (emp 𝓤) refl) $
     nothing ! $ nothing ! $ fjoin ! $ nothing ! $ fjoin ! $
-    keep ! (3 ∷ 0 ∷ 2 ∷ 1 ∷ []) $ by ! (leaves 𝓛 En hs c z v r (((tt, (tt, (tt, tt))), tt), (tt, tt)) (tt, (tt, tt))))))))
+    keep ! (3 ∷ 0 ∷ 2 ∷ 1 ∷ []) $ by ! (leaves 𝓛 En hs c z v r (((tt, (tt, (tt, (tt, tt)))), tt), (tt, tt)) (tt, (tt, tt))))))))

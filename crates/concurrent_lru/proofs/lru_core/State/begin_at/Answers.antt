@@ -7,7 +7,7 @@ use Rattle.concurrent_lru.specs.NodeTable.{entry_of, phase_of, value_in}
 use Rattle.concurrent_lru.specs.Entries.{cache_with}
 use Rattle.concurrent_lru.specs.Request as ask
 use Rattle.concurrent_lru.specs.Runs.{Stands, Overflows, TakesMemory}
-use Rattle.concurrent_lru.specs.Results.{outcome_of_begin, begun_without_place}
+use Rattle.concurrent_lru.specs.Results.{outcome_of_begin, begun_without_hint}
 use Rattle.concurrent_lru.proofs.Entries.EntryAtPlace.{key_is, found_is, has_room, held_place, unready_pinned, would_hit, is_full, value_here}
 use Rattle.concurrent_lru.proofs.Steps.NotReady.{unready_not_ready}
 use Rattle.concurrent_lru.proofs.Steps.BeginOfHeld.{joins_lawful}
@@ -96,8 +96,8 @@ invariant_of-self-in_err-value-in-Ready g c = subst (λ t. IsSound g.K.PartialEq
 pub returns-in_err-value-in-Ready-clause-step : goal.returns-in_err-value-in-Ready-clause-step
 returns-in_err-value-in-Ready-clause-step g c =
     let here = c.node-node.ensures.entry in
-    subst (λ t. Stands g.K.PartialEq.eq c.args.self.now.cache (ask.begin c.args.key.now c.args.charge) (outcome_of_begin (begun_without_place c.from_residual.result)) (cache_with c.self.inside.capacity c.self.inside.most_pins c.self.inside.next t)) (sym c.in_err-value-in-Ready.ensures.err)
-    (subst (λ old. Stands g.K.PartialEq.eq c.args.self.now.cache (ask.begin c.args.key.now c.args.charge) (outcome_of_begin (begun_without_place c.from_residual.result)) old) (sym (ap (λ x. x.cache) c.self.view_is))
+    subst (λ t. Stands g.K.PartialEq.eq c.args.self.now.cache (ask.begin c.args.key.now c.args.charge) (outcome_of_begin (begun_without_hint c.from_residual.result)) (cache_with c.self.inside.capacity c.self.inside.most_pins c.self.inside.next t)) (sym c.in_err-value-in-Ready.ensures.err)
+    (subst (λ old. Stands g.K.PartialEq.eq c.args.self.now.cache (ask.begin c.args.key.now c.args.charge) (outcome_of_begin (begun_without_hint c.from_residual.result)) old) (sym (ap (λ x. x.cache) c.self.view_is))
     (begun_memory g.K.PartialEq.eq c.args.self.now.cache (ask.begin c.args.key.now c.args.charge) c.from_residual.result _ c.from_residual.ensures.1 c.in_err-value-in-Ready.ensures.refusal
     (subst (λ old. TakesMemory g.K.PartialEq.eq old (ask.begin c.args.key.now c.args.charge)) (ap (λ x. x.cache) c.self.view_is)
     (inr (would_hit here g.K.PartialEq.eq c.self.inside.capacity c.self.inside.most_pins c.self.inside.next c.args.key.now c.in-Ready.field-0.value (found_is here c.self.invariant.lawful c.args.key.now c.in-Some.ensures)

@@ -7,7 +7,7 @@ use Rattle.concurrent_lru.specs.NodeTable.{entry_of, phase_of, value_in}
 use Rattle.concurrent_lru.specs.Entries.{cache_with}
 use Rattle.concurrent_lru.specs.Request as ask
 use Rattle.concurrent_lru.specs.Runs.{Stands, Overflows, TakesMemory}
-use Rattle.concurrent_lru.specs.Results.{outcome_of_get, found_without_place}
+use Rattle.concurrent_lru.specs.Results.{outcome_of_get, found_without_hint}
 use Rattle.concurrent_lru.proofs.Entries.EntryAtPlace.{key_is, found_is, has_room, unready_pinned, is_unready, would_hit, get_overflows, value_here}
 use Rattle.concurrent_lru.proofs.Steps.NotReady.{absent_unready, unready_phase, unready_not_ready}
 use Rattle.concurrent_lru.proofs.Steps.StaysLawful.{hits_lawful}
@@ -50,8 +50,8 @@ invariant_of-self g c = subst (λ t. IsSound g.K.PartialEq.eq (cache_with c.self
 pub returns-in_err-value-clause-step : goal.returns-in_err-value-clause-step
 returns-in_err-value-clause-step g c =
     let here = c.node-node.ensures.entry in
-    subst (λ t. Stands g.K.PartialEq.eq c.args.self.now.cache (ask.get c.args.key.now) (outcome_of_get (found_without_place c.from_residual.result)) (cache_with c.self.inside.capacity c.self.inside.most_pins c.self.inside.next t)) (sym c.in_err-value.ensures.err)
-    (subst (λ old. Stands g.K.PartialEq.eq c.args.self.now.cache (ask.get c.args.key.now) (outcome_of_get (found_without_place c.from_residual.result)) old) (sym (ap (λ x. x.cache) c.self.view_is))
+    subst (λ t. Stands g.K.PartialEq.eq c.args.self.now.cache (ask.get c.args.key.now) (outcome_of_get (found_without_hint c.from_residual.result)) (cache_with c.self.inside.capacity c.self.inside.most_pins c.self.inside.next t)) (sym c.in_err-value.ensures.err)
+    (subst (λ old. Stands g.K.PartialEq.eq c.args.self.now.cache (ask.get c.args.key.now) (outcome_of_get (found_without_hint c.from_residual.result)) old) (sym (ap (λ x. x.cache) c.self.view_is))
     (got_memory g.K.PartialEq.eq c.args.self.now.cache (ask.get c.args.key.now) c.from_residual.result _ c.from_residual.ensures.1 c.in_err-value.ensures.refusal
     (subst (λ old. TakesMemory g.K.PartialEq.eq old (ask.get c.args.key.now)) (ap (λ x. x.cache) c.self.view_is)
     (would_hit here g.K.PartialEq.eq c.self.inside.capacity c.self.inside.most_pins c.self.inside.next c.args.key.now c.in-Ready.field-0.value (found_is here c.self.invariant.lawful c.args.key.now c.in-Some.ensures)

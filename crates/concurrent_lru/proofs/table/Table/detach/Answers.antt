@@ -9,9 +9,6 @@ use Rattle.concurrent_lru.proofs.Entries.SetPinsAndRest.{stored_detached, entrie
 use Rattle.concurrent_lru.proofs.Entries.SumsOfCharges.{sum_written}
 use Rattle.concurrent_lru.proofs.table.Table.detach.Goals as goal
 
-pub forget_key-requires : goal.forget_key-requires
-forget_key-requires g c = let h = subst (λ t. ContainsFoundAt t c.args.place) (sym c.self.view_is) c.requires in has_node c.self.invariant.stored c.args.place (h.0, h.1)
-
 pub set_detached-requires : goal.set_detached-requires
 set_detached-requires g c = let h = subst (λ t. ContainsFoundAt t c.args.place) (sym c.self.view_is) c.requires in has_node c.self.invariant.stored c.args.place (h.0, h.1)
 
@@ -23,7 +20,7 @@ invariant_of-self g c =
     let writes = detached_writes c.self.inside.nodes c.set_detached.new.self c.args.place n.0 n.1 c.set_detached.ensures.nodes in
     let changed = entries_detached c.self.invariant.stored writes c.set_detached.ensures.idle pinned c.set_detached.ensures.work in
     record {
-      stored = stored_detached g.met.K.Eq.laws c.self.invariant.stored writes c.set_detached.ensures.idle pinned (found_node c.self.invariant.stored c.args.place n.0 h n.1) (c.forget_key.ensures.forgotten n.0 n.1);
+      stored = stored_detached c.self.invariant.stored writes c.set_detached.ensures.hashes c.set_detached.ensures.idle pinned;
       sums = c.self.invariant.sums ∙ sym (sum_written (entries_of c.self.inside.nodes) (entries_of c.set_detached.new.self) n.0.stamp _ _ (ap (λ t. t.idle) changed) (ap (λ t. t.held) changed) (held_found c.self.invariant.stored c.args.place n.0 n.1 pinned) refl);
       rests = c.self.invariant.rests ∙ ap (λ t. charges t.idle) (sym changed);
     }

@@ -33,12 +33,12 @@ take_away-node-requires-clause-apart g c = ap (list_any (eqb c.args.place)) c.re
 rests : (g : _) (c : goal.After-self-1 g) → IsIn c.args.place c.self.inside.nodes.idle
 rests g c = idle_node c.self.invariant.stored c.args.place (subst (λ t. ContainsIdleAt t c.args.place) (sym c.self.view_is) c.requires)
 
-taken : (g : _) (c : goal.After-self-1 g) → IsTaken g.K.PartialEq.eq c.self.inside.nodes c.take_away-node.new.nodes c.self.inside.by_key c.take_away-node.new.by_key c.self.inside.by_stamp c.take_away-node.new.by_stamp c.args.place (entry_of c.take_away-node.result.value)
+taken : (g : _) (c : goal.After-self-1 g) → IsTaken c.self.inside.nodes c.take_away-node.new.nodes c.self.inside.by_stamp c.take_away-node.new.by_stamp c.args.place (entry_of c.take_away-node.result.value)
 taken g c = record {
   at = ap (λ m. get m c.args.place) (sym c.remove.ensures.nodes) ∙ c.take_away-node.ensures.entry;
   nodes = c.take_away-node.ensures.nodes ∙ ap (λ m. remove m c.args.place) c.remove.ensures.nodes;
+  hashes = c.take_away-node.ensures.hashes ∙ ap (λ m. remove m c.args.place) c.remove.ensures.hashes;
   idle = c.take_away-node.ensures.idle ∙ c.remove.ensures.idle;
-  keys_now = c.take_away-node.ensures.by_key;
   keeps = c.take_away-node.ensures.keeps;
   stamps_now = c.take_away-node.ensures.by_stamp;
 }
@@ -47,11 +47,11 @@ pub invariant_of-self : goal.invariant_of-self
 invariant_of-self g c =
     let e = entry_of c.take_away-node.result.value in
     let l = idle_like c.self.invariant.stored c.args.place e (taken g c).at (rests g c) in
-    let sum = sum_evicted (entries_of c.self.inside.nodes) (entries_of c.take_away-node.new.nodes) e.stamp (record { stamp = e.stamp; key = e.key; charge = e.charge; value = l.0 }) (stamps_apart c.self.inside.nodes _ c.self.invariant.stored.represents) (idle_without g.met.K.Eq.laws c.self.invariant.stored (taken g c) (rests g c)) (held_same g.met.K.Eq.laws c.self.invariant.stored (taken g c) (rests g c)) ((idle_found c.self.invariant.stored c.args.place e (taken g c).at (rests g c)).1 ∙ as_idle-ready e l.0 l.2) in
+    let sum = sum_evicted (entries_of c.self.inside.nodes) (entries_of c.take_away-node.new.nodes) e.stamp (record { stamp = e.stamp; key = e.key; charge = e.charge; value = l.0 }) (stamps_apart c.self.inside.nodes _ c.self.invariant.stored.represents) (idle_without c.self.invariant.stored (taken g c) (rests g c)) (held_same c.self.invariant.stored (taken g c) (rests g c)) ((idle_found c.self.invariant.stored c.args.place e (taken g c).at (rests g c)).1 ∙ as_idle-ready e l.0 l.2) in
     record {
-      stored = stored_without g.met.K.Eq.laws c.self.invariant.stored (taken g c);
+      stored = stored_without c.self.invariant.stored (taken g c);
       sums = less_alike _ _ _ _ e.charge c.take_away-node.ensures.total sum c.self.invariant.sums;
-      rests = ap (λ n. c.self.inside.idle_charge - (entry_of n).charge) c.deref.ensures ∙ kept_less c.self.invariant.stored c.args.place e (taken g c).at (rests g c) _ c.self.invariant.rests (entries_of c.take_away-node.new.nodes) (idle_without g.met.K.Eq.laws c.self.invariant.stored (taken g c) (rests g c));
+      rests = ap (λ n. c.self.inside.idle_charge - (entry_of n).charge) c.deref.ensures ∙ kept_less c.self.invariant.stored c.args.place e (taken g c).at (rests g c) _ c.self.invariant.rests (entries_of c.take_away-node.new.nodes) (idle_without c.self.invariant.stored (taken g c) (rests g c));
     }
 
 pub take_away-node-requires-clause-counted : goal.take_away-node-requires-clause-counted
@@ -65,16 +65,16 @@ pub returns-clause-at : goal.returns-clause-at
 returns-clause-at g c = sym (ap (λ t. get t.stamps c.args.place) c.self.view_is) ∙ place_at c.self.invariant.stored c.args.place (entry_of c.take_away-node.result.value) (taken g c).at
 
 pub returns-clause-ready : goal.returns-clause-ready
-returns-clause-ready g c = ready_without g.met.K.Eq.laws c.self.invariant.stored (taken g c) (rests g c)
+returns-clause-ready g c = ready_without c.self.invariant.stored (taken g c) (rests g c)
 
 pub returns-clause-entry : goal.returns-clause-entry
 returns-clause-entry g c = sym (ap (λ t. idle_at (cache_of t) (entry_of c.take_away-node.result.value).stamp) c.self.view_is) ∙ (idle_found c.self.invariant.stored c.args.place (entry_of c.take_away-node.result.value) (taken g c).at (rests g c)).1
 
 pub returns-clause-idle : goal.returns-clause-idle
-returns-clause-idle g c = idle_without g.met.K.Eq.laws c.self.invariant.stored (taken g c) (rests g c) ∙ ap (λ t. without (entry_of c.take_away-node.result.value).stamp t.idle) c.self.view_is
+returns-clause-idle g c = idle_without c.self.invariant.stored (taken g c) (rests g c) ∙ ap (λ t. without (entry_of c.take_away-node.result.value).stamp t.idle) c.self.view_is
 
 pub returns-clause-held : goal.returns-clause-held
-returns-clause-held g c = held_same g.met.K.Eq.laws c.self.invariant.stored (taken g c) (rests g c) ∙ ap (λ t. t.held) c.self.view_is
+returns-clause-held g c = held_same c.self.invariant.stored (taken g c) (rests g c) ∙ ap (λ t. t.held) c.self.view_is
 
 pub returns-clause-stamps : goal.returns-clause-stamps
 returns-clause-stamps g c = ap stamps_of (taken g c).nodes ∙ stamps_cut c.self.inside.nodes.nodes c.args.place ∙ ap (λ t. remove t.stamps c.args.place) c.self.view_is

@@ -15,7 +15,7 @@ moved : (g : _) (c : After-renew g) → (e : _) × Renews c.self.inside.nodes c.
 moved g c =
     let h = subst (λ t. ContainsIdleAt t c.args.place) (sym c.self.view_is) c.requires in
     let n = some_node c.self.invariant.stored c.args.place (h.0, h.1) in
-    (n.0, record { at = n.1; there = idle_node c.self.invariant.stored c.args.place h; nodes = c.renew.ensures.nodes; idle = c.renew.ensures.idle; work = c.renew.ensures.work })
+    (n.0, record { at = n.1; there = idle_node c.self.invariant.stored c.args.place h; nodes = c.renew.ensures.nodes; hashes = c.renew.ensures.hashes; idle = c.renew.ensures.idle; work = c.renew.ensures.work })
 
 pub invariant_of-self : goal.invariant_of-self
 invariant_of-self g c = record {

@@ -57,7 +57,7 @@ invariant_of-self g c =
     let l = ready_like c.self.invariant.stored c.args.place n.0 h n.1 in
     let nodes = rests_nodes c.self.inside.nodes c.set_pins.new.self c.append.new.self c.args.place n.0 n.1 c.set_pins.ensures.nodes c.append.ensures.nodes in
     record {
-      stored = stored_rested c.self.invariant.stored nodes refl refl h.value (c.append.ensures.idle ∙ ap (λ xs. xs ++ c.args.place ∷ []) c.set_pins.ensures.idle) l.0 refl l.1 (ready_found c.self.invariant.stored c.args.place n.0 h n.1);
+      stored = stored_rested c.self.invariant.stored nodes refl refl (c.append.ensures.hashes ∙ c.set_pins.ensures.hashes) h.value (c.append.ensures.idle ∙ ap (λ xs. xs ++ c.args.place ∷ []) c.set_pins.ensures.idle) l.0 refl l.1 (ready_found c.self.invariant.stored c.args.place n.0 h n.1);
       sums = c.self.invariant.sums ∙ sym (sum_same g c);
       rests = more_idle g c;
     }

@@ -27,7 +27,7 @@ revive-requires-clause-ready g c e at =
 
 pub invariant_of-self : goal.invariant_of-self
 invariant_of-self g c = let same = c.in_err-value.ensures.same in record {
-  stored = stored_same c.self.invariant.stored same.0 same.1 (λ k. refl) refl (λ s. refl);
+  stored = stored_same c.self.invariant.stored same.0 c.revive.ensures.hashes same.1 refl (λ s. refl);
   sums = c.self.invariant.sums ∙ ap charges_of (sym (entries_same c.self.inside.nodes c.revive.new.self same.0 same.1 same.2));
   rests = c.self.invariant.rests ∙ ap (λ t. charges t.idle) (sym (entries_same c.self.inside.nodes c.revive.new.self same.0 same.1 same.2));
 }
@@ -44,7 +44,7 @@ invariant_of-self-2 g c =
     let writes = pinned_writes c.self.inside.nodes c.revive.new.self c.args.place 1 n.0 n.1 c.in_ok-value.ensures.nodes in
     let changed = entries_revived_by_one c.self.invariant.stored writes l.0 c.in_ok-value.ensures.idle l.1 l.2 c.in_ok-value.ensures.work in
     record {
-      stored = stored_revived c.self.invariant.stored writes refl refl c.in_ok-value.ensures.idle refl;
+      stored = stored_revived c.self.invariant.stored writes refl refl c.revive.ensures.hashes c.in_ok-value.ensures.idle refl;
       sums = c.self.invariant.sums ∙ sym (sum_revived (entries_of c.self.inside.nodes) (entries_of c.revive.new.self) n.0.stamp (record { stamp = n.0.stamp; key = n.0.key; charge = n.0.charge; value = l.0 }) _
           (stamps_apart c.self.inside.nodes _ c.self.invariant.stored.represents) (ap (λ t. t.idle) changed) (ap (λ t. t.held) changed)
           ((idle_found c.self.invariant.stored c.args.place n.0 n.1 m).1 ∙ as_idle-ready n.0 l.0 l.2) (idle_unheld c.self.invariant.stored c.args.place n.0 n.1 m) refl);

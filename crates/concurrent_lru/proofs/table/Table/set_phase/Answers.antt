@@ -19,7 +19,7 @@ invariant_of-self g c =
     let n = some_node c.self.invariant.stored c.args.place (h.0, h.1) in
     let changed = entries_written c.self.invariant.stored (phase_writes c.self.inside.nodes c.set_phase.new.self c.args.place (phase_of c.args.phase) n.0 n.1 c.set_phase.ensures.nodes) refl refl c.set_phase.ensures.idle (held_node c.self.invariant.stored c.args.place n.0 h n.1) (held_node c.self.invariant.stored c.args.place n.0 h n.1) c.set_phase.ensures.work in
     record {
-      stored = stored_written c.self.invariant.stored (phase_writes c.self.inside.nodes c.set_phase.new.self c.args.place (phase_of c.args.phase) n.0 n.1 c.set_phase.ensures.nodes) refl refl c.set_phase.ensures.idle (held_node c.self.invariant.stored c.args.place n.0 h n.1) (held_node c.self.invariant.stored c.args.place n.0 h n.1);
+      stored = stored_written c.self.invariant.stored (phase_writes c.self.inside.nodes c.set_phase.new.self c.args.place (phase_of c.args.phase) n.0 n.1 c.set_phase.ensures.nodes) refl refl c.set_phase.ensures.hashes c.set_phase.ensures.idle (held_node c.self.invariant.stored c.args.place n.0 h n.1) (held_node c.self.invariant.stored c.args.place n.0 h n.1);
       sums = c.self.invariant.sums ∙ sym (sum_written (entries_of c.self.inside.nodes) (entries_of c.set_phase.new.self) n.0.stamp _ _ (ap (λ t. t.idle) changed) (ap (λ t. t.held) changed) (held_found c.self.invariant.stored c.args.place n.0 n.1 (held_node c.self.invariant.stored c.args.place n.0 h n.1)) refl);
       rests = c.self.invariant.rests ∙ ap (λ t. charges t.idle) (sym changed);
     }

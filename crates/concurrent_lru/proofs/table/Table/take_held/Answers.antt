@@ -27,12 +27,12 @@ take_away-requires-clause-apart g c =
 pinned : (g : _) (c : After-take_away g) → ((entry_of c.take_away.result.value).pins == 0) ≡ false
 pinned g c = held_node c.self.invariant.stored c.args.place (entry_of c.take_away.result.value) (subst (λ t. ContainsHeldAt t c.args.place) (sym c.self.view_is) c.requires) c.take_away.ensures.entry
 
-taken : (g : _) (c : After-take_away g) → IsTaken g.K.PartialEq.eq c.self.inside.nodes c.take_away.new.nodes c.self.inside.by_key c.take_away.new.by_key c.self.inside.by_stamp c.take_away.new.by_stamp c.args.place (entry_of c.take_away.result.value)
+taken : (g : _) (c : After-take_away g) → IsTaken c.self.inside.nodes c.take_away.new.nodes c.self.inside.by_stamp c.take_away.new.by_stamp c.args.place (entry_of c.take_away.result.value)
 taken g c = record {
   at = c.take_away.ensures.entry;
   nodes = c.take_away.ensures.nodes;
+  hashes = c.take_away.ensures.hashes;
   idle = c.take_away.ensures.idle ∙ sym (filter_absent c.args.place c.self.inside.nodes.idle (held_not_idle c.self.inside.nodes _ c.args.place (entry_of c.take_away.result.value) c.self.invariant.stored.represents c.take_away.ensures.entry (pinned g c)));
-  keys_now = c.take_away.ensures.by_key;
   keeps = c.take_away.ensures.keeps;
   stamps_now = c.take_away.ensures.by_stamp;
 }
@@ -40,11 +40,11 @@ taken g c = record {
 pub invariant_of-self : goal.invariant_of-self
 invariant_of-self g c =
     let e = entry_of c.take_away.result.value in
-    let sum = sum_less (entries_of c.self.inside.nodes) (entries_of c.take_away.new.nodes) e.stamp (held_entry e) (idle_same g.met.K.Eq.laws c.self.invariant.stored (taken g c) (pinned g c)) (held_without g.met.K.Eq.laws c.self.invariant.stored (taken g c) (pinned g c)) (held_found c.self.invariant.stored c.args.place e c.take_away.ensures.entry (pinned g c)) in
+    let sum = sum_less (entries_of c.self.inside.nodes) (entries_of c.take_away.new.nodes) e.stamp (held_entry e) (idle_same c.self.invariant.stored (taken g c) (pinned g c)) (held_without c.self.invariant.stored (taken g c) (pinned g c)) (held_found c.self.invariant.stored c.args.place e c.take_away.ensures.entry (pinned g c)) in
     record {
-      stored = stored_without g.met.K.Eq.laws c.self.invariant.stored (taken g c);
+      stored = stored_without c.self.invariant.stored (taken g c);
       sums = less_alike _ _ _ _ e.charge c.take_away.ensures.total sum c.self.invariant.sums;
-      rests = c.self.invariant.rests ∙ ap charges (sym (idle_same g.met.K.Eq.laws c.self.invariant.stored (taken g c) (pinned g c)));
+      rests = c.self.invariant.rests ∙ ap charges (sym (idle_same c.self.invariant.stored (taken g c) (pinned g c)));
     }
 
 pub take_away-requires-clause-counted : goal.take_away-requires-clause-counted
@@ -59,10 +59,10 @@ pub returns-clause-entry : goal.returns-clause-entry
 returns-clause-entry g c = sym (ap (λ t. get t.held (entry_of c.take_away.result.value).stamp) c.self.view_is) ∙ held_found c.self.invariant.stored c.args.place (entry_of c.take_away.result.value) c.take_away.ensures.entry (pinned g c)
 
 pub returns-clause-idle : goal.returns-clause-idle
-returns-clause-idle g c = idle_same g.met.K.Eq.laws c.self.invariant.stored (taken g c) (pinned g c) ∙ ap (λ t. t.idle) c.self.view_is
+returns-clause-idle g c = idle_same c.self.invariant.stored (taken g c) (pinned g c) ∙ ap (λ t. t.idle) c.self.view_is
 
 pub returns-clause-held : goal.returns-clause-held
-returns-clause-held g c = held_without g.met.K.Eq.laws c.self.invariant.stored (taken g c) (pinned g c) ∙ ap (λ t. remove t.held (entry_of c.take_away.result.value).stamp) c.self.view_is
+returns-clause-held g c = held_without c.self.invariant.stored (taken g c) (pinned g c) ∙ ap (λ t. remove t.held (entry_of c.take_away.result.value).stamp) c.self.view_is
 
 pub returns-clause-stamps : goal.returns-clause-stamps
 returns-clause-stamps g c = ap stamps_of (taken g c).nodes ∙ stamps_cut c.self.inside.nodes.nodes c.args.place ∙ ap (λ t. remove t.stamps c.args.place) c.self.view_is

@@ -1,8 +1,9 @@
 use Rattle.std.proofs.Common.{sym, ap}
-use Rattle.std.specs.Map.{lookup}
 use Rattle.concurrent_lru.specs.Cache.{charges}
 use Rattle.concurrent_lru.proofs.Entries.PlacesOfNodes.{empty_represents, empty_held, no_stamps}
-use Rattle.concurrent_lru.proofs.Entries.IndexedByMaps.{indexed_empty}
+use Rattle.concurrent_lru.proofs.Entries.IndexedByStamp.{indexed_empty}
+use Rattle.concurrent_lru.specs.KeyHashes.{key_hash}
+use Rattle.concurrent_lru.proofs.Entries.HashesOfNodes.{hashed_empty}
 use Rattle.std.specs.List.{filter_map}
 use Rattle.concurrent_lru.specs.Indexes.{entries_of}
 use Rattle.concurrent_lru.specs.Representation.{idle_at_place}
@@ -15,7 +16,8 @@ invariant_of-result g c = record {
   rests = sym (ap charges (ap (filter_map (idle_at_place c.new.result.nodes)) c.new.ensures.idle));
   stored = record {
     represents = empty_represents c.new.result c.new.ensures.nodes c.new.ensures.idle;
-    indexed = indexed_empty _ _ _ c.new.ensures.nodes (λ k. ap (lookup (g.K.PartialEq.eq k)) c.new-2.ensures.empty) c.requires.unmapped;
+    indexed = indexed_empty _ _ c.new.ensures.nodes c.requires.unmapped;
+    hashed = hashed_empty (key_hash g.K.Hash.hash_input) c.new.result.nodes c.new.result.hashes c.new.ensures.nodes;
     copies = c.requires.copies;
   };
 }

@@ -1,6 +1,8 @@
 use Rattle.std.proofs.Common.{◌++◌, ◌∷◌, [], sym, ap, ◌∙◌, subst}
 use Rattle.concurrent_lru.specs.Cells.{slot_at}
 use Rattle.concurrent_lru.specs.SlotTable.{Omits, nodes_of, idle_of}
+use Rattle.concurrent_lru.proofs.Nodes.Listings.{looked_keeps}
+use Rattle.concurrent_lru.proofs.Nodes.NodeWrites.{only_looked, then_writes}
 use Rattle.concurrent_lru.proofs.Order.Appending.{table_looked}
 use Rattle.concurrent_lru.proofs.list.links.Order.append.Goals as goal
 
@@ -19,5 +21,8 @@ returns-clause-nodes g c = c.push.ensures.nodes ∙ ap (λ t. nodes_of (record c
 pub returns-clause-idle : goal.returns-clause-idle
 returns-clause-idle g c = c.push.ensures.idle ∙ ap (λ t. idle_of (record c.args.self.now { slots = t }) ++ c.args.slot ∷ []) c.look-own.ensures.rest
 
-pub returns-clause-pointers : goal.returns-clause-pointers
-returns-clause-pointers g c = c.push.ensures.pointers ∙ ap (λ t. t.pointers) c.look-own.ensures.rest
+pub returns-clause-rest : goal.returns-clause-rest
+returns-clause-rest g c = let s = c.args.self.now.slots in let t = c.look-own.new.self in then_writes s t c.push.new.self.slots (only_looked s t c.look-own.ensures.rest) c.push.ensures.rest
+
+pub returns-clause-listings : goal.returns-clause-listings
+returns-clause-listings g c = looked_keeps c.args.self.now.slots c.look-own.new.self c.push.new.self.slots.memory.cells c.look-own.ensures.rest c.push.ensures.listings

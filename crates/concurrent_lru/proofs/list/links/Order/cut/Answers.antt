@@ -3,8 +3,9 @@ use Rattle.concurrent_lru.specs.Relinks.{LeftJoined, RightJoined}
 use Rattle.concurrent_lru.specs.SlotPointers.{cells_of}
 use Rattle.concurrent_lru.specs.SlotTable.{IsGood}
 use Rattle.concurrent_lru.proofs.Memory.CellSlots.{of_found}
-use Rattle.concurrent_lru.proofs.Order.Appending.{quiet, good_kept, tied_kept}
-use Rattle.concurrent_lru.proofs.Order.TakingOut.{Cuts, left_quiet, linked_out, nodes_out, idle_out, good_beside}
+use Rattle.concurrent_lru.proofs.Nodes.NodeWrites.{only_wrote, then_writes}
+use Rattle.concurrent_lru.proofs.Order.Appending.{quiet, quiet_listings, good_kept, tied_kept}
+use Rattle.concurrent_lru.proofs.Order.TakingOut.{Cuts, left_quiet, quiet_out, linked_out, nodes_out, idle_out, good_beside}
 use Rattle.concurrent_lru.proofs.list.links.Order.cut.Goals as goal
 use Rattle.concurrent_lru.proofs.list.links.Order.cut.Goals.{After-join_right}
 
@@ -54,5 +55,10 @@ returns-clause-nodes g c = nodes_out c.requires.linked c.requires.idle.2 (cuts g
 pub returns-clause-idle : goal.returns-clause-idle
 returns-clause-idle g c = of_found _ c.requires.idle.1 (idle_out c.requires.linked c.requires.idle.2 (cuts g c))
 
-pub returns-clause-pointers : goal.returns-clause-pointers
-returns-clause-pointers g c = (cuts g c).pointers
+pub returns-clause-rest : goal.returns-clause-rest
+returns-clause-rest g c =
+    let s = c.args.self.now.slots in let t = c.unlink-before.new.self in let u = c.join_left.new.self.slots in let v = c.join_right.new.self.slots in
+    then_writes s u v (then_writes s t u (only_wrote s t c.unlink-before.ensures.rest) (only_wrote t u c.join_left.ensures.rest)) (only_wrote u v c.join_right.ensures.rest)
+
+pub returns-clause-listings : goal.returns-clause-listings
+returns-clause-listings g c = quiet_listings (cells_of c.args.self.now.slots) (cells_of c.join_right.new.self.slots) (quiet_out c.requires.linked c.requires.idle.2 (cuts g c))

@@ -2,6 +2,8 @@ use Rattle.std.proofs.Common.{sym, ap, ◌∙◌, subst}
 use Rattle.concurrent_lru.specs.Cells.{slot_at}
 use Rattle.concurrent_lru.specs.SlotPointers.{cells_of}
 use Rattle.concurrent_lru.specs.SlotTable.{Lists, nodes_of, idle_without}
+use Rattle.concurrent_lru.proofs.Nodes.Listings.{looked_keeps}
+use Rattle.concurrent_lru.proofs.Nodes.NodeWrites.{only_looked, then_writes}
 use Rattle.concurrent_lru.proofs.Order.Appending.{table_looked}
 use Rattle.concurrent_lru.proofs.Order.TakingOut.{present_in}
 use Rattle.concurrent_lru.proofs.list.links.Order.remove.Goals as goal
@@ -25,5 +27,8 @@ returns-clause-idle g c =
     let same = ap cells_of c.look-own.ensures.rest in
     c.cut.ensures.idle c.args.slot (ap (λ l. slot_at l c.look-own.result) same ∙ c.look-own.ensures.link) ∙ ap (λ t. idle_without (record c.args.self.now { slots = t }) c.args.slot) c.look-own.ensures.rest
 
-pub returns-clause-pointers : goal.returns-clause-pointers
-returns-clause-pointers g c = c.cut.ensures.pointers ∙ ap (λ t. t.pointers) c.look-own.ensures.rest
+pub returns-clause-rest : goal.returns-clause-rest
+returns-clause-rest g c = let s = c.args.self.now.slots in let t = c.look-own.new.self in then_writes s t c.cut.new.self.slots (only_looked s t c.look-own.ensures.rest) c.cut.ensures.rest
+
+pub returns-clause-listings : goal.returns-clause-listings
+returns-clause-listings g c = looked_keeps c.args.self.now.slots c.look-own.new.self c.cut.new.self.slots.memory.cells c.look-own.ensures.rest c.cut.ensures.listings

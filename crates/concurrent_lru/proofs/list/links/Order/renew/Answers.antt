@@ -2,6 +2,8 @@ use Rattle.std.proofs.Common.{◌++◌, ◌∷◌, [], eqb, sym, ap, ◌∙◌, 
 use Rattle.concurrent_lru.specs.Cells.{slot_at}
 use Rattle.concurrent_lru.specs.SlotPointers.{cells_of}
 use Rattle.concurrent_lru.specs.SlotTable.{Lists, nodes_of, idle_without}
+use Rattle.concurrent_lru.proofs.Nodes.Listings.{looked_keeps, then_keeps}
+use Rattle.concurrent_lru.proofs.Nodes.NodeWrites.{only_looked, then_writes}
 use Rattle.concurrent_lru.proofs.Order.Appending.{table_looked}
 use Rattle.concurrent_lru.proofs.Order.TakingOut.{present_in}
 use Rattle.std.specs.List.{list_any}
@@ -24,7 +26,7 @@ cut-requires-clause-idle g c =
 pub push-requires-clause-own : goal.push-requires-clause-own
 push-requires-clause-own g c =
     let same = ap cells_of c.look-node.ensures.rest in
-    slot_stays c.look-node.new.self c.cut.new.self.slots c.args.slot c.look-node.result c.look-node.ensures.tied c.cut.ensures.linked.tied c.cut.ensures.pointers (ap (λ l. slot_at l c.look-node.result) same ∙ c.look-node.ensures.link)
+    slot_stays c.look-node.new.self c.cut.new.self.slots c.args.slot c.look-node.result c.look-node.ensures.tied c.cut.ensures.linked.tied (ap (λ x. x.pointers) c.cut.ensures.rest) (ap (λ l. slot_at l c.look-node.result) same ∙ c.look-node.ensures.link)
 
 pub push-requires-clause-held : goal.push-requires-clause-held
 push-requires-clause-held g c =
@@ -39,5 +41,12 @@ returns-clause-idle g c =
     let left = c.cut.ensures.idle c.args.slot (ap (λ l. slot_at l c.look-node.result) (ap cells_of c.look-node.ensures.rest) ∙ c.look-node.ensures.link) ∙ ap (λ t. idle_without (record c.args.self.now { slots = t }) c.args.slot) c.look-node.ensures.rest in
     c.push.ensures.idle ∙ ap (λ ks. ks ++ c.args.slot ∷ []) left
 
-pub returns-clause-pointers : goal.returns-clause-pointers
-returns-clause-pointers g c = c.push.ensures.pointers ∙ c.cut.ensures.pointers ∙ ap (λ t. t.pointers) c.look-node.ensures.rest
+pub returns-clause-rest : goal.returns-clause-rest
+returns-clause-rest g c =
+    let s = c.args.self.now.slots in let t = c.look-node.new.self in let u = c.cut.new.self.slots in
+    then_writes s u c.push.new.self.slots (then_writes s t u (only_looked s t c.look-node.ensures.rest) c.cut.ensures.rest) c.push.ensures.rest
+
+pub returns-clause-listings : goal.returns-clause-listings
+returns-clause-listings g c =
+    let t = c.look-node.new.self in let u = c.cut.new.self.slots in let v = c.push.new.self.slots in
+    looked_keeps c.args.self.now.slots t (cells_of v) c.look-node.ensures.rest (then_keeps (cells_of t) (cells_of u) (cells_of v) c.cut.ensures.listings c.push.ensures.listings)

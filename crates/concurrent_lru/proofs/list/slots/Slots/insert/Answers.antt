@@ -1,36 +1,27 @@
-use Rattle.std.proofs.Common.{◌≡◌, Some, refl, sym, ap, ◌∙◌, subst}
-use Rattle.concurrent_lru.specs.Cells.{cell, cell_at, put_at, AreApart}
-use Rattle.concurrent_lru.specs.NodeTable.{entry_of, chain_of}
-use Rattle.concurrent_lru.specs.Relinks.{place_of}
-use Rattle.concurrent_lru.specs.SlotTable.{entry_in, IsEnd}
-use Rattle.concurrent_lru.proofs.Memory.CellSlots.{put_same, put_other}
-use Rattle.concurrent_lru.proofs.Nodes.PointersTied.{tied_put}
+use Rattle.std.proofs.Common.{refl, sym, ap, ◌∙◌, subst}
+use Rattle.concurrent_lru.specs.Cells.{cell_at}
+use Rattle.concurrent_lru.specs.NodeTable.{entry_of, hash_of}
+use Rattle.concurrent_lru.specs.Probing.Entries.{Adds, entry}
+use Rattle.concurrent_lru.specs.Probing.OpenTable.{mark_of}
+use Rattle.concurrent_lru.specs.SlotPointers.{cells_of}
+use Rattle.concurrent_lru.proofs.Nodes.Listings.{put_but, but_none, but_absent, listed_more, put_listed, put_unlisted}
 use Rattle.concurrent_lru.proofs.list.slots.Slots.insert.Goals as goal
 
-pub returns-clause-tied : goal.returns-clause-tied
-returns-clause-tied g c =
-    let s = c.args.self.now in let slot = c.insert_reserved.result in let n = c.set_slot.new.self in let x = Some (cell c.put.result.0.ptr c.put.result.1 n) in
-    let same : c.vacant_key-slot.result ≡ slot = c.vacant_key-slot.ensures.value ∙ sym c.insert_reserved.ensures.key in
-    let cells : c.apart.new.self.cells ≡ put_at slot x s.memory.cells = ap (λ m. m.cells) c.apart.ensures.same ∙ c.put.ensures ∙ ap (λ k. put_at k x s.memory.cells) same in
-    tied_put s _ slot (Some c.put.result.0) x c.requires.tied c.insert_reserved.ensures.updates cells refl (λ place e. let is : place_of n ≡ place = cc in sym is ∙ c.set_slot.ensures.place ∙ same) (subst (λ m. AreApart m.cells) (sym c.apart.ensures.same) c.apart.ensures.apart)
+pub insert-requires-clause-absent : goal.insert-requires-clause-absent
+insert-requires-clause-absent g c =
+    let mid = c.put-slot.new.self in
+    but_absent mid c.put-slot.result.0 c.put-slot.result.1 c.put-slot.ensures.tied (put_but c.args.self.now mid c.put-slot.result.0 c.put-slot.ensures.by_hash c.put-slot.ensures.vacant c.put-slot.ensures.others c.requires.listed) c.put-slot.ensures.at
 
-pub returns-clause-entry : goal.returns-clause-entry
-returns-clause-entry g c =
-    let s = c.args.self.now in let slot = c.insert_reserved.result in let n = c.set_slot.new.self in let x = Some (cell c.put.result.0.ptr c.put.result.1 n) in
-    let same : c.vacant_key-slot.result ≡ slot = c.vacant_key-slot.ensures.value ∙ sym c.insert_reserved.ensures.key in
-    let cells : c.apart.new.self.cells ≡ put_at slot x s.memory.cells = ap (λ m. m.cells) c.apart.ensures.same ∙ c.put.ensures ∙ ap (λ k. put_at k x s.memory.cells) same in
-    ap entry_in (ap (λ l. cell_at l slot) cells ∙ put_same slot x s.memory.cells) ∙ ap Some (c.set_slot.ensures.entry ∙ ap entry_of c.deref_mut.ensures.value)
+pub returns-clause-listed : goal.returns-clause-listed
+returns-clause-listed g c =
+    let mid = c.put-slot.new.self in let slot = c.put-slot.result.0 in let n = c.args.node.value in
+    listed_more mid (record mid { by_hash = c.insert.new.self }) slot (entry (mark_of (hash_of n)) c.put-slot.result.1) refl
+    (put_listed (cell_at (cells_of mid) slot) n c.put-slot.result.1 c.put-slot.ensures.entry c.put-slot.ensures.hash c.put-slot.ensures.at (ap (λ x. (entry_of x).detached) (sym c.deref-2.ensures) ∙ c.if-is_detached.false))
+    (subst (λ x. Adds mid.by_hash c.insert.new.self (entry (mark_of (hash_of x)) c.put-slot.result.1)) c.deref.ensures c.insert.ensures.adds)
+    (put_but c.args.self.now mid slot c.put-slot.ensures.by_hash c.put-slot.ensures.vacant c.put-slot.ensures.others c.requires.listed)
 
-pub returns-clause-end : goal.returns-clause-end
-returns-clause-end g c =
-    let s = c.args.self.now in let slot = c.insert_reserved.result in let n = c.set_slot.new.self in let x = Some (cell c.put.result.0.ptr c.put.result.1 n) in
-    let same : c.vacant_key-slot.result ≡ slot = c.vacant_key-slot.ensures.value ∙ sym c.insert_reserved.ensures.key in
-    let cells : c.apart.new.self.cells ≡ put_at slot x s.memory.cells = ap (λ m. m.cells) c.apart.ensures.same ∙ c.put.ensures ∙ ap (λ k. put_at k x s.memory.cells) same in
-    λ alone. subst IsEnd (sym (ap (λ l. cell_at l slot) cells ∙ put_same slot x s.memory.cells)) (c.set_slot.ensures.chain ∙ ap chain_of c.deref_mut.ensures.value ∙ alone)
-
-pub returns-clause-others : goal.returns-clause-others
-returns-clause-others g c =
-    let s = c.args.self.now in let slot = c.insert_reserved.result in let n = c.set_slot.new.self in let x = Some (cell c.put.result.0.ptr c.put.result.1 n) in
-    let same : c.vacant_key-slot.result ≡ slot = c.vacant_key-slot.ensures.value ∙ sym c.insert_reserved.ensures.key in
-    let cells : c.apart.new.self.cells ≡ put_at slot x s.memory.cells = ap (λ m. m.cells) c.apart.ensures.same ∙ c.put.ensures ∙ ap (λ k. put_at k x s.memory.cells) same in
-    λ k ne. ap (λ l. cell_at l k) cells ∙ put_other slot k x s.memory.cells ne
+pub returns-then-is_detached-clause-listed : goal.returns-then-is_detached-clause-listed
+returns-then-is_detached-clause-listed g c =
+    let mid = c.put-slot.new.self in let slot = c.put-slot.result.0 in let n = c.args.node.value in
+    but_none mid slot (put_unlisted (cell_at (cells_of mid) slot) n c.put-slot.ensures.entry (ap (λ x. (entry_of x).detached) (sym c.deref-2.ensures) ∙ c.if-is_detached.true))
+    (put_but c.args.self.now mid slot c.put-slot.ensures.by_hash c.put-slot.ensures.vacant c.put-slot.ensures.others c.requires.listed)

@@ -1,16 +1,23 @@
-use Rattle.std.proofs.Common.{None, refl, sym, ap, ◌∙◌, subst}
-use Rattle.concurrent_lru.specs.Cells.{cell_at, AreApart}
-use Rattle.concurrent_lru.proofs.Memory.CellSlots.{put_same, put_other}
-use Rattle.concurrent_lru.proofs.Nodes.PointersTied.{tied_put}
+use Rattle.std.proofs.Common.{◌≡◌, refl, sym, ap, ◌∙◌, subst}
+use Rattle.concurrent_lru.specs.Cells.{cell_at}
+use Rattle.concurrent_lru.specs.Listing.{listing_in}
+use Rattle.concurrent_lru.specs.SlotPointers.{HasNode, cells_of}
+use Rattle.concurrent_lru.proofs.Nodes.Listings.{but_kept, but_none, tied_unlisted}
 use Rattle.concurrent_lru.proofs.list.slots.Slots.take.Goals as goal
 
-pub returns-clause-tied : goal.returns-clause-tied
-returns-clause-tied g c =
-    let s = c.args.self.now in
-    tied_put s _ c.args.slot None None c.requires.tied c.remove-at.ensures.updates (ap (λ m. m.cells) c.apart.ensures.same ∙ c.take-node.ensures.cells) refl (λ place e. cc) (subst (λ m. AreApart m.cells) (sym c.apart.ensures.same) c.apart.ensures.apart)
+pub take_out-requires-clause-tied : goal.take_out-requires-clause-tied
+take_out-requires-clause-tied g c = tied_unlisted c.args.self.now c.unlist.new.self c.unlist.ensures.rest c.requires.tied
 
-pub returns-clause-vacant : goal.returns-clause-vacant
-returns-clause-vacant g c = ap (λ l. cell_at l c.args.slot) (ap (λ m. m.cells) c.apart.ensures.same ∙ c.take-node.ensures.cells) ∙ put_same c.args.slot None c.args.self.now.memory.cells
+pub take_out-requires-clause-present : goal.take_out-requires-clause-present
+take_out-requires-clause-present g c = subst (λ s. HasNode s c.args.slot) (sym c.unlist.ensures.rest) c.requires.present
+
+pub returns-clause-listed : goal.returns-clause-listed
+returns-clause-listed g c =
+    let mid = c.unlist.new.self in let new = c.take_out.new.self in
+    but_none new c.args.slot (ap listing_in c.take_out.ensures.vacant) (but_kept mid new c.args.slot c.take_out.ensures.by_hash (λ k ne. ap listing_in (c.take_out.ensures.others k ne)) c.unlist.ensures.others)
+
+pub returns-clause-value : goal.returns-clause-value
+returns-clause-value g c d at = c.take_out.ensures.value d (ap (λ s. cell_at (cells_of s) c.args.slot) c.unlist.ensures.rest ∙ at)
 
 pub returns-clause-others : goal.returns-clause-others
-returns-clause-others g c = λ k ne. ap (λ l. cell_at l k) (ap (λ m. m.cells) c.apart.ensures.same ∙ c.take-node.ensures.cells) ∙ put_other c.args.slot k None c.args.self.now.memory.cells ne
+returns-clause-others g c k ne = c.take_out.ensures.others k ne ∙ ap (λ s. cell_at (cells_of s) k) c.unlist.ensures.rest

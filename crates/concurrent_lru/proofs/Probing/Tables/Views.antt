@@ -1,0 +1,79 @@
+-- From what is seen of a table to the slots that the code reads.
+use Rattle.std.proofs.Common.{◌≡◌, ◌≢◌, ℕ, ◌<◌, List, ◌∷◌, length, refl, sym, ap, ◌∙◌, subst, arith, Contains}
+use Rattle.concurrent_lru.specs.Probing.Cycle.{next_of, home_of}
+use Rattle.concurrent_lru.specs.Probing.Probes.{marks_of, mark_at, end_at, IsFilledAt, HasEmpty, Finds}
+use Rattle.concurrent_lru.specs.Probing.Entries.{count}
+use Rattle.concurrent_lru.specs.Probing.OpenTable.{mark_of, IsTable, IsFilled, IsVacancy, HasMark, EndsAt, walk, step_for}
+use Rattle.concurrent_lru.specs.declared.list.probes.Slot.{Slot}
+use Rattle.concurrent_lru.specs.declared.list.probes.Probe.{Probe}
+use Rattle.concurrent_lru.specs.declared.list.open_table.Step.{Step}
+use Rattle.concurrent_lru.specs.declared.list.open_table.Step.TheVariants.{Item}
+use Rattle.concurrent_lru.proofs.Probing.Marks.{length-marks}
+use Rattle.concurrent_lru.proofs.Probing.Gaps.{filled_within}
+use Rattle.concurrent_lru.proofs.Probing.Fills.{Ends, ends_at}
+use Rattle.concurrent_lru.proofs.Probing.Contents.Slots.{some_empty}
+use Rattle.concurrent_lru.proofs.Probing.Tables.Walks.{has_empty, first_mark, first_all, first_end, next_rest, next_end}
+
+module _ {T : Type 0} where
+  pub some_in : (slots now : List (Slot T)) (len : ℕ) → IsTable slots len → now ≡ slots → 0 < length slots → HasEmpty (marks_of now)
+  some_in slots now len t is some = subst (λ l. HasEmpty (marks_of l)) (sym is) (has_empty slots len t some)
+
+  -- a filled slot that is seen
+  module _ (slots now v : List (Slot T)) (is : now ≡ slots) (seen : slots ≡ v) (k cursor : ℕ) (at : k ≡ cursor) (filled : IsFilled v cursor) where
+    pub filled_at : IsFilledAt (marks_of now) k
+    filled_at = subst (IsFilledAt (marks_of now)) (sym at) (subst (λ l. IsFilledAt (marks_of l) cursor) (sym (is ∙ seen)) filled)
+
+    pub within_at : k < length now
+    within_at =
+        let lt : k < length (marks_of now) = filled_within (marks_of now) k filled_at in
+        let long : length (marks_of now) ≡ length now = length-marks now in
+        omega arith
+
+    pub empty_at : (len : ℕ) → IsTable slots len → HasEmpty (marks_of now)
+    empty_at len t = some_in slots now len t is (let lt = within_at in let long : length now ≡ length slots = ap length is in omega arith)
+
+  -- ---- the first step of a walk
+  module _ (slots now v : List (Slot T)) (len hash mark home : ℕ) (t : IsTable slots len) (is : now ≡ slots) (seen : slots ≡ v) (marks : mark ≡ mark_of hash) (begins : home ≡ home_of (length slots) mark)
+      (p : Probe) (r : Step) (step : r ≡ step_for p) (found : Finds (marks_of now) mark home p) where
+    finds : Finds (marks_of slots) mark home p
+    finds = subst (λ l. Finds (marks_of l) mark home p) is found
+
+    pub begun_mark : HasMark v (mark_of hash) r
+    begun_mark = subst (HasMark v (mark_of hash)) (sym step) (subst (λ l. HasMark l (mark_of hash) (step_for p)) seen (subst (λ m. HasMark slots m (step_for p)) marks (first_mark slots len t mark home p finds)))
+
+    pub begun_all : mark ≢ 0 → (k : ℕ) → mark_at (marks_of v) k ≡ mark_of hash → Contains (walk v r) k
+    begun_all filled k h = subst (λ s. Contains (walk v s) k) (sym step) (subst (λ l. Contains (walk l (step_for p)) k) seen
+        (first_all slots len t mark home p filled begins finds k (subst (λ l. mark_at (marks_of l) k ≡ mark) (sym seen) (h ∙ sym marks))))
+
+    pub begun_end : EndsAt v (mark_of hash) r
+    begun_end = subst (EndsAt v (mark_of hash)) (sym step) (subst (λ l. EndsAt l (mark_of hash) (step_for p)) seen (subst (λ m. EndsAt slots m (step_for p)) marks (first_end slots len t mark home p begins finds)))
+
+  -- ---- a further step
+  module _ (slots now v : List (Slot T)) (len k cursor : ℕ) (t : IsTable slots len) (is : now ≡ slots) (seen : slots ≡ v) (at : k ≡ cursor) (filled : IsFilled v cursor)
+      (p : Probe) (r : Step) (step : r ≡ step_for p) (found : Finds (marks_of now) (mark_at (marks_of now) k) (next_of (length now) k) p) where
+    table : IsTable v len
+    table = subst (λ l. IsTable l len) seen t
+
+    on : Finds (marks_of v) (mark_at (marks_of v) cursor) (next_of (length v) cursor) p
+    on = subst (λ j. Finds (marks_of v) (mark_at (marks_of v) j) (next_of (length v) j) p) at
+        (subst (λ (l : List (Slot T)). Finds (marks_of l) (mark_at (marks_of l) k) (next_of (length l) k) p) (is ∙ seen) found)
+
+    pub on_mark : HasMark v (mark_at (marks_of v) cursor) r
+    on_mark = subst (HasMark v (mark_at (marks_of v) cursor)) (sym step) (first_mark v len table (mark_at (marks_of v) cursor) (next_of (length v) cursor) p on)
+
+    pub on_rest : walk v (Item cursor) ≡ cursor ∷ walk v r
+    on_rest = subst (λ s. walk v (Item cursor) ≡ cursor ∷ walk v s) (sym step) (next_rest v len table cursor (next_of (length v) cursor) filled refl p on)
+
+    pub on_end : EndsAt v (mark_at (marks_of v) cursor) r
+    on_end = subst (EndsAt v (mark_at (marks_of v) cursor)) (sym step) (next_end v len table cursor (next_of (length v) cursor) filled refl p on)
+
+  -- ---- a vacancy
+  pub vacant_in : (now v : List (Slot T)) (k vacancy hashed mark : ℕ) → now ≡ v → k ≡ vacancy → mark ≡ hashed → IsVacancy v hashed vacancy → IsVacancy now mark k
+  vacant_in now v k vacancy hashed mark is at marks h = at ∙ h ∙ (λ i. end_at (marks_of (sym is i)) (home_of (length (sym is i)) (sym marks i)))
+
+  pub vacant_within : (now : List (Slot T)) (k mark : ℕ) → count now < length now → IsVacancy now mark k → k < length now
+  vacant_within now k mark room h =
+      let long : length (marks_of now) ≡ length now = length-marks now in
+      let e : Ends (marks_of now) mark k = ends_at (marks_of now) mark k (some_empty now room) (h ∙ ap (λ n. end_at (marks_of now) (home_of n mark)) (sym long)) in
+      let w : k < length (marks_of now) = e.within in
+      omega arith

@@ -1,0 +1,127 @@
+-- Walks along the items of a hash, in a table.
+use Rattle.std.proofs.Common.{◌≡◌, ◌≢◌, ℕ, zero, suc, ◌+◌, ◌-◌, ◌/◌, ◌<◌, ◌≤◌, cond, Bool, true, false, List, [], ◌∷◌, length, refl, sym, ap, ◌∙◌, subst, arith, eqb, inl, inr, ◌||◌, Contains}
+use Rattle.std.specs.List.{list_any, filter}
+use Rattle.std.proofs.lemmas.Bool.{cases_eq, eq-eqb, ne_eqb}
+use Rattle.std.proofs.lemmas.Nat.{and_le_r}
+use Rattle.concurrent_lru.specs.Probing.Cycle.{next_of, steps, home_of}
+use Rattle.concurrent_lru.specs.Probing.Probes.{marks_of, mark_at, IsFilledAt, HasEmpty, run_at, end, end_at, walk_at, Finds, IsReached}
+use Rattle.concurrent_lru.specs.Probing.Entries.{count}
+use Rattle.concurrent_lru.specs.Probing.OpenTable.{IsTable, HasMark, EndsAt, IsVacancy, walk, step_for, capacity}
+use Rattle.concurrent_lru.specs.declared.list.probes.Slot.{Slot}
+use Rattle.concurrent_lru.specs.declared.list.probes.Probe.{Probe}
+use Rattle.concurrent_lru.specs.declared.list.probes.Probe.TheVariants.{Filled, Empty}
+use Rattle.concurrent_lru.proofs.Probing.Circle.{home_within, next_within, steps_within}
+use Rattle.concurrent_lru.proofs.Probing.Runs.{end_on, end_along, member_along, walk_here}
+use Rattle.concurrent_lru.proofs.Probing.Marks.{length-marks}
+use Rattle.concurrent_lru.proofs.Probing.Gaps.{filled_within}
+use Rattle.concurrent_lru.proofs.Probing.Contents.Slots.{some_empty}
+
+in_rest : (k x : ℕ) (xs : List ℕ) → k ≢ x → list_any (eqb k) (x ∷ xs) ≡ true → list_any (eqb k) xs ≡ true
+in_rest k x xs ne h = sym (ap (λ t. t || list_any (eqb k) xs) (ne_eqb k x ne)) ∙ h
+
+-- what passes a test is left by a filter
+in_filter : (test : ℕ → Bool) (k : ℕ) (xs : List ℕ) → test k ≡ true → list_any (eqb k) xs ≡ true → list_any (eqb k) (filter test xs) ≡ true
+in_filter test k [] passed h = h
+in_filter test k (x ∷ xs) passed h = elim (cases_eq k x) [
+  | inl e ↦ ap (λ t. list_any (eqb k) (cond t (x ∷ filter test xs) (filter test xs))) (ap test (sym e) ∙ passed) ∙ ap (λ t. t || list_any (eqb k) (filter test xs)) (eq-eqb k x e)
+  | inr ne ↦ on (test x) (in_filter test k xs passed (in_rest k x xs ne h))
+]
+  where
+    on : (b : Bool) → list_any (eqb k) (filter test xs) ≡ true → list_any (eqb k) (cond b (x ∷ filter test xs) (filter test xs)) ≡ true
+    on true i = elim (eqb k x) as (λ t. (t || list_any (eqb k) (filter test xs)) ≡ true) [ true ↦ refl | false ↦ i ]
+    on false i = i
+
+contains : (k : ℕ) (xs : List ℕ) → list_any (eqb k) xs ≡ true → Contains xs k
+contains k [] h = absurd (cc)
+contains k (x ∷ xs) h = elim (cases_eq k x) [
+  | inl e ↦ (0, omega arith, sym e)
+  | inr ne ↦ let there = contains k xs (in_rest k x xs ne h) in (suc there.0, omega (arith, there.1), there.2)
+]
+
+module _ {T : Type 0} (v : List (Slot T)) (len : ℕ) (t : IsTable v len) where
+  abbrev ms : List ℕ
+  ms = marks_of v
+
+  -- a table that has slots has an empty one
+  pub has_empty : 0 < length v → HasEmpty ms
+  has_empty some = some_empty v (let counted = t.counted in let room = t.room in omega arith)
+
+  long : length ms ≡ length v
+  long = length-marks v
+
+  slots_from : (k : ℕ) → IsFilledAt ms k → 0 < length v
+  slots_from k full = let lt : k < length ms = filled_within ms k full in let l = long in omega arith
+
+  pub filled_in : (k : ℕ) → IsFilledAt ms k → k < length v
+  filled_in k full = let lt : k < length ms = filled_within ms k full in let l = long in omega arith
+
+  -- the slots from the home of a mark to its slot are filled
+  path : (k m : ℕ) → IsFilledAt ms k → m < length ms → steps (length ms) (home_of (length ms) (mark_at ms k)) m ≤ steps (length ms) (home_of (length ms) (mark_at ms k)) k → IsFilledAt ms m
+  path = t.reached
+
+  home_in : (k : ℕ) → IsFilledAt ms k → home_of (length ms) (mark_at ms k) < length ms
+  home_in k full = home_within (length ms) (mark_at ms k) (let lt : k < length ms = filled_within ms k full in omega arith)
+
+  -- an item lies on the walk from its home
+  on_walk : (mark k : ℕ) → mark ≢ 0 → mark_at ms k ≡ mark → list_any (eqb k) (walk_at ms mark (home_of (length v) mark)) ≡ true
+  on_walk mark k filled is =
+      let full : IsFilledAt ms k = λ none. filled (sym is ∙ none) in
+      let some : HasEmpty ms = has_empty (slots_from k full) in
+      let home : ℕ = home_of (length ms) (mark_at ms k) in
+      let there : list_any (eqb k) (run_at ms home) ≡ true = member_along ms some.0 some.1 some.2 (steps (length ms) home k) home k (home_in k full) (filled_within ms k full) refl (λ m in_m near. path k m full in_m near) in
+      in_filter (λ j. eqb (mark_at ms j) mark) k (run_at ms (home_of (length v) mark)) (eq-eqb (mark_at ms k) mark is)
+      (subst (λ h. list_any (eqb k) (run_at ms h) ≡ true) (λ i. home_of (long i) (is i)) there)
+
+  -- ---- a search from the home of a mark
+  pub first_mark : (mark at : ℕ) (p : Probe) → Finds ms mark at p → HasMark v mark (step_for p)
+  first_mark mark at (Filled k) f = f.0
+  first_mark mark at (Empty k) f = tt
+
+  pub first_all : (mark at : ℕ) (p : Probe) → mark ≢ 0 → at ≡ home_of (length v) mark → Finds ms mark at p → (k : ℕ) → mark_at ms k ≡ mark → Contains (walk v (step_for p)) k
+  first_all mark at (Filled j) filled home f k is =
+      contains k (walk_at ms (mark_at ms j) j) (subst (λ l. list_any (eqb k) l ≡ true) (ap (walk_at ms mark) (sym home) ∙ f.1 ∙ ap (λ m. walk_at ms m j) (sym f.0)) (on_walk mark k filled is))
+  first_all mark at (Empty j) filled home f k is =
+      contains k [] (subst (λ l. list_any (eqb k) l ≡ true) (ap (walk_at ms mark) (sym home) ∙ f.1) (on_walk mark k filled is))
+
+  pub first_end : (mark at : ℕ) (p : Probe) → at ≡ home_of (length v) mark → Finds ms mark at p → EndsAt v mark (step_for p)
+  first_end mark at (Filled j) home f = tt
+  first_end mark at (Empty j) home f = f.0 ∙ ap (end_at ms) home
+
+  -- ---- a search from the slot after an item
+  module _ (cursor next : ℕ) (full : IsFilledAt ms cursor) (to : next ≡ next_of (length v) cursor) where
+    some : HasEmpty ms
+    some = has_empty (slots_from cursor full)
+
+    in_ms : cursor < length ms
+    in_ms = filled_within ms cursor full
+
+    next_is : next_of (length ms) cursor ≡ next
+    next_is = ap (λ n. next_of n cursor) long ∙ sym to
+
+    pub next_rest : (p : Probe) → Finds ms (mark_at ms cursor) next p → walk_at ms (mark_at ms cursor) cursor ≡ cursor ∷ walk v (step_for p)
+    next_rest (Filled j) f = walk_here ms (mark_at ms cursor) cursor some in_ms full refl ∙ ap (λ l. cursor ∷ l) (ap (walk_at ms (mark_at ms cursor)) next_is ∙ f.1 ∙ ap (λ m. walk_at ms m j) (sym f.0))
+    next_rest (Empty j) f = walk_here ms (mark_at ms cursor) cursor some in_ms full refl ∙ ap (λ l. cursor ∷ l) (ap (walk_at ms (mark_at ms cursor)) next_is ∙ f.1)
+
+    ends : end_at ms next ≡ end_at ms (home_of (length v) (mark_at ms cursor))
+    ends =
+        let home : ℕ = home_of (length ms) (mark_at ms cursor) in
+        let along : end_at ms home ≡ end_at ms cursor = end_along ms some.0 some.1 some.2 (steps (length ms) home cursor) home cursor (home_in cursor full) in_ms refl (λ m in_m near. path cursor m full in_m (omega arith)) in
+        ap (end_at ms) (sym next_is) ∙ sym (end_on ms some.0 some.1 some.2 cursor in_ms full) ∙ sym along ∙ ap (λ n. end_at ms (home_of n (mark_at ms cursor))) long
+
+    pub next_end : (p : Probe) → Finds ms (mark_at ms cursor) next p → EndsAt v (mark_at ms cursor) (step_for p)
+    next_end (Filled j) f = tt
+    next_end (Empty j) f = f.0 ∙ ends
+
+-- a table with no slots
+pub none_ends : {T : Type 0} (v : List (Slot T)) (mark : ℕ) → length v ≡ 0 → IsVacancy v mark 0
+none_ends v mark none =
+    let long : length (marks_of v) ≡ 0 = length-marks v ∙ none in
+    let home : home_of (length v) mark ≤ length v - 1 = and_le_r mark (length v - 1) in
+    let first : home_of (length v) mark ≡ 0 = omega arith in
+    sym (ap (λ n. end n (marks_of v) (home_of (length v) mark)) long ∙ first)
+
+pub none_filled : {T : Type 0} (v : List (Slot T)) (k mark : ℕ) → length v ≡ 0 → mark_at (marks_of v) k ≡ mark → mark ≢ 0 → ⊥
+none_filled v k mark none is filled =
+    let lt : k < length (marks_of v) = filled_within (marks_of v) k (λ e. filled (sym is ∙ e)) in
+    let long : length (marks_of v) ≡ length v = length-marks v in
+    omega arith

@@ -1,0 +1,82 @@
+-- How the table by hash leads to the nodes that are not detached.
+use Rattle.std.specs.Prelude.{◌≡◌, ◌≢◌, ℕ, ◌-◌, min, Bool, true, false, Option, Some, None}
+use Rattle.slab.specs.Slab.{slab_len}
+use Rattle.concurrent_lru.specs.Cells.{cell_at}
+use Rattle.concurrent_lru.specs.NodeTable.{entry_of, hash_of}
+use Rattle.concurrent_lru.specs.Probing.Entries.{count, entry, Has, Holds}
+use Rattle.concurrent_lru.specs.Probing.OpenTable.{mark_of, capacity}
+use Rattle.concurrent_lru.specs.Relinks.{NodeCell, NodeCells}
+use Rattle.concurrent_lru.specs.SlotPointers.{cells_of}
+use Rattle.concurrent_lru.specs.declared.list.Node.{Node}
+use Rattle.concurrent_lru.specs.declared.list.memory.At.{At}
+use Rattle.concurrent_lru.specs.declared.list.probes.Slot.{Slot}
+use Rattle.concurrent_lru.specs.declared.list.slots.Slots.{Slots}
+
+-- x, unless this is so
+abbrev pub unless : {X : Type 0} → Bool → X → Option X
+unless true x = None
+unless false x = Some x
+
+module _ {K V : Type 0} where
+  -- the entry of the table for a node
+  abbrev pub listing : NodeCell K V → Slot (At (Node K V))
+  listing c = entry (mark_of (hash_of c.value)) (record { ptr = c.at })
+
+  -- the entry for the node that is there, unless it is detached
+  abbrev pub listing_in : Option (NodeCell K V) → Option (Slot (At (Node K V)))
+  listing_in None = None
+  listing_in (Some c) = unless (entry_of c.value).detached (listing c)
+
+  abbrev pub hash_in : Option (NodeCell K V) → Option ℕ
+  hash_in None = None
+  hash_in (Some c) = Some (hash_of c.value)
+
+  -- each node has the hash that it had, and the entry of the table
+  abbrev pub KeepsListings : NodeCells K V → NodeCells K V → Type 0
+  KeepsListings cs ds = (k : ℕ) → (hash_in (cell_at ds k) ≡ hash_in (cell_at cs k)) × (listing_in (cell_at ds k) ≡ listing_in (cell_at cs k))
+
+  abbrev pub listing_at : Slots K V → ℕ → Option (Slot (At (Node K V)))
+  listing_at s slot = listing_in (cell_at (cells_of s) slot)
+
+  -- the table has the entries of the nodes, and no others
+  pub record IsListed (s : Slots K V) : Type 0 where
+    pub listed : (slot : ℕ) (e : Slot (At (Node K V))) → listing_at s slot ≡ Some e → Has s.by_hash e
+    pub led : (e : Slot (At (Node K V))) → Has s.by_hash e → (slot : ℕ) × (listing_at s slot ≡ Some e)
+
+  -- and so it is without the node in this slot
+  pub record IsListedBut (s : Slots K V) (but : ℕ) : Type 0 where
+    pub listed : (slot : ℕ) (e : Slot (At (Node K V))) → slot ≢ but → listing_at s slot ≡ Some e → Has s.by_hash e
+    pub led : (e : Slot (At (Node K V))) → Has s.by_hash e → (slot : ℕ) × (slot ≢ but) × (listing_at s slot ≡ Some e)
+
+  -- how many more nodes fit without memory
+  abbrev pub spare_of : Slots K V → ℕ
+  spare_of s = min (s.pointers.capacity - slab_len s.pointers) (capacity s.by_hash - count s.by_hash)
+
+  -- a slot of the table leads to this node
+  pub record LeadsToCandidate (s : Slots K V) (k : ℕ) (n : Node K V) : Type 0 where
+    pub slot : ℕ
+    pub cell : NodeCell K V
+    pub there : cell_at (cells_of s) slot ≡ Some cell
+    pub is : n ≡ cell.value
+    pub found : (entry_of cell.value).detached ≡ false
+    pub holds : Holds s.by_hash k (listing cell)
+
+  -- a slot of the table holds the entry of the node in this slot
+  abbrev pub HoldsSlot : Slots K V → ℕ → ℕ → Type 0
+  HoldsSlot s k slot = (e : Slot (At (Node K V))) × (listing_at s slot ≡ Some e) × Holds s.by_hash k e
+
+  -- the node in the slot has another hash, or is detached
+  abbrev pub LacksSlot : Slots K V → ℕ → ℕ → Type 0
+  LacksSlot s hash slot = (c : NodeCell K V) → cell_at (cells_of s) slot ≡ Some c → (entry_of c.value).detached ≡ false → hash_of c.value ≢ hash
+
+  -- no node with this hash has an equal key and is not detached
+  abbrev pub LacksKey : (K → K → Bool) → Slots K V → ℕ → K → Type 0
+  LacksKey E s hash key = (slot : ℕ) (c : NodeCell K V) → cell_at (cells_of s) slot ≡ Some c → (entry_of c.value).detached ≡ false → hash_of c.value ≡ hash → E (entry_of c.value).key key ≡ false
+
+  -- the node in the slot has an equal key and is not detached
+  abbrev pub HasKeyIn : (K → K → Bool) → Slots K V → ℕ → K → Type 0
+  HasKeyIn E s slot key = (c : NodeCell K V) × (cell_at (cells_of s) slot ≡ Some c) × ((entry_of c.value).detached ≡ false) × (E (entry_of c.value).key key ≡ true)
+
+  -- the node in the slot has this stamp
+  abbrev pub HasStampIn : Slots K V → ℕ → ℕ → Type 0
+  HasStampIn s slot stamp = (c : NodeCell K V) × (cell_at (cells_of s) slot ≡ Some c) × ((entry_of c.value).stamp ≡ stamp)

@@ -1,0 +1,58 @@
+-- What an `OpenTable` is seen as: its slots. No clause says in which of them a change leaves an item.
+use Rattle.std.specs.Prelude.{◌≡◌, ℕ, ◌/◌, ◌≤◌, List, [], length, bit_or, refl}
+use Rattle.std.specs.Coded.{Coded, code_by, coded×, coded_ℕ}
+use Rattle.concurrent_lru.specs.Probing.Cycle.{home_of}
+use Rattle.concurrent_lru.specs.Probing.Probes.{marks_of, mark_at, IsFilledAt, end_at, walk_at, IsReached}
+use Rattle.concurrent_lru.specs.Probing.Entries.{AreApart, count}
+use Rattle.concurrent_lru.specs.declared.list.probes.Slot.{Slot}
+use Rattle.concurrent_lru.specs.declared.list.probes.Probe.{Probe}
+use Rattle.concurrent_lru.specs.declared.list.probes.Probe.TheVariants.{Filled, Empty}
+use Rattle.concurrent_lru.specs.declared.list.probes.TheConstants.{FILLED}
+use Rattle.concurrent_lru.specs.declared.list.open_table.Step.{Step}
+use Rattle.concurrent_lru.specs.declared.list.open_table.Step.TheVariants.{Item, End}
+
+-- the mark of a hash
+abbrev pub mark_of : ℕ → ℕ
+mark_of hash = bit_or hash FILLED
+
+abbrev pub step_for : Probe → Step
+step_for (Filled k) = Item k
+step_for (Empty k) = End k
+
+module _ {T : Type 0} where
+  abbrev pub slot_code : Coded T → Coded (Slot T)
+  slot_code t = code_by (ℕ × T) (coded× coded_ℕ t) (λ s. (s.mark, s.item)) (λ p. record { mark = p.0; item = p.1 }) (λ _. refl)
+
+  -- how many items there is room for: half of the slots stay empty
+  abbrev pub capacity : List (Slot T) → ℕ
+  capacity slots = length slots / 2
+
+  -- the slots with their marks reached, the items all different, and `len` of them
+  pub record IsTable (slots : List (Slot T)) (len : ℕ) : Type 0 where
+    pub reached : IsReached (marks_of slots)
+    pub apart : AreApart slots
+    pub counted : len ≡ count slots
+    pub room : len ≤ capacity slots
+
+  -- an item lies at the cursor
+  abbrev pub IsFilled : List (Slot T) → ℕ → Type 0
+  IsFilled slots cursor = IsFilledAt (marks_of slots) cursor
+
+  -- the walk along a mark ends with this vacancy
+  abbrev pub IsVacancy : List (Slot T) → ℕ → ℕ → Type 0
+  IsVacancy slots mark vacancy = vacancy ≡ end_at (marks_of slots) (home_of (length slots) mark)
+
+  -- an item that a walk has come to has this mark
+  abbrev pub HasMark : List (Slot T) → ℕ → Step → Type 0
+  HasMark slots mark (Item cursor) = mark_at (marks_of slots) cursor ≡ mark
+  HasMark slots mark (End vacancy) = Unit {0}
+
+  -- a walk that has come to its end has found the vacancy for this mark
+  abbrev pub EndsAt : List (Slot T) → ℕ → Step → Type 0
+  EndsAt slots mark (Item cursor) = Unit {0}
+  EndsAt slots mark (End vacancy) = IsVacancy slots mark vacancy
+
+  -- the slots that a walk still visits, from the one that it has come to
+  abbrev pub walk : List (Slot T) → Step → List ℕ
+  walk slots (Item cursor) = walk_at (marks_of slots) (mark_at (marks_of slots) cursor) cursor
+  walk slots (End vacancy) = []

@@ -1,0 +1,55 @@
+-- The marks of slots, and the walks along them; the mark of an empty slot is 0.
+use Rattle.std.specs.Prelude.{◌≡◌, ◌≢◌, ℕ, zero, suc, ◌<◌, ◌≤◌, ◌==◌, List, [], ◌∷◌, map, filter, length, slice_index_or, if◌then◌else◌}
+use Rattle.concurrent_lru.specs.Probing.Cycle.{next_of, steps, home_of}
+use Rattle.concurrent_lru.specs.declared.list.probes.Slot.{Slot}
+use Rattle.concurrent_lru.specs.declared.list.probes.Probe.{Probe}
+use Rattle.concurrent_lru.specs.declared.list.probes.Probe.TheVariants.{Filled, Empty}
+
+abbrev pub marks_of : {T : Type 0} → List (Slot T) → List ℕ
+marks_of slots = map (λ s. s.mark) slots
+
+-- the mark of a slot; past the last slot there is none
+abbrev pub mark_at : List ℕ → ℕ → ℕ
+mark_at ms k = slice_index_or ms k 0
+
+abbrev pub IsEmptyAt : List ℕ → ℕ → Type 0
+IsEmptyAt ms k = mark_at ms k ≡ 0
+
+abbrev pub IsFilledAt : List ℕ → ℕ → Type 0
+IsFilledAt ms k = mark_at ms k ≢ 0
+
+abbrev pub HasEmpty : List ℕ → Type 0
+HasEmpty ms = (k : ℕ) × (k < length ms) × IsEmptyAt ms k
+
+-- the filled slots from this one on, at most so many, up to the first empty one
+abbrev pub run : ℕ → List ℕ → ℕ → List ℕ
+run zero ms at = []
+run (suc more) ms at = if mark_at ms at == 0 then [] else at ∷ run more ms (next_of (length ms) at)
+
+-- the first empty slot from this one on
+abbrev pub end : ℕ → List ℕ → ℕ → ℕ
+end zero ms at = at
+end (suc more) ms at = if mark_at ms at == 0 then at else end more ms (next_of (length ms) at)
+
+abbrev pub run_at : List ℕ → ℕ → List ℕ
+run_at ms at = run (length ms) ms at
+
+abbrev pub end_at : List ℕ → ℕ → ℕ
+end_at ms at = end (length ms) ms at
+
+-- the slots with this mark that a walk from a slot on comes to
+abbrev pub walk_at : List ℕ → ℕ → ℕ → List ℕ
+walk_at ms mark at = filter (λ k. mark_at ms k == mark) (run_at ms at)
+
+-- what a search from a slot on comes to first: a slot with the mark, or else an empty slot
+abbrev pub Finds : List ℕ → ℕ → ℕ → Probe → Type 0
+Finds ms mark at (Filled k) = (mark_at ms k ≡ mark) × (walk_at ms mark at ≡ walk_at ms mark k)
+Finds ms mark at (Empty k) = (k ≡ end_at ms at) × (walk_at ms mark at ≡ [])
+
+-- no slot from the home of a mark to the slot of the mark is empty, among n slots
+abbrev pub IsReachedIn : ℕ → List ℕ → Type 0
+IsReachedIn n ms = (k m : ℕ) → IsFilledAt ms k → m < n
+    → steps n (home_of n (mark_at ms k)) m ≤ steps n (home_of n (mark_at ms k)) k → IsFilledAt ms m
+
+abbrev pub IsReached : List ℕ → Type 0
+IsReached ms = IsReachedIn (length ms) ms

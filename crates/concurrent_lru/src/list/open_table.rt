@@ -1,0 +1,242 @@
+//! Items by hash in one array of slots, with linear probing.
+//!
+//! The table compares no keys: a walk yields the items of one hash, and the caller compares what
+//! they lead to. A walk that finds nothing yields the place of an insertion, so a miss need not
+//! search twice. A removal moves back what follows it, so no slot is ever marked as deleted, and
+//! removals take no memory.
+//!
+//! A slot is a hash and an item, 16 bytes where an item has 8. At most half of the slots are
+//! filled: among random hashes a lookup then reads at most 1.5 slots on average if it finds its
+//! item, and 2.5 if it does not, which mostly lie in one cache line. With seven slots in eight
+//! filled they would be 4.5 and 32.5.
+//!
+//! The lowest bits of a hash choose the slot at which its walk begins. A caller that has already
+//! divided items by some bits of their hashes, as among shards, must have used others.
+ghost use Rattle.std.specs.Prelude.{◌≡◌, ◌≢◌, ℕ, ◌+◌, ◌<◌, ◌≤◌, [], ◌∷◌, Contains, OnOk, OnErr, IfSome};
+ghost use Rattle.concurrent_lru.specs.Probing.Probes.{mark_at, marks_of};
+ghost use Rattle.concurrent_lru.specs.Probing.Entries.{count, entry, Has, Holds, IsSame, Adds, Removes};
+ghost use Rattle.concurrent_lru.specs.Probing.OpenTable.{mark_of as mark_for, capacity, IsFilled, IsVacancy, HasMark, EndsAt, walk, step_for};
+
+use crate::list::probes::{
+    Probe, Slot, copy_all, empty_slots, find_mark, find_next, home_of, item_in, mark_of, put,
+    put_in, take_out,
+};
+use std::alloc::{AllocError, Global};
+use std::marker::Model;
+
+/// Where an item lies. It becomes stale with the next insertion, removal or growth.
+#[derive(Clone, Copy)]
+pub(super) struct Cursor {
+    slot: usize,
+}
+
+impl Model for Cursor {
+    ghost use Rattle.std.specs.Prelude.{ℕ};
+
+    ghost Value = { ℕ };
+
+    ghost view = { λ a. a.slot };
+
+    ghost inverse = { λ n. record { slot = n } };
+}
+
+/// Where an item of the hash that was looked up can be inserted. It becomes stale as a cursor does.
+#[derive(Clone, Copy)]
+pub(super) struct Vacancy {
+    slot: usize,
+}
+
+impl Model for Vacancy {
+    ghost use Rattle.std.specs.Prelude.{ℕ};
+
+    ghost Value = { ℕ };
+
+    ghost view = { λ a. a.slot };
+
+    ghost inverse = { λ n. record { slot = n } };
+}
+
+/// One step of a walk along the items of a hash.
+#[derive(Clone, Copy)]
+pub(super) enum Step {
+    /// An item with the hash.
+    Item(Cursor),
+    /// The end of the walk.
+    End(Vacancy),
+}
+
+/// Items by hash. No item may be in it twice.
+#[derive(Drop)]
+pub(super) struct OpenTable<T: Copy> {
+    slots: Vec<Slot<T>>,
+    len: usize,
+    // What empty slots hold.
+    filler: T,
+}
+
+impl<T: Copy> Model for OpenTable<T> {
+    ghost use Rattle.std.specs.Prelude.{List};
+    ghost use Rattle.std.specs.Coded.{coded_list};
+    ghost use Rattle.concurrent_lru.specs.declared.list.probes.Slot.{Slot as Slot_};
+    ghost use Rattle.concurrent_lru.specs.Probing.OpenTable.{slot_code, IsTable};
+
+    ghost Value = { List (Slot_ T) };
+
+    ghost coded = { coded_list (slot_code T.code) };
+
+    ghost view = { λ a. a.slots.items };
+
+    ghost invariant = { λ a. IsTable a.slots.items a.len };
+}
+
+impl<T: Copy> OpenTable<T> {
+    /// Creates a table with no items and no room. Takes no memory.
+    ///
+    /// `filler` is what empty slots hold; it is never returned.
+    pub(super) fn new(alloc: Global, filler: T) -> OpenTable<T>
+        ensures { result ≡ [] }
+    {
+        OpenTable {
+            slots: Vec::new(alloc),
+            len: 0,
+            filler,
+        }
+    }
+
+    /// Returns the number of items.
+    pub(super) fn len(&self) -> usize
+        ensures { result ≡ count self.now }
+    {
+        self.len
+    }
+
+    /// Returns how many items there is room for in all.
+    pub(super) fn capacity(&self) -> usize
+        ensures { result ≡ capacity self.now }
+    {
+        self.slots.len() / 2
+    }
+
+    /// Makes room for a total of `entries` items: the smallest power of two that is at least twice
+    /// as many slots, 16 bytes each where an item has 8. Nothing else takes memory.
+    ///
+    /// Returns an error if there is no memory, or no such number; then nothing changes.
+    pub(super) fn reserve(&mut self, entries: usize) -> Result<(), AllocError>
+        ensures room { OnOk result (entries ≤ capacity self.new) }
+        ensures stays { capacity self.old ≤ capacity self.new }
+        ensures same { IsSame self.old self.new }
+        ensures count { count self.new ≡ count self.old }
+        ensures err { OnErr result (self.new ≡ self.old) }
+    {
+        if entries <= self.slots.len() / 2 {
+            return Ok(());
+        }
+        let Some(half) = entries.checked_next_power_of_two() else {
+            return Err(AllocError);
+        };
+        let Some(count) = half.checked_mul(2) else {
+            return Err(AllocError);
+        };
+        let mut slots = empty_slots(*self.slots.allocator(), count, self.filler)?;
+        copy_all(&self.slots, &mut slots);
+        self.slots = slots;
+        Ok(())
+    }
+
+    /// Begins a walk along the items with this hash: returns the first, or where one can be
+    /// inserted.
+    #[inline(always)]
+    pub(super) fn first(&self, hash: u64) -> Step
+        ensures mark { HasMark self.now (mark_for hash) result }
+        ensures all { (k : ℕ) → mark_at (marks_of self.now) k ≡ mark_for hash
+            → Contains (walk self.now result) k }
+        ensures end { EndsAt self.now (mark_for hash) result }
+    {
+        let count = self.slots.len();
+        if count == 0 {
+            return Step::End(Vacancy { slot: 0 });
+        }
+        let mark = mark_of(hash);
+        let home = home_of(count, mark);
+        step_of(find_mark(&self.slots, mark, home))
+    }
+
+    /// Goes on with a walk: returns the next item with the hash of this one, or where one can be
+    /// inserted.
+    #[inline(always)]
+    pub(super) fn next(&self, cursor: Cursor) -> Step
+        requires { IsFilled self.now cursor }
+        ensures mark { HasMark self.now (mark_at (marks_of self.now) cursor) result }
+        ensures rest { walk self.now (Step.Item cursor) ≡ cursor ∷ walk self.now result }
+        ensures end { EndsAt self.now (mark_at (marks_of self.now) cursor) result }
+    {
+        step_of(find_next(&self.slots, cursor.slot))
+    }
+
+    /// Returns the item at a cursor.
+    #[inline(always)]
+    pub(super) fn item(&self, cursor: Cursor) -> T
+        requires { IsFilled self.now cursor }
+        ensures { Holds self.now cursor (entry (mark_at (marks_of self.now) cursor) result) }
+    {
+        item_in(&self.slots, cursor.slot)
+    }
+
+    /// Returns all slots, empty ones included: the mark of an empty slot is 0.
+    pub(super) fn slots(&self) -> &[Slot<T>]
+        ensures { result.now ≡ self.now }
+    {
+        self.slots.as_slice()
+    }
+
+    /// Adds an item, for which there is room. Takes no memory.
+    pub(super) fn insert(&mut self, hash: u64, item: T)
+        requires room { count self.old < capacity self.old }
+        requires absent { (s : _) → Has self.old s → s.item ≢ item }
+        ensures adds { Adds self.old self.new (entry (mark_for hash) item) }
+        ensures count { count self.new ≡ count self.old + 1 }
+        ensures capacity { capacity self.new ≡ capacity self.old }
+    {
+        let mark = mark_of(hash);
+        put(&mut self.slots, mark, item);
+        self.len += 1;
+    }
+
+    /// Adds an item, as `insert` does, at the vacancy with which a walk along its hash ended.
+    pub(super) fn insert_at(&mut self, vacancy: Vacancy, hash: u64, item: T)
+        requires room { count self.old < capacity self.old }
+        requires vacant { IsVacancy self.old (mark_for hash) vacancy }
+        requires absent { (s : _) → Has self.old s → s.item ≢ item }
+        ensures adds { Adds self.old self.new (entry (mark_for hash) item) }
+        ensures count { count self.new ≡ count self.old + 1 }
+        ensures capacity { capacity self.new ≡ capacity self.old }
+    {
+        let mark = mark_of(hash);
+        put_in(&mut self.slots, vacancy.slot, mark, item);
+        self.len += 1;
+    }
+
+    /// Removes the item at a cursor. Takes no memory.
+    pub(super) fn remove(&mut self, cursor: Cursor) -> T
+        requires { IsFilled self.old cursor }
+        ensures item { (s : _) → Holds self.old cursor s → result ≡ s.item }
+        ensures removes { Removes self.old self.new result }
+        ensures count { count self.new + 1 ≡ count self.old }
+        ensures capacity { capacity self.new ≡ capacity self.old }
+    {
+        let item = take_out(&mut self.slots, cursor.slot);
+        self.len -= 1;
+        item
+    }
+}
+
+// Returns the step of a walk that a search found.
+#[inline(always)]
+fn step_of(probe: Probe) -> Step
+    ensures { result ≡ step_for probe }
+{
+    match probe {
+        Probe::Filled(slot) => Step::Item(Cursor { slot }),
+        Probe::Empty(slot) => Step::End(Vacancy { slot }),
+    }
+}

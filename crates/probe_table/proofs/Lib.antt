@@ -1,3 +1,0 @@
-pub mod Probing
-pub mod Contents
-pub mod Tables

@@ -1,5 +1,0 @@
-use Rattle.probe_table.proofs.Probing.Marks.{mark_filled}
-use Rattle.probe_table.proofs.probes.mark_of.Goals as goal
-
-pub returns-clause-filled : goal.returns-clause-filled
-returns-clause-filled c = mark_filled c.args.hash
