@@ -1,7 +1,6 @@
 ends 0 "$(cat "$crate/stdout")"$'\n' "" "lru_rows rows"
 ends_at_failed_writes 1 "lru_rows: $too_large" "lru_rows rows"
 ends 1 "" "lru_rows: $no_space" "lru_rows rows > /dev/full"
-ends 1 "" "lru_rows: $no_space" "lru_rows stress 1 > /dev/full"
 ends 1 "" "" "lru_rows rows > /dev/full 2> /dev/full"
 ends 1 "" "" "lru_rows 2> /dev/full"
 

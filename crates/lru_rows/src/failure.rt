@@ -3,7 +3,7 @@
 //! Each failure has its line on standard error, and its exit status.
 
 use concurrent_lru::lru_core::Refusal;
-use lru_stress::outcome::Trouble;
+use lru_stress::outcome::RoundFailure;
 use std::alloc::{AllocError, AllocFailed};
 use std::io;
 use std::io::Write;
@@ -16,7 +16,7 @@ pub enum Failure {
     /// A call was refused that no row expects to be, or memory for the program's own data.
     Refused(Refusal),
     /// The stress workload failed.
-    Stress(Trouble),
+    Stress(RoundFailure),
     /// A write failed, with the system's error.
     Write(io::Error),
 }
@@ -28,7 +28,7 @@ impl Failure {
         let told = match self {
             Failure::Usage => writeln!(err, "usage: rows | stress SEED"),
             Failure::Refused(refusal) => writeln!(err, "refused {}", refusal.code()),
-            Failure::Stress(trouble) => writeln!(err, "{trouble}"),
+            Failure::Stress(failure) => writeln!(err, "{failure}"),
             Failure::Write(error) => {
                 writeln!(err, "lru_rows: cannot write standard output: {error}")
             }
@@ -49,12 +49,6 @@ impl From<Refusal> for Failure {
 impl From<AllocError> for Failure {
     fn from(error: AllocError) -> Failure {
         Failure::Refused(Refusal::from(error))
-    }
-}
-
-impl From<Trouble> for Failure {
-    fn from(trouble: Trouble) -> Failure {
-        Failure::Stress(trouble)
     }
 }
 

@@ -2,6 +2,7 @@
 
 use crate::failure::Failure;
 use lru_fixtures::rows::{ROWS, Row};
+use lru_stress::outcome::RoundFailure;
 use lru_stress::plan::Plan;
 use lru_stress::{run as stress, seed};
 use std::alloc::Global;
@@ -14,9 +15,9 @@ use std::thread::Threads;
 /// `rows` writes the worked rows to `out`. `stress SEED`, whose seed is a `u64` in decimal digits,
 /// runs the stress workload from this seed, and writes `stress ok` to `out`. The status is 0. Any
 /// other arguments write the usage line to `err`, with status 2. The status is 1, after a line on
-/// `err`, if a check of the stress workload fails (`stress failed`), if a call is refused that no
-/// row expects to be or a thread cannot be started (`refused` and the code of the refusal), or if a
-/// write to `out` fails (the system's error). What was written before stays written.
+/// `err`, if a check of the stress workload fails (the seed and the check), if a call is refused
+/// that no row expects to be or a thread cannot be started (`refused` and the code of the refusal),
+/// or if a write to `out` fails (the system's error). What was written before stays written.
 pub fn program<R: Threads + Wait + Clone + Drop + Send + Sync, O: Write, E: Write>(
     rt: &R,
     alloc: Global,
@@ -53,7 +54,9 @@ fn write_stress<R: Threads + Wait + Clone + Drop + Send + Sync, O: Write>(
     let Some(seed) = seed::number(word) else {
         return Err(Failure::Usage);
     };
-    stress::run(rt, alloc, &Plan::new(seed))?;
+    if let Err(trouble) = stress::run(rt, alloc, &Plan::new(seed)) {
+        return Err(Failure::Stress(RoundFailure { seed, trouble }));
+    }
     writeln!(out, "stress ok")?;
     Ok(())
 }

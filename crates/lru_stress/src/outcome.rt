@@ -78,8 +78,7 @@ impl fmt::Display for Check {
     }
 }
 
-/// Why a run failed. It is displayed as a program reports it: as `refused 1`, or as `stress failed`
-/// for any check.
+/// Why a run failed.
 #[derive(Clone, Copy, Debug, PartialEq, Eq)]
 pub enum Trouble {
     /// Memory was refused, or a thread was not started.
@@ -98,11 +97,21 @@ impl Trouble {
     }
 }
 
-impl fmt::Display for Trouble {
+/// Why the run of a seed failed.
+#[derive(Clone, Copy, Debug, PartialEq, Eq)]
+pub struct RoundFailure {
+    /// The seed of the run.
+    pub seed: u64,
+    /// Why it failed.
+    pub trouble: Trouble,
+}
+
+// A refusal depends on the system and not on the seed.
+impl fmt::Display for RoundFailure {
     fn fmt<W: fmt::Write>(&self, f: &mut fmt::Formatter<W>) -> fmt::Result {
-        match self {
-            Trouble::Refused => write!(f, "refused {}", Refusal::Memory.code()),
-            Trouble::Failed(_) => write!(f, "stress failed"),
+        match self.trouble {
+            Trouble::Refused => f.write_str("refused 1"),
+            Trouble::Failed(check) => write!(f, "seed {} failed: {check}", self.seed),
         }
     }
 }
