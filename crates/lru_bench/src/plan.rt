@@ -7,6 +7,7 @@ use crate::request::{MORE_THREADS, Request, sizes};
 use crate::system::System;
 use crate::workload::{ALL, Workload};
 use std::alloc::Global;
+use std::fmt;
 use std::num::NonZeroU64;
 
 /// What a line ends with.
@@ -67,6 +68,28 @@ impl Plan {
     /// Whether this workload is run.
     pub fn wants(&self, workload: Workload) -> bool {
         self.workloads.iter().any(|wanted| *wanted == workload)
+    }
+}
+
+// What the words after `time` choose, a line each. A first run is always of one thread.
+impl fmt::Display for Plan {
+    fn fmt<W: fmt::Write>(&self, f: &mut fmt::Formatter<W>) -> fmt::Result {
+        f.write_str("workloads")?;
+        for workload in &self.workloads {
+            write!(f, " {workload}")?;
+        }
+        f.write_str("\nentries")?;
+        for entries in &self.entries {
+            write!(f, " {entries}")?;
+        }
+        f.write_str("\nthreads 1")?;
+        for threads in &self.threads {
+            write!(f, " {threads}")?;
+        }
+        match &self.mostly {
+            Some(mostly) => write!(f, "\n{} {}", Workload::ReadMostly, mostly.draws),
+            None => Ok(()),
+        }
     }
 }
 
