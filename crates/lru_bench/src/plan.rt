@@ -71,26 +71,31 @@ impl Plan {
     }
 }
 
-// What the words after `time` choose, a line each. A first run is always of one thread.
+// What the words after `time` choose, in a line each. The first runs are always of one thread.
 impl fmt::Display for Plan {
     fn fmt<W: fmt::Write>(&self, f: &mut fmt::Formatter<W>) -> fmt::Result {
         f.write_str("workloads")?;
-        for workload in &self.workloads {
-            write!(f, " {workload}")?;
-        }
+        write_each(f, &self.workloads)?;
         f.write_str("\nentries")?;
-        for entries in &self.entries {
-            write!(f, " {entries}")?;
-        }
+        write_each(f, &self.entries)?;
         f.write_str("\nthreads 1")?;
-        for threads in &self.threads {
-            write!(f, " {threads}")?;
-        }
+        write_each(f, &self.threads)?;
         match &self.mostly {
             Some(mostly) => write!(f, "\n{} {}", Workload::ReadMostly, mostly.draws),
             None => Ok(()),
         }
     }
+}
+
+// Writes the values, each after a space.
+fn write_each<W: fmt::Write, T: fmt::Display>(
+    f: &mut fmt::Formatter<W>,
+    values: &[T],
+) -> fmt::Result {
+    for value in values {
+        write!(f, " {value}")?;
+    }
+    Ok(())
 }
 
 /// The sizes of the workload of reads that mostly hit.
