@@ -8,8 +8,8 @@ use std::num::NonZeroU64;
 
 /// Where the keys of a worker come from.
 pub trait Source {
-    /// The next key; none where there are no more.
-    fn next_key(&mut self) -> Option<u64>;
+    /// Returns the next key.
+    fn next_key(&mut self) -> u64;
 }
 
 /// Draws keys below a number of entries.
@@ -45,8 +45,8 @@ impl Keys {
 
 impl Source for Keys {
     #[inline(always)]
-    fn next_key(&mut self) -> Option<u64> {
-        Some(self.draw())
+    fn next_key(&mut self) -> u64 {
+        self.draw()
     }
 }
 
@@ -59,10 +59,10 @@ pub struct Ascending {
 
 impl Source for Ascending {
     #[inline(always)]
-    fn next_key(&mut self) -> Option<u64> {
+    fn next_key(&mut self) -> u64 {
         let key = self.next;
         self.next = key.wrapping_add(1);
-        Some(key)
+        key
     }
 }
 

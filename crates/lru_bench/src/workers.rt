@@ -121,7 +121,7 @@ pub fn ask_all<U: Operation>(operation: &U, draws: &Draws) -> Result<Totals, Ref
     operate(operation, draws.of_worker(0), draws.len())
 }
 
-// Makes the operation on so many keys, or on fewer where the source has no more.
+// Makes the operation on so many keys.
 fn operate<U: Operation, S: Source + Drop>(
     operation: &U,
     mut source: S,
@@ -129,10 +129,7 @@ fn operate<U: Operation, S: Source + Drop>(
 ) -> Result<Totals, Refusal> {
     let mut told = Totals { sum: 0, hits: 0 };
     for _ in 0..count {
-        let Some(key) = source.next_key() else {
-            return Ok(told);
-        };
-        told.add(operation.run(key)?);
+        told.add(operation.run(source.next_key())?);
     }
     Ok(told)
 }
