@@ -249,3 +249,21 @@ fn what_is_no_file_is_not_opened(rt: HostRuntime) -> Result<(), Fail> {
     assert_eq!(rt; missing, Some(ErrorKind::NotFound));
     Ok(())
 }
+
+#[test]
+fn a_fault_has_a_text(rt: HostRuntime) -> Result<(), Fail> {
+    let faults = [
+        (Fault::PastEnd, "the block is past the end"),
+        (Fault::Memory, "there is no memory for the block"),
+        (Fault::Short, "the file ends before its length"),
+        (
+            Fault::Read(io::Error::from(ErrorKind::TimedOut)),
+            "timed out",
+        ),
+    ];
+    for (fault, text) in faults {
+        let told = format!(in rt.alloc(); "{fault}")?;
+        assert_eq!(rt; told.as_str(), text);
+    }
+    Ok(())
+}

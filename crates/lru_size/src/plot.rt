@@ -2,7 +2,7 @@
 //! Lengths are in tenths of a pixel, so that they are integers.
 
 use crate::hit_curve::HitCurve;
-use crate::scale::{Percentage, mul_div, round_step};
+use crate::scale::{Percentage, fraction, round_step};
 use crate::table::KNEES;
 use std::io;
 use std::io::Write;
@@ -89,7 +89,7 @@ impl<'a> Plot<'a> {
     // The x coordinate of a capacity.
     fn x(&self, capacity: u64) -> u64 {
         let capacity = capacity.min(self.max_capacity);
-        LEFT.saturating_add(mul_div(capacity, WIDTH, self.max_capacity))
+        LEFT.saturating_add(fraction(WIDTH, capacity, self.max_capacity))
     }
 
     // The y coordinate of a number of hits. The y axis points down.
@@ -120,13 +120,13 @@ impl<'a> Plot<'a> {
     // The lines of the grid, each with its hit ratio.
     fn write_grid<O: Write>(&self, out: &mut O) -> io::Result<()> {
         for line in 0..=GRID_ROWS {
-            let y = BOTTOM.saturating_sub(mul_div(HEIGHT, line, GRID_ROWS));
+            let y = BOTTOM.saturating_sub(fraction(HEIGHT, line, GRID_ROWS));
             writeln!(
                 out,
                 "<path class='grid' d='M{LEFT} {y}H{RIGHT}'/>\
                 <text class='text' x='720' y='{}' text-anchor='end'>{}%</text>",
                 y.saturating_add(45),
-                mul_div(self.max_percent, line, GRID_ROWS)
+                fraction(self.max_percent, line, GRID_ROWS)
             )?;
         }
         Ok(())
@@ -136,8 +136,9 @@ impl<'a> Plot<'a> {
     fn write_axes<O: Write>(&self, out: &mut O) -> io::Result<()> {
         let step = round_step(self.max_capacity);
         for number in 0..=6u64 {
-            let capacity = step.saturating_mul(number);
-            if capacity <= self.max_capacity {
+            if let Some(capacity) = step.checked_mul(number)
+                && capacity <= self.max_capacity
+            {
                 self.write_tick(capacity, out)?;
             }
         }
@@ -162,7 +163,7 @@ impl<'a> Plot<'a> {
         let mut previous = self.y(self.curve.hits(0));
         write!(out, "<path class='curve' d='M{LEFT} {previous}")?;
         for point in 1..=POINTS {
-            let capacity = mul_div(self.max_capacity, point, POINTS);
+            let capacity = fraction(self.max_capacity, point, POINTS);
             let y = self.y(self.curve.hits(capacity));
             if y != previous {
                 write!(out, "H{}V{y}", self.x(capacity))?;
