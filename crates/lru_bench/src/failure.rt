@@ -10,7 +10,7 @@ use std::io;
 use std::io::Write;
 
 /// Why the program fails.
-#[derive(Clone, Copy, Debug, PartialEq, Eq)]
+#[derive(Clone, Copy)]
 pub enum Failure {
     /// The arguments are invalid.
     Usage,

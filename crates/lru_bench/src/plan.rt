@@ -11,7 +11,7 @@ use std::fmt;
 use std::num::NonZeroU64;
 
 /// What a line ends with.
-#[derive(Clone, Copy, Debug, PartialEq, Eq)]
+#[derive(Clone, Copy)]
 pub enum Shown {
     /// The sum of the values that were read, which is the same on every schedule.
     Sum,
