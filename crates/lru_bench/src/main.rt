@@ -13,6 +13,7 @@ mod operation;
 mod parts;
 mod plan;
 mod program;
+mod quotient;
 mod report;
 mod request;
 mod size;

@@ -1,4 +1,4 @@
-//! The program, over streams that the caller provides, so that tests run it in memory.
+//! The program, over streams that the caller provides.
 
 use crate::bench;
 use crate::draws::Draws;
@@ -22,7 +22,8 @@ use std::thread::Threads;
 /// after it say which workloads, on how many entries, and whether in more threads than one, as
 /// `Request::of_words` reads them; the last two may be `read_mostly` and the path of a file of
 /// keys, for reads that mostly hit, whose hit ratios go to `err`. A word that `time` does not know
-/// is refused by a line on `err`, before anything is run: status 2. Any other words write the
+/// is refused by a line on `err`, before anything is run: status 2. `plan` writes to `out` what
+/// `time` would run with the same words, and runs nothing: status 0. Any other words write the
 /// usage line to `err`: status 2. Where a call is refused, `refused` and the refusal's number go
 /// to `err`, and the status is 1. Where a call of the stress workload gets no value, or that of
 /// another key, `stress failed` goes to `err`, and the status is 1. Where the system fails, as at
@@ -56,11 +57,15 @@ fn run<R: Threads + Wait + Clock + RandomSource + Files + Sync, O: Write, E: Wri
             tell_machine(rt, err)?;
             bench::run(rt, alloc, &plan, out, err)
         }
+        [word, asked @ ..] if word.as_str() == "plan" => {
+            writeln!(out, "{}", timed(rt, alloc, asked)?)?;
+            Ok(())
+        }
         _ => Err(Failure::Usage),
     }
 }
 
-// What the words after `time` ask for.
+// What the words after `plan` or `time` ask for.
 fn timed<R: Files>(rt: &R, alloc: Global, words: &[String]) -> Result<Plan, Failure> {
     match words {
         [rest @ .., word, path] if word.as_str() == "read_mostly" => {
@@ -79,6 +84,3 @@ fn tell_machine<R: Threads, E: Write>(rt: &R, err: &mut E) -> Result<(), Failure
     }
     Ok(())
 }
-
-#[cfg(test)]
-mod tests;

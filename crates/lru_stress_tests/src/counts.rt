@@ -1,4 +1,4 @@
-//! The counts of the workload, with plans of the test's own.
+//! The counts of a run, for plans of the tests' own.
 
 use lru_stress::plan::Plan;
 use lru_stress::run::run;
