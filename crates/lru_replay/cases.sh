@@ -1,0 +1,6 @@
+ends 0 "new 1 => done []"$'\n' "" "printf 'new 1\n' | lru_replay"
+no_input="lru_replay: cannot read standard input:"
+ends 1 "" "$no_input Bad file descriptor (os error 9)"$'\n' "lru_replay <&-"
+ends 1 "" "$no_input Is a directory (os error 21)"$'\n' "lru_replay < /"
+ends 1 "" "lru_replay: $no_space" "printf 'new 1\n' | lru_replay > /dev/full"
+ends 2 "" "usage: lru_replay < STEPS"$'\n' "lru_replay steps"
