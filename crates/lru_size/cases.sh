@@ -11,6 +11,14 @@ ends 0 "$(cat "$image")"$'\n' "" "lru_size --svg image < $trace > table && cat i
 ends 0 "12515 uses replayed at capacity 1000000: 0 differences"$'\n' "" \
     "lru_size --check 1000000 < $trace | sed -n 2p"
 ends 0 "12515 uses, 1080 keys in the sample"$'\n' "" "lru_size --sample 1 < $trace | head -n 1"
+# the trace in a file
+ends 0 "$table"$'\n' "" "lru_size $trace"
+ends 0 "$table"$'\n' "" "lru_size - < $trace"
+ends 0 "$table"$'\n' "" "lru_size --svg image $trace < empty && cmp image $image"
+ends 1 "" 'lru_size: cannot read "none": No such file or directory (os error 2)'$'\n' \
+    "lru_size none < $trace"
+ends 1 "" 'lru_size: cannot read "/": Is a directory (os error 21)'$'\n' "lru_size /"
+ends 2 "" "lru_size: the trace is empty"$'\n' "lru_size empty < $trace"
 # what goes to standard output goes alone
 ends 0 "$(cat "$image")"$'\n' "" "lru_size --svg - < $trace"
 ends 0 "$(lru_size --csv csv < "$trace" > table && cat csv)"$'\n' "" \
@@ -30,9 +38,9 @@ charge="a charge from 1 to 18446744073709551615"
 ends 2 "" "lru_size: line 2: expected $charge, found \"-1\""$'\n' "printf 'a 1\nb -1\n' | lru_size"
 ends 2 "" "lru_size: lines 1 and 3: one key with two charges"$'\n' \
     "printf 'a 1\nb 1\na 2\n' | lru_size"
-ends 2 "" "lru_size: unexpected argument 'trace' found
+ends 2 "" "lru_size: unexpected argument 'more' found
 
-Usage: lru_size [OPTIONS]
+Usage: lru_size [OPTIONS] [TRACE]
 
-For more information, try '--help'."$'\n' "lru_size trace"
+For more information, try '--help'."$'\n' "lru_size trace more"
 ends 2 "" "lru_size: an argument is not valid UTF-8"$'\n' "lru_size \$'\xff'"

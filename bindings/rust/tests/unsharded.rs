@@ -1,5 +1,7 @@
 //! Tests the cache behind one lock.
 
+use std::io;
+use std::net::{Ipv4Addr, Ipv6Addr};
 use std::panic::{self, AssertUnwindSafe};
 use std::sync::atomic::{AtomicU64, Ordering};
 use std::sync::{Arc, Barrier, Mutex};
@@ -623,6 +625,15 @@ fn keys_of_every_form() -> Result<(), Refusal> {
     serves::<bool, bool>(&false, &true);
     serves::<(u64, u64), (u64, u64)>(&(0, 1), &(1, 0));
     serves::<[u64; 2], [u64; 2]>(&[0, u64::MAX], &[u64::MAX, 0]);
+    serves::<(u32, u32), (u32, u32)>(&(0, 1), &(1, 0));
+    serves::<(u32, u64), (u32, u64)>(&(0, 1), &(1, 0));
+    serves::<(u64, u32), (u64, u32)>(&(0, 1), &(1, 0));
+    serves::<(usize, usize), (usize, usize)>(&(0, 1), &(1, 0));
+    serves::<Arc<str>, str>("a", "b");
+    serves::<std::rc::Rc<[u8]>, [u8]>(&[0], &[1]);
+    serves::<Arc<u64>, u64>(&1, &2);
+    serves::<Ipv4Addr, Ipv4Addr>(&Ipv4Addr::LOCALHOST, &Ipv4Addr::BROADCAST);
+    serves::<Ipv6Addr, Ipv6Addr>(&Ipv6Addr::LOCALHOST, &Ipv6Addr::from(1 << 64));
     Ok(())
 }
 
@@ -653,4 +664,13 @@ fn errors_say_what_happened() {
         told(&GetError::Init(std::fmt::Error)),
         "the value could not be made"
     );
+    for (error, kind) in [
+        (Refusal::Memory, io::ErrorKind::OutOfMemory),
+        (Refusal::Overflow, io::ErrorKind::Other),
+        (Refusal::ZeroCharge, io::ErrorKind::InvalidInput),
+    ] {
+        assert_eq!(io::Error::from(GetError::Refused(error)).kind(), kind);
+    }
+    let missing = GetError::Init(io::Error::from(io::ErrorKind::NotFound));
+    assert_eq!(io::Error::from(missing).kind(), io::ErrorKind::NotFound);
 }

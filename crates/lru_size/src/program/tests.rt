@@ -310,7 +310,7 @@ fn rejects_charges_that_overflow(rt: HostRuntime) -> Result<(), Fail> {
 #[test]
 fn rejects_invalid_arguments(rt: HostRuntime) -> Result<(), Fail> {
     let invalid: [&[&str]; 7] = [
-        &["trace"],
+        &["trace", "more"],
         &["--size"],
         &["--capacities", "many"],
         &["--check", "-1"],
@@ -337,7 +337,7 @@ fn prints_its_help(rt: HostRuntime) -> Result<(), Fail> {
     let output = run(rt.alloc(), &rt, &["--help"], TRACE, ROOM)?;
     assert_eq!(rt; output.status, 0);
     assert_eq!(rt; output.err()?, "");
-    assert!(rt; output.out()?.contains("\n\nUsage: lru_size [OPTIONS]\n\n"));
+    assert!(rt; output.out()?.contains("\n\nUsage: lru_size [OPTIONS] [TRACE]\n\n"));
     assert!(rt; output.out()?.contains("--capacities"));
     Ok(())
 }
