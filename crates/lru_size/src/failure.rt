@@ -155,7 +155,8 @@ impl fmt::Display for Failure {
             ),
             Failure::NoReuse => write!(
                 f,
-                "no key in the sample is used twice, so hits cannot be estimated: choose a smaller N"
+                "no key in the sample is used twice, so hits cannot be estimated: choose a \
+                    smaller N"
             ),
             Failure::Line {
                 line,

@@ -116,7 +116,8 @@ fn command<'a>(alloc: Global) -> Result<Command<'a>, AllocError> {
         .arg(file(
             alloc,
             "csv",
-            "Write the curve to FILE as CSV; if FILE is -, to standard output, instead of the table",
+            "Write the curve to FILE as CSV; if FILE is -, to standard output, instead of the \
+                table",
         ))?
         .arg(check(alloc))?
         .arg(sample(alloc)?)

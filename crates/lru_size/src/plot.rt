@@ -2,7 +2,7 @@
 //! Lengths are in tenths of a pixel, so that they are integers.
 
 use crate::hit_curve::HitCurve;
-use crate::scale::{Percentage, digits, mul_div, round_step};
+use crate::scale::{Percentage, digits, fraction, round_step};
 use crate::table::KNEES;
 use std::io;
 use std::io::Write;
@@ -98,7 +98,7 @@ impl<'a> Plot<'a> {
     // The x coordinate of a capacity.
     fn x(&self, capacity: u64) -> u64 {
         let capacity = capacity.min(self.max_capacity);
-        LEFT.saturating_add(mul_div(capacity, WIDTH, self.max_capacity))
+        LEFT.saturating_add(fraction(WIDTH, capacity, self.max_capacity))
     }
 
     // The y coordinate of a number of hits. The y axis points down.
@@ -129,13 +129,13 @@ impl<'a> Plot<'a> {
     // The lines of the grid, each with its hit ratio.
     fn write_grid<O: Write>(&self, out: &mut O) -> io::Result<()> {
         for line in 0..=GRID_ROWS {
-            let y = BOTTOM.saturating_sub(mul_div(HEIGHT, line, GRID_ROWS));
+            let y = BOTTOM.saturating_sub(fraction(HEIGHT, line, GRID_ROWS));
             writeln!(
                 out,
                 "<path class='grid' d='M{LEFT} {y}H{RIGHT}'/>\
                 <text class='text' x='720' y='{}' text-anchor='end'>{}%</text>",
                 y.saturating_add(45),
-                mul_div(self.max_percent, line, GRID_ROWS)
+                fraction(self.max_percent, line, GRID_ROWS)
             )?;
         }
         Ok(())
@@ -178,7 +178,7 @@ impl<'a> Plot<'a> {
         let mut previous = self.y(self.curve.hits(0));
         write!(out, "<path class='curve' d='M{LEFT} {previous}")?;
         for point in 1..=POINTS {
-            let capacity = mul_div(self.max_capacity, point, POINTS);
+            let capacity = fraction(self.max_capacity, point, POINTS);
             let y = self.y(self.curve.hits(capacity));
             if y != previous {
                 write!(out, "H{}V{y}", self.x(capacity))?;

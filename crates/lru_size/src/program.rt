@@ -41,7 +41,8 @@ pub struct Streams<'a, I, O, E> {
 /// a line of it is not a use, if a key has two charges, or if the sample is too small. It is 1 if
 /// reading or writing fails, if memory runs out, if the charges of the keys add up to more than
 /// `u64::MAX`, or if a replay contradicts the curve. On failure, a message that starts with the
-/// program's name goes to `err`, and nothing to `out` except what was written before a write failed.
+/// program's name goes to `err`, and nothing to `out` except what was written before a write
+/// failed.
 pub fn program<F: Files<File = File>, I: BufRead + Drop, O: Write, E: Write>(
     alloc: Global,
     files: &F,
@@ -107,8 +108,8 @@ fn read<F: Files<File = File>, I: BufRead + Drop, E: Write>(
     read.map_err(|failure| failure.of_trace(alloc, path))
 }
 
-// Writes the lines about the trace to `out`, and computes the curve. Fails with `NoUses` if the trace
-// is empty.
+// Writes the lines about the trace to `out`, and computes the curve. Fails with `NoUses` if the
+// trace is empty.
 fn size<O: Write>(
     alloc: Global,
     options: &Options<'_>,
@@ -216,6 +217,3 @@ fn write_file<F: Files<File = File>, O: Write>(
         Err(error) => Err(Failure::from_file_error(alloc, path, error)),
     }
 }
-
-#[cfg(test)]
-mod tests;

@@ -78,7 +78,8 @@ impl fmt::Display for Check {
     }
 }
 
-/// Why a run failed.
+/// Why a run failed. It is displayed as a program reports it: as `refused 1`, or as `stress failed`
+/// for any check.
 #[derive(Clone, Copy, Debug, PartialEq, Eq)]
 pub enum Trouble {
     /// Memory was refused, or a thread was not started.
@@ -93,6 +94,15 @@ impl Trouble {
         match (one, other) {
             (Some(Trouble::Failed(_)), Some(Trouble::Refused)) | (None, _) => other,
             _ => one,
+        }
+    }
+}
+
+impl fmt::Display for Trouble {
+    fn fmt<W: fmt::Write>(&self, f: &mut fmt::Formatter<W>) -> fmt::Result {
+        match self {
+            Trouble::Refused => write!(f, "refused {}", Refusal::Memory.code()),
+            Trouble::Failed(_) => write!(f, "stress failed"),
         }
     }
 }
