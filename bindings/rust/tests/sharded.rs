@@ -67,7 +67,7 @@ fn calls_reach_the_shard_of_their_key() -> Result<(), GetError<()>> {
         let handle = cache.get_or_try_init(key.as_str(), 1, |_| Ok::<_, ()>(number))?;
         assert_eq!(handle.value(), &number);
     }
-    assert_eq!(cache.total_charge(), 100);
+    assert_eq!((cache.total_charge(), cache.pinned_charge()), (100, 0));
     for number in 0..100usize {
         let key = format!("key {number}");
         assert_eq!(cache.get(key.as_str())?.as_deref(), Some(&number));
