@@ -250,15 +250,19 @@ For more information, try '--help'.
 }
 usage=$'\n\nUsage: lru_size [OPTIONS] [TRACE]'
 invalid "unexpected argument 'more' found$usage" "trace more"
-invalid "unexpected argument '--size' found$usage" --size
-invalid "unexpected argument '-1' found$usage" "--check -1"
+# tip WORD: what is said of a word that looks like an option and may be meant as the trace
+tip() {
+    echo $'\n\n'"  tip: to pass '$1' as a value, use '-- $1'"
+}
+invalid "unexpected argument '--size' found$(tip --size)$usage" --size
+invalid "unexpected argument '-1' found$(tip -1)$usage" "--check -1"
 invalid "invalid value 'many' for '--capacities <CAPACITY,..>': invalid digit found in string" \
     "--capacities many"
 invalid "invalid value '0' for '--sample <N>': 0 is not in 1..18446744073709551615" "--sample 0"
 invalid "a value is required for '--svg <FILE>' but none was supplied" --svg
 invalid "the argument '--check <CAPACITY>' cannot be used with '--sample <N>'
 
-Usage: lru_size --check <CAPACITY>" "--check 1 --sample 2"
+Usage: lru_size --check <CAPACITY> [TRACE]" "--check 1 --sample 2"
 ends 2 "" "lru_size: an argument is not valid UTF-8"$'\n' "lru_size \$'\xff' < uses"
 
 for word in --version -V; do
