@@ -290,8 +290,8 @@ class Cache {
     return core_.total();
   }
 
-  // The total of the charges of the values that have a handle or are being made. It is 0 if and only
-  // if there is none.
+  // The total of the charges of the values that have a handle or are being made. It is 0 if and
+  // only if there is none.
   std::uint64_t pinned_charge() const {
     const std::lock_guard<std::mutex> lock(mutex_);
     return core_.pinned_charge();

@@ -113,8 +113,8 @@ impl<K: Key + ?Sized, V> LruCache<K, V> {
     }
 
     /// Calls `reader` with the key's value, and returns its result, or `None` if there is no value
-    /// or it is still being made. The value is pinned while `reader` runs, and no lock is held. Does
-    /// not wait.
+    /// or it is still being made. The value is pinned while `reader` runs, and no lock is held.
+    /// Does not wait.
     ///
     /// # Errors
     ///
