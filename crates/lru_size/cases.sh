@@ -12,6 +12,15 @@ ends 0 "12515 uses, 1080 keys in the sample"$'\n' "" "lru_size --sample 1 < $tra
 ends 2 "" "lru_size: too few keys in the sample: 2, and an estimate needs 100; choose a smaller N
 " "lru_size --sample 500 < $trace"
 
+# the trace in a file, in which case standard input is not read
+ends 0 "$table"$'\n' "" "lru_size $trace"
+ends 0 "$table"$'\n' "" "lru_size - < $trace"
+ends 0 "" "" "lru_size --svg image $trace <&- > table && cmp image $image"
+ends 1 "" 'lru_size: cannot read "none": No such file or directory (os error 2)'$'\n' \
+    "lru_size none < $trace"
+ends 1 "" 'lru_size: cannot read "/": Is a directory (os error 21)'$'\n' "lru_size / < $trace"
+ends 2 "" "lru_size: the trace is empty"$'\n' "lru_size empty < $trace"
+
 # the trace of docs/PROMISES.md
 printf 'a 2\nb 3\na 2\nc 2\nb 3\nd 7\nc 2\n' > uses
 printf 'a 2\r\n  b\t3 \na 2\nc  2\nb 3\nd 7\nc 2' > spaced
@@ -124,13 +133,15 @@ ticks() {
 }
 ticks 1 0 1
 ticks 6 0 1 2 3 4 5 6
-ticks 7 0 2 4 6
-ticks 13 0 2 4 6 8 10 12
-ticks 14 0 5 10
-ticks 34 0 5 10 15 20 25 30
-ticks 35 0 10 20 30
-ticks 4528676 0 1000000 2000000 3000000 4000000
-ticks 18446744073709551615 0 {5,10,15}000000000000000000
+ticks 7 0 2 4 6 7
+ticks 13 0 2 4 6 8 10 12 13
+ticks 14 0 5 10 14
+ticks 34 0 5 10 15 20 25 30 34
+ticks 35 0 10 20 30 35
+ticks 4528676 0 1000000 2000000 3000000 4000000 4528676
+# a label that has no room beside the last one is left out
+ticks 4100000 0 1000000 2000000 3000000 4100000
+ticks 18446744073709551615 0 {5,10}000000000000000000 18446744073709551615
 
 # rounds KEYS TIMES: a trace that uses so many keys this many times each, one after the other
 rounds() {
@@ -237,27 +248,34 @@ invalid() {
 For more information, try '--help'.
 " "lru_size $2 < uses"
 }
-usage=$'\n\nUsage: lru_size [OPTIONS]'
-invalid "unexpected argument 'trace' found$usage" trace
-invalid "unexpected argument '--size' found$usage" --size
-invalid "unexpected argument '-1' found$usage" "--check -1"
+usage=$'\n\nUsage: lru_size [OPTIONS] [TRACE]'
+invalid "unexpected argument 'more' found$usage" "trace more"
+# tip WORD: what is said of a word that looks like an option and may be meant as the trace
+tip() {
+    echo $'\n\n'"  tip: to pass '$1' as a value, use '-- $1'"
+}
+invalid "unexpected argument '--size' found$(tip --size)$usage" --size
+invalid "unexpected argument '-1' found$(tip -1)$usage" "--check -1"
 invalid "invalid value 'many' for '--capacities <CAPACITY,..>': invalid digit found in string" \
     "--capacities many"
 invalid "invalid value '0' for '--sample <N>': 0 is not in 1..18446744073709551615" "--sample 0"
 invalid "a value is required for '--svg <FILE>' but none was supplied" --svg
 invalid "the argument '--check <CAPACITY>' cannot be used with '--sample <N>'
 
-Usage: lru_size --check <CAPACITY>" "--check 1 --sample 2"
+Usage: lru_size --check <CAPACITY> [TRACE]" "--check 1 --sample 2"
 ends 2 "" "lru_size: an argument is not valid UTF-8"$'\n' "lru_size \$'\xff' < uses"
 
 for word in --version -V; do
     ends 0 "lru_size $(cat "$top/VERSION")"$'\n' "" "lru_size $word"
 done
 table_instead="if FILE is -, to standard output, instead of the table"
-help="Reads a trace from standard input, a line KEY [CHARGE] for each use, and prints how many \
-uses hit at each capacity.
+help="Reads a trace, a line KEY [CHARGE] for each use, and prints how many uses hit at each \
+capacity.
 
-Usage: lru_size [OPTIONS]
+Usage: lru_size [OPTIONS] [TRACE]
+
+Arguments:
+  [TRACE]  The file that has the trace; if it is - or left out, standard input
 
 Options:
       --capacities <CAPACITY,..>  Print the hits at these capacities, instead of ten evenly spaced \

@@ -17,12 +17,12 @@ use lru_sizing::replay::replay;
 use lru_sizing::reuse_weights::reuse_weights;
 use std::alloc::Global;
 use std::fs::{self, File, Files};
-use std::io::{BufRead, Write};
+use std::io::{BufRead, BufReader, Write};
 
 /// The streams of a run.
 #[derive(Drop)]
 pub struct Streams<'a, I, O, E> {
-    /// The trace.
+    /// The trace, unless the arguments name a file that has it.
     pub input: I,
     /// Where the results go.
     pub out: &'a mut O,
@@ -74,8 +74,7 @@ fn run<F: Files<File = File>, I: BufRead + Drop, O: Write, E: Write>(
     match Request::parse(alloc, args)? {
         Request::Text(text) => out.write_all(text.as_bytes())?,
         Request::Size(options) => {
-            let sample = Sample::one_in(options.sample.unwrap_or(1));
-            let trace = Trace::read(alloc, sample, &mut Lines::new(alloc, input), progress)?;
+            let trace = read(alloc, files, &options, input, progress)?;
             let mut table = Vec::new(alloc);
             let curve = size(alloc, &options, &trace, &mut table)?;
             write_table(alloc, &curve, &options.capacities, &mut table)?;
@@ -88,6 +87,25 @@ fn run<F: Files<File = File>, I: BufRead + Drop, O: Write, E: Write>(
     }
     out.flush()?;
     Ok(())
+}
+
+// Reads the trace from the file that the options name, or else from `input`.
+fn read<F: Files<File = File>, I: BufRead + Drop, E: Write>(
+    alloc: Global,
+    files: &F,
+    options: &Options<'_>,
+    input: I,
+    progress: &mut Progress<'_, E>,
+) -> Result<Trace, Failure> {
+    let sample = Sample::one_in(options.sample.unwrap_or(1));
+    let Some(path) = options.trace else {
+        return Trace::read(alloc, sample, &mut Lines::new(alloc, input), progress);
+    };
+    let read = File::open(files, path)
+        .map_err(Failure::Read)
+        .and_then(|file| Ok(Lines::new(alloc, BufReader::new(alloc, file)?)))
+        .and_then(|mut lines| Trace::read(alloc, sample, &mut lines, progress));
+    read.map_err(|failure| failure.of_trace(alloc, path))
 }
 
 // Writes the lines about the trace to `out`, and computes the curve. Fails with `NoUses` if the

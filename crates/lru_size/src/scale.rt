@@ -39,6 +39,11 @@ impl fmt::Display for Percentage {
     }
 }
 
+/// Returns the number of decimal digits of `number`.
+pub fn digits(number: u64) -> u64 {
+    number.checked_ilog10().map_or(1, |log| u64::from(log) + 1)
+}
+
 /// Returns the least of 1, 2, 5, 10, 20, 50 and so on that fits into `length` at most six times.
 pub fn round_step(length: u64) -> u64 {
     let mut unit = 1u64;
