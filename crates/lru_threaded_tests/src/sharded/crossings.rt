@@ -3,7 +3,6 @@
 use concurrent_lru::sharded::{CacheHandle, Fit, LruCache};
 use std::hash::{BuildHasher, BuildHasherDefault, FoldHasher, Hash};
 use std::sync::Wait;
-use std::test::Fail;
 use std::thread;
 
 // Accepts what may be sent to another thread and shared with it.
@@ -22,10 +21,12 @@ fn caches_cross<
 }
 
 #[test]
-fn sharded_caches_and_handles_cross_threads(rt: HostRuntime) -> Result<(), Fail> {
-    let cache: LruCache<u64, u64, HostRuntime, BuildHasherDefault<FoldHasher>> =
-        LruCache::with_shards_hasher(rt.alloc(), rt.clone()?, 1, 1, BuildHasherDefault::new())?;
-    let handle = cache.get_or_init(1, 3, |_| 5)?;
+fn sharded_caches_and_handles_cross_threads(rt: HostRuntime) {
+    let own = rt.clone().expect(&rt, "memory");
+    let made: Result<LruCache<u64, u64, HostRuntime, BuildHasherDefault<FoldHasher>>, _> =
+        LruCache::with_shards_hasher(rt.alloc(), own, 1, 1, BuildHasherDefault::new());
+    let cache = made.expect(&rt, "memory");
+    let handle = cache.get_or_init(1, 3, |_| 5).expect(&rt, "memory");
     caches_cross(&cache, &handle);
     let shared = &cache;
     // One thread releases the pin, which evicts the entry, while this one waits for it.
@@ -38,5 +39,4 @@ fn sharded_caches_and_handles_cross_threads(rt: HostRuntime) -> Result<(), Fail>
         || (),
     );
     assert_eq!(rt; total, 0);
-    Ok(())
 }

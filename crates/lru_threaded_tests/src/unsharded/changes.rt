@@ -92,8 +92,7 @@ fn shrinks_meanwhile<R: Wait>(
 
 #[test]
 fn makers_and_waiters_outlive_a_change(rt: HostRuntime) {
-    let own = rt.clone().expect(&rt, "memory");
-    let cache: LruCache<u64, u64, HostRuntime> = LruCache::new(rt.alloc(), own, 10);
+    let cache: LruCache<u64, u64, &HostRuntime> = LruCache::new(rt.alloc(), &rt, 10);
     drop(cache.get_or_init(2, 4, |key| *key));
     let meeting = Meeting::new();
     let shrunk = AtomicU64::new(0);

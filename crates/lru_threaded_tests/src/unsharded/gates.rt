@@ -11,8 +11,7 @@ use std::thread::Threads;
 
 #[test]
 fn makers_run_without_the_lock(rt: HostRuntime) {
-    let own = rt.clone().expect(&rt, "memory");
-    let cache: LruCache<u64, u64, HostRuntime> = LruCache::new(rt.alloc(), own, 10);
+    let cache: LruCache<u64, u64, &HostRuntime> = LruCache::new(rt.alloc(), &rt, 10);
     assert_eq!(rt; makers_meet(&rt, &&cache, (1, 2)), (true, true));
 }
 

@@ -1,6 +1,6 @@
 //! Which values are evicted, and in which order, as their drops show.
 
-use crate::play::plays;
+use crate::unsharded::play::plays;
 use lru_fixtures::threaded::Then::{AtOnce, Keep};
 use lru_fixtures::threaded::ThreadedCall;
 use lru_fixtures::threaded::ThreadedCall::{Fail, Get, Init, LetGo, Prune, Total, TryInit};

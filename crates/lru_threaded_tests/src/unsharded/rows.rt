@@ -1,6 +1,6 @@
 //! Worked rows: values that are made, found, evicted, evicted by advice, and failed.
 
-use crate::play::plays;
+use crate::unsharded::play::plays;
 use lru_fixtures::threaded::Then::{AtOnce, Keep};
 use lru_fixtures::threaded::ThreadedCall;
 use lru_fixtures::threaded::ThreadedCall::{AdviceEvict, Fail, Get, Init, LetGo, Total, TryInit};

@@ -1,6 +1,6 @@
 //! A capacity that is set later, and reserved room.
 
-use crate::play::plays;
+use crate::unsharded::play::plays;
 use lru_fixtures::threaded::Then::AtOnce;
 use lru_fixtures::threaded::ThreadedCall;
 use lru_fixtures::threaded::ThreadedCall::{

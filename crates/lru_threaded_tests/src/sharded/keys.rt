@@ -1,20 +1,10 @@
 //! Keys by reference, in the shard that serves them.
 
-use concurrent_lru::sharded::LruCache;
-use lru_support::hashers::ByOwnNumber;
-
-type Cache<R> = LruCache<u64, u64, R, ByOwnNumber>;
+use crate::sharded::shares::in_shards;
 
 #[test]
 fn a_key_by_reference_is_asked_at_its_shard(rt: HostRuntime) {
-    let made: Result<Cache<&HostRuntime>, _> = LruCache::with_shards_hasher(
-        rt.alloc(),
-        &rt,
-        40,
-        4,
-        ByOwnNumber,
-    );
-    let cache = made.expect(&rt, "memory");
+    let cache = in_shards(rt.alloc(), &rt, 40, 4).expect(&rt, "memory");
     let first = cache.get_or_init_by(&3, 2, |_| 13).expect(&rt, "memory");
     let other = cache
         .get_or_try_init_by(&7, 1, |_| Ok::<u64, u64>(27))

@@ -1,6 +1,8 @@
 //! Makers that use the cache for other keys, three deep, in the same shard and in another.
 
+use crate::sharded::shares::in_shards;
 use concurrent_lru::sharded::LruCache;
+use lru_fixtures::makings::value_found;
 use lru_support::hashers::ByOwnNumber;
 use std::sync::Wait;
 
@@ -33,14 +35,6 @@ fn one_digit_more(digits: u64) -> u64 {
     digits.saturating_mul(10).saturating_add(1)
 }
 
-// Returns the value of a key, if it is ready.
-fn found<R: Wait>(cache: &Cache<R>, key: u64) -> Option<u64> {
-    match cache.get(key) {
-        Ok(Some(handle)) => Some(*handle.value()),
-        _ => None,
-    }
-}
-
 // The capacity of two shards, and the values that stay. Each value that was made within another is
 // released first; the keys 1 and 3 have the same shard.
 const LEFT: [(u64, [Option<u64>; 3]); 3] = [
@@ -52,17 +46,10 @@ const LEFT: [(u64, [Option<u64>; 3]); 3] = [
 #[test]
 fn makers_use_the_cache_three_deep(rt: HostRuntime) {
     for (capacity, left) in LEFT {
-        let made: Result<Cache<&HostRuntime>, _> = LruCache::with_shards_hasher(
-            rt.alloc(),
-            &rt,
-            capacity,
-            2,
-            ByOwnNumber,
-        );
-        let cache = made.expect(&rt, "memory");
+        let cache = in_shards(rt.alloc(), &rt, capacity, 2).expect(&rt, "memory");
         assert_eq!(rt; makes_three_deep(&cache), 111);
         assert_eq!(rt; cache.total_charge(), u128::from(capacity.min(3)));
-        let values = [found(&cache, 1), found(&cache, 2), found(&cache, 3)];
+        let values = [1, 2, 3].map(|key| value_found(&cache, key));
         assert_eq!(rt; values, left, "at capacity {capacity}");
     }
 }

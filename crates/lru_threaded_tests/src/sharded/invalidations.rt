@@ -1,8 +1,8 @@
 //! Values of shards that are invalidated while they are held.
 ghost use Rattle.std.specs.Prelude.{◌<◌};
 
-use crate::{pure, threaded};
-use concurrent_lru::sharded::LruCache;
+use crate::sharded::shares::in_shards;
+use crate::sharded::{pure, threaded};
 use lru_fixtures::makings::reads_around;
 use lru_fixtures::tables::shards::ShardCall;
 use lru_fixtures::threaded::Then::{AtOnce, Keep};
@@ -80,9 +80,7 @@ fn a_present_key_is_replaced(rt: HostRuntime) -> Result<(), test::Fail> {
 
 #[test]
 fn a_handle_reads_its_own_value(rt: HostRuntime) {
-    let made: Result<LruCache<u64, u64, &HostRuntime, ByOwnNumber>, _> =
-        LruCache::with_shards_hasher(rt.alloc(), &rt, 10, 2, ByOwnNumber);
-    let cache = made.expect(&rt, "memory");
+    let cache = in_shards(rt.alloc(), &rt, 10, 2).expect(&rt, "memory");
     assert_eq!(rt; reads_around(&cache), Some((5, None, false, 6)));
     assert_eq!(rt; (cache.total_charge(), cache.len()), (1, 1));
 }

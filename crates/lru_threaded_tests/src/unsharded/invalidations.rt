@@ -1,6 +1,6 @@
 //! Values that are invalidated while handles read them, and while callers wait for them.
 
-use crate::play::plays;
+use crate::unsharded::play::plays;
 use concurrent_lru::unsharded::LruCache;
 use lru_fixtures::makings::{Meeting, reads_around, value_found};
 use lru_fixtures::threaded::Then::{AtOnce, Keep};
@@ -179,8 +179,7 @@ fn a_cache_of_no_capacity_keeps_nothing(rt: HostRuntime) -> Result<(), test::Fai
 
 #[test]
 fn a_handle_reads_its_own_value(rt: HostRuntime) {
-    let own = rt.clone().expect(&rt, "memory");
-    let cache: LruCache<u64, u64, HostRuntime> = LruCache::new(rt.alloc(), own, 10);
+    let cache: LruCache<u64, u64, &HostRuntime> = LruCache::new(rt.alloc(), &rt, 10);
     assert_eq!(rt; reads_around(&cache), Some((5, None, false, 6)));
     assert_eq!(rt; (cache.total_charge(), cache.len()), (1, 1));
 }
@@ -227,8 +226,7 @@ fn comes_meanwhile<R: Wait>(
 #[test]
 fn a_waiter_has_the_outcome_of_its_making(rt: HostRuntime) {
     for _ in 0..50u32 {
-        let own = rt.clone().expect(&rt, "memory");
-        let cache: LruCache<u64, u64, HostRuntime> = LruCache::new(rt.alloc(), own, 10);
+        let cache: LruCache<u64, u64, &HostRuntime> = LruCache::new(rt.alloc(), &rt, 10);
         let meeting = Meeting::new();
         let (made, came) = thread::join(
             &rt,

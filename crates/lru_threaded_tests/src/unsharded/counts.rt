@@ -1,11 +1,15 @@
 //! Counts of what calls did: each kind of call, that they add up, and what a reset returns, also
 //! while other threads use the cache.
 
-use crate::makings::{MEETINGS, one_fails_and_one_makes};
+use crate::contents::{Contents, charges, make, value_read};
+use crate::unsharded::makings::{MEETINGS, one_fails_and_one_makes};
 use concurrent_lru::unsharded::{Counts, GetError, LruCache};
 use lru_fixtures::makings::values_of_two;
+use lru_fixtures::tables::text_of;
+use lru_fixtures::threaded::{make_value, try_make_value};
 use lru_fixtures::workers::{EACH_ONCE, lookups_between_resets};
 use std::alloc::Global;
+use std::process::Abort;
 use std::sync::Wait;
 use std::test::Fail;
 use std::thread;
@@ -13,12 +17,13 @@ use std::thread::Threads;
 
 // Returns whether the counts of a cache that no other thread uses add up to its entries and its
 // total.
-fn adds_up<R: Wait>(cache: &LruCache<u64, u64, R>) -> bool {
+fn adds_up<C: Contents>(cache: C) -> bool {
     let counts = cache.counts();
     let entries = (cache.len() as u64)
         .wrapping_add(counts.evictions)
         .wrapping_add(counts.removals);
-    let charge = u128::from(cache.total_charge())
+    let charge = cache
+        .total_charge()
         .wrapping_add(counts.evicted_charge)
         .wrapping_add(counts.removed_charge);
     entries == counts.entries_before.wrapping_add(counts.insertions)
@@ -48,42 +53,30 @@ enum CountedCall {
 }
 
 // Makes a call. The counts show its result.
-fn make_call<R: Wait>(cache: &LruCache<u64, u64, R>, call: CountedCall) {
+fn make_call<C: Contents>(cache: C, call: CountedCall) {
     match call {
-        CountedCall::Get(key) => {
-            let _ = cache.get(key);
-        }
-        CountedCall::Read(key) => {
-            let _ = cache.read(&key, |value| *value);
-        }
+        CountedCall::Get(key) => drop(cache.get(key)),
+        CountedCall::Read(key) => drop(value_read(cache, key)),
         CountedCall::Make(key, charge) => {
-            let _ = cache.get_or_init(key, charge.max(1), |key| *key);
+            drop(make_value(cache, key, charge.max(1), key, &mut None));
         }
         CountedCall::Fail(key, charge) => {
-            let _ = cache.get_or_try_init(key, charge.max(1), |_| -> Result<u64, u8> { Err(9) });
+            drop(try_make_value(cache, key, charge.max(1), None, &mut None));
         }
-        CountedCall::Insert(key, charge) => {
-            let _ = cache.insert(&key, charge.max(1), key);
-        }
+        CountedCall::Insert(key, charge) => drop(cache.insert(key, charge.max(1), key)),
         CountedCall::Look(key) => look(cache, key),
         CountedCall::AdviceEvict(key) => cache.advice_evict(key),
-        CountedCall::Invalidate(key) => cache.invalidate(&key),
+        CountedCall::Invalidate(key) => cache.invalidate(key),
         CountedCall::SetCapacity(capacity) => cache.set_capacity(capacity),
         CountedCall::Prune => cache.prune(),
-        CountedCall::Reserve(entries) => {
-            let _ = cache.reserve(entries);
-        }
+        CountedCall::Reserve(entries) => drop(cache.reserve(entries)),
     }
 }
 
 // Makes each call that only reads.
-fn look<R: Wait>(cache: &LruCache<u64, u64, R>, key: u64) {
-    let _ = (cache.contains(&key), cache.len(), cache.is_empty());
-    let _ = (
-        cache.total_charge(),
-        cache.pinned_charge(),
-        cache.capacity(),
-    );
+fn look<C: Contents>(cache: C, key: u64) {
+    let _ = (cache.contains(key), cache.len(), cache.is_empty());
+    let _ = (charges(cache), cache.capacity());
 }
 
 // Returns hits, misses, refusals, makings, failures, insertions, evictions and removals.
@@ -102,10 +95,7 @@ fn numbers(counts: &Counts) -> [u64; 8] {
 
 // Makes calls in order. Fails at the first after which the counts have other numbers, or do not add
 // up.
-fn counts_each<R: Wait>(
-    cache: &LruCache<u64, u64, R>,
-    calls: &[(CountedCall, [u64; 8])],
-) -> Result<(), Fail> {
+fn counts_each<C: Contents>(cache: C, calls: &[(CountedCall, [u64; 8])]) -> Result<(), Fail> {
     for (call, wanted) in calls {
         make_call(cache, *call);
         let counts = cache.counts();
@@ -143,14 +133,25 @@ const CALLS: [(CountedCall, [u64; 8]); 21] = [
     (CountedCall::Invalidate(7), [4, 8, 1, 6, 1, 6, 5, 1]),
 ];
 
+// Makes the calls of a table. Returns the charges that were inserted, evicted and removed.
+fn charges_after<C: Contents>(
+    cache: C,
+    calls: &[(CountedCall, [u64; 8])],
+) -> Result<(u128, u128, u128), Fail> {
+    counts_each(cache, calls)?;
+    let counts = cache.counts();
+    Ok((
+        counts.inserted_charge,
+        counts.evicted_charge,
+        counts.removed_charge,
+    ))
+}
+
 #[test]
 fn each_call_counts_what_it_answers(rt: HostRuntime) -> Result<(), Fail> {
     let cache: LruCache<u64, u64, &HostRuntime> = LruCache::new(rt.alloc(), &rt, 6);
-    counts_each(&cache, &CALLS)?;
-    let counts = cache.counts();
-    assert_eq!(rt; counts.inserted_charge, 15);
-    assert_eq!(rt; counts.evicted_charge, 12);
-    assert_eq!(rt; counts.removed_charge, 3);
+    let charges = charges_after(&cache, &CALLS)?;
+    assert_eq!(rt; charges, (15, 12, 3));
     Ok(())
 }
 
@@ -174,92 +175,104 @@ const PUT_IN: [(CountedCall, [u64; 8]); 10] = [
 #[test]
 fn a_value_that_is_put_in_is_inserted_alone(rt: HostRuntime) -> Result<(), Fail> {
     let cache: LruCache<u64, u64, &HostRuntime> = LruCache::new(rt.alloc(), &rt, 6);
-    counts_each(&cache, &PUT_IN)?;
-    let counts = cache.counts();
-    assert_eq!(rt; (counts.inserted_charge, counts.evicted_charge), (18, 18));
+    let charges = charges_after(&cache, &PUT_IN)?;
+    assert_eq!(rt; charges, (18, 18, 0));
     Ok(())
+}
+
+// Returns how many entries were evicted, and the sum of their charges.
+fn evicted<C: Contents>(cache: C) -> (u64, u128) {
+    let counts = cache.counts();
+    (counts.evictions, counts.evicted_charge)
+}
+
+// Returns how many entries were inserted, and the sum of their charges.
+fn inserted<C: Contents>(cache: C) -> (u64, u128) {
+    let counts = cache.counts();
+    (counts.insertions, counts.inserted_charge)
+}
+
+fn replaces_a_held_value<R: Abort, C: Contents>(rt: &R, cache: C) {
+    let old = cache.insert(1, 3, 10).expect(rt, "memory");
+    let new = cache.insert(1, 5, 11).expect(rt, "memory");
+    assert_eq!(rt; (inserted(cache), evicted(cache)), ((2, 8), (0, 0)));
+    drop(old);
+    let replaced = cache.counts();
+    assert_eq!(rt; evicted(cache), (1, 3));
+    drop(new);
+    assert_eq!(rt; cache.counts(), replaced);
+    assert!(rt; adds_up(cache));
 }
 
 #[test]
 fn a_held_value_that_is_replaced_is_evicted_once(rt: HostRuntime) {
     let cache: LruCache<u64, u64, &HostRuntime> = LruCache::new(rt.alloc(), &rt, 100);
-    let old = cache.insert(&1, 3, 10).expect(&rt, "memory");
-    let new = cache.insert(&1, 5, 11).expect(&rt, "memory");
-    let held = cache.counts();
-    assert_eq!(rt;
-        (held.insertions, held.inserted_charge, held.evictions),
-        (2, 8, 0)
-    );
-    drop(old);
-    let replaced = cache.counts();
-    assert_eq!(rt; (replaced.evictions, replaced.evicted_charge), (1, 3));
-    drop(new);
-    assert_eq!(rt; cache.counts(), replaced);
-    assert!(rt; adds_up(&cache));
+    replaces_a_held_value(&rt, &cache);
 }
 
 #[test]
 fn a_cache_that_is_printed_counts_nothing(rt: HostRuntime) {
     let cache: LruCache<u64, u64, &HostRuntime> = LruCache::new(rt.alloc(), &rt, 100);
-    drop(cache.get_or_init(1, 1, |key| *key));
+    make_call(&cache, CountedCall::Make(1, 1));
     let counts = cache.counts();
-    let text = format!(in rt.alloc(); "{cache:?}").expect(&rt, "memory");
+    let text = text_of(rt.alloc(), &cache).expect(&rt, "memory");
     assert_eq!(rt; text.as_str(), "{1: 1}");
     assert_eq!(rt; cache.counts(), counts);
+}
+
+fn prunes_beside_a_held_value<R: Abort, C: Contents>(rt: &R, cache: C) {
+    for key in 1..=5 {
+        make_call(cache, CountedCall::Make(key, key));
+    }
+    let held = make(rt, cache, 9, 7, 9);
+    cache.prune();
+    assert_eq!(rt; evicted(cache), (5, 15));
+    assert!(rt; adds_up(cache));
+    // The drop of the last handle evicts down to the capacity: here it evicts the entry itself.
+    cache.set_capacity(0);
+    drop(held);
+    assert_eq!(rt; evicted(cache), (6, 22));
+    assert!(rt; adds_up(cache));
 }
 
 #[test]
 fn a_prune_counts_each_entry_that_it_evicts(rt: HostRuntime) {
     let cache: LruCache<u64, u64, &HostRuntime> = LruCache::new(rt.alloc(), &rt, 100);
-    for key in 1..=5 {
-        make_call(&cache, CountedCall::Make(key, key));
-    }
-    let held = cache.get_or_init(9, 7, |key| *key).expect(&rt, "memory");
-    cache.prune();
-    let counts = cache.counts();
-    assert_eq!(rt; (counts.evictions, counts.evicted_charge), (5, 15));
-    assert!(rt; adds_up(&cache));
-    // The drop of the last handle evicts down to the capacity: here it evicts the entry itself.
-    cache.set_capacity(0);
+    prunes_beside_a_held_value(&rt, &cache);
+}
+
+fn invalidates_idle_and_held<R: Abort, C: Contents>(rt: &R, cache: C) {
+    make_call(cache, CountedCall::Make(1, 3));
+    cache.invalidate(1);
+    assert_eq!(rt; evicted(cache), (1, 3));
+    let held = make(rt, cache, 2, 5, 2);
+    let again = cache.get(2).expect(rt, "a pin");
+    cache.invalidate(2);
+    assert_eq!(rt; evicted(cache), (1, 3));
+    assert!(rt; adds_up(cache));
+    // A new entry of the key, beside the held one.
+    make_call(cache, CountedCall::Make(2, 7));
     drop(held);
-    let counts = cache.counts();
-    assert_eq!(rt; (counts.evictions, counts.evicted_charge), (6, 22));
-    assert!(rt; adds_up(&cache));
+    assert_eq!(rt; evicted(cache), (1, 3));
+    drop(again);
+    cache.invalidate(9);
+    assert_eq!(rt; (inserted(cache), evicted(cache)), ((3, 15), (2, 8)));
+    assert_eq!(rt; (cache.len(), cache.total_charge()), (1, 7));
+    assert!(rt; adds_up(cache));
 }
 
 // An idle entry is evicted at once, and a held one when its last handle is dropped.
 #[test]
 fn an_invalidated_entry_is_evicted_once(rt: HostRuntime) {
     let cache: LruCache<u64, u64, &HostRuntime> = LruCache::new(rt.alloc(), &rt, 100);
-    make_call(&cache, CountedCall::Make(1, 3));
-    cache.invalidate(&1);
-    let idle = cache.counts();
-    assert_eq!(rt; (idle.evictions, idle.evicted_charge), (1, 3));
-    let held = cache.get_or_init(2, 5, |key| *key).expect(&rt, "memory");
-    let again = cache.find(&2).expect(&rt, "a pin");
-    cache.invalidate(&2);
-    assert_eq!(rt; cache.counts().evictions, 1);
-    assert!(rt; adds_up(&cache));
-    // A new entry of the key, beside the held one.
-    make_call(&cache, CountedCall::Make(2, 7));
-    drop(held);
-    assert_eq!(rt; cache.counts().evictions, 1);
-    drop(again);
-    cache.invalidate(&9);
-    let counts = cache.counts();
-    assert_eq!(rt; (counts.insertions, counts.inserted_charge), (3, 15));
-    assert_eq!(rt; (counts.evictions, counts.evicted_charge), (2, 8));
-    assert_eq!(rt; (cache.len(), cache.total_charge()), (1, 7));
-    assert!(rt; adds_up(&cache));
+    invalidates_idle_and_held(&rt, &cache);
 }
 
-#[test]
-fn a_reset_answers_what_was_counted(rt: HostRuntime) {
-    let cache: LruCache<u64, u64, &HostRuntime> = LruCache::new(rt.alloc(), &rt, 100);
+fn resets_twice<R: Abort, C: Contents>(rt: &R, cache: C) {
     assert_eq!(rt; cache.counts(), Counts::default());
     assert_eq!(rt; cache.reset_counts(), Counts::default());
     for key in [1, 2, 1] {
-        make_call(&cache, CountedCall::Make(key, 10));
+        make_call(cache, CountedCall::Make(key, 10));
     }
     let counts = cache.counts();
     assert_eq!(rt; (counts.hits, counts.misses, counts.insertions), (1, 2, 2));
@@ -268,33 +281,42 @@ fn a_reset_answers_what_was_counted(rt: HostRuntime) {
     let anew = cache.counts();
     assert_eq!(rt; (anew.hits, anew.misses, anew.insertions), (0, 0, 0));
     assert_eq!(rt; (anew.entries_before, anew.charge_before), (2, 20));
-    assert!(rt; adds_up(&cache));
+    assert!(rt; adds_up(cache));
     cache.advice_evict(1);
-    assert_eq!(rt;
-        (cache.counts().evictions, cache.counts().evicted_charge),
-        (1, 10)
-    );
-    assert!(rt; adds_up(&cache));
+    assert_eq!(rt; evicted(cache), (1, 10));
+    assert!(rt; adds_up(cache));
 }
 
 #[test]
-fn counts_are_told_in_one_line(rt: HostRuntime) -> Result<(), Fail> {
-    let alloc = rt.alloc();
-    let cache: LruCache<u64, u64, &HostRuntime> = LruCache::new(alloc, &rt, 5);
+fn a_reset_answers_what_was_counted(rt: HostRuntime) {
+    let cache: LruCache<u64, u64, &HostRuntime> = LruCache::new(rt.alloc(), &rt, 100);
+    resets_twice(&rt, &cache);
+}
+
+// Returns the text of the counts of two makings of which the second evicts, and of those after a
+// reset.
+fn lines_of_counts<C: Contents>(alloc: Global, cache: C) -> Option<(String, String)> {
     for key in [1, 2, 2] {
-        make_call(&cache, CountedCall::Make(key, 3));
+        make_call(cache, CountedCall::Make(key, 3));
     }
-    let counts = cache.reset_counts();
+    let (counts, anew) = (cache.reset_counts(), cache.counts());
+    let told = format!(in alloc; "{counts}").ok()?;
+    let anew = format!(in alloc; "{anew}").ok()?;
+    Some((told, anew))
+}
+
+#[test]
+fn counts_are_told_in_one_line(rt: HostRuntime) {
+    let cache: LruCache<u64, u64, &HostRuntime> = LruCache::new(rt.alloc(), &rt, 5);
+    let (told, anew) = lines_of_counts(rt.alloc(), &cache).expect(&rt, "memory");
     assert_eq!(rt;
-        format!(in alloc; "{counts}")?.as_str(),
+        told.as_str(),
         "hits 1, misses 2, waits 0, refusals 0, makings 2, failures 0, inserted 2 of charge 6, evicted 1 of charge 3, removed 0 of charge 0, before 0 of charge 0"
     );
-    let anew = cache.counts();
     assert_eq!(rt;
-        format!(in alloc; "{anew}")?.as_str(),
+        anew.as_str(),
         "hits 0, misses 0, waits 0, refusals 0, makings 0, failures 0, inserted 0 of charge 0, evicted 0 of charge 0, removed 0 of charge 0, before 1 of charge 3"
     );
-    Ok(())
 }
 
 #[test]
@@ -393,9 +415,10 @@ fn works<R: Wait>(cache: &LruCache<u64, u64, R>, seed: u64) -> bool {
 }
 
 #[test]
-fn four_threads_counts_add_up(rt: HostRuntime) -> Result<(), Fail> {
+fn four_threads_counts_add_up(rt: HostRuntime) {
     let cache: LruCache<u64, u64, &HostRuntime> = LruCache::new(rt.alloc(), &rt, 8);
-    let answered = thread::map_indices(&rt, rt.alloc(), 4, &|seed| works(&cache, seed as u64))?;
+    let answered = thread::map_indices(&rt, rt.alloc(), 4, &|seed| works(&cache, seed as u64));
+    let answered = answered.expect(&rt, "four threads");
     assert_eq!(rt; answered.as_slice(), [true; 4].as_slice());
     assert!(rt; adds_up(&cache));
     let counts = cache.counts();
@@ -403,18 +426,13 @@ fn four_threads_counts_add_up(rt: HostRuntime) -> Result<(), Fail> {
         .hits
         .wrapping_add(counts.misses)
         .wrapping_add(counts.waits);
-    assert_eq!(rt; asked, 4_000);
-    assert_eq!(rt; counts.refusals, 0);
-    Ok(())
+    assert_eq!(rt; (asked, counts.refusals), (4_000, 0));
 }
 
 // No call is missed between two resets, and none is counted twice.
 #[test]
-fn each_call_is_counted_in_one_reset(rt: HostRuntime) -> Result<(), Fail> {
+fn each_call_is_counted_in_one_reset(rt: HostRuntime) {
     let cache: LruCache<u64, u64, &HostRuntime> = LruCache::new(rt.alloc(), &rt, 8);
-    assert_eq!(rt;
-        lookups_between_resets(&rt, rt.alloc(), &&cache)?,
-        EACH_ONCE
-    );
-    Ok(())
+    let asked = lookups_between_resets(&rt, rt.alloc(), &&cache);
+    assert_eq!(rt; asked, Ok(EACH_ONCE));
 }

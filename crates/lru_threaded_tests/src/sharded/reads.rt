@@ -1,10 +1,14 @@
 //! Reads in shards: each counts as a use in its own shard, and threads that read find their values.
 
+use crate::contents::{make_each, value_read};
+use crate::sharded::shares::in_shards;
 use concurrent_lru::lru_core::Begun;
-use concurrent_lru::sharded::{LruCache, Refusal, Shards};
+use concurrent_lru::sharded::{Refusal, Shards};
 use lru_fixtures::workers::{CAPACITY, stays_right};
+use lru_support::cached::Cached;
 use lru_support::hashers::ByOwnNumber;
 use std::alloc::{AllocError, Global};
+use std::process::Abort;
 use std::sync::Arc;
 use std::test::Fail;
 use std::thread;
@@ -66,42 +70,32 @@ fn a_read_counts_in_the_shard_of_its_key(rt: HostRuntime) -> Result<(), Fail> {
     Ok(())
 }
 
-#[test]
-fn a_read_keeps_the_entry_in_its_shard(rt: HostRuntime) -> Result<(), Fail> {
-    let cache: LruCache<u64, u64, &HostRuntime, ByOwnNumber> = LruCache::with_shards_hasher(
-        rt.alloc(),
-        &rt,
-        4,
-        2,
-        ByOwnNumber,
-    )?;
-    for key in [1, 3] {
-        drop(cache.get_or_init(key, 1, |key| key.wrapping_mul(10))?);
-    }
-    assert_eq!(rt; cache.read(&1, |value| *value)?, Some(10));
-    drop(cache.get_or_init(5, 1, |_| 50)?);
-    assert_eq!(rt; cache.read(&3, |value| *value)?, None);
-    assert_eq!(rt; cache.read(&1, |value| *value)?, Some(10));
-    assert_eq!(rt; cache.read(&5, |value| *value)?, Some(50));
-    assert_eq!(rt; cache.read(&2, |value| *value)?, None);
+// Reads in an empty cache of two shards, each of which keeps two entries.
+fn reads_keep<R: Abort, C: Cached<u64>>(rt: &R, cache: C) {
+    make_each(rt, cache, &[1, 3]);
+    assert_eq!(rt; value_read(cache, 1), Ok(Some(10)));
+    make_each(rt, cache, &[5]);
+    assert_eq!(rt; value_read(cache, 3), Ok(None));
+    assert_eq!(rt; value_read(cache, 1), Ok(Some(10)));
+    assert_eq!(rt; value_read(cache, 5), Ok(Some(50)));
+    assert_eq!(rt; value_read(cache, 2), Ok(None));
     cache.prune();
-    assert_eq!(rt; cache.read(&5, |value| *value)?, None);
-    Ok(())
+    assert_eq!(rt; value_read(cache, 5), Ok(None));
 }
 
 #[test]
-fn four_threads_read_what_they_make(rt: HostRuntime) -> Result<(), Fail> {
-    let cache: LruCache<u64, u64, &HostRuntime, ByOwnNumber> = LruCache::with_shards_hasher(
-        rt.alloc(),
-        &rt,
-        CAPACITY,
-        2,
-        ByOwnNumber,
-    )?;
-    let right = thread::map_indices(&rt, rt.alloc(), 4, &|_| stays_right(&cache))?;
+fn a_read_keeps_the_entry_in_its_shard(rt: HostRuntime) {
+    let cache = in_shards(rt.alloc(), &rt, 4, 2).expect(&rt, "memory");
+    reads_keep(&rt, &cache);
+}
+
+#[test]
+fn four_threads_read_what_they_make(rt: HostRuntime) {
+    let cache = in_shards(rt.alloc(), &rt, CAPACITY, 2).expect(&rt, "memory");
+    let right = thread::map_indices(&rt, rt.alloc(), 4, &|_| stays_right(&cache));
+    let right = right.expect(&rt, "four threads");
     assert_eq!(rt; right.as_slice(), [true; 4].as_slice());
     assert_eq!(rt; cache.total_charge(), u128::from(CAPACITY));
     cache.prune();
     assert_eq!(rt; cache.total_charge(), 0);
-    Ok(())
 }

@@ -1,6 +1,7 @@
 //! Makers that use the cache for other keys, three deep.
 
 use concurrent_lru::unsharded::LruCache;
+use lru_fixtures::makings::value_found;
 use std::sync::Wait;
 
 // Key 1, whose `init` makes key 2. A value has a digit more than the one that it was made of.
@@ -30,14 +31,6 @@ fn one_digit_more(digits: u64) -> u64 {
     digits.saturating_mul(10).saturating_add(1)
 }
 
-// Returns the value of a key, if it is ready.
-fn found<R: Wait>(cache: &LruCache<u64, u64, R>, key: u64) -> Option<u64> {
-    match cache.get(key) {
-        Ok(Some(handle)) => Some(*handle.value()),
-        _ => None,
-    }
-}
-
 // The capacity, and the values that stay. Each value that was made within another is released
 // first.
 const LEFT: [(u64, [Option<u64>; 3]); 4] = [
@@ -53,7 +46,7 @@ fn makers_use_the_cache_three_deep(rt: HostRuntime) {
         let cache: LruCache<u64, u64, &HostRuntime> = LruCache::new(rt.alloc(), &rt, capacity);
         assert_eq!(rt; makes_three_deep(&cache), 111);
         assert_eq!(rt; cache.total_charge(), capacity);
-        let values = [found(&cache, 1), found(&cache, 2), found(&cache, 3)];
+        let values = [1, 2, 3].map(|key| value_found(&cache, key));
         assert_eq!(rt; values, left, "at capacity {capacity}");
     }
 }

@@ -1,6 +1,6 @@
 //! Forgotten handles, the code of an error, and how a cache is printed.
 
-use crate::play::plays;
+use crate::unsharded::play::plays;
 use concurrent_lru::unsharded::{GetError, LruCache};
 use lru_fixtures::threaded::Then::{AtOnce, Forget, Keep};
 use lru_fixtures::threaded::ThreadedCall;
@@ -49,8 +49,7 @@ fn text_in_a_making<R: Wait>(alloc: Global, cache: &LruCache<u64, u64, R>) -> Op
 
 #[test]
 fn prints_no_entry_in_the_making(rt: HostRuntime) {
-    let own = rt.clone().expect(&rt, "memory");
-    let cache: LruCache<u64, u64, HostRuntime> = LruCache::new(rt.alloc(), own, 10);
+    let cache: LruCache<u64, u64, &HostRuntime> = LruCache::new(rt.alloc(), &rt, 10);
     let text = text_in_a_making(rt.alloc(), &cache).expect(&rt, "memory");
     assert_eq!(rt; text.as_str(), "{}");
 }

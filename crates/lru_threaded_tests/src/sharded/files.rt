@@ -12,7 +12,7 @@ use std::{env, fs};
 fn a_pool_of_files_opens_on_demand(rt: HostRuntime) -> Result<(), Fail> {
     let alloc = rt.alloc();
     let mut path = env::temp_dir(&rt)?;
-    path.push("lru_sharded_tests_pool.txt")?;
+    path.push("lru_threaded_tests_pool.txt")?;
     fs::write(&rt, path.as_path(), "the first line\nthe second\n")?;
 
     let pool: LruCache<u64, File, HostRuntime> = LruCache::new(

@@ -10,8 +10,7 @@ use std::thread::Threads;
 
 #[test]
 fn one_value_for_two_callers(rt: HostRuntime) {
-    let own = rt.clone().expect(&rt, "memory");
-    let cache: LruCache<u64, u64, HostRuntime> = LruCache::new(rt.alloc(), own, 10);
+    let cache: LruCache<u64, u64, &HostRuntime> = LruCache::new(rt.alloc(), &rt, 10);
     assert_eq!(rt; values_of_two(&rt, &&cache), (Some(5), Some(5)));
     // The charge is the maker's.
     assert_eq!(rt; value_beside_total(&rt, &&cache), (Some(5), 3));
@@ -99,8 +98,7 @@ fn makes_by_another_key<R: Wait>(cache: &LruCache<u64, u64, R>) -> Option<u64> {
 
 #[test]
 fn a_maker_may_use_the_cache(rt: HostRuntime) {
-    let own = rt.clone().expect(&rt, "memory");
-    let cache: LruCache<u64, u64, HostRuntime> = LruCache::new(rt.alloc(), own, 10);
+    let cache: LruCache<u64, u64, &HostRuntime> = LruCache::new(rt.alloc(), &rt, 10);
     assert_eq!(rt; makes_by_another_key(&cache), Some(6));
     assert_eq!(rt; cache.total_charge(), 2);
 }
