@@ -1,8 +1,10 @@
 //! Keys of text, and hashes that no test chose.
 
 use concurrent_lru::sharded::LruCache;
+use lru_fixtures::threaded::make_value;
+use lru_support::cached::Cached;
 use std::alloc::Global;
-use std::hash::{BuildHasher, BuildHasherDefault, FoldHasher, RandomState};
+use std::hash::{BuildHasherDefault, FoldHasher, RandomState};
 use std::sync::Wait;
 
 type ByText<R> = LruCache<String, u64, R, BuildHasherDefault<FoldHasher>>;
@@ -34,11 +36,14 @@ fn a_value_is_found_until_it_is_pruned(rt: HostRuntime) {
 }
 
 // Returns whether the value of each key below 100 could be made, as the key.
-fn makes_hundred<R: Wait, S: BuildHasher>(cache: &LruCache<u64, u64, R, S>) -> bool {
-    (0..100u64).all(|key| match cache.get_or_init(key, 1, |key| *key) {
-        Ok(handle) => *handle.value() == key,
-        Err(_) => false,
-    })
+fn makes_hundred<C: Cached<u64>>(cache: C) -> bool {
+    for key in 0..100u64 {
+        let made = make_value(cache, key, 1, key, &mut None);
+        if !matches!(&made, Ok(handle) if *C::value_of(handle) == key) {
+            return false;
+        }
+    }
+    true
 }
 
 #[test]

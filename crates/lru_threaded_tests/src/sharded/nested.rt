@@ -3,6 +3,7 @@
 use crate::sharded::shares::in_shards;
 use concurrent_lru::sharded::LruCache;
 use lru_fixtures::makings::value_found;
+use lru_fixtures::threaded::make_value;
 use lru_support::hashers::ByOwnNumber;
 use std::sync::Wait;
 
@@ -25,7 +26,7 @@ fn makes_two_deep<R: Wait>(cache: &Cache<R>) -> u64 {
 }
 
 fn makes_one<R: Wait>(cache: &Cache<R>) -> u64 {
-    match cache.get_or_init(3, 1, |_| 1) {
+    match make_value(cache, 3, 1, 1, &mut None) {
         Ok(handle) => *handle.value(),
         Err(_) => 0,
     }

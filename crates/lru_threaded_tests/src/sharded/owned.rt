@@ -1,8 +1,11 @@
 //! Owned handles of a sharded cache: each keeps the cache alive, and releases its pin in its own
 //! shard.
 
-use concurrent_lru::sharded::{LruCache, OwnedHandle, Refusal};
-use lru_fixtures::owners::{DROPPED_IN_TURN, counts_of_calls, drops_two_handles, fails_once};
+use crate::sharded::shares::in_shards;
+use concurrent_lru::sharded::{LruCache, OwnedHandle};
+use lru_fixtures::owners::{
+    CacheOwner, DROPPED_IN_TURN, counts_of_calls, drops_two_handles, fails_once,
+};
 use lru_support::hashers::ByOwnNumber;
 use std::alloc::Global;
 use std::sync::{Arc, Wait};
@@ -11,9 +14,9 @@ use std::thread;
 type Cache<R> = LruCache<u64, u64, R, ByOwnNumber>;
 
 // Creates a cache of three shards that keeps nothing idle; the key determines its shard.
-fn keeps_nothing<R: Wait + Clone + Drop>(alloc: Global, rt: R) -> Result<Arc<Cache<R>>, Refusal> {
-    let cache = LruCache::with_shards_hasher(alloc, rt, 0, 3, ByOwnNumber)?;
-    Ok(Arc::new(alloc, cache)?)
+fn keeps_nothing<R: Wait + Clone + Drop>(alloc: Global, rt: R) -> Option<Arc<Cache<R>>> {
+    let cache = in_shards(alloc, rt, 0, 3)?;
+    Arc::new(alloc, cache).ok()
 }
 
 #[test]
@@ -26,9 +29,9 @@ fn an_entry_stays_until_its_owned_handles_are_dropped(rt: HostRuntime) {
 #[test]
 fn each_owned_handle_gives_its_pin_back_at_its_own_shard(rt: HostRuntime) {
     let shared = keeps_nothing(rt.alloc(), &rt).expect(&rt, "memory");
-    let zero = LruCache::get_or_init_owned(&shared, &0, 3, |_| 5).expect(&rt, "memory");
-    let one = LruCache::get_or_init_owned(&shared, &1, 3, |_| 6).expect(&rt, "memory");
-    let two = LruCache::get_or_init_owned(&shared, &2, 3, |_| 7).expect(&rt, "memory");
+    let zero = CacheOwner::get_or_init_owned(&shared, 0, 3, 5).expect(&rt, "memory");
+    let one = CacheOwner::get_or_init_owned(&shared, 1, 3, 6).expect(&rt, "memory");
+    let two = CacheOwner::get_or_init_owned(&shared, 2, 3, 7).expect(&rt, "memory");
     drop(one);
     assert_eq!(rt;
         [0, 1, 2].map(|key| shared.contains(&key)),
@@ -55,8 +58,8 @@ fn alone<R: Wait + Clone + Drop>(
     alloc: Global,
     rt: R,
 ) -> Option<OwnedHandle<u64, u64, R, ByOwnNumber>> {
-    let cache = keeps_nothing(alloc, rt).ok()?;
-    LruCache::get_or_init_owned(&cache, &1, 3, |_| 5).ok()
+    let cache = keeps_nothing(alloc, rt)?;
+    CacheOwner::get_or_init_owned(&cache, 1, 3, 5).ok()
 }
 
 #[test]
@@ -83,7 +86,7 @@ fn an_owned_handle_ends_on_another_thread(rt: HostRuntime) {
 #[test]
 fn owners_of_a_value_share_its_handle(rt: HostRuntime) {
     let shared = keeps_nothing(rt.alloc(), &rt).expect(&rt, "memory");
-    let handle = LruCache::get_or_init_owned(&shared, &1, 3, |_| 5).expect(&rt, "memory");
+    let handle = CacheOwner::get_or_init_owned(&shared, 1, 3, 5).expect(&rt, "memory");
     let first = Arc::new(rt.alloc(), handle).expect(&rt, "memory");
     let second = Arc::try_clone(&first).expect(&rt, "memory");
     drop(first);

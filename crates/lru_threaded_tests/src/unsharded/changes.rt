@@ -6,6 +6,7 @@ use lru_fixtures::tables::answers_as_expected;
 use lru_fixtures::threaded::Then::{AtOnce, Keep};
 use lru_fixtures::threaded::ThreadedCall::{Init, LetGo, Total};
 use lru_fixtures::threaded::{Player, ThreadedCall};
+use lru_support::cached::Cached;
 use lru_support::drops::{DropLog, Logged};
 use lru_support::flags::{meets, pause, raise};
 use std::alloc::Global;
@@ -56,11 +57,7 @@ fn a_held_value_outlives_its_capacity(rt: HostRuntime) -> Result<(), Fail> {
 }
 
 // Returns the value of key 1, made as 5 once the capacity has shrunk.
-fn makes_meanwhile<R: Wait>(
-    cache: &LruCache<u64, u64, R>,
-    meeting: &Meeting,
-    shrunk: &AtomicU64,
-) -> Option<u64> {
+fn makes_meanwhile<C: Cached<u64>>(cache: C, meeting: &Meeting, shrunk: &AtomicU64) -> Option<u64> {
     let mut met = false;
     let made = cache.get_or_init(1, 3, |_| {
         raise(&meeting.started);
@@ -68,18 +65,18 @@ fn makes_meanwhile<R: Wait>(
         5
     });
     match made {
-        Ok(handle) if met => Some(*handle.value()),
+        Ok(handle) if met => Some(*C::value_of(&handle)),
         _ => None,
     }
 }
 
 // Sets the capacity to 0 while the first caller makes the value and the second waits, and returns
 // the total then.
-fn shrinks_meanwhile<R: Wait>(
-    cache: &LruCache<u64, u64, R>,
+fn shrinks_meanwhile<C: Cached<u64>>(
+    cache: C,
     meeting: &Meeting,
     shrunk: &AtomicU64,
-) -> Option<u64> {
+) -> Option<u128> {
     if !meets(&meeting.coming) {
         return None;
     }

@@ -3,11 +3,12 @@
 
 use crate::contents::{Contents, charges, make, value_read};
 use crate::unsharded::makings::{MEETINGS, one_fails_and_one_makes};
-use concurrent_lru::unsharded::{Counts, GetError, LruCache};
+use concurrent_lru::unsharded::{Counts, LruCache};
 use lru_fixtures::makings::values_of_two;
 use lru_fixtures::tables::text_of;
-use lru_fixtures::threaded::{make_value, try_make_value};
+use lru_fixtures::threaded::{NoHandle, make_value, try_make_value};
 use lru_fixtures::workers::{EACH_ONCE, lookups_between_resets};
+use lru_support::cached::Cached;
 use std::alloc::Global;
 use std::process::Abort;
 use std::sync::Wait;
@@ -399,15 +400,12 @@ fn a_making_that_is_taken_over_is_counted(rt: HostRuntime) {
 }
 
 // Returns whether each of some calls of one thread succeeded.
-fn works<R: Wait>(cache: &LruCache<u64, u64, R>, seed: u64) -> bool {
+fn works<C: Cached<u64>>(cache: C, seed: u64) -> bool {
     for turn in 0..1_000u64 {
         let key = turn.wrapping_mul(seed.wrapping_add(7)) % 20;
-        let made = cache.get_or_try_init(key, 1, |key| -> Result<u64, u64> {
-            if *key == 13 { Err(*key) } else { Ok(*key) }
-        });
-        match made {
-            Ok(_) => {}
-            Err(GetError::Init(13)) => {}
+        let value = if key == 13 { None } else { Some(key) };
+        match try_make_value(cache, key, 1, value, &mut None) {
+            Ok(_) | Err(NoHandle::Failed(13)) => {}
             Err(_) => return false,
         }
     }

@@ -3,6 +3,7 @@
 use concurrent_lru::fit::Fit;
 use concurrent_lru::unsharded::{CacheHandle, LruCache};
 use lru_fixtures::makings::value_found;
+use lru_fixtures::threaded::make_value;
 use std::hash::Hash;
 use std::sync::{Arc, Wait};
 use std::thread;
@@ -48,7 +49,7 @@ fn threads_share_a_handle_and_hand_it_on(rt: HostRuntime) {
 
 // Makes key 1 with the value 7, and returns whether it succeeded.
 fn makes_one<R: Wait>(cache: &LruCache<u64, u64, R>) -> bool {
-    cache.get_or_init(1, 1, |_| 7).is_ok()
+    make_value(cache, 1, 1, 7, &mut None).is_ok()
 }
 
 #[test]

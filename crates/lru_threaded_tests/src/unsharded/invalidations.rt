@@ -4,10 +4,11 @@ use crate::unsharded::play::plays;
 use concurrent_lru::unsharded::LruCache;
 use lru_fixtures::makings::{Meeting, reads_around, value_found};
 use lru_fixtures::threaded::Then::{AtOnce, Keep};
-use lru_fixtures::threaded::ThreadedCall;
 use lru_fixtures::threaded::ThreadedCall::{
     Get, Init, Insert, Invalidate, LetGo, Prune, Show, Total,
 };
+use lru_fixtures::threaded::{ThreadedCall, make_value};
+use lru_support::cached::Cached;
 use lru_support::flags::{meets, pause, raise};
 use std::sync::Wait;
 use std::{test, thread};
@@ -202,21 +203,14 @@ fn makes_and_takes_back<R: Wait>(cache: &LruCache<u64, u64, R>, meeting: &Meetin
 
 // Returns the value of key 1 for a caller that comes meanwhile, and whether this caller made it, as
 // 6.
-fn comes_meanwhile<R: Wait>(
-    cache: &LruCache<u64, u64, R>,
-    meeting: &Meeting,
-) -> Option<(u64, bool)> {
+fn comes_meanwhile<C: Cached<u64>>(cache: C, meeting: &Meeting) -> Option<(u64, bool)> {
     if !meets(&meeting.started) {
         return None;
     }
     raise(&meeting.coming);
-    let mut ran = false;
-    let made = cache.get_or_init(1, 7, |_| {
-        ran = true;
-        6
-    });
-    match made {
-        Ok(handle) => Some((*handle.value(), ran)),
+    let mut ran = None;
+    match make_value(cache, 1, 7, 6, &mut ran) {
+        Ok(handle) => Some((*C::value_of(&handle), ran.is_some())),
         Err(_) => None,
     }
 }

@@ -2,6 +2,8 @@
 
 use concurrent_lru::unsharded::{GetError, LruCache};
 use lru_fixtures::makings::{Meeting, value_beside_total, values_of_two};
+use lru_fixtures::threaded::{NoHandle, try_make_value};
+use lru_support::cached::Cached;
 use lru_support::flags::{meets, pause, raise};
 use std::alloc::Global;
 use std::sync::Wait;
@@ -17,8 +19,8 @@ fn one_value_for_two_callers(rt: HostRuntime) {
 }
 
 /// Fails to make key 1 once the other caller comes, and returns whether it did.
-fn fails_first<R: Wait>(cache: &LruCache<u64, u64, R>, meeting: &Meeting) -> bool {
-    let made = cache.get_or_try_init(1, 3, |_| -> Result<u64, u8> {
+fn fails_first<C: Cached<u64>>(cache: C, meeting: &Meeting) -> bool {
+    let made = cache.get_or_try_init(1, 3, |_| -> Result<u64, u64> {
         raise(&meeting.started);
         let error = if meets(&meeting.coming) { 9 } else { 8 };
         pause();
@@ -28,13 +30,13 @@ fn fails_first<R: Wait>(cache: &LruCache<u64, u64, R>, meeting: &Meeting) -> boo
 }
 
 /// Returns the value of key 1, which this caller makes as 5 if the other has failed.
-fn takes_over<R: Wait>(cache: &LruCache<u64, u64, R>, meeting: &Meeting) -> Option<u64> {
+fn takes_over<C: Cached<u64>>(cache: C, meeting: &Meeting) -> Option<u64> {
     if !meets(&meeting.started) {
         return None;
     }
     raise(&meeting.coming);
-    match cache.get_or_try_init(1, 7, |_| -> Result<u64, u8> { Ok(5) }) {
-        Ok(handle) => Some(*handle.value()),
+    match try_make_value(cache, 1, 7, Some(5), &mut None) {
+        Ok(handle) => Some(*C::value_of(&handle)),
         Err(_) => None,
     }
 }
@@ -86,8 +88,8 @@ fn another_takes_a_failed_making_over(rt: HostRuntime) {
 
 // Returns the value of key 1, whose `init` asks for key 2, made as 6.
 fn makes_by_another_key<R: Wait>(cache: &LruCache<u64, u64, R>) -> Option<u64> {
-    let made = cache.get_or_try_init(1, 1, |_| -> Result<u64, GetError<u8>> {
-        let inner = cache.get_or_try_init(2, 1, |_| -> Result<u64, u8> { Ok(6) })?;
+    let made = cache.get_or_try_init(1, 1, |_| -> Result<u64, NoHandle> {
+        let inner = try_make_value(cache, 2, 1, Some(6), &mut None)?;
         Ok(*inner.value())
     });
     match made {

@@ -2,6 +2,7 @@
 
 use concurrent_lru::unsharded::LruCache;
 use lru_fixtures::makings::value_found;
+use lru_fixtures::threaded::make_value;
 use std::sync::Wait;
 
 // Key 1, whose `init` makes key 2. A value has a digit more than the one that it was made of.
@@ -21,7 +22,7 @@ fn makes_two_deep<R: Wait>(cache: &LruCache<u64, u64, R>) -> u64 {
 }
 
 fn makes_one<R: Wait>(cache: &LruCache<u64, u64, R>) -> u64 {
-    match cache.get_or_init(3, 1, |_| 1) {
+    match make_value(cache, 3, 1, 1, &mut None) {
         Ok(handle) => *handle.value(),
         Err(_) => 0,
     }

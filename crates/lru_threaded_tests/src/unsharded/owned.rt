@@ -1,7 +1,9 @@
 //! Handles read as their values, and owned ones keep their cache alive.
 
 use concurrent_lru::unsharded::{LruCache, OwnedHandle};
-use lru_fixtures::owners::{DROPPED_IN_TURN, counts_of_calls, drops_two_handles, fails_once};
+use lru_fixtures::owners::{
+    CacheOwner, DROPPED_IN_TURN, counts_of_calls, drops_two_handles, fails_once,
+};
 use std::alloc::Global;
 use std::sync::{Arc, Wait};
 use std::thread;
@@ -35,7 +37,7 @@ fn an_owned_init_may_fail(rt: HostRuntime) {
 // Returns a handle whose cache has no other owner.
 fn alone<R: Wait + Drop>(alloc: Global, rt: R) -> Option<OwnedHandle<u64, u64, R>> {
     let cache = keeps_nothing(alloc, rt)?;
-    LruCache::get_or_init_owned(&cache, &1, 3, |_| 5).ok()
+    CacheOwner::get_or_init_owned(&cache, 1, 3, 5).ok()
 }
 
 #[test]

@@ -3,6 +3,7 @@
 //! If a caller is never woken, a limit ends the test.
 
 use concurrent_lru::unsharded::LruCache;
+use lru_support::cached::Cached;
 use lru_support::flags::{reaches, yield_times};
 use std::alloc::Global;
 use std::process::Abort;
@@ -54,12 +55,7 @@ impl Counts {
 
 // Asks for the value once, and returns whether it got it. The making goes on until all callers have
 // come and some yields are over.
-fn gets<R: Wait>(
-    cache: &LruCache<u64, u64, R>,
-    counts: &Counts,
-    round: Round,
-    yields: u64,
-) -> bool {
+fn gets<C: Cached<u64>>(cache: C, counts: &Counts, round: Round, yields: u64) -> bool {
     let made = cache.get_or_try_init(1, 1, |_| -> Result<u64, u64> {
         let before = counts.ran.fetch_add(1, Ordering::SeqCst);
         let all_came = reaches(&counts.came, round.callers);
@@ -70,11 +66,11 @@ fn gets<R: Wait>(
             Err(before)
         }
     });
-    matches!(&made, Ok(handle) if *handle.value() == 5)
+    matches!(&made, Ok(handle) if *C::value_of(handle) == 5)
 }
 
 // Asks for the value until it gets it.
-fn asks<R: Wait>(cache: &LruCache<u64, u64, R>, counts: &Counts, round: Round, yields: u64) {
+fn asks<C: Cached<u64>>(cache: C, counts: &Counts, round: Round, yields: u64) {
     yield_times(yields);
     counts.came.fetch_add(1, Ordering::SeqCst);
     for _ in 0..round.callers {
