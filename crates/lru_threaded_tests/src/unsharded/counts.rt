@@ -312,11 +312,13 @@ fn counts_are_told_in_one_line(rt: HostRuntime) {
     let (told, anew) = lines_of_counts(rt.alloc(), &cache).expect(&rt, "memory");
     assert_eq!(rt;
         told.as_str(),
-        "hits 1, misses 2, waits 0, refusals 0, makings 2, failures 0, inserted 2 of charge 6, evicted 1 of charge 3, removed 0 of charge 0, before 0 of charge 0"
+        "hits 1, misses 2, waits 0, refusals 0, makings 2, failures 0, \
+         inserted 2 of charge 6, evicted 1 of charge 3, removed 0 of charge 0, before 0 of charge 0"
     );
     assert_eq!(rt;
         anew.as_str(),
-        "hits 0, misses 0, waits 0, refusals 0, makings 0, failures 0, inserted 0 of charge 0, evicted 0 of charge 0, removed 0 of charge 0, before 1 of charge 3"
+        "hits 0, misses 0, waits 0, refusals 0, makings 0, failures 0, \
+         inserted 0 of charge 0, evicted 0 of charge 0, removed 0 of charge 0, before 1 of charge 3"
     );
 }
 
