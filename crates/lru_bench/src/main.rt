@@ -15,6 +15,7 @@ mod plan;
 mod program;
 mod report;
 mod request;
+mod single;
 mod size;
 mod stress;
 mod system;

@@ -6,7 +6,8 @@ use lru_support::words::words;
 use lru_support::writer::Limited;
 use std::test::Fail;
 
-const USAGE: &str = "usage: lru_bench check | time [WORD ..] [read_mostly FILE]\n";
+const USAGE: &str = "usage: lru_bench check | time [WORD ..] [read_mostly FILE] | \
+                     run WORKLOAD ENTRIES CALLS\n";
 
 const WORD: &str =
     "lru_bench: WORD is hit_get, hit_read, hit_init, miss_evict, stress, threads, sizes, \
