@@ -45,13 +45,23 @@ for word in 0 +8 -1 "''" "' 8'" few 10000001 18446744073709551615 "8 0" "8 few" 
     ends 2 "" "lru_bench: WORD is $known, or a number of entries from 1 to 10000000"$'\n' \
         "lru_bench time $word"
 done
-usage="usage: lru_bench check | (plan | time) [WORD ..] [read_mostly FILE]"$'\n'
-for words in "" times "check 8" "read_mostly empty" "time \$'\xff'"; do
+usage="usage: lru_bench check | (plan | time) [WORD ..] [read_mostly FILE] | \
+run WORKLOAD ENTRIES CALLS"$'\n'
+for words in "" times "check 8" "read_mostly empty" "time \$'\xff'" "run hit_get 8" \
+    "run stress 8 1" "run read_mostly 8 1" "run hits 8 1" "run hit_get 0 1" "run hit_get 8 0" \
+    "run hit_get 8 +1" "run hit_get 10000001 1" "run hit_get 8 10000001" "run hit_get 8 1 1"; do
     ends 2 "" "$usage" "lru_bench $words"
 done
 ends 1 "" "$system" "lru_bench time 8 hit_get read_mostly none"
 ends 1 "" "$system" "lru_bench time read_mostly /"
 ends 1 "" "$system" "lru_bench plan > /dev/full"
+
+# the sums of crates/lru_bench/stdout
+for workload in hit_get hit_read hit_init; do
+    ends 0 "351"$'\n' "" "lru_bench run $workload 8 100"
+done
+ends 0 "1000004950"$'\n' "" "lru_bench run miss_evict 100 100"
+ends 1 "" "$system" "lru_bench run hit_get 8 1 > /dev/full"
 
 # What follows takes long where the program was not proved.
 [ -n "${PROGRAMS:-}" ] && return

@@ -33,7 +33,8 @@ impl Failure {
         let told = match self {
             Failure::Usage => writeln!(
                 err,
-                "usage: lru_bench check | (plan | time) [WORD ..] [read_mostly FILE]"
+                "usage: lru_bench check | (plan | time) [WORD ..] [read_mostly FILE] | \
+                 run WORKLOAD ENTRIES CALLS"
             ),
             Failure::Word => writeln!(
                 err,

@@ -16,6 +16,7 @@ mod program;
 mod quotient;
 mod report;
 mod request;
+mod single;
 mod size;
 mod stress;
 mod system;

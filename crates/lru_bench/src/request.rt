@@ -76,8 +76,8 @@ pub fn sizes(alloc: Global, numbers: &[u64]) -> Result<Vec<NonZeroU64>, AllocErr
         .collect(alloc)
 }
 
-// Parses a number of entries within the range. A sign is not a digit, though `parse` accepts one.
-fn number(word: &str) -> Option<NonZeroU64> {
+/// Parses a number from 1 to `MOST_ENTRIES`. A sign is not a digit, though `parse` accepts one.
+pub fn number(word: &str) -> Option<NonZeroU64> {
     if word.starts_with('+') {
         return None;
     }
