@@ -2,18 +2,18 @@
 
 use std::fmt;
 
-/// Returns `numerator / denominator` of `number`, rounded down. The numerator is at most the
-/// denominator, so the result is at most `number`.
+/// Returns `numerator / denominator` of `number`, rounded down. The result saturates at `u64::MAX`,
+/// and a denominator of 0 counts as 1.
 pub fn fraction(number: u64, numerator: u64, denominator: u64) -> u64 {
     let product = u128::from(number).saturating_mul(u128::from(numerator));
-    (product / u128::from(denominator.max(1))) as u64
+    u64::try_from(product / u128::from(denominator.max(1))).unwrap_or(u64::MAX)
 }
 
-/// Returns `numerator / denominator` of `number`, rounded up. The numerator is at most the
-/// denominator, so the result is at most `number`.
+/// Returns `numerator / denominator` of `number`, rounded up. The result saturates at `u64::MAX`,
+/// and a denominator of 0 counts as 1.
 pub fn fraction_ceil(number: u64, numerator: u64, denominator: u64) -> u64 {
     let product = u128::from(number).saturating_mul(u128::from(numerator));
-    product.div_ceil(u128::from(denominator.max(1))) as u64
+    u64::try_from(product.div_ceil(u128::from(denominator.max(1)))).unwrap_or(u64::MAX)
 }
 
 /// A part of a whole, which is shown in percent with two decimals, rounded down.
