@@ -4,7 +4,6 @@ use concurrent_lru::lru_core::Refusal;
 use concurrent_lru::unsharded::{LruCache, OwnedHandle};
 use std::sync::{Arc, Wait};
 use std::test::Fail;
-use std::thread;
 
 /// The rows of a page.
 #[derive(Drop)]
@@ -18,7 +17,7 @@ fn load(number: &u64) -> Page {
 }
 
 /// Reads the rows of a page, which stays in the cache as long as the cursor exists. It borrows
-/// nothing, so it can be stored, returned and sent to another thread.
+/// nothing, so it can be stored and returned.
 #[derive(Drop)]
 struct Cursor<R: Wait + Drop> {
     page: OwnedHandle<u64, Page, R>,
@@ -49,9 +48,8 @@ fn a_cursor_keeps_its_page(rt: HostRuntime) -> Result<(), Fail> {
     assert!(rt; pages.contains(&7));
     assert!(rt; LruCache::get_owned(&pages, &8)?.is_none());
 
-    // The cursor keeps the cache alive too, and may be dropped on another thread.
+    // The cursor keeps the cache alive too.
     drop(pages);
-    let reader = thread::spawn(&rt, move || cursor.next())?;
-    assert_eq!(rt; reader.join(&rt), Some(7));
+    assert_eq!(rt; cursor.next(), Some(7));
     Ok(())
 }
