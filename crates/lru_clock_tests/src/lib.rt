@@ -7,8 +7,6 @@
 #[cfg(test)]
 mod calls;
 #[cfg(test)]
-mod crossings;
-#[cfg(test)]
 mod makings;
 #[cfg(test)]
 mod plain;
