@@ -61,18 +61,12 @@ class Tries:
         return len(self.calls) + self.own + self.unmet + len(self.failed)
 
 
-def built(name, *words, path=os.devnull):
-    """The program, as `rt ci` or `rt run` left it; where it is older than what it may be made of, `rt run` makes it, with these
-    words and this input."""
-    folder = pathlib.Path("crates") / name
-    program = folder / "out" / name
-    sources = max(it.stat().st_mtime for part in ("src", "specs", "proofs") for it in pathlib.Path("crates").glob(f"*/{part}/**/*"))
-    if not program.exists() or program.stat().st_mtime < sources:
-        with open(path, encoding="utf-8") as given:
-            ran = subprocess.run(["rt", "run", "--", *words], cwd=folder, stdin=given, capture_output=True, text=True)
-        if ran.returncode or not program.exists():
-            sys.exit(f"{name} was not built:\n{ran.stdout}{ran.stderr}")
-    return str(program.absolute())
+def built(name):
+    """The path of a program, as tools/built finds or makes it."""
+    ran = subprocess.run(["tools/built", name], stdout=subprocess.PIPE, text=True)
+    if ran.returncode:
+        sys.exit(ran.returncode)
+    return ran.stdout.strip()
 
 
 def library(folder):
@@ -175,13 +169,13 @@ def main():
     words.add_argument("--write", action="store_true", help="keep the table of the calls that were refused")
     asked = words.parse_args()
     os.chdir(HERE.parent.parent)
-    scripted, rows = built("lru_no_memory", "state-hits"), built("lru_rows", "rows")
+    scripted, rows = built("lru_no_memory"), built("lru_rows")
     # the words and the input with which the gate runs it
     sizing, trace = pathlib.Path("crates/lru_size/args").read_text(encoding="utf-8").split(), "crates/lru_size/stdin"
-    size = built("lru_size", *sizing, path=trace)
-    bench, soak = built("lru_bench", "check"), built("lru_soak", "1", "0")
+    size = built("lru_size")
+    bench, soak = built("lru_bench"), built("lru_soak")
     lines, steps = "crates/lru_cat/data/lines", "crates/lru_replay/stdin"
-    cat, replay = built("lru_cat", "data/lines"), built("lru_replay")
+    cat, replay = built("lru_cat"), built("lru_replay")
     _, out, _ = run(scripted, [])
     scripts = re.findall(r"^script (.*)$", out.decode(), re.MULTILINE)
     # the workloads make up to some 400,000 requests: the first ones are refused, and then some far
