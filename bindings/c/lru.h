@@ -266,12 +266,14 @@ lru_code lru_bytes_set_capacity(lru_bytes *cache, uint64_t capacity, lru_bytes_e
  * Allocates. LRU_DONE; LRU_MEMORY; LRU_CLOSED. */
 lru_code lru_bytes_reserve(lru_bytes *cache, size_t entries);
 
-/* The total of the charges of all entries; the capacity; and the number of all entries. Entries
- * whose value is being made and detached entries count.
+/* The total of the charges of all entries; the total of those that are held; the capacity; and the
+ * number of all entries. Entries whose value is being made and detached entries count, and are
+ * held. The pinned charge is 0 if and only if no pin is left to be given back.
  *
  * These do not allocate, and take the same time however many entries there are. LRU_NUMBER with the
  * number as the value; LRU_CLOSED. */
 lru_told lru_bytes_total(lru_bytes *cache);
+lru_told lru_bytes_pinned_charge(lru_bytes *cache);
 lru_told lru_bytes_capacity(lru_bytes *cache);
 lru_told lru_bytes_len(lru_bytes *cache);
 
@@ -331,6 +333,7 @@ lru_code lru_words_prune(lru_words *cache, lru_words_evicted *gone);
 lru_code lru_words_set_capacity(lru_words *cache, uint64_t capacity, lru_words_evicted *gone);
 lru_code lru_words_reserve(lru_words *cache, size_t entries);
 lru_told lru_words_total(lru_words *cache);
+lru_told lru_words_pinned_charge(lru_words *cache);
 lru_told lru_words_capacity(lru_words *cache);
 lru_told lru_words_len(lru_words *cache);
 

@@ -85,6 +85,12 @@ static uint64_t FAMILY(total_of)(FAMILY(stage) *s) {
     return told.value;
 }
 
+static uint64_t FAMILY(pinned_of)(FAMILY(stage) *s) {
+    lru_told told = FAMILY(pinned_charge)(&s->cache);
+    CHECK(told.code, LRU_NUMBER);
+    return told.value;
+}
+
 /* Evicts all idle entries, and returns their number. */
 static size_t FAMILY(prune_all)(FAMILY(stage) *s) {
     s->length = 0;
@@ -227,7 +233,9 @@ static void FAMILY(row_9)(void) {
     FAMILY(open)(&s, 5);
     stamp = FAMILY(hold)(&s, 1, 9);
     CHECK(FAMILY(total_of)(&s), 9);
+    CHECK(FAMILY(pinned_of)(&s), 9);
     CHECK(FAMILY(let_go)(&s, stamp), 1);
+    CHECK(FAMILY(pinned_of)(&s), 0);
     CHECK(FAMILY(finds)(&s, 1, 1), false);
     CHECK(FAMILY(total_of)(&s), 0);
     FAMILY(close)(&s);
@@ -423,14 +431,18 @@ static void FAMILY(invalidates)(void) {
     second = FAMILY(hold)(&s, 2, 4);
     CHECK(second != first, true);
     CHECK(FAMILY(total_of)(&s), 7);
+    CHECK(FAMILY(pinned_of)(&s), 7);
     CHECK(FAMILY(len)(&s.cache).value, 2);
     CHECK(FAMILY(let_go)(&s, first), 0);
+    CHECK(FAMILY(pinned_of)(&s), 7);
     CHECK(FAMILY(let_go)(&s, first), 1);
+    CHECK(FAMILY(pinned_of)(&s), 4);
     EVICTED(&s, 1, 2);
     CHECK(FAMILY(release)(&s.cache, first, &s.gone), LRU_STALE);
     CHECK(FAMILY(let_go)(&s, second), 0);
     CHECK(FAMILY(finds)(&s, 2, 2), true);
     CHECK(FAMILY(total_of)(&s), 4);
+    CHECK(FAMILY(pinned_of)(&s), 0);
     FAMILY(close)(&s);
 }
 
@@ -579,6 +591,7 @@ static void FAMILY(misuse)(void) {
     CHECK(FAMILY(set_capacity)(&closed, 1, &s.gone), LRU_CLOSED);
     CHECK(FAMILY(reserve)(&closed, 1), LRU_CLOSED);
     CHECK(FAMILY(total)(&closed).code, LRU_CLOSED);
+    CHECK(FAMILY(pinned_charge)(&closed).code, LRU_CLOSED);
     CHECK(FAMILY(capacity)(&closed).code, LRU_CLOSED);
     CHECK(FAMILY(len)(&closed).code, LRU_CLOSED);
     CHECK(FAMILY(free)(&closed, &s.gone), LRU_CLOSED);

@@ -24,8 +24,10 @@
 #include <memory>
 #include <mutex>
 #include <new>
+#include <optional>
 #include <stdexcept>
 #include <string_view>
+#include <type_traits>
 #include <utility>
 
 #include "lru_core.hpp"
@@ -164,7 +166,7 @@ class Cache {
 
   // Deletes all values. There must be no handle left, as it would dangle; this is asserted. The
   // destructors of the values must not call this cache.
-  ~Cache() { assert(pins_ == 0 && "lru: a handle outlives its cache"); }
+  ~Cache() { assert(core_.pinned_charge() == 0 && "lru: a handle outlives its cache"); }
 
   Cache(const Cache&) = delete;
   Cache& operator=(const Cache&) = delete;
@@ -175,11 +177,27 @@ class Cache {
   Handle get(Key key) {
     std::unique_lock<std::mutex> lock(mutex_);
     const lru_told told = core_.get(key);
-    if (told.code == LRU_HIT) pins_++;
     lock.unlock();
     if (told.code == LRU_MISSED) return Handle();
     if (told.code != LRU_HIT) detail::throw_refusal(told.code);
     return handle(told);
+  }
+
+  // Calls `reader` with the key's value, and returns what it returned: a std::optional of it, or a
+  // bool if that is void. It is empty, or false, if there is no value or it is still being made.
+  // The value is pinned while `reader` runs, and no lock is held. Does not wait. Throws what `get`
+  // and `reader` throw.
+  template <class Reader>
+  auto read(Key key, Reader&& reader) {
+    using Result = std::decay_t<std::invoke_result_t<Reader, Value&>>;
+    const Handle found = get(key);
+    if constexpr (std::is_void_v<Result>) {
+      if (found) std::invoke(std::forward<Reader>(reader), *found);
+      return static_cast<bool>(found);
+    } else {
+      if (!found) return std::optional<Result>();
+      return std::optional<Result>(std::invoke(std::forward<Reader>(reader), *found));
+    }
   }
 
   // A handle of the key's value. If there is none, `init(key)` makes it.
@@ -216,7 +234,6 @@ class Cache {
     Evicted evicted;
     std::unique_lock<std::mutex> lock(mutex_);
     const lru_told told = core_.insert(key, charge, node.get(), &evicted);
-    if (told.code == LRU_DONE) pins_++;
     lock.unlock();
     if (told.code != LRU_DONE) detail::throw_refusal(told.code);
     return Handle(this, told.stamp, std::addressof(node.release()->value));
@@ -271,6 +288,13 @@ class Cache {
   std::uint64_t total_charge() const {
     const std::lock_guard<std::mutex> lock(mutex_);
     return core_.total();
+  }
+
+  // The total of the charges of the values that have a handle or are being made. It is 0 if and
+  // only if there is none.
+  std::uint64_t pinned_charge() const {
+    const std::lock_guard<std::mutex> lock(mutex_);
+    return core_.pinned_charge();
   }
 
   // The capacity.
@@ -328,7 +352,6 @@ class Cache {
       ended_.wait(lock);
       told = core_.poll(told.stamp);
     }
-    if (told.code == LRU_HIT || told.code == LRU_MAKE) pins_++;
     lock.unlock();
     if (told.code != LRU_HIT && told.code != LRU_MAKE) detail::throw_refusal(told.code);
     return told;
@@ -346,7 +369,6 @@ class Cache {
   void fail(std::uint64_t stamp) noexcept {
     std::unique_lock<std::mutex> lock(mutex_);
     [[maybe_unused]] const lru_code code = core_.fail(stamp);
-    pins_--;
     lock.unlock();
     assert(code == LRU_LEFT || code == LRU_REMOVED);
     ended_.notify_all();
@@ -357,13 +379,11 @@ class Cache {
     const std::lock_guard<std::mutex> lock(mutex_);
     [[maybe_unused]] const lru_code code = core_.release(stamp, &evicted);
     assert(code == LRU_DONE);
-    pins_--;
   }
 
   mutable std::mutex mutex_;
   std::condition_variable ended_;  // notified when a caller has made a value, or has failed
   detail::Core<Node, Key> core_;
-  std::uint64_t pins_ = 0;  // of handles and of values that are being made
 };
 
 // A cache of several shards, each a Cache with its own lock and an equal share of the capacity,
@@ -391,6 +411,10 @@ class ShardedCache {
 
   // As for Cache.
   Handle get(Key key) { return shard(key).get(key); }
+  template <class Reader>
+  auto read(Key key, Reader&& reader) {
+    return shard(key).read(key, std::forward<Reader>(reader));
+  }
   template <class Init>
   Handle get_or_init(Key key, std::uint64_t charge, Init&& init) {
     return shard(key).get_or_init(key, charge, std::forward<Init>(init));
@@ -417,6 +441,12 @@ class ShardedCache {
   // The total of the charges of all values, or 2^64 - 1 if it is more. No snapshot, as `len`.
   std::uint64_t total_charge() const {
     return sum([](const Shard& shard) { return shard.total_charge(); });
+  }
+
+  // The total of the charges of the values that have a handle or are being made, or 2^64 - 1 if it
+  // is more. No snapshot, as `len`.
+  std::uint64_t pinned_charge() const {
+    return sum([](const Shard& shard) { return shard.pinned_charge(); });
   }
 
   // The total of the capacities of all shards, or 2^64 - 1 if it is more. Rounding may make it

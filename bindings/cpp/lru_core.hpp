@@ -56,6 +56,7 @@ struct Calls<std::string_view> {
   static constexpr auto prune = lru_bytes_prune;
   static constexpr auto set_capacity = lru_bytes_set_capacity;
   static constexpr auto total = lru_bytes_total;
+  static constexpr auto pinned_charge = lru_bytes_pinned_charge;
   static constexpr auto capacity = lru_bytes_capacity;
   static constexpr auto len = lru_bytes_len;
   static constexpr auto make_chain = lru_bytes_evicted_new;
@@ -98,6 +99,7 @@ struct Calls<Words> {
   static constexpr auto prune = lru_words_prune;
   static constexpr auto set_capacity = lru_words_set_capacity;
   static constexpr auto total = lru_words_total;
+  static constexpr auto pinned_charge = lru_words_pinned_charge;
   static constexpr auto capacity = lru_words_capacity;
   static constexpr auto len = lru_words_len;
   static constexpr auto make_chain = lru_words_evicted_new;
@@ -222,6 +224,7 @@ class Core {
     take_evicted(evicted);
   }
   std::uint64_t total() const noexcept { return Calls::total(&cache_).value; }
+  std::uint64_t pinned_charge() const noexcept { return Calls::pinned_charge(&cache_).value; }
   std::uint64_t capacity() const noexcept { return Calls::capacity(&cache_).value; }
   std::uint64_t len() const noexcept { return Calls::len(&cache_).value; }
 

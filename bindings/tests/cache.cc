@@ -12,6 +12,7 @@
 #include <functional>
 #include <memory>
 #include <mutex>
+#include <optional>
 #include <set>
 #include <stdexcept>
 #include <string>
@@ -251,6 +252,54 @@ void contains_and_len_look_only() {
   looks_only<lru::Cache<int>, std::string_view>("one", "two", "three");
 }
 
+void read_passes_a_pinned_value() {
+  Numbers cache(2);
+  CHECK(!cache.read(key(1), [](const int&) { return 7; }));
+  cache.insert(key(1), 2, 5);
+  const std::optional<std::uint64_t> pinned = cache.read(key(1), [&](const int& number) {
+    // No lock is held, and the value stays.
+    cache.prune();
+    return cache.pinned_charge() + static_cast<std::uint64_t>(number);
+  });
+  CHECK(pinned == 7u && cache.pinned_charge() == 0);
+  // A void reader, and one that throws: the pin is given back.
+  lru::Cache<std::string> texts(10);
+  const auto append = [](std::string& text) { text += "!"; };
+  CHECK(!texts.read("a", append));
+  texts.insert("a", 3, "one");
+  CHECK(texts.read("a", append));
+  const auto same = [](std::string& text) -> std::string& { return text; };
+  CHECK(*texts.read("a", same) == "one!");
+  bool thrown = false;
+  try {
+    texts.read("a", [](std::string&) -> int { throw std::runtime_error("unread"); });
+  } catch (const std::runtime_error&) {
+    thrown = true;
+  }
+  CHECK(thrown && texts.pinned_charge() == 0 && texts.total_charge() == 3);
+}
+
+void the_pinned_charge_is_that_of_handles_and_makings() {
+  Numbers cache(10);
+  std::uint64_t while_made = 0;
+  auto one = cache.get_or_init(key(1), 3, [&](lru::Words) {
+    while_made = cache.pinned_charge();
+    return 1;
+  });
+  CHECK(while_made == 3 && cache.pinned_charge() == 3);
+  auto again = cache.get(key(1));
+  const auto two = cache.insert(key(2), 4, 2);
+  cache.get_or_init(key(3), 1, returns(3));
+  CHECK(cache.pinned_charge() == 7 && cache.total_charge() == 8);
+  one.reset();
+  CHECK(cache.pinned_charge() == 7);
+  again.reset();
+  CHECK(cache.pinned_charge() == 4 && cache.total_charge() == 8);
+  // An invalidated value is pinned until its last handle is gone.
+  cache.invalidate(key(2));
+  CHECK(cache.pinned_charge() == 4);
+}
+
 // A barrier for two threads.
 class Meeting {
  public:
@@ -417,8 +466,10 @@ void shards_have_equal_shares() {
   cache.set_capacity(2);
   CHECK(cache.capacity() == 2 && cache.total_charge() == 2);
   const Sharded::Handle held = cache.get(key(3));
+  CHECK(cache.pinned_charge() == 1);
   cache.prune();
   CHECK(cache.total_charge() == 1 && *held == 3);
+  CHECK(cache.read(key(3), [](const int& number) { return number + 1; }) == 4);
   lru::ShardedCache<std::string> texts(100);
   for (const char* text : {"one", "two", "three"}) {
     texts.get_or_init(text, 1, [](std::string_view k) { return std::string(k); });
@@ -491,6 +542,8 @@ int main() {
   an_insert_replaces_whatever_is_there();
   an_invalidate_takes_a_value_away();
   contains_and_len_look_only();
+  read_passes_a_pinned_value();
+  the_pinned_charge_is_that_of_handles_and_makings();
   a_making_that_is_invalidated_is_not_waited_for();
   others_wait_for_one_making();
   one_that_waits_takes_a_failed_making_over();
@@ -502,6 +555,6 @@ int main() {
   high_bits_of_a_key_choose_its_shard_too();
   a_handle_that_outlives_its_cache_is_asserted_against();
   values_may_be_move_only_or_neither();
-  std::printf("lru.hpp: 21 tests, %d checks failed\n", failed_checks);
+  std::printf("lru.hpp: 23 tests, %d checks failed\n", failed_checks);
   return failed_checks == 0 ? 0 : 1;
 }

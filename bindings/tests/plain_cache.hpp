@@ -156,6 +156,12 @@ class PlainCache {
     return sum;
   }
 
+  std::uint64_t pinned_charge() const {
+    std::uint64_t sum = 0;
+    for (const auto& [stamp, entry] : entries_) sum += entry.pins > 0 ? entry.charge : 0;
+    return sum;
+  }
+
   std::uint64_t capacity() const { return capacity_; }
 
   std::uint64_t len() const { return entries_.size(); }

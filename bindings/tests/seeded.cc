@@ -277,6 +277,7 @@ class Run {
     const Key key = any_key();
     const std::uint64_t stamp = any_stamp();
     return number(Family::total(&cache_)) == plain_.total() &&
+           number(Family::pinned_charge(&cache_)) == plain_.pinned_charge() &&
            number(Family::capacity(&cache_)) == plain_.capacity() &&
            number(Family::len(&cache_)) == plain_.len() &&
            Family::contains(&cache_, key) == plain_.contains(key) &&

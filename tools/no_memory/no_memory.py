@@ -4,9 +4,10 @@ The program `lru_no_memory` runs scripts of calls, repeats each call that was re
 answer. Each of its scripts is run here with its first request refused, then with its second, and so on, until a run makes
 no further request. A run passes if it prints what it prints with ample memory. A run that ends with status 1 and `refused 1`,
 after printing a beginning of that, met the refusal in a request of the script's own, and passes too. Anything else fails:
-another text, a fault, a run that does not end. The program `lru_rows` is run in the same way, with its rows and with its
-stress workload, of whose requests some are refused, and so is `lru_size`, on its own input; it says `out of memory`. Last, a
-word that names no script must get the usage line and status 2, and a run that cannot write must end with status 1.
+another text, a fault, a run that does not end. Other programs are run in the same way, on the input with which the gate
+runs them: `lru_rows`, with its rows and with its stress workload, `lru_bench`, with its small workloads, `lru_soak`,
+`lru_replay`, `lru_cat` and `lru_size`. Of the requests of long runs, some are refused. Last, a word that names no script must
+get the usage line and status 2, and a run that cannot write must end with status 1.
 
 The file `expected` keeps the table of which calls were refused, by script and number of the request. A call that makes a
 request more or fewer changes the table, such as one that grows a table for which room was to be made; that is a failure.
@@ -33,7 +34,13 @@ EXPECTED = HERE / "expected"
 # which of two threads makes a request, and in which call, is up to the schedule
 UNTOLD = ["unsharded-two-threads"]
 # what a program says where a request of its own is refused, unless it says `refused 1`
-OWN = {"lru_size": "lru_size: out of memory\n"}
+OWN = {
+    "lru_cat": r'lru_cat: (there is no memory|cannot read ".*": (no memory|there is no memory for the block))\n',
+    "lru_replay": r"(line \d+: )?refused 1\n",
+    "lru_size": r"lru_size: out of memory\n",
+}
+# what a program says where nothing is refused, unless that is nothing
+USUAL = {"lru_cat": "4 blocks read, 9 answers from memory\n"}
 # what deny.c writes where it refuses
 MARK = b"this request is refused\n"
 
@@ -54,18 +61,12 @@ class Tries:
         return len(self.calls) + self.own + self.unmet + len(self.failed)
 
 
-def built(name, *words, path=os.devnull):
-    """The program, as `rt ci` or `rt run` left it; where it is older than what it may be made of, `rt run` makes it, with these
-    words and this input."""
-    folder = pathlib.Path("crates") / name
-    program = folder / "out" / name
-    sources = max(it.stat().st_mtime for part in ("src", "specs", "proofs") for it in pathlib.Path("crates").glob(f"*/{part}/**/*"))
-    if not program.exists() or program.stat().st_mtime < sources:
-        with open(path, encoding="utf-8") as given:
-            ran = subprocess.run(["rt", "run", "--", *words], cwd=folder, stdin=given, capture_output=True, text=True)
-        if ran.returncode or not program.exists():
-            sys.exit(f"{name} was not built:\n{ran.stdout}{ran.stderr}")
-    return str(program.absolute())
+def built(name):
+    """The path of a program, as tools/built finds or makes it."""
+    ran = subprocess.run(["tools/built", name], stdout=subprocess.PIPE, text=True)
+    if ran.returncode:
+        sys.exit(ran.returncode)
+    return ran.stdout.strip()
 
 
 def library(folder):
@@ -93,8 +94,9 @@ def try_each(program, words, refuse, numbers=None, path=os.devnull):
     """Refuses each request of the program in turn, or those with these numbers, until a run makes no such request."""
     name = pathlib.Path(program).name
     tries = Tries(" ".join([name, *words]))
+    usual = USUAL.get(name, "")
     status, ample, said = run(program, words, path=path)
-    if status or said or not ample:
+    if status or said.decode() != usual or not ample:
         tries.failed.append(f"with ample memory: status {status}, {said!r}")
         return tries
     for number in numbers or itertools.count(1):
@@ -105,9 +107,9 @@ def try_each(program, words, refuse, numbers=None, path=os.devnull):
         again = re.findall(r"^memory (.*)$", said, re.MULTILINE)
         if status == 0 and out == ample and len(again) == 1:
             tries.calls.append((number, again[0]))
-        elif status == 0 and out == ample and not said:
+        elif status == 0 and out == ample and said == usual:
             tries.unmet += 1
-        elif status == 1 and ample.startswith(out) and said == OWN.get(name, "refused 1\n"):
+        elif status == 1 and ample.startswith(out) and re.fullmatch(OWN.get(name, "refused 1\n"), said):
             tries.own += 1
         else:
             tries.failed.append(f"request {number}: status {status}, {said!r}, and printed\n{out.decode()}")
@@ -167,16 +169,28 @@ def main():
     words.add_argument("--write", action="store_true", help="keep the table of the calls that were refused")
     asked = words.parse_args()
     os.chdir(HERE.parent.parent)
-    scripted, rows = built("lru_no_memory", "state-hits"), built("lru_rows", "rows")
+    scripted, rows = built("lru_no_memory"), built("lru_rows")
     # the words and the input with which the gate runs it
     sizing, trace = pathlib.Path("crates/lru_size/args").read_text(encoding="utf-8").split(), "crates/lru_size/stdin"
-    size = built("lru_size", *sizing, path=trace)
+    size = built("lru_size")
+    bench, soak = built("lru_bench"), built("lru_soak")
+    lines, steps = "crates/lru_cat/data/lines", "crates/lru_replay/stdin"
+    cat, replay = built("lru_cat"), built("lru_replay")
     _, out, _ = run(scripted, [])
     scripts = re.findall(r"^script (.*)$", out.decode(), re.MULTILINE)
-    # the stress workload makes some 400,000 requests: the first ones are refused, and then some
-    # far between
+    # the workloads make up to some 400,000 requests: the first ones are refused, and then some far
+    # between
     some = [*range(1, 21), *(100 * 2**power for power in range(13))]
-    runs = [(rows, ["stress", "1"], some), (rows, ["rows"]), (size, sizing, None, trace), *((scripted, [name]) for name in scripts)]
+    runs = [
+        (rows, ["stress", "1"], some),
+        (rows, ["rows"]),
+        (bench, ["check"], some),
+        (soak, ["1", "0"]),
+        (size, sizing, None, trace),
+        (cat, [lines, "2"]),
+        (replay, [], some, steps),
+        *((scripted, [name]) for name in scripts),
+    ]
     with tempfile.TemporaryDirectory() as folder, concurrent.futures.ThreadPoolExecutor(asked.jobs) as pool:
         refuse = library(folder)
         every = list(pool.map(lambda it: try_each(it[0], it[1], refuse, *it[2:]), runs))
@@ -199,8 +213,8 @@ def main():
     count = lambda field: sum(getattr(it, field) for it in every)
     calls, failed = sum(len(it.calls) for it in every), sum(len(it.failed) for it in every)
     print(
-        f"no memory: {len(scripts)} scripts, the rows, the stress and lru_size, {count('refused')} requests refused: {calls} calls answered "
-        f"Memory and were made again, {count('own')} runs said so and ended with status 1, {count('unmet')} went on without; {failed} failed"
+        f"no memory: {len(scripts)} scripts and {len(every) - len(scripts)} other runs, {count('refused')} requests refused: "
+        f"{calls} calls answered Memory and were made again, {count('own')} runs said so and ended with status 1, {count('unmet')} went on without; {failed} failed"
     )
     return 1 if failed or changed or wrong or quiet or not scripts or not calls else 0
 

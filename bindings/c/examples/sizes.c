@@ -43,6 +43,7 @@ static FILE *pin(const char *path, lru_bytes_evicted *gone, uint64_t *stamp) {
     return kept ? file : NULL;
 }
 
+/* Returns null if the size cannot be found. */
 static void *print_size(void *path) {
     lru_bytes_evicted gone = {0}; /* each thread has its own */
     if (lru_bytes_evicted_new(&gone) != LRU_DONE)
@@ -50,7 +51,8 @@ static void *print_size(void *path) {
     uint64_t stamp;
     FILE *file = pin(path, &gone, &stamp);
     struct stat about;
-    if (file != NULL && fstat(fileno(file), &about) == 0)
+    bool found = file != NULL && fstat(fileno(file), &about) == 0;
+    if (found)
         printf("%lld %s\n", (long long)about.st_size, (const char *)path);
     else
         fprintf(stderr, "sizes: cannot read %s\n", (const char *)path);
@@ -60,20 +62,23 @@ static void *print_size(void *path) {
     pthread_mutex_unlock(&lock);
     close_evicted(&gone);
     lru_bytes_evicted_free(&gone);
-    return NULL;
+    return found ? path : NULL;
 }
 
 int main(int argc, char **argv) {
     pthread_t threads[100];
+    bool all = true;
     lru_bytes_evicted gone = {0};
     if (lru_bytes_new(20, &cache) != LRU_DONE || lru_bytes_evicted_new(&gone) != LRU_DONE)
         return 1;
     for (int i = 0; i < 100 && i < argc - 1; i++)
         if (pthread_create(&threads[i], NULL, print_size, argv[i + 1]) != 0)
             return 1;
-    for (int i = 0; i < 100 && i < argc - 1; i++)
-        pthread_join(threads[i], NULL);
+    for (int i = 0; i < 100 && i < argc - 1; i++) {
+        void *found;
+        all = pthread_join(threads[i], &found) == 0 && found != NULL && all;
+    }
     lru_bytes_free(&cache, &gone); /* hands out all that is left */
     close_evicted(&gone);
-    return lru_bytes_evicted_free(&gone) == LRU_DONE ? 0 : 1;
+    return lru_bytes_evicted_free(&gone) == LRU_DONE && all ? 0 : 1;
 }

@@ -2,6 +2,7 @@
 
 use std::error::Error;
 use std::fmt;
+use std::io;
 
 /// The reason why the cache refused a call. The cache did not change.
 #[derive(Debug, Clone, Copy, PartialEq, Eq, Hash)]
@@ -40,6 +41,26 @@ pub enum GetError<E> {
 impl<E> From<Refusal> for GetError<E> {
     fn from(refusal: Refusal) -> Self {
         GetError::Refused(refusal)
+    }
+}
+
+/// So that `?` passes on the error of an `init` that reads or opens something.
+impl From<GetError<io::Error>> for io::Error {
+    fn from(error: GetError<io::Error>) -> Self {
+        match error {
+            GetError::Init(error) => error,
+            GetError::Refused(refusal) => refusal.into(),
+        }
+    }
+}
+
+impl From<Refusal> for io::Error {
+    fn from(refusal: Refusal) -> Self {
+        match refusal {
+            Refusal::Memory => io::ErrorKind::OutOfMemory.into(),
+            Refusal::Overflow => io::Error::other(refusal),
+            Refusal::ZeroCharge => io::Error::new(io::ErrorKind::InvalidInput, refusal),
+        }
     }
 }
 

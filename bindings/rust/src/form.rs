@@ -87,6 +87,7 @@ pub(crate) mod sealed {
         pub set_capacity:
             unsafe extern "C" fn(cache: *mut Handle, capacity: u64, gone: *mut Handle) -> u32,
         pub total: unsafe extern "C" fn(cache: *mut Handle) -> Told,
+        pub pinned_charge: unsafe extern "C" fn(cache: *mut Handle) -> Told,
         pub capacity: unsafe extern "C" fn(cache: *mut Handle) -> Told,
         pub len: unsafe extern "C" fn(cache: *mut Handle) -> Told,
         pub new_chain: unsafe extern "C" fn(out: *mut Handle) -> u32,
@@ -117,6 +118,8 @@ macro_rules! stamped {
             fn set_capacity(cache: *mut Handle, capacity: u64, gone: *mut Handle) -> u32;
             #[link_name = concat!($prefix, "_total")]
             fn total(cache: *mut Handle) -> Told;
+            #[link_name = concat!($prefix, "_pinned_charge")]
+            fn pinned_charge(cache: *mut Handle) -> Told;
             #[link_name = concat!($prefix, "_capacity")]
             fn capacity(cache: *mut Handle) -> Told;
             #[link_name = concat!($prefix, "_len")]
@@ -138,6 +141,7 @@ macro_rules! stamped {
             prune,
             set_capacity,
             total,
+            pinned_charge,
             capacity,
             len,
             new_chain,

@@ -1,6 +1,9 @@
 //! Keys, and how each is written for the library.
 
 use std::ffi::{OsStr, OsString};
+use std::net::{Ipv4Addr, Ipv6Addr};
+use std::rc::Rc;
+use std::sync::Arc;
 
 pub use crate::form::{Bytes, Form, Words, Written};
 
@@ -11,9 +14,10 @@ pub use crate::form::{Bytes, Form, Words, Written};
 /// from. It is a logic error if they are not: a key may find the value of another key, or none. It
 /// is never undefined behavior.
 ///
-/// Integers, `char`, `bool` and pairs of `u64` are written as words, which are faster to look up.
-/// Strings and slices of bytes are written as bytes, which the cache copies for each entry that it
-/// makes.
+/// Integers, `char`, `bool`, addresses of one IP version and pairs of unsigned integers are written
+/// as words, which are faster to look up. Strings and slices of bytes are written as bytes, which
+/// the cache copies for each entry that it makes. Paths are not keys: equal ones may differ in
+/// their bytes.
 ///
 /// # Examples
 ///
@@ -44,6 +48,22 @@ pub trait Key {
 }
 
 impl<K: Key + ?Sized> Key for &K {
+    type Form = K::Form;
+
+    fn written(&self) -> Written<'_, K::Form> {
+        (**self).written()
+    }
+}
+
+impl<K: Key + ?Sized> Key for Arc<K> {
+    type Form = K::Form;
+
+    fn written(&self) -> Written<'_, K::Form> {
+        (**self).written()
+    }
+}
+
+impl<K: Key + ?Sized> Key for Rc<K> {
     type Form = K::Form;
 
     fn written(&self) -> Written<'_, K::Form> {
@@ -112,6 +132,12 @@ written_as_words! {
     i64: |key| [0, key as u64];
     isize: |key| [0, key as u64];
     i128: |key| (key as u128).written();
+    Ipv4Addr: |key| u32::from(key).written();
+    Ipv6Addr: |key| u128::from(key).written();
+    (u32, u32): |key| [u64::from(key.0), u64::from(key.1)];
+    (u32, u64): |key| [u64::from(key.0), key.1];
+    (u64, u32): |key| [key.0, u64::from(key.1)];
     (u64, u64): |key| [key.0, key.1];
+    (usize, usize): |key| [key.0 as u64, key.1 as u64];
     [u64; 2]: |key| key;
 }

@@ -11,7 +11,8 @@
 //! - [`sharded::LruCache`] has one for each shard.
 //!
 //! It differs from that crate in these points: a key must be one that can be written as bytes or as
-//! two words ([`key::Key`]), and is passed by reference; calls return a [`Refusal`] if the cache
+//! two words ([`key::Key`]), and is passed by reference, so its type has to be named, as in
+//! `LruCache::<String, _>::new(10)`; calls return a [`Refusal`] if the cache
 //! cannot serve them; the capacity can be read and set; and there are `insert` and `invalidate`.
 //!
 //! # Examples

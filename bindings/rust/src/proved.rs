@@ -197,6 +197,13 @@ impl<F: Form, V> Core<F, V> {
         told.value
     }
 
+    /// The total of the charges of the entries that have a pin.
+    pub(crate) fn pinned_charge(&mut self) -> u64 {
+        // SAFETY: the cache was opened for this form, and this core has the only copy.
+        let told = unsafe { (Self::CALLS.pinned_charge)(&mut self.cache) };
+        told.value
+    }
+
     /// The number of entries.
     pub(crate) fn len(&mut self) -> u64 {
         // SAFETY: the cache was opened for this form, and this core has the only copy.

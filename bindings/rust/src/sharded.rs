@@ -94,6 +94,13 @@ impl<K: Key + ?Sized, V, S> LruCache<K, V, S> {
         totals.map(u128::from).sum()
     }
 
+    /// Returns the total of the charges of the values that have a handle or are being made. No
+    /// snapshot, as [`len`](Self::len).
+    pub fn pinned_charge(&self) -> u128 {
+        let charges = self.shards.iter().map(|shard| shard.pinned_charge());
+        charges.map(u128::from).sum()
+    }
+
     /// Returns the total of the capacities of all shards. Rounding may make it more than the
     /// capacity that was set.
     pub fn capacity(&self) -> u128 {
@@ -125,6 +132,20 @@ impl<K: Key + ?Sized, V, S: BuildHasher> LruCache<K, V, S> {
     {
         let found = self.shard(key).get(key)?;
         Ok(found.map(CacheHandle))
+    }
+
+    /// Calls `reader` with the key's value, which is pinned meanwhile, and returns its result, or
+    /// `None` if there is no value or it is still being made. Does not wait.
+    ///
+    /// # Errors
+    ///
+    /// As [`unsharded::LruCache::read`].
+    pub fn read<Q, T>(&self, key: &Q, reader: impl FnOnce(&V) -> T) -> Result<Option<T>, Refusal>
+    where
+        K: Borrow<Q>,
+        Q: Key<Form = K::Form> + Hash + ?Sized,
+    {
+        self.shard(key).read(key, reader)
     }
 
     /// Returns a handle of the key's value. If there is none, `init` makes it, while other callers

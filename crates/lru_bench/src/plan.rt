@@ -7,10 +7,11 @@ use crate::request::{MORE_THREADS, Request, sizes};
 use crate::system::System;
 use crate::workload::{ALL, Workload};
 use std::alloc::Global;
+use std::fmt;
 use std::num::NonZeroU64;
 
 /// What a line ends with.
-#[derive(Clone, Copy, Debug, PartialEq, Eq)]
+#[derive(Clone, Copy)]
 pub enum Shown {
     /// The sum of the values that were read, which is the same on every schedule.
     Sum,
@@ -68,6 +69,33 @@ impl Plan {
     pub fn wants(&self, workload: Workload) -> bool {
         self.workloads.iter().any(|wanted| *wanted == workload)
     }
+}
+
+// What the words after `time` choose, in a line each. The first runs are always of one thread.
+impl fmt::Display for Plan {
+    fn fmt<W: fmt::Write>(&self, f: &mut fmt::Formatter<W>) -> fmt::Result {
+        f.write_str("workloads")?;
+        write_each(f, &self.workloads)?;
+        f.write_str("\nentries")?;
+        write_each(f, &self.entries)?;
+        f.write_str("\nthreads 1")?;
+        write_each(f, &self.threads)?;
+        match &self.mostly {
+            Some(mostly) => write!(f, "\n{} {}", Workload::ReadMostly, mostly.draws),
+            None => Ok(()),
+        }
+    }
+}
+
+// Writes the values, each after a space.
+fn write_each<W: fmt::Write, T: fmt::Display>(
+    f: &mut fmt::Formatter<W>,
+    values: &[T],
+) -> fmt::Result {
+    for value in values {
+        write!(f, " {value}")?;
+    }
+    Ok(())
 }
 
 /// The sizes of the workload of reads that mostly hit.

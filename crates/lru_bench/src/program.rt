@@ -1,10 +1,11 @@
-//! The program, over streams that the caller provides, so that tests run it in memory.
+//! The program, over streams that the caller provides.
 
 use crate::bench;
 use crate::draws::Draws;
 use crate::failure::Failure;
 use crate::plan::{Mostly, Plan};
 use crate::request::Request;
+use crate::single::Single;
 use std::alloc::Global;
 use std::fs::Files;
 use std::io::Write;
@@ -14,19 +15,24 @@ use std::sync::Wait;
 use std::thread;
 use std::thread::Threads;
 
-/// Runs the program on the words after its name and answers the status to end with.
+/// Runs the program on the words after its name and returns the status to end with.
 ///
-/// `check` runs each workload small and writes the sums of the values that it read to `out`, a
-/// line each, which never change: status 0. `time` runs workloads long and writes how many
-/// nanoseconds an operation took, and to `err` how many processors there are: status 0. The words
-/// after it say which workloads, on how many entries, and whether in more threads than one, as
-/// `Request::of_words` reads them; the last two may be `read_mostly` and the path of a file of
-/// keys, for reads that mostly hit, whose hit ratios go to `err`. A word that `time` does not know
-/// is refused by a line on `err`, before anything is run: status 2. Any other words write the
-/// usage line to `err`: status 2. Where a call is refused, `refused` and the refusal's number go
-/// to `err`, and the status is 1. Where a call of the stress workload gets no value, or that of
-/// another key, `stress failed` goes to `err`, and the status is 1. Where the system fails, as at
-/// a write, a line says so on `err`, and the status is 1.
+/// - `check` runs each workload small, and writes a line for each to `out` with the sum of the
+///   values that it read, which never changes. Status 0.
+/// - `time` runs workloads long, and writes how many nanoseconds a call took to `out`, and how many
+///   processors there are to `err`. The words after it say which workloads, on how many entries,
+///   and whether in more threads than one, as `Request::of_words` reads them. The last two may be
+///   `read_mostly` and the path of a file of keys, for reads that mostly hit, whose hit ratios go
+///   to `err`. Status 0, or 2 after a line on `err` if it does not know a word: then nothing runs.
+/// - `plan` writes to `out` what `time` would run with the same words, and runs nothing. Status 0.
+/// - `run`, a workload of hits or misses, a number of entries and a number of calls make these
+///   calls in one thread on a cache of one lock, and write the sum of the values that they read to
+///   `out`. Status 0.
+/// - Any other words write the usage line to `err`. Status 2.
+///
+/// Each failure writes a line to `err` and has status 1: `refused` and the number of the refusal if
+/// a call is refused, `stress failed` if a call of the stress workload returns no value or that of
+/// another key, and a line of its own if the system fails, as at a write.
 pub fn program<R: Threads + Wait + Clock + RandomSource + Files + Sync, O: Write, E: Write>(
     rt: &R,
     alloc: Global,
@@ -56,11 +62,20 @@ fn run<R: Threads + Wait + Clock + RandomSource + Files + Sync, O: Write, E: Wri
             tell_machine(rt, err)?;
             bench::run(rt, alloc, &plan, out, err)
         }
+        [word, asked @ ..] if word.as_str() == "plan" => {
+            writeln!(out, "{}", timed(rt, alloc, asked)?)?;
+            Ok(())
+        }
+        [word, workload, entries, calls] if word.as_str() == "run" => {
+            let single = Single::of_words(workload.as_str(), entries.as_str(), calls.as_str())?;
+            writeln!(out, "{}", single.run(alloc, rt)?)?;
+            Ok(())
+        }
         _ => Err(Failure::Usage),
     }
 }
 
-// What the words after `time` ask for.
+// What the words after `plan` or `time` ask for.
 fn timed<R: Files>(rt: &R, alloc: Global, words: &[String]) -> Result<Plan, Failure> {
     match words {
         [rest @ .., word, path] if word.as_str() == "read_mostly" => {
@@ -79,6 +94,3 @@ fn tell_machine<R: Threads, E: Write>(rt: &R, err: &mut E) -> Result<(), Failure
     }
     Ok(())
 }
-
-#[cfg(test)]
-mod tests;

@@ -76,108 +76,13 @@ pub fn sizes(alloc: Global, numbers: &[u64]) -> Result<Vec<NonZeroU64>, AllocErr
         .collect(alloc)
 }
 
-// Parses a number of entries within the range. A sign is not a digit, though `parse` accepts one.
-fn number(word: &str) -> Option<NonZeroU64> {
+/// Parses a number from 1 to `MOST_ENTRIES`. A sign is not a digit, though `parse` accepts one.
+pub fn number(word: &str) -> Option<NonZeroU64> {
     if word.starts_with('+') {
         return None;
     }
     match word.parse::<u64>() {
         Ok(number) if number <= MOST_ENTRIES => NonZeroU64::new(number),
         _ => None,
-    }
-}
-
-#[cfg(test)]
-mod tests {
-    use super::*;
-    use lru_support::words::words;
-
-    // The numbers of entries that these words ask for.
-    fn entries(alloc: Global, asked: &[&str]) -> Result<Vec<u64>, Failure> {
-        let request = Request::of_words(alloc, &words(alloc, asked)?, false)?;
-        Ok(
-            request
-                .entries
-                .iter()
-                .map(|size| size.get())
-                .collect(alloc)?,
-        )
-    }
-
-    #[test]
-    fn times_the_sizes_it_is_told(rt: HostRuntime) -> Result<(), Failure> {
-        let alloc = rt.alloc();
-        let cases: [(&[&str], &[u64]); 5] = [
-            (&[], &[1_000, 1_000_000]),
-            (&["stress", "threads"], &[1_000, 1_000_000]),
-            (&["8", "hit_get", "3"], &[8, 3]),
-            (&["10000000", "1"], &[10_000_000, 1]),
-            (&["sizes"], &[1_000, 10_000, 100_000, 1_000_000]),
-        ];
-        for (asked, expected) in cases {
-            assert_eq!(rt; entries(alloc, asked)?.as_slice(), expected, "at {asked:?}");
-        }
-        Ok(())
-    }
-
-    #[test]
-    fn times_no_other_sizes(rt: HostRuntime) {
-        for word in [
-            "0",
-            "-1",
-            "+1",
-            " 1",
-            "",
-            "few",
-            "read_mostly",
-            "10000001",
-            "18446744073709551615",
-        ] {
-            assert_eq!(rt;
-                entries(rt.alloc(), &["8", word]).err(),
-                Some(Failure::Word),
-                "at {word}"
-            );
-        }
-    }
-
-    #[test]
-    fn runs_what_it_is_told(rt: HostRuntime) -> Result<(), Failure> {
-        let alloc = rt.alloc();
-        let cases: [(&[&str], bool, &[Workload]); 5] = [
-            (&["8", "threads"], false, &ALL),
-            (&["hit_read", "8"], false, &[Workload::HitRead]),
-            (
-                &["stress", "miss_evict"],
-                true,
-                &[Workload::Stress, Workload::MissEvict],
-            ),
-            (
-                &["hit_get", "hit_init"],
-                false,
-                &[Workload::HitGet, Workload::HitInit],
-            ),
-            (&["8"], true, &[]),
-        ];
-        for (asked, has_mostly, expected) in cases {
-            let request = Request::of_words(alloc, &words(alloc, asked)?, has_mostly)?;
-            assert_eq!(rt; request.workloads.as_slice(), expected, "at {asked:?}");
-        }
-        Ok(())
-    }
-
-    #[test]
-    fn runs_in_more_threads_where_it_is_told(rt: HostRuntime) -> Result<(), Failure> {
-        let alloc = rt.alloc();
-        let cases: [(&[&str], &[u16]); 3] = [
-            (&[], &[]),
-            (&["hit_get", "8"], &[]),
-            (&["hit_get", "threads"], &[2, 4, 8]),
-        ];
-        for (asked, expected) in cases {
-            let request = Request::of_words(alloc, &words(alloc, asked)?, false)?;
-            assert_eq!(rt; request.threads.as_slice(), expected, "at {asked:?}");
-        }
-        Ok(())
     }
 }

@@ -49,24 +49,3 @@ impl fmt::Display for System {
         }
     }
 }
-
-#[cfg(test)]
-mod tests {
-    use super::*;
-    use std::test::Fail;
-
-    #[test]
-    fn sixteen_shards_are_not_told(rt: HostRuntime) -> Result<(), Fail> {
-        let alloc = rt.alloc();
-        let cases = [
-            (System::Shards(16), "port-sharded"),
-            (System::Shards(64), "port-sharded-64"),
-            (System::ReadInShards(16), "port-sharded-read"),
-            (System::ReadInShards(256), "port-sharded-256-read"),
-        ];
-        for (system, name) in cases {
-            assert_eq!(rt; format!(in alloc; "{system}")?.as_str(), name);
-        }
-        Ok(())
-    }
-}

@@ -84,7 +84,7 @@ fn map_of(alloc: Global, entries: u64) -> Result<HashMap<u64, u64>, AllocError> 
 }
 
 // Makes absent keys, for each of which another leaves, in an order that looks random, as the order
-// of the last uses does; and answers the sum of their values.
+// of the last uses does. Returns the sum of their values and of the keys that left.
 fn miss_parts<R: Wait + Drop>(parts: &Parts<R>, size: &Size<'_>) -> Result<u64, Refusal> {
     let mut leaving = Leaving::of(size.entries);
     let mut sum: u64 = 0;

@@ -121,7 +121,7 @@ pub fn ask_all<U: Operation>(operation: &U, draws: &Draws) -> Result<Totals, Ref
     operate(operation, draws.of_worker(0), draws.len())
 }
 
-// Makes the operation on so many keys, or on fewer where the source has no more.
+// Makes the operation on so many keys.
 fn operate<U: Operation, S: Source + Drop>(
     operation: &U,
     mut source: S,
@@ -129,67 +129,7 @@ fn operate<U: Operation, S: Source + Drop>(
 ) -> Result<Totals, Refusal> {
     let mut told = Totals { sum: 0, hits: 0 };
     for _ in 0..count {
-        let Some(key) = source.next_key() else {
-            return Ok(told);
-        };
-        told.add(operation.run(key)?);
+        told.add(operation.run(source.next_key())?);
     }
     Ok(told)
-}
-
-#[cfg(test)]
-mod tests {
-    use super::*;
-    use std::test::Fail;
-
-    // Finds even keys, whose values are the keys, and is refused one key.
-    #[derive(Drop)]
-    struct Even {
-        refused: u64,
-    }
-
-    impl Operation for Even {
-        fn run(&self, key: u64) -> Result<Found, Refusal> {
-            if key == self.refused {
-                return Err(Refusal::Memory);
-            }
-            Ok(Found::of((key % 2 == 0).then_some(key)))
-        }
-    }
-
-    #[test]
-    fn tells_what_all_workers_read(rt: HostRuntime) {
-        let even = Even { refused: 0 };
-        for (threads, sum, hits) in [(1, 20_000_002, 2), (2, 40_000_012, 4), (3, 60_000_030, 6)] {
-            let told = run(&rt, &even, WorkloadKeys::Absent, threads, 4);
-            let told = told.map(|told| (told.sum, told.hits));
-            assert_eq!(rt; told, Ok((sum, hits)), "of {threads} threads");
-        }
-    }
-
-    #[test]
-    fn one_worker_may_have_a_thread_of_its_own(rt: HostRuntime) {
-        let told = share(&rt, &Even { refused: 0 }, WorkloadKeys::Absent, 1, 4);
-        let told = told.map(|told| (told.sum, told.hits));
-        assert_eq!(rt; told, Ok((20_000_002, 2)));
-    }
-
-    #[test]
-    fn each_key_is_asked_for(rt: HostRuntime) -> Result<(), Fail> {
-        let entries = NonZeroU64::new(5).ok_or("5 is not 0")?;
-        let told = fill(&Even { refused: 9 }, entries).map(|told| (told.sum, told.hits));
-        assert_eq!(rt; told, Ok((6, 3)));
-        let draws = Draws::even(rt.alloc(), entries, 0)?;
-        let told = share(&rt, &Even { refused: 9 }, WorkloadKeys::Drawn(&draws), 2, 4);
-        assert_eq!(rt; told.map(|told| told.hits), Ok(0), "of no keys");
-        Ok(())
-    }
-
-    #[test]
-    fn a_refusal_of_one_worker_is_told(rt: HostRuntime) {
-        for (threads, refused) in [(1, 10_000_003), (2, 10_000_007), (3, 10_000_000)] {
-            let told = run(&rt, &Even { refused }, WorkloadKeys::Absent, threads, 4);
-            assert_eq!(rt; told.err(), Some(Refusal::Memory), "in {threads} threads");
-        }
-    }
 }

@@ -3,7 +3,7 @@
 use std::fmt;
 
 /// A kind of operation, and how often it is made.
-#[derive(Clone, Copy, Debug, PartialEq, Eq)]
+#[derive(Clone, Copy, PartialEq, Eq)]
 pub enum Workload {
     /// `get` of present keys.
     HitGet,

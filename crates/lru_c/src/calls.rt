@@ -1,6 +1,6 @@
 //! The calls on a cache behind a handle, which is handed in and handed back, for keys of any type.
 ghost use Rattle.std.specs.Prelude.{◌≡◌, ◌<◌, [], None, IfOk, MatchOption};
-ghost use Rattle.concurrent_lru.specs.Cache.{CopiesAreEqual, count_of, empty_cache, sum_of};
+ghost use Rattle.concurrent_lru.specs.Cache.{CopiesAreEqual, count_of, empty_cache, pinned_of, sum_of};
 ghost use Rattle.concurrent_lru.specs.Request as ask;
 ghost use Rattle.lru_c.specs.Told.{bare};
 ghost use Rattle.lru_c.specs.Calls.{Asks, AsksWithMemory, Frees, Numbers, Reserves};
@@ -137,6 +137,21 @@ pub(crate) fn total<K: Hash + Eq + Clone, R: Drop, H: Handle<To = Cache<K, R>>>(
     match opened(handle) {
         Ok(cache) => {
             let answer = steps::total(&cache.state);
+            (open(cache), answer)
+        }
+        Err(handle) => (handle, LruTold::bare(code::CLOSED)),
+    }
+}
+
+pub(crate) fn pinned_charge<K: Hash + Eq + Clone, R: Drop, H: Handle<To = Cache<K, R>>>(
+    handle: H,
+    _nothing: (),
+) -> (H, LruTold)
+    ensures { Numbers (H.held handle) pinned_of result.1 (H.held result.0) }
+{
+    match opened(handle) {
+        Ok(cache) => {
+            let answer = steps::pinned_charge(&cache.state);
             (open(cache), answer)
         }
         Err(handle) => (handle, LruTold::bare(code::CLOSED)),

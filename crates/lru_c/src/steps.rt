@@ -2,7 +2,7 @@
 //! told.
 ghost use Rattle.std.specs.Prelude.{◌≡◌, ◌<◌, ◌==◌, ◌⊎◌, [], MatchBool};
 ghost use Rattle.std.specs.Arc.{arc_value};
-ghost use Rattle.concurrent_lru.specs.Cache.{count_of, sum_of};
+ghost use Rattle.concurrent_lru.specs.Cache.{count_of, pinned_of, sum_of};
 ghost use Rattle.concurrent_lru.specs.Request as ask;
 ghost use Rattle.lru_c.specs.Codes as codes;
 ghost use Rattle.lru_c.specs.Inserts.{TellsInsert};
@@ -241,6 +241,12 @@ pub(crate) fn total<K: Hash + Eq + Clone>(state: &State<K, u64>) -> LruTold
     ensures { result ≡ told codes.number 0 (sum_of state.now.cache) }
 {
     LruTold::of(code::NUMBER, 0, state.total())
+}
+
+pub(crate) fn pinned_charge<K: Hash + Eq + Clone>(state: &State<K, u64>) -> LruTold
+    ensures { result ≡ told codes.number 0 (pinned_of state.now.cache) }
+{
+    LruTold::of(code::NUMBER, 0, state.pinned_charge())
 }
 
 pub(crate) fn capacity<K: Hash + Eq + Clone>(state: &State<K, u64>) -> LruTold

@@ -1,6 +1,6 @@
 //! Caches whose keys are two words, for C.
 ghost use Rattle.std.specs.Prelude.{◌≡◌, ◌==◌, ⊤, [], false, is_some, true, None, Some, MatchBool, MatchOption};
-ghost use Rattle.concurrent_lru.specs.Cache.{count_of, empty_cache, most_pins_by_default, sum_of};
+ghost use Rattle.concurrent_lru.specs.Cache.{count_of, empty_cache, most_pins_by_default, pinned_of, sum_of};
 ghost use Rattle.concurrent_lru.specs.Request as ask;
 ghost use Rattle.lru_c.specs.Calls.{entries_of, Asks, AsksWithMemory, Frees, Numbers, Reserves};
 ghost use Rattle.lru_c.specs.Chains.{chain_code, entries_in, TellsFirst};
@@ -274,6 +274,14 @@ pub extern "C" fn lru_words_total(cache: &mut LruWords) -> LruTold
     ensures { Numbers cache.old.cache.held sum_of result cache.new.cache.held }
 {
     replace_with(cache, (), calls::total)
+}
+
+/// The sum of the charges of the entries that have a pin.
+#[unsafe(no_mangle)]
+pub extern "C" fn lru_words_pinned_charge(cache: &mut LruWords) -> LruTold
+    ensures { Numbers cache.old.cache.held pinned_of result cache.new.cache.held }
+{
+    replace_with(cache, (), calls::pinned_charge)
 }
 
 /// The total that the cache settles to.

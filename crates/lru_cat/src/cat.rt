@@ -3,6 +3,7 @@
 
 use crate::counted::CountedBlocks;
 use crate::failure::Failure;
+use concurrent_lru::unsharded::GetError;
 use lru_files::{Fault, FileBlocks};
 use lru_pages::PageCache;
 use std::alloc::Global;
@@ -84,12 +85,12 @@ fn print_to_the_end<'a, O: Write>(
         let count = match file.read_at(&mut bytes, offset) {
             Ok(0) => return Ok(Counts { read, found: 0 }),
             Ok(count) => count,
-            Err(error) => return Err(Failure::Read(path, Fault::Read(error))),
+            Err(error) => return Err(Failure::Read(path, GetError::Init(Fault::Read(error)))),
         };
         out.write_all(&bytes[..count])?;
         offset = offset.saturating_add(count as u64);
     }
-    Err(Failure::Overflow)
+    Err(Failure::Read(path, GetError::Overflow))
 }
 
 // Prints a piece of the file.
@@ -101,7 +102,7 @@ fn print<'a, R: Wait, O: Write>(
 ) -> Result<(), Failure<'a>> {
     let page = match pages.page(piece / PIECES) {
         Ok(page) => page,
-        Err(error) => return Err(Failure::of_page(path, error)),
+        Err(error) => return Err(Failure::Read(path, error)),
     };
     let place = (piece % PIECES) as usize;
     if let Some(bytes) = page.value().bytes().chunks(PIECE).nth(place) {

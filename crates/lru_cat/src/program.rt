@@ -1,4 +1,4 @@
-//! The program, over streams that the caller provides, so that tests run it in memory.
+//! The program, over streams that the caller provides.
 
 use crate::cat::cat;
 use crate::failure::Failure;
@@ -60,6 +60,3 @@ fn number<'a>(text: &str) -> Result<u64, Failure<'a>> {
     }
     text.parse().map_err(|_| Failure::Usage)
 }
-
-#[cfg(test)]
-mod tests;

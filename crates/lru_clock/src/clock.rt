@@ -2,7 +2,8 @@
 //!
 //! A hasher chooses the shard of a key. A hit pins its entry by one compare-exchange, and the drop
 //! of its handle is one subtraction. What is not a hit takes the lock of the key's shard.
-ghost use Rattle.std.specs.Prelude.{◌≡◌, ◌≢◌, ◌<◌, Some, None, Ok, Err, IfOk, IfErr, IfSome, vec_len};
+ghost use Rattle.std.specs.Prelude.{◌≡◌, ◌≢◌, ◌<◌, Some, None, Ok, Err, IfOk, IfErr, IfSome};
+ghost use Rattle.std.specs.Prelude.{vec_len};
 ghost use Rattle.std.specs.Fn.{FnOnceReturnsAt, FnOnceTakesAt};
 ghost use Rattle.concurrent_lru.specs.Cache.{CopiesAreEqual};
 ghost use Rattle.concurrent_lru.specs.ThreadedCalls.{IfInit, IsNotInit};
@@ -499,6 +500,16 @@ impl<K: Hash + Eq + Clone + Drop, V: Drop, R: Wait, S: BuildHasher, F: Fit<K, V>
         let mut counts = Counts::default();
         for shard in &self.shards {
             counts = counts.wrapping_add(shard.counts(&self.rt));
+        }
+        counts
+    }
+
+    /// Resets the counts, one shard after another, and returns the sum of what they were. What a
+    /// call adds to the counts is returned by exactly one reset. Takes no memory.
+    pub fn reset_counts(&self) -> Counts {
+        let mut counts = Counts::default();
+        for shard in &self.shards {
+            counts = counts.wrapping_add(shard.reset_counts(&self.rt));
         }
         counts
     }

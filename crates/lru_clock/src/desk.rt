@@ -6,8 +6,8 @@ use crate::seats::Seats;
 use std::alloc::Global;
 use std::fmt;
 
-/// Counts of what calls did under the locks since the cache was created. A count that passes the
-/// maximum of a `u64` starts again at 0.
+/// Counts of what calls did under the locks since the cache was created or the counts were last
+/// reset. A count that passes the maximum of a `u64` starts again at 0.
 ///
 /// Hits are not counted: a count that all threads share would cost each hit what the lock costs.
 #[derive(Clone, Copy, PartialEq, Eq, Debug, Default)]

@@ -15,6 +15,7 @@ mod handle;
 mod index;
 mod makings;
 mod seats;
+mod sent;
 mod shard;
 mod slot;
 mod store;

@@ -1,6 +1,7 @@
 //! What a shard knows under its lock of each of its slots: the charge of the entry there, and where
 //! the index has it.
-ghost use Rattle.std.specs.Prelude.{◌≡◌, ◌<◌, ◌∷◌, ◌++◌, [], List, sum_by, IsTrue, IsFalse, OnOk, OnErr, length};
+ghost use Rattle.std.specs.Prelude.{◌≡◌, ◌<◌, ◌∷◌, ◌++◌, [], List, sum_by};
+ghost use Rattle.std.specs.Prelude.{IsTrue, IsFalse, OnOk, OnErr, length};
 ghost use Rattle.std.proofs.Math.ListN.{set};
 
 use std::alloc::{AllocError, Global};

@@ -6,6 +6,7 @@
 ghost use Rattle.std.specs.Prelude.{◌≡◌, ◌<◌, ◌%◌, IfErr, IfOk, IfSome, IsTrue};
 ghost use Rattle.counted_slot.specs.Counting.{readers, IsTurn};
 
+use crate::sent::Sent;
 use concurrent_lru::fit::Fit;
 use concurrent_lru::sealed::Sealed;
 use concurrent_lru::sharded::Refusal;
@@ -50,7 +51,7 @@ pub struct Slot<K: Eq, V, F: Fit<K, V>> {
 ///
 /// Clauses see the key that was asked for, and the value, which fits that key by the mark `F`.
 pub struct Pin<'a, K: Eq, V, F: Fit<K, V>> {
-    claim: Claim<'a, Option<Kept<K, V, F>>>,
+    claim: Sent<'a, Option<Kept<K, V, F>>>,
     asked: Snapshot<K>,
     shown: Snapshot<V>,
 }
@@ -63,8 +64,8 @@ impl<'a, K: Eq, V, F: Fit<K, V>> Model for Pin<'a, K, V, F> {
 
     ghost view = { λ p. record { key = p.asked.value; value = p.shown.value } };
 
-    ghost invariant = { λ p. (p.claim.right ≡ 1)
-        × IsSomeAnd p.claim.value (λ slot. IsSomeAnd slot (λ kept. kept.value ≡ p.shown.value))
+    ghost invariant = { λ p. IsSomeAnd p.claim (λ slot. IsSomeAnd slot
+        (λ kept. kept.value ≡ p.shown.value))
         × F.fits p.asked.value p.shown.value };
 }
 
@@ -303,7 +304,7 @@ impl<'a, K: Eq, V, F: Fit<K, V>> Pin<'a, K, V, F> {
                     return Err(Refusal::Overflow);
                 }
                 Ok(Some(Pin {
-                    claim,
+                    claim: Sent::of(claim),
                     asked: Snapshot::of(key),
                     shown,
                 }))

@@ -56,7 +56,8 @@ fn a_value_is_made_and_found(rt: HostRuntime) {
         failures: 1,
         ..Counts::default()
     };
-    assert_eq!(rt; cache.counts(), counts);
+    assert_eq!(rt; (cache.counts(), cache.reset_counts()), (counts, counts));
+    assert_eq!(rt; cache.counts(), Counts::default());
     assert_eq!(rt;
         format!(in rt.alloc(); "{cache:?}")
             .expect(&rt, "memory")

@@ -1,5 +1,5 @@
-//! Tests of `lru_clock`: each call once, a seeded run beside a plain cache, a storm of threads, and
-//! callers that make and wait.
+//! Tests of `lru_clock`: each call once, a seeded run beside a plain cache, a storm of threads,
+//! callers that make and wait, and handles that cross threads.
 //!
 //! They are apart from the cache, so that its crate is proved once.
 #![tactic(auto)]

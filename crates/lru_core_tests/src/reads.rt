@@ -4,7 +4,6 @@
 use concurrent_lru::lru_core::{Begun, Evicted, Failed, Refusal, State};
 use std::alloc::{AllocError, Global};
 use std::sync::Arc;
-use std::test::Fail;
 
 // Makes the value of an absent key, ten times the key, and leaves it pinned once. Returns its
 // stamp.
@@ -39,6 +38,11 @@ fn keys_of(alloc: Global, evicted: Evicted<u64, u64>) -> Result<Vec<u64>, AllocE
     Ok(keys)
 }
 
+// Returns the stamp and the value of a key, by `read`.
+fn value_read(state: &mut State<u64, u64>, key: u64) -> Result<Option<(u64, u64)>, Refusal> {
+    state.read(&key, |value| *value)
+}
+
 // The key of a read, and the order in which the three are evicted after it.
 const ORDERS: [(u64, [u64; 3]); 4] = [
     (1, [2, 3, 1]),
@@ -48,97 +52,92 @@ const ORDERS: [(u64, [u64; 3]); 4] = [
 ];
 
 #[test]
-fn a_read_makes_an_idle_entry_the_newest(rt: HostRuntime) -> Result<(), Fail> {
+fn a_read_makes_an_idle_entry_the_newest(rt: HostRuntime) {
     let alloc = rt.alloc();
     for (key, order) in ORDERS {
-        let mut state = three_idle(alloc)?;
-        let _found = state.read(&key, |value| *value)?;
+        let mut state = three_idle(alloc).expect(&rt, "three entries");
+        assert!(rt; value_read(&mut state, key).is_ok());
         assert_eq!(rt; state.total(), 3);
-        let gone = keys_of(alloc, state.prune())?;
+        let gone = keys_of(alloc, state.prune()).expect(&rt, "memory");
         assert_eq!(rt; gone.as_slice(), order.as_slice(), "after a read of {key}");
     }
-    Ok(())
 }
 
 #[test]
-fn reads_that_follow_one_another_order_all(rt: HostRuntime) -> Result<(), Fail> {
+fn reads_that_follow_one_another_order_all(rt: HostRuntime) {
     let alloc = rt.alloc();
-    let mut state = three_idle(alloc)?;
+    let mut state = three_idle(alloc).expect(&rt, "three entries");
     for (key, stamp, value) in [(2, 1, 20), (1, 0, 10), (2, 1, 20), (2, 1, 20)] {
-        assert_eq!(rt; state.read(&key, |value| *value), Ok(Some((stamp, value))));
+        assert_eq!(rt; value_read(&mut state, key), Ok(Some((stamp, value))));
     }
-    let gone = keys_of(alloc, state.set_capacity(1))?;
+    let gone = keys_of(alloc, state.set_capacity(1)).expect(&rt, "memory");
     assert_eq!(rt; gone.as_slice(), [3, 1].as_slice());
-    assert_eq!(rt; state.read(&1, |value| *value), Ok(None));
-    assert_eq!(rt; state.read(&2, |value| *value), Ok(Some((1, 20))));
-    Ok(())
+    assert_eq!(rt; value_read(&mut state, 1), Ok(None));
+    assert_eq!(rt; value_read(&mut state, 2), Ok(Some((1, 20))));
 }
 
 #[test]
-fn a_read_leaves_a_held_entry_as_it_is(rt: HostRuntime) -> Result<(), Fail> {
+fn a_read_leaves_a_held_entry_as_it_is(rt: HostRuntime) {
     let alloc = rt.alloc();
-    let mut state = three_idle(alloc)?;
-    let pinned = state.get(&1)?;
-    assert_eq!(rt; state.read(&1, |value| *value), Ok(Some((0, 10))));
-    assert_eq!(rt;
-        keys_of(alloc, state.prune())?.as_slice(),
-        [2, 3].as_slice()
-    );
+    let mut state = three_idle(alloc).expect(&rt, "three entries");
+    assert!(rt; matches!(state.get(&1), Ok(Some((0, _)))));
+    assert_eq!(rt; value_read(&mut state, 1), Ok(Some((0, 10))));
+    let gone = keys_of(alloc, state.prune()).expect(&rt, "memory");
+    assert_eq!(rt; gone.as_slice(), [2, 3].as_slice());
     assert_eq!(rt;
         state.read(&1, |value| value.wrapping_add(1)),
         Ok(Some((0, 11)))
     );
-    drop(pinned);
-    // The only pin that is left is the get's.
-    let _evicted = state.release(0)?;
+    // The only pin is the get's.
+    assert!(rt; state.release(0).is_ok());
     assert!(rt; matches!(state.release(0), Err(Refusal::Stale)));
-    assert_eq!(rt; keys_of(alloc, state.prune())?.as_slice(), [1].as_slice());
-    Ok(())
+    let gone = keys_of(alloc, state.prune()).expect(&rt, "memory");
+    assert_eq!(rt; gone.as_slice(), [1].as_slice());
 }
 
 #[test]
-fn a_read_finds_ready_values_alone(rt: HostRuntime) -> Result<(), Fail> {
+fn a_read_finds_ready_values_alone(rt: HostRuntime) {
+    let ten = Arc::new(rt.alloc(), 10).expect(&rt, "memory for the value");
     let mut state: State<u64, u64> = State::new(rt.alloc(), 3);
-    assert_eq!(rt; state.read(&1, |value| *value), Ok(None));
-    assert!(rt; matches!(state.begin(&1, 1)?, (Begun::Make(0), _)));
-    assert_eq!(rt; state.read(&1, |value| *value), Ok(None));
+    assert_eq!(rt; value_read(&mut state, 1), Ok(None));
+    assert!(rt; matches!(state.begin(&1, 1), Ok((Begun::Make(0), _))));
+    assert_eq!(rt; value_read(&mut state, 1), Ok(None));
     // Another caller waits when the maker gives up, so the entry stays for it.
-    assert!(rt; matches!(state.begin(&1, 1)?, (Begun::Wait(0), _)));
-    assert!(rt; matches!(state.fail(0)?, Failed::Left));
-    assert_eq!(rt; state.read(&1, |value| *value), Ok(None));
-    assert!(rt; matches!(state.poll(0)?, Begun::Make(0)));
-    assert_eq!(rt; state.read(&1, |value| *value), Ok(None));
-    assert!(rt; state.ready(0, Arc::new(rt.alloc(), 10)?).is_ok());
-    assert_eq!(rt; state.read(&1, |value| *value), Ok(Some((0, 10))));
-    Ok(())
+    assert!(rt; matches!(state.begin(&1, 1), Ok((Begun::Wait(0), _))));
+    assert!(rt; matches!(state.fail(0), Ok(Failed::Left)));
+    assert_eq!(rt; value_read(&mut state, 1), Ok(None));
+    assert!(rt; matches!(state.poll(0), Ok(Begun::Make(0))));
+    assert_eq!(rt; value_read(&mut state, 1), Ok(None));
+    assert!(rt; state.ready(0, ten).is_ok());
+    assert_eq!(rt; value_read(&mut state, 1), Ok(Some((0, 10))));
 }
 
-#[test]
-fn a_reader_is_not_called_where_nothing_is_found(rt: HostRuntime) -> Result<(), Fail> {
-    let mut state: State<u64, u64> = State::with_limits(rt.alloc(), 3, 0, 1);
+// Returns whether a read of key 1 finds a value, and whether its reader was called.
+fn read_and_called(state: &mut State<u64, u64>) -> (Result<bool, Refusal>, bool) {
     let mut called = false;
     let found = state.read(&1, |_| {
         called = true;
-    })?;
-    assert!(rt; found.is_none() && !called);
-    let _stamp = make(rt.alloc(), &mut state, 1)?;
-    let found = state.read(&1, |_| {
-        called = true;
     });
-    assert!(rt; found.is_err() && !called);
-    Ok(())
+    (found.map(|found| found.is_some()), called)
 }
 
 #[test]
-fn a_read_overflows_where_a_get_does(rt: HostRuntime) -> Result<(), Fail> {
+fn a_reader_is_not_called_where_nothing_is_found(rt: HostRuntime) {
+    let mut state: State<u64, u64> = State::with_limits(rt.alloc(), 3, 0, 1);
+    assert_eq!(rt; read_and_called(&mut state), (Ok(false), false));
+    assert!(rt; make(rt.alloc(), &mut state, 1).is_ok());
+    let (found, called) = read_and_called(&mut state);
+    assert!(rt; found.is_err() && !called);
+}
+
+#[test]
+fn a_read_overflows_where_a_get_does(rt: HostRuntime) {
     let mut state: State<u64, u64> = State::with_limits(rt.alloc(), 3, 0, 2);
-    let stamp = make(rt.alloc(), &mut state, 1)?;
-    assert_eq!(rt; state.read(&1, |value| *value), Ok(Some((0, 10))));
-    let pinned = state.get(&1)?;
-    assert!(rt; pinned.is_some());
-    assert_eq!(rt; state.read(&1, |value| *value), Err(Refusal::Overflow));
+    assert_eq!(rt; make(rt.alloc(), &mut state, 1), Ok(0));
+    assert_eq!(rt; value_read(&mut state, 1), Ok(Some((0, 10))));
+    assert!(rt; matches!(state.get(&1), Ok(Some((0, _)))));
+    assert_eq!(rt; value_read(&mut state, 1), Err(Refusal::Overflow));
     assert!(rt; matches!(state.get(&1), Err(Refusal::Overflow)));
-    let _evicted = state.release(stamp)?;
-    assert_eq!(rt; state.read(&1, |value| *value), Ok(Some((0, 10))));
-    Ok(())
+    assert!(rt; state.release(0).is_ok());
+    assert_eq!(rt; value_read(&mut state, 1), Ok(Some((0, 10))));
 }

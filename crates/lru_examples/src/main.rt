@@ -6,6 +6,8 @@ mod blocks;
 #[cfg(test)]
 mod changed;
 #[cfg(test)]
+mod cursor;
+#[cfg(test)]
 mod first;
 #[cfg(test)]
 mod pages;

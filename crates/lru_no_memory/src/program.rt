@@ -73,6 +73,3 @@ fn is_asked(wanted: Option<&str>, name: &str) -> bool {
         None => true,
     }
 }
-
-#[cfg(test)]
-mod tests;

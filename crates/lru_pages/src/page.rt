@@ -34,6 +34,7 @@ impl<'a, B: Blocks> Page<'a, B> {
     pub(crate) fn read(reader: &'a B, number: u64) -> Result<Self, B::Fault>
         ensures reader { IfOk result (λ p. p.reader ≡ reader.now) }
         ensures number { IfOk result (λ p. p.number ≡ number) }
+        ensures block { IfOk result (λ p. B.is_block p.reader number p.bytes) }
         ensures fault { IfErr result (λ e. B.is_fault reader.now number e) }
     {
         let bytes = reader.block(number)?;
@@ -77,14 +78,15 @@ impl<B: Blocks> fmt::Debug for Page<'_, B> {
     }
 }
 
-/// The mark of caches of pages: a page's number is its key.
+/// The mark of caches of pages: a page's number is its key, and its bytes are that block of its
+/// reader.
 #[derive(Drop)]
 pub struct Numbered;
 
 impl<'a, B: Blocks> Fit<u64, Page<'a, B>> for Numbered {
     ghost use Rattle.std.proofs.Common.{rules};
 
-    ghost fits = { λ key page. page.number ≡ key };
+    ghost fits = { λ key page. (page.number ≡ key) × B.is_block page.reader key page.bytes };
 
     ghost equal_keys = { Prim.search rules };
 }

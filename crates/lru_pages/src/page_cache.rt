@@ -46,6 +46,7 @@ impl<'a, B: Blocks, R: Wait> PageCache<'a, B, R> {
         ensures key { IfOk result (λ h. h.key ≡ number) }
         ensures charge { IfOk result (λ h. h.charge ≡ Some 1) }
         ensures number { IfOk result (λ h. h.value.number ≡ number) }
+        ensures block { IfOk result (λ h. B.is_block h.value.reader number h.value.bytes) }
         ensures fault { IfErr result (λ e. IfInit e
             (λ x. B.is_fault self.now.reader.now number x)) }
     {
@@ -67,9 +68,9 @@ impl<'a, B: Blocks, R: Wait> PageCache<'a, B, R> {
     where
         G: FnOnce(&[u8]) -> T + Drop,
         requires callable { (p : PageOf B) → p.number ≡ number
-            → FnOnceTakesAt G.FnOnce visit p.bytes }
+            → B.is_block p.reader number p.bytes → FnOnceTakesAt G.FnOnce visit p.bytes }
         ensures page { IfOk result (λ found. IfSome found (λ t. (p : PageOf B) × (p.number ≡ number)
-            × FnOnceReturnsAt G.FnOnce visit p.bytes t)) }
+            × B.is_block p.reader number p.bytes × FnOnceReturnsAt G.FnOnce visit p.bytes t)) }
         ensures refused { IfErr result (λ e. e ≡ Refusal.Overflow) }
     {
         self.pages.read(

@@ -46,17 +46,17 @@ fn stay_right<R: Wait>(pages: &PageCache<'_, FileBlocks, R>, whole: &[u8]) -> bo
 }
 
 #[test]
-fn four_threads_read_a_file(rt: HostRuntime) -> Result<(), Fail> {
+fn four_threads_read_a_file(rt: HostRuntime) {
     let alloc = rt.alloc();
-    let path = scratch::file(&rt, "lru_pages_tests_four", &bytes(alloc, 63 * 32 + 5)?)?;
-    let whole = fs::read(&rt, path.as_path())?;
-    let reader = FileBlocks::open(alloc, &rt, path.as_path(), 32)?;
+    let whole = bytes(alloc, 63 * 32 + 5).expect(&rt, "memory");
+    let path = scratch::file(&rt, "lru_pages_tests_four", &whole).expect(&rt, "a file");
+    let reader = FileBlocks::open(alloc, &rt, path.as_path(), 32).expect(&rt, "blocks");
     let pages = PageCache::new(alloc, &rt, &reader, 3);
-    let right = thread::map_indices(&rt, alloc, 4, &|_| stay_right(&pages, &whole))?;
+    let right = thread::map_indices(&rt, alloc, 4, &|_| stay_right(&pages, &whole));
+    let right = right.expect(&rt, "four threads");
     assert_eq!(rt; right.as_slice(), [true; 4].as_slice());
     assert!(rt; pages.total_charge() <= 3);
-    fs::remove_file(&rt, path.as_path())?;
-    Ok(())
+    fs::remove_file(&rt, path.as_path()).expect(&rt, "the file is there");
 }
 
 // The answer to a request for a page.
@@ -247,5 +247,23 @@ fn what_is_no_file_is_not_opened(rt: HostRuntime) -> Result<(), Fail> {
         _ => None,
     };
     assert_eq!(rt; missing, Some(ErrorKind::NotFound));
+    Ok(())
+}
+
+#[test]
+fn a_fault_has_a_text(rt: HostRuntime) -> Result<(), Fail> {
+    let faults = [
+        (Fault::PastEnd, "the block is past the end"),
+        (Fault::Memory, "there is no memory for the block"),
+        (Fault::Short, "the file ends before its length"),
+        (
+            Fault::Read(io::Error::from(ErrorKind::TimedOut)),
+            "timed out",
+        ),
+    ];
+    for (fault, text) in faults {
+        let told = format!(in rt.alloc(); "{fault}")?;
+        assert_eq!(rt; told.as_str(), text);
+    }
     Ok(())
 }

@@ -19,6 +19,8 @@ enum Step {
     Lacks(u64),
     // There are this many pages.
     Holds(u64),
+    // The page of the number is invalidated.
+    Invalidate(u64),
     // All pages are evicted.
     Prune,
     // At most this many stay.
@@ -35,6 +37,10 @@ fn goes<R: Wait>(pages: &PageCache<'_, Fours<R>, R>, step: Step) -> bool {
         Step::Hides(number) => shown(pages, number, 0).is_none(),
         Step::Lacks(number) => lacks(pages, number),
         Step::Holds(count) => pages.total_charge() == count,
+        Step::Invalidate(number) => {
+            pages.invalidate(number);
+            true
+        }
         Step::Prune => {
             pages.prune();
             true
@@ -234,6 +240,37 @@ fn pages_that_are_held_pass_the_capacity(rt: HostRuntime) -> Result<(), Fail> {
     assert!(rt; gives(&pages, 3, 3));
     assert!(rt; reader.was_asked([1, 2, 3].as_slice()));
     Ok(())
+}
+
+#[test]
+fn an_invalidated_page_is_read_again(rt: HostRuntime) {
+    let reader = Fours::new(rt.alloc(), &rt, 0);
+    let pages = PageCache::new(rt.alloc(), &rt, &reader, 4);
+    let held = pages.page(2).expect(&rt, "block 2 is there");
+    let steps = [
+        Step::Gives(1, 1),
+        Step::Invalidate(1),
+        Step::Hides(1),
+        Step::Holds(1),
+        Step::Gives(1, 1),
+        // A held page is no longer found, and counts until it is released.
+        Step::Invalidate(2),
+        Step::Hides(2),
+        Step::Holds(2),
+        // A number that has no page changes nothing.
+        Step::Invalidate(7),
+        Step::Shows(1, 1),
+        Step::Holds(2),
+        Step::Gives(2, 2),
+        Step::Holds(3),
+    ];
+    for step in steps {
+        assert!(rt; goes(&pages, step), "at {step:?}");
+    }
+    assert!(rt; held.value().bytes() == [2; 4].as_slice());
+    drop(held);
+    assert!(rt; goes(&pages, Step::Holds(2)));
+    assert!(rt; reader.was_asked([2, 1, 1, 2].as_slice()));
 }
 
 #[test]

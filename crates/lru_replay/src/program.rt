@@ -1,4 +1,4 @@
-//! The program, over streams that the caller provides, so that tests run it in memory.
+//! The program, over streams that the caller provides.
 
 use crate::failure::Failure;
 use crate::lines::Lines;
@@ -46,6 +46,3 @@ fn run<R: Wait + Clone + Drop, I: BufRead + Drop, O: Write>(
         Err(failure) => Err(failure.at_line(lines.number())),
     }
 }
-
-#[cfg(test)]
-mod tests;

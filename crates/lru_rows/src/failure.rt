@@ -3,7 +3,7 @@
 //! Each failure has its line on standard error, and its exit status.
 
 use concurrent_lru::lru_core::Refusal;
-use lru_stress::outcome::Trouble;
+use lru_stress::outcome::RoundFailure;
 use std::alloc::{AllocError, AllocFailed};
 use std::io;
 use std::io::Write;
@@ -15,8 +15,8 @@ pub enum Failure {
     Usage,
     /// A call was refused that no row expects to be, or memory for the program's own data.
     Refused(Refusal),
-    /// A check of the stress workload failed.
-    Stress,
+    /// The stress workload failed.
+    Stress(RoundFailure),
     /// A write failed, with the system's error.
     Write(io::Error),
 }
@@ -28,7 +28,7 @@ impl Failure {
         let told = match self {
             Failure::Usage => writeln!(err, "usage: rows | stress SEED"),
             Failure::Refused(refusal) => writeln!(err, "refused {}", refusal.code()),
-            Failure::Stress => writeln!(err, "stress failed"),
+            Failure::Stress(failure) => writeln!(err, "{failure}"),
             Failure::Write(error) => {
                 writeln!(err, "lru_rows: cannot write standard output: {error}")
             }
@@ -52,71 +52,8 @@ impl From<AllocError> for Failure {
     }
 }
 
-impl From<Trouble> for Failure {
-    fn from(trouble: Trouble) -> Failure {
-        match trouble {
-            Trouble::Refused => Failure::Refused(Refusal::Memory),
-            Trouble::Failed(_) => Failure::Stress,
-        }
-    }
-}
-
 impl From<io::Error> for Failure {
     fn from(error: io::Error) -> Failure {
         Failure::Write(error)
-    }
-}
-
-#[cfg(test)]
-mod tests {
-    use super::*;
-    use lru_stress::outcome::Check;
-    use lru_support::words::failure_of;
-    use std::io::ErrorKind;
-    use std::test::Fail;
-
-    #[test]
-    fn has_a_line_and_a_status(rt: HostRuntime) -> Result<(), Fail> {
-        let cases = [
-            (
-                failure_of(&io::Error::from(ErrorKind::OutOfMemory), Failure::Usage),
-                "refused 1\n",
-                1,
-            ),
-            (Failure::Usage, "usage: rows | stress SEED\n", 2),
-            (Failure::from(AllocError), "refused 1\n", 1),
-            (Failure::from(Refusal::Memory), "refused 1\n", 1),
-            (Failure::from(Refusal::Overflow), "refused 2\n", 1),
-            (Failure::from(Refusal::Stale), "refused 3\n", 1),
-            (
-                Failure::from(io::Error::from(ErrorKind::BrokenPipe)),
-                "lru_rows: cannot write standard output: broken pipe\n",
-                1,
-            ),
-        ];
-        for (failure, line, status) in cases {
-            let mut err = Vec::new(rt.alloc());
-            assert_eq!(rt; failure.report(&mut err), status, "at {line}");
-            assert_eq!(rt; str::from_utf8(&err)?, line, "at {line}");
-        }
-        Ok(())
-    }
-
-    #[test]
-    fn tells_of_a_check_that_failed(rt: HostRuntime) -> Result<(), Fail> {
-        let failure = Failure::from(Trouble::Failed(Check::Answers));
-        let mut err = Vec::new(rt.alloc());
-        assert_eq!(rt; failure.report(&mut err), 1);
-        assert_eq!(rt; str::from_utf8(&err)?, "stress failed\n");
-        Ok(())
-    }
-
-    #[test]
-    fn tells_of_a_refused_stress(rt: HostRuntime) -> Result<(), Fail> {
-        let failure = Failure::from(Trouble::Refused);
-        let mut err = Vec::new(rt.alloc());
-        assert_eq!(rt; failure.report(&mut err), 1);
-        assert_eq!(rt; str::from_utf8(&err)?, "refused 1\n");
-        Ok(())
     }
 }

@@ -6,21 +6,13 @@ mod failure;
 mod program;
 
 use failure::Failure;
-use lru_stress::plan::CALLS;
 use lru_support::words;
 use program::program;
 use std::process::ExitCode;
 
 fn main(rt: HostRuntime) -> ExitCode {
     let status = match words::after_name(&rt, Failure::Usage) {
-        Ok(words) => program(
-            &rt,
-            rt.alloc(),
-            CALLS,
-            &words,
-            &mut rt.stdout(),
-            &mut rt.stderr(),
-        ),
+        Ok(words) => program(&rt, rt.alloc(), &words, &mut rt.stdout(), &mut rt.stderr()),
         Err(failure) => failure.report(&mut rt.stderr()),
     };
     ExitCode::from(status)

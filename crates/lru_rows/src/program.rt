@@ -1,7 +1,8 @@
-//! The program, over streams that the caller provides, so that tests run it in memory.
+//! The program, over streams that the caller provides.
 
 use crate::failure::Failure;
 use lru_fixtures::rows::{ROWS, Row};
+use lru_stress::outcome::RoundFailure;
 use lru_stress::plan::Plan;
 use lru_stress::{run as stress, seed};
 use std::alloc::Global;
@@ -9,24 +10,22 @@ use std::io::Write;
 use std::sync::Wait;
 use std::thread::Threads;
 
-/// Runs the program on the words after its name and answers the status to end with.
+/// Runs the program on its arguments and returns the exit status.
 ///
-/// `rows` writes the worked rows to `out`: status 0. `stress SEED`, where SEED is digits from 0 to
-/// 9 alone and no number past `u64::MAX`, runs the stress workload from this seed, in which each
-/// worker makes `calls` calls, and writes `stress ok` to `out`: status 0. Where a check of it
-/// fails, `stress failed` goes to `err`, and the status is 1. Any other words write the usage line
-/// to `err`: status 2. Where a call is refused that no row asks to be, or a thread can't be
-/// started, `refused` and the refusal's number go to `err`, and the status is 1. Where a write to
-/// `out` fails, a line with the system's error goes to `err`, and the status is 1.
+/// `rows` writes the worked rows to `out`. `stress SEED`, whose seed is a `u64` in decimal digits,
+/// runs the stress workload from this seed, and writes `stress ok` to `out`. The status is 0. Any
+/// other arguments write the usage line to `err`, with status 2. The status is 1, after a line on
+/// `err`, if a check of the stress workload fails (the seed and the check), if a call is refused
+/// that no row expects to be or a thread cannot be started (`refused` and the code of the refusal),
+/// or if a write to `out` fails (the system's error). What was written before stays written.
 pub fn program<R: Threads + Wait + Clone + Drop + Send + Sync, O: Write, E: Write>(
     rt: &R,
     alloc: Global,
-    calls: u32,
     words: &[String],
     out: &mut O,
     err: &mut E,
 ) -> u8 {
-    match run(rt, alloc, calls, words, out) {
+    match run(rt, alloc, words, out) {
         Ok(()) => 0,
         Err(failure) => failure.report(err),
     }
@@ -35,15 +34,12 @@ pub fn program<R: Threads + Wait + Clone + Drop + Send + Sync, O: Write, E: Writ
 fn run<R: Threads + Wait + Clone + Drop + Send + Sync, O: Write>(
     rt: &R,
     alloc: Global,
-    calls: u32,
     words: &[String],
     out: &mut O,
 ) -> Result<(), Failure> {
     match words {
         [word] if word.as_str() == "rows" => write_rows(rt, alloc, out),
-        [word, seed] if word.as_str() == "stress" => {
-            write_stress(rt, alloc, calls, seed.as_str(), out)
-        }
+        [word, seed] if word.as_str() == "stress" => write_stress(rt, alloc, seed.as_str(), out),
         _ => Err(Failure::Usage),
     }
 }
@@ -52,16 +48,15 @@ fn run<R: Threads + Wait + Clone + Drop + Send + Sync, O: Write>(
 fn write_stress<R: Threads + Wait + Clone + Drop + Send + Sync, O: Write>(
     rt: &R,
     alloc: Global,
-    calls: u32,
     word: &str,
     out: &mut O,
 ) -> Result<(), Failure> {
     let Some(seed) = seed::number(word) else {
         return Err(Failure::Usage);
     };
-    let mut plan = Plan::new(seed);
-    plan.calls = calls;
-    stress::run(rt, alloc, &plan)?;
+    if let Err(trouble) = stress::run(rt, alloc, &Plan::new(seed)) {
+        return Err(Failure::Stress(RoundFailure { seed, trouble }));
+    }
     writeln!(out, "stress ok")?;
     Ok(())
 }
@@ -89,6 +84,3 @@ fn write_row<R: Threads + Wait + Sync, O: Write>(
     writeln!(out, "row {number}: {text}")?;
     Ok(())
 }
-
-#[cfg(test)]
-mod tests;

@@ -72,6 +72,11 @@ pub enum Failure {
     },
     /// Standard input could not be read.
     Read(io::Error),
+    /// The file that has the trace could not be opened or read.
+    Trace {
+        path: String,
+        error: io::Error,
+    },
     /// Standard output could not be written.
     Write(io::Error),
     /// A file could not be written.
@@ -87,6 +92,17 @@ impl Failure {
         match error.kind() {
             ErrorKind::OutOfMemory => Failure::OutOfMemory,
             _ => Failure::Read(*error),
+        }
+    }
+
+    /// Converts an error from reading the trace in the file at `path`.
+    pub fn of_trace(self, alloc: Global, path: &str) -> Failure {
+        let Failure::Read(error) = self else {
+            return self;
+        };
+        match String::from_str(alloc, path) {
+            Ok(path) => Failure::Trace { path, error },
+            Err(_) => Failure::OutOfMemory,
         }
     }
 
@@ -139,7 +155,8 @@ impl fmt::Display for Failure {
             ),
             Failure::NoReuse => write!(
                 f,
-                "no key in the sample is used twice, so hits cannot be estimated: choose a smaller N"
+                "no key in the sample is used twice, so hits cannot be estimated: choose a \
+                    smaller N"
             ),
             Failure::Line {
                 line,
@@ -168,6 +185,7 @@ impl fmt::Display for Failure {
                 write!(f, "line {line}: the replay contradicts the curve")
             }
             Failure::Read(error) => write!(f, "cannot read standard input: {error}"),
+            Failure::Trace { path, error } => write!(f, "cannot read {path:?}: {error}"),
             Failure::Write(error) => write!(f, "cannot write standard output: {error}"),
             Failure::File { path, error } => write!(f, "cannot write {path:?}: {error}"),
         }

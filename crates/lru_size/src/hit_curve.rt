@@ -1,6 +1,6 @@
 //! The hits of a trace at every capacity.
 
-use crate::scale::mul_div_ceil;
+use crate::scale::fraction_ceil;
 use lru_sizing::curve::Curve;
 use lru_sizing::estimate::Estimate;
 
@@ -65,7 +65,7 @@ impl HitCurve {
     /// Returns `None` if that would be the capacity 0, at which no use hits: then no use hits at
     /// any capacity, or the curve is estimated from too small a sample to tell.
     pub fn knee(&self, percent: u64) -> Option<u64> {
-        let hits = mul_div_ceil(self.most_hits(), percent, 100);
+        let hits = fraction_ceil(self.most_hits(), percent, 100);
         self.least_capacity(hits).filter(|capacity| *capacity > 0)
     }
 }

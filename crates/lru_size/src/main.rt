@@ -1,7 +1,7 @@
 //! Prints how many uses of a trace hit a cache, at any capacity of the cache.
 //!
-//! The trace is read from standard input, and the arguments are those of `options`. Everything but
-//! the access to the process is done by `program`, so that tests run it in memory.
+//! The arguments are those of `options`. The trace is read from the file that they name, or from
+//! standard input. Everything but the access to the process is done by `program`.
 #![tactic(auto)]
 
 mod csv;

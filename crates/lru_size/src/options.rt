@@ -8,8 +8,8 @@ use std::alloc::{AllocError, Global};
 /// The version of the program, which is that of the whole repository.
 const VERSION: &str = "1.0.0";
 
-/// The path that means standard output.
-const STANDARD_OUTPUT: &str = "-";
+/// The path that means standard input of the trace, and standard output of the results.
+const STANDARD_STREAM: &str = "-";
 
 /// What the arguments ask for.
 #[derive(Drop)]
@@ -23,6 +23,8 @@ pub enum Request<'a> {
 /// The options of a run.
 #[derive(Drop)]
 pub struct Options<'a> {
+    /// The path of the trace, or `None` if it is standard input.
+    pub trace: Option<&'a str>,
     /// The capacities of the table's rows, in order. If empty, evenly spaced capacities are used.
     pub capacities: Vec<u64>,
     /// The path to write the plot to; `-` is standard output. It is not that of the CSV file.
@@ -66,7 +68,7 @@ impl<'a> Request<'a> {
 impl<'a> Options<'a> {
     /// Whether the plot or the CSV file goes to standard output, in place of the table.
     pub fn replace_table(&self) -> bool {
-        self.svg == Some(STANDARD_OUTPUT) || self.csv == Some(STANDARD_OUTPUT)
+        self.svg == Some(STANDARD_STREAM) || self.csv == Some(STANDARD_STREAM)
     }
 
     fn from_matches(alloc: Global, matches: &ArgMatches<'a>) -> Result<Options<'a>, Failure> {
@@ -83,7 +85,9 @@ impl<'a> Options<'a> {
         if svg.is_some() && svg == csv {
             return Err(Failure::OneFile);
         }
+        let trace = matches.get_str("trace");
         Ok(Options {
+            trace: trace.filter(|path| *path != STANDARD_STREAM),
             capacities,
             svg,
             csv,
@@ -96,11 +100,12 @@ impl<'a> Options<'a> {
 fn command<'a>(alloc: Global) -> Result<Command<'a>, AllocError> {
     Command::new(alloc, "lru_size")
         .about(
-            "Reads a trace from standard input, a line KEY [CHARGE] for each use, and prints how \
-            many uses hit at each capacity.",
+            "Reads a trace, a line KEY [CHARGE] for each use, and prints how many uses hit at each \
+            capacity.",
         )
         .version(VERSION)
         .no_binary_name(true)
+        .arg(trace(alloc))?
         .arg(capacities(alloc))?
         .arg(file(
             alloc,
@@ -111,10 +116,18 @@ fn command<'a>(alloc: Global) -> Result<Command<'a>, AllocError> {
         .arg(file(
             alloc,
             "csv",
-            "Write the curve to FILE as CSV; if FILE is -, to standard output, instead of the table",
+            "Write the curve to FILE as CSV; if FILE is -, to standard output, instead of the \
+                table",
         ))?
         .arg(check(alloc))?
         .arg(sample(alloc)?)
+}
+
+fn trace<'a>(alloc: Global) -> Arg<'a> {
+    Arg::new(alloc, "trace")
+        .value_name("TRACE")
+        .help("The file that has the trace; if it is - or left out, standard input")
+        .action(ArgAction::Set)
 }
 
 fn capacities<'a>(alloc: Global) -> Arg<'a> {

@@ -2,7 +2,7 @@
 //! Lengths are in tenths of a pixel, so that they are integers.
 
 use crate::hit_curve::HitCurve;
-use crate::scale::{Percentage, mul_div, round_step};
+use crate::scale::{Percentage, digits, fraction, round_step};
 use crate::table::KNEES;
 use std::io;
 use std::io::Write;
@@ -10,7 +10,7 @@ use std::io::Write;
 // The edges of the area between the axes.
 const LEFT: u64 = 800;
 
-const RIGHT: u64 = 6_300;
+const RIGHT: u64 = 7_700;
 
 const TOP: u64 = 700;
 
@@ -20,8 +20,17 @@ const WIDTH: u64 = RIGHT - LEFT;
 
 const HEIGHT: u64 = BOTTOM - TOP;
 
+// Where labels end at the latest.
+const EDGE: u64 = 7_960;
+
+// At least the width of a character of a label, in any common font.
+const CHARACTER: u64 = 85;
+
+// The least space between two labels of the x axis.
+const GAP: u64 = 150;
+
 // The number of points of the curve, one for each pixel of its width.
-const POINTS: u64 = 550;
+const POINTS: u64 = 690;
 
 // The number of rows of the grid.
 const GRID_ROWS: u64 = 5;
@@ -89,7 +98,7 @@ impl<'a> Plot<'a> {
     // The x coordinate of a capacity.
     fn x(&self, capacity: u64) -> u64 {
         let capacity = capacity.min(self.max_capacity);
-        LEFT.saturating_add(mul_div(capacity, WIDTH, self.max_capacity))
+        LEFT.saturating_add(fraction(WIDTH, capacity, self.max_capacity))
     }
 
     // The y coordinate of a number of hits. The y axis points down.
@@ -120,27 +129,32 @@ impl<'a> Plot<'a> {
     // The lines of the grid, each with its hit ratio.
     fn write_grid<O: Write>(&self, out: &mut O) -> io::Result<()> {
         for line in 0..=GRID_ROWS {
-            let y = BOTTOM.saturating_sub(mul_div(HEIGHT, line, GRID_ROWS));
+            let y = BOTTOM.saturating_sub(fraction(HEIGHT, line, GRID_ROWS));
             writeln!(
                 out,
                 "<path class='grid' d='M{LEFT} {y}H{RIGHT}'/>\
                 <text class='text' x='720' y='{}' text-anchor='end'>{}%</text>",
                 y.saturating_add(45),
-                mul_div(self.max_percent, line, GRID_ROWS)
+                fraction(self.max_percent, line, GRID_ROWS)
             )?;
         }
         Ok(())
     }
 
-    // The two axes, and a tick at each round capacity.
+    // The two axes, a tick at the greatest capacity, and one at each round capacity whose label has
+    // room beside the others.
     fn write_axes<O: Write>(&self, out: &mut O) -> io::Result<()> {
+        let last = self.tick(self.max_capacity);
         let step = round_step(self.max_capacity);
+        let mut free = 0;
         for number in 0..=6u64 {
-            let capacity = step.saturating_mul(number);
-            if capacity <= self.max_capacity {
-                self.write_tick(capacity, out)?;
+            let tick = self.tick(step.saturating_mul(number));
+            if free <= tick.start() && tick.end().saturating_add(GAP) <= last.start() {
+                tick.write(out)?;
+                free = tick.end().saturating_add(GAP);
             }
         }
+        last.write(out)?;
         writeln!(
             out,
             "<path class='axis' d='M{LEFT} {TOP}V{BOTTOM}H{RIGHT}'/>\
@@ -148,13 +162,15 @@ impl<'a> Plot<'a> {
         )
     }
 
-    fn write_tick<O: Write>(&self, capacity: u64, out: &mut O) -> io::Result<()> {
+    fn tick(&self, capacity: u64) -> Tick {
+        let half = digits(capacity).saturating_mul(CHARACTER) / 2;
         let x = self.x(capacity);
-        writeln!(
-            out,
-            "<path class='axis' d='M{x} {BOTTOM}v60'/>\
-                <text class='text' x='{x}' y='3960' text-anchor='middle'>{capacity}</text>"
-        )
+        Tick {
+            capacity,
+            x,
+            center: x.min(EDGE.saturating_sub(half)),
+            half,
+        }
     }
 
     // The curve, a step at each point where more uses hit than at the one before.
@@ -162,7 +178,7 @@ impl<'a> Plot<'a> {
         let mut previous = self.y(self.curve.hits(0));
         write!(out, "<path class='curve' d='M{LEFT} {previous}")?;
         for point in 1..=POINTS {
-            let capacity = mul_div(self.max_capacity, point, POINTS);
+            let capacity = fraction(self.max_capacity, point, POINTS);
             let y = self.y(self.curve.hits(capacity));
             if y != previous {
                 write!(out, "H{}V{y}", self.x(capacity))?;
@@ -198,9 +214,19 @@ impl<'a> Plot<'a> {
             part: hits,
             whole: self.curve.uses(),
         };
+        // The capacity, and at most 9 characters of punctuation and percentage.
+        let width = digits(capacity).saturating_add(9).saturating_mul(CHARACTER);
         let (x, y, anchor) = match side {
-            Side::Below => (x.saturating_add(80), y.saturating_add(150), "start"),
-            Side::Above => (x.saturating_sub(60), y.saturating_sub(70), "end"),
+            Side::Below => (
+                x.saturating_add(80).min(EDGE.saturating_sub(width)),
+                y.saturating_add(150),
+                "start",
+            ),
+            Side::Above => (
+                x.saturating_sub(60).max(LEFT.saturating_add(width)),
+                y.saturating_sub(70),
+                "end",
+            ),
         };
         writeln!(
             out,
@@ -209,7 +235,45 @@ impl<'a> Plot<'a> {
     }
 }
 
-// The side of the curve that a label is on: below it and to the right, or above it and to the left.
+// A mark on the x axis, with its capacity below it. The label is left of the mark where it would
+// not fit on the image otherwise.
+#[derive(Clone, Copy)]
+struct Tick {
+    capacity: u64,
+    x: u64,
+    // The middle of the label, and half of its width.
+    center: u64,
+    half: u64,
+}
+
+impl Tick {
+    // The left edge of the label.
+    fn start(&self) -> u64 {
+        self.center.saturating_sub(self.half)
+    }
+
+    // The right edge of the label.
+    fn end(&self) -> u64 {
+        self.center.saturating_add(self.half)
+    }
+
+    fn write<O: Write>(&self, out: &mut O) -> io::Result<()> {
+        let Tick {
+            capacity,
+            x,
+            center,
+            ..
+        } = self;
+        writeln!(
+            out,
+            "<path class='axis' d='M{x} {BOTTOM}v60'/>\
+                <text class='text' x='{center}' y='3960' text-anchor='middle'>{capacity}</text>"
+        )
+    }
+}
+
+// The side of the curve that a label is on: below it and to the right, or above it and to the left,
+// as far as the image has room.
 #[derive(Clone, Copy)]
 enum Side {
     Below,

@@ -17,12 +17,12 @@ use lru_sizing::replay::replay;
 use lru_sizing::reuse_weights::reuse_weights;
 use std::alloc::Global;
 use std::fs::{self, File, Files};
-use std::io::{BufRead, Write};
+use std::io::{BufRead, BufReader, Write};
 
 /// The streams of a run.
 #[derive(Drop)]
 pub struct Streams<'a, I, O, E> {
-    /// The trace.
+    /// The trace, unless the arguments name a file that has it.
     pub input: I,
     /// Where the results go.
     pub out: &'a mut O,
@@ -41,7 +41,8 @@ pub struct Streams<'a, I, O, E> {
 /// a line of it is not a use, if a key has two charges, or if the sample is too small. It is 1 if
 /// reading or writing fails, if memory runs out, if the charges of the keys add up to more than
 /// `u64::MAX`, or if a replay contradicts the curve. On failure, a message that starts with the
-/// program's name goes to `err`, and nothing to `out` except what was written before a write failed.
+/// program's name goes to `err`, and nothing to `out` except what was written before a write
+/// failed.
 pub fn program<F: Files<File = File>, I: BufRead + Drop, O: Write, E: Write>(
     alloc: Global,
     files: &F,
@@ -73,8 +74,7 @@ fn run<F: Files<File = File>, I: BufRead + Drop, O: Write, E: Write>(
     match Request::parse(alloc, args)? {
         Request::Text(text) => out.write_all(text.as_bytes())?,
         Request::Size(options) => {
-            let sample = Sample::one_in(options.sample.unwrap_or(1));
-            let trace = Trace::read(alloc, sample, &mut Lines::new(alloc, input), progress)?;
+            let trace = read(alloc, files, &options, input, progress)?;
             let mut table = Vec::new(alloc);
             let curve = size(alloc, &options, &trace, &mut table)?;
             write_table(alloc, &curve, &options.capacities, &mut table)?;
@@ -89,8 +89,27 @@ fn run<F: Files<File = File>, I: BufRead + Drop, O: Write, E: Write>(
     Ok(())
 }
 
-// Writes the lines about the trace to `out`, and computes the curve. Fails with `NoUses` if the trace
-// is empty.
+// Reads the trace from the file that the options name, or else from `input`.
+fn read<F: Files<File = File>, I: BufRead + Drop, E: Write>(
+    alloc: Global,
+    files: &F,
+    options: &Options<'_>,
+    input: I,
+    progress: &mut Progress<'_, E>,
+) -> Result<Trace, Failure> {
+    let sample = Sample::one_in(options.sample.unwrap_or(1));
+    let Some(path) = options.trace else {
+        return Trace::read(alloc, sample, &mut Lines::new(alloc, input), progress);
+    };
+    let read = File::open(files, path)
+        .map_err(Failure::Read)
+        .and_then(|file| Ok(Lines::new(alloc, BufReader::new(alloc, file)?)))
+        .and_then(|mut lines| Trace::read(alloc, sample, &mut lines, progress));
+    read.map_err(|failure| failure.of_trace(alloc, path))
+}
+
+// Writes the lines about the trace to `out`, and computes the curve. Fails with `NoUses` if the
+// trace is empty.
 fn size<O: Write>(
     alloc: Global,
     options: &Options<'_>,
@@ -198,6 +217,3 @@ fn write_file<F: Files<File = File>, O: Write>(
         Err(error) => Err(Failure::from_file_error(alloc, path, error)),
     }
 }
-
-#[cfg(test)]
-mod tests;

@@ -27,25 +27,3 @@ impl<'a, E: Write> Progress<'a, E> {
         }
     }
 }
-
-#[cfg(test)]
-mod tests {
-    use super::*;
-    use std::test::Fail;
-
-    #[test]
-    fn is_shown_now_and_then(rt: HostRuntime) -> Result<(), Fail> {
-        for (is_shown, wanted) in [
-            (false, ""),
-            (true, "1048576 lines read\r2097152 lines read\r"),
-        ] {
-            let mut terminal = Vec::new(rt.alloc());
-            let mut progress = Progress::new(&mut terminal, is_shown);
-            for lines in [1, 1_048_575, 1_048_576, 1_048_577, 2_097_152] {
-                progress.update(lines);
-            }
-            assert_eq!(rt; str::from_utf8(&terminal)?, wanted);
-        }
-        Ok(())
-    }
-}

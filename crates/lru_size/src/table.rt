@@ -2,7 +2,7 @@
 
 use crate::failure::Failure;
 use crate::hit_curve::HitCurve;
-use crate::scale::{Percentage, mul_div};
+use crate::scale::{Percentage, fraction};
 use std::alloc::{AllocError, Global};
 use std::io;
 use std::io::Write;
@@ -46,7 +46,7 @@ pub fn evenly_spaced(alloc: Global, curve: &HitCurve, count: u64) -> Result<Vec<
     let mut capacities = Vec::new(alloc);
     let mut previous = 0;
     for part in 1..=count {
-        let capacity = mul_div(full, part, count);
+        let capacity = fraction(full, part, count);
         if capacity != previous {
             capacities.push(capacity)?;
             previous = capacity;

@@ -14,6 +14,9 @@ const KEYS: u64 = 10_000;
 
 const USES: u32 = 50_000;
 
+// An estimate from all keys is exact after any number of uses.
+const FEW_USES: u32 = 10_000;
+
 // Returns for each key how often it and those before it are used, out of the last of these numbers.
 fn shares(alloc: Global) -> Result<Vec<u64>, AllocError> {
     let mut sum = 0u64;
@@ -25,13 +28,13 @@ fn shares(alloc: Global) -> Result<Vec<u64>, AllocError> {
     Ok(shares)
 }
 
-// Returns a trace by Zipf's law. A key has a charge from 1 to 4.
-fn zipf(alloc: Global, seed: u64) -> Result<Vec<(u64, u64)>, AllocError> {
+// Returns this many uses by Zipf's law. A key has a charge from 1 to 4.
+fn zipf(alloc: Global, seed: u64, uses: u32) -> Result<Vec<(u64, u64)>, AllocError> {
     let shares = shares(alloc)?;
     let all = shares.last().copied().unwrap_or(1).max(1);
     let mut generator = Xoshiro256PlusPlus::seed_from_u64(seed);
     let mut trace = Vec::new(alloc);
-    for _ in 0..USES {
+    for _ in 0..uses {
         let drawn = generator.next_u64() % all;
         let key = shares.partition_point(|share| *share <= drawn) as u64;
         trace.push((key, 1 + key % 4))?;
@@ -73,7 +76,7 @@ fn errors(alloc: Global, trace: &[(u64, u64)], one_in: u64) -> Result<(u64, u64)
             .hits(capacity)
             .abs_diff(exact)
             .saturating_mul(10_000)
-            / u64::from(USES);
+            / (trace.len() as u64).max(1);
         sum = sum.saturating_add(wrong);
         most = most.max(wrong);
     }
@@ -83,7 +86,7 @@ fn errors(alloc: Global, trace: &[(u64, u64)], one_in: u64) -> Result<(u64, u64)
 #[test]
 fn are_near_the_exact_curve(rt: HostRuntime) -> Result<(), Fail> {
     for seed in 1..=3 {
-        let trace = zipf(rt.alloc(), seed)?;
+        let trace = zipf(rt.alloc(), seed, USES)?;
         let (mean, most) = errors(rt.alloc(), &trace, 10).map_err(|_| "refused")?;
         assert!(rt;
             mean <= 100 && most <= 200,
@@ -95,7 +98,7 @@ fn are_near_the_exact_curve(rt: HostRuntime) -> Result<(), Fail> {
 
 #[test]
 fn are_exact_where_all_keys_are_sampled(rt: HostRuntime) -> Result<(), Fail> {
-    let trace = zipf(rt.alloc(), 4)?;
+    let trace = zipf(rt.alloc(), 4, FEW_USES)?;
     assert_eq!(rt; errors(rt.alloc(), &trace, 1), Ok((0, 0)));
     Ok(())
 }

@@ -53,6 +53,3 @@ fn parse(words: &[String]) -> Option<(u64, Duration)> {
     let minutes = seed::number(minutes.as_str())?;
     Some((seed, Duration::from_secs(minutes.saturating_mul(60))))
 }
-
-#[cfg(test)]
-mod tests;

@@ -1,7 +1,7 @@
 //! Rounds of the stress workload, one seed after another.
 
 use crate::failure::Failure;
-use lru_stress::outcome::Counts;
+use lru_stress::outcome::{Counts, RoundFailure};
 use lru_stress::plan::Plan;
 use lru_stress::run;
 use std::alloc::Global;
@@ -47,7 +47,7 @@ fn round<R: Threads + Wait + Clone + Drop + Send + Sync, O: Write>(
     plan.looks = true;
     match run::run(rt, alloc, &plan) {
         Ok(counts) => tell(seed, &counts, out),
-        Err(trouble) => Err(Failure::of_round(seed, trouble)),
+        Err(trouble) => Err(Failure::Round(RoundFailure { seed, trouble })),
     }
 }
 
@@ -59,6 +59,3 @@ fn tell<O: Write>(seed: u64, counts: &Counts, out: &mut O) -> Result<(), Failure
     )?;
     Ok(())
 }
-
-#[cfg(test)]
-mod tests;

@@ -97,6 +97,25 @@ impl Trouble {
     }
 }
 
+/// Why the run of a seed failed.
+#[derive(Clone, Copy, Debug, PartialEq, Eq)]
+pub struct RoundFailure {
+    /// The seed of the run.
+    pub seed: u64,
+    /// Why it failed.
+    pub trouble: Trouble,
+}
+
+// A refusal depends on the system and not on the seed.
+impl fmt::Display for RoundFailure {
+    fn fmt<W: fmt::Write>(&self, f: &mut fmt::Formatter<W>) -> fmt::Result {
+        match self.trouble {
+            Trouble::Refused => f.write_str("refused 1"),
+            Trouble::Failed(check) => write!(f, "seed {} failed: {check}", self.seed),
+        }
+    }
+}
+
 impl From<Refusal> for Trouble {
     fn from(refusal: Refusal) -> Trouble {
         match refusal {

@@ -1,6 +1,6 @@
 //! What tests and programs share: one trait for the caches that threads share, flags, values that
 //! note their drops, hashers with known numbers, the calls of workers, the words of a command line,
-//! the lines of an input, a reader and a writer that fail, and what a run over memory wrote.
+//! and the lines of an input.
 #![tactic(auto)]
 
 pub mod cached;
@@ -9,7 +9,4 @@ pub mod drops;
 pub mod flags;
 pub mod hashers;
 pub mod lines;
-pub mod output;
-pub mod reader;
 pub mod words;
-pub mod writer;

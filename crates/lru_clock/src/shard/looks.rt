@@ -210,4 +210,12 @@ impl<K: Hash + Eq + Clone + Drop, V: Drop, F: Fit<K, V>> Shard<K, V, F> {
     pub fn counts<R: Wait>(&self, rt: &R) -> Counts {
         self.lock(rt).counts
     }
+
+    /// Resets the counts, and returns what they were.
+    pub fn reset_counts<R: Wait>(&self, rt: &R) -> Counts {
+        let mut guard = self.lock(rt);
+        let counts = guard.counts;
+        guard.counts = Counts::default();
+        counts
+    }
 }

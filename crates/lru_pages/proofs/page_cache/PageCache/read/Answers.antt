@@ -6,7 +6,7 @@ use Rattle.lru_pages.proofs.page_cache.PageCache.read.Goals as goal
 
 pub read-requires : goal.read-requires
 read-requires g c = record {
-  callable = λ v number p at bytes is. c.requires.callable v number bytes (is ∙ ap (λ q. q.bytes) at);
+  callable = λ v fits p at bytes is. c.requires.callable v fits.0 fits.1 bytes (is ∙ ap (λ q. q.bytes) at);
 }
 
 module _ {T : Type 0} {P Q : T → Type 0} (f : (t : T) → P t → Q t) where
@@ -16,4 +16,4 @@ module _ {T : Type 0} {P Q : T → Type 0} (f : (t : T) → P t → Q t) where
   found_as (Err e) h = tt
 
 pub returns-clause-page : goal.returns-clause-page
-returns-clause-page g c = found_as (λ t h. (h.0, h.1, subst (λ b. FnOnceReturnsAt g.G.FnOnce c.args.visit b t) (ap (λ q. q.bytes) h.2.2) h.2.1)) c.read.result c.read.ensures.fits
+returns-clause-page g c = found_as (λ t h. (h.0, h.1.0, h.1.1, subst (λ b. FnOnceReturnsAt g.G.FnOnce c.args.visit b t) (ap (λ q. q.bytes) h.2.2) h.2.1)) c.read.result c.read.ensures.fits

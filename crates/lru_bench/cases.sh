@@ -1,0 +1,100 @@
+: > empty
+system="a file, a write, the clock or random numbers failed"$'\n'
+
+# plans WORDS LINE..: with these words, `time` would run what the lines say.
+plans() {
+    local words=$1
+    shift
+    ends 0 "$(printf '%s\n' "$@")"$'\n' "" "lru_bench plan $words"
+}
+all="workloads hit_get hit_read hit_init miss_evict stress"
+usual="entries 1000 1000000"
+together="threads 1 2 4 8"
+plans "" "$all" "$usual" "threads 1"
+plans "8 threads" "$all" "entries 8" "$together"
+plans "stress threads" "workloads stress" "$usual" "$together"
+plans "8 hit_get 3" "workloads hit_get" "entries 8 3" "threads 1"
+plans "hit_init hit_get" "workloads hit_init hit_get" "$usual" "threads 1"
+plans "hit_read 8" "workloads hit_read" "entries 8" "threads 1"
+plans "10000000 1" "$all" "entries 10000000 1" "threads 1"
+plans sizes "$all" "entries 1000 10000 100000 1000000" "threads 1"
+
+# the keys of a file are numbers of four bytes, the least significant first
+printf '\1\0\0\0\0\2\0\0\377\377\377\377' > three
+printf '\1\2\3\4' > one
+plans "read_mostly three" workloads "$usual" "threads 1" \
+    "read_mostly 3 keys from 1 to 4294967295"
+plans "stress miss_evict read_mostly one" "workloads stress miss_evict" "$usual" "threads 1" \
+    "read_mostly 1 keys from 67305985 to 67305985"
+for bytes in "" 123 12345; do
+    ends 1 "" "the file has no keys of four bytes"$'\n' \
+        "printf '$bytes' > cut && lru_bench time read_mostly cut"
+done
+
+# the sums of the small workloads, and nothing else; standard output may fail anywhere
+whole=$(cat "$crate/stdout")$'\n'
+ends 0 "$whole" "" "lru_bench check"
+ends 1 "" "$system" "lru_bench check > /dev/full"
+for number in 200 $((${#whole} - 1)); do
+    ends 1 "${whole:0:number}" "$system" "trap '' XFSZ; prlimit --fsize=$number lru_bench check"
+done
+
+known="hit_get, hit_read, hit_init, miss_evict, stress, threads, sizes"
+for word in 0 +8 -1 "''" "' 8'" few 10000001 18446744073709551615 "8 0" "8 few" "threads hits" \
+    read_mostly "read_mostly empty 8" "few read_mostly empty"; do
+    ends 2 "" "lru_bench: WORD is $known, or a number of entries from 1 to 10000000"$'\n' \
+        "lru_bench time $word"
+done
+usage="usage: lru_bench check | (plan | time) [WORD ..] [read_mostly FILE] | \
+run WORKLOAD ENTRIES CALLS"$'\n'
+for words in "" times "check 8" "read_mostly empty" "time \$'\xff'" "run hit_get 8" \
+    "run stress 8 1" "run read_mostly 8 1" "run hits 8 1" "run hit_get 0 1" "run hit_get 8 0" \
+    "run hit_get 8 +1" "run hit_get 10000001 1" "run hit_get 8 10000001" "run hit_get 8 1 1"; do
+    ends 2 "" "$usage" "lru_bench $words"
+done
+ends 1 "" "$system" "lru_bench time 8 hit_get read_mostly none"
+ends 1 "" "$system" "lru_bench time read_mostly /"
+ends 1 "" "$system" "lru_bench plan > /dev/full"
+
+# the sums of crates/lru_bench/stdout
+for workload in hit_get hit_read hit_init; do
+    ends 0 "351"$'\n' "" "lru_bench run $workload 8 100"
+done
+ends 0 "1000004950"$'\n' "" "lru_bench run miss_evict 100 100"
+ends 1 "" "$system" "lru_bench run hit_get 8 1 > /dev/full"
+
+# What follows takes long where the program was not proved.
+[ -n "${PROGRAMS:-}" ] && return
+
+ends 0 "processors N"$'\n' "" "lru_bench time 8 hit_read 2>&1 > lines | sed 's/ [1-9][0-9]*$/ N/'"
+
+# Prints each line without its time. A million operations in each of some threads took as many
+# milliseconds together as one of them took nanoseconds, times the threads. Prints last whether that
+# is no more than the whole run took, and no less than a tenth of it.
+cat > untimed.awk << 'END'
+$5 ~ /^[0-9]+\.[0-9]$/ { taken += $4 * $5; sub(/ [^ ]*$/, "") }
+{ print }
+END { print (taken <= whole && whole <= 10 * taken ? "in time" : taken " ms of " whole " ms") }
+END
+# times WORDS LINE..: with these words, these lines come first, after such times.
+times() {
+    local words=$1
+    shift
+    ends 0 "$(printf '%s\n' "$@" "in time")"$'\n' "" "begin=\${EPOCHREALTIME/./}
+        lru_bench time $words 2> said | head -n $# > lines
+        whole=\$(((\${EPOCHREALTIME/./} - begin) / 1000))
+        awk -v whole=\$whole -f untimed.awk lines"
+}
+times "8 hit_get" "std-map hit_get 8 1" "parts-unsharded hit_get 8 1" "port-unsharded hit_get 8 1"
+times "3 hit_read threads" "port-unsharded hit_read 3 1" "port-unsharded hit_read 3 2" \
+    "port-sharded hit_read 3 2"
+
+# Of 30 keys 2 hit, since no key stays until its next turn: a cache has room for 100,000.
+python3 -c 'import struct, sys
+keys = (28 * turn + min(key, 27) for turn in range(5000) for key in range(30))
+sys.stdout.buffer.write(b"".join(struct.pack("<I", key) for key in keys))' > turns
+ends 0 "# hits port-unsharded read_mostly 100000 1 0.0666"$'\n' "" \
+    "lru_bench time read_mostly turns 2>&1 > lines | sed -n '2{p;q}'"
+ends 0 "# hits port-sharded-256-read read_mostly 100000 1 1.0000
+# hits port-unsharded read_mostly 100000 2 1.0000
+" "" "lru_bench time read_mostly one 2>&1 > lines | sed -n '9p;10{p;q}'"

@@ -1,0 +1,85 @@
+//! The contents of a cache of numbers, over one trait of references to both caches, and the calls
+//! that tests of both make.
+ghost use Rattle.std.specs.Prelude.{◌<◌};
+
+use concurrent_lru::lru_core::Refusal;
+use concurrent_lru::{sharded, unsharded};
+use lru_fixtures::threaded::make_value;
+use lru_support::cached::Cached;
+use std::hash::BuildHasher;
+use std::process::Abort;
+use std::sync::Wait;
+
+/// A reference to a cache of numbers whose contents can be read.
+pub(crate) trait Contents: Cached<u64> {
+    /// `len`.
+    fn len(self) -> usize;
+
+    /// `is_empty`.
+    fn is_empty(self) -> bool;
+
+    /// `pinned_charge`.
+    fn pinned_charge(self) -> u128;
+}
+
+impl<'a, R: Wait> Contents for &'a unsharded::LruCache<u64, u64, R> {
+    fn len(self) -> usize {
+        unsharded::LruCache::len(self)
+    }
+
+    fn is_empty(self) -> bool {
+        unsharded::LruCache::is_empty(self)
+    }
+
+    fn pinned_charge(self) -> u128 {
+        u128::from(unsharded::LruCache::pinned_charge(self))
+    }
+}
+
+impl<'a, R: Wait, S: BuildHasher> Contents for &'a sharded::LruCache<u64, u64, R, S> {
+    fn len(self) -> usize {
+        sharded::LruCache::len(self)
+    }
+
+    fn is_empty(self) -> bool {
+        sharded::LruCache::is_empty(self)
+    }
+
+    fn pinned_charge(self) -> u128 {
+        sharded::LruCache::pinned_charge(self)
+    }
+}
+
+/// Returns the total charge and the pinned charge.
+pub(crate) fn charges<C: Contents>(cache: C) -> (u128, u128) {
+    (cache.total_charge(), cache.pinned_charge())
+}
+
+/// Makes a value with a charge unless its key has one, and returns a handle. Aborts if the call is
+/// refused.
+pub(crate) fn make<R: Abort, C: Cached<u64>>(
+    rt: &R,
+    cache: C,
+    key: u64,
+    charge: u64,
+    value: u64,
+) -> C::Handle
+    requires { 0 < charge }
+{
+    make_value(cache, key, charge, value, &mut None)
+        .ok()
+        .expect(rt, "memory for a value")
+}
+
+/// Makes an entry of charge 1 for each of these keys, whose value is ten times the key, and leaves
+/// it idle.
+pub(crate) fn make_each<R: Abort, C: Cached<u64>>(rt: &R, cache: C, keys: &[u64]) {
+    for key in keys {
+        drop(make(rt, cache, *key, 1, key.wrapping_mul(10)));
+    }
+}
+
+/// Returns the value of a key, by `read`.
+pub(crate) fn value_read<C: Cached<u64>>(cache: C, key: u64) -> Result<Option<u64>, Refusal> {
+    cache.read(key, |value| *value)
+}

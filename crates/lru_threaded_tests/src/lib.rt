@@ -1,0 +1,12 @@
+//! Tests of the two caches that threads share: tables of calls of one thread, and what threads do
+//! together.
+//!
+//! They are apart from the caches, so that the crate of the caches is proved once.
+#![tactic(auto)]
+
+#[cfg(test)]
+mod contents;
+#[cfg(test)]
+mod sharded;
+#[cfg(test)]
+mod unsharded;

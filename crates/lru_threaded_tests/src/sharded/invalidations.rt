@@ -1,0 +1,86 @@
+//! Values of shards that are invalidated while they are held.
+ghost use Rattle.std.specs.Prelude.{◌<◌};
+
+use crate::sharded::shares::in_shards;
+use crate::sharded::{pure, threaded};
+use lru_fixtures::makings::reads_around;
+use lru_fixtures::tables::shards::ShardCall;
+use lru_fixtures::threaded::Then::{AtOnce, Keep};
+use lru_fixtures::threaded::ThreadedCall;
+use lru_fixtures::threaded::ThreadedCall::{Get, Init, Insert, Invalidate, LetGo, Show, Total};
+use lru_support::hashers::ByOwnNumber;
+use std::test;
+
+// Only the shard of the key detaches; stamps of the other shard stay valid.
+const PURE: [(ShardCall, &str); 13] = [
+    (ShardCall::Begin(1, 3), "Ok((1, Make(0), []))"),
+    (ShardCall::Ready(1, 0, 20), "Ok(())"),
+    (ShardCall::Use(0), "Ok((0, [], []))"),
+    (ShardCall::Invalidate(3), "[]"),
+    (ShardCall::Invalidate(1), "[]"),
+    (ShardCall::Get(1), "Ok(None)"),
+    (ShardCall::Begin(1, 4), "Ok((1, Make(1), []))"),
+    (ShardCall::Total(1), "Ok(7)"),
+    (
+        ShardCall::Release(1, 0),
+        "Ok([Gone { stamp: 0, key: 1, charge: 3, value: 20 }])",
+    ),
+    (ShardCall::Fail(1, 1), "Ok(Removed(1))"),
+    (
+        ShardCall::Invalidate(0),
+        "[Gone { stamp: 0, key: 0, charge: 1, value: 0 }]",
+    ),
+    (ShardCall::Total(0), "Ok(0)"),
+    (ShardCall::Total(1), "Ok(0)"),
+];
+
+#[test]
+fn the_shard_of_the_key_detaches(rt: HostRuntime) -> Result<(), test::Fail> {
+    pure::plays(rt.alloc(), 20, 2, ByOwnNumber, &PURE)
+}
+
+const THREADED: [(ThreadedCall, &str); 12] = [
+    (Init(1, 3, 1, Keep(0)), "Made(1, 1)"),
+    (Init(2, 3, 2, AtOnce), "Made(2, 2)"),
+    (Invalidate(1), "Done"),
+    (Get(1, AtOnce), "Absent"),
+    (Get(2, AtOnce), "Found(2)"),
+    (Init(1, 4, 3, AtOnce), "Made(1, 3)"),
+    (Total, "Number(10)"),
+    (Show, "[{2: 2}, {1: 3}]"),
+    (LetGo(0), "Done, drops [1]"),
+    (Get(1, AtOnce), "Found(3)"),
+    (Invalidate(2), "Done, drops [2]"),
+    (Total, "Number(4)"),
+];
+
+#[test]
+fn a_held_value_is_replaced(rt: HostRuntime) -> Result<(), test::Fail> {
+    threaded::plays(&rt, rt.alloc(), 20, 2, &THREADED)
+}
+
+// An inserted value replaces only that of its key; the old one can still be read if it is held.
+const PUT_IN: [(ThreadedCall, &str); 10] = [
+    (Insert(1, 3, 1, Keep(0)), "Put(1)"),
+    (Insert(2, 3, 2, AtOnce), "Put(2)"),
+    (Insert(1, 4, 3, AtOnce), "Put(3)"),
+    (Total, "Number(10)"),
+    (Show, "[{2: 2}, {1: 3}]"),
+    (LetGo(0), "Done, drops [1]"),
+    (Insert(2, 5, 4, AtOnce), "Put(4), drops [2]"),
+    (Get(2, AtOnce), "Found(4)"),
+    (Get(1, AtOnce), "Found(3)"),
+    (Total, "Number(9)"),
+];
+
+#[test]
+fn a_present_key_is_replaced(rt: HostRuntime) -> Result<(), test::Fail> {
+    threaded::plays(&rt, rt.alloc(), 20, 2, &PUT_IN)
+}
+
+#[test]
+fn a_handle_reads_its_own_value(rt: HostRuntime) {
+    let cache = in_shards(rt.alloc(), &rt, 10, 2).expect(&rt, "memory");
+    assert_eq!(rt; reads_around(&cache), Some((5, None, false, 6)));
+    assert_eq!(rt; (cache.total_charge(), cache.len()), (1, 1));
+}

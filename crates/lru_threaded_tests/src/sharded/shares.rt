@@ -1,0 +1,29 @@
+//! Caches of numbers whose keys show their shards, and the share of each shard.
+ghost use Rattle.std.specs.Prelude.{◌<◌};
+
+use concurrent_lru::sharded::{LruCache, capacity_per_shard};
+use lru_support::hashers::ByOwnNumber;
+use std::alloc::Global;
+use std::sync::Wait;
+
+/// Creates an empty cache of this many shards, which share this capacity. A key's shard is the
+/// remainder of its number. Returns `None` if memory is refused.
+pub(crate) fn in_shards<R: Wait + Clone + Drop>(
+    alloc: Global,
+    rt: R,
+    capacity: u64,
+    shards: usize,
+) -> Option<LruCache<u64, u64, R, ByOwnNumber>>
+    requires { 0 < shards }
+{
+    LruCache::with_shards_hasher(alloc, rt, capacity, shards, ByOwnNumber).ok()
+}
+
+#[test]
+fn shares_are_rounded_up(rt: HostRuntime) {
+    assert_eq!(rt; capacity_per_shard(10, 16), 1);
+    assert_eq!(rt; capacity_per_shard(128, 16), 8);
+    assert_eq!(rt; capacity_per_shard(10, 4), 3);
+    assert_eq!(rt; capacity_per_shard(0, 4), 0);
+    assert_eq!(rt; capacity_per_shard(u64::MAX, 16), 1152921504606846976);
+}

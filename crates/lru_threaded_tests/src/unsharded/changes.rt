@@ -1,0 +1,108 @@
+//! A capacity that is set while values are held, made and waited for.
+
+use concurrent_lru::unsharded::LruCache;
+use lru_fixtures::makings::{Meeting, comes_second, value_found};
+use lru_fixtures::tables::answers_as_expected;
+use lru_fixtures::threaded::Then::{AtOnce, Keep};
+use lru_fixtures::threaded::ThreadedCall::{Init, LetGo, Total};
+use lru_fixtures::threaded::{Player, ThreadedCall};
+use lru_support::cached::Cached;
+use lru_support::drops::{DropLog, Logged};
+use lru_support::flags::{meets, pause, raise};
+use std::alloc::Global;
+use std::process::Abort;
+use std::sync::Wait;
+use std::sync::atomic::AtomicU64;
+use std::test::Fail;
+use std::thread;
+use std::thread::Threads;
+
+const HELD: [(ThreadedCall, &str); 2] = [
+    (Init(1, 3, 1, AtOnce), "Made(1, 1)"),
+    (Init(2, 2, 2, Keep(0)), "Made(2, 2)"),
+];
+
+const LET_GO: [(ThreadedCall, &str); 3] = [
+    (Total, "Number(2), drops [1]"),
+    (LetGo(0), "Done, drops [2]"),
+    (Total, "Number(0)"),
+];
+
+// Sets the capacity to 0 while another thread reads the total, and returns that total.
+fn shrinks_beside<V: Drop + Send + Sync, R: Wait + Send + Sync, T: Threads>(
+    rt: &T,
+    cache: &LruCache<u64, V, R>,
+) -> u64 {
+    let (_, total) = thread::join(rt, || cache.set_capacity(0), || cache.total_charge());
+    total
+}
+
+// Plays the tables, and sets the capacity to 0 between them.
+fn plays_around_a_change<R: Wait + Threads + Abort + Clone + Drop + Send + Sync>(
+    rt: &R,
+    alloc: Global,
+) -> Result<(), Fail> {
+    let log = DropLog::new(alloc, rt)?;
+    let cache: LruCache<u64, Logged<R>, R> = LruCache::new(alloc, rt.clone()?, 9);
+    let mut player = Player::new(alloc, &cache, &log)?;
+    answers_as_expected(alloc, &mut player, &HELD)?;
+    let total = shrinks_beside(rt, &cache);
+    assert!(rt; total == 5 || total == 2);
+    answers_as_expected(alloc, &mut player, &LET_GO)
+}
+
+#[test]
+fn a_held_value_outlives_its_capacity(rt: HostRuntime) -> Result<(), Fail> {
+    plays_around_a_change(&rt, rt.alloc())
+}
+
+// Returns the value of key 1, made as 5 once the capacity has shrunk.
+fn makes_meanwhile<C: Cached<u64>>(cache: C, meeting: &Meeting, shrunk: &AtomicU64) -> Option<u64> {
+    let mut met = false;
+    let made = cache.get_or_init(1, 3, |_| {
+        raise(&meeting.started);
+        met = meets(shrunk);
+        5
+    });
+    match made {
+        Ok(handle) if met => Some(*C::value_of(&handle)),
+        _ => None,
+    }
+}
+
+// Sets the capacity to 0 while the first caller makes the value and the second waits, and returns
+// the total then.
+fn shrinks_meanwhile<C: Cached<u64>>(
+    cache: C,
+    meeting: &Meeting,
+    shrunk: &AtomicU64,
+) -> Option<u128> {
+    if !meets(&meeting.coming) {
+        return None;
+    }
+    pause();
+    cache.set_capacity(0);
+    let total = cache.total_charge();
+    raise(shrunk);
+    Some(total)
+}
+
+#[test]
+fn makers_and_waiters_outlive_a_change(rt: HostRuntime) {
+    let cache: LruCache<u64, u64, &HostRuntime> = LruCache::new(rt.alloc(), &rt, 10);
+    drop(cache.get_or_init(2, 4, |key| *key));
+    let meeting = Meeting::new();
+    let shrunk = AtomicU64::new(0);
+    let (made, (waited, total)) = thread::join(
+        &rt,
+        || makes_meanwhile(&cache, &meeting, &shrunk),
+        || thread::join(
+            &rt,
+            || comes_second(&cache, &meeting),
+            || shrinks_meanwhile(&cache, &meeting, &shrunk),
+        ),
+    );
+    assert_eq!(rt; (made, waited, total), (Some(5), Some(5), Some(3)));
+    // The last of the two handles was dropped at capacity 0.
+    assert_eq!(rt; (cache.total_charge(), value_found(&cache, 1)), (0, None));
+}

@@ -1,0 +1,62 @@
+//! Forgotten handles, the code of an error, and how a cache is printed.
+
+use crate::unsharded::play::plays;
+use concurrent_lru::unsharded::{GetError, LruCache};
+use lru_fixtures::threaded::Then::{AtOnce, Forget, Keep};
+use lru_fixtures::threaded::ThreadedCall;
+use lru_fixtures::threaded::ThreadedCall::{Get, Init, Prune, Show, Total};
+use std::alloc::Global;
+use std::sync::Wait;
+use std::test;
+
+const FORGOTTEN: [(ThreadedCall, &str); 6] = [
+    (Init(1, 1, 1, Forget), "Made(1, 1)"),
+    (Init(2, 1, 2, AtOnce), "Made(2, 2), drops [2]"),
+    (Get(2, AtOnce), "Absent"),
+    (Get(1, AtOnce), "Found(1)"),
+    (Prune, "Done"),
+    (Total, "Number(1)"),
+];
+
+#[test]
+fn a_forgotten_handle_keeps_its_pin(rt: HostRuntime) -> Result<(), test::Fail> {
+    plays(&rt, rt.alloc(), 1, &FORGOTTEN)
+}
+
+const PRINTED: [(ThreadedCall, &str); 5] = [
+    (Show, "{}"),
+    (Init(1, 1, 2, AtOnce), "Made(1, 2)"),
+    (Show, "{1: 2}"),
+    (Get(1, Keep(0)), "Found(2)"),
+    (Show, "{1: 2}"),
+];
+
+#[test]
+fn prints_its_ready_entries(rt: HostRuntime) -> Result<(), test::Fail> {
+    plays(&rt, rt.alloc(), 10, &PRINTED)
+}
+
+// Returns the text of an empty cache while its first value is made.
+fn text_in_a_making<R: Wait>(alloc: Global, cache: &LruCache<u64, u64, R>) -> Option<String> {
+    let mut text = None;
+    let made = cache.get_or_init(1, 1, |_| {
+        text = format!(in alloc; "{cache:?}").ok();
+        2
+    });
+    drop(made);
+    text
+}
+
+#[test]
+fn prints_no_entry_in_the_making(rt: HostRuntime) {
+    let cache: LruCache<u64, u64, &HostRuntime> = LruCache::new(rt.alloc(), &rt, 10);
+    let text = text_in_a_making(rt.alloc(), &cache).expect(&rt, "memory");
+    assert_eq!(rt; text.as_str(), "{}");
+}
+
+#[test]
+fn an_error_has_a_code(rt: HostRuntime) {
+    assert_eq!(rt; GetError::<u8>::Memory.code(), 1);
+    assert_eq!(rt; GetError::<u8>::Overflow.code(), 2);
+    assert_eq!(rt; GetError::Init(9u8).code(), 4);
+}

@@ -1,0 +1,84 @@
+//! Reads without a handle: they count as uses, see the value under its mark, and leave no pin.
+
+use crate::contents::{make, make_each, value_read};
+use concurrent_lru::unsharded::LruCache;
+use lru_fixtures::marks::Twice;
+use lru_fixtures::workers::{CAPACITY, stays_right};
+use lru_support::cached::Cached;
+use std::process::Abort;
+use std::sync::Wait;
+use std::thread;
+
+// Reads in an empty cache that keeps two entries of charge 1.
+fn reads_as_uses<R: Abort, C: Cached<u64>>(rt: &R, cache: C) {
+    assert_eq!(rt; value_read(cache, 1), Ok(None));
+    make_each(rt, cache, &[1, 2]);
+    assert_eq!(rt; value_read(cache, 1), Ok(Some(10)));
+    make_each(rt, cache, &[3]);
+    assert_eq!(rt; value_read(cache, 2), Ok(None));
+    assert_eq!(rt; value_read(cache, 1), Ok(Some(10)));
+    assert_eq!(rt; value_read(cache, 3), Ok(Some(30)));
+    // A read leaves no pin.
+    cache.prune();
+    assert_eq!(rt; cache.total_charge(), 0);
+    assert_eq!(rt; value_read(cache, 1), Ok(None));
+}
+
+#[test]
+fn a_read_counts_as_a_use(rt: HostRuntime) {
+    let cache: LruCache<u64, u64, &HostRuntime> = LruCache::new(rt.alloc(), &rt, 2);
+    reads_as_uses(&rt, &cache);
+}
+
+// Reads key 5 in an empty cache that keeps nothing idle.
+fn reads_while_held<R: Abort, C: Cached<u64>>(rt: &R, cache: C) {
+    let held = make(rt, cache, 5, 1, 50);
+    assert_eq!(rt; cache.read(5, |value| *value / 2), Ok(Some(25)));
+    assert_eq!(rt; cache.total_charge(), 1);
+    drop(held);
+    assert_eq!(rt; value_read(cache, 5), Ok(None));
+}
+
+// Returns the value of key 6, made as 60 if a read of it finds nothing while it is made.
+fn made_unread<R: Wait>(cache: &LruCache<u64, u64, R>) -> Option<u64> {
+    let made = cache.get_or_init(6, 1, |_| match value_read(cache, 6) {
+        Ok(None) => 60,
+        _ => 0,
+    });
+    match made {
+        Ok(handle) => Some(*handle.value()),
+        Err(_) => None,
+    }
+}
+
+#[test]
+fn a_read_sees_a_held_value_and_none_that_is_being_made(rt: HostRuntime) {
+    let cache: LruCache<u64, u64, &HostRuntime> = LruCache::new(rt.alloc(), &rt, 0);
+    reads_while_held(&rt, &cache);
+    assert_eq!(rt; made_unread(&cache), Some(60));
+}
+
+#[test]
+fn a_read_proves_its_answer(rt: HostRuntime) {
+    let cache: LruCache<u64, u64, &HostRuntime, Twice> = LruCache::marked(rt.alloc(), &rt, 10);
+    drop(
+        cache
+            .get_or_init(7, 1, |key| *key * 2)
+            .expect(&rt, "memory"),
+    );
+    let found = cache.read(&7, |value| *value).expect(&rt, "no pins");
+    let value = found.expect(&rt, "it is there");
+    prove!(value == 14);
+    assert_eq!(rt; value, 14);
+}
+
+#[test]
+fn four_threads_read_what_they_make(rt: HostRuntime) {
+    let cache: LruCache<u64, u64, &HostRuntime> = LruCache::new(rt.alloc(), &rt, CAPACITY);
+    let right = thread::map_indices(&rt, rt.alloc(), 4, &|_| stays_right(&cache));
+    let right = right.expect(&rt, "four threads");
+    assert_eq!(rt; right.as_slice(), [true; 4].as_slice());
+    assert_eq!(rt; cache.total_charge(), CAPACITY);
+    cache.prune();
+    assert_eq!(rt; cache.total_charge(), 0);
+}
