@@ -15,7 +15,7 @@ use Rattle.concurrent_lru.proofs.Lists.Removals.{removed_other, removed_some}
 
 -- equal keys have the same hash, where they make the same writes
 pub alike_hashes : {K : Type 0} {E : K → K → Bool} (bytes : K → List (List ℕ)) → ((k l : K) → E k l ≡ true → bytes k ≡ bytes l) → (k l : K) → E k l ≡ true → key_hash bytes k ≡ key_hash bytes l
-alike_hashes bytes alike k l same = ap (λ ws. rotate_left w64 (finish (fold write initial ws)) 32) (alike k l same)
+alike_hashes bytes alike k l same = ap (λ ws. rotate_left w64 (finish (fold write initial ws)) 40) (alike k l same)
 
 module _ {K V : Type 0} (H : K → ℕ) where
   pub hashed_empty : (m : FinMap nat_cmp (Entry K V)) (h : FinMap nat_cmp ℕ) → m ≡ empty → AreHashed H m h
