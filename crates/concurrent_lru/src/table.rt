@@ -23,7 +23,7 @@ mod stamp_index;
 pub use self::key_hashes::hash_of;
 pub use self::spot::{Hint, Spot};
 use crate::eviction::{Evicted, reverse};
-use crate::list::{Node, Nodes, Phase, Place, Refusal};
+use crate::list::{Cursor, Node, Nodes, Phase, Place, Refusal};
 use crate::table::stamp_index::StampIndex;
 use std::alloc::Global;
 use std::collections::HashMap;
@@ -134,15 +134,15 @@ impl<K: Hash + Eq + Clone, V: Drop> Table<K, V> {
         self.total - self.idle_charge
     }
 
-    /// Returns the place of the entry with this stamp. The lookup begins with the spot's hint,
-    /// which may be any.
+    /// Returns the place of the entry with this stamp, and the cursor with which the next calls find
+    /// it again. The lookup begins with the spot's hint, which may be any.
     #[inline(always)]
-    pub fn find_stamp(&self, spot: &Spot) -> Option<Place>
+    pub fn find_stamp(&self, spot: &Spot) -> Option<(Place, Cursor)>
         ensures { MatchOption result (ContainsNoStamp self.now spot.now.stamp)
-            (λ p. map.get self.now.stamps p ≡ Some spot.now.stamp) }
+            (λ r. map.get self.now.stamps r.0 ≡ Some spot.now.stamp) }
     {
         match self.nodes.find_stamp_by_hash(spot.hint.hash, spot.stamp) {
-            Some(place) => Some(place),
+            Some(found) => Some(found),
             None => self.find_stamp_near(spot.hint.place, spot.stamp),
         }
     }
@@ -150,35 +150,41 @@ impl<K: Hash + Eq + Clone, V: Drop> Table<K, V> {
     // Returns the place of the entry with this stamp, which may be detached. The lookup begins at
     // `near`, which may be any place.
     #[inline(never)]
-    fn find_stamp_near(&self, near: Place, stamp: u64) -> Option<Place>
+    fn find_stamp_near(&self, near: Place, stamp: u64) -> Option<(Place, Cursor)>
         ensures { MatchOption result (ContainsNoStamp self.now stamp)
-            (λ p. map.get self.now.stamps p ≡ Some stamp) }
+            (λ r. map.get self.now.stamps r.0 ≡ Some stamp) }
     {
         if self.nodes.has_stamp(near, stamp) {
-            return Some(near);
+            return Some((near, Cursor::nowhere()));
         }
-        self.by_stamp.find(&self.nodes, stamp)
+        match self.by_stamp.find(&self.nodes, stamp) {
+            Some(place) => Some((place, Cursor::nowhere())),
+            None => None,
+        }
     }
 
-    /// Returns the place of the entry with an equal key. `hash` is the hash of the key.
+    /// Returns the place of the entry with an equal key, and the cursor with which the next calls
+    /// find it again. `hash` is the hash of the key.
     #[inline(always)]
-    pub fn find_key(&self, hash: u64, key: &K) -> Option<Place>
+    pub fn find_key(&self, hash: u64, key: &K) -> Option<(Place, Cursor)>
         requires { hash ≡ key_hash K.hash_input key.now }
         ensures { MatchOption result (ContainsNoKey K.eq self.now key.now)
-            (λ p. IsPlaceOfKey K.eq self.now p key.now) }
+            (λ r. IsPlaceOfKey K.eq self.now r.0 key.now) }
     {
         self.nodes.find_key(hash, key)
     }
 
-    /// Returns the node at a place.
-    pub fn node(&self, place: Place) -> &Node<K, V>
+    /// Returns the node at a place. The lookup begins at a cursor, here and in the calls below; any
+    /// will do, and one that leads to the node saves a read of the slab.
+    #[inline(always)]
+    pub fn node(&self, place: Place, near: Cursor) -> &Node<K, V>
         requires { ContainsPlace self.now place }
         ensures entry { GetsAt self.now place (entry_of result.now) }
         ensures pins { pins_at self.now place ≡ (entry_of result.now).pins }
         ensures value { value_at self.now place ≡ value_of (entry_of result.now) }
         ensures alone { chain_of result.now ≡ [] }
     {
-        self.nodes.node(place)
+        self.nodes.node_near(place, near)
     }
 
     /// Adds a new entry, held by one pin, whose value is being made, and returns its place. `hash`
@@ -277,7 +283,7 @@ impl<K: Hash + Eq + Clone, V: Drop> Table<K, V> {
     ///
     /// Returns `Memory` if the copy of the value is refused; then nothing changes.
     #[inline(always)]
-    pub fn pin(&mut self, place: Place) -> Result<Arc<V>, Refusal>
+    pub fn pin(&mut self, place: Place, near: Cursor) -> Result<Arc<V>, Refusal>
         requires place { ContainsPlace self.old place }
         requires ready { IsSome (value_at self.old place) }
         requires room { pins_at self.old place + 1 < 2 ^ 32 }
@@ -289,23 +295,23 @@ impl<K: Hash + Eq + Clone, V: Drop> Table<K, V> {
         ensures err { OnErr result (self.new ≡ self.old) }
         ensures refusal { IfErr result (λ e. e ≡ Refusal.Memory) }
     {
-        let node = self.node(place);
+        let node = self.node(place, near);
         let pins = node.pins;
         if pins == 0 {
-            return self.revive(place);
+            return self.revive(place, near);
         }
         let value = node.share_value()?;
-        self.set_pins(place, pins + 1);
+        self.set_pins(place, near, pins + 1);
         Ok(value)
     }
 
     /// Sets the number of pins of a held entry, which stays held. Takes no memory.
-    pub fn set_pins(&mut self, place: Place, pins: u32)
+    pub fn set_pins(&mut self, place: Place, near: Cursor, pins: u32)
         requires held { ContainsHeldAt self.old place }
         requires some { 0 < pins }
         ensures { Rewrites (held_with_pins pins) self.old place self.new }
     {
-        self.nodes.set_pins(place, pins);
+        self.nodes.set_pins_near(place, near, pins);
     }
 
     /// Detaches a held entry from its key: it is then found by its stamp only. Takes no memory.
@@ -318,60 +324,60 @@ impl<K: Hash + Eq + Clone, V: Drop> Table<K, V> {
 
     /// Sets the phase of a held entry: its making is handed over, or its value is ready. Takes no
     /// memory.
-    pub fn set_phase(&mut self, place: Place, phase: Phase<V>)
+    pub fn set_phase(&mut self, place: Place, near: Cursor, phase: Phase<V>)
         requires { ContainsHeldAt self.old place }
         ensures { Rewrites (held_in_phase (phase_of phase)) self.old place self.new }
     {
-        self.nodes.set_phase(place, phase);
+        self.nodes.set_phase_near(place, near, phase);
     }
 
     /// Stores the value of an entry that is being made. Returns the value if the entry is not being
     /// made. Takes no memory.
-    pub fn store(&mut self, place: Place, value: Arc<V>) -> Result<(), Arc<V>>
+    pub fn store(&mut self, place: Place, near: Cursor, value: Arc<V>) -> Result<(), Arc<V>>
         requires { ContainsPlace self.old place }
         ensures ok { OnOk result (ReadiesAt (arc_value value) self.old place self.new) }
         ensures err { OnErr result (LacksMakingAt self.old place × (self.new ≡ self.old)) }
         ensures back { IfErr result (λ a. a ≡ value) }
     {
-        let Phase::Making = &self.node(place).phase else {
+        let Phase::Making = &self.node(place, near).phase else {
             return Err(value);
         };
-        self.set_phase(place, Phase::Ready(value));
+        self.set_phase(place, near, Phase::Ready(value));
         Ok(())
     }
 
     // Pins an idle entry, which is then held, and returns its value.
-    fn revive(&mut self, place: Place) -> Result<Arc<V>, Refusal>
+    fn revive(&mut self, place: Place, near: Cursor) -> Result<Arc<V>, Refusal>
         requires { ContainsIdleAt self.old place }
         ensures value { IfOk result (λ a. value_at self.old place ≡ Some (arc_value a)) }
         ensures ok { OnOk result (RevivesAt self.old place self.new) }
         ensures err { OnErr result (self.new ≡ self.old) }
         ensures refusal { IfErr result (λ e. e ≡ Refusal.Memory) }
     {
-        let charge = self.nodes.node(place).charge;
-        let value = self.nodes.revive(place)?;
+        let charge = self.nodes.node_near(place, near).charge;
+        let value = self.nodes.revive(place, near)?;
         self.idle_charge -= charge;
         Ok(value)
     }
 
     /// Removes the pins of a ready entry, which becomes the newest idle one. Takes no memory.
-    pub fn rest(&mut self, place: Place)
+    pub fn rest(&mut self, place: Place, near: Cursor)
         requires { IsReadyAt self.old place }
         ensures { RestsAt self.old place self.new }
     {
-        let charge = self.nodes.node(place).charge;
-        self.nodes.set_pins(place, 0);
-        self.nodes.append(place);
+        let charge = self.nodes.node_near(place, near).charge;
+        self.nodes.set_pins_near(place, near, 0);
+        self.nodes.append_near(place, near);
         self.idle_charge += charge;
     }
 
     /// Makes an idle entry the newest idle one, as pinning and releasing it does. Takes no memory.
-    pub fn renew(&mut self, place: Place)
+    pub fn renew(&mut self, place: Place, near: Cursor)
         requires { ContainsIdleAt self.old place }
         ensures entry { RenewsAt self.old place self.new }
         ensures value { value_at self.new place ≡ value_at self.old place }
     {
-        self.nodes.renew(place);
+        self.nodes.renew(place, near);
     }
 
     /// Removes a held entry. Takes no memory.

@@ -43,7 +43,7 @@ module _ {K V : Type 0} {C : K → K → Type 0} {E : K → K → Bool} {H : K �
   ] refl
 
   -- by the hash of a key, where equal keys have the same hash
-  pub found_key : ((k l : K) → E k l ≡ true → H k ≡ H l) → (h : ℕ) (k : K) (o : Option ℕ) → h ≡ H k → FindsKey E t h k o → MatchOption o (ContainsNoKey E (entries_of t) k) (λ p. IsPlaceOfKey E (entries_of t) p k)
+  pub found_key : ((k l : K) → E k l ≡ true → H k ≡ H l) → (h : ℕ) (k : K) (o : Option (ℕ × ℕ)) → h ≡ H k → FindsKey E t h k o → MatchOption o (ContainsNoKey E (entries_of t) k) (λ r. IsPlaceOfKey E (entries_of t) r.0 k)
   found_key alike h k None hash none = λ s l m e.
       let w = found_node_of 0 0 0 t (keys t.nodes) s l m r.represents r.indexed.idle_kept e in
       let n = w.node in
@@ -51,7 +51,7 @@ module _ {K V : Type 0} {C : K → K → Type 0} {E : K → K → Bool} {H : K �
       let equal : E n.entry.key k ≡ true = ap (λ x. E x k) n.key_is ∙ b in
       let hashed : get t.hashes n.place ≡ Some h = r.hashed n.place n.entry n.at ∙ ap Some (alike n.entry.key k equal ∙ sym hash) in
       true≢false (sym equal ∙ none n.place n.entry n.at w.found hashed))
-  found_key alike h k (Some p) hash n =
+  found_key alike h k (Some (p, _)) hash n =
       record { stamp = n.0.stamp; key = n.0.key; charge = n.0.charge; at = get_stamps t.nodes p ∙ ap (option_map (λ x. x.stamp)) n.1; entry = found_at p n.0 n.1 n.2; same_key = n.3 }
 
   -- no node has a stamp that no entry has

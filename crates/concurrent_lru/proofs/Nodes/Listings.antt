@@ -215,5 +215,11 @@ module _ {K V : Type 0} where
   pub candidate_slot : (s : Slots K V) (k : ℕ) (n : Node K V) → IsTied s → (to : LeadsToCandidate s k n) → place_of n ≡ to.slot
   candidate_slot s k n tied to = tied.placed to.slot (place_of n) (ap place_in to.there ∙ ap (λ x. Some (place_of x)) (sym to.is))
 
+  -- and the item of that slot of the table leads to it
+  pub candidate_leads : (s : Slots K V) (k slot : ℕ) (n : Node K V) (e : Slot (At (Node K V))) → IsTied s → (to : LeadsToCandidate s k n) → Holds s.by_hash k e → place_of n ≡ slot → slot_at (cells_of s) e.item.ptr ≡ Some slot
+  candidate_leads s k slot n e tied to h is =
+      let one : e ≡ listing to.cell = holds_one s.by_hash k e (listing to.cell) h to.holds in
+      ap (λ (x : Slot (At (Node K V))). slot_at (cells_of s) x.item.ptr) one ∙ tied.apart to.slot to.cell.at (ap ptr_in to.there) ∙ ap Some (sym (candidate_slot s k n tied to) ∙ is)
+
   pub candidate_there : (s : Slots K V) (k : ℕ) (n : Node K V) → IsTied s → (to : LeadsToCandidate s k n) → cell_at (cells_of s) (place_of n) ≡ Some to.cell
   candidate_there s k n tied to = ap (cell_at (cells_of s)) (candidate_slot s k n tied to) ∙ to.there

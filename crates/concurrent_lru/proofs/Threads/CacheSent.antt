@@ -46,12 +46,12 @@ module _ (K V : RattleType) (key : IsSend K) (value : IsSend V) (shared : IsSync
   -- What stands for a node where its type names itself is Send, as its layer is over any such.
   hole_send : IsSend (node.the_hole K V)
   hole_send = fix_send (node.the_ring K V)
-      (node.by_members K V (Sends (node.the_ring K V)) record { send = λ h all. declared_send (node.the_layer K V h) (search (sendable, crosses, phase_sent.the_send, all) depth 12) })
+      (node.by_members K V (Sends (node.the_ring K V)) record { send = λ h all. declared_send (node.the_layer K V h) (search (sendable, crosses, phase_sent.the_send, all) depth 24) })
       (node.the_member K V)
 
   -- A node is Send.
   node_send : IsSend (node.the_row K V)
-  node_send = declared_send (node.the_type K V) (search (sendable, crosses, phase_sent.the_send, hole_send) depth 12)
+  node_send = declared_send (node.the_type K V) (search (sendable, crosses, phase_sent.the_send, hole_send) depth 24)
 
   -- The pointers in a slab are Send.
   pointers_send : IsSend (slab.the_row (at.the_row (node.the_row K V)) global.the_row allocator.ghosts)
@@ -62,9 +62,9 @@ module _ (K V : RattleType) (key : IsSend K) (value : IsSend V) (shared : IsSync
   entry_send : IsSend (entry.the_row (at.the_row (node.the_row K V)))
   entry_send = declared_send (entry.the_type (at.the_row (node.the_row K V))) (search (sendable, crosses, at_sent.the_send) depth 12)
 
-  by_hash_send : (c : clone.Ghosts (at.the_row (node.the_row K V)).Denot) → IsSend (open_table.the_row (at.the_row (node.the_row K V)) c)
-  by_hash_send c = view_send (open_table_inside.the_row (at.the_row (node.the_row K V)) c) _ _ _ _
-      (declared_send (open_table_inside.the_type (at.the_row (node.the_row K V)) c) (search (sendable, crosses, entry_send, at_sent.the_send) depth 12))
+  by_hash_send : IsSend (open_table.the_row (at.the_row (node.the_row K V)))
+  by_hash_send = view_send (open_table_inside.the_row (at.the_row (node.the_row K V))) _ _ _ _
+      (declared_send (open_table_inside.the_type (at.the_row (node.the_row K V))) (search (sendable, crosses, entry_send, at_sent.the_send) depth 12))
 
   -- The memory of the nodes is Send.
   memory_send : IsSend (memory.the_row (node.the_row K V) global.the_row allocator.ghosts)
@@ -113,9 +113,9 @@ module _ (K V : RattleType) (key : IsSync K) (value : IsSend V) (shared : IsSync
   entry_sync : IsSync (entry.the_row (at.the_row (node.the_row K V)))
   entry_sync = declared_sync (entry.the_type (at.the_row (node.the_row K V))) (search (sendable, crosses, at_sent.the_sync) depth 12)
 
-  by_hash_sync : (c : clone.Ghosts (at.the_row (node.the_row K V)).Denot) → IsSync (open_table.the_row (at.the_row (node.the_row K V)) c)
-  by_hash_sync c = view_sync (open_table_inside.the_row (at.the_row (node.the_row K V)) c) _ _ _ _
-      (declared_sync (open_table_inside.the_type (at.the_row (node.the_row K V)) c) (search (sendable, crosses, entry_sync, at_sent.the_sync) depth 12))
+  by_hash_sync : IsSync (open_table.the_row (at.the_row (node.the_row K V)))
+  by_hash_sync = view_sync (open_table_inside.the_row (at.the_row (node.the_row K V))) _ _ _ _
+      (declared_sync (open_table_inside.the_type (at.the_row (node.the_row K V))) (search (sendable, crosses, entry_sync, at_sent.the_sync) depth 12))
 
   -- The memory of the nodes is Sync.
   memory_sync : IsSync (memory.the_row (node.the_row K V) global.the_row allocator.ghosts)

@@ -6,6 +6,7 @@ ghost use Rattle.concurrent_lru.specs.SlotWrites.{OnlyWrites, OnlyLooksAndWrites
 ghost use Rattle.concurrent_lru.specs.Listing.{IsListed, KeepsListings};
 ghost use Rattle.concurrent_lru.specs.SlotTable.{IsWellLinked, IsGood, Lists, Omits, ListsLink, LosesLink, JoinsLeft, JoinsRight, OnlyLooked, nodes_of, idle_of, idle_without, entry_at};
 
+use crate::list::open_table::Cursor;
 use crate::list::slots::Slots;
 use crate::list::{Node, Refusal};
 use std::alloc::Global;
@@ -35,8 +36,9 @@ impl<K: Drop, V: Drop> Order<K, V> {
     }
 
     // Makes the node in a slot the newest idle one.
-    pub(super) fn append(&mut self, slot: usize)
+    pub(super) fn append(&mut self, slot: usize, near: Cursor)
         requires linked { IsWellLinked self.old }
+        requires listed { IsListed self.old.slots }
         requires present { HasNode self.old.slots slot }
         requires held { Omits self.old slot }
         ensures linked { IsWellLinked self.new }
@@ -46,7 +48,7 @@ impl<K: Drop, V: Drop> Order<K, V> {
         ensures listings { KeepsListings (cells_of self.old.slots) (cells_of self.new.slots) }
         ensures looks { self.new.slots.looks.count ≡ self.old.slots.looks.count + 1 }
     {
-        let own = self.slots.look(slot);
+        let own = self.slots.look_near(slot, near);
         self.push(own, slot);
     }
 
@@ -132,8 +134,9 @@ impl<K: Drop, V: Drop> Order<K, V> {
 
     // Removes the node in a slot from the idle order and makes it the newest idle one, with one
     // lookup.
-    pub(super) fn renew(&mut self, slot: usize)
+    pub(super) fn renew(&mut self, slot: usize, near: Cursor)
         requires linked { IsWellLinked self.old }
+        requires listed { IsListed self.old.slots }
         requires idle { Lists self.old slot }
         ensures linked { IsWellLinked self.new }
         ensures nodes { nodes_of self.new ≡ nodes_of self.old }
@@ -142,7 +145,7 @@ impl<K: Drop, V: Drop> Order<K, V> {
         ensures listings { KeepsListings (cells_of self.old.slots) (cells_of self.new.slots) }
         ensures looks { self.new.slots.looks.count ≡ self.old.slots.looks.count + 1 }
     {
-        let node = self.slots.look(slot);
+        let node = self.slots.look_near(slot, near);
         self.cut(node);
         self.push(node, slot);
     }
@@ -150,8 +153,9 @@ impl<K: Drop, V: Drop> Order<K, V> {
     // Removes the node in a slot from the idle order, with one pin, and copies its value. The
     // node is looked up once, before the copy, since a processor starts no later read until an
     // atomic instruction has completed.
-    pub(super) fn revive(&mut self, slot: usize) -> Result<Arc<V>, Refusal>
+    pub(super) fn revive(&mut self, slot: usize, near: Cursor) -> Result<Arc<V>, Refusal>
         requires linked { IsWellLinked self.old }
+        requires listed { IsListed self.old.slots }
         requires idle { Lists self.old slot }
         requires ready { HasValue (entry_at self.old slot) }
         ensures linked { IsWellLinked self.new }
@@ -164,7 +168,7 @@ impl<K: Drop, V: Drop> Order<K, V> {
         ensures listings { KeepsListings (cells_of self.old.slots) (cells_of self.new.slots) }
         ensures looks { self.new.slots.looks.count ≡ self.old.slots.looks.count + 1 }
     {
-        let own = self.slots.look(slot);
+        let own = self.slots.look_near(slot, near);
         let value = self.slots.follow(own).share_value()?;
         self.slots.set_pins_by_link(own, 1);
         self.cut(own);

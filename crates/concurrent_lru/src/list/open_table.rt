@@ -12,22 +12,30 @@
 //!
 //! The lowest bits of a hash choose the slot at which its walk begins. A caller that has already
 //! divided items by some bits of their hashes, as among shards, must have used others.
-ghost use Rattle.std.specs.Prelude.{◌≡◌, ◌≢◌, ℕ, ◌+◌, ◌<◌, ◌≤◌, [], ◌∷◌, Contains, OnOk, OnErr, IfSome};
+ghost use Rattle.std.specs.Prelude.{◌≡◌, ◌≢◌, ℕ, ◌+◌, ◌<◌, ◌≤◌, [], ◌∷◌, Contains, OnOk, OnErr, IfSome, IsTrue};
 ghost use Rattle.concurrent_lru.specs.Probing.Probes.{mark_at, marks_of};
 ghost use Rattle.concurrent_lru.specs.Probing.Entries.{count, entry, Has, Holds, IsSame, Adds, Removes};
 ghost use Rattle.concurrent_lru.specs.Probing.OpenTable.{mark_of as mark_for, capacity, IsFilled, IsVacancy, HasMark, EndsAt, walk, step_for};
 
 use crate::list::probes::{
-    Probe, Slot, copy_all, empty_slots, find_mark, find_next, home_of, item_in, mark_of, put,
-    put_in, take_out,
+    Probe, Slot, copy_all, empty_slots, find_mark, find_next, home_of, item_in, mark_in, mark_of,
+    put, put_in, take_out,
 };
 use std::alloc::{AllocError, Global};
 use std::marker::Model;
 
 /// Where an item lies. It becomes stale with the next insertion, removal or growth.
 #[derive(Clone, Copy)]
-pub(super) struct Cursor {
+pub(crate) struct Cursor {
     slot: usize,
+}
+
+impl Cursor {
+    /// Returns a cursor at which no item lies.
+    #[inline(always)]
+    pub(crate) fn nowhere() -> Cursor {
+        Cursor { slot: usize::MAX }
+    }
 }
 
 impl Model for Cursor {
@@ -171,6 +179,14 @@ impl<T: Copy> OpenTable<T> {
         ensures end { EndsAt self.now (mark_at (marks_of self.now) cursor) result }
     {
         step_of(find_next(&self.slots, cursor.slot))
+    }
+
+    /// Returns whether an item lies at a cursor, which may be stale.
+    #[inline(always)]
+    pub(super) fn is_filled(&self, cursor: Cursor) -> bool
+        ensures { IsTrue result → IsFilled self.now cursor }
+    {
+        cursor.slot < self.slots.len() && mark_in(&self.slots, cursor.slot) != 0
     }
 
     /// Returns the item at a cursor.

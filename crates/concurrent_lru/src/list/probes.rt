@@ -78,7 +78,7 @@ fn steps_between(count: usize, from: usize, to: usize) -> usize
 
 /// Returns the mark in a slot.
 #[inline(always)]
-fn mark_in<T: Copy>(slots: &[Slot<T>], at: usize) -> u64
+pub(super) fn mark_in<T: Copy>(slots: &[Slot<T>], at: usize) -> u64
     requires { at < length slots.now }
     ensures { result ≡ mark_at (marks_of slots.now) at }
 {

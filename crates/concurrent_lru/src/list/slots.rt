@@ -214,21 +214,21 @@ impl<K: Drop, V: Drop> Slots<K, V> {
     }
 
     // Returns the slot of the node with an equal key, among those with this hash that are not
-    // detached.
+    // detached, and where it lies in the table.
     #[inline(always)]
-    pub(super) fn find_key(&self, hash: u64, key: &K) -> Option<usize>
+    pub(super) fn find_key(&self, hash: u64, key: &K) -> Option<(usize, Cursor)>
     where
         K: Eq,
         requires tied { IsTied self.now }
         requires listed { IsListed self.now }
         ensures { MatchOption result (LacksKey K.eq self.now hash key.now)
-            (λ slot. HasKeyIn K.eq self.now slot key.now) }
+            (λ r. HasKeyIn K.eq self.now r.0 key.now) }
     {
         let mut at = self.by_hash.first(hash);
         'walk: while let Step::Item(cursor) = at {
             let node = self.candidate(cursor);
             if node.key == *key {
-                return Some(node.slot);
+                return Some((node.slot, cursor));
             }
             at = self.by_hash.next(cursor);
         }
@@ -236,18 +236,18 @@ impl<K: Drop, V: Drop> Slots<K, V> {
     }
 
     // Returns the slot of a node with this stamp, if it is among those with this hash that are not
-    // detached.
+    // detached, and where it lies in the table.
     #[inline(always)]
-    pub(super) fn find_stamp(&self, hash: u64, stamp: u64) -> Option<usize>
+    pub(super) fn find_stamp(&self, hash: u64, stamp: u64) -> Option<(usize, Cursor)>
         requires tied { IsTied self.now }
         requires listed { IsListed self.now }
-        ensures { IfSome result (λ slot. HasStampIn self.now slot stamp) }
+        ensures { IfSome result (λ r. HasStampIn self.now r.0 stamp) }
     {
         let mut at = self.by_hash.first(hash);
         'walk: while let Step::Item(cursor) = at {
             let node = self.candidate(cursor);
             if node.stamp == stamp {
-                return Some(node.slot);
+                return Some((node.slot, cursor));
             }
             at = self.by_hash.next(cursor);
         }
@@ -261,6 +261,33 @@ impl<K: Drop, V: Drop> Slots<K, V> {
         ensures { IsNodeAt self.now slot result.now }
     {
         self.memory.get(self.pointers[slot])
+    }
+
+    // Returns the address of the node in a slot. If `near`, which may be any cursor, leads to the
+    // node, the slab is not read.
+    #[inline(always)]
+    fn address(&self, slot: usize, near: Cursor) -> At<Node<K, V>>
+        requires tied { IsTied self.now }
+        requires listed { IsListed self.now }
+        requires present { HasNode self.now slot }
+        ensures { LeadsTo self.now result.ptr slot }
+    {
+        if self.by_hash.is_filled(near) && self.candidate(near).slot == slot {
+            return self.by_hash.item(near);
+        }
+        self.pointers[slot]
+    }
+
+    // Returns the node in a slot for reading, as `node` does; the lookup begins at a cursor, which
+    // may be any.
+    #[inline(always)]
+    pub(super) fn node_near(&self, slot: usize, near: Cursor) -> &Node<K, V>
+        requires tied { IsTied self.now }
+        requires listed { IsListed self.now }
+        requires present { HasNode self.now slot }
+        ensures { IsNodeAt self.now slot result.now }
+    {
+        self.memory.get(self.address(slot, near))
     }
 
     // Returns the number of nodes.
@@ -298,6 +325,23 @@ impl<K: Drop, V: Drop> Slots<K, V> {
     {
         self.looks.tick();
         self.pointers[slot].ptr
+    }
+
+    // Returns a pointer to the node in a slot, as `look` does; the lookup begins at a cursor, which
+    // may be any.
+    #[inline(always)]
+    pub(super) fn look_near(&mut self, slot: usize, near: Cursor) -> *mut Node<K, V>
+        requires tied { IsTied self.old }
+        requires listed { IsListed self.old }
+        requires present { HasNode self.old slot }
+        ensures tied { IsTied self.new }
+        ensures link { LeadsTo self.old result slot }
+        ensures rest { self.new ≡ record self.old { looks = self.new.looks } }
+        ensures looks { self.new.looks.count ≡ self.old.looks.count + 1 }
+    {
+        let at = self.address(slot, near);
+        self.looks.tick();
+        at.ptr
     }
 
     // Returns the node at the end of a link for reading.
@@ -386,13 +430,14 @@ impl<K: Drop, V: Drop> Slots<K, V> {
     }
 
     // Sets the pins of the node in a slot.
-    pub(super) fn set_pins(&mut self, slot: usize, pins: u32)
+    pub(super) fn set_pins(&mut self, slot: usize, near: Cursor, pins: u32)
         requires tied { IsTied self.old }
+        requires listed { IsListed self.old }
         requires present { HasNode self.old slot }
         ensures rest { OnlyLooksAndWrites self.old self.new }
         ensures entry { Rewrites self.old self.new slot (entry_with_pins pins) }
     {
-        let link = self.look(slot);
+        let link = self.look_near(slot, near);
         self.set_pins_by_link(link, pins);
     }
 
@@ -422,13 +467,14 @@ impl<K: Drop, V: Drop> Slots<K, V> {
     }
 
     // Sets the phase of the node in a slot.
-    pub(super) fn set_phase(&mut self, slot: usize, phase: Phase<V>)
+    pub(super) fn set_phase(&mut self, slot: usize, near: Cursor, phase: Phase<V>)
         requires tied { IsTied self.old }
+        requires listed { IsListed self.old }
         requires present { HasNode self.old slot }
         ensures rest { OnlyLooksAndWrites self.old self.new }
         ensures entry { Rewrites self.old self.new slot (entry_with_phase phase) }
     {
-        let link = self.look(slot);
+        let link = self.look_near(slot, near);
         self.follow_mut(link).set_phase(phase);
     }
 

@@ -6,5 +6,5 @@ use Rattle.concurrent_lru.proofs.Entries.HashesOfNodes.{alike_hashes}
 use Rattle.concurrent_lru.proofs.table.Table.find_key.Goals as goal
 
 pub returns : goal.returns
-returns g c = subst (λ t. MatchOption c.find_key.result (ContainsNoKey g.K.PartialEq.eq t c.args.key.now) (λ p. IsPlaceOfKey g.K.PartialEq.eq t p c.args.key.now)) c.self.view_is
+returns g c = subst (λ t. MatchOption c.find_key.result (ContainsNoKey g.K.PartialEq.eq t c.args.key.now) (λ r. IsPlaceOfKey g.K.PartialEq.eq t r.0 c.args.key.now)) c.self.view_is
     (found_key c.self.invariant.stored (alike_hashes g.K.Hash.hash_input g.met.K.Hash.respects_eq) c.args.hash c.args.key.now c.find_key.result c.requires c.find_key.ensures)

@@ -48,7 +48,7 @@ invariant_of-self-2 g c =
       sums = c.self.invariant.sums ∙ sym (sum_revived (entries_of c.self.inside.nodes) (entries_of c.revive.new.self) n.0.stamp (record { stamp = n.0.stamp; key = n.0.key; charge = n.0.charge; value = l.0 }) _
           (stamps_apart c.self.inside.nodes _ c.self.invariant.stored.represents) (ap (λ t. t.idle) changed) (ap (λ t. t.held) changed)
           ((idle_found c.self.invariant.stored c.args.place n.0 n.1 m).1 ∙ as_idle-ready n.0 l.0 l.2) (idle_unheld c.self.invariant.stored c.args.place n.0 n.1 m) refl);
-      rests = kept_less c.self.invariant.stored c.args.place _ c.node.ensures.entry m _ c.self.invariant.rests (entries_of c.revive.new.self) (ap (λ t. t.idle) changed ∙ ap (λ e. without e.stamp (idle_in c.self.inside.nodes)) (same_Some _ _ (sym n.1 ∙ c.node.ensures.entry)));
+      rests = kept_less c.self.invariant.stored c.args.place _ c.node_near.ensures.entry m _ c.self.invariant.rests (entries_of c.revive.new.self) (ap (λ t. t.idle) changed ∙ ap (λ e. without e.stamp (idle_in c.self.inside.nodes)) (same_Some _ _ (sym n.1 ∙ c.node_near.ensures.entry)));
     }
 
 pub returns-clause-value : goal.returns-clause-value
@@ -71,8 +71,8 @@ returns-clause-ok g c =
       changed = entries_revived_by_one c.self.invariant.stored (pinned_writes c.self.inside.nodes c.revive.new.self c.args.place 1 n.0 n.1 c.in_ok-value.ensures.nodes) l.0 c.in_ok-value.ensures.idle l.1 l.2 c.in_ok-value.ensures.work;
     })
 
-pub node-requires : goal.node-requires
-node-requires g c = let h = subst (λ t. ContainsIdleAt t c.args.place) (sym c.self.view_is) c.requires in has_node c.self.invariant.stored c.args.place (h.0, h.1)
+pub node_near-requires : goal.node_near-requires
+node_near-requires g c = let h = subst (λ t. ContainsIdleAt t c.args.place) (sym c.self.view_is) c.requires in has_node c.self.invariant.stored c.args.place (h.0, h.1)
 
 pub overflow_sub-self : goal.overflow_sub-self
-overflow_sub-self g c = kept_bound c.self.invariant.stored c.args.place _ c.node.ensures.entry (idle_node c.self.invariant.stored c.args.place (subst (λ t. ContainsIdleAt t c.args.place) (sym c.self.view_is) c.requires)) _ c.self.invariant.rests
+overflow_sub-self g c = kept_bound c.self.invariant.stored c.args.place _ c.node_near.ensures.entry (idle_node c.self.invariant.stored c.args.place (subst (λ t. ContainsIdleAt t c.args.place) (sym c.self.view_is) c.requires)) _ c.self.invariant.rests
