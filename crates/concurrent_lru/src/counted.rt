@@ -48,13 +48,13 @@ impl<K: Hash + Eq + Clone, V> Model for CountedState<K, V> {
 
 impl<K: Hash + Eq + Clone, V: Drop> CountedState<K, V> {
     /// Creates an empty cache with no map by stamp and no calls counted.
-    pub fn without_stamp_map(alloc: Global, capacity: u64) -> CountedState<K, V>
+    pub fn without_stamp_map(alloc: Global, capacity: u64, seed: u64) -> CountedState<K, V>
         requires { CopiesAreEqual K.is_clone K.eq }
         ensures empty { result.cache ≡ empty_cache capacity most_pins_by_default 0 }
         ensures counts { result.counts ≡ counts_from 0 0 }
     {
         CountedState {
-            state: State::without_stamp_map(alloc, capacity),
+            state: State::without_stamp_map(alloc, capacity, seed),
             counts: Counts::from(0, 0),
         }
     }

@@ -74,12 +74,12 @@ pub enum Lookup<'a, K: Hash + Eq + Clone, V, R: Wait, F: Fit<K, V>> {
 
 impl<K: Hash + Eq + Clone + Drop, V: Drop, R: Wait, F: Fit<K, V>> Door<K, V, R, F> {
     /// Creates the lock of an empty cache.
-    pub fn new(alloc: Global, rt: R, capacity: u64) -> Self
+    pub fn new(alloc: Global, rt: R, capacity: u64, seed: u64) -> Self
         requires copies { CopiesAreEqual K.is_clone K.eq }
     {
         Door {
             rt,
-            locked: Mutex::new(Locked::new(alloc, capacity)),
+            locked: Mutex::new(Locked::new(alloc, capacity, seed)),
             woken: Condvar::new(),
         }
     }

@@ -72,13 +72,13 @@ impl<K: Hash + Eq + Clone, V, F: Fit<K, V>> Model for Locked<K, V, F> {
 
 impl<K: Hash + Eq + Clone + Drop, V: Drop, F: Fit<K, V>> Locked<K, V, F> {
     /// Creates an empty cache. Takes no memory.
-    pub fn new(alloc: Global, capacity: u64) -> Self
+    pub fn new(alloc: Global, capacity: u64, seed: u64) -> Self
         requires copies { CopiesAreEqual K.is_clone K.eq }
         ensures empty { result.cache ≡ empty_cache capacity most_pins_by_default 0 }
         ensures counts { result.counts ≡ counts_from 0 0 }
     {
         Locked {
-            state: CountedState::without_stamp_map(alloc, capacity),
+            state: CountedState::without_stamp_map(alloc, capacity, seed),
             mark: PhantomData,
         }
     }

@@ -10,6 +10,7 @@ use crate::fit::Fit;
 use crate::locked::{Pruned, Reserved, Resized};
 use crate::lru_core::Refusal;
 use crate::shards::{capacity_per_shard, choose_shard};
+use crate::table::seed_of_shard;
 use crate::unsharded::LruCache;
 use std::alloc::Global;
 use std::fmt;
@@ -57,7 +58,8 @@ impl<
             let Ok(own_rt) = rt.clone() else {
                 return Err(Refusal::Memory);
             };
-            caches.push(LruCache::marked(alloc, own_rt, share))?;
+            let seed = seed_of_shard(&hasher, caches.len());
+            caches.push(LruCache::marked_with_seed(alloc, own_rt, share, seed))?;
         }
         Ok(Routes {
             shards: caches,

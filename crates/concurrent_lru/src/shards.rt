@@ -16,6 +16,7 @@ ghost use Rattle.concurrent_lru.specs.Sharded.{AreLawful, HasReadyKeyAt, IsUnrea
 ghost use Rattle.concurrent_lru.specs.ShardSteps.{request_at_shard, outcome_of_shard_begin, outcome_of_shard_get, outcome_of_shard_evictions, shard_of_step, step_at_shard, outcome_at_shard, outcome_of_shard_total, IsShardAnswerTo, TellsNoShard};
 
 use crate::lru_core::{Answer, Begun, Evicted, Failed, Refusal, State, Step};
+use crate::table::seed_of_shard;
 use std::alloc::Global;
 use std::fmt;
 use std::hash::{BuildHasher, Hash};
@@ -139,7 +140,8 @@ impl<K: Hash + Eq + Clone, V: Drop, S: BuildHasher + Drop> Shards<K, V, S> {
         let mut caches = Vec::new(alloc);
         caches.reserve(shards)?;
         for _ in 0..shards {
-            caches.push(State::new(alloc, share))?;
+            let seed = seed_of_shard(&hasher, caches.len());
+            caches.push(State::with_seed(alloc, share, seed))?;
         }
         Ok(Shards {
             alloc,

@@ -2,7 +2,8 @@
 //! total of the charges. The only rule of the cache decided here is the order of eviction; when
 //! things happen is up to the core.
 //!
-//! A key is hashed by `hash_of`, once in a call of the core, which passes the hash on with the key.
+//! A key is hashed by `Table::hash_of`, once in a call of the core, which passes the hash on with
+//! the key.
 ghost use Rattle.std.specs.Prelude.{◌≡◌, ◌≢◌, ℕ, ◌+◌, ◌<◌, ◌≤◌, ◌^◌, Some, None, [], IsSome, OnOk, OnErr, IfOk, IfErr, IfSome, MatchOption, filter_map, length, ◌∷◌, ◌++◌, true, cond, nat_eq};
 ghost use Rattle.std.specs.Arc.{arc_value};
 ghost use Rattle.concurrent_lru.specs.Cache.{count_of, idle_at, pinned_of, IsFront, CopiesAreEqual};
@@ -10,7 +11,7 @@ ghost use Rattle.std.specs.FinMap as map;
 ghost use Rattle.concurrent_lru.specs.NodeTable.{Entry, entry_of, hash_of as hash_in, new_entry, chain_of, phase_of, value_of, ContainsNode, LacksIdle, IsNewStamp};
 ghost use Rattle.concurrent_lru.specs.Representation.{as_idle, held_entry, GetsEntry};
 ghost use Rattle.concurrent_lru.specs.Entries.{cache_of, charges_of, ContainsEntry, ContainsNoStamp, ContainsNoKey, IsPlaceOfKey, ContainsPlace, ContainsIdleAt, ContainsHeldAt, ContainsFoundAt, GetsAt, LacksMakingAt, IsReadyAt, ReadiesAt, Rewrites, RevivesAt, RestsAt, AddsOverHeld, AddsOverIdle, pins_at, value_at, held_with_pins, new_held};
-ghost use Rattle.concurrent_lru.specs.KeyHashes.{key_hash};
+ghost use Rattle.concurrent_lru.specs.KeyHashes.{IsHashOf};
 ghost use Rattle.concurrent_lru.specs.Reads.{RenewsAt};
 ghost use Rattle.concurrent_lru.specs.StampIndex.{keeps_map, mapped_place, HasRoomFor};
 ghost use Rattle.concurrent_lru.specs.Steps.{without, held_in_phase, held_detached};
@@ -20,7 +21,7 @@ mod key_hashes;
 mod spot;
 mod stamp_index;
 
-pub use self::key_hashes::hash_of;
+pub use self::key_hashes::{KeyHash, seed_of_shard};
 pub use self::spot::{Hint, Spot};
 use crate::eviction::{Evicted, reverse};
 use crate::list::{Cursor, Node, Nodes, Phase, Place, Refusal};
@@ -38,6 +39,8 @@ use std::sync::Arc;
 pub struct Table<K: Hash + Eq + Clone, V> {
     nodes: Nodes<K, V>,
     by_stamp: StampIndex,
+    // With which keys are hashed.
+    seed: u64,
     total: u64,
     // The idle entries' part of the total.
     idle_charge: u64,
@@ -56,37 +59,38 @@ impl<K: Hash + Eq + Clone, V> Model for Table<K, V> {
 
     ghost use Rattle.concurrent_lru.specs.KeyHashes.{key_hash};
 
-    ghost invariant = { λ a. IsSoundTable K.is_clone K.eq (key_hash K.hash_input) a.nodes a.by_stamp
-        a.total a.idle_charge };
+    ghost invariant = { λ a. IsSoundTable K.is_clone K.eq (key_hash a.seed K.hash_input) a.nodes
+        a.by_stamp a.total a.idle_charge };
 }
 
 impl<K: Hash + Eq + Clone, V: Drop> Table<K, V> {
-    /// Creates a table with no entries and a map by stamp. Takes no memory.
-    pub fn new(alloc: Global) -> Table<K, V>
+    /// Creates a table with no entries and a map by stamp, which hashes keys with a seed. Takes no
+    /// memory.
+    pub fn new(alloc: Global, seed: u64) -> Table<K, V>
         requires { CopiesAreEqual K.is_clone K.eq }
         ensures idle { result.idle ≡ [] }
         ensures held { result.held ≡ map.empty }
         ensures stamps { result.stamps ≡ map.empty }
         ensures work { result.work ≡ 0 }
     {
-        Table::with_stamp_index(alloc, StampIndex::Mapped(HashMap::new(alloc)))
+        Table::with_stamp_index(alloc, seed, StampIndex::Mapped(HashMap::new(alloc)))
     }
 
     // Creates a table with no entries and no map by stamp: adding or removing an entry costs one
     // write less, but a lookup by stamp visits every node unless its hint leads to the entry. For
     // callers that keep the hints of what they pinned. Takes no memory.
-    pub(crate) fn without_stamp_map(alloc: Global) -> Table<K, V>
+    pub(crate) fn without_stamp_map(alloc: Global, seed: u64) -> Table<K, V>
         requires { CopiesAreEqual K.is_clone K.eq }
         ensures idle { result.idle ≡ [] }
         ensures held { result.held ≡ map.empty }
         ensures stamps { result.stamps ≡ map.empty }
         ensures work { result.work ≡ 0 }
     {
-        Table::with_stamp_index(alloc, StampIndex::Unmapped)
+        Table::with_stamp_index(alloc, seed, StampIndex::Unmapped)
     }
 
     // Creates a table with no entries that finds stamps with `by_stamp`.
-    fn with_stamp_index(alloc: Global, by_stamp: StampIndex) -> Table<K, V>
+    fn with_stamp_index(alloc: Global, seed: u64, by_stamp: StampIndex) -> Table<K, V>
         requires copies { CopiesAreEqual K.is_clone K.eq }
         requires unmapped { (s : ℕ) → mapped_place by_stamp s ≡ None }
         ensures idle { result.idle ≡ [] }
@@ -97,6 +101,7 @@ impl<K: Hash + Eq + Clone, V: Drop> Table<K, V> {
         Table {
             nodes: Nodes::new(alloc),
             by_stamp,
+            seed,
             total: 0,
             idle_charge: 0,
         }
@@ -163,15 +168,23 @@ impl<K: Hash + Eq + Clone, V: Drop> Table<K, V> {
         }
     }
 
+    /// Returns the hash of a key.
+    #[inline(always)]
+    pub fn hash_of(&self, key: &K) -> KeyHash
+        ensures { IsHashOf K.hash_input result key.now }
+    {
+        KeyHash::of(self.seed, key)
+    }
+
     /// Returns the place of the entry with an equal key, and the cursor with which the next calls
     /// find it again. `hash` is the hash of the key.
     #[inline(always)]
-    pub fn find_key(&self, hash: u64, key: &K) -> Option<(Place, Cursor)>
-        requires { hash ≡ key_hash K.hash_input key.now }
+    pub fn find_key(&self, hash: KeyHash, key: &K) -> Option<(Place, Cursor)>
+        requires { IsHashOf K.hash_input hash key.now }
         ensures { MatchOption result (ContainsNoKey K.eq self.now key.now)
             (λ r. IsPlaceOfKey K.eq self.now r.0 key.now) }
     {
-        self.nodes.find_key(hash, key)
+        self.nodes.find_key(hash.under(self.seed, key), key)
     }
 
     /// Returns the node at a place. The lookup begins at a cursor, here and in the calls below; any
@@ -196,11 +209,11 @@ impl<K: Hash + Eq + Clone, V: Drop> Table<K, V> {
         &mut self,
         alloc: Global,
         stamp: u64,
-        hash: u64,
+        hash: KeyHash,
         key: &K,
         charge: u64,
     ) -> Result<Place, Refusal>
-        requires hash { hash ≡ key_hash K.hash_input key.now }
+        requires hash { IsHashOf K.hash_input hash key.now }
         requires absent { ContainsNoKey K.eq self.old key.now }
         requires fresh { ContainsNoStamp self.old stamp }
         requires fits { charges_of self.old + charge < 2 ^ 64 }
@@ -211,6 +224,7 @@ impl<K: Hash + Eq + Clone, V: Drop> Table<K, V> {
         ensures refusal { IfErr result (λ e. e ≡ Refusal.Memory) }
         ensures work { self.new.work ≡ self.old.work }
     {
+        let hash = hash.under(self.seed, key);
         let node = new_entry(alloc, stamp, hash, key, charge)?;
         make_room(&mut self.nodes, &mut self.by_stamp, 1)?;
         Ok(put(&mut self.nodes, &mut self.by_stamp, &mut self.total, node))
@@ -225,11 +239,11 @@ impl<K: Hash + Eq + Clone, V: Drop> Table<K, V> {
         alloc: Global,
         place: Place,
         stamp: u64,
-        hash: u64,
+        hash: KeyHash,
         key: &K,
         charge: u64,
     ) -> Result<Place, Refusal>
-        requires hash { hash ≡ key_hash K.hash_input key.now }
+        requires hash { IsHashOf K.hash_input hash key.now }
         requires held { ContainsFoundAt self.old place }
         requires keyed { (e : Entry K V) → GetsAt self.old place e → K.eq e.key key.now ≡ true }
         requires fresh { ContainsNoStamp self.old stamp }
@@ -238,6 +252,7 @@ impl<K: Hash + Eq + Clone, V: Drop> Table<K, V> {
         ensures err { OnErr result (self.new ≡ self.old) }
         ensures refusal { IfErr result (λ e. e ≡ Refusal.Memory) }
     {
+        let hash = hash.under(self.seed, key);
         let node = new_entry(alloc, stamp, hash, key, charge)?;
         make_room(&mut self.nodes, &mut self.by_stamp, 1)?;
         self.nodes.set_detached(place);
@@ -253,11 +268,11 @@ impl<K: Hash + Eq + Clone, V: Drop> Table<K, V> {
         alloc: Global,
         place: Place,
         stamp: u64,
-        hash: u64,
+        hash: KeyHash,
         key: &K,
         charge: u64,
     ) -> Result<(Box<Node<K, V>>, Place), Refusal>
-        requires hash { hash ≡ key_hash K.hash_input key.now }
+        requires hash { IsHashOf K.hash_input hash key.now }
         requires idle { ContainsIdleAt self.old place }
         requires keyed { (e : Entry K V) → GetsAt self.old place e → K.eq e.key key.now ≡ true }
         requires fresh { ContainsNoStamp self.old stamp }
@@ -270,6 +285,7 @@ impl<K: Hash + Eq + Clone, V: Drop> Table<K, V> {
         ensures err { OnErr result (self.new ≡ self.old) }
         ensures refusal { IfErr result (λ e. e ≡ Refusal.Memory) }
     {
+        let hash = hash.under(self.seed, key);
         let node = new_entry(alloc, stamp, hash, key, charge)?;
         make_room(&mut self.nodes, &mut self.by_stamp, 1)?;
         self.nodes.remove(place);

@@ -42,6 +42,18 @@ impl<K: Hash + Eq + Clone + Drop, V: Drop, R: Wait> LruCache<K, V, R, Anything> 
     {
         LruCache::marked(alloc, rt, capacity)
     }
+
+    /// Creates an empty cache as `new` does, which hashes keys with a seed. Takes no memory.
+    ///
+    /// Whoever knows the seed can choose keys that have one hash, so that each look-up of one visits
+    /// them all, under the lock. Where keys come from outside, take a random seed for each cache, as
+    /// a [`RandomState`](std::hash::RandomState) gives one: `RandomState::new(&rt)?.hash_one(&0)`.
+    /// The seed of `new` is 0. No answer depends on it.
+    pub fn with_seed(alloc: Global, rt: R, capacity: u64, seed: u64) -> Self
+        requires copies { CopiesAreEqual K.is_clone K.eq }
+    {
+        LruCache::marked_with_seed(alloc, rt, capacity, seed)
+    }
 }
 
 impl<K: Hash + Eq + Clone + Drop, V: Drop, R: Wait, F: Fit<K, V>> LruCache<K, V, R, F> {
@@ -49,9 +61,16 @@ impl<K: Hash + Eq + Clone + Drop, V: Drop, R: Wait, F: Fit<K, V>> LruCache<K, V,
     pub fn marked(alloc: Global, rt: R, capacity: u64) -> Self
         requires copies { CopiesAreEqual K.is_clone K.eq }
     {
+        LruCache::marked_with_seed(alloc, rt, capacity, 0)
+    }
+
+    /// Creates an empty cache with the mark `F`, otherwise as `with_seed` does. Takes no memory.
+    pub fn marked_with_seed(alloc: Global, rt: R, capacity: u64, seed: u64) -> Self
+        requires copies { CopiesAreEqual K.is_clone K.eq }
+    {
         LruCache {
             alloc,
-            door: Door::new(alloc, rt, capacity),
+            door: Door::new(alloc, rt, capacity, seed),
         }
     }
 

@@ -3,6 +3,7 @@ use Rattle.std.proofs.Common.{◌≡◌, ℕ, Bool, true, false, List, Some, ref
 use Rattle.std.specs.Ordering.{nat_cmp}
 use Rattle.std.specs.List.{fold}
 use Rattle.std.specs.Int.{w64, rotate_left}
+use Rattle.std.specs.Hash as fed
 use Rattle.std.specs.Hash.FoldHasher.{initial, write, finish}
 use Rattle.std.specs.FinMap.{FinMap, get, insert, remove, empty, get-empty}
 use Rattle.std.proofs.lemmas.Bool.{eqb-true}
@@ -14,8 +15,8 @@ use Rattle.concurrent_lru.proofs.Entries.NodesOfSetAndAdd.{inserted_at, inserted
 use Rattle.concurrent_lru.proofs.Lists.Removals.{removed_other, removed_some}
 
 -- equal keys have the same hash, where they make the same writes
-pub alike_hashes : {K : Type 0} {E : K → K → Bool} (bytes : K → List (List ℕ)) → ((k l : K) → E k l ≡ true → bytes k ≡ bytes l) → (k l : K) → E k l ≡ true → key_hash bytes k ≡ key_hash bytes l
-alike_hashes bytes alike k l same = ap (λ ws. rotate_left w64 (finish (fold write initial ws)) 40) (alike k l same)
+pub alike_hashes : {K : Type 0} {E : K → K → Bool} (seed : ℕ) (bytes : K → List (List ℕ)) → ((k l : K) → E k l ≡ true → bytes k ≡ bytes l) → (k l : K) → E k l ≡ true → key_hash seed bytes k ≡ key_hash seed bytes l
+alike_hashes seed bytes alike k l same = ap (λ ws. rotate_left w64 (finish (fold write (fold write initial (fed.u64 seed)) ws)) 40) (alike k l same)
 
 module _ {K V : Type 0} (H : K → ℕ) where
   pub hashed_empty : (m : FinMap nat_cmp (Entry K V)) (h : FinMap nat_cmp ℕ) → m ≡ empty → AreHashed H m h

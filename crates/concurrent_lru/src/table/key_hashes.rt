@@ -1,18 +1,68 @@
 //! The hashes of keys.
 ghost use Rattle.std.specs.Prelude.{◌≡◌};
-ghost use Rattle.concurrent_lru.specs.KeyHashes.{key_hash};
+ghost use Rattle.concurrent_lru.specs.KeyHashes.{key_hash, IsHashOf};
 
-use std::hash::{FoldHasher, Hash, Hasher};
+use std::hash::{BuildHasher, FoldHasher, Hash, Hasher};
 
-/// Returns the hash of a key, by which a table finds it. The hasher is fast and has a fixed seed.
+/// The hash of a key under a seed.
 ///
-/// A table probes by the lowest bits of a hash. Here they begin at bit 24 of the hasher's number: a
-/// shard is chosen by the lowest bits of such a number, so all entries of a shard may share those.
+/// A key is hashed once in a call, and its hash is passed on from function to function. Each takes
+/// the number only if the seed is its own, so no caller can pass the hash of another table.
+#[derive(Clone, Copy)]
+pub struct KeyHash {
+    number: u64,
+    seed: u64,
+}
+
+impl KeyHash {
+    /// Hashes a key.
+    #[inline(always)]
+    pub fn of<K: Hash>(seed: u64, key: &K) -> KeyHash
+        ensures { IsHashOf K.hash_input result key.now }
+    {
+        KeyHash {
+            number: number_of(seed, key),
+            seed,
+        }
+    }
+
+    /// Returns the hash of the same key under a seed. The key is hashed again if this hash was made
+    /// with another one.
+    #[inline(always)]
+    pub fn under<K: Hash>(self, seed: u64, key: &K) -> u64
+        requires { IsHashOf K.hash_input self key.now }
+        ensures { result ≡ key_hash seed K.hash_input key.now }
+    {
+        if self.seed == seed {
+            return self.number;
+        }
+        number_of(seed, key)
+    }
+
+    /// Returns the number.
+    #[inline(always)]
+    pub fn number(&self) -> u64 {
+        self.number
+    }
+}
+
+// Hashes a key by the kit's fast hasher, which is fed the seed before the key: without the seed,
+// nobody can tell which keys have hashes in common.
+//
+// A table probes by the lowest bits of a hash. Here they begin at bit 24 of the hasher's number: a
+// shard is chosen by the lowest bits of such a number, so all entries of a shard may share those.
 #[inline(always)]
-pub fn hash_of<K: Hash>(key: &K) -> u64
-    ensures { result ≡ key_hash K.hash_input key.now }
+fn number_of<K: Hash>(seed: u64, key: &K) -> u64
+    ensures { result ≡ key_hash seed K.hash_input key.now }
 {
     let mut hasher = FoldHasher::default();
+    hasher.write_u64(seed);
     key.hash(&mut hasher);
     hasher.finish().rotate_left(40)
+}
+
+/// Returns the seed for the table of a shard. Without the hasher that chooses the shards of keys,
+/// nobody can tell it.
+pub fn seed_of_shard<S: BuildHasher>(hasher: &S, shard: usize) -> u64 {
+    hasher.hash_one(&shard)
 }

@@ -89,7 +89,7 @@ returns-in_err-new-clause-step g c =
     (subst (λ old. Remakes g.K.PartialEq.eq old c.args.key.now c.args.charge answer.result (cache_with c.self.inside.capacity c.self.inside.most_pins c.self.inside.next c.self.inside.table)) (ap (λ x. x.cache) c.self.view_is)
     (remade_refused g.K.PartialEq.eq (cache_with c.self.inside.capacity c.self.inside.most_pins c.self.inside.next c.self.inside.table) (cache_with c.self.inside.capacity c.self.inside.most_pins c.self.inside.next c.self.inside.table) c.args.key.now c.args.charge answer.result _ answer.ensures.1 (subst (λ e. RefusesToReplace g.K.PartialEq.eq (cache_with c.self.inside.capacity c.self.inside.most_pins c.self.inside.next c.self.inside.table) c.args.key.now c.args.charge e (cache_with c.self.inside.capacity c.self.inside.most_pins c.self.inside.next c.self.inside.table)) (sym c.in_err-new.ensures.refusal) lacks)))
 
-over_held : (g : _) (c : After-none-then-pins-gt0 g) → Remakes g.K.PartialEq.eq (cache_with c.self.inside.capacity c.self.inside.most_pins c.self.inside.next c.self.inside.table) c.args.key.now c.args.charge (Ok (record { stamp = c.self.inside.next; hint = record { hash = c.hash_of-hash.result; place = c.in_ok-new.new } }, [], c.settle-evicted.result)) (cache_with c.self.inside.capacity c.self.inside.most_pins (c.self.inside.next + 1) c.settle-evicted.new.self)
+over_held : (g : _) (c : After-none-then-pins-gt0 g) → Remakes g.K.PartialEq.eq (cache_with c.self.inside.capacity c.self.inside.most_pins c.self.inside.next c.self.inside.table) c.args.key.now c.args.charge (Ok (record { stamp = c.self.inside.next; hint = c.to-hint.result }, [], c.settle-evicted.result)) (cache_with c.self.inside.capacity c.self.inside.most_pins (c.self.inside.next + 1) c.settle-evicted.new.self)
 over_held g c =
     let some = pinned (entry_of c.node-node.result.now).pins c.if-pins-gt0.true in
     let equal = key_is c.node-node.ensures.entry c.self.invariant.lawful c.args.key.now c.in-Some.ensures in
@@ -109,8 +109,8 @@ invariant_of-self-then-pins-gt0 g c = record { lawful = over_held_lawful g c; pi
 pub returns-then-pins-gt0-clause-step : goal.returns-then-pins-gt0-clause-step
 returns-then-pins-gt0-clause-step g c =
     let new = (cache_with c.self.inside.capacity c.self.inside.most_pins (c.self.inside.next + 1) c.settle-evicted.new.self) in
-    subst (λ old. Remakes g.K.PartialEq.eq old c.args.key.now c.args.charge (Ok (record { stamp = c.self.inside.next; hint = record { hash = c.hash_of-hash.result; place = c.in_ok-new.new } }, c.none-then-pins-gt0.result, c.settle-evicted.result)) new) (ap (λ x. x.cache) c.self.view_is)
-    (subst (λ replaced. Remakes g.K.PartialEq.eq (cache_with c.self.inside.capacity c.self.inside.most_pins c.self.inside.next c.self.inside.table) c.args.key.now c.args.charge (Ok (record { stamp = c.self.inside.next; hint = record { hash = c.hash_of-hash.result; place = c.in_ok-new.new } }, replaced, c.settle-evicted.result)) new) (sym c.none-then-pins-gt0.ensures) (over_held g c))
+    subst (λ old. Remakes g.K.PartialEq.eq old c.args.key.now c.args.charge (Ok (record { stamp = c.self.inside.next; hint = c.to-hint.result }, c.none-then-pins-gt0.result, c.settle-evicted.result)) new) (ap (λ x. x.cache) c.self.view_is)
+    (subst (λ replaced. Remakes g.K.PartialEq.eq (cache_with c.self.inside.capacity c.self.inside.most_pins c.self.inside.next c.self.inside.table) c.args.key.now c.args.charge (Ok (record { stamp = c.self.inside.next; hint = c.to-hint.result }, replaced, c.settle-evicted.result)) new) (sym c.none-then-pins-gt0.ensures) (over_held g c))
 
 pub returns-then-pins-gt0-clause-lawful : goal.returns-then-pins-gt0-clause-lawful
 returns-then-pins-gt0-clause-lawful g c = over_held_lawful g c

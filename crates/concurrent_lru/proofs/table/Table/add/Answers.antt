@@ -37,9 +37,9 @@ invariant_of-self-2 g c =
     let grown = entries_same c.self.inside.nodes c.make_room.new.nodes c.make_room.ensures.nodes c.make_room.ensures.idle c.make_room.ensures.work in
     let lacks = subst (λ t. ContainsNoStamp t c.args.stamp) (sym (grown ∙ c.self.view_is)) c.requires.fresh in
     let entry : entry_of c.in_ok-node.node.value ≡ new_entry c.args.stamp (entry_of c.in_ok-node.node.value).key c.args.charge = c.in_ok-node.ensures.entry in
-    let added : IsAdded (key_hash g.K.Hash.hash_input) c.make_room.new.nodes c.put.new.nodes c.make_room.new.by_stamp c.put.new.by_stamp c.put.result (new_entry c.args.stamp (entry_of c.in_ok-node.node.value).key c.args.charge) =
-    put_added (alike_hashes g.K.Hash.hash_input g.met.K.Hash.respects_eq) r c.in_ok-node.ensures.own c.put.ensures.free
-    (c.put.ensures.nodes ∙ ap (insert c.make_room.new.nodes.nodes c.put.result) entry) c.put.ensures.hashes (c.in_ok-node.ensures.hash ∙ c.requires.hash) c.put.ensures.idle (fresh_among r c.args.stamp lacks) c.put.ensures.keeps
+    let added : IsAdded (key_hash c.self.inside.seed g.K.Hash.hash_input) c.make_room.new.nodes c.put.new.nodes c.make_room.new.by_stamp c.put.new.by_stamp c.put.result (new_entry c.args.stamp (entry_of c.in_ok-node.node.value).key c.args.charge) =
+    put_added (alike_hashes c.self.inside.seed g.K.Hash.hash_input g.met.K.Hash.respects_eq) r c.in_ok-node.ensures.own c.put.ensures.free
+    (c.put.ensures.nodes ∙ ap (insert c.make_room.new.nodes.nodes c.put.result) entry) c.put.ensures.hashes (c.in_ok-node.ensures.hash ∙ c.under-hash.ensures) c.put.ensures.idle (fresh_among r c.args.stamp lacks) c.put.ensures.keeps
     (λ kept q. c.put.ensures.by_stamp kept q ∙ ap (λ n. cond (eqb n q) (Some c.put.result) (mapped_place c.make_room.new.by_stamp q)) (ap (λ x. x.stamp) entry)) in
     let sum = sum_with (entries_of c.make_room.new.nodes) (entries_of c.put.new.nodes) c.args.stamp (new_held (entry_of c.in_ok-node.node.value).key c.args.charge) (idle_with r added) (held_with r added) (unheld r c.args.stamp lacks) in
     record {
@@ -54,9 +54,9 @@ returns-clause-idle g c =
     let grown = entries_same c.self.inside.nodes c.make_room.new.nodes c.make_room.ensures.nodes c.make_room.ensures.idle c.make_room.ensures.work in
     let lacks = subst (λ t. ContainsNoStamp t c.args.stamp) (sym (grown ∙ c.self.view_is)) c.requires.fresh in
     let entry : entry_of c.in_ok-node.node.value ≡ new_entry c.args.stamp (entry_of c.in_ok-node.node.value).key c.args.charge = c.in_ok-node.ensures.entry in
-    let added : IsAdded (key_hash g.K.Hash.hash_input) c.make_room.new.nodes c.put.new.nodes c.make_room.new.by_stamp c.put.new.by_stamp c.put.result (new_entry c.args.stamp (entry_of c.in_ok-node.node.value).key c.args.charge) =
-    put_added (alike_hashes g.K.Hash.hash_input g.met.K.Hash.respects_eq) r c.in_ok-node.ensures.own c.put.ensures.free
-    (c.put.ensures.nodes ∙ ap (insert c.make_room.new.nodes.nodes c.put.result) entry) c.put.ensures.hashes (c.in_ok-node.ensures.hash ∙ c.requires.hash) c.put.ensures.idle (fresh_among r c.args.stamp lacks) c.put.ensures.keeps
+    let added : IsAdded (key_hash c.self.inside.seed g.K.Hash.hash_input) c.make_room.new.nodes c.put.new.nodes c.make_room.new.by_stamp c.put.new.by_stamp c.put.result (new_entry c.args.stamp (entry_of c.in_ok-node.node.value).key c.args.charge) =
+    put_added (alike_hashes c.self.inside.seed g.K.Hash.hash_input g.met.K.Hash.respects_eq) r c.in_ok-node.ensures.own c.put.ensures.free
+    (c.put.ensures.nodes ∙ ap (insert c.make_room.new.nodes.nodes c.put.result) entry) c.put.ensures.hashes (c.in_ok-node.ensures.hash ∙ c.under-hash.ensures) c.put.ensures.idle (fresh_among r c.args.stamp lacks) c.put.ensures.keeps
     (λ kept q. c.put.ensures.by_stamp kept q ∙ ap (λ n. cond (eqb n q) (Some c.put.result) (mapped_place c.make_room.new.by_stamp q)) (ap (λ x. x.stamp) entry)) in
     idle_with r added ∙ ap (λ t. t.idle) (grown ∙ c.self.view_is)
 
@@ -66,9 +66,9 @@ returns-clause-ok g c =
     let grown = entries_same c.self.inside.nodes c.make_room.new.nodes c.make_room.ensures.nodes c.make_room.ensures.idle c.make_room.ensures.work in
     let lacks = subst (λ t. ContainsNoStamp t c.args.stamp) (sym (grown ∙ c.self.view_is)) c.requires.fresh in
     let entry : entry_of c.in_ok-node.node.value ≡ new_entry c.args.stamp (entry_of c.in_ok-node.node.value).key c.args.charge = c.in_ok-node.ensures.entry in
-    let added : IsAdded (key_hash g.K.Hash.hash_input) c.make_room.new.nodes c.put.new.nodes c.make_room.new.by_stamp c.put.new.by_stamp c.put.result (new_entry c.args.stamp (entry_of c.in_ok-node.node.value).key c.args.charge) =
-    put_added (alike_hashes g.K.Hash.hash_input g.met.K.Hash.respects_eq) r c.in_ok-node.ensures.own c.put.ensures.free
-    (c.put.ensures.nodes ∙ ap (insert c.make_room.new.nodes.nodes c.put.result) entry) c.put.ensures.hashes (c.in_ok-node.ensures.hash ∙ c.requires.hash) c.put.ensures.idle (fresh_among r c.args.stamp lacks) c.put.ensures.keeps
+    let added : IsAdded (key_hash c.self.inside.seed g.K.Hash.hash_input) c.make_room.new.nodes c.put.new.nodes c.make_room.new.by_stamp c.put.new.by_stamp c.put.result (new_entry c.args.stamp (entry_of c.in_ok-node.node.value).key c.args.charge) =
+    put_added (alike_hashes c.self.inside.seed g.K.Hash.hash_input g.met.K.Hash.respects_eq) r c.in_ok-node.ensures.own c.put.ensures.free
+    (c.put.ensures.nodes ∙ ap (insert c.make_room.new.nodes.nodes c.put.result) entry) c.put.ensures.hashes (c.in_ok-node.ensures.hash ∙ c.under-hash.ensures) c.put.ensures.idle (fresh_among r c.args.stamp lacks) c.put.ensures.keeps
     (λ kept q. c.put.ensures.by_stamp kept q ∙ ap (λ n. cond (eqb n q) (Some c.put.result) (mapped_place c.make_room.new.by_stamp q)) (ap (λ x. x.stamp) entry)) in (
       (entry_of c.in_ok-node.node.value).key,
       c.self.invariant.stored.copies c.args.key.now (entry_of c.in_ok-node.node.value).key c.in_ok-node.ensures.own,

@@ -59,9 +59,9 @@ invariant_of-self-2 g c =
     let pinned = held_node r c.args.place n.0 (found_place r c.args.place h) n.1 in
     let between = stored_detached r writes c.set_detached.ensures.hashes c.set_detached.ensures.idle pinned in
     let changed = entries_detached r writes c.set_detached.ensures.idle pinned c.set_detached.ensures.work in
-    let added : IsAdded (key_hash g.K.Hash.hash_input) c.set_detached.new.self c.put.new.nodes c.make_room.new.by_stamp c.put.new.by_stamp c.put.result (new_entry c.args.stamp (entry_of c.in_ok-node.node.value).key c.args.charge) =
-    put_added (alike_hashes g.K.Hash.hash_input g.met.K.Hash.respects_eq) between c.in_ok-node.ensures.own c.put.ensures.free
-    (c.put.ensures.nodes ∙ ap (insert c.set_detached.new.self.nodes c.put.result) entry) c.put.ensures.hashes (c.in_ok-node.ensures.hash ∙ c.requires.hash) c.put.ensures.idle (fresh_written c.args.stamp writes (fresh_among r c.args.stamp lacks)) c.put.ensures.keeps
+    let added : IsAdded (key_hash c.self.inside.seed g.K.Hash.hash_input) c.set_detached.new.self c.put.new.nodes c.make_room.new.by_stamp c.put.new.by_stamp c.put.result (new_entry c.args.stamp (entry_of c.in_ok-node.node.value).key c.args.charge) =
+    put_added (alike_hashes c.self.inside.seed g.K.Hash.hash_input g.met.K.Hash.respects_eq) between c.in_ok-node.ensures.own c.put.ensures.free
+    (c.put.ensures.nodes ∙ ap (insert c.set_detached.new.self.nodes c.put.result) entry) c.put.ensures.hashes (c.in_ok-node.ensures.hash ∙ c.under-hash.ensures) c.put.ensures.idle (fresh_written c.args.stamp writes (fresh_among r c.args.stamp lacks)) c.put.ensures.keeps
     (λ kept q. c.put.ensures.by_stamp kept q ∙ ap (λ n. cond (eqb n q) (Some c.put.result) (mapped_place c.make_room.new.by_stamp q)) (ap (λ x. x.stamp) entry)) in
     let free = unheld_written r (entries_of c.set_detached.new.self) (held_entry (entry_detached n.0)) c.args.place n.0 n.1 c.args.stamp lacks changed in
     let before = sum_written (entries_of c.make_room.new.nodes) (entries_of c.set_detached.new.self) n.0.stamp (held_entry n.0) (held_entry (entry_detached n.0)) (ap (λ t. t.idle) changed) (ap (λ t. t.held) changed) (held_found r c.args.place n.0 n.1 pinned) refl in
@@ -84,9 +84,9 @@ returns-clause-ok g c =
     let pinned = held_node r c.args.place n.0 (found_place r c.args.place h) n.1 in
     let between = stored_detached r writes c.set_detached.ensures.hashes c.set_detached.ensures.idle pinned in
     let changed = entries_detached r writes c.set_detached.ensures.idle pinned c.set_detached.ensures.work in
-    let added : IsAdded (key_hash g.K.Hash.hash_input) c.set_detached.new.self c.put.new.nodes c.make_room.new.by_stamp c.put.new.by_stamp c.put.result (new_entry c.args.stamp (entry_of c.in_ok-node.node.value).key c.args.charge) =
-    put_added (alike_hashes g.K.Hash.hash_input g.met.K.Hash.respects_eq) between c.in_ok-node.ensures.own c.put.ensures.free
-    (c.put.ensures.nodes ∙ ap (insert c.set_detached.new.self.nodes c.put.result) entry) c.put.ensures.hashes (c.in_ok-node.ensures.hash ∙ c.requires.hash) c.put.ensures.idle (fresh_written c.args.stamp writes (fresh_among r c.args.stamp lacks)) c.put.ensures.keeps
+    let added : IsAdded (key_hash c.self.inside.seed g.K.Hash.hash_input) c.set_detached.new.self c.put.new.nodes c.make_room.new.by_stamp c.put.new.by_stamp c.put.result (new_entry c.args.stamp (entry_of c.in_ok-node.node.value).key c.args.charge) =
+    put_added (alike_hashes c.self.inside.seed g.K.Hash.hash_input g.met.K.Hash.respects_eq) between c.in_ok-node.ensures.own c.put.ensures.free
+    (c.put.ensures.nodes ∙ ap (insert c.set_detached.new.self.nodes c.put.result) entry) c.put.ensures.hashes (c.in_ok-node.ensures.hash ∙ c.under-hash.ensures) c.put.ensures.idle (fresh_written c.args.stamp writes (fresh_among r c.args.stamp lacks)) c.put.ensures.keeps
     (λ kept q. c.put.ensures.by_stamp kept q ∙ ap (λ n. cond (eqb n q) (Some c.put.result) (mapped_place c.make_room.new.by_stamp q)) (ap (λ x. x.stamp) entry)) in
     subst (λ t. AddsOverHeld g.K.PartialEq.eq t c.args.place c.args.stamp c.args.key.now c.args.charge (entries_of c.put.new.nodes)) (grown ∙ c.self.view_is) (record {
       mid = entries_of c.set_detached.new.self;

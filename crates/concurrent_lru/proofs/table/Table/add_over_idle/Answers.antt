@@ -125,9 +125,9 @@ invariant_of-self-2 g c =
     let entry : entry_of c.in_ok-node.node.value ≡ new_entry c.args.stamp (entry_of c.in_ok-node.node.value).key c.args.charge = c.in_ok-node.ensures.entry in
     let like = idle_like r c.args.place e taken.at rests in
     let between = stored_without r taken in
-    let added : IsAdded (key_hash g.K.Hash.hash_input) c.take_away-old.new.nodes c.put-new.new.nodes c.take_away-old.new.by_stamp c.put-new.new.by_stamp c.put-new.result (new_entry c.args.stamp (entry_of c.in_ok-node.node.value).key c.args.charge) =
-    put_added (alike_hashes g.K.Hash.hash_input g.met.K.Hash.respects_eq) between c.in_ok-node.ensures.own c.put-new.ensures.free
-    (c.put-new.ensures.nodes ∙ ap (insert c.take_away-old.new.nodes.nodes c.put-new.result) entry) c.put-new.ensures.hashes (c.in_ok-node.ensures.hash ∙ c.requires.hash) c.put-new.ensures.idle (fresh_taken c.make_room.new.nodes c.take_away-old.new.nodes c.args.place c.args.stamp taken.nodes (fresh_among r c.args.stamp lacks)) c.put-new.ensures.keeps
+    let added : IsAdded (key_hash c.self.inside.seed g.K.Hash.hash_input) c.take_away-old.new.nodes c.put-new.new.nodes c.take_away-old.new.by_stamp c.put-new.new.by_stamp c.put-new.result (new_entry c.args.stamp (entry_of c.in_ok-node.node.value).key c.args.charge) =
+    put_added (alike_hashes c.self.inside.seed g.K.Hash.hash_input g.met.K.Hash.respects_eq) between c.in_ok-node.ensures.own c.put-new.ensures.free
+    (c.put-new.ensures.nodes ∙ ap (insert c.take_away-old.new.nodes.nodes c.put-new.result) entry) c.put-new.ensures.hashes (c.in_ok-node.ensures.hash ∙ c.under-hash.ensures) c.put-new.ensures.idle (fresh_taken c.make_room.new.nodes c.take_away-old.new.nodes c.args.place c.args.stamp taken.nodes (fresh_among r c.args.stamp lacks)) c.put-new.ensures.keeps
     (λ kept q. c.put-new.ensures.by_stamp kept q ∙ ap (λ n. cond (eqb n q) (Some c.put-new.result) (mapped_place c.take_away-old.new.by_stamp q)) (ap (λ x. x.stamp) entry)) in
     let free = ap (λ h. get h c.args.stamp) (held_same r taken rests) ∙ unheld r c.args.stamp lacks in
     let less = sum_evicted (entries_of c.make_room.new.nodes) (entries_of c.take_away-old.new.nodes) e.stamp (record { stamp = e.stamp; key = e.key; charge = e.charge; value = like.0 }) (stamps_apart c.make_room.new.nodes _ r.represents) (idle_without r taken rests) (held_same r taken rests) ((idle_found r c.args.place e taken.at rests).1 ∙ as_idle-ready e like.0 like.2) in
@@ -179,9 +179,9 @@ returns-clause-ok g c =
     let entry : entry_of c.in_ok-node.node.value ≡ new_entry c.args.stamp (entry_of c.in_ok-node.node.value).key c.args.charge = c.in_ok-node.ensures.entry in
     let like = idle_like r c.args.place e taken.at rests in
     let between = stored_without r taken in
-    let added : IsAdded (key_hash g.K.Hash.hash_input) c.take_away-old.new.nodes c.put-new.new.nodes c.take_away-old.new.by_stamp c.put-new.new.by_stamp c.put-new.result (new_entry c.args.stamp (entry_of c.in_ok-node.node.value).key c.args.charge) =
-    put_added (alike_hashes g.K.Hash.hash_input g.met.K.Hash.respects_eq) between c.in_ok-node.ensures.own c.put-new.ensures.free
-    (c.put-new.ensures.nodes ∙ ap (insert c.take_away-old.new.nodes.nodes c.put-new.result) entry) c.put-new.ensures.hashes (c.in_ok-node.ensures.hash ∙ c.requires.hash) c.put-new.ensures.idle (fresh_taken c.make_room.new.nodes c.take_away-old.new.nodes c.args.place c.args.stamp taken.nodes (fresh_among r c.args.stamp lacks)) c.put-new.ensures.keeps
+    let added : IsAdded (key_hash c.self.inside.seed g.K.Hash.hash_input) c.take_away-old.new.nodes c.put-new.new.nodes c.take_away-old.new.by_stamp c.put-new.new.by_stamp c.put-new.result (new_entry c.args.stamp (entry_of c.in_ok-node.node.value).key c.args.charge) =
+    put_added (alike_hashes c.self.inside.seed g.K.Hash.hash_input g.met.K.Hash.respects_eq) between c.in_ok-node.ensures.own c.put-new.ensures.free
+    (c.put-new.ensures.nodes ∙ ap (insert c.take_away-old.new.nodes.nodes c.put-new.result) entry) c.put-new.ensures.hashes (c.in_ok-node.ensures.hash ∙ c.under-hash.ensures) c.put-new.ensures.idle (fresh_taken c.make_room.new.nodes c.take_away-old.new.nodes c.args.place c.args.stamp taken.nodes (fresh_among r c.args.stamp lacks)) c.put-new.ensures.keeps
     (λ kept q. c.put-new.ensures.by_stamp kept q ∙ ap (λ n. cond (eqb n q) (Some c.put-new.result) (mapped_place c.take_away-old.new.by_stamp q)) (ap (λ x. x.stamp) entry)) in
     subst (λ t. AddsOverIdle g.K.PartialEq.eq t c.args.place (entry_of c.take_away-old.result.value) c.args.stamp c.args.key.now c.args.charge (entries_of c.put-new.new.nodes)) (grown ∙ c.self.view_is) (record {
       mid = entries_of c.take_away-old.new.nodes;

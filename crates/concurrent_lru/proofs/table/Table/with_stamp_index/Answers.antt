@@ -17,7 +17,7 @@ invariant_of-result g c = record {
   stored = record {
     represents = empty_represents c.new.result c.new.ensures.nodes c.new.ensures.idle;
     indexed = indexed_empty _ _ c.new.ensures.nodes c.requires.unmapped;
-    hashed = hashed_empty (key_hash g.K.Hash.hash_input) c.new.result.nodes c.new.result.hashes c.new.ensures.nodes;
+    hashed = hashed_empty (key_hash c.args.seed g.K.Hash.hash_input) c.new.result.nodes c.new.result.hashes c.new.ensures.nodes;
     copies = c.requires.copies;
   };
 }
