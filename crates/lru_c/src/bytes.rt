@@ -22,11 +22,11 @@ use core::mem::replace_with;
 use std::alloc::Global;
 
 /// Opens an empty cache. An entry may have as many pins as a `u32` counts, and the first one gets
-/// the stamp 0.
+/// the stamp 0. Keys are hashed with `seed`; no answer depends on it.
 ///
 /// `OPEN` where the handle is open already, and `MEMORY`: the handle is as it was.
 #[unsafe(no_mangle)]
-pub extern "C" fn lru_bytes_new(alloc: Global, capacity: u64, out: &mut LruBytes) -> u32
+pub extern "C" fn lru_bytes_new(alloc: Global, capacity: u64, seed: u64, out: &mut LruBytes) -> u32
     ensures { Opens (out.old.is_open == 1) out.old.cache.held
         (λ c. c.state.cache ≡ empty_cache capacity most_pins_by_default 0)
         result out.new.cache.held }
@@ -34,7 +34,7 @@ pub extern "C" fn lru_bytes_new(alloc: Global, capacity: u64, out: &mut LruBytes
     if out.is_open == 1 {
         return code::OPEN;
     }
-    match calls::make(alloc, capacity, 0, u32::MAX, Vec::new(alloc)) {
+    match calls::make(alloc, capacity, 0, u32::MAX, seed, Vec::new(alloc)) {
         Ok(cache) => {
             *out = cache;
             code::DONE
@@ -44,7 +44,7 @@ pub extern "C" fn lru_bytes_new(alloc: Global, capacity: u64, out: &mut LruBytes
 }
 
 /// Opens an empty cache whose first entry gets the stamp `first_stamp`, and whose entries have at
-/// most `most_pins` pins each.
+/// most `most_pins` pins each. Keys are hashed with `seed`; no answer depends on it.
 ///
 /// `NO_PINS` where that is 0, `OPEN` where the handle is open already, and `MEMORY`: the handle is
 /// as it was.
@@ -54,6 +54,7 @@ pub extern "C" fn lru_bytes_new_with_limits(
     capacity: u64,
     first_stamp: u64,
     most_pins: u32,
+    seed: u64,
     out: &mut LruBytes,
 ) -> u32
     ensures { MatchBool (most_pins == 0)
@@ -68,7 +69,14 @@ pub extern "C" fn lru_bytes_new_with_limits(
     if out.is_open == 1 {
         return code::OPEN;
     }
-    match calls::make(alloc, capacity, first_stamp, most_pins, Vec::new(alloc)) {
+    match calls::make(
+        alloc,
+        capacity,
+        first_stamp,
+        most_pins,
+        seed,
+        Vec::new(alloc),
+    ) {
         Ok(cache) => {
             *out = cache;
             code::DONE

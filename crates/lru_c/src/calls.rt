@@ -18,6 +18,7 @@ pub(crate) fn make<K: Hash + Eq + Clone, R: Drop, H: Handle<To = Cache<K, R>>>(
     capacity: u64,
     first_stamp: u64,
     most_pins: u32,
+    seed: u64,
     room: R,
 ) -> Result<H, AllocError>
     requires pinned { 0 < most_pins }
@@ -27,7 +28,7 @@ pub(crate) fn make<K: Hash + Eq + Clone, R: Drop, H: Handle<To = Cache<K, R>>>(
 {
     let cache = Cache {
         alloc,
-        state: State::with_limits(alloc, capacity, first_stamp, most_pins),
+        state: State::with_limits_and_seed(alloc, capacity, first_stamp, most_pins, seed),
         room,
     };
     let boxed = Box::new(alloc, cache)?;

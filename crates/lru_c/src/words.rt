@@ -23,11 +23,11 @@ use core::mem::replace_with;
 use std::alloc::Global;
 
 /// Opens an empty cache. An entry may have as many pins as a `u32` counts, and the first one gets
-/// the stamp 0.
+/// the stamp 0. Keys are hashed with `seed`; no answer depends on it.
 ///
 /// `OPEN` where the handle is open already, and `MEMORY`: the handle is as it was.
 #[unsafe(no_mangle)]
-pub extern "C" fn lru_words_new(alloc: Global, capacity: u64, out: &mut LruWords) -> u32
+pub extern "C" fn lru_words_new(alloc: Global, capacity: u64, seed: u64, out: &mut LruWords) -> u32
     ensures { Opens (out.old.is_open == 1) out.old.cache.held
         (λ c. c.state.cache ≡ empty_cache capacity most_pins_by_default 0)
         result out.new.cache.held }
@@ -35,7 +35,7 @@ pub extern "C" fn lru_words_new(alloc: Global, capacity: u64, out: &mut LruWords
     if out.is_open == 1 {
         return code::OPEN;
     }
-    match calls::make(alloc, capacity, 0, u32::MAX, ()) {
+    match calls::make(alloc, capacity, 0, u32::MAX, seed, ()) {
         Ok(cache) => {
             *out = cache;
             code::DONE
@@ -45,7 +45,7 @@ pub extern "C" fn lru_words_new(alloc: Global, capacity: u64, out: &mut LruWords
 }
 
 /// Opens an empty cache whose first entry gets the stamp `first_stamp`, and whose entries have at
-/// most `most_pins` pins each.
+/// most `most_pins` pins each. Keys are hashed with `seed`; no answer depends on it.
 ///
 /// `NO_PINS` where that is 0, `OPEN` where the handle is open already, and `MEMORY`: the handle is
 /// as it was.
@@ -55,6 +55,7 @@ pub extern "C" fn lru_words_new_with_limits(
     capacity: u64,
     first_stamp: u64,
     most_pins: u32,
+    seed: u64,
     out: &mut LruWords,
 ) -> u32
     ensures { MatchBool (most_pins == 0)
@@ -69,7 +70,7 @@ pub extern "C" fn lru_words_new_with_limits(
     if out.is_open == 1 {
         return code::OPEN;
     }
-    match calls::make(alloc, capacity, first_stamp, most_pins, ()) {
+    match calls::make(alloc, capacity, first_stamp, most_pins, seed, ()) {
         Ok(cache) => {
             *out = cache;
             code::DONE
