@@ -78,7 +78,8 @@ class Calls {
 
  public:
   explicit Calls(std::uint64_t capacity) {
-    if (C::make_chain(&gone_) != LRU_DONE || C::make(capacity, &cache_) != LRU_DONE) std::exit(2);
+    if (C::make_chain(&gone_) != LRU_DONE || C::make(capacity, 0, &cache_) != LRU_DONE)
+      std::exit(2);
   }
 
   ~Calls() {

@@ -51,6 +51,19 @@
  * or it was freed), a handle that is open already, a chain that still holds entries, a buffer that
  * is too small, and a stamp that names no entry in the right state.
  *
+ * SEEDS. A cache hashes keys with the `seed` that it was opened with. Whoever knows the seed can
+ * choose keys whose hashes are all equal. Each look-up of such a key visits all of them, and the
+ * caller's lock is held meanwhile. So if keys come from outside of the program, take a random seed
+ * for each cache, and keep it secret. With getrandom of <sys/random.h>:
+ *
+ *     uint64_t seed;
+ *     if (getrandom(&seed, sizeof seed, 0) != (ssize_t)sizeof seed)
+ *         return false;
+ *     lru_code code = lru_bytes_new(capacity, seed, &cache);
+ *
+ * Otherwise the seed may be 0. The answers of calls, what they evict and its order do not depend on
+ * the seed.
+ *
  * COMING FROM ANOTHER CACHE. Entries are evicted by `begin`, by the `release` of a last pin and by
  * `set_capacity`; many caches evict only when an entry is inserted. `begin` does not change the
  * charge of an entry that exists. `advice_evict` does nothing to a held entry: it can still be
@@ -145,18 +158,18 @@ typedef struct lru_words_evicted {
 /* ------------------------------------------------------------------ keys of bytes: the cache */
 
 /* Opens an empty cache that evicts idle entries while the total of charges is above `capacity`. Its
- * first entry gets the stamp 0, and an entry may have up to 2^32 - 1 pins. The caller frees the
- * cache with lru_bytes_free.
+ * first entry gets the stamp 0, and an entry may have up to 2^32 - 1 pins. Keys are hashed with
+ * `seed` (SEEDS, above). The caller frees the cache with lru_bytes_free.
  *
  * Allocates. LRU_DONE; LRU_MEMORY; LRU_OPEN. */
-lru_code lru_bytes_new(uint64_t capacity, lru_bytes *out);
+lru_code lru_bytes_new(uint64_t capacity, uint64_t seed, lru_bytes *out);
 
 /* The same, but the first entry gets the stamp `first_stamp`, and an entry may have up to
  * `most_pins` pins.
  *
  * Allocates. LRU_DONE; LRU_NO_PINS if `most_pins` is 0; LRU_MEMORY; LRU_OPEN. */
 lru_code lru_bytes_new_with_limits(uint64_t capacity, uint64_t first_stamp, uint32_t most_pins,
-                                   lru_bytes *out);
+                                   uint64_t seed, lru_bytes *out);
 
 /* Frees a cache and puts all entries that have a value into `left`, including those that are held:
  * their values are the caller's to delete, and their stamps are no longer valid. Entries whose
@@ -311,9 +324,9 @@ bool lru_bytes_evicted_is_empty(lru_bytes_evicted *chain);
 
 /* As the calls above. The key is (first, second); two keys are equal if both words are. Only new,
  * new_with_limits, begin for a new entry, ready, insert, reserve and evicted_new allocate. */
-lru_code lru_words_new(uint64_t capacity, lru_words *out);
+lru_code lru_words_new(uint64_t capacity, uint64_t seed, lru_words *out);
 lru_code lru_words_new_with_limits(uint64_t capacity, uint64_t first_stamp, uint32_t most_pins,
-                                   lru_words *out);
+                                   uint64_t seed, lru_words *out);
 lru_code lru_words_free(lru_words *cache, lru_words_evicted *left);
 lru_told lru_words_begin(lru_words *cache, uint64_t first, uint64_t second, uint64_t charge,
                          lru_words_evicted *gone);

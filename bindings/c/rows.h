@@ -17,13 +17,13 @@ typedef struct FAMILY(stage) {
 static void FAMILY(open_with_limits)(FAMILY(stage) *s, uint64_t capacity, uint64_t first_stamp,
                                      uint32_t most_pins) {
     memset(s, 0, sizeof *s);
-    CHECK(FAMILY(new_with_limits)(capacity, first_stamp, most_pins, &s->cache), LRU_DONE);
+    CHECK(FAMILY(new_with_limits)(capacity, first_stamp, most_pins, 0, &s->cache), LRU_DONE);
     CHECK(FAMILY(evicted_new)(&s->gone), LRU_DONE);
 }
 
 static void FAMILY(open)(FAMILY(stage) *s, uint64_t capacity) {
     memset(s, 0, sizeof *s);
-    CHECK(FAMILY(new)(capacity, &s->cache), LRU_DONE);
+    CHECK(FAMILY(new)(capacity, 0, &s->cache), LRU_DONE);
     CHECK(FAMILY(evicted_new)(&s->gone), LRU_DONE);
 }
 
@@ -560,7 +560,7 @@ static void FAMILY(frees)(void) {
     CHECK(FAMILY(evicted_free)(&s.gone), LRU_DONE);
 
     /* the handle can be opened again */
-    CHECK(FAMILY(new)(1, &s.cache), LRU_DONE);
+    CHECK(FAMILY(new)(1, 0, &s.cache), LRU_DONE);
     CHECK(FAMILY(evicted_new)(&s.gone), LRU_DONE);
     CHECK(FAMILY(len)(&s.cache).value, 0);
     FAMILY(close)(&s);
@@ -611,12 +611,12 @@ static void FAMILY(misuse)(void) {
     CHECK(FAMILY(evicted_is_empty)(&shut), true);
 
     /* handles that are open already */
-    CHECK(FAMILY(new)(1, &s.cache), LRU_OPEN);
-    CHECK(FAMILY(new_with_limits)(1, 0, 1, &s.cache), LRU_OPEN);
+    CHECK(FAMILY(new)(1, 0, &s.cache), LRU_OPEN);
+    CHECK(FAMILY(new_with_limits)(1, 0, 1, 0, &s.cache), LRU_OPEN);
     CHECK(FAMILY(evicted_new)(&s.gone), LRU_OPEN);
 
     /* numbers that are 0 */
-    CHECK(FAMILY(new_with_limits)(1, 0, 0, &closed), LRU_NO_PINS);
+    CHECK(FAMILY(new_with_limits)(1, 0, 0, 0, &closed), LRU_NO_PINS);
     CHECK(FAMILY(begin)(&s.cache, KEY(1), 0, &s.gone).code, LRU_NO_CHARGE);
     CHECK(FAMILY(len)(&s.cache).value, 0);
 

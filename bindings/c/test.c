@@ -71,7 +71,7 @@ static void keys_of_bytes(void) {
     lru_told told;
     char key[8];
 
-    CHECK(lru_bytes_new(10, &cache), LRU_DONE);
+    CHECK(lru_bytes_new(10, 0, &cache), LRU_DONE);
     CHECK(lru_bytes_evicted_new(&gone), LRU_DONE);
 
     CHECK(lru_bytes_begin(&cache, NULL, 1, 1, &gone).code, LRU_NULL_KEY);
@@ -131,7 +131,7 @@ static void keys_of_words(void) {
     lru_told told;
     uint64_t first = 7, second = 8;
 
-    CHECK(lru_words_new(10, &cache), LRU_DONE);
+    CHECK(lru_words_new(10, 0, &cache), LRU_DONE);
     CHECK(lru_words_evicted_new(&gone), LRU_DONE);
     told = lru_words_begin(&cache, 1, 2, 1, &gone);
     CHECK(told.code, LRU_MAKE);

@@ -31,6 +31,9 @@
 //  - The destructor deletes entries that are still pinned. LevelDB's asserts that there are none.
 //    Deleters that the destructor runs must not call the cache.
 //
+// Each cache hashes keys with a random seed, so that nobody can choose keys whose hashes are equal.
+// If std::random_device has no random numbers, the process ends.
+//
 // Nothing here throws, and the header compiles with -fno-exceptions. If LevelDB was built without
 // run-time type information, compile the file that includes this header with -fno-rtti.
 #ifndef LRU_LEVELDB_CACHE_H
@@ -56,10 +59,14 @@ namespace lru {
 template <class Key>
 class BasicLevelDBCache : public leveldb::Cache {
  public:
-  // A cache with the given capacity, or null if there is no memory for it.
-  static BasicLevelDBCache* New(std::size_t capacity) {
+  // A cache with the given capacity, or null if there is no memory for it. The seed is random
+  // unless a test passes its own.
+  static BasicLevelDBCache* New(std::size_t capacity) noexcept {
+    return New(capacity, Seed::random());
+  }
+  static BasicLevelDBCache* New(std::size_t capacity, Seed seed) noexcept {
     auto* cache = new (std::nothrow) BasicLevelDBCache;
-    if (cache == nullptr || cache->Open(capacity)) return cache;
+    if (cache == nullptr || cache->Open(capacity, seed)) return cache;
     delete cache;
     return nullptr;
   }
@@ -192,11 +199,12 @@ class BasicLevelDBCache : public leveldb::Cache {
 
   BasicLevelDBCache() = default;
 
-  // False if there is no memory.
-  bool Open(std::size_t capacity) {
+  // False if there is no memory. Each shard gets another seed.
+  bool Open(std::size_t capacity, Seed seed) {
     const std::size_t share = capacity / kShards + (capacity % kShards != 0);
     for (Shard& shard : shards_) {
-      if (!shard.core.open(share)) return false;
+      if (!shard.core.open(share, seed)) return false;
+      seed.number++;
     }
     return true;
   }

@@ -158,10 +158,10 @@ class Cache {
  public:
   using Handle = lru::Handle<Value, Key>;
 
-  // An empty cache. It evicts idle values while the total of all charges is above `capacity`.
-  // Throws OutOfMemory.
-  explicit Cache(std::uint64_t capacity) {
-    if (!core_.open(capacity)) throw OutOfMemory();
+  // An empty cache. It evicts idle values while the total of all charges is above `capacity`. The
+  // seed is random unless a test passes its own. Throws OutOfMemory, and what Seed::random throws.
+  explicit Cache(std::uint64_t capacity, Seed seed = Seed::random()) {
+    if (!core_.open(capacity, seed)) throw OutOfMemory();
   }
 
   // Deletes all values. There must be no handle left, as it would dangle; this is asserted. The
@@ -395,12 +395,17 @@ class ShardedCache {
  public:
   using Handle = lru::Handle<Value, Key>;
 
-  // An empty cache. Throws std::bad_alloc, and std::invalid_argument if `shards` is 0. `capacity`
-  // is that of all shards together.
+  // An empty cache, whose seed is random. `capacity` is that of all shards together. Throws
+  // std::bad_alloc, std::invalid_argument if `shards` is 0, and what Seed::random throws.
   explicit ShardedCache(std::uint64_t capacity, std::size_t shards = 16, Hash hash = Hash())
+      : ShardedCache(capacity, Seed::random(), shards, std::move(hash)) {}
+
+  // The same with this seed, for tests. Each shard adds its number to it. `hash` does not use it.
+  ShardedCache(std::uint64_t capacity, Seed seed, std::size_t shards = 16, Hash hash = Hash())
       : hash_(std::move(hash)) {
     if (shards == 0) throw std::invalid_argument("lru: the number of shards is 0");
-    for (std::size_t i = 0; i < shards; i++) shards_.emplace_back(share(capacity, shards));
+    for (std::size_t i = 0; i < shards; i++)
+      shards_.emplace_back(share(capacity, shards), Seed(seed.number + i));
   }
 
   // As for Cache.

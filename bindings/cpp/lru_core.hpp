@@ -1,11 +1,13 @@
 // The library of lru.h as C++ classes without a lock. lru.hpp and leveldb_cache.h are built on
-// them. Nothing here throws, and the header compiles with -fno-exceptions and -fno-rtti.
+// them. Nothing here throws except Seed::random, and the header compiles with -fno-exceptions and
+// -fno-rtti.
 #ifndef LRU_CORE_HPP
 #define LRU_CORE_HPP
 
 #include <cstddef>
 #include <cstdint>
 #include <functional>
+#include <random>
 #include <string_view>
 #include <type_traits>
 #include <utility>
@@ -21,6 +23,22 @@ struct Words {
 
   friend bool operator==(Words a, Words b) { return a.first == b.first && a.second == b.second; }
   friend bool operator!=(Words a, Words b) { return !(a == b); }
+};
+
+// A number with which a cache hashes keys. Whoever knows it can choose keys whose hashes are all
+// equal, so that each look-up of such a key visits all of them. No answer of a cache depends on it.
+struct Seed {
+  explicit Seed(std::uint64_t n) : number(n) {}
+
+  // A seed that nobody can guess, from std::random_device. Throws what that throws if there are no
+  // random numbers.
+  static Seed random() {
+    std::random_device device;
+    const std::uint64_t high = device();
+    return Seed(high << 32 | device());
+  }
+
+  std::uint64_t number;
 };
 
 }  // namespace lru
@@ -177,8 +195,9 @@ class Core {
 
   // Opens the cache. Comes before all other members, and only once. False if there is no memory for
   // it: then only the destructor may follow.
-  [[nodiscard]] bool open(std::uint64_t capacity) noexcept {
-    return Calls::make_chain(&chain_) == LRU_DONE && Calls::make(capacity, &cache_) == LRU_DONE;
+  [[nodiscard]] bool open(std::uint64_t capacity, Seed seed) noexcept {
+    return Calls::make_chain(&chain_) == LRU_DONE &&
+           Calls::make(capacity, seed.number, &cache_) == LRU_DONE;
   }
 
   lru_told begin(Key key, std::uint64_t charge, Evicted<Node>* evicted) noexcept {

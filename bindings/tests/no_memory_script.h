@@ -105,8 +105,8 @@ static uint64_t NAME(put)(FAMILY *cache, NAME(evicted) * gone, unsigned n, uint6
 }
 
 static void NAME(open)(FAMILY *cache) {
-    lru_code code = NAME(new)(20, cache);
-    if (refused(code, CALL("new"))) code = NAME(new)(20, cache);
+    lru_code code = NAME(new)(20, 0, cache);
+    if (refused(code, CALL("new"))) code = NAME(new)(20, 0, cache);
     say_code("new", code);
 }
 

@@ -107,7 +107,8 @@ class Run {
   explicit Run(std::uint64_t seed)
       : random_(seed), seed_(seed), plain_(kCapacity, kFirstStamp, kMostPins) {
     if (Family::make_chain(&chain_) != LRU_DONE) std::abort();
-    if (Family::open(kCapacity, kFirstStamp, kMostPins, &cache_) != LRU_DONE) std::abort();
+    // The answers do not depend on the seed of the cache.
+    if (Family::open(kCapacity, kFirstStamp, kMostPins, seed, &cache_) != LRU_DONE) std::abort();
   }
 
   // Whether all answers were the same.

@@ -4,6 +4,7 @@
 #include <pthread.h>
 #include <stdio.h>
 #include <string.h>
+#include <sys/random.h>
 #include <sys/stat.h>
 
 #include "lru.h"
@@ -69,7 +70,10 @@ int main(int argc, char **argv) {
     pthread_t threads[100];
     bool all = true;
     lru_bytes_evicted gone = {0};
-    if (lru_bytes_new(20, &cache) != LRU_DONE || lru_bytes_evicted_new(&gone) != LRU_DONE)
+    uint64_t seed; /* random, so that nobody can choose paths whose hashes are equal */
+    if (getrandom(&seed, sizeof seed, 0) != (ssize_t)sizeof seed)
+        return 1;
+    if (lru_bytes_new(20, seed, &cache) != LRU_DONE || lru_bytes_evicted_new(&gone) != LRU_DONE)
         return 1;
     for (int i = 0; i < 100 && i < argc - 1; i++)
         if (pthread_create(&threads[i], NULL, print_size, argv[i + 1]) != 0)

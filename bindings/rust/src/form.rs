@@ -77,7 +77,7 @@ pub(crate) mod sealed {
     /// and `new_chain` of the same `Stamped`. They must be the only copies of these handles, and
     /// nothing else may use them during the call.
     pub struct Stamped {
-        pub new: unsafe extern "C" fn(capacity: u64, out: *mut Handle) -> u32,
+        pub new: unsafe extern "C" fn(capacity: u64, seed: u64, out: *mut Handle) -> u32,
         pub free: unsafe extern "C" fn(cache: *mut Handle, left: *mut Handle) -> u32,
         pub poll: unsafe extern "C" fn(cache: *mut Handle, stamp: u64) -> Told,
         pub ready: unsafe extern "C" fn(cache: *mut Handle, stamp: u64, value: u64) -> u32,
@@ -101,7 +101,7 @@ macro_rules! stamped {
     ($prefix:literal) => {{
         unsafe extern "C" {
             #[link_name = concat!($prefix, "_new")]
-            fn new(capacity: u64, out: *mut Handle) -> u32;
+            fn new(capacity: u64, seed: u64, out: *mut Handle) -> u32;
             #[link_name = concat!($prefix, "_free")]
             fn free(cache: *mut Handle, left: *mut Handle) -> u32;
             #[link_name = concat!($prefix, "_poll")]

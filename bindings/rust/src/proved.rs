@@ -1,5 +1,6 @@
 //! The library behind a safe interface, for one owner.
 
+use std::hash::{BuildHasher, Hasher, RandomState};
 use std::marker::PhantomData;
 use std::ptr::{self, NonNull};
 
@@ -40,8 +41,8 @@ unsafe impl<F: Form, V: Send> Send for Core<F, V> {}
 impl<F: Form, V> Core<F, V> {
     const CALLS: Stamped = F::STAMPED;
 
-    /// An empty cache.
-    pub(crate) fn new(capacity: u64) -> Result<Self, Refusal> {
+    /// An empty cache that hashes keys with a seed.
+    pub(crate) fn new(capacity: u64, seed: u64) -> Result<Self, Refusal> {
         let mut core = Core {
             cache: Handle::CLOSED,
             chain: Handle::CLOSED,
@@ -52,7 +53,7 @@ impl<F: Form, V> Core<F, V> {
         let code = unsafe { (Self::CALLS.new_chain)(&mut core.chain) };
         done(code)?;
         // SAFETY: the cache is closed, and there is no other copy of it.
-        let code = unsafe { (Self::CALLS.new)(capacity, &mut core.cache) };
+        let code = unsafe { (Self::CALLS.new)(capacity, seed, &mut core.cache) };
         done(code)?;
         Ok(core)
     }
@@ -256,6 +257,11 @@ impl<F: Form, V> Drop for Core<F, V> {
         // SAFETY: as above.
         unsafe { (Self::CALLS.free_chain)(&mut self.chain) };
     }
+}
+
+/// A seed that nobody can guess.
+pub(crate) fn random_seed() -> u64 {
+    RandomState::new().build_hasher().finish()
 }
 
 /// The word that the library stores for a value.

@@ -8,6 +8,7 @@ use std::ops::Deref;
 
 use crate::error::{GetError, Refusal};
 use crate::key::Key;
+use crate::proved::random_seed;
 use crate::unsharded;
 
 /// The number of shards that [`LruCache::new`] makes.
@@ -49,7 +50,8 @@ impl<K: Key + ?Sized, V> LruCache<K, V> {
 }
 
 impl<K: Key + ?Sized, V, S> LruCache<K, V, S> {
-    /// Creates an empty cache with the given number of shards and hasher.
+    /// Creates an empty cache with the given number of shards and hasher. The hasher only chooses
+    /// the shard of a key: within the shards, keys are hashed with a random seed.
     ///
     /// # Errors
     ///
@@ -59,9 +61,25 @@ impl<K: Key + ?Sized, V, S> LruCache<K, V, S> {
         shards: NonZeroUsize,
         hasher: S,
     ) -> Result<Self, Refusal> {
+        LruCache::with_seed(capacity, shards, hasher, random_seed())
+    }
+
+    /// Creates an empty cache with the given number of shards, hasher and seed, for tests that must
+    /// be the same in each run. Each shard adds its number to the seed, and hashes keys with the
+    /// sum, as a cache made by [`unsharded::LruCache::with_seed`] does.
+    ///
+    /// # Errors
+    ///
+    /// [`Refusal::Memory`] if there is no memory for the cache.
+    pub fn with_seed(
+        capacity: u64,
+        shards: NonZeroUsize,
+        hasher: S,
+        seed: u64,
+    ) -> Result<Self, Refusal> {
         let share = share(capacity, shards.get());
-        let shards: Result<_, Refusal> = (0..shards.get())
-            .map(|_| unsharded::LruCache::new(share))
+        let shards: Result<_, Refusal> = (0..shards.get() as u64)
+            .map(|shard| unsharded::LruCache::with_seed(share, seed.wrapping_add(shard)))
             .collect();
         Ok(LruCache {
             shards: shards?,

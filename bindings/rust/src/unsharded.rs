@@ -12,7 +12,7 @@ use std::sync::{Condvar, Mutex, MutexGuard, PoisonError};
 use crate::error::{GetError, Refusal};
 use crate::form::{Form, Written};
 use crate::key::Key;
-use crate::proved::{Begun, Core, Evicted};
+use crate::proved::{Begun, Core, Evicted, random_seed};
 
 /// A cache of heavy values that threads share, behind one lock.
 ///
@@ -78,15 +78,41 @@ struct Shared<F: Form, V> {
 
 impl<K: Key + ?Sized, V> LruCache<K, V> {
     /// Creates an empty cache. It evicts idle values while the total of all charges is above
-    /// `capacity`.
+    /// `capacity`. Keys are hashed with a random seed.
     ///
     /// # Errors
     ///
     /// [`Refusal::Memory`] if there is no memory for the cache.
     pub fn new(capacity: u64) -> Result<Self, Refusal> {
+        Self::with_seed(capacity, random_seed())
+    }
+
+    /// Creates an empty cache that hashes keys with the given seed, for tests that must be the same
+    /// in each run.
+    ///
+    /// Whoever knows the seed can choose keys whose hashes are all equal, so that each look-up of
+    /// such a key visits all of them while the cache is locked. No result depends on the seed.
+    ///
+    /// # Errors
+    ///
+    /// [`Refusal::Memory`] if there is no memory for the cache.
+    ///
+    /// # Examples
+    ///
+    /// ```
+    /// use concurrent_lru_proved::unsharded::LruCache;
+    ///
+    /// # fn main() -> Result<(), concurrent_lru_proved::Refusal> {
+    /// let cache = LruCache::<u64, &str>::with_seed(10, 0)?;
+    /// cache.insert(&7, 1, "seven")?;
+    /// assert_eq!(cache.get(&7)?.as_deref(), Some(&"seven"));
+    /// # Ok(())
+    /// # }
+    /// ```
+    pub fn with_seed(capacity: u64, seed: u64) -> Result<Self, Refusal> {
         Ok(LruCache {
             shared: Mutex::new(Shared {
-                core: Core::new(capacity)?,
+                core: Core::new(capacity, seed)?,
                 waiting: 0,
             }),
             ended: Condvar::new(),
