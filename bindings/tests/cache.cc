@@ -481,6 +481,26 @@ void shards_have_equal_shares() {
   CHECK(!texts.get("one") && *texts.get("two") == "2" && texts.total_charge() == 3);
 }
 
+// Puts ten values into a cache that has room for five, and returns the keys that are left.
+template <class Cache>
+std::set<std::uint64_t> left_in(Cache&& cache) {
+  std::set<std::uint64_t> left;
+  for (int n = 0; n < 10; n++) cache.get_or_init(key(static_cast<std::uint64_t>(n)), 1, returns(n));
+  for (std::uint64_t n = 0; n < 10; n++) {
+    if (cache.contains(key(n))) left.insert(n);
+  }
+  return left;
+}
+
+void a_seed_changes_no_answer() {
+  using Sharded = lru::ShardedCache<const int, lru::Words>;
+  for (const std::uint64_t number : {UINT64_C(0), UINT64_C(1), UINT64_MAX}) {
+    CHECK(left_in(Numbers(5, lru::Seed(number))) == left_in(Numbers(5)));
+    CHECK(left_in(Sharded(5, lru::Seed(number), 4)) == left_in(Sharded(5, 4)));
+  }
+  CHECK(lru::Seed::random().number != lru::Seed::random().number);
+}
+
 void high_bits_of_a_key_choose_its_shard_too() {
   std::set<std::size_t> firsts, seconds;
   for (std::uint64_t n = 0; n < 1000; n++) {
@@ -552,9 +572,10 @@ int main() {
   a_cache_deletes_what_is_left_oldest_release_first();
   a_capacity_is_set_at_any_time();
   shards_have_equal_shares();
+  a_seed_changes_no_answer();
   high_bits_of_a_key_choose_its_shard_too();
   a_handle_that_outlives_its_cache_is_asserted_against();
   values_may_be_move_only_or_neither();
-  std::printf("lru.hpp: 23 tests, %d checks failed\n", failed_checks);
+  std::printf("lru.hpp: 24 tests, %d checks failed\n", failed_checks);
   return failed_checks == 0 ? 0 : 1;
 }

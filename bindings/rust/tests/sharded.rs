@@ -46,6 +46,20 @@ fn each_shard_has_its_share_rounded_up() -> Result<(), Refusal> {
 }
 
 #[test]
+fn a_seed_does_not_choose_shards() -> Result<(), Refusal> {
+    for seed in [0, 1, u64::MAX] {
+        let shards = NonZeroUsize::new(2).unwrap();
+        let cache = LruCache::with_seed(4, shards, ByItself::default(), seed)?;
+        for key in [0_u64, 1, 2, 3, 4] {
+            cache.insert(&key, 1, key)?;
+        }
+        assert!(!cache.contains(&0)? && cache.contains(&1)? && cache.contains(&4)?);
+        assert_eq!(cache.len(), 4);
+    }
+    Ok(())
+}
+
+#[test]
 fn an_entry_leaves_where_its_own_shard_is_full() -> Result<(), Refusal> {
     let cache = by_itself(4, 2)?;
     for key in [0, 1, 2, 3, 4] {

@@ -21,6 +21,23 @@ fn a_present_value_is_not_made_again() -> Result<(), Refusal> {
 }
 
 #[test]
+fn a_seed_changes_no_result() -> Result<(), Refusal> {
+    let left_in = |cache: LruCache<u64, u64>| {
+        for key in 0..10 {
+            cache.insert(&key, 1, key)?;
+        }
+        let left = (0..10).filter(|key| cache.contains(key) == Ok(true));
+        Ok::<Vec<u64>, Refusal>(left.collect())
+    };
+    let left = left_in(LruCache::new(5)?)?;
+    assert_eq!(left, [5, 6, 7, 8, 9]);
+    for seed in [0, 1, u64::MAX] {
+        assert_eq!(left_in(LruCache::with_seed(5, seed)?)?, left);
+    }
+    Ok(())
+}
+
+#[test]
 fn an_evicted_value_is_made_again() -> Result<(), Refusal> {
     let cache = LruCache::<u32, u32>::new(5)?;
     assert_eq!(*cache.get_or_init(&1, 3, |_| 1)?, 1);
