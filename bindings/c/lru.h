@@ -51,18 +51,17 @@
  * or it was freed), a handle that is open already, a chain that still holds entries, a buffer that
  * is too small, and a stamp that names no entry in the right state.
  *
- * SEEDS. A cache hashes keys with the `seed` that it was opened with. Whoever knows the seed can
- * choose keys whose hashes are all equal. Each look-up of such a key visits all of them, and the
- * caller's lock is held meanwhile. So if keys come from outside of the program, take a random seed
- * for each cache, and keep it secret. With getrandom of <sys/random.h>:
+ * SEEDS. A cache hashes its keys with the `seed` that it is opened with. Whoever knows the seed can
+ * choose keys whose hashes are all equal. Each look-up of such a key then visits all of them, while
+ * the caller holds the lock. So if keys come from outside the program, take a random seed for each
+ * cache. With getrandom of <sys/random.h>:
  *
  *     uint64_t seed;
  *     if (getrandom(&seed, sizeof seed, 0) != (ssize_t)sizeof seed)
  *         return false;
  *     lru_code code = lru_bytes_new(capacity, seed, &cache);
  *
- * Otherwise the seed may be 0. The answers of calls, what they evict and its order do not depend on
- * the seed.
+ * Otherwise the seed may be 0. No answer depends on the seed, nor what is evicted, nor its order.
  *
  * COMING FROM ANOTHER CACHE. Entries are evicted by `begin`, by the `release` of a last pin and by
  * `set_capacity`; many caches evict only when an entry is inserted. `begin` does not change the

@@ -49,7 +49,7 @@ fn each_shard_has_its_share_rounded_up() -> Result<(), Refusal> {
 fn a_seed_does_not_choose_shards() -> Result<(), Refusal> {
     for seed in [0, 1, u64::MAX] {
         let shards = NonZeroUsize::new(2).unwrap();
-        let cache = LruCache::with_seed(4, shards, ByItself::default(), seed)?;
+        let cache = LruCache::<u64, u64, _>::with_seed(4, shards, ByItself::default(), seed)?;
         for key in [0_u64, 1, 2, 3, 4] {
             cache.insert(&key, 1, key)?;
         }
