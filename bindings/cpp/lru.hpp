@@ -159,7 +159,8 @@ class Cache {
   using Handle = lru::Handle<Value, Key>;
 
   // An empty cache. It evicts idle values while the total of all charges is above `capacity`. The
-  // seed is random unless a test passes its own. Throws OutOfMemory, and what Seed::random throws.
+  // seed is random unless a test passes its own. Throws OutOfMemory, and what std::random_device
+  // throws if there are no random numbers.
   explicit Cache(std::uint64_t capacity, Seed seed = Seed::random()) {
     if (!core_.open(capacity, seed)) throw OutOfMemory();
   }
@@ -396,11 +397,12 @@ class ShardedCache {
   using Handle = lru::Handle<Value, Key>;
 
   // An empty cache, whose seed is random. `capacity` is that of all shards together. Throws
-  // std::bad_alloc, std::invalid_argument if `shards` is 0, and what Seed::random throws.
+  // std::bad_alloc, std::invalid_argument if `shards` is 0, and what std::random_device throws.
   explicit ShardedCache(std::uint64_t capacity, std::size_t shards = 16, Hash hash = Hash())
       : ShardedCache(capacity, Seed::random(), shards, std::move(hash)) {}
 
-  // The same with this seed, for tests. Each shard adds its number to it. `hash` does not use it.
+  // The same with the seed of a test, to which each shard adds its number. The shard of a key does
+  // not depend on it.
   ShardedCache(std::uint64_t capacity, Seed seed, std::size_t shards = 16, Hash hash = Hash())
       : hash_(std::move(hash)) {
     if (shards == 0) throw std::invalid_argument("lru: the number of shards is 0");
