@@ -46,10 +46,12 @@ for word in 0 +8 -1 "''" "' 8'" few 10000001 18446744073709551615 "8 0" "8 few" 
         "lru_bench time $word"
 done
 usage="usage: lru_bench check | (plan | time) [WORD ..] [read_mostly FILE] | \
-run WORKLOAD ENTRIES CALLS"$'\n'
+run WORKLOAD ENTRIES CALLS | \
+attack (chosen | drawn) (known | seeded | shards) KEYS"$'\n'
 for words in "" times "check 8" "read_mostly empty" "time \$'\xff'" "run hit_get 8" \
     "run stress 8 1" "run read_mostly 8 1" "run hits 8 1" "run hit_get 0 1" "run hit_get 8 0" \
-    "run hit_get 8 +1" "run hit_get 10000001 1" "run hit_get 8 10000001" "run hit_get 8 1 1"; do
+    "run hit_get 8 +1" "run hit_get 10000001 1" "run hit_get 8 10000001" "run hit_get 8 1 1" \
+    "attack chosen known" "attack made known 8" "attack chosen unknown 8" "attack drawn shards 0"; do
     ends 2 "" "$usage" "lru_bench $words"
 done
 ends 1 "" "$system" "lru_bench time 8 hit_get read_mostly none"
@@ -62,6 +64,12 @@ for workload in hit_get hit_read hit_init; do
 done
 ends 0 "1000004950"$'\n' "" "lru_bench run miss_evict 100 100"
 ends 1 "" "$system" "lru_bench run hit_get 8 1 > /dev/full"
+
+for keys in chosen drawn; do
+    for cache in known seeded shards; do
+        ends 0 "100"$'\n' "" "lru_bench attack $keys $cache 100"
+    done
+done
 
 # What follows takes long where the program was not proved.
 [ -n "${PROGRAMS:-}" ] && return

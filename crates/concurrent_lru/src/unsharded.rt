@@ -45,7 +45,7 @@ impl<K: Hash + Eq + Clone + Drop, V: Drop, R: Wait> LruCache<K, V, R, Anything> 
 
     /// Creates an empty cache as `new` does, which hashes keys with a seed. Takes no memory.
     ///
-    /// Whoever knows the seed can choose keys that have one hash, so that each look-up of one visits
+    /// Whoever knows the seed can choose keys that have one hash, so that each lookup of one visits
     /// them all, under the lock. Where keys come from outside, take a random seed for each cache, as
     /// a [`RandomState`](std::hash::RandomState) gives one: `RandomState::new(&rt)?.hash_one(&0)`.
     /// The seed of `new` is 0. No answer depends on it.

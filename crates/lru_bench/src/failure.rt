@@ -34,7 +34,8 @@ impl Failure {
             Failure::Usage => writeln!(
                 err,
                 "usage: lru_bench check | (plan | time) [WORD ..] [read_mostly FILE] | \
-                 run WORKLOAD ENTRIES CALLS"
+                 run WORKLOAD ENTRIES CALLS | \
+                 attack (chosen | drawn) (known | seeded | shards) KEYS"
             ),
             Failure::Word => writeln!(
                 err,

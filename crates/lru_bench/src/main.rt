@@ -2,6 +2,7 @@
 //! read. Everything but the access to the process is done by `program`.
 #![tactic(auto)]
 
+mod attack;
 mod bench;
 mod caches;
 mod draws;

@@ -1,5 +1,6 @@
 //! The program, over streams that the caller provides.
 
+use crate::attack::Attack;
 use crate::bench;
 use crate::draws::Draws;
 use crate::failure::Failure;
@@ -28,6 +29,8 @@ use std::thread::Threads;
 /// - `run`, a workload of hits or misses, a number of entries and a number of calls make these
 ///   calls in one thread on a cache of one lock, and write the sum of the values that they read to
 ///   `out`. Status 0.
+/// - `attack`, `chosen` or `drawn`, `known`, `seeded` or `shards`, and a number put so many keys into
+///   a cache, and write how many entries it has then to `out`. Status 0.
 /// - Any other words write the usage line to `err`. Status 2.
 ///
 /// Each failure writes a line to `err` and has status 1: `refused` and the number of the refusal if
@@ -69,6 +72,11 @@ fn run<R: Threads + Wait + Clock + RandomSource + Files + Sync, O: Write, E: Wri
         [word, workload, entries, calls] if word.as_str() == "run" => {
             let single = Single::of_words(workload.as_str(), entries.as_str(), calls.as_str())?;
             writeln!(out, "{}", single.run(alloc, rt)?)?;
+            Ok(())
+        }
+        [word, origin, target, count] if word.as_str() == "attack" => {
+            let attack = Attack::of_words(origin.as_str(), target.as_str(), count.as_str())?;
+            writeln!(out, "{}", attack.run(rt, alloc, rt)?)?;
             Ok(())
         }
         _ => Err(Failure::Usage),

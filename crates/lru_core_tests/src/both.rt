@@ -8,6 +8,9 @@ use std::alloc::Global;
 use std::fmt::Debug;
 use std::process::Abort;
 
+// The seed of the cache. No answer depends on it.
+const SEED: u64 = 0x0123_4567_89ab_cdef;
+
 /// The cache and the one that it is compared with.
 #[derive(Drop)]
 pub(crate) struct Both {
@@ -29,7 +32,7 @@ impl Both {
     {
         Both {
             alloc,
-            state: State::with_limits(alloc, capacity, first_stamp, most_pins),
+            state: State::with_limits_and_seed(alloc, capacity, first_stamp, most_pins, SEED),
             plain: Plain::with_limits(alloc, capacity, first_stamp, most_pins),
         }
     }

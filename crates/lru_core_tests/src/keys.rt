@@ -90,7 +90,7 @@ fn agrees(state: &State<Grouped, u64>, model: &[bool; 64]) -> bool {
 fn a_model_agrees_on_keys_of_few_hashes(rt: HostRuntime) -> Result<(), Fail> {
     let alloc = rt.alloc();
     let mut model = [false; 64];
-    let mut state: State<Grouped, u64> = State::new(alloc, 64);
+    let mut state: State<Grouped, u64> = State::with_seed(alloc, 64, 77);
     let mut x = 12345u32;
     for _ in 0..1000 {
         x = x.wrapping_mul(1664525).wrapping_add(1013904223);

@@ -2,6 +2,7 @@
 
 use concurrent_lru::unsharded::{CacheHandle, GetError, LruCache};
 use std::alloc::Global;
+use std::hash::{BuildHasher, RandomState};
 use std::sync::Wait;
 use std::test::Fail;
 
@@ -41,7 +42,9 @@ fn plan_of<'a, R: Wait>(
 
 #[test]
 fn plans_are_found_by_their_query(rt: HostRuntime) -> Result<(), Fail> {
-    let plans = LruCache::new(rt.alloc(), &rt, 1_000);
+    // The texts come from outside, so the keys are hashed with a seed that nobody can foresee.
+    let seed = RandomState::new(&rt)?.hash_one(&0);
+    let plans = LruCache::with_seed(rt.alloc(), &rt, 1_000, seed);
     let query = String::from_str(rt.alloc(), "select name limit 10")?;
     assert_eq!(rt; plan_of(&plans, &query)?.limit, 10);
     // The second lookup is a hit, and copies no text.

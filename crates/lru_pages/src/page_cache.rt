@@ -31,6 +31,16 @@ impl<'a, B: Blocks, R: Wait> PageCache<'a, B, R> {
         }
     }
 
+    /// Creates an empty cache as `new` does, which hashes page numbers with a seed, as
+    /// `unsharded::LruCache::with_seed` does: for page numbers that come from outside. Takes no
+    /// memory.
+    pub fn with_seed(alloc: Global, rt: R, reader: &'a B, capacity: u64, seed: u64) -> Self {
+        PageCache {
+            reader,
+            pages: LruCache::marked_with_seed(alloc, rt, capacity, seed),
+        }
+    }
+
     /// Returns a handle of a page. If the page is not in the cache, one caller reads its block, at
     /// the charge 1 and without the lock, and other callers that ask for it wait.
     ///

@@ -204,7 +204,7 @@ fn a_capacity_of_pages_grows(rt: HostRuntime) -> Result<(), Fail> {
 #[test]
 fn a_prune_leaves_the_capacity(rt: HostRuntime) -> Result<(), Fail> {
     let reader = Fours::new(rt.alloc(), &rt, 0);
-    let pages = PageCache::new(rt.alloc(), &rt, &reader, 2);
+    let pages = PageCache::with_seed(rt.alloc(), &rt, &reader, 2, 77);
     let steps = [
         Step::Gives(1, 1),
         Step::Prune,

@@ -6,7 +6,7 @@ use std::sync::Arc;
 #[test]
 fn a_text_is_asked_by_reference(rt: HostRuntime) {
     let alloc = rt.alloc();
-    let cache: LruCache<String, u64, &HostRuntime> = LruCache::new(alloc, &rt, 10);
+    let cache: LruCache<String, u64, &HostRuntime> = LruCache::with_seed(alloc, &rt, 10, 77);
     let key = String::from_str(alloc, "foo").expect(&rt, "memory");
     assert!(rt; matches!(cache.find(&key), Ok(None)));
     let made = cache.get_or_init_by(&key, 1, |_| 7).expect(&rt, "memory");

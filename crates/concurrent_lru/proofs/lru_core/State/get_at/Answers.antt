@@ -14,7 +14,7 @@ use Rattle.concurrent_lru.proofs.Steps.StaysLawful.{hits_lawful}
 use Rattle.concurrent_lru.proofs.Steps.MemoryRefused.{got_memory}
 use Rattle.concurrent_lru.proofs.Entries.StepsOfEntries.{hits}
 use Rattle.concurrent_lru.proofs.lru_core.State.get_at.Goals as goal
-use Rattle.concurrent_lru.proofs.lru_core.State.get_at.Goals.{In_ok-value}
+use Rattle.concurrent_lru.proofs.lru_core.State.get_at.Goals.{After-to}
 
 pub returns-in_default-clause-step : goal.returns-in_default-clause-step
 returns-in_default-clause-step g c =
@@ -67,7 +67,7 @@ pin-requires-clause-room g c =
     let same = c.node-node.ensures.pins in
     omega (arith, room, same)
 
-found : (g : _) (c : In_ok-value g) → Hits g.K.PartialEq.eq (cache_with c.self.inside.capacity c.self.inside.most_pins c.self.inside.next c.self.inside.table) c.args.key.now (entry_of c.node-node.result.now).stamp (arc_value c.in_ok-value.value) [] (cache_with c.self.inside.capacity c.self.inside.most_pins c.self.inside.next c.pin.new.self)
+found : (g : _) (c : After-to g) → Hits g.K.PartialEq.eq (cache_with c.self.inside.capacity c.self.inside.most_pins c.self.inside.next c.self.inside.table) c.args.key.now (entry_of c.node-node.result.now).stamp (arc_value c.in_ok-value.value) [] (cache_with c.self.inside.capacity c.self.inside.most_pins c.self.inside.next c.pin.new.self)
 found g c =
     let here = c.node-node.ensures.entry in
     hits g.K.PartialEq.eq c.self.inside.capacity c.self.inside.most_pins c.self.inside.next here c.pin.new.self c.args.key.now (arc_value c.in_ok-value.value)

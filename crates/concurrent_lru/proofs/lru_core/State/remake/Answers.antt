@@ -94,7 +94,7 @@ over_held g c =
     let some = pinned (entry_of c.node-node.result.now).pins c.if-pins-gt0.true in
     let equal = key_is c.node-node.ensures.entry c.self.invariant.lawful c.args.key.now c.in-Some.ensures in
     let found = found_is c.node-node.ensures.entry c.self.invariant.lawful c.args.key.now c.in-Some.ensures some in
-    steps.remakes_held g.K.PartialEq.eq g.met.K.Eq.laws c.self.inside.capacity c.self.inside.most_pins c.self.inside.next c.node-node.ensures.entry c.self.invariant.lawful c.args.key.now c.args.charge equal some found c.add_over_held.new.self c.settle-evicted.new.self c.settle-evicted.result c.in_ok-new.ensures.ok (fits_beside (charges_of c.self.inside.table) c.total.result c.args.charge c.self.invariant.lawful.sum_fits c.total.ensures c.if-charge-total.false) (below_end c.self.inside.next (omega arith) c.if-stamp.false) c.settle-evicted.ensures.held c.settle-evicted.ensures.front (record { hash = c.hash_of-hash.result; place = c.in_ok-new.new })
+    steps.remakes_held g.K.PartialEq.eq g.met.K.Eq.laws c.self.inside.capacity c.self.inside.most_pins c.self.inside.next c.node-node.ensures.entry c.self.invariant.lawful c.args.key.now c.args.charge equal some found c.add_over_held.new.self c.settle-evicted.new.self c.settle-evicted.result c.in_ok-new.ensures.ok (fits_beside (charges_of c.self.inside.table) c.total.result c.args.charge c.self.invariant.lawful.sum_fits c.total.ensures c.if-charge-total.false) (below_end c.self.inside.next (omega arith) c.if-stamp.false) c.settle-evicted.ensures.held c.settle-evicted.ensures.front c.to-hint.result
 
 over_held_lawful : (g : _) (c : After-none-then-pins-gt0 g) → IsLawful g.K.PartialEq.eq (cache_with c.self.inside.capacity c.self.inside.most_pins (c.self.inside.next + 1) c.settle-evicted.new.self)
 over_held_lawful g c =
@@ -146,11 +146,11 @@ returns-in_err-old-clause-step g c =
     (subst (λ old. Remakes g.K.PartialEq.eq old c.args.key.now c.args.charge answer.result (cache_with c.self.inside.capacity c.self.inside.most_pins c.self.inside.next c.self.inside.table)) (ap (λ x. x.cache) c.self.view_is)
     (remade_refused g.K.PartialEq.eq (cache_with c.self.inside.capacity c.self.inside.most_pins c.self.inside.next c.self.inside.table) (cache_with c.self.inside.capacity c.self.inside.most_pins c.self.inside.next c.self.inside.table) c.args.key.now c.args.charge answer.result _ answer.ensures.1 (subst (λ e. RefusesToReplace g.K.PartialEq.eq (cache_with c.self.inside.capacity c.self.inside.most_pins c.self.inside.next c.self.inside.table) c.args.key.now c.args.charge e (cache_with c.self.inside.capacity c.self.inside.most_pins c.self.inside.next c.self.inside.table)) (sym c.in_err-old.ensures.refusal) lacks)))
 
-over_idle : (g : _) (c : After-one g) → Remakes g.K.PartialEq.eq (cache_with c.self.inside.capacity c.self.inside.most_pins c.self.inside.next c.self.inside.table) c.args.key.now c.args.charge (Ok (record { stamp = c.self.inside.next; hint = record { hash = c.hash_of-hash.result; place = c.in_ok-old.new } }, c.one.result, c.settle-evicted-2.result)) (cache_with c.self.inside.capacity c.self.inside.most_pins (c.self.inside.next + 1) c.settle-evicted-2.new.self)
+over_idle : (g : _) (c : After-one g) → Remakes g.K.PartialEq.eq (cache_with c.self.inside.capacity c.self.inside.most_pins c.self.inside.next c.self.inside.table) c.args.key.now c.args.charge (Ok (record { stamp = c.self.inside.next; hint = c.to-hint-2.result }, c.one.result, c.settle-evicted-2.result)) (cache_with c.self.inside.capacity c.self.inside.most_pins (c.self.inside.next + 1) c.settle-evicted-2.new.self)
 over_idle g c =
     let none = no_pins (entry_of c.node-node.result.now).pins c.if-pins-gt0.false in
     let equal = key_is c.node-node.ensures.entry c.self.invariant.lawful c.args.key.now c.in-Some.ensures in
-    steps.remakes_idle g.K.PartialEq.eq g.met.K.Eq.laws c.self.inside.capacity c.self.inside.most_pins c.self.inside.next c.node-node.ensures.entry c.self.invariant.lawful c.args.key.now c.args.charge equal none c.add_over_idle.new.self c.settle-evicted-2.new.self (entry_of c.in_ok-old.old.value) c.one.result c.settle-evicted-2.result c.in_ok-old.ensures.ready c.in_ok-old.ensures.ok c.one.ensures (fits_in_place (charges_of c.self.inside.table) c.total-2.result (entry_of c.node-node.result.now).charge c.args.charge c.self.invariant.lawful.sum_fits c.total-2.ensures (steps.counted g.K.PartialEq.eq g.met.K.Eq.laws c.self.inside.capacity c.self.inside.most_pins c.self.inside.next c.node-node.ensures.entry c.self.invariant.lawful c.args.key.now c.args.charge equal none) c.if-charge-rest.false) (below_end c.self.inside.next (omega arith) c.if-stamp-2.false) c.settle-evicted-2.ensures.held c.settle-evicted-2.ensures.front (record { hash = c.hash_of-hash.result; place = c.in_ok-old.new })
+    steps.remakes_idle g.K.PartialEq.eq g.met.K.Eq.laws c.self.inside.capacity c.self.inside.most_pins c.self.inside.next c.node-node.ensures.entry c.self.invariant.lawful c.args.key.now c.args.charge equal none c.add_over_idle.new.self c.settle-evicted-2.new.self (entry_of c.in_ok-old.old.value) c.one.result c.settle-evicted-2.result c.in_ok-old.ensures.ready c.in_ok-old.ensures.ok c.one.ensures (fits_in_place (charges_of c.self.inside.table) c.total-2.result (entry_of c.node-node.result.now).charge c.args.charge c.self.invariant.lawful.sum_fits c.total-2.ensures (steps.counted g.K.PartialEq.eq g.met.K.Eq.laws c.self.inside.capacity c.self.inside.most_pins c.self.inside.next c.node-node.ensures.entry c.self.invariant.lawful c.args.key.now c.args.charge equal none) c.if-charge-rest.false) (below_end c.self.inside.next (omega arith) c.if-stamp-2.false) c.settle-evicted-2.ensures.held c.settle-evicted-2.ensures.front c.to-hint-2.result
 
 over_idle_lawful : (g : _) (c : After-one g) → IsLawful g.K.PartialEq.eq (cache_with c.self.inside.capacity c.self.inside.most_pins (c.self.inside.next + 1) c.settle-evicted-2.new.self)
 over_idle_lawful g c =
@@ -162,7 +162,7 @@ pub invariant_of-self-2 : goal.invariant_of-self-2
 invariant_of-self-2 g c = record { lawful = over_idle_lawful g c; pins_above = c.self.invariant.pins_above }
 
 pub returns-clause-step : goal.returns-clause-step
-returns-clause-step g c = subst (λ old. Remakes g.K.PartialEq.eq old c.args.key.now c.args.charge (Ok (record { stamp = c.self.inside.next; hint = record { hash = c.hash_of-hash.result; place = c.in_ok-old.new } }, c.one.result, c.settle-evicted-2.result)) (cache_with c.self.inside.capacity c.self.inside.most_pins (c.self.inside.next + 1) c.settle-evicted-2.new.self)) (ap (λ x. x.cache) c.self.view_is) (over_idle g c)
+returns-clause-step g c = subst (λ old. Remakes g.K.PartialEq.eq old c.args.key.now c.args.charge (Ok (record { stamp = c.self.inside.next; hint = c.to-hint-2.result }, c.one.result, c.settle-evicted-2.result)) (cache_with c.self.inside.capacity c.self.inside.most_pins (c.self.inside.next + 1) c.settle-evicted-2.new.self)) (ap (λ x. x.cache) c.self.view_is) (over_idle g c)
 
 pub returns-clause-lawful : goal.returns-clause-lawful
 returns-clause-lawful g c = over_idle_lawful g c
