@@ -1,11 +1,11 @@
 -- What a `Table` is seen as: its entries, idle and held, and the stamp of the entry at each place.
 -- What each of its calls does to them.
-use Rattle.std.specs.Prelude.{◌≡◌, ◌≢◌, ℕ, ◌<◌, ◌+◌, ◌++◌, ◌∷◌, [], Bool, true, false, List, Option, IsSome, Some, None, refl}
+use Rattle.std.specs.Prelude.{◌≡◌, ◌≢◌, ℕ, ◌+◌, ◌++◌, ◌∷◌, [], Bool, true, false, List, Option, IsSome, Some, None, refl}
 use Rattle.std.specs.Option.{option_map, option_map_or}
 use Rattle.std.specs.Ordering.{nat_cmp}
 use Rattle.std.specs.Coded.{Coded, code_by, coded×, coded_ℕ, coded_list}
 use Rattle.std.specs.FinMap as finmap
-use Rattle.concurrent_lru.specs.Cache.{Cache, Idle, Held, IsEntry, IsLawful, IsFound, idle_at, held_at, idle_code, held_code, charges, making, ready}
+use Rattle.concurrent_lru.specs.Cache.{Cache, Idle, Held, IsEntry, IsFound, idle_at, held_at, idle_code, held_code, charges, making, ready}
 use Rattle.concurrent_lru.specs.Steps.{without, held_by_one, held_in_phase, held_detached, idle_again}
 use Rattle.concurrent_lru.specs.NodeTable.{Entry, value_in}
 use Rattle.concurrent_lru.specs.Representation.{as_idle, held_entry, held_charges}

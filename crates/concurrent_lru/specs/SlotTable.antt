@@ -1,5 +1,5 @@
 -- The idle order of a `Nodes`: what its slots and two ends are seen as, and what holds of them.
-use Rattle.std.specs.Prelude.{◌≡◌, ℕ, ◌-◌, ◌==◌, List, [], ◌∷◌, map, filter, not, length, Option, Some, None, IsSome, nat_eq, true, false}
+use Rattle.std.specs.Prelude.{◌≡◌, ℕ, ◌==◌, List, [], ◌∷◌, map, filter, not, length, Option, Some, None, IsSome, nat_eq, true, false}
 use Rattle.std.specs.FinMap.{FinMap}
 use Rattle.std.specs.List.{list_any}
 use Rattle.std.specs.Ordering.{nat_cmp}

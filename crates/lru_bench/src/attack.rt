@@ -14,6 +14,7 @@ use std::sync::Wait;
 
 // What the kit's fast hasher begins with, and what it multiplies by at a word of 8 bytes.
 const INITIAL: u64 = 0x243f_6a88_85a3_08d3;
+
 const MULTIPLIER: u64 = 0x9e37_79b9_7f4a_7c15 ^ 16;
 
 // A key of two words.
@@ -81,21 +82,27 @@ impl Attack {
         let hasher = RandomState::new(rt)?;
         match self.target {
             Target::Known => {
-                let cache: unsharded::LruCache<Pair, u64, W> =
-                    unsharded::LruCache::with_seed(alloc, wait, room, 0);
+                let cache: unsharded::LruCache<Pair, u64, W> = unsharded::LruCache::with_seed(
+                    alloc, wait, room, 0,
+                );
                 self.fill(&cache)?;
                 Ok(cache.len())
             }
             Target::Seeded => {
                 let seed = hasher.hash_one(&0);
-                let cache: unsharded::LruCache<Pair, u64, W> =
-                    unsharded::LruCache::with_seed(alloc, wait, room, seed);
+                let cache: unsharded::LruCache<Pair, u64, W> = unsharded::LruCache::with_seed(
+                    alloc, wait, room, seed,
+                );
                 self.fill(&cache)?;
                 Ok(cache.len())
             }
             Target::Shards => {
-                let cache: sharded::LruCache<Pair, u64, W> =
-                    sharded::LruCache::new(alloc, wait, room.saturating_mul(2), hasher)?;
+                let cache: sharded::LruCache<Pair, u64, W> = sharded::LruCache::new(
+                    alloc,
+                    wait,
+                    room.saturating_mul(2),
+                    hasher,
+                )?;
                 self.fill(&cache)?;
                 Ok(cache.len())
             }

@@ -5,12 +5,9 @@ use Rattle.std.specs.Prelude.{T, is_some}
 use Rattle.std.specs.List.{list_any, IsDistinct, AllByRecursion, filter_map}
 use Rattle.std.proofs.Common.{Ordering, Less, Equal, Greater}
 use Rattle.std.specs.Ordering.{nat_cmp, is_lt, is_eq, eq_by_cmp}
-use Rattle.std.specs.Cmp.{IsEquivalence, nat_cmp_total, unsigned_tied}
+use Rattle.std.specs.Cmp.{nat_cmp_total, unsigned_tied}
 use Rattle.std.specs.FinMap.{FinMap, get, insert, remove, get-insert, get-remove, get-entries, get-empty, empty, keys, entries, entries_sorted, len-entries, len-empty, contains_key-keys, same_map, nat_cmp-IsAntisymmetric, from_entries, get-from_entries}
 use Rattle.std.specs.FinMap.Entries.{find, is_sorted, below_all}
-use Rattle.std.specs.Map.{lookup, keys_of, values_of}
-use Rattle.std.proofs.lemmas.Map.{lookup-none}
-use Rattle.std.proofs.lemmas.Map.Entries.{lookup_head, lookup_tail, none_past_head}
 use Rattle.std.proofs.lemmas.Option.{none-some}
 use Rattle.std.proofs.lemmas.Bool.{true≢false}
 use Rattle.concurrent_lru.specs.Cache.{Held}

@@ -1,6 +1,6 @@
 -- What a table stores, and its entries, where one node is written: a held one, one that is revived,
 -- one that comes to rest.
-use Rattle.std.proofs.Common.{◌≡◌, ℕ, Bool, ◌<◌, ◌+◌, ◌++◌, ◌∷◌, [], false, not, cond, Some, None, refl, sym, ap, ◌∙◌, eqb, ◌==◌, arith}
+use Rattle.std.proofs.Common.{◌≡◌, ℕ, Bool, ◌<◌, ◌+◌, ◌++◌, ◌∷◌, [], false, not, Some, refl, sym, ap, ◌∙◌, eqb, ◌==◌, arith}
 use Rattle.std.specs.List.{filter}
 use Rattle.std.specs.FinMap.{get, insert, remove, keys}
 use Rattle.std.proofs.lemmas.Bool.{true≢false, eq-eqb, ne_eqb}

@@ -1,11 +1,10 @@
 -- The table by hash and the nodes stay in step.
-use Rattle.std.proofs.Common.{◌≡◌, ◌≢◌, ℕ, zero, suc, arith, length, List, [], Bool, true, false, Option, Some, None, IsSome, refl, sym, ap, ◌∙◌, subst, inl, inr}
+use Rattle.std.proofs.Common.{◌≡◌, ◌≢◌, ℕ, zero, suc, arith, [], Bool, true, false, Option, Some, None, IsSome, refl, sym, ap, ◌∙◌, subst, inl, inr}
 use Rattle.std.proofs.Common.{is_some}
-use Rattle.std.specs.Prelude.{slice_get}
 use Rattle.std.proofs.lemmas.Bool.{cases_eq}
 use denote.RawPtr.{Ptr}
 use Rattle.concurrent_lru.specs.Cells.{cell_at, ptr_in, slot_at}
-use Rattle.concurrent_lru.specs.Listing.{unless, listing, listing_in, hash_in, listing_at, KeepsListings, IsListed, IsListedBut, LeadsToCandidate, HoldsSlot}
+use Rattle.concurrent_lru.specs.Listing.{unless, listing, listing_in, hash_in, listing_at, KeepsListings, IsListed, IsListedBut, LeadsToCandidate}
 use Rattle.concurrent_lru.specs.NodeTable.{Entry, entry_of, hash_of}
 use Rattle.concurrent_lru.specs.Probing.Entries.{entry, Has, Holds, IsSame, Adds, Removes}
 use Rattle.concurrent_lru.specs.Probing.OpenTable.{mark_of}

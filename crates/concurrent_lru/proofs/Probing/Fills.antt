@@ -1,11 +1,11 @@
 -- An entry in the empty slot at which the search for its mark ends.
-use Rattle.std.proofs.Common.{◌≡◌, ◌≢◌, ℕ, ◌<◌, ◌≤◌, List, length, set, refl, sym, ap, ◌∙◌, subst, arith, inl, inr}
+use Rattle.std.proofs.Common.{◌≡◌, ◌≢◌, ℕ, ◌<◌, ◌≤◌, List, length, set, sym, ap, ◌∙◌, subst, arith, inl, inr}
 use Rattle.std.proofs.lemmas.Bool.{cases_eq, cases_lt}
 use Rattle.std.proofs.lemmas.List.{length-set, get_or-set_same, get_or-set_other}
 use Rattle.concurrent_lru.specs.Probing.Cycle.{steps, home_of}
 use Rattle.concurrent_lru.specs.Probing.Probes.{mark_at, IsEmptyAt, IsFilledAt, HasEmpty, end_at, IsReachedIn, IsReached}
 use Rattle.concurrent_lru.proofs.Probing.Circle.{home_within, steps_same}
-use Rattle.concurrent_lru.proofs.Probing.Runs.{IsEnd, is_end}
+use Rattle.concurrent_lru.proofs.Probing.Runs.{is_end}
 
 -- the empty slot at which the search for a mark ends
 pub record Ends (ms : List ℕ) (mark at : ℕ) : Type 0 where

@@ -1,9 +1,9 @@
 -- The hole that a removal leaves, from the slot that is emptied to where nothing is reached over it.
-use Rattle.std.proofs.Common.{◌≡◌, ◌≢◌, ℕ, ◌+◌, ◌-◌, ◌<◌, ◌≤◌, List, length, get_or, set, refl, sym, ap, ◌∙◌, subst, arith, inl, inr, ◌⊎◌}
+use Rattle.std.proofs.Common.{◌≡◌, ◌≢◌, ℕ, ◌+◌, ◌-◌, ◌<◌, ◌≤◌, List, length, set, sym, ap, ◌∙◌, subst, arith, inl, inr}
 use Rattle.std.proofs.lemmas.Bool.{cases_eq, cases_lt}
 use Rattle.std.proofs.lemmas.List.{length-set, get_or-set_same, get_or-set_other, get_or_past}
 use Rattle.concurrent_lru.specs.Probing.Cycle.{next_of, steps, home_of}
-use Rattle.concurrent_lru.specs.Probing.Probes.{mark_at, IsEmptyAt, IsFilledAt, HasEmpty, IsReachedIn, IsReached}
+use Rattle.concurrent_lru.specs.Probing.Probes.{mark_at, IsEmptyAt, IsFilledAt, HasEmpty, IsReachedIn}
 use Rattle.concurrent_lru.specs.Probing.Gaps.{rank, IsGap}
 use Rattle.concurrent_lru.proofs.Probing.Circle.{home_within, next_cases, next_within, steps_cases, steps_within, steps_to_next, steps_beyond, steps_same}
 

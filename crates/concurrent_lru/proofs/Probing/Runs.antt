@@ -1,7 +1,6 @@
 -- The run of filled slots from a slot on, and the empty slot after it.
-use Rattle.std.proofs.Common.{◌≡◌, ◌≢◌, ℕ, zero, suc, ◌+◌, ◌-◌, ◌<◌, ◌≤◌, cond, true, false, List, [], ◌∷◌, length, get_or, refl, sym, ap, ◌∙◌, subst, arith, eqb, inl, inr, ◌||◌}
+use Rattle.std.proofs.Common.{◌≡◌, ◌≢◌, ℕ, zero, suc, ◌+◌, ◌<◌, ◌≤◌, cond, true, List, [], ◌∷◌, length, refl, sym, ap, ◌∙◌, subst, arith, eqb, inl, inr, ◌||◌}
 use Rattle.std.specs.List.{list_any, filter}
-use Rattle.std.specs.Cmp.{nat_eq_equiv}
 use Rattle.std.proofs.lemmas.Bool.{cases_eq, eq-eqb, ne_eqb}
 use Rattle.concurrent_lru.specs.Probing.Cycle.{next_of, steps}
 use Rattle.concurrent_lru.specs.Probing.Probes.{mark_at, IsEmptyAt, IsFilledAt, HasEmpty, run, run_at, end, end_at, walk_at}

@@ -1,5 +1,5 @@
 -- The entries that slots hold, wherever they lie.
-use Rattle.std.specs.Prelude.{◌≡◌, ◌≢◌, ℕ, ◌<◌, ◌==◌, List, Option, Some, not, count_by, slice_get, ◌⊎◌}
+use Rattle.std.specs.Prelude.{◌≡◌, ◌≢◌, ℕ, ◌==◌, List, Some, not, count_by, slice_get, ◌⊎◌}
 use Rattle.concurrent_lru.specs.declared.list.probes.Slot.{Slot}
 
 module _ {T : Type 0} where

@@ -1,15 +1,15 @@
 -- What a slot holds, and what a write to one changes.
-use Rattle.std.proofs.Common.{◌≡◌, ◌≢◌, ℕ, zero, suc, ◌+◌, ◌<◌, ◌≤◌, cond, not, true, false, List, [], ◌∷◌, ◌++◌, length, get_or, set, refl, sym, ap, ◌∙◌, subst, arith, eqb, inl, inr, Option, Some, None}
-use Rattle.std.specs.Prelude.{slice_get, count_by}
+use Rattle.std.proofs.Common.{◌≡◌, ◌≢◌, ℕ, zero, suc, ◌+◌, ◌<◌, cond, not, List, [], ◌∷◌, ◌++◌, length, get_or, set, sym, ap, ◌∙◌, arith, eqb, inl, inr, Some}
+use Rattle.std.specs.Prelude.{slice_get}
 use Rattle.std.specs.List.{sum_by}
 use Rattle.std.proofs.lemmas.Bool.{cases_eq, cases_lt, eq-eqb, ne_eqb}
 use Rattle.std.proofs.lemmas.List.{length-set, get_or-set_same, get_or-set_other}
 use Rattle.std.proofs.lemmas.List.Sums.{sum_by-append}
 use Rattle.std.proofs.lemmas.Option.{slice_get_past, slice_get_within, slice_get-get_or, get_or_from_slice_get}
 use Rattle.concurrent_lru.specs.Probing.Probes.{marks_of, mark_at, IsEmptyAt, IsFilledAt, HasEmpty}
-use Rattle.concurrent_lru.specs.Probing.Entries.{Holds, Has, count}
+use Rattle.concurrent_lru.specs.Probing.Entries.{Holds, count}
 use Rattle.concurrent_lru.specs.declared.list.probes.Slot.{Slot}
-use Rattle.concurrent_lru.proofs.Probing.Marks.{length-marks, mark_read}
+use Rattle.concurrent_lru.proofs.Probing.Marks.{mark_read}
 
 module _ {T : Type 0} where
   got_same : (slots : List (Slot T)) (k : ℕ) (s : Slot T) → k < length slots → slice_get (set slots k s) k ≡ Some s

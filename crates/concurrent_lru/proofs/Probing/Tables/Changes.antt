@@ -1,5 +1,5 @@
 -- A table after an insertion, a removal and a growth.
-use Rattle.std.proofs.Common.{◌≡◌, ℕ, ◌+◌, ◌-◌, ◌*◌, ◌/◌, ◌<◌, ◌≤◌, List, [], length, sym, ap, ◌∙◌, subst, arith}
+use Rattle.std.proofs.Common.{◌≡◌, ℕ, ◌+◌, ◌-◌, ◌<◌, ◌≤◌, List, length, sym, ap, ◌∙◌, subst, arith}
 use Rattle.concurrent_lru.specs.Probing.Probes.{marks_of, IsReached}
 use Rattle.concurrent_lru.specs.Probing.Entries.{AreApart, count}
 use Rattle.concurrent_lru.specs.Probing.OpenTable.{IsTable, capacity}

@@ -1,16 +1,15 @@
 -- Walks along the items of a hash, in a table.
-use Rattle.std.proofs.Common.{◌≡◌, ◌≢◌, ℕ, zero, suc, ◌+◌, ◌-◌, ◌/◌, ◌<◌, ◌≤◌, cond, Bool, true, false, List, [], ◌∷◌, length, refl, sym, ap, ◌∙◌, subst, arith, eqb, inl, inr, ◌||◌, Contains}
+use Rattle.std.proofs.Common.{◌≡◌, ◌≢◌, ℕ, suc, ◌-◌, ◌<◌, ◌≤◌, cond, Bool, true, false, List, [], ◌∷◌, length, refl, sym, ap, ◌∙◌, subst, arith, eqb, inl, inr, ◌||◌, Contains}
 use Rattle.std.specs.List.{list_any, filter}
 use Rattle.std.proofs.lemmas.Bool.{cases_eq, eq-eqb, ne_eqb}
 use Rattle.std.proofs.lemmas.Nat.{and_le_r}
 use Rattle.concurrent_lru.specs.Probing.Cycle.{next_of, steps, home_of}
-use Rattle.concurrent_lru.specs.Probing.Probes.{marks_of, mark_at, IsFilledAt, HasEmpty, run_at, end, end_at, walk_at, Finds, IsReached}
-use Rattle.concurrent_lru.specs.Probing.Entries.{count}
-use Rattle.concurrent_lru.specs.Probing.OpenTable.{IsTable, HasMark, EndsAt, IsVacancy, walk, step_for, capacity}
+use Rattle.concurrent_lru.specs.Probing.Probes.{marks_of, mark_at, IsFilledAt, HasEmpty, run_at, end, end_at, walk_at, Finds}
+use Rattle.concurrent_lru.specs.Probing.OpenTable.{IsTable, HasMark, EndsAt, IsVacancy, walk, step_for}
 use Rattle.concurrent_lru.specs.declared.list.probes.Slot.{Slot}
 use Rattle.concurrent_lru.specs.declared.list.probes.Probe.{Probe}
 use Rattle.concurrent_lru.specs.declared.list.probes.Probe.TheVariants.{Filled, Empty}
-use Rattle.concurrent_lru.proofs.Probing.Circle.{home_within, next_within, steps_within}
+use Rattle.concurrent_lru.proofs.Probing.Circle.{home_within}
 use Rattle.concurrent_lru.proofs.Probing.Runs.{end_on, end_along, member_along, walk_here}
 use Rattle.concurrent_lru.proofs.Probing.Marks.{length-marks}
 use Rattle.concurrent_lru.proofs.Probing.Gaps.{filled_within}

@@ -1,7 +1,7 @@
 -- An entry stays, or moves back into the hole.
-use Rattle.std.proofs.Common.{◌≡◌, ℕ, ◌<◌, ◌≤◌, List, length, get_or, set, refl, sym, ap, ◌∙◌, subst, arith}
+use Rattle.std.proofs.Common.{◌≡◌, ℕ, ◌<◌, List, length, get_or, set, refl, sym, ap, ◌∙◌, subst, arith}
 use Rattle.concurrent_lru.specs.Probing.Cycle.{next_of, steps, home_of}
-use Rattle.concurrent_lru.specs.Probing.Probes.{marks_of, mark_at, IsEmptyAt, IsFilledAt}
+use Rattle.concurrent_lru.specs.Probing.Probes.{marks_of, mark_at, IsFilledAt}
 use Rattle.concurrent_lru.specs.Probing.Entries.{Holds}
 use Rattle.concurrent_lru.specs.Probing.Gaps.{IsGap}
 use Rattle.concurrent_lru.specs.declared.list.probes.Slot.{Slot}

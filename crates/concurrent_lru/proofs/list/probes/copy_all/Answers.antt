@@ -1,5 +1,5 @@
 -- Each entry is copied in its turn.
-use Rattle.std.proofs.Common.{◌≡◌, ◌+◌, ◌<◌, ◌≤◌, length, take, sym, subst, arith}
+use Rattle.std.proofs.Common.{◌+◌, ◌≤◌, take, sym, subst, arith}
 use Rattle.concurrent_lru.specs.Probing.Probes.{marks_of, IsReached}
 use Rattle.concurrent_lru.specs.Probing.Entries.{AreApart, count}
 use Rattle.concurrent_lru.proofs.Probing.Contents.Copies.{IsCopied, none_held, count-take, copied_none, copied_all, copied_past, copied_absent, copied_next}

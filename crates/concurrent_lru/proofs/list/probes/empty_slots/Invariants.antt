@@ -1,4 +1,4 @@
-use Rattle.std.proofs.Common.{◌≡◌, ℕ, length, vec_len}
+use Rattle.std.proofs.Common.{◌≡◌, ℕ, vec_len}
 use Rattle.concurrent_lru.specs.Probing.Probes.{marks_of, IsEmptyAt}
 use Rattle.concurrent_lru.proofs.list.probes.empty_slots.Given as goal
 

@@ -1,7 +1,6 @@
 -- A filled slot is passed.
-use Rattle.std.proofs.Common.{◌≡◌, List, length, sym, ap, ◌∙◌, arith}
+use Rattle.std.proofs.Common.{sym, ◌∙◌}
 use Rattle.concurrent_lru.specs.Probing.Probes.{marks_of, HasEmpty}
-use Rattle.concurrent_lru.specs.declared.list.probes.Slot.{Slot}
 use Rattle.concurrent_lru.proofs.Probing.Marks.{GoesOn, goes_on, mark_read}
 use Rattle.concurrent_lru.proofs.Probing.Runs.{at_end}
 use Rattle.concurrent_lru.proofs.list.probes.find_empty.Goals as goal

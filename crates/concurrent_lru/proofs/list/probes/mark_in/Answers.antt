@@ -1,5 +1,4 @@
-use Rattle.std.proofs.Common.{sym, ap, ◌∙◌}
-use Rattle.concurrent_lru.specs.declared.list.probes.Slot.{Slot}
+use Rattle.std.proofs.Common.{sym}
 use Rattle.concurrent_lru.proofs.Probing.Marks.{mark_read}
 use Rattle.concurrent_lru.proofs.list.probes.mark_in.Goals as goal
 

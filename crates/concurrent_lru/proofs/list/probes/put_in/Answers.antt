@@ -1,7 +1,7 @@
 -- The slot at which a search ends is filled.
-use Rattle.std.proofs.Common.{◌≡◌, ◌≢◌, ℕ, ◌<◌, List, length, set, refl, sym, ap, ◌∙◌, subst}
-use Rattle.concurrent_lru.specs.Probing.Cycle.{steps, home_of}
-use Rattle.concurrent_lru.specs.Probing.Probes.{marks_of, end_at, IsEmptyAt, IsFilledAt, HasEmpty, IsReachedIn, IsReached}
+use Rattle.std.proofs.Common.{◌≡◌, ◌≢◌, ℕ, ◌<◌, List, length, set, sym, ap, ◌∙◌, subst}
+use Rattle.concurrent_lru.specs.Probing.Cycle.{home_of}
+use Rattle.concurrent_lru.specs.Probing.Probes.{marks_of, end_at, HasEmpty, IsReached}
 use Rattle.concurrent_lru.specs.declared.list.probes.Slot.{Slot}
 use Rattle.concurrent_lru.proofs.Probing.Marks.{length-marks, marks-set}
 use Rattle.concurrent_lru.proofs.Probing.Fills.{Ends, ends_at, fills}

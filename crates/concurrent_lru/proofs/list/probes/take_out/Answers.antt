@@ -1,9 +1,9 @@
 -- The slot is emptied, and what follows it is moved back.
-use Rattle.std.proofs.Common.{◌≡◌, ◌≢◌, ℕ, ◌+◌, ◌<◌, List, length, get_or, set, refl, sym, ap, ◌∙◌, subst}
+use Rattle.std.proofs.Common.{◌≡◌, ℕ, ◌+◌, ◌<◌, List, length, get_or, set, refl, sym, ap, ◌∙◌, subst}
 use Rattle.std.proofs.lemmas.List.{length-set}
 use Rattle.concurrent_lru.specs.Probing.Cycle.{next_of}
-use Rattle.concurrent_lru.specs.Probing.Probes.{marks_of, mark_at, IsFilledAt, HasEmpty, IsReachedIn, IsReached}
-use Rattle.concurrent_lru.specs.Probing.Entries.{Holds, AreApart, IsSame, Removes, count}
+use Rattle.concurrent_lru.specs.Probing.Probes.{marks_of, IsFilledAt, HasEmpty, IsReachedIn, IsReached}
+use Rattle.concurrent_lru.specs.Probing.Entries.{Holds, AreApart, Removes, count}
 use Rattle.concurrent_lru.specs.Probing.Gaps.{IsGap}
 use Rattle.concurrent_lru.specs.declared.list.probes.Slot.{Slot}
 use Rattle.concurrent_lru.proofs.Probing.Marks.{length-marks, marks-set}

@@ -25,6 +25,8 @@ returns-in_default-phase g c =
     record {
       step = (subst (λ old. IsUnready g.K.PartialEq.eq old c.args.key.now) (ap (λ x. x.cache) c.self.view_is) unready, record { same = refl; none = refl });
       work = omega arith;
+      refused = tt;
+      missed = λ _. refl;
       lawful = subst (IsLawful _) (ap (λ x. x.cache) c.self.view_is) c.self.invariant.lawful;
     }
 

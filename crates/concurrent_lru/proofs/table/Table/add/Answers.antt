@@ -2,7 +2,7 @@ use Rattle.std.proofs.Common.{◌≡◌, ◌+◌, cond, Some, sym, ap, ◌∙◌
 use Rattle.std.specs.FinMap.{insert}
 use Rattle.concurrent_lru.specs.Cache.{charges}
 use Rattle.concurrent_lru.specs.NodeTable.{IsNewStamp, entry_of, new_entry}
-use Rattle.concurrent_lru.specs.Entries.{ContainsNoKey, ContainsNoStamp, new_held, charges_of}
+use Rattle.concurrent_lru.specs.Entries.{ContainsNoStamp, new_held, charges_of}
 use Rattle.concurrent_lru.specs.Indexes.{entries_of}
 use Rattle.concurrent_lru.specs.StampIndex.{mapped_place}
 use Rattle.concurrent_lru.specs.KeyHashes.{key_hash}

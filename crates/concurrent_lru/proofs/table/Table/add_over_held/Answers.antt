@@ -2,7 +2,7 @@ use Rattle.std.proofs.Common.{◌≡◌, ◌+◌, cond, Some, refl, sym, ap, ◌
 use Rattle.std.specs.FinMap.{insert}
 use Rattle.concurrent_lru.specs.Cache.{charges}
 use Rattle.concurrent_lru.specs.NodeTable.{IsNewStamp, entry_of, new_entry, entry_detached}
-use Rattle.concurrent_lru.specs.Entries.{AddsOverHeld, ContainsFoundAt, ContainsNoStamp, GetsAt, new_held, charges_of}
+use Rattle.concurrent_lru.specs.Entries.{AddsOverHeld, ContainsFoundAt, ContainsNoStamp, new_held, charges_of}
 use Rattle.concurrent_lru.specs.Indexes.{entries_of}
 use Rattle.concurrent_lru.specs.Representation.{held_entry}
 use Rattle.concurrent_lru.specs.StampIndex.{mapped_place}
@@ -12,7 +12,7 @@ use Rattle.concurrent_lru.proofs.Entries.FoundNodes.{fresh_among}
 use Rattle.concurrent_lru.proofs.Entries.AddAndTake.{IsAdded, put_added, stored_same, entries_same, stored_with, idle_with, held_with, on_err}
 use Rattle.concurrent_lru.proofs.Entries.AddOver.{fresh_written, unheld_written}
 use Rattle.concurrent_lru.proofs.Entries.SetPinsAndRest.{stored_detached, entries_detached}
-use Rattle.concurrent_lru.proofs.Entries.NodeAtPlace.{has_node, some_node, held_node, held_found, found_place, found_node, node_is_at, place_at}
+use Rattle.concurrent_lru.proofs.Entries.NodeAtPlace.{has_node, some_node, held_node, held_found, found_place, place_at}
 use Rattle.concurrent_lru.proofs.Steps.Release.{detached_writes}
 use Rattle.concurrent_lru.proofs.Entries.SumsOfCharges.{sum_with, sum_written}
 use Rattle.concurrent_lru.proofs.table.Table.add_over_held.Goals as goal

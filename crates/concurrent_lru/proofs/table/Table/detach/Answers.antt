@@ -3,7 +3,7 @@ use Rattle.concurrent_lru.specs.Cache.{charges}
 use Rattle.concurrent_lru.specs.Entries.{ContainsFoundAt, Rewrites}
 use Rattle.concurrent_lru.specs.Steps.{held_detached}
 use Rattle.concurrent_lru.specs.Indexes.{entries_of}
-use Rattle.concurrent_lru.proofs.Entries.NodeAtPlace.{has_node, some_node, held_node, held_found, found_place, found_node, place_at}
+use Rattle.concurrent_lru.proofs.Entries.NodeAtPlace.{has_node, some_node, held_node, held_found, found_place, place_at}
 use Rattle.concurrent_lru.proofs.Steps.Release.{detached_writes}
 use Rattle.concurrent_lru.proofs.Entries.SetPinsAndRest.{stored_detached, entries_detached}
 use Rattle.concurrent_lru.proofs.Entries.SumsOfCharges.{sum_written}

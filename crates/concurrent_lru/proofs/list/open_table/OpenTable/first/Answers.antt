@@ -1,5 +1,5 @@
 -- A walk begins with a search from the home of the mark.
-use Rattle.std.proofs.Common.{◌≡◌, ◌<◌, length, ap, ◌∙◌, arith}
+use Rattle.std.proofs.Common.{◌≡◌, length, ap, ◌∙◌, arith}
 use Rattle.concurrent_lru.specs.Probing.Cycle.{home_of}
 use Rattle.concurrent_lru.specs.Probing.OpenTable.{mark_of}
 use Rattle.concurrent_lru.proofs.Probing.Marks.{mark_filled}

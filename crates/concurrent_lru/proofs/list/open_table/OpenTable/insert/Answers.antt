@@ -1,9 +1,8 @@
 -- The item is put where its search ends.
-use Rattle.std.proofs.Common.{◌≡◌, ◌+◌, ◌/◌, ◌∙◌, List, length, drop, sym, ap, subst, arith}
+use Rattle.std.proofs.Common.{◌+◌, ◌/◌, ◌∙◌, length, drop, sym, ap, subst}
 use Rattle.std.proofs.lemmas.List.{take_at}
 use Rattle.concurrent_lru.specs.Probing.Entries.{Has, Adds, entry, count}
 use Rattle.concurrent_lru.specs.Probing.OpenTable.{mark_of, IsTable, capacity}
-use Rattle.concurrent_lru.specs.declared.list.probes.Slot.{Slot}
 use Rattle.concurrent_lru.proofs.Probing.Tables.Changes.{room_in, reached_in, apart_in, table_more}
 use Rattle.concurrent_lru.proofs.list.open_table.OpenTable.insert.Goals as goal
 

@@ -1,7 +1,7 @@
 use Rattle.std.proofs.Common.{◌≡◌, ℕ, Some, length, Contains}
 use Rattle.concurrent_lru.specs.Cells.{cell_at}
 use Rattle.concurrent_lru.specs.Listing.{listing}
-use Rattle.concurrent_lru.specs.NodeTable.{entry_of, hash_of}
+use Rattle.concurrent_lru.specs.NodeTable.{hash_of}
 use Rattle.concurrent_lru.specs.Probing.Entries.{Holds}
 use Rattle.concurrent_lru.specs.Probing.OpenTable.{mark_of, HasMark, walk}
 use Rattle.concurrent_lru.specs.Relinks.{NodeCell}

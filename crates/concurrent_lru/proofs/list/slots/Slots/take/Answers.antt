@@ -1,4 +1,4 @@
-use Rattle.std.proofs.Common.{◌≡◌, refl, sym, ap, ◌∙◌, subst}
+use Rattle.std.proofs.Common.{sym, ap, ◌∙◌, subst}
 use Rattle.concurrent_lru.specs.Cells.{cell_at}
 use Rattle.concurrent_lru.specs.Listing.{listing_in}
 use Rattle.concurrent_lru.specs.SlotPointers.{HasNode, cells_of}

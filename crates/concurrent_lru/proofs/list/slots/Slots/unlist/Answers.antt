@@ -1,4 +1,4 @@
-use Rattle.std.proofs.Common.{refl, sym, ap, subst}
+use Rattle.std.proofs.Common.{refl, subst}
 use Rattle.concurrent_lru.specs.Probing.Entries.{Removes}
 use Rattle.concurrent_lru.proofs.Nodes.Listings.{fewer_but, same_but}
 use Rattle.concurrent_lru.proofs.Probing.Contents.Slots.{holds_filled}
