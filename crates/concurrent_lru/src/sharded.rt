@@ -111,6 +111,9 @@ impl<K: Hash + Eq + Clone + Drop, V: Drop, R: Wait + Clone> LruCache<
     /// Creates an empty cache of 16 shards. Whoever creates it promises that a copy of a key equals
     /// the key.
     ///
+    /// The hasher chooses the shard of each key, and gives each shard the seed with which it hashes
+    /// keys once more. So without the hasher nobody can choose keys that make the cache slow.
+    ///
     /// Returns `Memory` if there is no room for the shards, or if a copy of `rt` is refused.
     pub fn new(alloc: Global, rt: R, capacity: u64, hasher: RandomState) -> Result<Self, Refusal>
         requires copies { CopiesAreEqual K.is_clone K.eq }

@@ -120,6 +120,9 @@ impl<K: Hash + Eq + Clone, V: Drop, S: BuildHasher + Drop> Shards<K, V, S> {
     /// Creates `shards` empty caches, each with its share of the capacity. Whoever creates them
     /// promises that there is at least one, and that a copy of a key equals the key.
     ///
+    /// The hasher chooses the shard of each key, and gives each shard the seed with which it hashes
+    /// keys once more.
+    ///
     /// Returns `Memory` if there is no room for the shards.
     pub fn new(
         alloc: Global,

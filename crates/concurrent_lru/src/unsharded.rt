@@ -37,6 +37,8 @@ pub struct LruCache<K: Hash + Eq + Clone, V, R: Wait, F: Fit<K, V> = Anything> {
 impl<K: Hash + Eq + Clone + Drop, V: Drop, R: Wait> LruCache<K, V, R, Anything> {
     /// Creates an empty cache. It keeps idle entries while the sum of all charges is at most
     /// `capacity`. Takes no memory.
+    ///
+    /// It hashes keys with the seed 0: where keys come from outside, use `with_seed`.
     pub fn new(alloc: Global, rt: R, capacity: u64) -> Self
         requires copies { CopiesAreEqual K.is_clone K.eq }
     {
@@ -48,7 +50,7 @@ impl<K: Hash + Eq + Clone + Drop, V: Drop, R: Wait> LruCache<K, V, R, Anything> 
     /// Whoever knows the seed can choose keys that have one hash, so that each lookup of one visits
     /// them all, under the lock. Where keys come from outside, take a random seed for each cache, as
     /// a [`RandomState`](std::hash::RandomState) gives one: `RandomState::new(&rt)?.hash_one(&0)`.
-    /// The seed of `new` is 0. No answer depends on it.
+    /// No answer depends on the seed.
     pub fn with_seed(alloc: Global, rt: R, capacity: u64, seed: u64) -> Self
         requires copies { CopiesAreEqual K.is_clone K.eq }
     {

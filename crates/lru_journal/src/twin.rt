@@ -45,6 +45,8 @@ impl<
 > LruCache<K, V, R, I> {
     /// Creates an empty twin with the opening's capacity, and its first tally, which has all parts.
     /// Takes no memory.
+    ///
+    /// It hashes keys with the seed 0, so whoever picks the keys can make it slow.
     pub fn new(alloc: Global, rt: R, opening: Opening<K>) -> (LruCache<K, V, R, I>, Tally<K, I>)
         requires named { opening ≡ I.name }
         requires copies { CopiesAreEqual K.is_clone K.eq }

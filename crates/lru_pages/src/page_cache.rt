@@ -24,6 +24,8 @@ pub struct PageCache<'a, B: Blocks, R: Wait> {
 impl<'a, B: Blocks, R: Wait> PageCache<'a, B, R> {
     /// Creates an empty cache that keeps unused pages while there are at most `capacity` pages in
     /// all. Takes no memory.
+    ///
+    /// It hashes page numbers with the seed 0: where they come from outside, use `with_seed`.
     pub fn new(alloc: Global, rt: R, reader: &'a B, capacity: u64) -> Self {
         PageCache {
             reader,
@@ -31,9 +33,9 @@ impl<'a, B: Blocks, R: Wait> PageCache<'a, B, R> {
         }
     }
 
-    /// Creates an empty cache as `new` does, which hashes page numbers with a seed, as
-    /// `unsharded::LruCache::with_seed` does: for page numbers that come from outside. Takes no
-    /// memory.
+    /// Creates an empty cache as `new` does, which hashes page numbers with a seed. Takes no memory.
+    ///
+    /// `unsharded::LruCache::with_seed` says which seed to take.
     pub fn with_seed(alloc: Global, rt: R, reader: &'a B, capacity: u64, seed: u64) -> Self {
         PageCache {
             reader,
