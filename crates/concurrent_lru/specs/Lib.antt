@@ -44,3 +44,4 @@ pub mod Uses
 pub mod Weights
 pub mod StampCounts
 pub mod WholeRuns
+pub mod WordHashes

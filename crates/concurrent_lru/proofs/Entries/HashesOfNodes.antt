@@ -4,7 +4,7 @@ use Rattle.std.specs.Ordering.{nat_cmp}
 use Rattle.std.specs.List.{fold}
 use Rattle.std.specs.Int.{w64, rotate_left}
 use Rattle.std.specs.Hash as fed
-use Rattle.std.specs.Hash.FoldHasher.{initial, write, finish}
+use Rattle.concurrent_lru.specs.WordHashes.{initial, write, finish}
 use Rattle.std.specs.FinMap.{FinMap, get, insert, remove, empty, get-empty}
 use Rattle.std.proofs.lemmas.Bool.{eqb-true}
 use Rattle.std.proofs.lemmas.Option.{none-some, same_Some}

@@ -2,7 +2,8 @@
 ghost use Rattle.std.specs.Prelude.{◌≡◌};
 ghost use Rattle.concurrent_lru.specs.KeyHashes.{key_hash, IsHashOf};
 
-use std::hash::{BuildHasher, FoldHasher, Hash, Hasher};
+use crate::table::word_hasher::WordHasher;
+use std::hash::{BuildHasher, Hash, Hasher};
 
 /// The hash of a key under a seed.
 ///
@@ -46,8 +47,8 @@ impl KeyHash {
     }
 }
 
-// Hashes a key by the kit's fast hasher, which is fed the seed before the key: without the seed,
-// nobody can tell which keys have hashes in common.
+// Hashes a key by a hasher that is fed the seed before the key: without the seed, nobody can tell
+// which keys have hashes in common.
 //
 // A table probes by the lowest bits of a hash. Here they begin at bit 24 of the hasher's number: a
 // shard is chosen by the lowest bits of such a number, so all entries of a shard may share those.
@@ -55,7 +56,7 @@ impl KeyHash {
 fn number_of<K: Hash>(seed: u64, key: &K) -> u64
     ensures { result ≡ key_hash seed K.hash_input key.now }
 {
-    let mut hasher = FoldHasher::default();
+    let mut hasher = WordHasher::new();
     hasher.write_u64(seed);
     key.hash(&mut hasher);
     hasher.finish().rotate_left(40)

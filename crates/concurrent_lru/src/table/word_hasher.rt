@@ -1,0 +1,51 @@
+//! The kit's fast hasher, fed at most eight bytes at a time.
+//!
+//! At a longer write it multiplies two words of the key with each other, so that some keys have one
+//! hash whatever it was fed before. At a shorter one it multiplies by a number that is never 0, and
+//! without the seed nobody can tell which keys have hashes in common.
+
+use std::hash::{FoldHasher, Hasher};
+
+/// A hasher whose hashes depend on what it is fed first.
+#[derive(Clone, Copy)]
+pub struct WordHasher {
+    inner: FoldHasher,
+}
+
+impl WordHasher {
+    ghost use Rattle.std.specs.Prelude.{◌≡◌};
+    ghost use Rattle.concurrent_lru.specs.WordHashes.{initial};
+
+    /// Creates a hasher that has been fed nothing.
+    #[inline(always)]
+    pub fn new() -> WordHasher
+        ensures { result ≡ initial }
+    {
+        WordHasher {
+            inner: FoldHasher::default(),
+        }
+    }
+}
+
+impl Hasher for WordHasher {
+    ghost use Rattle.concurrent_lru.specs.WordHashes.{write, finish};
+
+    ghost write = { write };
+
+    ghost finish = { finish };
+
+    #[inline(always)]
+    fn finish(&self) -> u64 {
+        self.inner.finish()
+    }
+
+    #[inline(always)]
+    fn write(&mut self, bytes: &[u8]) {
+        let mut at = 0;
+        while bytes.len() - at > 8 {
+            self.inner.write(&bytes[at..at + 8]);
+            at += 8;
+        }
+        self.inner.write(&bytes[at..]);
+    }
+}
