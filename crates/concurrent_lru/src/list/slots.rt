@@ -414,8 +414,8 @@ impl<K: Drop, V: Drop> Slots<K, V> {
         ensures links { CutsLinks self.old self.new link result.0 result.1 }
     {
         let node = self.follow_mut(link);
-        let before = node.before;
-        let after = node.after;
+        let before = node.before_link();
+        let after = node.after_link();
         node.set_links(None, None);
         (before, after)
     }
