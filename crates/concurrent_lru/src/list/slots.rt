@@ -91,8 +91,8 @@ impl<K: Drop, V: Drop> Slots<K, V> {
         slot
     }
 
-    // Inserts a node in a slot that was free, and leaves the table by hash as it is. Returns the slot
-    // and the address of the node.
+    // Inserts a node in a slot that was free, and leaves the table by hash as it is. Returns the
+    // slot and the address of the node.
     fn put(&mut self, mut node: Box<Node<K, V>>) -> (usize, At<Node<K, V>>)
         requires tied { IsTied self.old }
         requires room { HasRoomFor self.old.pointers 1 }
