@@ -69,7 +69,8 @@ def paths_of(texts):
 def leave_out_proofs(crate, but):
     """Gives the functions of a crate, except those with these paths, a proof that is a hole.
 
-    A function that has a `Proof.antt` keeps it, since other proofs may cite what is in it."""
+    A function that has a `Proof.antt` keeps it, since other proofs may cite what is in it. Of a
+    path that the prover does not know, as that of a `drop`, it says so, and no verdict changes."""
     files = {it: it.read_text(encoding="utf-8") for it in sorted(crate.glob("src/**/*.rt"))}
     texts = {str(it.relative_to(crate / "src")): text for it, text in files.items()}
     for path in paths_of(texts):
