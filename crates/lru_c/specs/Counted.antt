@@ -1,6 +1,6 @@
 -- Counts of what the calls on a cache of C answered: how each answer changes them, and the numbers
 -- that C is told.
-use Rattle.std.specs.Prelude.{◌≡◌, ◌==◌, ◌+◌, ◌-◌, ◌^◌, ℕ, cond, min}
+use Rattle.std.specs.Prelude.{◌==◌, ◌+◌, ◌-◌, ◌^◌, ℕ, cond, min}
 use Rattle.concurrent_lru.specs.Cache.{Cache, count_of, pinned_of, sum_of}
 use Rattle.concurrent_lru.specs.Request as ask
 use Rattle.concurrent_lru.specs.Request.{Request}
