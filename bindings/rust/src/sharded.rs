@@ -9,6 +9,7 @@ use std::ops::Deref;
 use crate::error::{GetError, Refusal};
 use crate::key::Key;
 use crate::proved::random_seed;
+use crate::stats::Stats;
 use crate::unsharded;
 
 /// The number of shards that [`LruCache::new`] makes.
@@ -124,6 +125,13 @@ impl<K: Key + ?Sized, V, S> LruCache<K, V, S> {
     pub fn capacity(&self) -> u128 {
         let capacities = self.shards.iter().map(|shard| shard.capacity());
         capacities.map(u128::from).sum()
+    }
+
+    /// Returns the sums of the counts of all shards, as [`unsharded::LruCache::stats`] returns them
+    /// of each. No snapshot, as [`len`](Self::len).
+    pub fn stats(&self) -> Stats {
+        let stats = self.shards.iter().map(|shard| shard.stats());
+        stats.fold(Stats::default(), Stats::saturating_add)
     }
 
     /// Sets the capacity, of which each shard gets an equal share, rounded up. Idle values that

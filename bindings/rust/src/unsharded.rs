@@ -13,6 +13,7 @@ use crate::error::{GetError, Refusal};
 use crate::form::{Form, Written};
 use crate::key::Key;
 use crate::proved::{Begun, Core, Evicted, random_seed};
+use crate::stats::Stats;
 
 /// A cache of heavy values that threads share, behind one lock.
 ///
@@ -366,6 +367,15 @@ impl<K: Key + ?Sized, V> LruCache<K, V> {
     /// Returns the capacity.
     pub fn capacity(&self) -> u64 {
         self.lock().core.capacity()
+    }
+
+    /// Returns how often calls hit and missed since the cache was created, what was inserted and
+    /// evicted, and what the cache holds, all at one time. [`get`](Self::get),
+    /// [`read`](Self::read), [`get_or_init`](Self::get_or_init) and
+    /// [`get_or_try_init`](Self::get_or_try_init) are counted as hits, misses and waits;
+    /// [`contains`](Self::contains) and [`insert`](Self::insert) are not.
+    pub fn stats(&self) -> Stats {
+        self.lock().core.stats().into()
     }
 
     /// Sets the capacity. Idle values that exceed it are evicted at once.
