@@ -22,10 +22,13 @@ pub(crate) fn in_shards<R: Wait + Clone + Drop>(
 #[test]
 fn shares_are_rounded_up(rt: HostRuntime) {
     assert_eq!(rt;
-        [(10, 16), (128, 16), (10, 4), (0, 4), (u64::MAX, 16)].map(|(
-            capacity,
-            shards
-        )| capacity_per_shard(capacity, shards)),
+        [
+            capacity_per_shard(10, 16),
+            capacity_per_shard(128, 16),
+            capacity_per_shard(10, 4),
+            capacity_per_shard(0, 4),
+            capacity_per_shard(u64::MAX, 16),
+        ],
         [1, 8, 3, 0, 1152921504606846976]
     );
 }
