@@ -3,15 +3,17 @@
 Each edit file holds a wrong body: an edit that changes what one function does and keeps its
 contract. The folder says who tries it:
 
-- `must-fail`: `rt ci` tries it, and the prover must refuse it.
+- `must-fail`: `.ci/wrong-bodies --must-fail` tries it, and so does `rt ci` if it is not run by
+  `.ci/prove`. The prover must refuse it.
 - `wrong-types`: `.ci/wrong-bodies --by compiler` tries it, and the compiler must refuse it.
 - `by-hand`: `.ci/wrong-bodies` tries it when it is run by hand, and the prover must refuse it.
 
 A file has a line `file: PATH` and pairs of lines `old: TEXT` and `new: TEXT`, as those of
-`rt must-fail`. Each old text stands exactly once in its file, as the earlier pairs left it. In two
-of the folders a first line says who refuses the edit, and why:
+`rt must-fail`. Each old text stands exactly once in its file, as the earlier pairs left it. The
+first line says who refuses the edit, and why:
 
 - `by-hand`: `not proved: FUNCTION, REASON`
+- `must-fail`: the same after `# `, since `rt check` warns of lines there that `rt` does not read
 - `wrong-types`: `rejected by TYPE: CODE TEXT`, where TYPE is the type or trait whose rules refuse
   it, and CODE and TEXT stand in the compiler's error
 
@@ -95,8 +97,7 @@ class Edit:
         """Reads an edit file, or raises BadEdit."""
         edit = Edit(path)
         lines = path.read_text(encoding="utf-8").splitlines()
-        if edit.folder != "must-fail":
-            edit.read_first(lines.pop(0) if lines else "")
+        edit.read_first(lines.pop(0) if lines else "")
         edit.read_changes(lines)
         return edit
 
@@ -114,16 +115,17 @@ class Edit:
 
     def read_first(self, line):
         """Reads the first line, which says who refuses the edit."""
-        if self.folder == "by-hand":
-            found = re.fullmatch(rf"not proved: ({FUNCTION}), (.+)", line)
-            if not found:
-                raise BadEdit("its first line is not 'not proved: FUNCTION, REASON'")
-            self.function, self.reason = found[1], Reason.read(found[2])
-        else:
+        if self.folder == "wrong-types":
             found = re.fullmatch(rf"rejected by ({NAME}): (\S+ \S.*)", line)
             if not found:
                 raise BadEdit("its first line is not 'rejected by TYPE: CODE TEXT'")
             self.type, self.error = found[1], found[2]
+        else:
+            start = "# " * (self.folder == "must-fail") + "not proved: "
+            found = re.fullmatch(rf"{start}({FUNCTION}), (.+)", line)
+            if not found:
+                raise BadEdit(f"its first line is not '{start}FUNCTION, REASON'")
+            self.function, self.reason = found[1], Reason.read(found[2])
 
     def read_changes(self, lines):
         """Reads the lines that say what changes."""

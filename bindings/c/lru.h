@@ -132,6 +132,28 @@ typedef struct lru_gone {
     uint64_t value; /* the caller's again, to be deleted */
 } lru_gone;
 
+/* What the calls on a cache have answered since it was opened, and what the cache holds. A count of
+ * answers that has reached 2^64 - 1 stays there. The entries inserted are those present, those
+ * evicted and those removed:
+ *
+ *     insertions == entries + evictions + removals
+ *
+ * The hit ratio is hits / (hits + misses). To count from some time on, subtract the numbers that
+ * were told at that time. */
+typedef struct lru_stats {
+    uint64_t hits;          /* calls of begin and get that were told LRU_HIT */
+    uint64_t misses;        /* calls of begin that were told LRU_MAKE, and of get that were told
+                               LRU_MISSED */
+    uint64_t waits;         /* calls of begin that were told LRU_WAIT */
+    uint64_t insertions;    /* entries that were added, by begin or insert */
+    uint64_t evictions;     /* entries that were put into a chain, by any call except free */
+    uint64_t removals;      /* entries that were removed because their maker failed: LRU_REMOVED */
+    uint64_t entries;       /* as lru_.._len tells it */
+    uint64_t charge;        /* as lru_.._total tells it */
+    uint64_t pinned_charge; /* as lru_.._pinned_charge tells it */
+    uint64_t capacity;      /* as lru_.._capacity tells it */
+} lru_stats;
+
 /* Handles: a cache, and a chain of entries that left one. A handle of all zeros is not open. Only
  * the library uses the members. */
 typedef struct lru_bytes {
@@ -289,6 +311,12 @@ lru_told lru_bytes_pinned_charge(lru_bytes *cache);
 lru_told lru_bytes_capacity(lru_bytes *cache);
 lru_told lru_bytes_len(lru_bytes *cache);
 
+/* Writes all of these numbers to `out`, and how often the calls on the cache hit and missed.
+ *
+ * Does not allocate, and takes the same time however many entries there are. LRU_DONE; LRU_CLOSED,
+ * and nothing is written. */
+lru_code lru_bytes_stats(lru_bytes *cache, lru_stats *out);
+
 /* Copies the key of an entry, held or idle, to the start of a buffer of `room` bytes.
  *
  * Does not allocate. LRU_NUMBER with the length of the key as the value; LRU_NO_ROOM with the
@@ -348,6 +376,7 @@ lru_told lru_words_total(lru_words *cache);
 lru_told lru_words_pinned_charge(lru_words *cache);
 lru_told lru_words_capacity(lru_words *cache);
 lru_told lru_words_len(lru_words *cache);
+lru_code lru_words_stats(lru_words *cache, lru_stats *out);
 
 /* Writes the key of an entry, held or idle. LRU_DONE; LRU_STALE if no entry has the stamp;
  * LRU_CLOSED. Nothing is written unless the code is LRU_DONE. */

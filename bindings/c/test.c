@@ -160,7 +160,91 @@ static void keys_of_words(void) {
     CHECK(lru_words_key_of(&cache, 0, &first, &second), LRU_CLOSED);
 }
 
+static void check_stats(const char *file, int line, lru_code code, const lru_stats *got,
+                        const lru_stats *wanted) {
+    check(file, line, code, LRU_DONE);
+    check(file, line, got->hits, wanted->hits);
+    check(file, line, got->misses, wanted->misses);
+    check(file, line, got->waits, wanted->waits);
+    check(file, line, got->insertions, wanted->insertions);
+    check(file, line, got->evictions, wanted->evictions);
+    check(file, line, got->removals, wanted->removals);
+    check(file, line, got->entries, wanted->entries);
+    check(file, line, got->charge, wanted->charge);
+    check(file, line, got->pinned_charge, wanted->pinned_charge);
+    check(file, line, got->capacity, wanted->capacity);
+}
+
+/* Checks the numbers of a cache in the order of `lru_stats`. */
+#define CHECK_STATS(family, cache, ...)                                                            \
+    do {                                                                                           \
+        const lru_stats wanted_stats = {__VA_ARGS__};                                              \
+        lru_stats got_stats;                                                                       \
+        lru_code stats_code = family##_stats(&(cache), &got_stats);                                \
+        check_stats(__FILE__, __LINE__, stats_code, &got_stats, &wanted_stats);                    \
+    } while (0)
+
+/* What is counted, and that a cache that is not open writes nothing. */
+static void counts(void) {
+    lru_words cache = {0};
+    lru_words_evicted gone = {0};
+    lru_stats kept = {1, 2, 3, 4, 5, 6, 7, 8, 9, 10};
+    lru_told told, other;
+    lru_gone entry;
+
+    CHECK(lru_words_stats(&cache, &kept), LRU_CLOSED);
+    CHECK(kept.hits, 1);
+    CHECK(kept.capacity, 10);
+    /* the stamps need not begin at 0 */
+    CHECK(lru_words_new_with_limits(2, 100, 3, 0, &cache), LRU_DONE);
+    CHECK(lru_words_evicted_new(&gone), LRU_DONE);
+    CHECK_STATS(lru_words, cache, 0, 0, 0, 0, 0, 0, 0, 0, 0, 2);
+
+    told = lru_words_begin(&cache, 1, 1, 2, &gone); /* a miss, and one waits */
+    other = lru_words_begin(&cache, 1, 1, 2, &gone);
+    CHECK(told.code, LRU_MAKE);
+    CHECK(other.code, LRU_WAIT);
+    CHECK_STATS(lru_words, cache, 0, 1, 1, 1, 0, 0, 1, 2, 2, 2);
+    CHECK(lru_words_get(&cache, 1, 1).code, LRU_MISSED); /* it is still being made */
+    CHECK_STATS(lru_words, cache, 0, 2, 1, 1, 0, 0, 1, 2, 2, 2);
+
+    /* a making that is taken over inserts nothing, whether by `poll` or by `begin` */
+    CHECK(lru_words_fail(&cache, told.stamp), LRU_LEFT);
+    CHECK(lru_words_begin(&cache, 1, 1, 2, &gone).code, LRU_MAKE);
+    CHECK_STATS(lru_words, cache, 0, 3, 1, 1, 0, 0, 1, 2, 2, 2);
+    CHECK(lru_words_fail(&cache, told.stamp), LRU_LEFT);
+    CHECK(lru_words_poll(&cache, told.stamp).code, LRU_MAKE);
+    CHECK(lru_words_fail(&cache, told.stamp), LRU_REMOVED);
+    CHECK_STATS(lru_words, cache, 0, 3, 1, 1, 0, 1, 0, 0, 0, 2);
+
+    /* an insert is neither a hit nor a miss; a refusal counts nothing */
+    told = lru_words_insert(&cache, 1, 1, 1, 10, &gone);
+    CHECK(told.code, LRU_DONE);
+    CHECK(lru_words_insert(&cache, 1, 1, 0, 10, &gone).code, LRU_NO_CHARGE);
+    CHECK(lru_words_begin(&cache, 1, 1, 1, &gone).code, LRU_HIT);
+    CHECK(lru_words_get(&cache, 1, 1).code, LRU_HIT);
+    CHECK(lru_words_get(&cache, 1, 1).code, LRU_OVERFLOW);
+    CHECK(lru_words_contains(&cache, 1, 1), LRU_DONE);
+    CHECK_STATS(lru_words, cache, 2, 3, 1, 2, 0, 1, 1, 1, 1, 2);
+    CHECK(lru_words_release(&cache, told.stamp, &gone), LRU_DONE);
+    CHECK(lru_words_release(&cache, told.stamp, &gone), LRU_DONE);
+    CHECK(lru_words_release(&cache, told.stamp, &gone), LRU_DONE);
+    CHECK_STATS(lru_words, cache, 2, 3, 1, 2, 0, 1, 1, 1, 0, 2);
+
+    /* the new entry evicts the idle one */
+    CHECK(lru_words_begin(&cache, 2, 2, 2, &gone).code, LRU_MAKE);
+    CHECK_STATS(lru_words, cache, 2, 4, 1, 3, 1, 1, 1, 2, 2, 2);
+    CHECK(lru_words_evicted_pop(&gone, &entry), true);
+    CHECK(entry.value, 10);
+
+    CHECK(lru_words_free(&cache, &gone), LRU_DONE);
+    CHECK(lru_words_stats(&cache, &kept), LRU_CLOSED);
+    CHECK(kept.hits, 1);
+    CHECK(lru_words_evicted_free(&gone), LRU_DONE);
+}
+
 int main(void) {
+    counts();
     lru_bytes_rows();
     lru_words_rows();
     keys_of_bytes();

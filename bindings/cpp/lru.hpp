@@ -53,10 +53,39 @@ class ZeroCharge : public std::invalid_argument {
   ZeroCharge() : std::invalid_argument("lru: the charge is 0") {}
 };
 
+// What the calls on a cache have found and done since it was constructed, and what it holds now.
+// The values inserted are those present, those evicted and those removed:
+// insertions == entries + evictions + removals. To count from some time on, subtract the numbers of
+// that time.
+struct Stats {
+  std::uint64_t hits = 0;        // calls that asked for a value and found it
+  std::uint64_t misses = 0;      // calls that asked for a value and found none, and did not wait
+  std::uint64_t waits = 0;       // calls that found the value being made, and waited for it
+  std::uint64_t insertions = 0;  // values that were inserted, or whose making was begun
+  std::uint64_t evictions = 0;   // values that were evicted
+  std::uint64_t removals = 0;    // values whose making failed while no caller waited for them
+  std::uint64_t entries = 0;     // as len(), total_charge(), pinned_charge() and capacity()
+  std::uint64_t charge = 0;
+  std::uint64_t pinned_charge = 0;
+  std::uint64_t capacity = 0;
+
+  // The part of the calls that asked for a value and found it: hits / (hits + misses), or 0 if both
+  // are 0. Calls that waited do not count.
+  double hit_ratio() const noexcept {
+    const double asked = static_cast<double>(hits) + static_cast<double>(misses);
+    return asked == 0 ? 0 : static_cast<double>(hits) / asked;
+  }
+};
+
 template <class Value, class Key = std::string_view>
 class Cache;
 
 namespace detail {
+
+// A sum that stays at 2^64 - 1 if it would be more.
+inline std::uint64_t saturating_add(std::uint64_t a, std::uint64_t b) noexcept {
+  return b > UINT64_MAX - a ? UINT64_MAX : a + b;
+}
 
 // A value of a Cache, on the heap.
 template <class Value>
@@ -304,6 +333,27 @@ class Cache {
     return core_.capacity();
   }
 
+  // How often calls hit and missed since the cache was constructed, what was inserted and evicted,
+  // and what the cache holds, all at one time. `get`, `read` and `get_or_init` are counted as hits,
+  // misses and waits; `contains` and `insert` are not.
+  Stats stats() const {
+    std::unique_lock<std::mutex> lock(mutex_);
+    const lru_stats told = core_.stats();
+    lock.unlock();
+    Stats stats;
+    stats.hits = told.hits;
+    stats.misses = told.misses;
+    stats.waits = told.waits;
+    stats.insertions = told.insertions;
+    stats.evictions = told.evictions;
+    stats.removals = told.removals;
+    stats.entries = told.entries;
+    stats.charge = told.charge;
+    stats.pinned_charge = told.pinned_charge;
+    stats.capacity = told.capacity;
+    return stats;
+  }
+
   // Sets the capacity. Idle values that exceed it are evicted at once.
   void set_capacity(std::uint64_t capacity) {
     Evicted evicted;
@@ -462,6 +512,25 @@ class ShardedCache {
     return sum([](const Shard& shard) { return shard.capacity(); });
   }
 
+  // The sums of the counts of all shards, each at most 2^64 - 1. No snapshot, as `len`.
+  Stats stats() const {
+    Stats sum;
+    for (const Shard& shard : shards_) {
+      const Stats more = shard.stats();
+      sum.hits = detail::saturating_add(sum.hits, more.hits);
+      sum.misses = detail::saturating_add(sum.misses, more.misses);
+      sum.waits = detail::saturating_add(sum.waits, more.waits);
+      sum.insertions = detail::saturating_add(sum.insertions, more.insertions);
+      sum.evictions = detail::saturating_add(sum.evictions, more.evictions);
+      sum.removals = detail::saturating_add(sum.removals, more.removals);
+      sum.entries = detail::saturating_add(sum.entries, more.entries);
+      sum.charge = detail::saturating_add(sum.charge, more.charge);
+      sum.pinned_charge = detail::saturating_add(sum.pinned_charge, more.pinned_charge);
+      sum.capacity = detail::saturating_add(sum.capacity, more.capacity);
+    }
+    return sum;
+  }
+
   // Sets the capacity, of which each shard gets an equal share, rounded up. Idle values that exceed
   // it are evicted at once.
   void set_capacity(std::uint64_t capacity) {
@@ -481,10 +550,7 @@ class ShardedCache {
   template <class Number>
   std::uint64_t sum(Number number) const {
     std::uint64_t sum = 0;
-    for (const Shard& shard : shards_) {
-      const std::uint64_t more = number(shard);
-      sum = more > UINT64_MAX - sum ? UINT64_MAX : sum + more;
-    }
+    for (const Shard& shard : shards_) sum = detail::saturating_add(sum, number(shard));
     return sum;
   }
 

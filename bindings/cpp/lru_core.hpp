@@ -77,6 +77,7 @@ struct Calls<std::string_view> {
   static constexpr auto pinned_charge = lru_bytes_pinned_charge;
   static constexpr auto capacity = lru_bytes_capacity;
   static constexpr auto len = lru_bytes_len;
+  static constexpr auto stats = lru_bytes_stats;
   static constexpr auto make_chain = lru_bytes_evicted_new;
   static constexpr auto free_chain = lru_bytes_evicted_free;
   static constexpr auto pop = lru_bytes_evicted_pop;
@@ -120,6 +121,7 @@ struct Calls<Words> {
   static constexpr auto pinned_charge = lru_words_pinned_charge;
   static constexpr auto capacity = lru_words_capacity;
   static constexpr auto len = lru_words_len;
+  static constexpr auto stats = lru_words_stats;
   static constexpr auto make_chain = lru_words_evicted_new;
   static constexpr auto free_chain = lru_words_evicted_free;
   static constexpr auto pop = lru_words_evicted_pop;
@@ -246,6 +248,11 @@ class Core {
   std::uint64_t pinned_charge() const noexcept { return Calls::pinned_charge(&cache_).value; }
   std::uint64_t capacity() const noexcept { return Calls::capacity(&cache_).value; }
   std::uint64_t len() const noexcept { return Calls::len(&cache_).value; }
+  lru_stats stats() const noexcept {
+    lru_stats stats = {};
+    Calls::stats(&cache_, &stats);
+    return stats;
+  }
 
   // The node of a value that the library told.
   static Node* node_of(std::uint64_t value) noexcept {

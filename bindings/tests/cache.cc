@@ -300,6 +300,35 @@ void the_pinned_charge_is_that_of_handles_and_makings() {
   CHECK(cache.pinned_charge() == 4);
 }
 
+void calls_are_counted() {
+  Numbers cache(4);
+  CHECK(cache.stats().hit_ratio() == 0 && cache.stats().capacity == 4);
+  auto one = cache.get_or_init(key(1), 3, returns(1));
+  CHECK(!cache.get(key(2)) && cache.get(key(1)));
+  CHECK(cache.read(key(1), [](const int& number) { return number; }) == 1);
+  // Neither is counted, nor is a call that is refused.
+  CHECK(cache.contains(key(1)));
+  const auto two = cache.insert(key(2), 2, 2);
+  try {
+    cache.get_or_init(key(1), 0, returns(1));
+  } catch (const lru::ZeroCharge&) {
+  }
+  lru::Stats stats = cache.stats();
+  CHECK(stats.hits == 2 && stats.misses == 2 && stats.waits == 0 && stats.hit_ratio() == 0.5);
+  CHECK(stats.insertions == 2 && stats.evictions == 0 && stats.removals == 0);
+  CHECK(stats.entries == 2 && stats.charge == 5 && stats.pinned_charge == 5);
+  one.reset();
+  stats = cache.stats();
+  CHECK(stats.entries == 1 && stats.evictions == 1 && stats.charge == 2);
+  // A making that fails is a miss, and removes what it inserted.
+  try {
+    cache.get_or_init(key(3), 1, [](lru::Words) -> int { throw std::runtime_error("unmade"); });
+  } catch (const std::runtime_error&) {
+  }
+  stats = cache.stats();
+  CHECK(stats.misses == 3 && stats.insertions == 3 && stats.removals == 1 && stats.entries == 1);
+}
+
 // A barrier for two threads.
 class Meeting {
  public:
@@ -479,6 +508,11 @@ void shards_have_equal_shares() {
   CHECK(*texts.insert("two", 2, "2") == "2" && texts.total_charge() == 4);
   texts.invalidate("one");
   CHECK(!texts.get("one") && *texts.get("two") == "2" && texts.total_charge() == 3);
+  // Three were made and one was inserted; of these, one was replaced and one invalidated.
+  const lru::Stats stats = texts.stats();
+  CHECK(stats.hits == 2 && stats.misses == 4 && stats.insertions == 4 && stats.evictions == 2);
+  CHECK(stats.entries == 2 && stats.charge == 3 && stats.pinned_charge == 0);
+  CHECK(stats.capacity == texts.capacity());
 }
 
 // Puts ten values into a cache that has room for five, and returns the keys that are left.
@@ -564,6 +598,7 @@ int main() {
   contains_and_len_look_only();
   read_passes_a_pinned_value();
   the_pinned_charge_is_that_of_handles_and_makings();
+  calls_are_counted();
   a_making_that_is_invalidated_is_not_waited_for();
   others_wait_for_one_making();
   one_that_waits_takes_a_failed_making_over();
@@ -576,6 +611,6 @@ int main() {
   high_bits_of_a_key_choose_its_shard_too();
   a_handle_that_outlives_its_cache_is_asserted_against();
   values_may_be_move_only_or_neither();
-  std::printf("lru.hpp: 24 tests, %d checks failed\n", failed_checks);
+  std::printf("lru.hpp: 25 tests, %d checks failed\n", failed_checks);
   return failed_checks == 0 ? 0 : 1;
 }

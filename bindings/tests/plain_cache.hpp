@@ -22,20 +22,27 @@ class PlainCache {
   lru_told begin(const Key& key, std::uint64_t charge, std::vector<lru_gone>* gone) {
     if (charge == 0) return told(LRU_NO_CHARGE);
     const auto found = stamps_.find(key);
-    if (found == stamps_.end()) return make(key, charge, gone);
+    if (found == stamps_.end()) {
+      const lru_told made = make(key, charge, gone);
+      if (made.code == LRU_MAKE) misses_++;
+      return made;
+    }
     const std::uint64_t stamp = found->second;
     Entry& entry = entries_.at(stamp);
     if (entry.pins == most_pins_) return told(LRU_OVERFLOW);
     pin(stamp);
     switch (entry.phase) {
       case Phase::kMaking:
+        waits_++;
         return told(LRU_WAIT, stamp);
       case Phase::kUntaken:
+        misses_++;
         entry.phase = Phase::kMaking;
         return told(LRU_MAKE, stamp);
       case Phase::kReady:
         break;
     }
+    hits_++;
     return told(LRU_HIT, stamp, entry.value);
   }
 
@@ -71,15 +78,19 @@ class PlainCache {
       return LRU_LEFT;
     }
     remove(stamp);
+    removals_++;
     return LRU_REMOVED;
   }
 
   lru_told get(const Key& key) {
     const auto found = stamps_.find(key);
-    if (found == stamps_.end()) return told(LRU_MISSED);
-    Entry& entry = entries_.at(found->second);
-    if (entry.phase != Phase::kReady) return told(LRU_MISSED);
+    if (found == stamps_.end() || entries_.at(found->second).phase != Phase::kReady) {
+      misses_++;
+      return told(LRU_MISSED);
+    }
+    const Entry& entry = entries_.at(found->second);
     if (entry.pins == most_pins_) return told(LRU_OVERFLOW);
+    hits_++;
     pin(found->second);
     return told(LRU_HIT, found->second, entry.value);
   }
@@ -166,6 +177,21 @@ class PlainCache {
 
   std::uint64_t len() const { return entries_.size(); }
 
+  lru_stats stats() const {
+    lru_stats stats = {};
+    stats.hits = hits_;
+    stats.misses = misses_;
+    stats.waits = waits_;
+    stats.insertions = insertions_;
+    stats.evictions = evictions_;
+    stats.removals = removals_;
+    stats.entries = len();
+    stats.charge = total();
+    stats.pinned_charge = pinned_charge();
+    stats.capacity = capacity();
+    return stats;
+  }
+
   std::optional<Key> key_of(std::uint64_t stamp) const {
     const auto found = entries_.find(stamp);
     if (found == entries_.end()) return std::nullopt;
@@ -210,6 +236,7 @@ class PlainCache {
 
   lru_told make(const Key& key, std::uint64_t charge, std::vector<lru_gone>* gone) {
     if (charge > UINT64_MAX - total() || next_ == UINT64_MAX) return told(LRU_OVERFLOW);
+    insertions_++;
     const std::uint64_t stamp = next_++;
     stamps_.emplace(key, stamp);
     entries_.emplace(stamp, Entry{key, charge, 1, Phase::kMaking, 0});
@@ -226,6 +253,7 @@ class PlainCache {
   }
 
   void evict(std::uint64_t stamp, std::vector<lru_gone>* gone) {
+    evictions_++;
     gone->push_back(gone_of(stamp, entries_.at(stamp)));
     idle_.remove(stamp);
     remove(stamp);
@@ -248,6 +276,8 @@ class PlainCache {
   std::map<std::uint64_t, Entry> entries_;
   std::map<Key, std::uint64_t> stamps_;  // of the entries that their keys find
   std::list<std::uint64_t> idle_;  // the stamps of idle entries, least recently released first
+  std::uint64_t hits_ = 0, misses_ = 0, waits_ = 0;
+  std::uint64_t insertions_ = 0, evictions_ = 0, removals_ = 0;
 };
 
 #endif

@@ -22,6 +22,13 @@ static bool operator==(const lru_told& one, const lru_told& other) {
 static bool operator==(const lru_gone& one, const lru_gone& other) {
   return one.stamp == other.stamp && one.charge == other.charge && one.value == other.value;
 }
+static bool operator==(const lru_stats& one, const lru_stats& other) {
+  return one.hits == other.hits && one.misses == other.misses && one.waits == other.waits &&
+         one.insertions == other.insertions && one.evictions == other.evictions &&
+         one.removals == other.removals && one.entries == other.entries &&
+         one.charge == other.charge && one.pinned_charge == other.pinned_charge &&
+         one.capacity == other.capacity;
+}
 
 namespace {
 
@@ -277,10 +284,12 @@ class Run {
     };
     const Key key = any_key();
     const std::uint64_t stamp = any_stamp();
+    lru_stats stats = {};
     return number(Family::total(&cache_)) == plain_.total() &&
            number(Family::pinned_charge(&cache_)) == plain_.pinned_charge() &&
            number(Family::capacity(&cache_)) == plain_.capacity() &&
            number(Family::len(&cache_)) == plain_.len() &&
+           Family::stats(&cache_, &stats) == LRU_DONE && stats == plain_.stats() &&
            Family::contains(&cache_, key) == plain_.contains(key) &&
            Family::key_of(&cache_, stamp) == plain_.key_of(stamp);
   }
@@ -291,6 +300,8 @@ class Run {
     std::vector<lru_gone> left;
     lru_gone gone;
     bool same = Family::free(&cache_, &chain_) == LRU_DONE;
+    lru_stats stats = {};
+    same = Family::stats(&cache_, &stats) == LRU_CLOSED && stats == lru_stats() && same;
     while (Family::pop(&chain_, &gone)) left.push_back(gone);
     std::sort(left.begin(), left.end(),
               [](const lru_gone& a, const lru_gone& b) { return a.stamp < b.stamp; });
@@ -298,9 +309,13 @@ class Run {
     same = std::equal(left.begin(), left.end(), expected.begin(), expected.end()) && same;
     same = Family::free_chain(&chain_) == LRU_DONE && same;
     if (!same) std::printf("seeded: %s, seed %" PRIu64 ": the free differs\n", Family::name, seed_);
-    if (evictions_ < kSteps / 50)
-      std::printf("seeded: %s, seed %" PRIu64 ": too little evicted\n", Family::name, seed_);
-    return same && evictions_ >= kSteps / 50;
+    // Each kind of call that is counted must have been made often enough to mean something.
+    const lru_stats counted = plain_.stats();
+    const bool enough = evictions_ >= kSteps / 50 && counted.hits >= kSteps / 50 &&
+                        counted.misses >= kSteps / 50 && counted.waits > 0 &&
+                        counted.removals > 0 && counted.evictions == evictions_;
+    if (!enough) std::printf("seeded: %s, seed %" PRIu64 ": too few\n", Family::name, seed_);
+    return same && enough;
   }
 
   Random random_;

@@ -37,6 +37,22 @@ pub struct Gone {
     pub value: u64,
 }
 
+/// `lru_stats`: what the calls on a cache have answered, and what it holds.
+#[repr(C)]
+#[derive(Debug, Clone, Copy, Default)]
+pub struct Stats {
+    pub hits: u64,
+    pub misses: u64,
+    pub waits: u64,
+    pub insertions: u64,
+    pub evictions: u64,
+    pub removals: u64,
+    pub entries: u64,
+    pub charge: u64,
+    pub pinned_charge: u64,
+    pub capacity: u64,
+}
+
 pub const MAKE: u32 = 0;
 pub const WAIT: u32 = 1;
 pub const HIT: u32 = 2;

@@ -1,6 +1,6 @@
 //! The two forms of keys, and the functions of the library for each.
 
-use crate::ffi::{Gone, Handle, Told};
+use crate::ffi::{Gone, Handle, Stats, Told};
 
 /// The form that a key is written in: [`Bytes`] or [`Words`].
 ///
@@ -13,7 +13,7 @@ impl<F: sealed::Calls> Form for F {}
 pub type Written<'a, F> = <F as sealed::Calls>::Written<'a>;
 
 pub(crate) mod sealed {
-    use super::{Gone, Handle, Told};
+    use super::{Gone, Handle, Stats, Told};
 
     /// The functions of `lru.h` for one form of keys.
     pub trait Calls: 'static {
@@ -90,6 +90,7 @@ pub(crate) mod sealed {
         pub pinned_charge: unsafe extern "C" fn(cache: *mut Handle) -> Told,
         pub capacity: unsafe extern "C" fn(cache: *mut Handle) -> Told,
         pub len: unsafe extern "C" fn(cache: *mut Handle) -> Told,
+        pub stats: unsafe extern "C" fn(cache: *mut Handle, out: *mut Stats) -> u32,
         pub new_chain: unsafe extern "C" fn(out: *mut Handle) -> u32,
         pub free_chain: unsafe extern "C" fn(chain: *mut Handle) -> u32,
         pub pop: unsafe extern "C" fn(chain: *mut Handle, out: *mut Gone) -> bool,
@@ -124,6 +125,8 @@ macro_rules! stamped {
             fn capacity(cache: *mut Handle) -> Told;
             #[link_name = concat!($prefix, "_len")]
             fn len(cache: *mut Handle) -> Told;
+            #[link_name = concat!($prefix, "_stats")]
+            fn stats(cache: *mut Handle, out: *mut Stats) -> u32;
             #[link_name = concat!($prefix, "_evicted_new")]
             fn new_chain(out: *mut Handle) -> u32;
             #[link_name = concat!($prefix, "_evicted_free")]
@@ -144,6 +147,7 @@ macro_rules! stamped {
             pinned_charge,
             capacity,
             len,
+            stats,
             new_chain,
             free_chain,
             pop,

@@ -13,7 +13,8 @@
 //! It differs from that crate in these points: a key must be one that can be written as bytes or as
 //! two words ([`key::Key`]), and is passed by reference, so its type has to be named, as in
 //! `LruCache::<String, _>::new(10)`; calls return a [`Refusal`] if the cache
-//! cannot serve them; the capacity can be read and set; and there are `insert` and `invalidate`.
+//! cannot serve them; the capacity can be read and set; there are `insert` and `invalidate`; and
+//! `stats` counts hits and misses.
 //!
 //! # Examples
 //!
@@ -46,6 +47,8 @@ mod form;
 pub mod key;
 mod proved;
 pub mod sharded;
+mod stats;
 pub mod unsharded;
 
 pub use error::{GetError, Refusal};
+pub use stats::Stats;

@@ -219,6 +219,15 @@ impl<F: Form, V> Core<F, V> {
         told.value
     }
 
+    /// What the calls have answered, and what the cache holds.
+    pub(crate) fn stats(&mut self) -> ffi::Stats {
+        let mut stats = ffi::Stats::default();
+        // SAFETY: the cache was opened for this form, and this core has the only copy.
+        let code = unsafe { (Self::CALLS.stats)(&mut self.cache, &mut stats) };
+        debug_assert_eq!(code, ffi::DONE);
+        stats
+    }
+
     fn begun(told: Told) -> Result<Begun<V>, Refusal> {
         match told.code {
             ffi::MAKE => Ok(Begun::Make(told.stamp)),

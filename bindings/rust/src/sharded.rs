@@ -5,10 +5,13 @@ use std::fmt;
 use std::hash::{BuildHasher, Hash, RandomState};
 use std::num::NonZeroUsize;
 use std::ops::Deref;
+use std::ptr::NonNull;
+use std::sync::Arc;
 
 use crate::error::{GetError, Refusal};
 use crate::key::Key;
 use crate::proved::random_seed;
+use crate::stats::Stats;
 use crate::unsharded;
 
 /// The number of shards that [`LruCache::new`] makes.
@@ -126,6 +129,13 @@ impl<K: Key + ?Sized, V, S> LruCache<K, V, S> {
         capacities.map(u128::from).sum()
     }
 
+    /// Returns the sums of the counts of all shards, as [`unsharded::LruCache::stats`] returns them
+    /// of each. No snapshot, as [`len`](Self::len).
+    pub fn stats(&self) -> Stats {
+        let stats = self.shards.iter().map(|shard| shard.stats());
+        stats.fold(Stats::default(), Stats::saturating_add)
+    }
+
     /// Sets the capacity, of which each shard gets an equal share, rounded up. Idle values that
     /// exceed it are evicted at once.
     pub fn set_capacity(&self, capacity: u64) {
@@ -206,6 +216,64 @@ impl<K: Key + ?Sized, V, S: BuildHasher> LruCache<K, V, S> {
         Ok(CacheHandle(handle))
     }
 
+    /// Returns what [`get`](Self::get) returns, with a handle that borrows nothing and keeps the
+    /// cache alive.
+    ///
+    /// # Errors
+    ///
+    /// As [`unsharded::LruCache::get`].
+    pub fn get_owned<Q>(cache: &Arc<Self>, key: &Q) -> Result<Option<OwnedHandle<K, V, S>>, Refusal>
+    where
+        K: Borrow<Q>,
+        Q: Key<Form = K::Form> + Hash + ?Sized,
+    {
+        let shard = cache.shard_of(key);
+        let found = cache.shards[shard].get(key)?;
+        Ok(found.map(|handle| OwnedHandle::of(cache, shard, handle)))
+    }
+
+    /// Returns what [`get_or_init`](Self::get_or_init) returns, with a handle that borrows nothing
+    /// and keeps the cache alive.
+    ///
+    /// # Errors
+    ///
+    /// As [`unsharded::LruCache::get_or_init`].
+    pub fn get_or_init_owned<Q>(
+        cache: &Arc<Self>,
+        key: &Q,
+        charge: u64,
+        init: impl FnOnce(&Q) -> V,
+    ) -> Result<OwnedHandle<K, V, S>, Refusal>
+    where
+        K: Borrow<Q>,
+        Q: Key<Form = K::Form> + Hash + ?Sized,
+    {
+        let shard = cache.shard_of(key);
+        let handle = cache.shards[shard].get_or_init(key, charge, init)?;
+        Ok(OwnedHandle::of(cache, shard, handle))
+    }
+
+    /// Returns what [`get_or_try_init`](Self::get_or_try_init) returns, with a handle that borrows
+    /// nothing and keeps the cache alive.
+    ///
+    /// # Errors
+    ///
+    /// As [`unsharded::LruCache::get_or_try_init`].
+    pub fn get_or_try_init_owned<Q, E>(
+        cache: &Arc<Self>,
+        key: &Q,
+        charge: u64,
+        init: impl FnOnce(&Q) -> Result<V, E>,
+    ) -> Result<OwnedHandle<K, V, S>, GetError<E>>
+    where
+        K: Borrow<Q>,
+        Q: Key<Form = K::Form> + Hash + ?Sized,
+    {
+        let shard = cache.shard_of(key);
+        let handle = cache.shards[shard].get_or_try_init(key, charge, init)?;
+        Ok(OwnedHandle::of(cache, shard, handle))
+    }
+
     /// Makes `value` the key's value, whatever the key had, and returns a handle of it. Handles of
     /// the old value keep it.
     ///
@@ -268,9 +336,13 @@ impl<K: Key + ?Sized, V, S: BuildHasher> LruCache<K, V, S> {
     }
 
     fn shard<Q: Hash + ?Sized>(&self, key: &Q) -> &unsharded::LruCache<K, V> {
+        &self.shards[self.shard_of(key)]
+    }
+
+    fn shard_of<Q: Hash + ?Sized>(&self, key: &Q) -> usize {
         let number = self.hasher.hash_one(key) % self.shards.len() as u64;
         // The remainder is less than the number of shards, so it fits.
-        &self.shards[number as usize]
+        number as usize
     }
 }
 
@@ -306,5 +378,66 @@ impl<K: Key + ?Sized, V> Deref for CacheHandle<'_, K, V> {
 impl<K: Key + ?Sized, V: fmt::Debug> fmt::Debug for CacheHandle<'_, K, V> {
     fn fmt(&self, f: &mut fmt::Formatter<'_>) -> fmt::Result {
         self.0.fmt(f)
+    }
+}
+
+/// A pinned value, as [`unsharded::OwnedHandle`].
+pub struct OwnedHandle<K: Key + ?Sized, V, S = RandomState> {
+    cache: Arc<LruCache<K, V, S>>,
+    /// The number of the shard that has the entry.
+    shard: usize,
+    stamp: u64,
+    /// The value of the entry with this stamp. The handle has a pin of it.
+    value: NonNull<V>,
+}
+
+// SAFETY: as for `unsharded::OwnedHandle`. Dropping the handle may also drop the hasher.
+unsafe impl<K: Key + ?Sized, V: Send + Sync, S: Send + Sync> Send for OwnedHandle<K, V, S> {}
+
+// SAFETY: a shared handle gives shared access to its value only.
+unsafe impl<K: Key + ?Sized, V: Send + Sync, S: Send + Sync> Sync for OwnedHandle<K, V, S> {}
+
+impl<K: Key + ?Sized, V, S> OwnedHandle<K, V, S> {
+    /// Takes over the pin of a handle of this shard.
+    fn of(
+        cache: &Arc<LruCache<K, V, S>>,
+        shard: usize,
+        handle: unsharded::CacheHandle<'_, K, V>,
+    ) -> OwnedHandle<K, V, S> {
+        let cache = Arc::clone(cache);
+        let (stamp, value) = handle.into_pin();
+        OwnedHandle {
+            cache,
+            shard,
+            stamp,
+            value,
+        }
+    }
+
+    /// Returns the value.
+    pub fn value(&self) -> &V {
+        // SAFETY: the handle has a pin of the entry and keeps the cache alive, so the value is not
+        // dropped before the handle is. Nothing has mutable access to a value in the cache.
+        unsafe { self.value.as_ref() }
+    }
+}
+
+impl<K: Key + ?Sized, V, S> Deref for OwnedHandle<K, V, S> {
+    type Target = V;
+
+    fn deref(&self) -> &V {
+        self.value()
+    }
+}
+
+impl<K: Key + ?Sized, V: fmt::Debug, S> fmt::Debug for OwnedHandle<K, V, S> {
+    fn fmt(&self, f: &mut fmt::Formatter<'_>) -> fmt::Result {
+        f.debug_tuple("OwnedHandle").field(self.value()).finish()
+    }
+}
+
+impl<K: Key + ?Sized, V, S> Drop for OwnedHandle<K, V, S> {
+    fn drop(&mut self) {
+        self.cache.shards[self.shard].release(self.stamp);
     }
 }

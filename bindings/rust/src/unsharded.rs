@@ -7,12 +7,13 @@ use std::marker::PhantomData;
 use std::mem;
 use std::ops::Deref;
 use std::ptr::NonNull;
-use std::sync::{Condvar, Mutex, MutexGuard, PoisonError};
+use std::sync::{Arc, Condvar, Mutex, MutexGuard, PoisonError};
 
 use crate::error::{GetError, Refusal};
 use crate::form::{Form, Written};
 use crate::key::Key;
 use crate::proved::{Begun, Core, Evicted, random_seed};
+use crate::stats::Stats;
 
 /// A cache of heavy values that threads share, behind one lock.
 ///
@@ -233,6 +234,77 @@ impl<K: Key + ?Sized, V> LruCache<K, V> {
         }
     }
 
+    /// Returns what [`get`](Self::get) returns, with a handle that borrows nothing and keeps the
+    /// cache alive.
+    ///
+    /// # Errors
+    ///
+    /// As [`get`](Self::get).
+    ///
+    /// # Examples
+    ///
+    /// ```
+    /// use concurrent_lru_proved::unsharded::LruCache;
+    /// use std::sync::Arc;
+    ///
+    /// # fn main() -> Result<(), concurrent_lru_proved::Refusal> {
+    /// let cache = Arc::new(LruCache::<u64, String>::new(10)?);
+    /// cache.insert(&7, 1, "seven".to_string())?;
+    /// let handle = LruCache::get_owned(&cache, &7)?.expect("it was inserted");
+    /// drop(cache);
+    /// assert_eq!(*handle, "seven");
+    /// # Ok(())
+    /// # }
+    /// ```
+    pub fn get_owned<Q>(cache: &Arc<Self>, key: &Q) -> Result<Option<OwnedHandle<K, V>>, Refusal>
+    where
+        K: Borrow<Q>,
+        Q: Key<Form = K::Form> + ?Sized,
+    {
+        let found = cache.get(key)?;
+        Ok(found.map(|handle| OwnedHandle::of(cache, handle)))
+    }
+
+    /// Returns what [`get_or_init`](Self::get_or_init) returns, with a handle that borrows nothing
+    /// and keeps the cache alive.
+    ///
+    /// # Errors
+    ///
+    /// As [`get_or_init`](Self::get_or_init).
+    pub fn get_or_init_owned<Q>(
+        cache: &Arc<Self>,
+        key: &Q,
+        charge: u64,
+        init: impl FnOnce(&Q) -> V,
+    ) -> Result<OwnedHandle<K, V>, Refusal>
+    where
+        K: Borrow<Q>,
+        Q: Key<Form = K::Form> + ?Sized,
+    {
+        let handle = cache.get_or_init(key, charge, init)?;
+        Ok(OwnedHandle::of(cache, handle))
+    }
+
+    /// Returns what [`get_or_try_init`](Self::get_or_try_init) returns, with a handle that borrows
+    /// nothing and keeps the cache alive.
+    ///
+    /// # Errors
+    ///
+    /// As [`get_or_try_init`](Self::get_or_try_init).
+    pub fn get_or_try_init_owned<Q, E>(
+        cache: &Arc<Self>,
+        key: &Q,
+        charge: u64,
+        init: impl FnOnce(&Q) -> Result<V, E>,
+    ) -> Result<OwnedHandle<K, V>, GetError<E>>
+    where
+        K: Borrow<Q>,
+        Q: Key<Form = K::Form> + ?Sized,
+    {
+        let handle = cache.get_or_try_init(key, charge, init)?;
+        Ok(OwnedHandle::of(cache, handle))
+    }
+
     /// Makes `value` the key's value, whatever the key had, and returns a handle of it. Does not
     /// wait.
     ///
@@ -368,6 +440,15 @@ impl<K: Key + ?Sized, V> LruCache<K, V> {
         self.lock().core.capacity()
     }
 
+    /// Returns how often calls hit and missed since the cache was created, what was inserted and
+    /// evicted, and what the cache holds, all at one time. [`get`](Self::get),
+    /// [`read`](Self::read), [`get_or_init`](Self::get_or_init) and
+    /// [`get_or_try_init`](Self::get_or_try_init) are counted as hits, misses and waits;
+    /// [`contains`](Self::contains) and [`insert`](Self::insert) are not.
+    pub fn stats(&self) -> Stats {
+        self.lock().core.stats().into()
+    }
+
     /// Sets the capacity. Idle values that exceed it are evicted at once.
     pub fn set_capacity(&self, capacity: u64) {
         let mut evicted = Evicted::new();
@@ -405,6 +486,12 @@ impl<K: Key + ?Sized, V> LruCache<K, V> {
             stamp,
             value,
         }
+    }
+
+    /// Gives back the pin of a handle, which is not used again.
+    pub(crate) fn release(&self, stamp: u64) {
+        let mut evicted = Evicted::new();
+        self.lock().core.release(stamp, &mut evicted);
     }
 
     fn lock(&self) -> MutexGuard<'_, Shared<K::Form, V>> {
@@ -500,6 +587,13 @@ impl<K: Key + ?Sized, V> CacheHandle<'_, K, V> {
         // is. Nothing has mutable access to a value in the cache.
         unsafe { self.value.as_ref() }
     }
+
+    /// The stamp and the value of the entry, without giving the pin back.
+    pub(crate) fn into_pin(self) -> (u64, NonNull<V>) {
+        let pin = (self.stamp, self.value);
+        mem::forget(self);
+        pin
+    }
 }
 
 impl<K: Key + ?Sized, V> Deref for CacheHandle<'_, K, V> {
@@ -518,7 +612,65 @@ impl<K: Key + ?Sized, V: fmt::Debug> fmt::Debug for CacheHandle<'_, K, V> {
 
 impl<K: Key + ?Sized, V> Drop for CacheHandle<'_, K, V> {
     fn drop(&mut self) {
-        let mut evicted = Evicted::new();
-        self.cache.lock().core.release(self.stamp, &mut evicted);
+        self.cache.release(self.stamp);
+    }
+}
+
+/// A pinned value, as [`CacheHandle`], with a handle that borrows nothing and keeps its cache
+/// alive.
+///
+/// Calls such as [`LruCache::get_owned`] return it for a cache in an [`Arc`]. If a value of the
+/// cache has such a handle of the same cache, neither is ever dropped.
+pub struct OwnedHandle<K: Key + ?Sized, V> {
+    cache: Arc<LruCache<K, V>>,
+    stamp: u64,
+    /// The value of the entry with this stamp. The handle has a pin of it.
+    value: NonNull<V>,
+}
+
+// SAFETY: as for `CacheHandle`. Dropping the handle may also drop the cache, which may move to
+// another thread if its values may.
+unsafe impl<K: Key + ?Sized, V: Send + Sync> Send for OwnedHandle<K, V> {}
+
+// SAFETY: a shared handle gives shared access to its value only.
+unsafe impl<K: Key + ?Sized, V: Send + Sync> Sync for OwnedHandle<K, V> {}
+
+impl<K: Key + ?Sized, V> OwnedHandle<K, V> {
+    /// Takes over the pin of a handle of this cache.
+    fn of(cache: &Arc<LruCache<K, V>>, handle: CacheHandle<'_, K, V>) -> OwnedHandle<K, V> {
+        let cache = Arc::clone(cache);
+        let (stamp, value) = handle.into_pin();
+        OwnedHandle {
+            cache,
+            stamp,
+            value,
+        }
+    }
+
+    /// Returns the value.
+    pub fn value(&self) -> &V {
+        // SAFETY: the handle has a pin of the entry and keeps the cache alive, so the value is not
+        // dropped before the handle is. Nothing has mutable access to a value in the cache.
+        unsafe { self.value.as_ref() }
+    }
+}
+
+impl<K: Key + ?Sized, V> Deref for OwnedHandle<K, V> {
+    type Target = V;
+
+    fn deref(&self) -> &V {
+        self.value()
+    }
+}
+
+impl<K: Key + ?Sized, V: fmt::Debug> fmt::Debug for OwnedHandle<K, V> {
+    fn fmt(&self, f: &mut fmt::Formatter<'_>) -> fmt::Result {
+        f.debug_tuple("OwnedHandle").field(self.value()).finish()
+    }
+}
+
+impl<K: Key + ?Sized, V> Drop for OwnedHandle<K, V> {
+    fn drop(&mut self) {
+        self.cache.release(self.stamp);
     }
 }

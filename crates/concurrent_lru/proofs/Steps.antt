@@ -20,6 +20,7 @@ pub mod OneAnswer
 pub mod OneFront
 pub mod EmptyCache
 pub mod StaysLawful
+pub mod StaysAttached
 pub mod ReadyValues
 pub mod ValuesRead
 pub mod ValuesInserted

@@ -1,5 +1,5 @@
--- What a `Table` keeps: nodes that stand for entries, with the hashes of their keys, and the map from
--- stamps to places, where one is kept.
+-- What a `Table` keeps: nodes that stand for entries, with the hashes of their keys, and the map
+-- from stamps to places, where one is kept.
 use Rattle.std.specs.Prelude.{◌≡◌, ℕ, Bool, true, false, Some, map}
 use Rattle.std.specs.Ordering.{nat_cmp}
 use Rattle.std.specs.FinMap as finmap

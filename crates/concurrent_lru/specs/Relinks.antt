@@ -1,5 +1,5 @@
 -- The cells of nodes, with the links that these carry, and what a change of links leaves.
-use Rattle.std.specs.Prelude.{◌≡◌, ◌≢◌, ℕ, List, Option, Some, None}
+use Rattle.std.specs.Prelude.{◌≡◌, ◌≢◌, ℕ, List, Option, Some, None, cond}
 use Rattle.std.specs.declared.alloc.Global.{Global}
 use denote.RawPtr.{Ptr}
 use Rattle.concurrent_lru.specs.Cells.{Cell, cell_at, slot_at, AtSlot}
@@ -18,10 +18,10 @@ module _ {K V : Type 0} where
   place_of n = (out-Node K V n).slot
 
   abbrev pub before_link : Node K V → Option Ptr
-  before_link n = (out-Node K V n).before
+  before_link n = cond (out-Node K V n).has_before (Some (out-Node K V n).before) None
 
   abbrev pub after_link : Node K V → Option Ptr
-  after_link n = (out-Node K V n).after
+  after_link n = cond (out-Node K V n).has_after (Some (out-Node K V n).after) None
 
   abbrev pub HasCell : NodeCells K V → ℕ → Type 0
   HasCell cs k = (c : NodeCell K V) × (cell_at cs k ≡ Some c)

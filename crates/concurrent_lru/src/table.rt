@@ -140,8 +140,8 @@ impl<K: Hash + Eq + Clone, V: Drop> Table<K, V> {
         self.total - self.idle_charge
     }
 
-    /// Returns the place of the entry with this stamp, and the cursor with which the next calls find
-    /// it again. The lookup begins with the spot's hint, which may be any.
+    /// Returns the place of the entry with this stamp, and the cursor with which the next calls
+    /// find it again. The lookup begins with the spot's hint, which may be any.
     #[inline(always)]
     pub fn find_stamp(&self, spot: &Spot) -> Option<(Place, Cursor)>
         ensures { MatchOption result (ContainsNoStamp self.now spot.now.stamp)
@@ -364,6 +364,7 @@ impl<K: Hash + Eq + Clone, V: Drop> Table<K, V> {
     }
 
     // Pins an idle entry, which is then held, and returns its value.
+    #[inline(always)]
     fn revive(&mut self, place: Place, near: Cursor) -> Result<Arc<V>, Refusal>
         requires { ContainsIdleAt self.old place }
         ensures value { IfOk result (λ a. value_at self.old place ≡ Some (arc_value a)) }
@@ -378,13 +379,13 @@ impl<K: Hash + Eq + Clone, V: Drop> Table<K, V> {
     }
 
     /// Removes the pins of a ready entry, which becomes the newest idle one. Takes no memory.
+    #[inline(always)]
     pub fn rest(&mut self, place: Place, near: Cursor)
         requires { IsReadyAt self.old place }
         ensures { RestsAt self.old place self.new }
     {
         let charge = self.nodes.node_near(place, near).charge;
-        self.nodes.set_pins_near(place, near, 0);
-        self.nodes.append_near(place, near);
+        self.nodes.rest(place, near);
         self.idle_charge += charge;
     }
 

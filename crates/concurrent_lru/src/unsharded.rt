@@ -48,9 +48,9 @@ impl<K: Hash + Eq + Clone + Drop, V: Drop, R: Wait> LruCache<K, V, R, Anything> 
     /// Creates an empty cache as `new` does, which hashes keys with a seed. Takes no memory.
     ///
     /// Whoever knows the seed can choose keys that have one hash, so that each lookup of one visits
-    /// them all, under the lock. Where keys come from outside, take a random seed for each cache, as
-    /// a [`RandomState`](std::hash::RandomState) gives one: `RandomState::new(&rt)?.hash_one(&0)`.
-    /// No answer depends on the seed.
+    /// them all, under the lock. Where keys come from outside, take a random seed for each cache,
+    /// as a [`RandomState`](std::hash::RandomState) gives one:
+    /// `RandomState::new(&rt)?.hash_one(&0)`. No answer depends on the seed.
     pub fn with_seed(alloc: Global, rt: R, capacity: u64, seed: u64) -> Self
         requires copies { CopiesAreEqual K.is_clone K.eq }
     {

@@ -29,8 +29,8 @@ use std::thread::Threads;
 /// - `run`, a workload of hits or misses, a number of entries and a number of calls make these
 ///   calls in one thread on a cache of one lock, and write the sum of the values that they read to
 ///   `out`. Status 0.
-/// - `attack`, `chosen` or `drawn`, `known`, `seeded` or `shards`, and a number put so many keys into
-///   a cache, and write how many entries it has then to `out`. Status 0.
+/// - `attack`, `chosen` or `drawn`, `known`, `seeded` or `shards`, and a number put so many keys
+///   into a cache, and write how many entries it has then to `out`. Status 0.
 /// - Any other words write the usage line to `err`. Status 2.
 ///
 /// Each failure writes a line to `err` and has status 1: `refused` and the number of the refusal if

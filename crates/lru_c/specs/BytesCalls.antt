@@ -7,7 +7,8 @@ use Rattle.lru_c.specs.Codes as code
 use Rattle.lru_c.specs.Told as tells
 use Rattle.lru_c.specs.Told.{bare, told, IsSame}
 use Rattle.lru_c.specs.Opened.{TellsReady}
-use Rattle.lru_c.specs.Calls.{entries_of, OnCache}
+use Rattle.lru_c.specs.Calls.{entries_of, IsUnchanged, OnCache}
+use Rattle.lru_c.specs.Counted.{answered, counted, inserted}
 use Rattle.lru_c.specs.Chains.{IntoChain}
 use Rattle.lru_c.specs.Handles.{OnOpen}
 use Rattle.lru_c.specs.Inserts.{TellsInsertOf}
@@ -41,19 +42,19 @@ abbrev pub BeginsByKey : Cache Key ℕ → List ℕ → ℕ → LruTold → Entr
 BeginsByKey old bytes charge t gone new =
     MatchBool (charge == 0) ((t ≡ bare code.no_charge) × IsSame old gone new) (tells.AsksOf bytes_eq (λ key. key.items ≡ bytes) old (λ key. ask.begin key charge) t gone new)
 
--- The call took one step by a key of these bytes, and told its outcome; or memory was refused, and
--- nothing changed.
+-- The call took one step by a key of these bytes, told its outcome and counted it, which depends on
+-- no key; or memory was refused, and nothing changed.
 abbrev pub AsksByKey : Option BytesCache → (Key → Request Key ℕ) → List ℕ → LruTold → Entries → Option BytesCache → Type 0
-AsksByKey old r bytes t gone new = OnCache old (λ o n. tells.AsksOf bytes_eq (λ key. key.items ≡ bytes) o r t gone n) t gone new
+AsksByKey old r bytes t gone new = OnCache old (λ o n. tells.AsksOf bytes_eq (λ key. key.items ≡ bytes) o r t gone n) (λ m n. (key : Key) → n ≡ counted (r key) t m) t gone new
 
 -- The same of a begin, which refuses a charge of 0.
 abbrev pub Begins : Option BytesCache → List ℕ → ℕ → LruTold → Entries → Option BytesCache → Type 0
-Begins old bytes charge t gone new = OnCache old (λ o n. BeginsByKey o bytes charge t gone n) t gone new
+Begins old bytes charge t gone new = OnCache old (λ o n. BeginsByKey o bytes charge t gone n) (λ m n. n ≡ answered t m) t gone new
 
 -- An insert, with what it replaced and what it evicted.
 abbrev pub Inserts : Option BytesCache → List ℕ → ℕ → ℕ → LruTold → Entries → Entries → Option BytesCache → Type 0
 Inserts old bytes charge v t replaced evicted new =
-    OnOpen old new (λ o n. TellsInsertOf bytes_eq (λ key. key.items ≡ bytes) o.state.cache charge v t replaced evicted n.state.cache) ((t ≡ bare code.closed) × (replaced ≡ []) × (evicted ≡ []))
+    OnOpen old new (λ o n. TellsInsertOf bytes_eq (λ key. key.items ≡ bytes) o.state.cache charge v t replaced evicted n.state.cache × (n.counts ≡ inserted t o.counts)) ((t ≡ bare code.closed) × (replaced ≡ []) × (evicted ≡ []))
 
 -- The same, with both in one chain.
 abbrev pub InsertsInto : Option BytesCache → List ℕ → ℕ → ℕ → LruTold → Entries → Option BytesCache → Type 0
@@ -64,7 +65,7 @@ abbrev pub ContainsBytes : Cache Key ℕ → List ℕ → ℕ → Type 0
 ContainsBytes cache bytes c = (c ≡ code.memory) ⊎ ((key : Key) × (key.items ≡ bytes) × TellsReady bytes_eq cache key c)
 
 abbrev pub Contains : Option BytesCache → List ℕ → ℕ → Option BytesCache → Type 0
-Contains old bytes c new = OnOpen old new (λ o n. ContainsBytes o.state.cache bytes c × (n.state.cache ≡ o.state.cache)) (c ≡ code.closed)
+Contains old bytes c new = OnOpen old new (λ o n. ContainsBytes o.state.cache bytes c × IsUnchanged o n) (c ≡ code.closed)
 
 -- The key of a stamp was copied to the front of a buffer and its length told, or its length and
 -- that there is no room, or that there is no such key; the rest of the buffer and the cache are the
@@ -76,4 +77,4 @@ CopiesKey cache stamp t before after =
     ⊎ ((t ≡ bare code.stale) × LacksStamp cache stamp × (after ≡ before)))
 
 abbrev pub KeyOf : Option BytesCache → ℕ → LruTold → List ℕ → List ℕ → Option BytesCache → Type 0
-KeyOf old stamp t before after new = OnOpen old new (λ o n. CopiesKey o.state.cache stamp t before after × (n.state.cache ≡ o.state.cache)) ((t ≡ bare code.closed) × (after ≡ before))
+KeyOf old stamp t before after new = OnOpen old new (λ o n. CopiesKey o.state.cache stamp t before after × IsUnchanged o n) ((t ≡ bare code.closed) × (after ≡ before))

@@ -4,9 +4,12 @@ use Rattle.concurrent_lru.specs.Cache.{Cache, Idle}
 use Rattle.concurrent_lru.specs.Request.{Request}
 use Rattle.concurrent_lru.specs.TakeAll.{TakesAll}
 use Rattle.lru_c.specs.Codes as code
+use Rattle.lru_c.specs.Counted.{counted, stats_of}
 use Rattle.lru_c.specs.Told as tells
 use Rattle.lru_c.specs.Told.{bare, told}
 use Rattle.lru_c.specs.Handles.{OnOpen}
+use Rattle.lru_c.specs.declared.counts.Counts.{Counts}
+use Rattle.lru_c.specs.declared.told.LruStats.{LruStats}
 use Rattle.lru_c.specs.declared.told.LruTold.{LruTold}
 use Rattle.lru_c.specs.declared.cache.Cache.{Cache as Inner}
 use Rattle.lru_c.specs.declared.chain.Chain.{Chain}
@@ -17,28 +20,36 @@ entries_of None = None
 entries_of (Some c) = Some (c.first ++ c.rest)
 
 module _ {K R : Type 0} where
-  -- Of an open handle, this holds of the cache before the call and after it; of one that is not,
-  -- that was told and nothing was put into a chain.
-  abbrev pub OnCache : Option (Inner K R) → (Cache K ℕ → Cache K ℕ → Type 0) → LruTold → List (Idle K ℕ) → Option (Inner K R) → Type 0
-  OnCache old Step t gone new = OnOpen old new (λ o n. Step o.state.cache n.state.cache) ((t ≡ bare code.closed) × (gone ≡ []))
+  -- Of an open handle, this holds of the cache before the call and after it, and that of its counts;
+  -- of one that is not open, that was told and nothing was put into a chain.
+  abbrev pub OnCache : Option (Inner K R) → (Cache K ℕ → Cache K ℕ → Type 0) → (Counts → Counts → Type 0) → LruTold → List (Idle K ℕ) → Option (Inner K R) → Type 0
+  OnCache old Step Count t gone new = OnOpen old new (λ o n. Step o.state.cache n.state.cache × Count o.counts n.counts) ((t ≡ bare code.closed) × (gone ≡ []))
+
+  -- the cache is the same, and so are its counts
+  abbrev pub IsUnchanged : Inner K R → Inner K R → Type 0
+  IsUnchanged o n = (n.state.cache ≡ o.state.cache) × (n.counts ≡ o.counts)
 
   module _ (E : K → K → Bool) where
-    -- The call took one step of the cache behind a handle, and told its outcome; or told that the
-    -- handle is not open.
+    -- The call took one step of the cache behind a handle, told its outcome and counted it; or told
+    -- that the handle is not open.
     abbrev pub Asks : Option (Inner K R) → Request K ℕ → LruTold → List (Idle K ℕ) → Option (Inner K R) → Type 0
-    Asks old r t gone new = OnCache old (λ o n. tells.Asks E o r t gone n) t gone new
+    Asks old r t gone new = OnCache old (λ o n. tells.Asks E o r t gone n) (λ m n. n ≡ counted r t m) t gone new
 
     -- The same of a call that first asks for memory of its own.
     abbrev pub AsksWithMemory : Option (Inner K R) → Request K ℕ → LruTold → List (Idle K ℕ) → Option (Inner K R) → Type 0
-    AsksWithMemory old r t gone new = OnCache old (λ o n. tells.AsksWithMemory E o r t gone n) t gone new
+    AsksWithMemory old r t gone new = OnCache old (λ o n. tells.AsksWithMemory E o r t gone n) (λ m n. n ≡ counted r t m) t gone new
 
   -- This number of the cache was told, and the cache is the same.
   abbrev pub Numbers : Option (Inner K R) → (Cache K ℕ → ℕ) → LruTold → Option (Inner K R) → Type 0
-  Numbers old number t new = OnOpen old new (λ o n. (t ≡ told code.number 0 (number o.state.cache)) × (n.state.cache ≡ o.state.cache)) (t ≡ bare code.closed)
+  Numbers old number t new = OnOpen old new (λ o n. (t ≡ told code.number 0 (number o.state.cache)) × IsUnchanged o n) (t ≡ bare code.closed)
+
+  -- The numbers of the cache and its counts were told, and the cache is the same.
+  abbrev pub TellsStats : Option (Inner K R) → ℕ → LruStats → Option (Inner K R) → Type 0
+  TellsStats old c s new = OnOpen old new (λ o n. (c ≡ code.done) × (s ≡ stats_of o.state.cache o.counts) × IsUnchanged o n) (c ≡ code.closed)
 
   -- Room was made or memory refused, and the cache is the same.
   abbrev pub Reserves : Option (Inner K R) → ℕ → Option (Inner K R) → Type 0
-  Reserves old c new = OnOpen old new (λ o n. ((c ≡ code.done) ⊎ (c ≡ code.memory)) × (n.state.cache ≡ o.state.cache)) (c ≡ code.closed)
+  Reserves old c new = OnOpen old new (λ o n. ((c ≡ code.done) ⊎ (c ≡ code.memory)) × IsUnchanged o n) (c ≡ code.closed)
 
   -- A freed cache told this code, and all that was in it and had a value was taken out.
   abbrev pub Frees : Option (Inner K R) → ℕ → List (Idle K ℕ) → Type 0

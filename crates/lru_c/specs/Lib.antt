@@ -6,6 +6,7 @@ pub mod Handles
 pub mod Chains
 pub mod Opened
 pub mod Held
+pub mod Counted
 pub mod Calls
 pub mod BytesHeld
 pub mod BytesCalls

@@ -6,7 +6,8 @@ use Rattle.lru_c.specs.Codes as code
 use Rattle.lru_c.specs.Told as tells
 use Rattle.lru_c.specs.Told.{bare, IsSame}
 use Rattle.lru_c.specs.Opened.{TellsKey, TellsReady}
-use Rattle.lru_c.specs.Calls.{entries_of, OnCache}
+use Rattle.lru_c.specs.Calls.{entries_of, IsUnchanged, OnCache}
+use Rattle.lru_c.specs.Counted.{answered, inserted}
 use Rattle.lru_c.specs.Chains.{IntoChain}
 use Rattle.lru_c.specs.Handles.{OnOpen}
 use Rattle.lru_c.specs.Inserts.{TellsInsertOf}
@@ -36,12 +37,12 @@ Into before after c old new Step =
 -- A begin, which refuses a charge of 0.
 abbrev pub Begins : Option WordsCache → Words → ℕ → LruTold → Entries → Option WordsCache → Type 0
 Begins old key charge t gone new =
-    OnCache old (λ o n. MatchBool (charge == 0) ((t ≡ bare code.no_charge) × IsSame o gone n) (tells.Asks words_eq o (ask.begin key charge) t gone n)) t gone new
+    OnCache old (λ o n. MatchBool (charge == 0) ((t ≡ bare code.no_charge) × IsSame o gone n) (tells.Asks words_eq o (ask.begin key charge) t gone n)) (λ m n. n ≡ answered t m) t gone new
 
 -- An insert, with what it replaced and what it evicted.
 abbrev pub Inserts : Option WordsCache → Words → ℕ → ℕ → LruTold → Entries → Entries → Option WordsCache → Type 0
 Inserts old key charge v t replaced evicted new =
-    OnOpen old new (λ o n. TellsInsertOf words_eq (λ k. k ≡ key) o.state.cache charge v t replaced evicted n.state.cache) ((t ≡ bare code.closed) × (replaced ≡ []) × (evicted ≡ []))
+    OnOpen old new (λ o n. TellsInsertOf words_eq (λ k. k ≡ key) o.state.cache charge v t replaced evicted n.state.cache × (n.counts ≡ inserted t o.counts)) ((t ≡ bare code.closed) × (replaced ≡ []) × (evicted ≡ []))
 
 -- The same, with both in one chain.
 abbrev pub InsertsInto : Option WordsCache → Words → ℕ → ℕ → LruTold → Entries → Option WordsCache → Type 0
@@ -49,8 +50,8 @@ InsertsInto old key charge v t out new = (replaced : Entries) × (evicted : Entr
 
 -- Whether a key has a value was told, and the cache is the same.
 abbrev pub Contains : Option WordsCache → Words → ℕ → Option WordsCache → Type 0
-Contains old key c new = OnOpen old new (λ o n. TellsReady words_eq o.state.cache key c × (n.state.cache ≡ o.state.cache)) (c ≡ code.closed)
+Contains old key c new = OnOpen old new (λ o n. TellsReady words_eq o.state.cache key c × IsUnchanged o n) (c ≡ code.closed)
 
 -- The key of a stamp was told, or that there is none, and the cache is the same.
 abbrev pub KeyOf : Option WordsCache → ℕ → ℕ → Words → Option WordsCache → Type 0
-KeyOf old stamp c key new = OnOpen old new (λ o n. TellsKey o.state.cache stamp c key × (n.state.cache ≡ o.state.cache)) (c ≡ code.closed)
+KeyOf old stamp c key new = OnOpen old new (λ o n. TellsKey o.state.cache stamp c key × IsUnchanged o n) (c ≡ code.closed)

@@ -1,5 +1,10 @@
 //! What the handle of a cache leads to.
+ghost use Rattle.std.specs.Prelude.{◌≡◌, []};
+ghost use Rattle.concurrent_lru.specs.Request as ask;
 
+use crate::counts::Counts;
+use crate::steps;
+use crate::told::{LruStats, LruTold};
 use concurrent_lru::lru_core::State;
 use std::alloc::Global;
 use std::hash::Hash;
@@ -11,6 +16,45 @@ pub struct Cache<K: Hash + Eq + Clone, R> {
     pub alloc: Global,
     /// The cache.
     pub state: State<K, u64>,
+    /// What the calls on it have answered.
+    pub counts: Counts,
     /// Where a key that is asked is put together, where it does not come as a whole.
     pub room: R,
+}
+
+impl<K: Hash + Eq + Clone, R> Cache<K, R> {
+    ghost use Rattle.lru_c.specs.Counted.{answered, stats_of};
+    ghost use Rattle.lru_c.specs.Told.{bare, Asks};
+
+    pub(crate) fn fail(&mut self, stamp: u64) -> u32
+        ensures asks { Asks K.eq self.old.state.cache (ask.fail stamp) (bare result) []
+            self.new.state.cache }
+        ensures counts { self.new.counts ≡ answered (bare result) self.old.counts }
+    {
+        let code = steps::fail(&mut self.state, stamp);
+        self.counts.answer(LruTold::bare(code));
+        code
+    }
+
+    pub(crate) fn stats(&self) -> LruStats
+        ensures { result ≡ stats_of self.now.state.cache self.now.counts }
+    {
+        let counts = self.counts;
+        let entries = self.state.len() as u64;
+        let insertions = counts.next_stamp.saturating_sub(counts.first_stamp);
+        LruStats {
+            hits: counts.hits,
+            misses: counts.misses,
+            waits: counts.waits,
+            insertions,
+            evictions: insertions
+                .saturating_sub(counts.removals)
+                .saturating_sub(entries),
+            removals: counts.removals,
+            entries,
+            charge: self.state.total(),
+            pinned_charge: self.state.pinned_charge(),
+            capacity: self.state.capacity(),
+        }
+    }
 }

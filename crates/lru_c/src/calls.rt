@@ -3,11 +3,13 @@ ghost use Rattle.std.specs.Prelude.{◌≡◌, ◌<◌, [], None, IfOk, MatchOpt
 ghost use Rattle.concurrent_lru.specs.Cache.{CopiesAreEqual, count_of, empty_cache, pinned_of, sum_of};
 ghost use Rattle.concurrent_lru.specs.Request as ask;
 ghost use Rattle.lru_c.specs.Told.{bare};
-ghost use Rattle.lru_c.specs.Calls.{Asks, AsksWithMemory, Frees, Numbers, Reserves};
+ghost use Rattle.lru_c.specs.Calls.{Asks, AsksWithMemory, Frees, Numbers, Reserves, TellsStats};
+ghost use Rattle.lru_c.specs.Counted.{no_calls};
 
 use crate::cache::Cache;
+use crate::counts::Counts;
 use crate::handle::{Handle, closed, open, opened};
-use crate::told::LruTold;
+use crate::told::{LruStats, LruTold};
 use crate::{code, steps};
 use concurrent_lru::lru_core::{Evicted, State};
 use std::alloc::{AllocError, Global};
@@ -24,11 +26,13 @@ pub(crate) fn make<K: Hash + Eq + Clone, R: Drop, H: Handle<To = Cache<K, R>>>(
     requires pinned { 0 < most_pins }
     requires copies { CopiesAreEqual K.is_clone K.eq }
     ensures { IfOk result (λ h. MatchOption (H.held h) ⊥
-        (λ c. c.state.cache ≡ empty_cache capacity most_pins first_stamp)) }
+        (λ c. (c.state.cache ≡ empty_cache capacity most_pins first_stamp) ×
+        (c.counts ≡ no_calls first_stamp))) }
 {
     let cache = Cache {
         alloc,
         state: State::with_limits_and_seed(alloc, capacity, first_stamp, most_pins, seed),
+        counts: Counts::from(first_stamp),
         room,
     };
     let boxed = Box::new(alloc, cache)?;
@@ -75,7 +79,7 @@ pub(crate) fn fail<K: Hash + Eq + Clone, R: Drop, H: Handle<To = Cache<K, R>>>(
 {
     match opened(handle) {
         Ok(mut cache) => {
-            let answer = steps::fail(&mut cache.state, stamp);
+            let answer = cache.fail(stamp);
             (open(cache), answer)
         }
         Err(handle) => (handle, code::CLOSED),
@@ -188,6 +192,34 @@ pub(crate) fn len<K: Hash + Eq + Clone, R: Drop, H: Handle<To = Cache<K, R>>>(
         Err(handle) => (handle, LruTold::bare(code::CLOSED)),
     }
 }
+
+pub(crate) fn stats<K: Hash + Eq + Clone, R: Drop, H: Handle<To = Cache<K, R>>>(
+    handle: H,
+    _nothing: (),
+) -> (H, (u32, LruStats))
+    ensures { TellsStats (H.held handle) result.1.0 result.1.1 (H.held result.0) }
+{
+    match opened(handle) {
+        Ok(cache) => {
+            let stats = cache.stats();
+            (open(cache), (code::DONE, stats))
+        }
+        Err(handle) => (handle, (code::CLOSED, NO_STATS)),
+    }
+}
+
+const NO_STATS: LruStats = LruStats {
+    hits: 0,
+    misses: 0,
+    waits: 0,
+    insertions: 0,
+    evictions: 0,
+    removals: 0,
+    entries: 0,
+    charge: 0,
+    pinned_charge: 0,
+    capacity: 0,
+};
 
 pub(crate) fn reserve<K: Hash + Eq + Clone, R: Drop, H: Handle<To = Cache<K, R>>>(
     handle: H,

@@ -10,6 +10,7 @@ mod calls;
 pub mod chain;
 mod chain_calls;
 pub mod code;
+pub mod counts;
 pub mod handle;
 mod steps;
 pub mod told;

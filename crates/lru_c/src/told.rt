@@ -40,6 +40,32 @@ pub struct LruGone {
     pub value: u64,
 }
 
+/// What the calls on a cache have answered since it was opened, and what it holds.
+#[repr(C)]
+#[derive(Clone, Copy, PartialEq, Eq)]
+pub struct LruStats {
+    /// Calls that asked for a value and found it ready.
+    pub hits: u64,
+    /// Calls that asked for a value that was not ready, except those that waited.
+    pub misses: u64,
+    /// Calls that found the value being made by another caller.
+    pub waits: u64,
+    /// Entries inserted.
+    pub insertions: u64,
+    /// Entries evicted.
+    pub evictions: u64,
+    /// Entries removed because their making failed and no caller was waiting.
+    pub removals: u64,
+    /// Entries present.
+    pub entries: u64,
+    /// The sum of their charges.
+    pub charge: u64,
+    /// The sum of the charges of those that have a pin.
+    pub pinned_charge: u64,
+    /// The capacity.
+    pub capacity: u64,
+}
+
 // What a call that refuses for a chain answers: a code, or what is told with it.
 pub(crate) trait Answer: Sized {
     ghost code: { Self → ℕ };

@@ -2,9 +2,10 @@
 ghost use Rattle.std.specs.Prelude.{◌≡◌, ◌==◌, ⊤, [], false, is_some, true, None, Some, MatchBool, MatchOption};
 ghost use Rattle.concurrent_lru.specs.Cache.{count_of, empty_cache, most_pins_by_default, pinned_of, sum_of};
 ghost use Rattle.concurrent_lru.specs.Request as ask;
-ghost use Rattle.lru_c.specs.Calls.{entries_of, Asks, AsksWithMemory, Frees, Numbers, Reserves};
+ghost use Rattle.lru_c.specs.Calls.{entries_of, Asks, AsksWithMemory, Frees, Numbers, Reserves, TellsStats};
 ghost use Rattle.lru_c.specs.Chains.{chain_code, entries_in, TellsFirst};
 ghost use Rattle.lru_c.specs.Codes as codes;
+ghost use Rattle.lru_c.specs.Counted.{no_calls};
 ghost use Rattle.lru_c.specs.Opened.{Opens};
 ghost use Rattle.lru_c.specs.Told.{bare};
 ghost use Rattle.lru_c.specs.WordsCalls.{words, words_eq, Begins, Contains, InsertsInto, Into, KeyOf};
@@ -15,7 +16,7 @@ pub mod handles;
 pub mod key;
 
 use crate::chain_calls::{insert_into_chain, into_chain};
-use crate::told::{LruGone, LruTold};
+use crate::told::{LruGone, LruStats, LruTold};
 use crate::words::handles::{LruWords, LruWordsEvicted};
 use crate::words::key::Words;
 use crate::{calls, chain_calls, code};
@@ -29,8 +30,8 @@ use std::alloc::Global;
 #[unsafe(no_mangle)]
 pub extern "C" fn lru_words_new(alloc: Global, capacity: u64, seed: u64, out: &mut LruWords) -> u32
     ensures { Opens (out.old.is_open == 1) out.old.cache.held
-        (λ c. c.state.cache ≡ empty_cache capacity most_pins_by_default 0)
-        result out.new.cache.held }
+        (λ c. (c.state.cache ≡ empty_cache capacity most_pins_by_default 0) ×
+        (c.counts ≡ no_calls 0)) result out.new.cache.held }
 {
     if out.is_open == 1 {
         return code::OPEN;
@@ -61,8 +62,8 @@ pub extern "C" fn lru_words_new_with_limits(
     ensures { MatchBool (most_pins == 0)
         ((result ≡ codes.no_pins) × (out.new.cache.held ≡ out.old.cache.held))
         (Opens (out.old.is_open == 1) out.old.cache.held
-        (λ c. c.state.cache ≡ empty_cache capacity most_pins first_stamp)
-        result out.new.cache.held) }
+        (λ c. (c.state.cache ≡ empty_cache capacity most_pins first_stamp) ×
+        (c.counts ≡ no_calls first_stamp)) result out.new.cache.held) }
 {
     if most_pins == 0 {
         return code::NO_PINS;
@@ -299,6 +300,22 @@ pub extern "C" fn lru_words_len(cache: &mut LruWords) -> LruTold
     ensures { Numbers cache.old.cache.held count_of result cache.new.cache.held }
 {
     replace_with(cache, (), calls::len)
+}
+
+/// Counts of what the calls on a cache have answered since it was opened, and what it holds.
+///
+/// `CLOSED` where the cache is not open, and then nothing is written.
+#[unsafe(no_mangle)]
+pub extern "C" fn lru_words_stats(cache: &mut LruWords, out: &mut LruStats) -> u32
+    ensures told { TellsStats cache.old.cache.held result out.new cache.new.cache.held }
+    ensures kept { MatchBool (result == codes.done) ⊤ (out.new ≡ out.old) }
+{
+    let (code, stats) = replace_with(cache, (), calls::stats);
+    if code != code::DONE {
+        return code;
+    }
+    *out = stats;
+    code
 }
 
 /// The key of an entry, held or idle, as its two words. `STALE` where no entry has the stamp.

@@ -33,9 +33,8 @@ impl<'a, B: Blocks, R: Wait> PageCache<'a, B, R> {
         }
     }
 
-    /// Creates an empty cache as `new` does, which hashes page numbers with a seed. Takes no memory.
-    ///
-    /// `unsharded::LruCache::with_seed` says which seed to take.
+    /// Creates an empty cache as `new` does, which hashes page numbers with a seed. Takes no
+    /// memory. `unsharded::LruCache::with_seed` says which seed to take.
     pub fn with_seed(alloc: Global, rt: R, reader: &'a B, capacity: u64, seed: u64) -> Self {
         PageCache {
             reader,

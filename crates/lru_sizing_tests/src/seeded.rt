@@ -9,8 +9,8 @@ use std::ops::RangeInclusive;
 
 const CAPACITIES: [u64; 12] = [0, 1, 2, 5, 10, 20, 50, 100, 150, 200, 300, 1_000];
 
-// The keys of these uses have charges of more than 300 in all, so only the last capacity has room for
-// all of them.
+// The keys of these uses have charges of more than 300 in all, so only the last capacity has room
+// for all of them.
 const USES: u32 = 1_000;
 
 // Returns the uses of up to 100 keys, of which small ones are used more often than large

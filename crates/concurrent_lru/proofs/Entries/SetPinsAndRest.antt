@@ -6,13 +6,12 @@ use Rattle.std.specs.FinMap.{get, insert, remove, keys}
 use Rattle.std.proofs.lemmas.Bool.{true≢false, eq-eqb, ne_eqb}
 use Rattle.concurrent_lru.specs.Cache.{ready}
 use Rattle.concurrent_lru.specs.Steps.{without}
-use Rattle.concurrent_lru.specs.NodeTable.{Entry, NodeTable, update_at, entry_with_pins, entry_detached}
+use Rattle.concurrent_lru.specs.NodeTable.{Entry, NodeTable, entry_with_pins, entry_detached}
 use Rattle.concurrent_lru.specs.Representation.{IsRepresentation, idle_in, held_in, held_entry}
 use Rattle.concurrent_lru.specs.declared.table.stamp_index.StampIndex.{StampIndex}
 use Rattle.concurrent_lru.specs.Indexes.{IsStored, entries_of, stamps_of}
 use Rattle.concurrent_lru.proofs.Entries.NodesOfSetAndAdd.{WritesNode, written_represents, written_held, written_idle, revived_represents, revived_held, rested_represents, rested_held, rested_idle}
 use Rattle.concurrent_lru.proofs.Steps.BeginOfHeld.{revived_idle}
-use Rattle.concurrent_lru.proofs.Steps.Release.{pinned_writes}
 use Rattle.concurrent_lru.proofs.Entries.PlacesOfNodes.{represents_keys, held_alike, stamps_same}
 use Rattle.concurrent_lru.proofs.Entries.IndexedByStamp.{indexed_written}
 use Rattle.concurrent_lru.proofs.Entries.HashesOfNodes.{hashed_written}
@@ -68,11 +67,6 @@ module _ {K V : Type 0} {C : K → K → Type 0} {E : K → K → Bool} {H : K �
       let idle = rested_idle r.represents w v i h ph in
       let same = stamps_over in
       λ j. record { idle = idle j; held = held j; stamps = same j; work = work j }
-
-module _ {K V : Type 0} where
-  -- no pin, and then at the end of the order
-  pub rests_nodes : (old mid new : NodeTable K V) (p : ℕ) (e : Entry K V) → get old.nodes p ≡ Some e → mid.nodes ≡ update_at (entry_with_pins 0) old.nodes p → new.nodes ≡ mid.nodes → WritesNode old new p e (entry_with_pins 0 e)
-  rests_nodes old mid new p e at changed same = pinned_writes old new p 0 e at (same ∙ changed)
 
 module _ {K V : Type 0} {C : K → K → Type 0} {E : K → K → Bool} {H : K → ℕ} {t t' : NodeTable K V} {by_stamp : StampIndex} {p : ℕ} {e : Entry K V} (r : IsStored C E H t by_stamp) (w : WritesNode t t' p e (entry_with_pins 1 e)) where
   pub entries_revived_by_one : (v : V) → t'.idle ≡ filter (λ q. not (eqb q p)) t.idle → e.pins ≡ 0 → e.phase ≡ ready v → t'.work ≡ t.work + 1

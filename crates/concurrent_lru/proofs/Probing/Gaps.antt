@@ -1,4 +1,5 @@
--- The hole that a removal leaves, from the slot that is emptied to where nothing is reached over it.
+-- The hole that a removal leaves, from the slot that is emptied to where nothing is reached over
+-- it.
 use Rattle.std.proofs.Common.{◌≡◌, ◌≢◌, ℕ, ◌+◌, ◌-◌, ◌<◌, ◌≤◌, List, length, set, sym, ap, ◌∙◌, subst, arith, inl, inr}
 use Rattle.std.proofs.lemmas.Bool.{cases_eq, cases_lt}
 use Rattle.std.proofs.lemmas.List.{length-set, get_or-set_same, get_or-set_other, get_or_past}

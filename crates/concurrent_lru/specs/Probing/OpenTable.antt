@@ -1,8 +1,8 @@
--- What an `OpenTable` is seen as: its slots. No clause says in which of them a change leaves an item.
+-- What an `OpenTable` is seen as: its slots. No clause says in which of them a change leaves an
+-- item.
 use Rattle.std.specs.Prelude.{◌≡◌, ℕ, ◌/◌, ◌≤◌, List, [], length, bit_or, refl}
 use Rattle.std.specs.Coded.{Coded, code_by, coded×, coded_ℕ}
-use Rattle.concurrent_lru.specs.Probing.Cycle.{home_of}
-use Rattle.concurrent_lru.specs.Probing.Probes.{marks_of, mark_at, IsFilledAt, end_at, walk_at, IsReached}
+use Rattle.concurrent_lru.specs.Probing.Probes.{marks_of, mark_at, IsFilledAt, walk_at, IsReached}
 use Rattle.concurrent_lru.specs.Probing.Entries.{AreApart, count}
 use Rattle.concurrent_lru.specs.declared.list.probes.Slot.{Slot}
 use Rattle.concurrent_lru.specs.declared.list.probes.Probe.{Probe}
@@ -17,7 +17,7 @@ mark_of hash = bit_or hash FILLED
 
 abbrev pub step_for : Probe → Step
 step_for (Filled k) = Item k
-step_for (Empty k) = End k
+step_for (Empty k) = End
 
 module _ {T : Type 0} where
   abbrev pub slot_code : Coded T → Coded (Slot T)
@@ -38,21 +38,12 @@ module _ {T : Type 0} where
   abbrev pub IsFilled : List (Slot T) → ℕ → Type 0
   IsFilled slots cursor = IsFilledAt (marks_of slots) cursor
 
-  -- the walk along a mark ends with this vacancy
-  abbrev pub IsVacancy : List (Slot T) → ℕ → ℕ → Type 0
-  IsVacancy slots mark vacancy = vacancy ≡ end_at (marks_of slots) (home_of (length slots) mark)
-
   -- an item that a walk has come to has this mark
   abbrev pub HasMark : List (Slot T) → ℕ → Step → Type 0
   HasMark slots mark (Item cursor) = mark_at (marks_of slots) cursor ≡ mark
-  HasMark slots mark (End vacancy) = Unit {0}
-
-  -- a walk that has come to its end has found the vacancy for this mark
-  abbrev pub EndsAt : List (Slot T) → ℕ → Step → Type 0
-  EndsAt slots mark (Item cursor) = Unit {0}
-  EndsAt slots mark (End vacancy) = IsVacancy slots mark vacancy
+  HasMark slots mark End = Unit {0}
 
   -- the slots that a walk still visits, from the one that it has come to
   abbrev pub walk : List (Slot T) → Step → List ℕ
   walk slots (Item cursor) = walk_at (marks_of slots) (mark_at (marks_of slots) cursor) cursor
-  walk slots (End vacancy) = []
+  walk slots End = []

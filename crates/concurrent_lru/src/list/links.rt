@@ -1,6 +1,6 @@
 //! The idle order as links among nodes: each idle one points to its neighbours.
 ghost use Rattle.std.specs.Prelude.{◌≡◌, ◌+◌, ◌∷◌, [], ◌++◌, OnOk, OnErr, IfErr};
-ghost use Rattle.concurrent_lru.specs.NodeTable.{HasValue, GivesValue, pinned_once};
+ghost use Rattle.concurrent_lru.specs.NodeTable.{HasValue, GivesValue, pinned_once, update_at, entry_with_pins};
 ghost use Rattle.concurrent_lru.specs.SlotPointers.{IsTied, cells_of, HasNode, LeadsTo};
 ghost use Rattle.concurrent_lru.specs.SlotWrites.{OnlyWrites, OnlyLooksAndWrites};
 ghost use Rattle.concurrent_lru.specs.Listing.{IsListed, KeepsListings};
@@ -36,9 +36,8 @@ impl<K: Drop, V: Drop> Order<K, V> {
     }
 
     // Makes the node in a slot the newest idle one.
-    pub(super) fn append(&mut self, slot: usize, near: Cursor)
+    pub(super) fn append(&mut self, slot: usize)
         requires linked { IsWellLinked self.old }
-        requires listed { IsListed self.old.slots }
         requires present { HasNode self.old.slots slot }
         requires held { Omits self.old slot }
         ensures linked { IsWellLinked self.new }
@@ -48,11 +47,31 @@ impl<K: Drop, V: Drop> Order<K, V> {
         ensures listings { KeepsListings (cells_of self.old.slots) (cells_of self.new.slots) }
         ensures looks { self.new.slots.looks.count ≡ self.old.slots.looks.count + 1 }
     {
+        let own = self.slots.look(slot);
+        self.push(own, slot);
+    }
+
+    // Removes the pins of the node in a slot and makes it the newest idle one, with one lookup.
+    #[inline(always)]
+    pub(super) fn rest(&mut self, slot: usize, near: Cursor)
+        requires linked { IsWellLinked self.old }
+        requires listed { IsListed self.old.slots }
+        requires present { HasNode self.old.slots slot }
+        requires held { Omits self.old slot }
+        ensures linked { IsWellLinked self.new }
+        ensures nodes { nodes_of self.new ≡ update_at (entry_with_pins 0) (nodes_of self.old) slot }
+        ensures idle { idle_of self.new ≡ idle_of self.old ++ slot ∷ [] }
+        ensures rest { OnlyLooksAndWrites self.old.slots self.new.slots }
+        ensures listings { KeepsListings (cells_of self.old.slots) (cells_of self.new.slots) }
+        ensures looks { self.new.slots.looks.count ≡ self.old.slots.looks.count + 1 }
+    {
         let own = self.slots.look_near(slot, near);
+        self.slots.set_pins_by_link(own, 0);
         self.push(own, slot);
     }
 
     // Makes the node at the end of a link the newest idle one. The slot is the node's own.
+    #[inline(always)]
     fn push(&mut self, own: *mut Node<K, V>, slot: usize)
         requires linked { IsWellLinked self.old }
         requires own { LeadsTo self.old.slots own slot }
@@ -102,6 +121,7 @@ impl<K: Drop, V: Drop> Order<K, V> {
     }
 
     // Removes the node at the end of a link from the idle order.
+    #[inline(always)]
     fn cut(&mut self, own: *mut Node<K, V>)
         requires linked { IsWellLinked self.old }
         requires idle { ListsLink self.old own }
@@ -153,6 +173,7 @@ impl<K: Drop, V: Drop> Order<K, V> {
     // Removes the node in a slot from the idle order, with one pin, and copies its value. The
     // node is looked up once, before the copy, since a processor starts no later read until an
     // atomic instruction has completed.
+    #[inline(always)]
     pub(super) fn revive(&mut self, slot: usize, near: Cursor) -> Result<Arc<V>, Refusal>
         requires linked { IsWellLinked self.old }
         requires listed { IsListed self.old.slots }

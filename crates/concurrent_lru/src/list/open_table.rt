@@ -1,8 +1,7 @@
 //! Items by hash in one array of slots, with linear probing.
 //!
 //! The table compares no keys: a walk yields the items of one hash, and the caller compares what
-//! they lead to. A walk that finds nothing yields the place of an insertion, so a miss need not
-//! search twice. A removal moves back what follows it, so no slot is ever marked as deleted, and
+//! they lead to. A removal moves back what follows it, so no slot is ever marked as deleted, and
 //! removals take no memory.
 //!
 //! A slot is a hash and an item, 16 bytes where an item has 8. At most half of the slots are
@@ -15,11 +14,11 @@
 ghost use Rattle.std.specs.Prelude.{◌≡◌, ◌≢◌, ℕ, ◌+◌, ◌<◌, ◌≤◌, [], ◌∷◌, Contains, OnOk, OnErr, IfSome, IsTrue};
 ghost use Rattle.concurrent_lru.specs.Probing.Probes.{mark_at, marks_of};
 ghost use Rattle.concurrent_lru.specs.Probing.Entries.{count, entry, Has, Holds, IsSame, Adds, Removes};
-ghost use Rattle.concurrent_lru.specs.Probing.OpenTable.{mark_of as mark_for, capacity, IsFilled, IsVacancy, HasMark, EndsAt, walk, step_for};
+ghost use Rattle.concurrent_lru.specs.Probing.OpenTable.{mark_of as mark_for, capacity, IsFilled, HasMark, walk, step_for};
 
 use crate::list::probes::{
     Probe, Slot, copy_all, empty_slots, find_mark, find_next, home_of, item_in, mark_in, mark_of,
-    put, put_in, take_out,
+    put, take_out,
 };
 use std::alloc::{AllocError, Global};
 use std::marker::Model;
@@ -48,29 +47,13 @@ impl Model for Cursor {
     ghost inverse = { λ n. record { slot = n } };
 }
 
-/// Where an item of the hash that was looked up can be inserted. It becomes stale as a cursor does.
-#[derive(Clone, Copy)]
-pub(super) struct Vacancy {
-    slot: usize,
-}
-
-impl Model for Vacancy {
-    ghost use Rattle.std.specs.Prelude.{ℕ};
-
-    ghost Value = { ℕ };
-
-    ghost view = { λ a. a.slot };
-
-    ghost inverse = { λ n. record { slot = n } };
-}
-
 /// One step of a walk along the items of a hash.
 #[derive(Clone, Copy)]
 pub(super) enum Step {
     /// An item with the hash.
     Item(Cursor),
     /// The end of the walk.
-    End(Vacancy),
+    End,
 }
 
 /// Items by hash. No item may be in it twice.
@@ -118,13 +101,6 @@ impl<T: Copy> OpenTable<T> {
         self.len
     }
 
-    /// Returns how many items there is room for in all.
-    pub(super) fn capacity(&self) -> usize
-        ensures { result ≡ capacity self.now }
-    {
-        self.slots.len() / 2
-    }
-
     /// Makes room for a total of `entries` items: the smallest power of two that is at least twice
     /// as many slots, 16 bytes each where an item has 8. Nothing else takes memory.
     ///
@@ -151,32 +127,28 @@ impl<T: Copy> OpenTable<T> {
         Ok(())
     }
 
-    /// Begins a walk along the items with this hash: returns the first, or where one can be
-    /// inserted.
+    /// Begins a walk along the items with this hash: returns the first, if there is one.
     #[inline(always)]
     pub(super) fn first(&self, hash: u64) -> Step
         ensures mark { HasMark self.now (mark_for hash) result }
         ensures all { (k : ℕ) → mark_at (marks_of self.now) k ≡ mark_for hash
             → Contains (walk self.now result) k }
-        ensures end { EndsAt self.now (mark_for hash) result }
     {
         let count = self.slots.len();
         if count == 0 {
-            return Step::End(Vacancy { slot: 0 });
+            return Step::End;
         }
         let mark = mark_of(hash);
         let home = home_of(count, mark);
         step_of(find_mark(&self.slots, mark, home))
     }
 
-    /// Goes on with a walk: returns the next item with the hash of this one, or where one can be
-    /// inserted.
+    /// Goes on with a walk: returns the next item with the hash of this one, if there is one.
     #[inline(always)]
     pub(super) fn next(&self, cursor: Cursor) -> Step
         requires { IsFilled self.now cursor }
         ensures mark { HasMark self.now (mark_at (marks_of self.now) cursor) result }
         ensures rest { walk self.now (Step.Item cursor) ≡ cursor ∷ walk self.now result }
-        ensures end { EndsAt self.now (mark_at (marks_of self.now) cursor) result }
     {
         step_of(find_next(&self.slots, cursor.slot))
     }
@@ -198,13 +170,6 @@ impl<T: Copy> OpenTable<T> {
         item_in(&self.slots, cursor.slot)
     }
 
-    /// Returns all slots, empty ones included: the mark of an empty slot is 0.
-    pub(super) fn slots(&self) -> &[Slot<T>]
-        ensures { result.now ≡ self.now }
-    {
-        self.slots.as_slice()
-    }
-
     /// Adds an item, for which there is room. Takes no memory.
     pub(super) fn insert(&mut self, hash: u64, item: T)
         requires room { count self.old < capacity self.old }
@@ -215,20 +180,6 @@ impl<T: Copy> OpenTable<T> {
     {
         let mark = mark_of(hash);
         put(&mut self.slots, mark, item);
-        self.len += 1;
-    }
-
-    /// Adds an item, as `insert` does, at the vacancy with which a walk along its hash ended.
-    pub(super) fn insert_at(&mut self, vacancy: Vacancy, hash: u64, item: T)
-        requires room { count self.old < capacity self.old }
-        requires vacant { IsVacancy self.old (mark_for hash) vacancy }
-        requires absent { (s : _) → Has self.old s → s.item ≢ item }
-        ensures adds { Adds self.old self.new (entry (mark_for hash) item) }
-        ensures count { count self.new ≡ count self.old + 1 }
-        ensures capacity { capacity self.new ≡ capacity self.old }
-    {
-        let mark = mark_of(hash);
-        put_in(&mut self.slots, vacancy.slot, mark, item);
         self.len += 1;
     }
 
@@ -253,6 +204,6 @@ fn step_of(probe: Probe) -> Step
 {
     match probe {
         Probe::Filled(slot) => Step::Item(Cursor { slot }),
-        Probe::Empty(slot) => Step::End(Vacancy { slot }),
+        Probe::Empty(_) => Step::End,
     }
 }

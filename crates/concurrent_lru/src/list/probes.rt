@@ -8,8 +8,8 @@ ghost use Rattle.concurrent_lru.specs.Probing.Gaps.{IsGap};
 use std::alloc::{AllocError, Global};
 
 /// The bit that every mark has, so that 0 can mean an empty slot and a slot needs no other word. It
-/// is the highest, since only the lowest bits choose a home; hashes that differ in it alone have the
-/// same mark, and the caller tells their items apart as it does those of equal hashes.
+/// is the highest, since only the lowest bits choose a home. Hashes that differ in it alone have
+/// the same mark, and the caller tells their items apart as it does those of equal hashes.
 pub(super) const FILLED: u64 = 0x8000_0000_0000_0000;
 
 /// A slot of a table: an item and its mark. The mark of an empty slot is 0.

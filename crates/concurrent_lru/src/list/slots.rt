@@ -1,22 +1,22 @@
 //! The nodes in their slots: a slab of pointers, the memory that they point to, and a table that
 //! leads to the nodes from the hashes of their keys.
 //!
-//! A node is reached for writing by a lookup, which is counted, or by a link in another node.
+//! A node is reached for writing by a lookup, which is counted, or by a link in another node; what
+//! is then written stands in `list::writes`.
 ghost use Rattle.std.specs.Prelude.{◌≡◌, ℕ, ◌+◌, ◌<◌, ◌≤◌, [], Some, None, IsTrue, IsFalse, OnOk, IfSome, MatchOption};
 ghost use Rattle.std.specs.Borrow.{sem};
 ghost use Rattle.slab.specs.Slab.{HasRoomFor, slab_len};
 ghost use Rattle.concurrent_lru.specs.Cells.{cell_at, ptr_in, AtFirst};
-ghost use Rattle.concurrent_lru.specs.NodeTable.{entry_of, hash_of, chain_of, entry_with_pins, entry_detached, entry_with_phase};
+ghost use Rattle.concurrent_lru.specs.NodeTable.{entry_of, hash_of, chain_of};
 ghost use Rattle.concurrent_lru.specs.Relinks.{slot_in};
 ghost use Rattle.concurrent_lru.specs.SlotPointers.{IsTied, cells_of, HasNode, LeadsToNode, LeadsTo, IsNodeAt, KeepsOthers};
 ghost use Rattle.concurrent_lru.specs.SlotTable.{entry_in, IsEnd, IsGood};
 ghost use Rattle.concurrent_lru.specs.Listing.{IsListed, IsListedBut, LeadsToCandidate, HoldsSlot, LacksSlot, LacksKey, HasKeyIn, HasStampIn, listing_at, hash_in, spare_of};
 ghost use Rattle.concurrent_lru.specs.Probing.OpenTable.{IsFilled};
-ghost use Rattle.concurrent_lru.specs.SlotWrites.{OnlyWrites, OnlyLooksAndWrites, SetsLinks, SetsBefore, SetsAfter, CutsLinks, Rewrites, RewritesLink};
 
+use crate::list::Node;
 use crate::list::memory::{At, Memory};
 use crate::list::open_table::{Cursor, OpenTable, Step};
-use crate::list::{Node, Phase};
 use crate::work::Work;
 use slab::Slab;
 use std::alloc::{AllocError, Global};
@@ -91,8 +91,8 @@ impl<K: Drop, V: Drop> Slots<K, V> {
         slot
     }
 
-    // Inserts a node in a slot that was free, and leaves the table by hash as it is. Returns the slot
-    // and the address of the node.
+    // Inserts a node in a slot that was free, and leaves the table by hash as it is. Returns the
+    // slot and the address of the node.
     fn put(&mut self, mut node: Box<Node<K, V>>) -> (usize, At<Node<K, V>>)
         requires tied { IsTied self.old }
         requires room { HasRoomFor self.old.pointers 1 }
@@ -154,7 +154,7 @@ impl<K: Drop, V: Drop> Slots<K, V> {
     }
 
     // Removes the node in a slot from the table by hash, unless it is detached.
-    fn unlist(&mut self, slot: usize)
+    pub(super) fn unlist(&mut self, slot: usize)
         requires tied { IsTied self.old }
         requires listed { IsListed self.old }
         requires present { HasNode self.old slot }
@@ -371,111 +371,6 @@ impl<K: Drop, V: Drop> Slots<K, V> {
             Some(link) => Some(self.follow(link).slot),
             None => None,
         }
-    }
-
-    // Sets both links of the node at the end of a link.
-    pub(super) fn relink(
-        &mut self,
-        link: *mut Node<K, V>,
-        before: Option<*mut Node<K, V>>,
-        after: Option<*mut Node<K, V>>,
-    )
-        requires { LeadsToNode self.old link }
-        ensures rest { OnlyWrites self.old self.new }
-        ensures links { SetsLinks self.old self.new link before after }
-    {
-        self.follow_mut(link).set_links(before, after);
-    }
-
-    // Sets one link of the node at the end of a link.
-    pub(super) fn set_before(&mut self, link: *mut Node<K, V>, before: Option<*mut Node<K, V>>)
-        requires { LeadsToNode self.old link }
-        ensures rest { OnlyWrites self.old self.new }
-        ensures links { SetsBefore self.old self.new link before }
-    {
-        self.follow_mut(link).set_before(before);
-    }
-
-    pub(super) fn set_after(&mut self, link: *mut Node<K, V>, after: Option<*mut Node<K, V>>)
-        requires { LeadsToNode self.old link }
-        ensures rest { OnlyWrites self.old self.new }
-        ensures links { SetsAfter self.old self.new link after }
-    {
-        self.follow_mut(link).set_after(after);
-    }
-
-    // Clears a node's links and returns them.
-    pub(super) fn unlink(
-        &mut self,
-        link: *mut Node<K, V>,
-    ) -> (Option<*mut Node<K, V>>, Option<*mut Node<K, V>>)
-        requires { LeadsToNode self.old link }
-        ensures rest { OnlyWrites self.old self.new }
-        ensures links { CutsLinks self.old self.new link result.0 result.1 }
-    {
-        let node = self.follow_mut(link);
-        let before = node.before;
-        let after = node.after;
-        node.set_links(None, None);
-        (before, after)
-    }
-
-    // Sets the pins of the node at the end of a link.
-    pub(super) fn set_pins_by_link(&mut self, link: *mut Node<K, V>, pins: u32)
-        requires { LeadsToNode self.old link }
-        ensures rest { OnlyWrites self.old self.new }
-        ensures entry { RewritesLink self.old self.new link (entry_with_pins pins) }
-    {
-        self.follow_mut(link).set_pins(pins);
-    }
-
-    // Sets the pins of the node in a slot.
-    pub(super) fn set_pins(&mut self, slot: usize, near: Cursor, pins: u32)
-        requires tied { IsTied self.old }
-        requires listed { IsListed self.old }
-        requires present { HasNode self.old slot }
-        ensures rest { OnlyLooksAndWrites self.old self.new }
-        ensures entry { Rewrites self.old self.new slot (entry_with_pins pins) }
-    {
-        let link = self.look_near(slot, near);
-        self.set_pins_by_link(link, pins);
-    }
-
-    // Marks the node in a slot as detached, and removes it from the table by hash.
-    pub(super) fn set_detached(&mut self, slot: usize)
-        requires tied { IsTied self.old }
-        requires listed { IsListed self.old }
-        requires present { HasNode self.old slot }
-        ensures listed { IsListed self.new }
-        ensures entry { Rewrites self.old self.new slot entry_detached }
-        ensures pointers { self.new.pointers ≡ self.old.pointers }
-        ensures spare { spare_of self.old ≤ spare_of self.new }
-    {
-        self.unlist(slot);
-        self.mark_detached(slot);
-    }
-
-    // Marks the node in a slot as detached.
-    fn mark_detached(&mut self, slot: usize)
-        requires tied { IsTied self.old }
-        requires present { HasNode self.old slot }
-        ensures rest { OnlyLooksAndWrites self.old self.new }
-        ensures entry { Rewrites self.old self.new slot entry_detached }
-    {
-        let link = self.look(slot);
-        self.follow_mut(link).set_detached();
-    }
-
-    // Sets the phase of the node in a slot.
-    pub(super) fn set_phase(&mut self, slot: usize, near: Cursor, phase: Phase<V>)
-        requires tied { IsTied self.old }
-        requires listed { IsListed self.old }
-        requires present { HasNode self.old slot }
-        ensures rest { OnlyLooksAndWrites self.old self.new }
-        ensures entry { Rewrites self.old self.new slot (entry_with_phase phase) }
-    {
-        let link = self.look_near(slot, near);
-        self.follow_mut(link).set_phase(phase);
     }
 
     // Frees the node in a slot, if there is one.

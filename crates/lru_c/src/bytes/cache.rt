@@ -10,6 +10,7 @@ use concurrent_lru::lru_core::Evicted;
 
 impl Cache<Vec<u8>, Vec<u8>> {
     ghost use Rattle.lru_c.specs.BytesCalls.{bytes_eq, BeginsByKey, ContainsBytes};
+    ghost use Rattle.lru_c.specs.Counted.{answered, inserted};
     ghost use Rattle.lru_c.specs.Inserts.{TellsInsertOf};
     ghost use Rattle.lru_c.specs.Told.{bare, Asks, AsksOf};
 
@@ -17,14 +18,16 @@ impl Cache<Vec<u8>, Vec<u8>> {
     fn keep(&mut self, key: &[u8]) -> bool
         ensures kept { result ≡ true → self.new.room.items ≡ key.now }
         ensures state { self.new.state ≡ self.old.state }
+        ensures counts { self.new.counts ≡ self.old.counts }
     {
         self.room.clear();
         self.room.extend_from_slice(key).is_ok()
     }
 
     pub(crate) fn begin(&mut self, key: &[u8], charge: u64) -> (LruTold, Evicted<Vec<u8>, u64>)
-        ensures { BeginsByKey self.old.state.cache key.now charge result.0 result.1
+        ensures asks { BeginsByKey self.old.state.cache key.now charge result.0 result.1
             self.new.state.cache }
+        ensures counts { self.new.counts ≡ answered result.0 self.old.counts }
     {
         if charge == 0 {
             return (LruTold::bare(code::NO_CHARGE), Evicted::none());
@@ -32,22 +35,28 @@ impl Cache<Vec<u8>, Vec<u8>> {
         if !self.keep(key) {
             return (LruTold::bare(code::MEMORY), Evicted::none());
         }
-        steps::begin_charged(&mut self.state, &self.room, charge)
+        let answer = steps::begin_charged(&mut self.state, &self.room, charge);
+        self.counts.answer(answer.0);
+        answer
     }
 
     pub(crate) fn get(&mut self, key: &[u8]) -> LruTold
-        ensures { AsksOf bytes_eq (λ k. k.items ≡ key.now) self.old.state.cache ask.get result []
-            self.new.state.cache }
+        ensures asks { AsksOf bytes_eq (λ k. k.items ≡ key.now) self.old.state.cache ask.get result
+            [] self.new.state.cache }
+        ensures counts { self.new.counts ≡ answered result self.old.counts }
     {
         if !self.keep(key) {
             return LruTold::bare(code::MEMORY);
         }
-        steps::get(&mut self.state, &self.room)
+        let told = steps::get(&mut self.state, &self.room);
+        self.counts.answer(told);
+        told
     }
 
     pub(crate) fn advice_evict(&mut self, key: &[u8]) -> (u32, Evicted<Vec<u8>, u64>)
-        ensures { AsksOf bytes_eq (λ k. k.items ≡ key.now) self.old.state.cache ask.advice_evict
-            (bare result.0) result.1 self.new.state.cache }
+        ensures asks { AsksOf bytes_eq (λ k. k.items ≡ key.now) self.old.state.cache
+            ask.advice_evict (bare result.0) result.1 self.new.state.cache }
+        ensures counts { self.new.counts ≡ self.old.counts }
     {
         if !self.keep(key) {
             return (code::MEMORY, Evicted::none());
@@ -56,8 +65,9 @@ impl Cache<Vec<u8>, Vec<u8>> {
     }
 
     pub(crate) fn invalidate(&mut self, key: &[u8]) -> (u32, Evicted<Vec<u8>, u64>)
-        ensures { AsksOf bytes_eq (λ k. k.items ≡ key.now) self.old.state.cache ask.invalidate
-            (bare result.0) result.1 self.new.state.cache }
+        ensures asks { AsksOf bytes_eq (λ k. k.items ≡ key.now) self.old.state.cache
+            ask.invalidate (bare result.0) result.1 self.new.state.cache }
+        ensures counts { self.new.counts ≡ self.old.counts }
     {
         if !self.keep(key) {
             return (code::MEMORY, Evicted::none());
@@ -71,8 +81,9 @@ impl Cache<Vec<u8>, Vec<u8>> {
         charge: u64,
         value: u64,
     ) -> (LruTold, (Evicted<Vec<u8>, u64>, Evicted<Vec<u8>, u64>))
-        ensures { TellsInsertOf bytes_eq (λ k. k.items ≡ key.now) self.old.state.cache charge value
-            result.0 result.1.0 result.1.1 self.new.state.cache }
+        ensures tells { TellsInsertOf bytes_eq (λ k. k.items ≡ key.now) self.old.state.cache charge
+            value result.0 result.1.0 result.1.1 self.new.state.cache }
+        ensures counts { self.new.counts ≡ inserted result.0 self.old.counts }
     {
         if charge == 0 {
             return steps::refused(code::NO_CHARGE);
@@ -80,12 +91,15 @@ impl Cache<Vec<u8>, Vec<u8>> {
         if !self.keep(key) {
             return steps::refused(code::MEMORY);
         }
-        steps::insert(&mut self.state, self.alloc, &self.room, charge, value)
+        let answer = steps::insert(&mut self.state, self.alloc, &self.room, charge, value);
+        self.counts.answer_insert(answer.0);
+        answer
     }
 
     pub(crate) fn contains(&mut self, key: &[u8]) -> u32
         ensures contains { ContainsBytes self.old.state.cache key.now result }
         ensures same { self.new.state ≡ self.old.state }
+        ensures counts { self.new.counts ≡ self.old.counts }
     {
         if !self.keep(key) {
             return code::MEMORY;

@@ -20,7 +20,7 @@ pub(crate) fn begin(handle: LruWords, asked: (Words, u64)) -> (LruWords, (LruTol
 {
     match opened(handle) {
         Ok(mut cache) => {
-            let answer = steps::begin(&mut cache.state, &asked.0, asked.1);
+            let answer = cache.begin(&asked.0, asked.1);
             (open(cache), answer)
         }
         Err(handle) => (handle, (LruTold::bare(code::CLOSED), Evicted::none())),
@@ -32,7 +32,7 @@ pub(crate) fn get(handle: LruWords, key: Words) -> (LruWords, LruTold)
 {
     match opened(handle) {
         Ok(mut cache) => {
-            let answer = steps::get(&mut cache.state, &key);
+            let answer = cache.get(&key);
             (open(cache), answer)
         }
         Err(handle) => (handle, LruTold::bare(code::CLOSED)),

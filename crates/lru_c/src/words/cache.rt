@@ -1,5 +1,7 @@
 //! The steps of a cache by a key of two words.
-ghost use Rattle.std.specs.Prelude.{◌≡◌};
+ghost use Rattle.std.specs.Prelude.{◌≡◌, ◌==◌, [], MatchBool};
+ghost use Rattle.concurrent_lru.specs.Request as ask;
+ghost use Rattle.lru_c.specs.Codes as codes;
 
 use crate::cache::Cache;
 use crate::told::LruTold;
@@ -8,8 +10,33 @@ use crate::{code, steps};
 use concurrent_lru::lru_core::Evicted;
 
 impl Cache<Words, ()> {
+    ghost use Rattle.lru_c.specs.Counted.{answered, inserted};
     ghost use Rattle.lru_c.specs.WordsCalls.{words_eq};
     ghost use Rattle.lru_c.specs.Inserts.{TellsInsertOf};
+    ghost use Rattle.lru_c.specs.Told.{bare, Asks, IsSame};
+
+    pub(crate) fn begin(&mut self, key: &Words, charge: u64) -> (LruTold, Evicted<Words, u64>)
+        ensures asks { MatchBool (charge == 0)
+            ((result.0 ≡ bare codes.no_charge) ×
+            IsSame self.old.state.cache result.1 self.new.state.cache)
+            (Asks words_eq self.old.state.cache (ask.begin key.now charge) result.0 result.1
+            self.new.state.cache) }
+        ensures counts { self.new.counts ≡ answered result.0 self.old.counts }
+    {
+        let answer = steps::begin(&mut self.state, key, charge);
+        self.counts.answer(answer.0);
+        answer
+    }
+
+    pub(crate) fn get(&mut self, key: &Words) -> LruTold
+        ensures asks { Asks words_eq self.old.state.cache (ask.get key.now) result []
+            self.new.state.cache }
+        ensures counts { self.new.counts ≡ answered result self.old.counts }
+    {
+        let told = steps::get(&mut self.state, key);
+        self.counts.answer(told);
+        told
+    }
 
     pub(crate) fn insert(
         &mut self,
@@ -17,12 +44,15 @@ impl Cache<Words, ()> {
         charge: u64,
         value: u64,
     ) -> (LruTold, (Evicted<Words, u64>, Evicted<Words, u64>))
-        ensures { TellsInsertOf words_eq (λ k. k ≡ key.now) self.old.state.cache charge value
+        ensures tells { TellsInsertOf words_eq (λ k. k ≡ key.now) self.old.state.cache charge value
             result.0 result.1.0 result.1.1 self.new.state.cache }
+        ensures counts { self.new.counts ≡ inserted result.0 self.old.counts }
     {
         if charge == 0 {
             return steps::refused(code::NO_CHARGE);
         }
-        steps::insert(&mut self.state, self.alloc, key, charge, value)
+        let answer = steps::insert(&mut self.state, self.alloc, key, charge, value);
+        self.counts.answer_insert(answer.0);
+        answer
     }
 }

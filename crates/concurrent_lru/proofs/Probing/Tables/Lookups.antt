@@ -1,7 +1,7 @@
 -- For callers: a loop over a walk comes to each item of a hash, and ends.
 use Rattle.std.proofs.Common.{◌≡◌, ◌≢◌, ℕ, zero, suc, ◌<◌, List, ◌∷◌, length, refl, sym, ap, ◌∙◌, subst, arith, Contains}
 use Rattle.concurrent_lru.specs.Probing.Probes.{marks_of, mark_at}
-use Rattle.concurrent_lru.specs.Probing.OpenTable.{IsFilled, IsVacancy, HasMark, EndsAt, walk}
+use Rattle.concurrent_lru.specs.Probing.OpenTable.{IsFilled, HasMark, walk}
 use Rattle.concurrent_lru.specs.declared.list.probes.Slot.{Slot}
 use Rattle.concurrent_lru.specs.declared.list.open_table.Step.{Step}
 use Rattle.concurrent_lru.specs.declared.list.open_table.Step.TheVariants.{Item, End}
@@ -17,13 +17,10 @@ module _ {T : Type 0} (v : List (Slot T)) (mark : ℕ) (filled : mark ≢ 0) whe
   pub item_filled : (at : Step) (cursor : ℕ) → at ≡ Item cursor → HasMark v mark at → IsFilled v cursor
   item_filled at cursor is h none = filled (sym (item_mark at cursor is h) ∙ none)
 
-  pub vacancy_at : (at : Step) (vacancy : ℕ) → at ≡ End vacancy → EndsAt v mark at → IsVacancy v mark vacancy
-  vacancy_at at vacancy is h = subst (EndsAt v mark) is h
-
   -- at the end of a walk nothing lies ahead
   pub none_past : (at : Step) (k : ℕ) → ((cursor : ℕ) → at ≡ Item cursor → ⊥) → Contains (walk v at) k → ⊥
   none_past (Item cursor) k ended h = ended cursor refl
-  none_past (End vacancy) k ended h = omega (arith, h.1)
+  none_past End k ended h = omega (arith, h.1)
 
   module _ (at next : Step) (cursor : ℕ) (is : at ≡ Item cursor) (rest : walk v (Item cursor) ≡ cursor ∷ walk v next) where
     whole : walk v at ≡ cursor ∷ walk v next

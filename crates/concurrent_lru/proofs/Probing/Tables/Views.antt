@@ -1,18 +1,15 @@
 -- From what is seen of a table to the slots that the code reads.
 use Rattle.std.proofs.Common.{◌≡◌, ◌≢◌, ℕ, ◌<◌, List, ◌∷◌, length, refl, sym, ap, ◌∙◌, subst, arith, Contains}
 use Rattle.concurrent_lru.specs.Probing.Cycle.{next_of, home_of}
-use Rattle.concurrent_lru.specs.Probing.Probes.{marks_of, mark_at, end_at, IsFilledAt, HasEmpty, Finds}
-use Rattle.concurrent_lru.specs.Probing.Entries.{count}
-use Rattle.concurrent_lru.specs.Probing.OpenTable.{mark_of, IsTable, IsFilled, IsVacancy, HasMark, EndsAt, walk, step_for}
+use Rattle.concurrent_lru.specs.Probing.Probes.{marks_of, mark_at, IsFilledAt, HasEmpty, Finds}
+use Rattle.concurrent_lru.specs.Probing.OpenTable.{mark_of, IsTable, IsFilled, HasMark, walk, step_for}
 use Rattle.concurrent_lru.specs.declared.list.probes.Slot.{Slot}
 use Rattle.concurrent_lru.specs.declared.list.probes.Probe.{Probe}
 use Rattle.concurrent_lru.specs.declared.list.open_table.Step.{Step}
 use Rattle.concurrent_lru.specs.declared.list.open_table.Step.TheVariants.{Item}
 use Rattle.concurrent_lru.proofs.Probing.Marks.{length-marks}
 use Rattle.concurrent_lru.proofs.Probing.Gaps.{filled_within}
-use Rattle.concurrent_lru.proofs.Probing.Fills.{Ends, ends_at}
-use Rattle.concurrent_lru.proofs.Probing.Contents.Slots.{some_empty}
-use Rattle.concurrent_lru.proofs.Probing.Tables.Walks.{has_empty, first_mark, first_all, first_end, next_rest, next_end}
+use Rattle.concurrent_lru.proofs.Probing.Tables.Walks.{has_empty, first_mark, first_all, next_rest}
 
 module _ {T : Type 0} where
   pub some_in : (slots now : List (Slot T)) (len : ℕ) → IsTable slots len → now ≡ slots → 0 < length slots → HasEmpty (marks_of now)
@@ -45,9 +42,6 @@ module _ {T : Type 0} where
     begun_all filled k h = subst (λ s. Contains (walk v s) k) (sym step) (subst (λ l. Contains (walk l (step_for p)) k) seen
         (first_all slots len t mark home p filled begins finds k (subst (λ l. mark_at (marks_of l) k ≡ mark) (sym seen) (h ∙ sym marks))))
 
-    pub begun_end : EndsAt v (mark_of hash) r
-    begun_end = subst (EndsAt v (mark_of hash)) (sym step) (subst (λ l. EndsAt l (mark_of hash) (step_for p)) seen (subst (λ m. EndsAt slots m (step_for p)) marks (first_end slots len t mark home p begins finds)))
-
   -- ---- a further step
   module _ (slots now v : List (Slot T)) (len k cursor : ℕ) (t : IsTable slots len) (is : now ≡ slots) (seen : slots ≡ v) (at : k ≡ cursor) (filled : IsFilled v cursor)
       (p : Probe) (r : Step) (step : r ≡ step_for p) (found : Finds (marks_of now) (mark_at (marks_of now) k) (next_of (length now) k) p) where
@@ -63,17 +57,3 @@ module _ {T : Type 0} where
 
     pub on_rest : walk v (Item cursor) ≡ cursor ∷ walk v r
     on_rest = subst (λ s. walk v (Item cursor) ≡ cursor ∷ walk v s) (sym step) (next_rest v len table cursor (next_of (length v) cursor) filled refl p on)
-
-    pub on_end : EndsAt v (mark_at (marks_of v) cursor) r
-    on_end = subst (EndsAt v (mark_at (marks_of v) cursor)) (sym step) (next_end v len table cursor (next_of (length v) cursor) filled refl p on)
-
-  -- ---- a vacancy
-  pub vacant_in : (now v : List (Slot T)) (k vacancy hashed mark : ℕ) → now ≡ v → k ≡ vacancy → mark ≡ hashed → IsVacancy v hashed vacancy → IsVacancy now mark k
-  vacant_in now v k vacancy hashed mark is at marks h = at ∙ h ∙ (λ i. end_at (marks_of (sym is i)) (home_of (length (sym is i)) (sym marks i)))
-
-  pub vacant_within : (now : List (Slot T)) (k mark : ℕ) → count now < length now → IsVacancy now mark k → k < length now
-  vacant_within now k mark room h =
-      let long : length (marks_of now) ≡ length now = length-marks now in
-      let e : Ends (marks_of now) mark k = ends_at (marks_of now) mark k (some_empty now room) (h ∙ ap (λ n. end_at (marks_of now) (home_of n mark)) (sym long)) in
-      let w : k < length (marks_of now) = e.within in
-      omega arith

@@ -2,15 +2,14 @@
 use Rattle.std.proofs.Common.{◌≡◌, ◌≢◌, ℕ, suc, ◌-◌, ◌<◌, ◌≤◌, cond, Bool, true, false, List, [], ◌∷◌, length, refl, sym, ap, ◌∙◌, subst, arith, eqb, inl, inr, ◌||◌, Contains}
 use Rattle.std.specs.List.{list_any, filter}
 use Rattle.std.proofs.lemmas.Bool.{cases_eq, eq-eqb, ne_eqb}
-use Rattle.std.proofs.lemmas.Nat.{and_le_r}
 use Rattle.concurrent_lru.specs.Probing.Cycle.{next_of, steps, home_of}
-use Rattle.concurrent_lru.specs.Probing.Probes.{marks_of, mark_at, IsFilledAt, HasEmpty, run_at, end, end_at, walk_at, Finds}
-use Rattle.concurrent_lru.specs.Probing.OpenTable.{IsTable, HasMark, EndsAt, IsVacancy, walk, step_for}
+use Rattle.concurrent_lru.specs.Probing.Probes.{marks_of, mark_at, IsFilledAt, HasEmpty, run_at, walk_at, Finds}
+use Rattle.concurrent_lru.specs.Probing.OpenTable.{IsTable, HasMark, walk, step_for}
 use Rattle.concurrent_lru.specs.declared.list.probes.Slot.{Slot}
 use Rattle.concurrent_lru.specs.declared.list.probes.Probe.{Probe}
 use Rattle.concurrent_lru.specs.declared.list.probes.Probe.TheVariants.{Filled, Empty}
 use Rattle.concurrent_lru.proofs.Probing.Circle.{home_within}
-use Rattle.concurrent_lru.proofs.Probing.Runs.{end_on, end_along, member_along, walk_here}
+use Rattle.concurrent_lru.proofs.Probing.Runs.{member_along, walk_here}
 use Rattle.concurrent_lru.proofs.Probing.Marks.{length-marks}
 use Rattle.concurrent_lru.proofs.Probing.Gaps.{filled_within}
 use Rattle.concurrent_lru.proofs.Probing.Contents.Slots.{some_empty}
@@ -82,10 +81,6 @@ module _ {T : Type 0} (v : List (Slot T)) (len : ℕ) (t : IsTable v len) where
   first_all mark at (Empty j) filled home f k is =
       contains k [] (subst (λ l. list_any (eqb k) l ≡ true) (ap (walk_at ms mark) (sym home) ∙ f.1) (on_walk mark k filled is))
 
-  pub first_end : (mark at : ℕ) (p : Probe) → at ≡ home_of (length v) mark → Finds ms mark at p → EndsAt v mark (step_for p)
-  first_end mark at (Filled j) home f = tt
-  first_end mark at (Empty j) home f = f.0 ∙ ap (end_at ms) home
-
   -- ---- a search from the slot after an item
   module _ (cursor next : ℕ) (full : IsFilledAt ms cursor) (to : next ≡ next_of (length v) cursor) where
     some : HasEmpty ms
@@ -101,24 +96,7 @@ module _ {T : Type 0} (v : List (Slot T)) (len : ℕ) (t : IsTable v len) where
     next_rest (Filled j) f = walk_here ms (mark_at ms cursor) cursor some in_ms full refl ∙ ap (λ l. cursor ∷ l) (ap (walk_at ms (mark_at ms cursor)) next_is ∙ f.1 ∙ ap (λ m. walk_at ms m j) (sym f.0))
     next_rest (Empty j) f = walk_here ms (mark_at ms cursor) cursor some in_ms full refl ∙ ap (λ l. cursor ∷ l) (ap (walk_at ms (mark_at ms cursor)) next_is ∙ f.1)
 
-    ends : end_at ms next ≡ end_at ms (home_of (length v) (mark_at ms cursor))
-    ends =
-        let home : ℕ = home_of (length ms) (mark_at ms cursor) in
-        let along : end_at ms home ≡ end_at ms cursor = end_along ms some.0 some.1 some.2 (steps (length ms) home cursor) home cursor (home_in cursor full) in_ms refl (λ m in_m near. path cursor m full in_m (omega arith)) in
-        ap (end_at ms) (sym next_is) ∙ sym (end_on ms some.0 some.1 some.2 cursor in_ms full) ∙ sym along ∙ ap (λ n. end_at ms (home_of n (mark_at ms cursor))) long
-
-    pub next_end : (p : Probe) → Finds ms (mark_at ms cursor) next p → EndsAt v (mark_at ms cursor) (step_for p)
-    next_end (Filled j) f = tt
-    next_end (Empty j) f = f.0 ∙ ends
-
 -- a table with no slots
-pub none_ends : {T : Type 0} (v : List (Slot T)) (mark : ℕ) → length v ≡ 0 → IsVacancy v mark 0
-none_ends v mark none =
-    let long : length (marks_of v) ≡ 0 = length-marks v ∙ none in
-    let home : home_of (length v) mark ≤ length v - 1 = and_le_r mark (length v - 1) in
-    let first : home_of (length v) mark ≡ 0 = omega arith in
-    sym (ap (λ n. end n (marks_of v) (home_of (length v) mark)) long ∙ first)
-
 pub none_filled : {T : Type 0} (v : List (Slot T)) (k mark : ℕ) → length v ≡ 0 → mark_at (marks_of v) k ≡ mark → mark ≢ 0 → ⊥
 none_filled v k mark none is filled =
     let lt : k < length (marks_of v) = filled_within (marks_of v) k (λ e. filled (sym is ∙ e)) in

@@ -1,63 +1,52 @@
-use Rattle.std.proofs.Common.{◌≡◌, ◌+◌, ◌++◌, ◌∷◌, [], refl, sym, ap, ◌∙◌, subst, eqb, arith}
-use Rattle.std.specs.Prelude.{is_some}
-use Rattle.std.specs.List.{list_any}
-use Rattle.std.specs.FinMap.{get}
+use Rattle.std.proofs.Common.{◌≡◌, ◌+◌, refl, sym, ap, ◌∙◌, subst, arith}
 use Rattle.concurrent_lru.specs.Cache.{charges}
 use Rattle.concurrent_lru.specs.NodeTable.{entry_of}
 use Rattle.concurrent_lru.specs.Entries.{IsReadyAt, RestsAt, charges_of}
 use Rattle.concurrent_lru.specs.Indexes.{entries_of}
-use Rattle.concurrent_lru.proofs.Entries.NodesOfSetAndAdd.{inserted_at}
 use Rattle.concurrent_lru.proofs.Entries.NodeTaken.{held_not_idle}
 use Rattle.concurrent_lru.proofs.Entries.NodeAtPlace.{has_node, some_node, held_found, ready_like, ready_found, place_at}
 use Rattle.concurrent_lru.proofs.Steps.Release.{pinned_writes}
-use Rattle.concurrent_lru.proofs.Entries.SetPinsAndRest.{rests_nodes, stored_rested, entries_rested}
+use Rattle.concurrent_lru.proofs.Entries.SetPinsAndRest.{stored_rested, entries_rested}
 use Rattle.concurrent_lru.proofs.Entries.ChargesOfIdle.{rest_bound}
 use Rattle.concurrent_lru.proofs.Entries.SumsOfCharges.{idle_more, sum_rested}
 use Rattle.concurrent_lru.proofs.table.Table.rest.Goals as goal
 
-pub set_pins_near-requires : goal.set_pins_near-requires
-set_pins_near-requires g c = let h = subst (λ t. IsReadyAt t c.args.place) (sym c.self.view_is) c.requires in has_node c.self.invariant.stored c.args.place (h.stamp, h.at)
+pub rest-requires-clause-within : goal.rest-requires-clause-within
+rest-requires-clause-within g c = let h = subst (λ t. IsReadyAt t c.args.place) (sym c.self.view_is) c.requires in has_node c.self.invariant.stored c.args.place (h.stamp, h.at)
 
-pub append_near-requires-clause-within : goal.append_near-requires-clause-within
-append_near-requires-clause-within g c =
+pub rest-requires-clause-held : goal.rest-requires-clause-held
+rest-requires-clause-held g c =
     let h = subst (λ t. IsReadyAt t c.args.place) (sym c.self.view_is) c.requires in
     let n = some_node c.self.invariant.stored c.args.place (h.stamp, h.at) in
-    let w = pinned_writes c.self.inside.nodes c.set_pins_near.new.self c.args.place 0 n.0 n.1 c.set_pins_near.ensures.nodes in
-    ap is_some (ap (λ m. get m c.args.place) w.nodes ∙ inserted_at _ _ _)
-
-pub append_near-requires-clause-held : goal.append_near-requires-clause-held
-append_near-requires-clause-held g c =
-    let h = subst (λ t. IsReadyAt t c.args.place) (sym c.self.view_is) c.requires in
-    let n = some_node c.self.invariant.stored c.args.place (h.stamp, h.at) in
-    ap (list_any (eqb c.args.place)) c.set_pins_near.ensures.idle ∙ held_not_idle c.self.inside.nodes _ c.args.place n.0 c.self.invariant.stored.represents n.1 (ready_like c.self.invariant.stored c.args.place n.0 h n.1).0
+    held_not_idle c.self.inside.nodes _ c.args.place n.0 c.self.invariant.stored.represents n.1 (ready_like c.self.invariant.stored c.args.place n.0 h n.1).0
 
 -- the charge of the entry joins those of the idle ones, and the sum of all stays
-more_idle : (g : _) (c : goal.After-self-1 g) → c.self.inside.idle_charge + (entry_of c.node_near.result.now).charge ≡ charges (entries_of c.append_near.new.self).idle
+more_idle : (g : _) (c : goal.After-self-1 g) → c.self.inside.idle_charge + (entry_of c.node_near.result.now).charge ≡ charges (entries_of c.rest.new.self).idle
 more_idle g c =
     let h = subst (λ t. IsReadyAt t c.args.place) (sym c.self.view_is) c.requires in
     let l = ready_like c.self.invariant.stored c.args.place (entry_of c.node_near.result.now) h c.node_near.ensures.entry in
-    let nodes = rests_nodes c.self.inside.nodes c.set_pins_near.new.self c.append_near.new.self c.args.place _ c.node_near.ensures.entry c.set_pins_near.ensures.nodes c.append_near.ensures.nodes in
-    let changed = entries_rested c.self.invariant.stored nodes refl refl h.value (c.append_near.ensures.idle ∙ ap (λ xs. xs ++ c.args.place ∷ []) c.set_pins_near.ensures.idle) l.0 refl l.1 (c.append_near.ensures.work ∙ ap (λ n. n + 1) c.set_pins_near.ensures.work) in
-    let more = idle_more (entries_of c.self.inside.nodes) (entries_of c.append_near.new.self) _ (ap (λ t. t.idle) changed) in
+    let nodes = pinned_writes c.self.inside.nodes c.rest.new.self c.args.place 0 _ c.node_near.ensures.entry c.rest.ensures.nodes in
+    let changed = entries_rested c.self.invariant.stored nodes refl refl h.value (c.rest.ensures.idle) l.0 refl l.1 (c.rest.ensures.work) in
+    let more = idle_more (entries_of c.self.inside.nodes) (entries_of c.rest.new.self) _ (ap (λ t. t.idle) changed) in
     let rests = c.self.invariant.rests in
     omega (arith, more, rests)
 
-sum_same : (g : _) (c : goal.After-self-1 g) → charges_of (entries_of c.append_near.new.self) ≡ charges_of (entries_of c.self.inside.nodes)
+sum_same : (g : _) (c : goal.After-self-1 g) → charges_of (entries_of c.rest.new.self) ≡ charges_of (entries_of c.self.inside.nodes)
 sum_same g c =
     let h = subst (λ t. IsReadyAt t c.args.place) (sym c.self.view_is) c.requires in
     let l = ready_like c.self.invariant.stored c.args.place (entry_of c.node_near.result.now) h c.node_near.ensures.entry in
-    let nodes = rests_nodes c.self.inside.nodes c.set_pins_near.new.self c.append_near.new.self c.args.place _ c.node_near.ensures.entry c.set_pins_near.ensures.nodes c.append_near.ensures.nodes in
-    let changed = entries_rested c.self.invariant.stored nodes refl refl h.value (c.append_near.ensures.idle ∙ ap (λ xs. xs ++ c.args.place ∷ []) c.set_pins_near.ensures.idle) l.0 refl l.1 (c.append_near.ensures.work ∙ ap (λ n. n + 1) c.set_pins_near.ensures.work) in
-    sum_rested (entries_of c.self.inside.nodes) (entries_of c.append_near.new.self) (entry_of c.node_near.result.now).stamp _ _ (ap (λ t. t.idle) changed) (ap (λ t. t.held) changed) (held_found c.self.invariant.stored c.args.place _ c.node_near.ensures.entry l.0) refl
+    let nodes = pinned_writes c.self.inside.nodes c.rest.new.self c.args.place 0 _ c.node_near.ensures.entry c.rest.ensures.nodes in
+    let changed = entries_rested c.self.invariant.stored nodes refl refl h.value (c.rest.ensures.idle) l.0 refl l.1 (c.rest.ensures.work) in
+    sum_rested (entries_of c.self.inside.nodes) (entries_of c.rest.new.self) (entry_of c.node_near.result.now).stamp _ _ (ap (λ t. t.idle) changed) (ap (λ t. t.held) changed) (held_found c.self.invariant.stored c.args.place _ c.node_near.ensures.entry l.0) refl
 
 pub invariant_of-self : goal.invariant_of-self
 invariant_of-self g c =
     let h = subst (λ t. IsReadyAt t c.args.place) (sym c.self.view_is) c.requires in
     let n = some_node c.self.invariant.stored c.args.place (h.stamp, h.at) in
     let l = ready_like c.self.invariant.stored c.args.place n.0 h n.1 in
-    let nodes = rests_nodes c.self.inside.nodes c.set_pins_near.new.self c.append_near.new.self c.args.place n.0 n.1 c.set_pins_near.ensures.nodes c.append_near.ensures.nodes in
+    let nodes = pinned_writes c.self.inside.nodes c.rest.new.self c.args.place 0 n.0 n.1 c.rest.ensures.nodes in
     record {
-      stored = stored_rested c.self.invariant.stored nodes refl refl (c.append_near.ensures.hashes ∙ c.set_pins_near.ensures.hashes) h.value (c.append_near.ensures.idle ∙ ap (λ xs. xs ++ c.args.place ∷ []) c.set_pins_near.ensures.idle) l.0 refl l.1 (ready_found c.self.invariant.stored c.args.place n.0 h n.1);
+      stored = stored_rested c.self.invariant.stored nodes refl refl (c.rest.ensures.hashes) h.value (c.rest.ensures.idle) l.0 refl l.1 (ready_found c.self.invariant.stored c.args.place n.0 h n.1);
       sums = c.self.invariant.sums ∙ sym (sum_same g c);
       rests = more_idle g c;
     }
@@ -67,7 +56,7 @@ returns g c =
     let h = subst (λ t. IsReadyAt t c.args.place) (sym c.self.view_is) c.requires in
     let n = some_node c.self.invariant.stored c.args.place (h.stamp, h.at) in
     let l = ready_like c.self.invariant.stored c.args.place n.0 h n.1 in
-    subst (λ t. RestsAt t c.args.place (entries_of c.append_near.new.self)) c.self.view_is (record {
+    subst (λ t. RestsAt t c.args.place (entries_of c.rest.new.self)) c.self.view_is (record {
       was = record {
         stamp = n.0.stamp;
         entry = _;
@@ -77,7 +66,7 @@ returns g c =
         phase = l.1;
         found = ready_found c.self.invariant.stored c.args.place n.0 h n.1;
       };
-      changed = entries_rested c.self.invariant.stored (rests_nodes c.self.inside.nodes c.set_pins_near.new.self c.append_near.new.self c.args.place n.0 n.1 c.set_pins_near.ensures.nodes c.append_near.ensures.nodes) refl refl h.value (c.append_near.ensures.idle ∙ ap (λ xs. xs ++ c.args.place ∷ []) c.set_pins_near.ensures.idle) l.0 refl l.1 (c.append_near.ensures.work ∙ ap (λ n. n + 1) c.set_pins_near.ensures.work);
+      changed = entries_rested c.self.invariant.stored (pinned_writes c.self.inside.nodes c.rest.new.self c.args.place 0 n.0 n.1 c.rest.ensures.nodes) refl refl h.value (c.rest.ensures.idle) l.0 refl l.1 (c.rest.ensures.work);
     })
 
 pub node_near-requires : goal.node_near-requires

@@ -7,22 +7,22 @@ use Rattle.concurrent_lru.proofs.Order.Appending.{table_looked}
 use Rattle.concurrent_lru.proofs.list.links.Order.append.Goals as goal
 
 pub push-requires-clause-linked : goal.push-requires-clause-linked
-push-requires-clause-linked g c = table_looked c.args.self.now c.look_near-own.new.self c.look_near-own.ensures.rest c.look_near-own.ensures.tied c.requires.linked
+push-requires-clause-linked g c = table_looked c.args.self.now c.look-own.new.self c.look-own.ensures.rest c.look-own.ensures.tied c.requires.linked
 
 pub push-requires-clause-own : goal.push-requires-clause-own
-push-requires-clause-own g c = ap (λ t. slot_at t.memory.cells c.look_near-own.result) c.look_near-own.ensures.rest ∙ c.look_near-own.ensures.link
+push-requires-clause-own g c = ap (λ t. slot_at t.memory.cells c.look-own.result) c.look-own.ensures.rest ∙ c.look-own.ensures.link
 
 pub push-requires-clause-held : goal.push-requires-clause-held
-push-requires-clause-held g c = subst (λ t. Omits (record c.args.self.now { slots = t }) c.args.slot) (sym c.look_near-own.ensures.rest) c.requires.held
+push-requires-clause-held g c = subst (λ t. Omits (record c.args.self.now { slots = t }) c.args.slot) (sym c.look-own.ensures.rest) c.requires.held
 
 pub returns-clause-nodes : goal.returns-clause-nodes
-returns-clause-nodes g c = c.push.ensures.nodes ∙ ap (λ t. nodes_of (record c.args.self.now { slots = t })) c.look_near-own.ensures.rest
+returns-clause-nodes g c = c.push.ensures.nodes ∙ ap (λ t. nodes_of (record c.args.self.now { slots = t })) c.look-own.ensures.rest
 
 pub returns-clause-idle : goal.returns-clause-idle
-returns-clause-idle g c = c.push.ensures.idle ∙ ap (λ t. idle_of (record c.args.self.now { slots = t }) ++ c.args.slot ∷ []) c.look_near-own.ensures.rest
+returns-clause-idle g c = c.push.ensures.idle ∙ ap (λ t. idle_of (record c.args.self.now { slots = t }) ++ c.args.slot ∷ []) c.look-own.ensures.rest
 
 pub returns-clause-rest : goal.returns-clause-rest
-returns-clause-rest g c = let s = c.args.self.now.slots in let t = c.look_near-own.new.self in then_writes s t c.push.new.self.slots (only_looked s t c.look_near-own.ensures.rest) c.push.ensures.rest
+returns-clause-rest g c = let s = c.args.self.now.slots in let t = c.look-own.new.self in then_writes s t c.push.new.self.slots (only_looked s t c.look-own.ensures.rest) c.push.ensures.rest
 
 pub returns-clause-listings : goal.returns-clause-listings
-returns-clause-listings g c = looked_keeps c.args.self.now.slots c.look_near-own.new.self c.push.new.self.slots.memory.cells c.look_near-own.ensures.rest c.push.ensures.listings
+returns-clause-listings g c = looked_keeps c.args.self.now.slots c.look-own.new.self c.push.new.self.slots.memory.cells c.look-own.ensures.rest c.push.ensures.listings

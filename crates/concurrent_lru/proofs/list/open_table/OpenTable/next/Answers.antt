@@ -1,5 +1,5 @@
 -- A walk goes on with a search behind the cursor.
-use Rattle.concurrent_lru.proofs.Probing.Tables.Views.{filled_at, within_at, empty_at, on_mark, on_rest, on_end}
+use Rattle.concurrent_lru.proofs.Probing.Tables.Views.{filled_at, within_at, empty_at, on_mark, on_rest}
 use Rattle.concurrent_lru.proofs.list.open_table.OpenTable.next.Goals as goal
 
 pub find_next-requires-clause-within : goal.find_next-requires-clause-within
@@ -17,8 +17,4 @@ returns-clause-mark g c = on_mark c.self.inside.slots.items c.deref.result.now c
 
 pub returns-clause-rest : goal.returns-clause-rest
 returns-clause-rest g c = on_rest c.self.inside.slots.items c.deref.result.now c.args.self.now c.self.inside.len c.cursor.inside.slot c.args.cursor c.self.invariant c.deref.ensures.value c.self.view_is c.cursor.view_is c.requires
-    c.find_next.result c.step_of.result c.step_of.ensures c.find_next.ensures
-
-pub returns-clause-end : goal.returns-clause-end
-returns-clause-end g c = on_end c.self.inside.slots.items c.deref.result.now c.args.self.now c.self.inside.len c.cursor.inside.slot c.args.cursor c.self.invariant c.deref.ensures.value c.self.view_is c.cursor.view_is c.requires
     c.find_next.result c.step_of.result c.step_of.ensures c.find_next.ensures
