@@ -7,9 +7,8 @@ use lru_fixtures::tables::Call::{
     AdviceEvict, Begin, Fail, Get, Invalidate, Poll, Prune, Ready, Release, SetCapacity, Total,
 };
 use lru_fixtures::tables::{Answers, Call};
-use std::alloc::Global;
+use std::alloc::{AllocError, Global};
 use std::sync::Arc;
-use std::test;
 
 // Calls on a cache of the capacity 3, in order: after each, the number of entries, and whether the
 // keys 1 and 2 have a value.
@@ -43,18 +42,28 @@ const STATES: [(Call, usize, [bool; 2]); 20] = [
     (Release(3), 0, [false, false]),
 ];
 
+// Makes a call. Returns the number of entries then, whether there are none, and whether the keys 1
+// and 2 have a value.
+fn seen_after(
+    alloc: Global,
+    state: &mut State<u64, u64>,
+    call: Call,
+) -> Result<(usize, bool, [bool; 2]), AllocError> {
+    let _answer = state.answer(alloc, call)?;
+    Ok((
+        state.len(),
+        state.is_empty(),
+        [state.contains(&1), state.contains(&2)],
+    ))
+}
+
 #[test]
-fn entries_are_counted_and_values_found(rt: HostRuntime) -> Result<(), test::Fail> {
-    let alloc = rt.alloc();
-    let mut state: State<u64, u64> = State::new(alloc, 3);
+fn entries_are_counted_and_values_found(rt: HostRuntime) {
+    let mut state: State<u64, u64> = State::new(rt.alloc(), 3);
     for (call, len, values) in STATES {
-        let _answer = state.answer(alloc, call)?;
-        assert_eq!(rt; state.len(), len, "after {call:?}");
-        assert_eq!(rt; state.is_empty(), len == 0, "after {call:?}");
-        let found = [state.contains(&1), state.contains(&2)];
-        assert_eq!(rt; found, values, "after {call:?}");
+        let seen = seen_after(rt.alloc(), &mut state, call).expect(&rt, "memory");
+        assert_eq!(rt; seen, (len, len == 0, values), "after {call:?}");
     }
-    Ok(())
 }
 
 // Calls on a cache of the capacity 9, in order: after each, the total and its pinned part.
@@ -83,19 +92,23 @@ const PINNED: [(Call, u64, u64); 16] = [
     (Begin(3, 2), 2, 2),
 ];
 
+// Makes a call. Returns the total then, and its pinned part.
+fn charges_after(
+    alloc: Global,
+    state: &mut State<u64, u64>,
+    call: Call,
+) -> Result<(u64, u64), AllocError> {
+    let _answer = state.answer(alloc, call)?;
+    Ok((state.total(), state.pinned_charge()))
+}
+
 #[test]
-fn pinned_charges_are_summed(rt: HostRuntime) -> Result<(), test::Fail> {
-    let alloc = rt.alloc();
-    let mut state: State<u64, u64> = State::new(alloc, 9);
+fn pinned_charges_are_summed(rt: HostRuntime) {
+    let mut state: State<u64, u64> = State::new(rt.alloc(), 9);
     for (call, total, pinned) in PINNED {
-        let _answer = state.answer(alloc, call)?;
-        assert_eq!(rt;
-            (state.total(), state.pinned_charge()),
-            (total, pinned),
-            "after {call:?}"
-        );
+        let seen = charges_after(rt.alloc(), &mut state, call).expect(&rt, "memory");
+        assert_eq!(rt; seen, (total, pinned), "after {call:?}");
     }
-    Ok(())
 }
 
 // Creates a cache with three idle entries, of the keys 7, 8 and 9.
@@ -108,25 +121,22 @@ fn with_three(alloc: Global) -> Result<State<u64, u64>, Refusal> {
 }
 
 #[test]
-fn a_look_for_a_value_is_no_use_of_it(rt: HostRuntime) -> Result<(), test::Fail> {
-    let mut state = with_three(rt.alloc())?;
-    assert!(rt; state.contains(&7));
-    let mut evicted = state.set_capacity(2);
-    assert_eq!(rt; evicted.pop().map(|gone| gone.key), Some(7));
-    assert_eq!(rt; state.len(), 2);
-    Ok(())
+fn a_look_for_a_value_is_no_use_of_it(rt: HostRuntime) {
+    let mut state = with_three(rt.alloc()).expect(&rt, "three entries");
+    let found = state.contains(&7);
+    let oldest = state.set_capacity(2).pop().map(|gone| gone.key);
+    assert_eq!(rt; (found, oldest, state.len()), (true, Some(7), 2));
 }
 
 #[test]
-fn evicted_entries_are_counted(rt: HostRuntime) -> Result<(), test::Fail> {
-    let mut state = with_three(rt.alloc())?;
+fn evicted_entries_are_counted(rt: HostRuntime) {
+    let mut state = with_three(rt.alloc()).expect(&rt, "three entries");
     let mut evicted = state.prune();
     for left in [3, 2, 1, 0] {
         assert_eq!(rt; evicted.len(), left);
         let _gone = evicted.pop();
     }
     assert_eq!(rt; state.len(), 0);
-    Ok(())
 }
 
 // A chain may move to another thread, so that a caller can drop it elsewhere.

@@ -1,29 +1,39 @@
 //! Keys of other kinds: text, whose copies allocate, and keys that share hashes.
 
-use concurrent_lru::lru_core::State;
+use concurrent_lru::lru_core::{Refusal, State};
 use lru_fixtures::makes::make;
-use lru_fixtures::tables::says;
+use lru_fixtures::tables::text_of;
+use std::alloc::Global;
 use std::sync::Arc;
-use std::test::Fail;
+
+// Makes the keys "one" and "two", of the values 10 and 20, in a cache of capacity 1. Returns their
+// stamps.
+fn make_two(
+    alloc: Global,
+    state: &mut State<String, u64>,
+    one: &String,
+    two: &String,
+) -> Result<(u64, u64), Refusal> {
+    let first = make(state, one, 1, Arc::new(alloc, 10)?)?;
+    let second = make(state, two, 1, Arc::new(alloc, 20)?)?;
+    Ok((first, second))
+}
 
 #[test]
-fn keeps_keys_of_text(rt: HostRuntime) -> Result<(), Fail> {
+fn keeps_keys_of_text(rt: HostRuntime) {
     let alloc = rt.alloc();
-    let one = String::from_str(alloc, "one")?;
-    let two = String::from_str(alloc, "two")?;
+    let one = String::from_str(alloc, "one").expect(&rt, "memory");
+    let two = String::from_str(alloc, "two").expect(&rt, "memory");
     let mut state: State<String, u64> = State::new(alloc, 1);
-    let ten = Arc::new(alloc, 10)?;
-    assert_eq!(rt; make(&mut state, &one, 1, ten), Ok(0));
-    let twenty = Arc::new(alloc, 20)?;
-    assert_eq!(rt; make(&mut state, &two, 1, twenty), Ok(1));
-    says(alloc, &state.key_of(0), "None")?;
-    says(alloc, &state.key_of(1), "Some(\"two\")")?;
-    says(alloc, &state.get(&one), "Ok(None)")?;
-    says(
-        alloc,
-        &state.prune(),
-        "[Gone { stamp: 1, key: \"two\", charge: 1, value: 20 }]",
-    )
+    let made = make_two(alloc, &mut state, &one, &two);
+    assert_eq!(rt; made, Ok((0, 1)));
+    let keys = text_of(alloc, &(state.key_of(0), state.key_of(1))).expect(&rt, "memory");
+    assert_eq!(rt; keys.as_str(), "(None, Some(\"two\"))");
+    let left = text_of(alloc, &(state.get(&one), state.prune())).expect(&rt, "memory");
+    assert_eq!(rt;
+        left.as_str(),
+        "(Ok(None), [Gone { stamp: 1, key: \"two\", charge: 1, value: 20 }])"
+    );
 }
 
 // As many entries as a map can have in reasonable time if all its keys have the same hash.
@@ -87,7 +97,7 @@ fn agrees(state: &State<Grouped, u64>, model: &[bool; 64]) -> bool {
 // Equal hashes beside others, growth, and removals from every part of a run of entries, against a
 // plain model.
 #[test]
-fn a_model_agrees_on_keys_of_few_hashes(rt: HostRuntime) -> Result<(), Fail> {
+fn a_model_agrees_on_keys_of_few_hashes(rt: HostRuntime) {
     let alloc = rt.alloc();
     let mut model = [false; 64];
     let mut state: State<Grouped, u64> = State::with_seed(alloc, 64, 77);
@@ -99,10 +109,10 @@ fn a_model_agrees_on_keys_of_few_hashes(rt: HostRuntime) -> Result<(), Fail> {
         if model[number] {
             let _old = state.invalidate(&key);
         } else {
-            let _stamp = make(&mut state, &key, 1, Arc::new(alloc, 0)?);
+            let value = Arc::new(alloc, 0).expect(&rt, "memory for the value");
+            let _stamp = make(&mut state, &key, 1, value);
         }
         model[number] = !model[number];
         assert!(rt; agrees(&state, &model));
     }
-    Ok(())
 }

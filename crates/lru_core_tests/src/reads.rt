@@ -1,9 +1,12 @@
 //! Reads of a single owner: their results in each phase of an entry, and what is evicted after
 //! them.
 
-use concurrent_lru::lru_core::{Begun, Evicted, Failed, Refusal, State};
+use concurrent_lru::lru_core::{Begun, Evicted, Refusal, State};
+use lru_fixtures::tables::Call::{Begin, Get, Poll, Prune, Read, Ready, Release, SetCapacity};
+use lru_fixtures::tables::{Call, answers_as_expected};
 use std::alloc::{AllocError, Global};
 use std::sync::Arc;
+use std::test::Fail;
 
 // Makes the value of an absent key, ten times the key, and leaves it pinned once. Returns its
 // stamp.
@@ -63,53 +66,70 @@ fn a_read_makes_an_idle_entry_the_newest(rt: HostRuntime) {
     }
 }
 
-#[test]
-fn reads_that_follow_one_another_order_all(rt: HostRuntime) {
-    let alloc = rt.alloc();
-    let mut state = three_idle(alloc).expect(&rt, "three entries");
-    for (key, stamp, value) in [(2, 1, 20), (1, 0, 10), (2, 1, 20), (2, 1, 20)] {
-        assert_eq!(rt; value_read(&mut state, key), Ok(Some((stamp, value))));
-    }
-    let gone = keys_of(alloc, state.set_capacity(1)).expect(&rt, "memory");
-    assert_eq!(rt; gone.as_slice(), [3, 1].as_slice());
-    assert_eq!(rt; value_read(&mut state, 1), Ok(None));
-    assert_eq!(rt; value_read(&mut state, 2), Ok(Some((1, 20))));
-}
+const FOLLOW: [(Call, &str); 7] = [
+    (Read(2), "Ok(Some((1, 20)))"),
+    (Read(1), "Ok(Some((0, 10)))"),
+    (Read(2), "Ok(Some((1, 20)))"),
+    (Read(2), "Ok(Some((1, 20)))"),
+    (
+        SetCapacity(1),
+        "[Gone { stamp: 2, key: 3, charge: 1, value: 30 }, Gone { stamp: 0, key: 1, charge: 1, value: 10 }]",
+    ),
+    (Read(1), "Ok(None)"),
+    (Read(2), "Ok(Some((1, 20)))"),
+];
 
 #[test]
-fn a_read_leaves_a_held_entry_as_it_is(rt: HostRuntime) {
+fn reads_that_follow_one_another_order_all(rt: HostRuntime) -> Result<(), Fail> {
     let alloc = rt.alloc();
     let mut state = three_idle(alloc).expect(&rt, "three entries");
-    assert!(rt; matches!(state.get(&1), Ok(Some((0, _)))));
-    assert_eq!(rt; value_read(&mut state, 1), Ok(Some((0, 10))));
-    let gone = keys_of(alloc, state.prune()).expect(&rt, "memory");
-    assert_eq!(rt; gone.as_slice(), [2, 3].as_slice());
-    assert_eq!(rt;
-        state.read(&1, |value| value.wrapping_add(1)),
-        Ok(Some((0, 11)))
-    );
-    // The only pin is the get's.
-    assert!(rt; state.release(0).is_ok());
-    assert!(rt; matches!(state.release(0), Err(Refusal::Stale)));
-    let gone = keys_of(alloc, state.prune()).expect(&rt, "memory");
-    assert_eq!(rt; gone.as_slice(), [1].as_slice());
+    answers_as_expected(alloc, &mut state, &FOLLOW)
 }
 
+const HELD: [(Call, &str); 3] = [
+    (Get(1), "Ok(Some((0, 10)))"),
+    (Read(1), "Ok(Some((0, 10)))"),
+    (
+        Prune,
+        "[Gone { stamp: 1, key: 2, charge: 1, value: 20 }, Gone { stamp: 2, key: 3, charge: 1, value: 30 }]",
+    ),
+];
+
+// The only pin is the get's.
+const RELEASED: [(Call, &str); 3] = [
+    (Release(0), "Ok([])"),
+    (Release(0), "Err(Stale)"),
+    (Prune, "[Gone { stamp: 0, key: 1, charge: 1, value: 10 }]"),
+];
+
 #[test]
-fn a_read_finds_ready_values_alone(rt: HostRuntime) {
-    let ten = Arc::new(rt.alloc(), 10).expect(&rt, "memory for the value");
-    let mut state: State<u64, u64> = State::new(rt.alloc(), 3);
-    assert_eq!(rt; value_read(&mut state, 1), Ok(None));
-    assert!(rt; matches!(state.begin(&1, 1), Ok((Begun::Make(0), _))));
-    assert_eq!(rt; value_read(&mut state, 1), Ok(None));
+fn a_read_leaves_a_held_entry_as_it_is(rt: HostRuntime) -> Result<(), Fail> {
+    let alloc = rt.alloc();
+    let mut state = three_idle(alloc).expect(&rt, "three entries");
+    answers_as_expected(alloc, &mut state, &HELD)?;
+    let read = state.read(&1, |value| value.wrapping_add(1));
+    assert_eq!(rt; read, Ok(Some((0, 11))));
+    answers_as_expected(alloc, &mut state, &RELEASED)
+}
+
+const READY_ALONE: [(Call, &str); 10] = [
+    (Read(1), "Ok(None)"),
+    (Begin(1, 1), "Ok((Make(0), []))"),
+    (Read(1), "Ok(None)"),
     // Another caller waits when the maker gives up, so the entry stays for it.
-    assert!(rt; matches!(state.begin(&1, 1), Ok((Begun::Wait(0), _))));
-    assert!(rt; matches!(state.fail(0), Ok(Failed::Left)));
-    assert_eq!(rt; value_read(&mut state, 1), Ok(None));
-    assert!(rt; matches!(state.poll(0), Ok(Begun::Make(0))));
-    assert_eq!(rt; value_read(&mut state, 1), Ok(None));
-    assert!(rt; state.ready(0, ten).is_ok());
-    assert_eq!(rt; value_read(&mut state, 1), Ok(Some((0, 10))));
+    (Begin(1, 1), "Ok((Wait(0), []))"),
+    (Call::Fail(0), "Ok(Left)"),
+    (Read(1), "Ok(None)"),
+    (Poll(0), "Ok(Make(0))"),
+    (Read(1), "Ok(None)"),
+    (Ready(0, 10), "Ok(())"),
+    (Read(1), "Ok(Some((0, 10)))"),
+];
+
+#[test]
+fn a_read_finds_ready_values_alone(rt: HostRuntime) -> Result<(), Fail> {
+    let alloc = rt.alloc();
+    answers_as_expected(alloc, &mut State::new(alloc, 3), &READY_ALONE)
 }
 
 // Returns whether a read of key 1 finds a value, and whether its reader was called.
@@ -130,14 +150,19 @@ fn a_reader_is_not_called_where_nothing_is_found(rt: HostRuntime) {
     assert!(rt; found.is_err() && !called);
 }
 
+const TWO_PINS: [(Call, &str); 8] = [
+    (Begin(1, 1), "Ok((Make(0), []))"),
+    (Ready(0, 10), "Ok(())"),
+    (Read(1), "Ok(Some((0, 10)))"),
+    (Get(1), "Ok(Some((0, 10)))"),
+    (Read(1), "Err(Overflow)"),
+    (Get(1), "Err(Overflow)"),
+    (Release(0), "Ok([])"),
+    (Read(1), "Ok(Some((0, 10)))"),
+];
+
 #[test]
-fn a_read_overflows_where_a_get_does(rt: HostRuntime) {
-    let mut state: State<u64, u64> = State::with_limits(rt.alloc(), 3, 0, 2);
-    assert_eq!(rt; make(rt.alloc(), &mut state, 1), Ok(0));
-    assert_eq!(rt; value_read(&mut state, 1), Ok(Some((0, 10))));
-    assert!(rt; matches!(state.get(&1), Ok(Some((0, _)))));
-    assert_eq!(rt; value_read(&mut state, 1), Err(Refusal::Overflow));
-    assert!(rt; matches!(state.get(&1), Err(Refusal::Overflow)));
-    assert!(rt; state.release(0).is_ok());
-    assert_eq!(rt; value_read(&mut state, 1), Ok(Some((0, 10))));
+fn a_read_overflows_where_a_get_does(rt: HostRuntime) -> Result<(), Fail> {
+    let alloc = rt.alloc();
+    answers_as_expected(alloc, &mut State::with_limits(alloc, 3, 0, 2), &TWO_PINS)
 }

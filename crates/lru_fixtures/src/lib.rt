@@ -1,6 +1,6 @@
 //! What tests and programs of the caches share: values that use the cache in their drops, meetings
-//! of threads, callers of one value, workers, marks, tables of calls, steps in one list, the seeded
-//! runs, and the worked rows.
+//! of threads, callers of one value, workers, marks, tables of calls, steps in one list, and the
+//! seeded runs.
 #![tactic(auto)]
 
 pub mod errands;
@@ -10,7 +10,6 @@ pub mod makings;
 pub mod marks;
 pub mod meetings;
 pub mod owners;
-pub mod rows;
 pub mod steps;
 pub mod tables;
 pub mod threaded;

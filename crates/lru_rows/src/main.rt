@@ -4,6 +4,7 @@
 
 mod failure;
 mod program;
+mod rows;
 
 use failure::Failure;
 use lru_support::words;

@@ -1,7 +1,7 @@
 //! The program, over streams that the caller provides.
 
 use crate::failure::Failure;
-use lru_fixtures::rows::{ROWS, Row};
+use crate::rows::{ROWS, Row};
 use lru_stress::outcome::RoundFailure;
 use lru_stress::plan::Plan;
 use lru_stress::{run as stress, seed};

@@ -79,7 +79,10 @@ pub(crate) fn make_each<R: Abort, C: Cached<u64>>(rt: &R, cache: C, keys: &[u64]
     }
 }
 
+/// The answer of a `read`.
+pub(crate) type Read = Result<Option<u64>, Refusal>;
+
 /// Returns the value of a key, by `read`.
-pub(crate) fn value_read<C: Cached<u64>>(cache: C, key: u64) -> Result<Option<u64>, Refusal> {
+pub(crate) fn value_read<C: Cached<u64>>(cache: C, key: u64) -> Read {
     cache.read(key, |value| *value)
 }

@@ -1,35 +1,16 @@
 //! A hasher that returns the same hash for every key: all entries are in one shard, and the others
 //! stay empty. Handles that are forgotten keep their pins there.
 
-use concurrent_lru::sharded::LruCache;
+use crate::sharded::threaded::plays_by;
 use lru_fixtures::threaded::Then::{AtOnce, Forget};
+use lru_fixtures::threaded::ThreadedCall;
 use lru_fixtures::threaded::ThreadedCall::{
     AdviceEvict, Get, Init, Prune, SetCapacity, Show, Total,
 };
-use lru_fixtures::threaded::{ThreadedCall, play};
-use lru_support::drops::{DropLog, Logged};
 use lru_support::hashers::ByThree;
-use std::alloc::Global;
-use std::sync::Wait;
 use std::test::Fail;
 
-// Makes the calls of a table on an empty cache of four shards, which share the capacity 8.
-fn plays<R: Wait + Clone + Drop>(
-    rt: &R,
-    alloc: Global,
-    table: &[(ThreadedCall, &str)],
-) -> Result<(), Fail> {
-    let log = DropLog::new(alloc, rt)?;
-    let cache: LruCache<u64, Logged<R>, R, ByThree> = LruCache::with_shards_hasher(
-        alloc,
-        rt.clone()?,
-        8,
-        4,
-        ByThree,
-    )?;
-    play(alloc, &cache, &log, table)
-}
-
+// On four shards, which share the capacity 8.
 const ONE_SHARD: [(ThreadedCall, &str); 17] = [
     (Init(1, 1, 1, AtOnce), "Made(1, 1)"),
     (Show, "[{}, {}, {}, {1: 1}]"),
@@ -52,5 +33,5 @@ const ONE_SHARD: [(ThreadedCall, &str); 17] = [
 
 #[test]
 fn one_shard_has_all_keys(rt: HostRuntime) -> Result<(), Fail> {
-    plays(&rt, rt.alloc(), &ONE_SHARD)
+    plays_by(&rt, rt.alloc(), 8, 4, ByThree, &ONE_SHARD)
 }

@@ -4,15 +4,15 @@
 use crate::contents::{Contents, charges, make};
 use crate::sharded::shares::in_shards;
 use concurrent_lru::sharded::{LruCache, Shards};
-use lru_fixtures::tables::Answers;
 use lru_fixtures::tables::shards::ShardCall;
 use lru_fixtures::tables::shards::ShardCall::{
     AdviceEvict, Begin, Fail, Prune, Ready, Release, Use,
 };
+use lru_fixtures::tables::{Answers, text_of};
 use lru_support::hashers::ByOwnNumber;
+use std::alloc::{AllocError, Global};
 use std::process::Abort;
 use std::sync::Wait;
-use std::test;
 
 // Calls on two shards that keep two entries each, in order, and after each the number of entries,
 // the sum of the pinned charges, and whether the keys 1 and 2, of the shards 1 and 0, have a value.
@@ -28,38 +28,53 @@ const STATES: [(ShardCall, usize, u128, [bool; 2]); 9] = [
     (Fail(0, 0), 1, 0, [false, false]),
 ];
 
-#[test]
-fn entries_of_all_shards_are_counted(rt: HostRuntime) -> Result<(), test::Fail> {
-    let alloc = rt.alloc();
-    let mut shards: Shards<u64, u64, ByOwnNumber> = Shards::new(alloc, 4, 2, ByOwnNumber)?;
-    for (call, len, pinned, values) in STATES {
-        let _answer = shards.answer(alloc, call)?;
-        assert_eq!(rt; shards.len(), len, "after {call:?}");
-        assert_eq!(rt; shards.is_empty(), len == 0, "after {call:?}");
-        assert_eq!(rt; shards.pinned_charge(), pinned, "after {call:?}");
-        let found = [shards.contains(&1), shards.contains(&2)];
-        assert_eq!(rt; found, values, "after {call:?}");
-    }
-    assert_eq!(rt; format!(in alloc; "{shards:?}")?.as_str(), "[{}, {3: 3}]");
-    Ok(())
+// Makes a call. Returns the number of entries then, whether there are none, the sum of the pinned
+// charges, and whether the keys 1 and 2 have a value.
+fn seen_after(
+    alloc: Global,
+    shards: &mut Shards<u64, u64, ByOwnNumber>,
+    call: ShardCall,
+) -> Result<(usize, bool, u128, [bool; 2]), AllocError> {
+    let _answer = shards.answer(alloc, call)?;
+    Ok((
+        shards.len(),
+        shards.is_empty(),
+        shards.pinned_charge(),
+        [shards.contains(&1), shards.contains(&2)],
+    ))
 }
 
-fn holds_two_shards<R: Abort, C: Contents>(rt: &R, cache: C) {
-    let most = u128::from(u64::MAX);
+#[test]
+fn entries_of_all_shards_are_counted(rt: HostRuntime) {
+    let alloc = rt.alloc();
+    let made: Result<Shards<u64, u64, ByOwnNumber>, _> = Shards::new(alloc, 4, 2, ByOwnNumber);
+    let mut shards = made.expect(&rt, "memory");
+    for (call, len, pinned, values) in STATES {
+        let seen = seen_after(alloc, &mut shards, call).expect(&rt, "memory");
+        assert_eq!(rt; seen, (len, len == 0, pinned, values), "after {call:?}");
+    }
+    let text = text_of(alloc, &shards).expect(&rt, "memory");
+    assert_eq!(rt; text.as_str(), "[{}, {3: 3}]");
+}
+
+// Holds an entry of the shard 0 and the largest of the shard 1. Returns the total and the pinned
+// charge while both are held, and the pinned charge after each drop.
+fn holds_two_shards<R: Abort, C: Contents>(rt: &R, cache: C) -> ((u128, u128), u128, u128) {
     let first = make(rt, cache, 0, 1, 0);
     let second = make(rt, cache, 1, u64::MAX, 1);
     drop(make(rt, cache, 2, 2, 2));
-    assert_eq!(rt; charges(cache), (3 + most, 1 + most));
+    let both_held = charges(cache);
     drop(second);
-    assert_eq!(rt; cache.pinned_charge(), 1);
+    let one_held = cache.pinned_charge();
     drop(first);
-    assert_eq!(rt; cache.pinned_charge(), 0);
+    (both_held, one_held, cache.pinned_charge())
 }
 
 #[test]
 fn pinned_charges_of_all_shards_are_summed(rt: HostRuntime) {
+    let most = u128::from(u64::MAX);
     let cache = in_shards(rt.alloc(), &rt, 6, 3).expect(&rt, "memory");
-    holds_two_shards(&rt, &cache);
+    assert_eq!(rt; holds_two_shards(&rt, &cache), ((3 + most, 1 + most), 1, 0));
 }
 
 // Returns the pinned charge while key 2 is made with the charge 1, and leaves the entry idle.
@@ -73,23 +88,30 @@ fn pinned_in_a_making<R: Wait>(cache: &LruCache<u64, u64, R, ByOwnNumber>) -> Op
     pinned
 }
 
-// Holds key 2, which is idle and the only entry, and entries of the two other shards.
-fn holds_three_shards<R: Abort, C: Contents>(rt: &R, cache: C) {
-    let last = cache.get(2).expect(rt, "a pin");
+// Holds key 2, which is idle and the only entry, and entries of the two other shards. Returns the
+// total and the pinned charge while all are held, and after each drop.
+fn holds_three_shards<C: Contents>(cache: C) -> [(u128, u128); 5] {
+    let last = cache.get(2);
     let old = cache.insert(1, 2, 5);
     cache.invalidate(1);
     let new = cache.insert(1, 4, 5);
     let first = cache.insert(0, 8, 5);
     drop(cache.insert(3, 16, 5));
-    assert_eq!(rt; charges(cache), (31, 15));
+    let all_held = charges(cache);
     drop(new);
-    assert_eq!(rt; charges(cache), (31, 11));
+    let without_new = charges(cache);
     drop(old);
-    assert_eq!(rt; charges(cache), (29, 9));
+    let without_old = charges(cache);
     drop(first);
-    assert_eq!(rt; charges(cache), (29, 1));
+    let last_held = charges(cache);
     drop(last);
-    assert_eq!(rt; charges(cache), (29, 0));
+    [
+        all_held,
+        without_new,
+        without_old,
+        last_held,
+        charges(cache),
+    ]
 }
 
 // Each entry counts in its own shard: one that is being made, one that is detached, and one of each
@@ -97,30 +119,61 @@ fn holds_three_shards<R: Abort, C: Contents>(rt: &R, cache: C) {
 #[test]
 fn pinned_charges_are_those_of_each_state(rt: HostRuntime) {
     let cache = in_shards(rt.alloc(), &rt, 90, 3).expect(&rt, "memory");
-    assert_eq!(rt; cache.pinned_charge(), 0);
-    assert_eq!(rt; pinned_in_a_making(&cache), Some(1));
-    holds_three_shards(&rt, &cache);
+    let before = cache.pinned_charge();
+    assert_eq!(rt; (before, pinned_in_a_making(&cache)), (0, Some(1)));
+    assert_eq!(rt;
+        holds_three_shards(&cache),
+        [(31, 15), (31, 11), (29, 9), (29, 1), (29, 0)]
+    );
 }
 
-fn asks_each_key<R: Abort, C: Contents>(rt: &R, cache: C) {
-    assert!(rt; cache.is_empty());
-    for key in 0..4u64 {
-        assert!(rt; !cache.contains(key));
+// What is seen of three shards: how many entries there are, whether there are none, and which of
+// the keys 0 to 3 have a value.
+type Seen = (usize, bool, [bool; 4]);
+
+fn seen<C: Contents>(cache: C) -> Seen {
+    (
+        cache.len(),
+        cache.is_empty(),
+        [0, 1, 2, 3].map(|key| cache.contains(key)),
+    )
+}
+
+// Makes the keys 0 to 3, evicts 2 by advice, and prunes. Returns what is seen at first and after
+// each of these.
+fn asks_each_key<R: Abort, C: Contents>(rt: &R, cache: C) -> [Seen; 7] {
+    let none = seen(cache);
+    let made = [0, 1, 2, 3].map(|key| {
         drop(make(rt, cache, key, 1, key));
-        assert!(rt; cache.contains(key));
-    }
-    assert_eq!(rt; cache.len(), 4);
+        seen(cache)
+    });
     cache.advice_evict(2);
-    assert!(rt; !cache.contains(2));
-    assert!(rt; cache.contains(3));
-    assert_eq!(rt; cache.len(), 3);
+    let advised = seen(cache);
     cache.prune();
-    assert_eq!(rt; cache.len(), 0);
-    assert!(rt; cache.is_empty());
+    [
+        none,
+        made[0],
+        made[1],
+        made[2],
+        made[3],
+        advised,
+        seen(cache),
+    ]
 }
 
 #[test]
 fn each_shard_is_asked_of_its_own_keys(rt: HostRuntime) {
     let cache = in_shards(rt.alloc(), &rt, 6, 3).expect(&rt, "memory");
-    asks_each_key(&rt, &cache);
+    assert_eq!(rt;
+        asks_each_key(&rt, &cache),
+        [
+            (0, true, [false, false, false, false]),
+            (1, false, [true, false, false, false]),
+            (2, false, [true, true, false, false]),
+            (3, false, [true, true, true, false]),
+            (4, false, [true, true, true, true]),
+            (3, false, [true, true, false, true]),
+            (0, true, [false, false, false, false]),
+        ]
+    );
 }

@@ -19,33 +19,38 @@ fn asks_all_shards<R: Abort, C: Contents>(rt: &R, cache: C) {
     drop(try_make_value(cache, 8, 1, None, &mut None));
 }
 
-fn sums_the_counts<R: Abort, C: Contents>(rt: &R, cache: C) {
-    let counts = cache.counts();
-    assert_eq!(rt; (counts.hits, counts.misses, counts.waits), (3, 9, 0));
-    assert_eq!(rt; counts.hit_ratio(), Some(0.25));
-    assert_eq!(rt;
-        (counts.makings, counts.failures, counts.refusals),
-        (8, 1, 0)
-    );
-    assert_eq!(rt; (counts.insertions, counts.inserted_charge), (8, 8));
-    assert_eq!(rt; (counts.evictions, counts.evicted_charge), (2, 2));
-    assert_eq!(rt; (counts.removals, counts.removed_charge), (1, 1));
-    assert_eq!(rt; (cache.len(), cache.total_charge()), (5, 5));
-    // Each shard returns what it had, and starts again from what it has.
-    assert_eq!(rt; cache.reset_counts(), counts);
-}
+// What these calls count in all.
+const SUMMED: Counts = Counts {
+    hits: 3,
+    misses: 9,
+    waits: 0,
+    refusals: 0,
+    makings: 8,
+    failures: 1,
+    insertions: 8,
+    evictions: 2,
+    removals: 1,
+    entries_before: 0,
+    inserted_charge: 8,
+    evicted_charge: 2,
+    removed_charge: 1,
+    charge_before: 0,
+};
 
-fn starts_again<R: Abort, C: Contents>(rt: &R, cache: C) {
-    let anew = Counts {
-        entries_before: 5,
-        charge_before: 5,
-        ..Counts::default()
-    };
-    assert_eq!(rt; cache.counts(), anew);
+// Resets the counts, prunes, and resets them again. Returns what the first reset returns and the
+// counts after it, the evictions of the prune and the evicted charge of the second reset, and the
+// counts after that.
+fn resets_around_a_prune<C: Contents>(cache: C) -> ([Counts; 2], (u64, u128), Counts) {
+    let first = cache.reset_counts();
+    let anew = cache.counts();
     cache.prune();
-    assert_eq!(rt; cache.counts().evictions, 5);
-    assert_eq!(rt; cache.reset_counts().evicted_charge, 5);
-    assert_eq!(rt; cache.counts(), Counts::default());
+    let evictions = cache.counts().evictions;
+    let second = cache.reset_counts();
+    (
+        [first, anew],
+        (evictions, second.evicted_charge),
+        cache.counts(),
+    )
 }
 
 #[test]
@@ -53,39 +58,66 @@ fn the_counts_of_all_shards_are_summed(rt: HostRuntime) {
     let cache = in_shards(rt.alloc(), &rt, 6, 3).expect(&rt, "memory");
     assert_eq!(rt; cache.counts(), Counts::default());
     asks_all_shards(&rt, &cache);
-    sums_the_counts(&rt, &cache);
-    starts_again(&rt, &cache);
+    assert_eq!(rt;
+        (cache.counts(), cache.len(), cache.total_charge()),
+        (SUMMED, 5, 5)
+    );
+    assert_eq!(rt; SUMMED.hit_ratio(), Some(0.25));
+    // Each shard returns what it had, and starts again from what it has.
+    let anew = Counts {
+        entries_before: 5,
+        charge_before: 5,
+        ..Counts::default()
+    };
+    assert_eq!(rt;
+        resets_around_a_prune(&cache),
+        ([SUMMED, anew], (5, 5), Counts::default())
+    );
 }
 
-// Each shard refuses, replaces and invalidates independently.
-fn fills_one_shard<R: Abort, C: Contents>(rt: &R, cache: C) {
-    let held = cache.insert(0, u64::MAX, 5).expect(rt, "memory");
+// Each shard refuses, replaces and invalidates independently. Returns the counts once the shard 0
+// is full, once its held entry is invalidated, once an idle one of the shard 1 is, and once the
+// handle is dropped; and whether no entry is left.
+fn fills_one_shard<C: Contents>(cache: C) -> ([Counts; 4], bool) {
+    let held = cache.insert(0, u64::MAX, 5);
     // The shard 0 is full; the shard 1 is not.
     for key in [3, 6, 4] {
         drop(cache.insert(key, 2, 5));
     }
     drop(make_value(cache, 9, 1, 9, &mut None));
     let full = cache.counts();
-    assert_eq!(rt; (full.refusals, full.misses, full.makings), (3, 0, 0));
-    assert_eq!(rt; (full.insertions, full.evictions), (2, 0));
-    assert_eq!(rt; full.inserted_charge, 2 + u128::from(u64::MAX));
-    // A held entry is evicted later; an idle one at once.
     cache.invalidate(0);
-    assert_eq!(rt; cache.counts().evictions, 0);
+    let detached = cache.counts();
     cache.invalidate(4);
-    let counts = cache.counts();
-    assert_eq!(rt; (counts.evictions, counts.evicted_charge), (1, 2));
+    let evicted = cache.counts();
     drop(held);
-    let counts = cache.counts();
-    assert_eq!(rt; counts.evictions, 2);
-    assert_eq!(rt; counts.evicted_charge, full.inserted_charge);
-    assert!(rt; cache.is_empty());
+    ([full, detached, evicted, cache.counts()], cache.is_empty())
 }
 
 #[test]
 fn what_each_shard_is_asked_is_counted_there(rt: HostRuntime) {
     let cache = in_shards(rt.alloc(), &rt, 30, 3).expect(&rt, "memory");
-    fills_one_shard(&rt, &cache);
+    let full = Counts {
+        refusals: 3,
+        insertions: 2,
+        inserted_charge: 2 + u128::from(u64::MAX),
+        ..Counts::default()
+    };
+    // A held entry is evicted later; an idle one at once.
+    let evicted = Counts {
+        evictions: 1,
+        evicted_charge: 2,
+        ..full
+    };
+    let dropped = Counts {
+        evictions: 2,
+        evicted_charge: full.inserted_charge,
+        ..full
+    };
+    assert_eq!(rt;
+        fills_one_shard(&cache),
+        ([full, full, evicted, dropped], true)
+    );
 }
 
 // No call is missed between two resets, and none is counted twice.

@@ -1,16 +1,15 @@
 //! Reads in shards: each counts as a use in its own shard, and threads that read find their values.
 
-use crate::contents::{make_each, value_read};
+use crate::contents::{Read, make_each, value_read};
 use crate::sharded::shares::in_shards;
 use concurrent_lru::lru_core::Begun;
 use concurrent_lru::sharded::{Refusal, Shards};
 use lru_fixtures::workers::{CAPACITY, stays_right};
 use lru_support::cached::Cached;
 use lru_support::hashers::ByOwnNumber;
-use std::alloc::{AllocError, Global};
+use std::alloc::Global;
 use std::process::Abort;
 use std::sync::Arc;
-use std::test::Fail;
 use std::thread;
 
 // Makes the value of an absent key, ten times the key, and leaves it idle.
@@ -31,62 +30,82 @@ fn make(
     Ok(())
 }
 
-// Returns the keys that a prune of a shard evicts, in order.
-fn prune_shard(
+// Creates three shards with the keys 0 to 5, all idle.
+fn with_six(alloc: Global) -> Result<Shards<u64, u64, ByOwnNumber>, Refusal> {
+    let mut shards = Shards::new(alloc, 6, 3, ByOwnNumber)?;
+    for key in 0..6u64 {
+        make(alloc, &mut shards, key)?;
+    }
+    Ok(shards)
+}
+
+// Returns the stamp and the value of a key, by `read`.
+fn read_in(
+    shards: &mut Shards<u64, u64, ByOwnNumber>,
+    key: u64,
+) -> Result<Option<(u64, u64)>, Refusal> {
+    shards.read(&key, |value| *value)
+}
+
+// Prunes three shards in order. Returns each key that is evicted, with its shard, in order.
+fn prune_three(
     alloc: Global,
     shards: &mut Shards<u64, u64, ByOwnNumber>,
-    shard: usize,
-) -> Result<Vec<u64>, Fail> {
+) -> Result<Vec<(usize, u64)>, Refusal> {
     let mut keys = Vec::new(alloc);
-    for gone in shards.prune_shard(shard)? {
-        keys.push(gone.key)?;
+    for shard in 0..3usize {
+        for gone in shards.prune_shard(shard)? {
+            keys.push((shard, gone.key))?;
+        }
     }
     Ok(keys)
 }
 
 #[test]
-fn a_read_counts_in_the_shard_of_its_key(rt: HostRuntime) -> Result<(), Fail> {
-    let alloc = rt.alloc();
-    let mut shards: Shards<u64, u64, ByOwnNumber> = Shards::new(alloc, 6, 3, ByOwnNumber)?;
-    for key in 0..6u64 {
-        make(alloc, &mut shards, key)?;
-    }
-    assert_eq!(rt; shards.read(&1, |value| *value)?, Some((0, 10)));
-    assert_eq!(rt; shards.read(&5, |value| *value)?, Some((1, 50)));
-    assert_eq!(rt; shards.read(&7, |value| *value)?, None);
+fn a_read_counts_in_the_shard_of_its_key(rt: HostRuntime) {
+    let mut shards = with_six(rt.alloc()).expect(&rt, "six entries");
+    let read = [
+        read_in(&mut shards, 1),
+        read_in(&mut shards, 5),
+        read_in(&mut shards, 7),
+    ];
+    assert_eq!(rt; read, [Ok(Some((0, 10))), Ok(Some((1, 50))), Ok(None)]);
+    let gone = prune_three(rt.alloc(), &mut shards).expect(&rt, "memory");
     assert_eq!(rt;
-        prune_shard(alloc, &mut shards, 0)?.as_slice(),
-        [0, 3].as_slice()
+        gone.as_slice(),
+        [(0, 0), (0, 3), (1, 4), (1, 1), (2, 2), (2, 5)].as_slice()
     );
-    assert_eq!(rt;
-        prune_shard(alloc, &mut shards, 1)?.as_slice(),
-        [4, 1].as_slice()
-    );
-    assert_eq!(rt;
-        prune_shard(alloc, &mut shards, 2)?.as_slice(),
-        [2, 5].as_slice()
-    );
-    assert_eq!(rt; shards.read(&1, |value| *value)?, None);
-    Ok(())
+    assert_eq!(rt; read_in(&mut shards, 1), Ok(None));
 }
 
-// Reads in an empty cache of two shards, each of which keeps two entries.
-fn reads_keep<R: Abort, C: Cached<u64>>(rt: &R, cache: C) {
+// Reads in an empty cache of two shards, each of which keeps two entries. Returns what a read of
+// key 1 finds before another entry of its shard comes, what reads of several keys find then, and
+// what a read finds after a prune.
+fn reads_keep<R: Abort, C: Cached<u64>>(rt: &R, cache: C) -> (Read, [Read; 4], Read) {
     make_each(rt, cache, &[1, 3]);
-    assert_eq!(rt; value_read(cache, 1), Ok(Some(10)));
+    let before = value_read(cache, 1);
     make_each(rt, cache, &[5]);
-    assert_eq!(rt; value_read(cache, 3), Ok(None));
-    assert_eq!(rt; value_read(cache, 1), Ok(Some(10)));
-    assert_eq!(rt; value_read(cache, 5), Ok(Some(50)));
-    assert_eq!(rt; value_read(cache, 2), Ok(None));
+    let after = [
+        value_read(cache, 3),
+        value_read(cache, 1),
+        value_read(cache, 5),
+        value_read(cache, 2),
+    ];
     cache.prune();
-    assert_eq!(rt; value_read(cache, 5), Ok(None));
+    (before, after, value_read(cache, 5))
 }
 
 #[test]
 fn a_read_keeps_the_entry_in_its_shard(rt: HostRuntime) {
     let cache = in_shards(rt.alloc(), &rt, 4, 2).expect(&rt, "memory");
-    reads_keep(&rt, &cache);
+    assert_eq!(rt;
+        reads_keep(&rt, &cache),
+        (
+            Ok(Some(10)),
+            [Ok(None), Ok(Some(10)), Ok(Some(50)), Ok(None)],
+            Ok(None)
+        )
+    );
 }
 
 #[test]

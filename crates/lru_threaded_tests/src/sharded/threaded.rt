@@ -11,10 +11,34 @@ use lru_fixtures::threaded::{ThreadedCall, play};
 use lru_support::drops::{DropLog, Logged};
 use lru_support::hashers::ByOwnNumber;
 use std::alloc::Global;
+use std::hash::BuildHasher;
 use std::sync::Wait;
 use std::test;
 
-/// Makes the calls of a table on an empty cache of this many shards, which share this capacity.
+/// Makes the calls of a table on an empty cache of this many shards, which share this capacity. The
+/// hasher determines the shard of a key.
+pub(crate) fn plays_by<R: Wait + Clone + Drop, S: BuildHasher + Drop>(
+    rt: &R,
+    alloc: Global,
+    capacity: u64,
+    shards: usize,
+    hasher: S,
+    table: &[(ThreadedCall, &str)],
+) -> Result<(), test::Fail>
+    requires { 0 < shards }
+{
+    let log = DropLog::new(alloc, rt)?;
+    let cache: LruCache<u64, Logged<R>, R, S> = LruCache::with_shards_hasher(
+        alloc,
+        rt.clone()?,
+        capacity,
+        shards,
+        hasher,
+    )?;
+    play(alloc, &cache, &log, table)
+}
+
+/// As `plays_by`, where the shard of a key is the remainder of its number.
 pub(crate) fn plays<R: Wait + Clone + Drop>(
     rt: &R,
     alloc: Global,
@@ -24,15 +48,7 @@ pub(crate) fn plays<R: Wait + Clone + Drop>(
 ) -> Result<(), test::Fail>
     requires { 0 < shards }
 {
-    let log = DropLog::new(alloc, rt)?;
-    let cache: LruCache<u64, Logged<R>, R, ByOwnNumber> = LruCache::with_shards_hasher(
-        alloc,
-        rt.clone()?,
-        capacity,
-        shards,
-        ByOwnNumber,
-    )?;
-    play(alloc, &cache, &log, table)
+    plays_by(rt, alloc, capacity, shards, ByOwnNumber, table)
 }
 
 const EACH_FOR_ITSELF: [(ThreadedCall, &str); 10] = [

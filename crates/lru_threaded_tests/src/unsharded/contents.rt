@@ -29,67 +29,93 @@ fn seen_in_a_making<R: Wait>(cache: &LruCache<u64, u64, R>, charge: u64) -> Opti
     seen
 }
 
-// Holds key 1, which is idle and the only entry, while key 2 comes and the cache is pruned.
-fn holds_one<R: Abort, C: Contents>(rt: &R, cache: C) {
-    let held = cache.get(1).expect(rt, "a pin");
-    assert!(rt; held.is_some());
-    assert_eq!(rt; view(cache), (1, false, [true, false]));
+// Holds key 1, which is idle and the only entry, while key 2 comes and the cache is pruned. Returns
+// the view after each call, the last of which prunes again.
+fn holds_one<R: Abort, C: Contents>(rt: &R, cache: C) -> [View; 5] {
+    let held = cache.get(1);
+    let got = view(cache);
     drop(make(rt, cache, 2, 1, 2));
-    assert_eq!(rt; view(cache), (2, false, [true, true]));
+    let both = view(cache);
     cache.prune();
-    assert_eq!(rt; view(cache), (1, false, [true, false]));
+    let pruned = view(cache);
     drop(held);
-    assert_eq!(rt; view(cache), (1, false, [true, false]));
+    let idle = view(cache);
     cache.prune();
-    assert_eq!(rt; view(cache), (0, true, [false, false]));
+    [got, both, pruned, idle, view(cache)]
 }
 
 #[test]
 fn entries_are_counted_and_values_found(rt: HostRuntime) {
     let cache: LruCache<u64, u64, &HostRuntime> = LruCache::new(rt.alloc(), &rt, 2);
-    assert_eq!(rt; view(&cache), (0, true, [false, false]));
+    let before = view(&cache);
     // An entry, and no value yet.
-    let seen = seen_in_a_making(&cache, 1);
-    assert_eq!(rt; seen, Some(((1, false, [false, false]), 1)));
-    holds_one(&rt, &cache);
+    let made = seen_in_a_making(&cache, 1);
+    assert_eq!(rt;
+        (before, made),
+        (
+            (0, true, [false, false]),
+            Some(((1, false, [false, false]), 1))
+        )
+    );
+    assert_eq!(rt;
+        holds_one(&rt, &cache),
+        [
+            (1, false, [true, false]),
+            (2, false, [true, true]),
+            (1, false, [true, false]),
+            (1, false, [true, false]),
+            (0, true, [false, false]),
+        ]
+    );
 }
 
-// Holds two values of key 1, which is idle with the charge 3 and the only entry.
-fn holds_two_of_a_key<R: Abort, C: Contents>(rt: &R, cache: C) {
-    let old = cache.get(1).expect(rt, "a pin");
+// Holds two values of key 1, which is idle with the charge 3 and the only entry. Returns the total
+// and the pinned charge while the first is held, while both are, and after each drop.
+fn holds_two_of_a_key<R: Abort, C: Contents>(rt: &R, cache: C) -> [(u128, u128); 4] {
+    let old = cache.get(1);
     drop(make(rt, cache, 2, 2, 2));
-    assert_eq!(rt; charges(cache), (5, 3));
+    let one_held = charges(cache);
     cache.invalidate(1);
     let new = make(rt, cache, 1, 4, 1);
-    assert_eq!(rt; charges(cache), (9, 7));
+    let both_held = charges(cache);
     drop(new);
-    // An invalidated entry counts until its last handle is dropped.
-    assert_eq!(rt; charges(cache), (9, 3));
+    let old_held = charges(cache);
     drop(old);
-    assert_eq!(rt; charges(cache), (6, 0));
+    [one_held, both_held, old_held, charges(cache)]
 }
 
 #[test]
 fn pinned_charges_are_summed(rt: HostRuntime) {
     let cache: LruCache<u64, u64, &HostRuntime> = LruCache::new(rt.alloc(), &rt, 9);
-    assert_eq!(rt; charges(&cache), (0, 0));
-    let seen = seen_in_a_making(&cache, 3);
-    assert_eq!(rt; seen, Some(((1, false, [false, false]), 3)));
-    holds_two_of_a_key(&rt, &cache);
+    let before = charges(&cache);
+    let made = seen_in_a_making(&cache, 3);
+    assert_eq!(rt;
+        (before, made),
+        ((0, 0), Some(((1, false, [false, false]), 3)))
+    );
+    // An invalidated entry counts until its last handle is dropped.
+    assert_eq!(rt;
+        holds_two_of_a_key(&rt, &cache),
+        [(5, 3), (9, 7), (9, 3), (6, 0)]
+    );
 }
 
-// Looks for key 1, which stays the oldest.
-fn looks_for_the_oldest<R: Abort, C: Contents>(rt: &R, cache: C) {
+// Looks for key 1, which stays the oldest, and makes a third key. Returns whether key 1 was there,
+// and the view after that.
+fn looks_for_the_oldest<R: Abort, C: Contents>(rt: &R, cache: C) -> (bool, View) {
     for key in [1, 2] {
         drop(make(rt, cache, key, 1, key));
     }
-    assert!(rt; cache.contains(1));
+    let found = cache.contains(1);
     drop(make(rt, cache, 3, 1, 3));
-    assert_eq!(rt; view(cache), (2, false, [false, true]));
+    (found, view(cache))
 }
 
 #[test]
 fn a_look_for_a_value_is_no_use_of_it(rt: HostRuntime) {
     let cache: LruCache<u64, u64, &HostRuntime> = LruCache::new(rt.alloc(), &rt, 2);
-    looks_for_the_oldest(&rt, &cache);
+    assert_eq!(rt;
+        looks_for_the_oldest(&rt, &cache),
+        (true, (2, false, [false, true]))
+    );
 }

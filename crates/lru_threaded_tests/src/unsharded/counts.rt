@@ -193,22 +193,30 @@ fn inserted<C: Contents>(cache: C) -> (u64, u128) {
     (counts.insertions, counts.inserted_charge)
 }
 
-fn replaces_a_held_value<R: Abort, C: Contents>(rt: &R, cache: C) {
-    let old = cache.insert(1, 3, 10).expect(rt, "memory");
-    let new = cache.insert(1, 5, 11).expect(rt, "memory");
-    assert_eq!(rt; (inserted(cache), evicted(cache)), ((2, 8), (0, 0)));
+// Replaces a held value. Returns what was inserted and evicted while both are held, and what was
+// evicted once the old one is dropped; whether the drop of the new one counts nothing, and whether
+// the counts add up then.
+fn replaces_a_held_value<C: Contents>(cache: C) -> ([(u64, u128); 3], [bool; 2]) {
+    let old = cache.insert(1, 3, 10);
+    let new = cache.insert(1, 5, 11);
+    let (in_all, while_held) = (inserted(cache), evicted(cache));
     drop(old);
     let replaced = cache.counts();
-    assert_eq!(rt; evicted(cache), (1, 3));
+    let once_dropped = evicted(cache);
     drop(new);
-    assert_eq!(rt; cache.counts(), replaced);
-    assert!(rt; adds_up(cache));
+    (
+        [in_all, while_held, once_dropped],
+        [cache.counts() == replaced, adds_up(cache)],
+    )
 }
 
 #[test]
 fn a_held_value_that_is_replaced_is_evicted_once(rt: HostRuntime) {
     let cache: LruCache<u64, u64, &HostRuntime> = LruCache::new(rt.alloc(), &rt, 100);
-    replaces_a_held_value(&rt, &cache);
+    assert_eq!(rt;
+        replaces_a_held_value(&cache),
+        ([(2, 8), (0, 0), (1, 3)], [true, true])
+    );
 }
 
 #[test]
@@ -221,77 +229,113 @@ fn a_cache_that_is_printed_counts_nothing(rt: HostRuntime) {
     assert_eq!(rt; cache.counts(), counts);
 }
 
-fn prunes_beside_a_held_value<R: Abort, C: Contents>(rt: &R, cache: C) {
+// Prunes beside a held value, and drops its handle at the capacity 0. Returns what was evicted
+// after each, and whether the counts add up then.
+fn prunes_beside_a_held_value<R: Abort, C: Contents>(rt: &R, cache: C) -> [((u64, u128), bool); 2] {
     for key in 1..=5 {
         make_call(cache, CountedCall::Make(key, key));
     }
     let held = make(rt, cache, 9, 7, 9);
     cache.prune();
-    assert_eq!(rt; evicted(cache), (5, 15));
-    assert!(rt; adds_up(cache));
+    let pruned = (evicted(cache), adds_up(cache));
     // The drop of the last handle evicts down to the capacity: here it evicts the entry itself.
     cache.set_capacity(0);
     drop(held);
-    assert_eq!(rt; evicted(cache), (6, 22));
-    assert!(rt; adds_up(cache));
+    [pruned, (evicted(cache), adds_up(cache))]
 }
 
 #[test]
 fn a_prune_counts_each_entry_that_it_evicts(rt: HostRuntime) {
     let cache: LruCache<u64, u64, &HostRuntime> = LruCache::new(rt.alloc(), &rt, 100);
-    prunes_beside_a_held_value(&rt, &cache);
+    assert_eq!(rt;
+        prunes_beside_a_held_value(&rt, &cache),
+        [((5, 15), true), ((6, 22), true)]
+    );
 }
 
-fn invalidates_idle_and_held<R: Abort, C: Contents>(rt: &R, cache: C) {
+// Invalidates an idle entry, a held one and a key without one. Returns what was evicted after the
+// first two, after one of two handles is dropped beside a new entry of the key, and at the end; and
+// whether the counts add up after the second and at the end.
+fn invalidates_idle_and_held<R: Abort, C: Contents>(
+    rt: &R,
+    cache: C,
+) -> ([(u64, u128); 4], [bool; 2]) {
     make_call(cache, CountedCall::Make(1, 3));
     cache.invalidate(1);
-    assert_eq!(rt; evicted(cache), (1, 3));
+    let idle = evicted(cache);
     let held = make(rt, cache, 2, 5, 2);
-    let again = cache.get(2).expect(rt, "a pin");
+    let again = cache.get(2);
     cache.invalidate(2);
-    assert_eq!(rt; evicted(cache), (1, 3));
-    assert!(rt; adds_up(cache));
+    let (while_held, held_adds_up) = (evicted(cache), adds_up(cache));
     // A new entry of the key, beside the held one.
     make_call(cache, CountedCall::Make(2, 7));
     drop(held);
-    assert_eq!(rt; evicted(cache), (1, 3));
+    let held_once = evicted(cache);
     drop(again);
     cache.invalidate(9);
-    assert_eq!(rt; (inserted(cache), evicted(cache)), ((3, 15), (2, 8)));
-    assert_eq!(rt; (cache.len(), cache.total_charge()), (1, 7));
-    assert!(rt; adds_up(cache));
+    (
+        [idle, while_held, held_once, evicted(cache)],
+        [held_adds_up, adds_up(cache)],
+    )
 }
 
 // An idle entry is evicted at once, and a held one when its last handle is dropped.
 #[test]
 fn an_invalidated_entry_is_evicted_once(rt: HostRuntime) {
     let cache: LruCache<u64, u64, &HostRuntime> = LruCache::new(rt.alloc(), &rt, 100);
-    invalidates_idle_and_held(&rt, &cache);
+    assert_eq!(rt;
+        invalidates_idle_and_held(&rt, &cache),
+        ([(1, 3), (1, 3), (1, 3), (2, 8)], [true, true])
+    );
+    assert_eq!(rt;
+        (inserted(&cache), cache.len(), cache.total_charge()),
+        ((3, 15), 1, 7)
+    );
 }
 
-fn resets_twice<R: Abort, C: Contents>(rt: &R, cache: C) {
-    assert_eq!(rt; cache.counts(), Counts::default());
-    assert_eq!(rt; cache.reset_counts(), Counts::default());
+// Counts three calls and resets the counts. Returns the counts before, what the reset returns and
+// the counts after it, and what an eviction counts then; and whether the counts add up after the
+// reset and at the end.
+fn resets_twice<C: Contents>(cache: C) -> ([Counts; 3], (u64, u128), [bool; 2]) {
     for key in [1, 2, 1] {
         make_call(cache, CountedCall::Make(key, 10));
     }
     let counts = cache.counts();
-    assert_eq!(rt; (counts.hits, counts.misses, counts.insertions), (1, 2, 2));
-    assert_eq!(rt; cache.reset_counts(), counts);
-    // The entries that are present count as those before.
-    let anew = cache.counts();
-    assert_eq!(rt; (anew.hits, anew.misses, anew.insertions), (0, 0, 0));
-    assert_eq!(rt; (anew.entries_before, anew.charge_before), (2, 20));
-    assert!(rt; adds_up(cache));
+    let reset = cache.reset_counts();
+    let (anew, anew_adds_up) = (cache.counts(), adds_up(cache));
     cache.advice_evict(1);
-    assert_eq!(rt; evicted(cache), (1, 10));
-    assert!(rt; adds_up(cache));
+    (
+        [counts, reset, anew],
+        evicted(cache),
+        [anew_adds_up, adds_up(cache)],
+    )
 }
 
 #[test]
 fn a_reset_answers_what_was_counted(rt: HostRuntime) {
     let cache: LruCache<u64, u64, &HostRuntime> = LruCache::new(rt.alloc(), &rt, 100);
-    resets_twice(&rt, &cache);
+    assert_eq!(rt;
+        [cache.counts(), cache.reset_counts()],
+        [Counts::default(); 2]
+    );
+    let counted = Counts {
+        hits: 1,
+        misses: 2,
+        makings: 2,
+        insertions: 2,
+        inserted_charge: 20,
+        ..Counts::default()
+    };
+    // The entries that are present count as those before.
+    let anew = Counts {
+        entries_before: 2,
+        charge_before: 20,
+        ..Counts::default()
+    };
+    assert_eq!(rt;
+        resets_twice(&cache),
+        ([counted, counted, anew], (1, 10), [true, true])
+    );
 }
 
 // Returns the text of the counts of two makings of which the second evicts, and of those after a
@@ -325,7 +369,6 @@ fn counts_are_told_in_one_line(rt: HostRuntime) {
 #[test]
 fn the_hit_ratio_is_of_hits_and_misses(rt: HostRuntime) {
     let none = Counts::default();
-    assert_eq!(rt; none.hit_ratio(), None);
     let some = Counts {
         hits: 3,
         misses: 1,
@@ -333,14 +376,16 @@ fn the_hit_ratio_is_of_hits_and_misses(rt: HostRuntime) {
         refusals: 9,
         ..none
     };
-    assert_eq!(rt; some.hit_ratio(), Some(0.75));
     let more = Counts {
         hits: u64::MAX,
         ..some
     };
-    assert_eq!(rt; more.saturating_add(some).hits, u64::MAX);
-    assert_eq!(rt; more.saturating_add(some).misses, 2);
-    assert_eq!(rt; more.hit_ratio(), Some(1.0));
+    assert_eq!(rt;
+        [none, some, more].map(|counts| counts.hit_ratio()),
+        [None, Some(0.75), Some(1.0)]
+    );
+    let sum = more.saturating_add(some);
+    assert_eq!(rt; (sum.hits, sum.misses), (u64::MAX, 2));
 }
 
 // Returns the counts after two callers asked for one value, the second while the first made it, or
@@ -367,10 +412,9 @@ fn a_caller_that_waits_is_counted(rt: HostRuntime) {
         }
     }
     let counts = counts.expect(&rt, "the second never waited");
-    assert_eq!(rt; (counts.hits, counts.misses, counts.waits), (0, 1, 1));
     assert_eq!(rt;
-        (counts.makings, counts.failures, counts.insertions),
-        (1, 0, 1)
+        (numbers(&counts), counts.waits),
+        ([0, 1, 0, 1, 0, 1, 0, 0], 1)
     );
 }
 
@@ -396,9 +440,10 @@ fn a_making_that_is_taken_over_is_counted(rt: HostRuntime) {
         }
     }
     let counts = counts.expect(&rt, "the second never waited");
-    assert_eq!(rt; (counts.hits, counts.misses, counts.waits), (0, 1, 1));
-    assert_eq!(rt; (counts.makings, counts.failures), (2, 1));
-    assert_eq!(rt; (counts.insertions, counts.removals), (1, 0));
+    assert_eq!(rt;
+        (numbers(&counts), counts.waits),
+        ([0, 1, 0, 2, 1, 1, 0, 0], 1)
+    );
 }
 
 // Returns whether each of some calls of one thread succeeded.

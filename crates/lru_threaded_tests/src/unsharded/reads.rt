@@ -1,6 +1,6 @@
 //! Reads without a handle: they count as uses, see the value under its mark, and leave no pin.
 
-use crate::contents::{make, make_each, value_read};
+use crate::contents::{Read, make, make_each, value_read};
 use concurrent_lru::unsharded::LruCache;
 use lru_fixtures::marks::Twice;
 use lru_fixtures::workers::{CAPACITY, stays_right};
@@ -9,34 +9,51 @@ use std::process::Abort;
 use std::sync::Wait;
 use std::thread;
 
-// Reads in an empty cache that keeps two entries of charge 1.
-fn reads_as_uses<R: Abort, C: Cached<u64>>(rt: &R, cache: C) {
-    assert_eq!(rt; value_read(cache, 1), Ok(None));
+// Reads in an empty cache that keeps two entries of charge 1. Returns what a read of key 1 finds
+// before and after it and key 2 are made, what reads of several keys find after key 3 is made, and
+// the total and what a read finds after a prune.
+fn reads_as_uses<R: Abort, C: Cached<u64>>(rt: &R, cache: C) -> ([Read; 2], [Read; 3], u128, Read) {
+    let absent = value_read(cache, 1);
     make_each(rt, cache, &[1, 2]);
-    assert_eq!(rt; value_read(cache, 1), Ok(Some(10)));
+    let made = value_read(cache, 1);
     make_each(rt, cache, &[3]);
-    assert_eq!(rt; value_read(cache, 2), Ok(None));
-    assert_eq!(rt; value_read(cache, 1), Ok(Some(10)));
-    assert_eq!(rt; value_read(cache, 3), Ok(Some(30)));
-    // A read leaves no pin.
+    let after = [
+        value_read(cache, 2),
+        value_read(cache, 1),
+        value_read(cache, 3),
+    ];
     cache.prune();
-    assert_eq!(rt; cache.total_charge(), 0);
-    assert_eq!(rt; value_read(cache, 1), Ok(None));
+    (
+        [absent, made],
+        after,
+        cache.total_charge(),
+        value_read(cache, 1),
+    )
 }
 
 #[test]
 fn a_read_counts_as_a_use(rt: HostRuntime) {
     let cache: LruCache<u64, u64, &HostRuntime> = LruCache::new(rt.alloc(), &rt, 2);
-    reads_as_uses(&rt, &cache);
+    // A read leaves no pin, so the prune evicts all.
+    assert_eq!(rt;
+        reads_as_uses(&rt, &cache),
+        (
+            [Ok(None), Ok(Some(10))],
+            [Ok(None), Ok(Some(10)), Ok(Some(30))],
+            0,
+            Ok(None)
+        )
+    );
 }
 
-// Reads key 5 in an empty cache that keeps nothing idle.
-fn reads_while_held<R: Abort, C: Cached<u64>>(rt: &R, cache: C) {
+// Reads key 5 in an empty cache that keeps nothing idle. Returns half of its value while it is
+// held, the total then, and what a read finds once it is dropped.
+fn reads_while_held<R: Abort, C: Cached<u64>>(rt: &R, cache: C) -> (Read, u128, Read) {
     let held = make(rt, cache, 5, 1, 50);
-    assert_eq!(rt; cache.read(5, |value| *value / 2), Ok(Some(25)));
-    assert_eq!(rt; cache.total_charge(), 1);
+    let half = cache.read(5, |value| *value / 2);
+    let total = cache.total_charge();
     drop(held);
-    assert_eq!(rt; value_read(cache, 5), Ok(None));
+    (half, total, value_read(cache, 5))
 }
 
 // Returns the value of key 6, made as 60 if a read of it finds nothing while it is made.
@@ -54,7 +71,7 @@ fn made_unread<R: Wait>(cache: &LruCache<u64, u64, R>) -> Option<u64> {
 #[test]
 fn a_read_sees_a_held_value_and_none_that_is_being_made(rt: HostRuntime) {
     let cache: LruCache<u64, u64, &HostRuntime> = LruCache::new(rt.alloc(), &rt, 0);
-    reads_while_held(&rt, &cache);
+    assert_eq!(rt; reads_while_held(&rt, &cache), (Ok(Some(25)), 1, Ok(None)));
     assert_eq!(rt; made_unread(&cache), Some(60));
 }
 
