@@ -281,6 +281,6 @@ fn an_insert_is_judged_after_what_it_replaces(rt: HostRuntime) -> Result<(), tes
 }
 
 #[test]
-fn a_node_takes_112_bytes(rt: HostRuntime) {
-    assert_eq!(rt; size_of::<Node<u64, u64>>(), 112);
+fn a_node_takes_96_bytes(rt: HostRuntime) {
+    assert_eq!(rt; size_of::<Node<u64, u64>>(), 96);
 }
