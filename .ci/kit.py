@@ -6,6 +6,9 @@ import os
 import pathlib
 import shutil
 
+# Where a crate keeps what was checked of a static library, from its folder.
+CHECKED = "out/checked"
+
 
 @functools.cache
 def kit_command():

@@ -21,6 +21,31 @@ get 1 drop
 init 1 1 ok drop
 release 0
 invalidate 1
+new 2
+insert 1 1 drop
+read 1
+insert 1 1 keep 0
+insert 1 1 keep 1
+read 1
+total
+init 1 1 fail drop
+release 0
+insert 2 1 keep 1
+read 1
+insert 3 1 drop
+read 1
+invalidate 2
+read 2
+new 2
+insert 1 1 drop
+insert 2 1 drop
+read 1
+insert 3 1 drop
+insert 4 3 drop
+read 4
+new 18446744073709551615
+insert 1 18446744073709551615 drop
+insert 1 18446744073709551615 keep 3
 END
 head -c -1 lines > steps
 answers=$(cat << 'END'
@@ -45,6 +70,31 @@ get 1 drop => none []
 init 1 1 ok drop => made 4 []
 release 0 => done [1]
 invalidate 1 => done [4]
+new 2 => done []
+insert 1 1 drop => inserted 1 []
+read 1 => read 1 []
+insert 1 1 keep 0 => inserted 3 [1]
+insert 1 1 keep 1 => inserted 4 []
+read 1 => read 4 []
+total => total 2 []
+init 1 1 fail drop => hit 4 []
+release 0 => done [3]
+insert 2 1 keep 1 => inserted 9 []
+read 1 => read 4 []
+insert 3 1 drop => inserted 11 [4]
+read 1 => none []
+invalidate 2 => done []
+read 2 => none []
+new 2 => done []
+insert 1 1 drop => inserted 1 []
+insert 2 1 drop => inserted 2 []
+read 1 => read 1 []
+insert 3 1 drop => inserted 4 [2]
+insert 4 3 drop => inserted 5 [1, 4, 5]
+read 4 => none []
+new 18446744073709551615 => done []
+insert 1 18446744073709551615 drop => inserted 1 []
+insert 1 18446744073709551615 keep 3 => inserted 2 [1]
 END
 )$'\n'
 ends 0 "$answers" "" "lru_replay < steps"
@@ -60,6 +110,8 @@ ended() {
 ended 'prune\n' "" 'line 1: expected `new CAPACITY` first, not "prune"'
 ended 'new 0\ninit 1 18446744073709551615 ok keep 0\ninit 2 1 ok drop\n' \
     $'new 0 => done []\ninit 1 18446744073709551615 ok keep 0 => made 1 []\n' "line 3: refused 2"
+ended 'new 0\ninsert 1 18446744073709551615 keep 0\ninsert 1 1 drop\n' \
+    $'new 0 => done []\ninsert 1 18446744073709551615 keep 0 => inserted 1 []\n' "line 3: refused 2"
 ended 'new \xff\n' "" "line 1: expected text of at most 1000 bytes"
 ended "new $(printf %0996d 0)1\n" "" "line 1: expected text of at most 1000 bytes"
 ended "new $(printf %09999d 0)1\n" "" "line 1: expected text of at most 1000 bytes"
@@ -69,14 +121,20 @@ ends 0 $'new 1 => done []\n' "" "printf 'new %0995d1\n' 0 | lru_replay"
 is_no_step() {
     ended "new 1\n$1\nprune\n" $'new 1 => done []\n' "line 2: expected $2"
 }
-is_no_step '' 'a step: new, init, get, release, advice, invalidate, prune or total, not ""'
+is_no_step '' \
+    'a step: new, init, insert, get, read, release, advice, invalidate, prune or total, not ""'
 is_no_step 'turn 1' \
-    'a step: new, init, get, release, advice, invalidate, prune or total, not "turn"'
+    'a step: new, init, insert, get, read, release, advice, invalidate, prune or total, not "turn"'
 is_no_step 'new' '`new CAPACITY`, not "new"'
 is_no_step 'new 1 2' '`new CAPACITY`, not "new 1 2"'
 is_no_step 'init 1 2 ok' '`init KEY CHARGE ok|fail drop|keep SLOT`, not "init 1 2 ok"'
+is_no_step 'insert 1 1' '`insert KEY CHARGE drop|keep SLOT`, not "insert 1 1"'
+is_no_step 'insert 1 1 keep' '`insert KEY CHARGE drop|keep SLOT`, not "insert 1 1 keep"'
+is_no_step 'insert 1 1 ok drop' '`insert KEY CHARGE drop|keep SLOT`, not "insert 1 1 ok drop"'
 is_no_step 'get 1' '`get KEY drop|keep SLOT`, not "get 1"'
 is_no_step 'get 1 hold 2' '`get KEY drop|keep SLOT`, not "get 1 hold 2"'
+is_no_step 'read' '`read KEY`, not "read"'
+is_no_step 'read 1 drop' '`read KEY`, not "read 1 drop"'
 is_no_step 'release' '`release SLOT`, not "release"'
 is_no_step 'advice' '`advice KEY`, not "advice"'
 is_no_step 'invalidate' '`invalidate KEY`, not "invalidate"'
@@ -85,10 +143,15 @@ is_no_step 'total ' '`total` alone, not "total "'
 is_no_step 'new 18446744073709551616' \
     'a number up to 18446744073709551615, not "18446744073709551616"'
 is_no_step 'advice +1' 'a number up to 18446744073709551615, not "+1"'
+is_no_step 'insert x 0 drop' 'a number up to 18446744073709551615, not "x"'
+is_no_step 'read +1' 'a number up to 18446744073709551615, not "+1"'
 is_no_step 'get -1 drop' 'a number up to 18446744073709551615, not "-1"'
 is_no_step 'init 1  ok drop' 'a number up to 18446744073709551615, not ""'
 is_no_step 'init 1 0 ok drop' 'a charge above 0, not "0"'
+is_no_step 'insert 1 0 drop' 'a charge above 0, not "0"'
+is_no_step 'insert 1 00 keep 1' 'a charge above 0, not "00"'
 is_no_step 'init 1 1 maybe drop' 'ok or fail, not "maybe"'
+is_no_step 'insert 1 1 keep 4' 'a slot from 0 to 3, not "4"'
 is_no_step 'get 1 keep 4' 'a slot from 0 to 3, not "4"'
 is_no_step 'release 4' 'a slot from 0 to 3, not "4"'
 is_no_step 'release 00' 'a slot from 0 to 3, not "00"'

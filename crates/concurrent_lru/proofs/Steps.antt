@@ -1,6 +1,7 @@
 -- The laws of one step of the cache.
 pub mod CasesOfSteps
 pub mod FoundEntries
+pub mod InOneGo
 pub mod LawfulAfterChange
 pub mod LawfulAfterRest
 pub mod LawfulAfterRevival

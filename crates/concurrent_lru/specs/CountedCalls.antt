@@ -77,6 +77,11 @@ module _ {K V : Type 0} where
   counted c (ask.release s) (accepted p out) n = evicted out n
   counted c (ask.advice_evict k) (accepted p out) n = evicted out n
   counted c (ask.invalidate k) (accepted p out) n = evicted out n
+  counted c (ask.insert k charge v) (accepted p out) n = evicted out (inserted charge n)
+  counted c (ask.insert k charge v) (refused e) n = one_refusal n
+  counted c (ask.read k) (accepted (say.read s v) out) n = one_hit n
+  counted c (ask.read k) (accepted say.missed out) n = one_miss n
+  counted c (ask.read k) (refused e) n = one_refusal n
   counted c ask.prune (accepted p out) n = evicted out n
   counted c (ask.set_capacity m) (accepted p out) n = evicted out n
   counted c _ _ n = n

@@ -1,5 +1,5 @@
 -- What the steps and the calls of shards ask, of which shard, and what their results say.
-use Rattle.std.specs.Prelude.{◌≡◌, ℕ, ◌⊎◌, List, [], Option, Some, None, Result, Ok, Err}
+use Rattle.std.specs.Prelude.{◌≡◌, ℕ, ◌⊎◌, List, [], ◌++◌, Option, Some, None, Result, Ok, Err}
 use Rattle.std.specs.declared.sync.Arc.{Arc}
 use Rattle.std.specs.declared.alloc.Global.{Global}
 use Rattle.concurrent_lru.specs.Cache.{Idle}
@@ -10,6 +10,7 @@ use Rattle.concurrent_lru.specs.Results.{reply_of_begun, request_of, outcome_of,
 use Rattle.concurrent_lru.specs.declared.list.Refusal.{Refusal}
 use Rattle.concurrent_lru.specs.declared.list.Refusal.TheVariants.{Stale}
 use Rattle.concurrent_lru.specs.declared.step.Begun.{Begun}
+use Rattle.concurrent_lru.specs.declared.step.Inserted.{Inserted}
 use Rattle.concurrent_lru.specs.declared.step.Answer.{Answer}
 use Rattle.concurrent_lru.specs.declared.step.Answer.TheVariants as answer
 use Rattle.concurrent_lru.specs.declared.step.Step.{Step as RustStep}
@@ -24,6 +25,8 @@ module _ {K V : Type 0} where
   shard_of_step route (shard.Get k) = route k
   shard_of_step route (shard.AdviceEvict k) = route k
   shard_of_step route (shard.Invalidate k) = route k
+  shard_of_step route (shard.Insert k c a) = route k
+  shard_of_step route (shard.Read k) = route k
   shard_of_step route (shard.Poll i s) = i
   shard_of_step route (shard.Ready i s a) = i
   shard_of_step route (shard.Fail i s) = i
@@ -38,6 +41,8 @@ module _ {K V : Type 0} where
   step_at_shard (shard.Get k) = step.Get k
   step_at_shard (shard.AdviceEvict k) = step.AdviceEvict k
   step_at_shard (shard.Invalidate k) = step.Invalidate k
+  step_at_shard (shard.Insert k c a) = step.Insert k c a
+  step_at_shard (shard.Read k) = step.Read k
   step_at_shard (shard.Poll i s) = step.Poll s
   step_at_shard (shard.Ready i s a) = step.Ready s a
   step_at_shard (shard.Fail i s) = step.Fail s
@@ -57,6 +62,8 @@ module _ {K V : Type 0} where
   abbrev pub TellsNoShard : RustStep K V → Answer K V → Type 0
   TellsNoShard (step.Ready s a) (answer.Back b) = b.value ≡ a.value
   TellsNoShard (step.Ready s a) _ = ⊥
+  TellsNoShard (step.Insert k c a) (answer.NotInserted e b) = (e ≡ Stale) × (b.value ≡ a.value)
+  TellsNoShard (step.Insert k c a) _ = ⊥
   TellsNoShard _ a = a ≡ answer.Refused Stale
 
   -- the answer is of its step's kind, or tells that there is no such shard
@@ -72,6 +79,10 @@ module _ {K V : Type 0} where
   outcome_of_shard_get (Ok None) = accepted say.missed []
   outcome_of_shard_get (Ok (Some r)) = accepted (say.hit r.1 r.2.value) []
   outcome_of_shard_get (Err e) = refused e
+
+  abbrev pub outcome_of_shard_insert : Result (ℕ × Inserted K V) (Refusal × Arc V Global) → Outcome K V
+  outcome_of_shard_insert (Ok r) = accepted (say.inserted r.1.stamp) (r.1.replaced ++ r.1.evicted)
+  outcome_of_shard_insert (Err e) = refused e.0
 
   abbrev pub outcome_of_shard_evictions : Result (List (Idle K V)) Refusal → Outcome K V
   outcome_of_shard_evictions (Ok evicted) = accepted say.done evicted

@@ -39,8 +39,9 @@ module _ {K V : Type 0} where
   stamp_count s es c = sum_by (stamp_count_in_outcome s) es + stamp_count_in_cache c s
 
   -- The stamps given out, in order. A begin that is to make a value has a new stamp, from the next
-  -- one on, or that of a making that others gave up.
+  -- one on, or that of a making that others gave up. An insert has a new one.
   abbrev pub stamps_given : ℕ → List (Request K V × Outcome K V) → List ℕ
   stamps_given next [] = []
   stamps_given next ((ask.begin _ _, accepted (say.make s) _) ∷ es) = cond (nat_lt s next) (stamps_given next es) (s ∷ stamps_given (s + 1) es)
+  stamps_given next ((ask.insert _ _ _, accepted (say.inserted s) _) ∷ es) = s ∷ stamps_given (s + 1) es
   stamps_given next (_ ∷ es) = stamps_given next es

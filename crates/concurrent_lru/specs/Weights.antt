@@ -10,14 +10,16 @@ use Rattle.concurrent_lru.specs.Runs.{Outcome, accepted}
 use Rattle.concurrent_lru.specs.Uses.{uses, last_uses}
 
 module _ {K V : Type 0} where
-  -- A plain run with changes of capacity besides: each key is made or hit, and released at once, a
-  -- get may miss, and between two such groups the capacity may be set.
+  -- A plain run with changes of capacity besides: each key is made or hit, and released at once, or
+  -- read, a get or a read may miss, and between two such groups the capacity may be set.
   abbrev pub IsPlainWithChanges : List (Request K V × Outcome K V) → Type 0
   IsPlainWithChanges [] = Unit {0}
   IsPlainWithChanges ((ask.begin k c, accepted (say.make s) _) ∷ (ask.ready t _, accepted say.done _) ∷ (ask.release u, accepted say.done _) ∷ es) = (t ≡ s) × (u ≡ s) × IsPlainWithChanges es
   IsPlainWithChanges ((ask.begin k c, accepted (say.hit s _) _) ∷ (ask.release u, accepted say.done _) ∷ es) = (u ≡ s) × IsPlainWithChanges es
   IsPlainWithChanges ((ask.get k, accepted (say.hit s _) _) ∷ (ask.release u, accepted say.done _) ∷ es) = (u ≡ s) × IsPlainWithChanges es
   IsPlainWithChanges ((ask.get k, accepted say.missed _) ∷ es) = IsPlainWithChanges es
+  IsPlainWithChanges ((ask.read k, accepted (say.read s _) _) ∷ es) = IsPlainWithChanges es
+  IsPlainWithChanges ((ask.read k, accepted say.missed _) ∷ es) = IsPlainWithChanges es
   IsPlainWithChanges ((ask.set_capacity c, accepted say.done _) ∷ es) = IsPlainWithChanges es
   IsPlainWithChanges _ = ⊥
 

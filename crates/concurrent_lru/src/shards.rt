@@ -13,9 +13,9 @@ ghost use Rattle.concurrent_lru.specs.Results.{IsCharged, outcome_of_evictions, 
 ghost use Rattle.concurrent_lru.specs.Runs.{refused};
 ghost use Rattle.concurrent_lru.specs.declared.list.Refusal.TheVariants.{Stale};
 ghost use Rattle.concurrent_lru.specs.Sharded.{AreLawful, HasReadyKeyAt, IsUnreadyAt, key_number, key_shard};
-ghost use Rattle.concurrent_lru.specs.ShardSteps.{request_at_shard, outcome_of_shard_begin, outcome_of_shard_get, outcome_of_shard_evictions, shard_of_step, step_at_shard, outcome_at_shard, outcome_of_shard_total, IsShardAnswerTo, TellsNoShard};
+ghost use Rattle.concurrent_lru.specs.ShardSteps.{request_at_shard, outcome_of_shard_begin, outcome_of_shard_insert, outcome_of_shard_get, outcome_of_shard_evictions, shard_of_step, step_at_shard, outcome_at_shard, outcome_of_shard_total, IsShardAnswerTo, TellsNoShard};
 
-use crate::lru_core::{Answer, Begun, Evicted, Failed, Refusal, State, Step};
+use crate::lru_core::{Answer, Begun, Evicted, Failed, Inserted, Refusal, State, Step};
 use crate::table::seed_of_shard;
 use std::alloc::Global;
 use std::fmt;
@@ -70,6 +70,10 @@ pub enum ShardStep<K, V> {
     AdviceEvict(K),
     /// `invalidate` with a key.
     Invalidate(K),
+    /// `insert` with a key, a charge and a value.
+    Insert(K, u64, Arc<V>),
+    /// `read` with a key. The value that it finds is shared, as by `get`.
+    Read(K),
     /// `poll` at a shard with a stamp.
     Poll(usize, u64),
     /// `ready` at a shard with a stamp and a value.
@@ -237,6 +241,30 @@ impl<K: Hash + Eq + Clone, V: Drop, S: BuildHasher + Drop> Shards<K, V, S> {
     {
         let shard = self.route(key);
         self.shards[shard].invalidate(key)
+    }
+
+    /// `insert` in the key's shard, which is returned first.
+    ///
+    /// Returns `Overflow` and `Memory` as `State::insert` does, with the value.
+    pub fn insert(
+        &mut self,
+        key: &K,
+        charge: u64,
+        value: Arc<V>,
+    ) -> Result<(usize, Inserted<K, V>), (Refusal, Arc<V>)>
+        requires { 0 < charge }
+        ensures shard { IfOk result (λ r. r.0 ≡ key_shard S.BuildHasher S.Hasher.Hasher K.hash_input
+            self.old key.now) }
+        ensures step { StandsAt K.eq self.old
+            (key_shard S.BuildHasher S.Hasher.Hasher K.hash_input self.old key.now)
+            (ask.insert key.now charge (arc_value value)) (outcome_of_shard_insert result)
+            self.new }
+        ensures back { IfErr result (λ e. e.1 ≡ value) }
+        ensures lawful { AreLawful K.eq self.new }
+    {
+        let shard = self.route(key);
+        let inserted = self.shards[shard].insert(key, charge, value)?;
+        Ok((shard, inserted))
     }
 
     /// `poll` in a shard. Returns `Stale` also if there is no such shard, and `Memory` as
@@ -414,6 +442,10 @@ impl<K: Hash + Eq + Clone, V: Drop, S: BuildHasher + Drop> Shards<K, V, S> {
             ShardStep::Get(key) => (self.route(&key), Step::Get(key)),
             ShardStep::AdviceEvict(key) => (self.route(&key), Step::AdviceEvict(key)),
             ShardStep::Invalidate(key) => (self.route(&key), Step::Invalidate(key)),
+            ShardStep::Insert(key, charge, value) => {
+                (self.route(&key), Step::Insert(key, charge, value))
+            }
+            ShardStep::Read(key) => (self.route(&key), Step::Read(key)),
             ShardStep::Poll(shard, stamp) => (shard, Step::Poll(stamp)),
             ShardStep::Ready(shard, stamp, value) => (shard, Step::Ready(stamp, value)),
             ShardStep::Fail(shard, stamp) => (shard, Step::Fail(stamp)),
@@ -441,8 +473,8 @@ impl<K: Hash + Eq + Clone, V: Drop, S: BuildHasher + Drop> Shards<K, V, S> {
         (shard, cache.step(step))
     }
 
-    /// Takes steps in order and returns one answer for each, with its shard. Each charge of a begin
-    /// is above 0; shards and stamps may be stale or invented.
+    /// Takes steps in order and returns one answer for each, with its shard. Each charge is above
+    /// 0; shards and stamps may be stale or invented.
     ///
     /// Returns `Memory` if there is no room for the answers, which is reserved first: then no step
     /// was taken, and the steps are dropped.
@@ -484,6 +516,7 @@ fn tell_no_shard<K: Drop, V: Drop>(step: Step<K, V>) -> Answer<K, V>
 {
     match step {
         Step::Ready(_, value) => Answer::Back(value),
+        Step::Insert(_, _, value) => Answer::NotInserted(Refusal::Stale, value),
         _ => Answer::Refused(Refusal::Stale),
     }
 }

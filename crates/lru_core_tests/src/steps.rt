@@ -140,3 +140,42 @@ fn runs_what_clears_a_cache(rt: HostRuntime) -> Result<(), test::Fail> {
          Gone([Gone { stamp: 0, key: 1, charge: 3, value: 2 }]), Total(0), Refused(Stale)])",
     )
 }
+
+// A key is absent, held, idle and being made when its value is inserted; one insert is refused,
+// since the total would pass its end.
+#[test]
+fn runs_inserts_and_reads(rt: HostRuntime) -> Result<(), test::Fail> {
+    let alloc = rt.alloc();
+    let steps = vec![in alloc;
+        Step::Read(1),
+        Step::Insert(1, 1, Arc::new(alloc, 10)?),
+        Step::Read(1),
+        Step::Insert(1, 2, Arc::new(alloc, 11)?),
+        Step::Release(0),
+        Step::Release(1),
+        Step::Insert(1, 1, Arc::new(alloc, 12)?),
+        Step::Release(2),
+        Step::Begin(2, 3),
+        Step::Read(2),
+        Step::Insert(2, 1, Arc::new(alloc, 20)?),
+        Step::Fail(3),
+        Step::Insert(3, u64::MAX, Arc::new(alloc, 30)?),
+        Step::Release(4),
+        Step::Read(2),
+        Step::Total,
+    ]?;
+    let mut state: State<u64, u64> = State::new(alloc, 4);
+    says(
+        alloc,
+        &state.run(steps),
+        "Ok([Read(None), Inserted(Inserted { stamp: 0, replaced: [], evicted: [] }), \
+         Read(Some((0, 10))), Inserted(Inserted { stamp: 1, replaced: [], evicted: [] }), \
+         Released([Gone { stamp: 0, key: 1, charge: 1, value: 10 }]), Released([]), \
+         Inserted(Inserted { stamp: 2, \
+         replaced: [Gone { stamp: 1, key: 1, charge: 2, value: 11 }], evicted: [] }), \
+         Released([]), Begun(Make(3), []), Read(None), \
+         Inserted(Inserted { stamp: 4, replaced: [], \
+         evicted: [Gone { stamp: 2, key: 1, charge: 1, value: 12 }] }), Failed(Removed(2)), \
+         NotInserted(Overflow, 30), Released([]), Read(Some((4, 20))), Total(1)])",
+    )
+}

@@ -1,4 +1,3 @@
 -- The tallies of a twin and the receipts in them.
 pub mod Positions
 pub mod StepsOfCell
-pub mod ReadReceipts

@@ -3,6 +3,7 @@ use Rattle.std.specs.Prelude.{◌≡◌, ℕ, ◌⊎◌, Bool, List, [], ◌∷�
 use Rattle.std.specs.declared.sync.Arc.{Arc}
 use Rattle.std.specs.declared.alloc.Global.{Global}
 use Rattle.concurrent_lru.specs.Cache.{Cache, empty_cache, most_pins_by_default, IsLawful, CopiesAreEqual}
+use Rattle.concurrent_lru.specs.Request as ask
 use Rattle.concurrent_lru.specs.Request.{Request}
 use Rattle.concurrent_lru.specs.Reads.{Reads}
 use Rattle.concurrent_lru.specs.Reply as say
@@ -10,8 +11,8 @@ use Rattle.concurrent_lru.specs.Runs.{Outcome, accepted, refused, Refuses}
 use Rattle.concurrent_lru.specs.Steps.{Step}
 use Rattle.concurrent_lru.specs.declared.list.Refusal.{Refusal}
 use Rattle.concurrent_lru.specs.declared.list.Refusal.TheVariants.{Memory}
-use Rattle.lru_journal.specs.Records.{Answered, record_of, records_of_read}
-use Rattle.lru_journal.specs.Replay.{no_value, without_values, told_of, start, Replays}
+use Rattle.lru_journal.specs.Records.{Answered, record_of}
+use Rattle.lru_journal.specs.Replay.{no_value, without_values, told_of, told_of_found, start, Replays}
 use Rattle.lru_journal.specs.Values.{request_by}
 
 -- a cache, the records of its accepted steps, and the capacity that it began with
@@ -47,12 +48,12 @@ module _ {K V : Type 0} where
       × (new ≡ record { cache = new.cache; records = old.records ++ record_of (request_by no_value r) (told_of r reply) ∷ []; began = old.began })
   Journals E old r (refused e) new = ((e ≡ Memory) ⊎ Refuses E old.cache r e) × (new ≡ old)
 
-  -- From old, a journal may read the key: an accepted read is the cache's and adds its records; a
+  -- From old, a journal may read the key: an accepted read is the cache's and adds its record; a
   -- refused one changes nothing, for lack of memory or as the cache refuses it.
   abbrev pub JournalsRead : {T : Type 0} → (K → K → Bool) → Journaled K V → K → (V → T → Type 0) → Result (Option (ℕ × T)) Refusal → Journaled K V → Type 0
   JournalsRead E old k answers (Ok found) new =
       Reads E old.cache k answers (Ok found) new.cache
-      × (new ≡ record { cache = new.cache; records = old.records ++ records_of_read k found; began = old.began })
+      × (new ≡ record { cache = new.cache; records = old.records ++ record_of (ask.read k) (told_of_found found) ∷ []; began = old.began })
   JournalsRead E old k answers (Err e) new = ((e ≡ Memory) ⊎ Reads E old.cache k answers (Err e) new.cache) × (new ≡ old)
 
 -- a step and its record, which is told of the answer: an accepted step adds it, a refused one
@@ -60,13 +61,6 @@ module _ {K V : Type 0} where
 pub record IsRecorded {K V T E : Type 0} (old : Journaled K V) (is_record : T → Answered K → Type 0) (result : Result T E) (new : Journaled K V) : Type 0 where
   pub began : new.began ≡ old.began
   pub accepted : IfOk result (λ x. (r : Answered K) × is_record x r × (new.records ≡ old.records ++ r ∷ []))
-  pub refused : OnErr result (new ≡ old)
-
--- a call and its records, which are told of the answer: an accepted call adds them in order, a
--- refused one changes nothing
-pub record AreRecorded {K V T E : Type 0} (old : Journaled K V) (are_records : T → List (Answered K) → Type 0) (result : Result T E) (new : Journaled K V) : Type 0 where
-  pub began : new.began ≡ old.began
-  pub accepted : IfOk result (λ x. (rs : List (Answered K)) × are_records x rs × (new.records ≡ old.records ++ rs))
   pub refused : OnErr result (new ≡ old)
 
 module _ {K V : Type 0} where

@@ -1,11 +1,9 @@
 -- What contracts see of a record: the request without its value, and what was told.
-use Rattle.std.specs.Prelude.{ℕ, List, [], ◌∷◌, Option, Some, None}
 use Rattle.concurrent_lru.specs.Request as ask
 use Rattle.concurrent_lru.specs.Request.{Request}
 use Rattle.lru_journal.specs.declared.record.Recorded.{Recorded}
 use Rattle.lru_journal.specs.declared.record.Recorded.TheVariants as step
 use Rattle.lru_journal.specs.declared.record.Told.{Told}
-use Rattle.lru_journal.specs.declared.record.Told.TheVariants as told
 
 -- an accepted request without its value, and what was told
 pub record Answered (K : Type 0) : Type 0 where
@@ -23,16 +21,11 @@ module _ {K : Type 0} where
   request_of_recorded (step.Release s) = ask.release s
   request_of_recorded (step.AdviceEvict k) = ask.advice_evict k
   request_of_recorded (step.Invalidate k) = ask.invalidate k
+  request_of_recorded (step.Insert k c) = ask.insert k c tt
+  request_of_recorded (step.Read k) = ask.read k
   request_of_recorded step.Prune = ask.prune
   request_of_recorded (step.SetCapacity c) = ask.set_capacity c
   request_of_recorded step.Total = ask.total
 
   abbrev pub record_of : Request K (Unit {0}) → Told → Answered K
   record_of request reply = record { request = request; reply = reply }
-
-module _ {K T : Type 0} where
-  -- the records of a read: those of a get and of the release of its stamp; where nothing was found,
-  -- that of the get
-  abbrev pub records_of_read : K → Option (ℕ × T) → List (Answered K)
-  records_of_read k None = record_of (ask.get k) told.Missed ∷ []
-  records_of_read k (Some r) = record_of (ask.get k) (told.Found r.0) ∷ record_of (ask.release r.0) told.Done ∷ []

@@ -3,7 +3,6 @@ use Rattle.std.specs.Prelude.{◌≡◌, ◌==◌, ◌<◌, ℕ, zero, suc, ◌+
 use mathlib.Core.Option.{some}
 use lib.ListN.{get_elem?}
 use Rattle.atomic_table.specs.Seated.{TableId}
-use Rattle.concurrent_lru.specs.Parts.{numbered}
 use Rattle.concurrent_lru.specs.Request.{prune}
 use Rattle.lru_journal.specs.Records.{Answered}
 use Rattle.lru_journal.specs.declared.record.Told.TheVariants.{Done}
@@ -92,19 +91,6 @@ pub record Receives {K : Type 0} (old : Hand K) (r : Answered K) (new : Hand K) 
 -- answer; a refused one leaves the tally
 pub record IsTallied {K T E : Type 0} (old : Hand K) (is_record : T → Answered K → Type 0) (result : Result T E) (new : Hand K) : Type 0 where
   pub accepted : IfOk result (λ x. (r : Answered K) × is_record x r × Receives old r new)
-  pub refused : OnErr result (new ≡ old)
-
--- a call with several records: their receipts come last, one after another, at positions past all
--- that the tally had
-pub record ReceivesAll {K : Type 0} (old : Hand K) (rs : List (Answered K)) (new : Hand K) : Type 0 where
-  pub position : ℕ
-  pub past : AllBelow position old.receipts
-  pub gains : new ≡ hand old.parts (old.receipts ++ numbered position rs)
-
--- a call with several records and its tally: an accepted one adds their receipts, a refused one
--- leaves the tally
-pub record AreTallied {K T E : Type 0} (old : Hand K) (are_records : T → List (Answered K) → Type 0) (result : Result T E) (new : Hand K) : Type 0 where
-  pub accepted : IfOk result (λ x. (rs : List (Answered K)) × are_records x rs × ReceivesAll old rs new)
   pub refused : OnErr result (new ≡ old)
 
 -- a tally with another's parts and receipts

@@ -4,10 +4,11 @@
 ghost use Rattle.std.specs.Prelude.{◌≡◌, ◌≢◌, ◌++◌, ◌∷◌, [], IfErr, IfOk, IfSome};
 ghost use Rattle.std.specs.Fn.{FnOnceReturnsAt, FnOnceTakesAt};
 ghost use Rattle.crossbeam_utils.specs.Seq.{cell_view};
-ghost use Rattle.lru_journal.specs.Journals.{AreRecorded, IsRecorded};
-ghost use Rattle.lru_journal.specs.Records.{records_of_read};
-ghost use Rattle.lru_journal.specs.Replay.{AreOfCopy};
-ghost use Rattle.lru_journal.specs.Tallies.{knower, all_parts, AreExactly, AreTallied, Receives, ReceivesAll, IsTallied};
+ghost use Rattle.concurrent_lru.specs.Request as ask;
+ghost use Rattle.lru_journal.specs.Journals.{IsRecorded};
+ghost use Rattle.lru_journal.specs.Records.{record_of};
+ghost use Rattle.lru_journal.specs.Replay.{told_of_found, IsOfCopy};
+ghost use Rattle.lru_journal.specs.Tallies.{knower, all_parts, AreExactly, Receives, IsTallied};
 
 pub mod step;
 
@@ -70,59 +71,6 @@ fn note<K: Hash + Eq + Clone, V: Drop, I: Identity, R: Wait>(
     append::<K, Brand, I, R>(rt, cell, keeper, tally, number, &records[number]);
 }
 
-// Adds the journal's last two records to the cell, and their receipts to the tally.
-fn note_two<K: Hash + Eq + Clone, V: Drop, I: Identity, R: Wait>(
-    rt: &R,
-    cell: &Cell<K>,
-    keeper: &mut CellPass<K>,
-    tally: &mut Tally<K, I>,
-    journal: &Journal<K, V>,
-)
-    requires cell { (cell.now.table.shared.table_id ≡ I.name.table)
-        × (keeper.old.table_id ≡ I.name.table) }
-    requires keeper { cell_view keeper.old ≡ knower (cell_view keeper.old).all }
-    requires last { (r : Record K) × (s : Record K)
-        × (journal.now.records ≡ (cell_view keeper.old).all ++ r ∷ s ∷ []) }
-    ensures keeper { (keeper.new.table_id ≡ I.name.table)
-        × (cell_view keeper.new ≡ knower journal.now.records) }
-    ensures parts { tally.new.parts ≡ tally.old.parts }
-    ensures tally { (r : Record K) (s : Record K) → journal.now.records ≡ (cell_view keeper.old).all
-        ++ r ∷ s ∷ [] → ReceivesAll tally.old (r ∷ s ∷ []) tally.new }
-{
-    let records = journal.records();
-    let first = records.len() - 2;
-    let second = first + 1;
-    append::<K, Brand, I, R>(rt, cell, keeper, tally, first, &records[first]);
-    append::<K, Brand, I, R>(rt, cell, keeper, tally, second, &records[second]);
-}
-
-// Adds a read's records to the cell, and their receipts to the tally.
-fn note_read<K: Hash + Eq + Clone, V: Drop, T, I: Identity, R: Wait>(
-    rt: &R,
-    cell: &Cell<K>,
-    keeper: &mut CellPass<K>,
-    tally: &mut Tally<K, I>,
-    journal: &Journal<K, V>,
-    found: &Option<(u64, T)>,
-)
-    requires cell { (cell.now.table.shared.table_id ≡ I.name.table)
-        × (keeper.old.table_id ≡ I.name.table) }
-    requires keeper { cell_view keeper.old ≡ knower (cell_view keeper.old).all }
-    requires last { (copy : K) × (journal.now.records ≡ (cell_view keeper.old).all
-        ++ records_of_read copy found.now) }
-    ensures keeper { (keeper.new.table_id ≡ I.name.table)
-        × (cell_view keeper.new ≡ knower journal.now.records) }
-    ensures parts { tally.new.parts ≡ tally.old.parts }
-    ensures tally { (copy : K) → journal.now.records ≡ (cell_view keeper.old).all
-        ++ records_of_read copy found.now → ReceivesAll tally.old (records_of_read copy found.now)
-        tally.new }
-{
-    match found {
-        None => note(rt, cell, keeper, tally, journal),
-        Some(_) => note_two(rt, cell, keeper, tally, journal),
-    }
-}
-
 impl<K: Hash + Eq + Clone, V: Drop, I: Identity> Desk<K, V, I> {
     /// Takes one step of the journal. An accepted step adds its record, whose receipt goes to the
     /// tally; a refused one leaves journal and tally as they were.
@@ -148,8 +96,7 @@ impl<K: Hash + Eq + Clone, V: Drop, I: Identity> Desk<K, V, I> {
         }
     }
 
-    /// Reads from the journal. The receipts of an accepted read's records go to the tally; a
-    /// refused read leaves journal and tally as they were.
+    /// Reads from the journal, as `call` takes a step.
     pub(crate) fn read<T, G, R: Wait>(
         &mut self,
         rt: &R,
@@ -162,11 +109,12 @@ impl<K: Hash + Eq + Clone, V: Drop, I: Identity> Desk<K, V, I> {
         G: FnOnce(&V) -> T + Drop,
         requires cell { cell.now.table.shared.table_id ≡ I.name.table }
         requires callable { (v : V) → FnOnceTakesAt G.FnOnce reader v }
-        ensures recorded { AreRecorded self.old
-            (λ found. AreOfCopy K.eq key.now (λ copy. records_of_read copy found)) result self.new }
-        ensures tallied { AreTallied tally.old
-            (λ found. AreOfCopy K.eq key.now (λ copy. records_of_read copy found)) result
-            tally.new }
+        ensures recorded { IsRecorded self.old
+            (λ found. IsOfCopy K.eq key.now (λ copy. record_of (ask.read copy)
+            (told_of_found found))) result self.new }
+        ensures tallied { IsTallied tally.old
+            (λ found. IsOfCopy K.eq key.now (λ copy. record_of (ask.read copy)
+            (told_of_found found))) result tally.new }
         ensures parts { tally.new.parts ≡ tally.old.parts }
         ensures answered { IfOk result (λ found. IfSome found
             (λ r. (v : V) × FnOnceReturnsAt G.FnOnce reader v r.1)) }
@@ -174,7 +122,7 @@ impl<K: Hash + Eq + Clone, V: Drop, I: Identity> Desk<K, V, I> {
     {
         match self.journal.read(key, reader) {
             Ok(found) => {
-                note_read(rt, cell, &mut self.keeper, tally, &self.journal, &found);
+                note(rt, cell, &mut self.keeper, tally, &self.journal);
                 Sealed::of(Ok(found))
             }
             Err(refusal) => Sealed::of(Err(refusal)),

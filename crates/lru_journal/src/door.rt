@@ -2,9 +2,10 @@
 //! What the step took out of the cache is dropped after that.
 ghost use Rattle.std.specs.Prelude.{◌≡◌, ◌≢◌, IfErr, IfOk, IfSome};
 ghost use Rattle.std.specs.Fn.{FnOnceReturnsAt, FnOnceTakesAt};
-ghost use Rattle.lru_journal.specs.Records.{records_of_read};
-ghost use Rattle.lru_journal.specs.Replay.{AreOfCopy};
-ghost use Rattle.lru_journal.specs.Tallies.{all_parts, AreExactly, AreTallied, IsTallied};
+ghost use Rattle.concurrent_lru.specs.Request as ask;
+ghost use Rattle.lru_journal.specs.Records.{record_of};
+ghost use Rattle.lru_journal.specs.Replay.{told_of_found, IsOfCopy};
+ghost use Rattle.lru_journal.specs.Tallies.{all_parts, AreExactly, IsTallied};
 
 use crate::desk::Desk;
 use crate::desk::step::Step;
@@ -97,9 +98,9 @@ impl<'a, K: Hash + Eq + Clone, V: Drop, R: Wait + Drop, I: Identity> Guard<'a, K
     where
         G: FnOnce(&V) -> T + Drop,
         requires callable { (v : V) → FnOnceTakesAt G.FnOnce reader v }
-        ensures tallied { AreTallied tally.old
-            (λ found. AreOfCopy K.eq key.now (λ copy. records_of_read copy found)) result
-            tally.new }
+        ensures tallied { IsTallied tally.old
+            (λ found. IsOfCopy K.eq key.now (λ copy. record_of (ask.read copy)
+            (told_of_found found))) result tally.new }
         ensures parts { tally.new.parts ≡ tally.old.parts }
         ensures answered { IfOk result (λ found. IfSome found
             (λ r. (v : V) × FnOnceReturnsAt G.FnOnce reader v r.1)) }

@@ -8,10 +8,10 @@ ghost use Rattle.std.specs.Fn.{FnOnceReturnsAt, FnOnceTakesAt};
 ghost use Rattle.concurrent_lru.specs.Cache.{CopiesAreEqual};
 ghost use Rattle.lru_journal.specs.Calls.{told_of_started, told_of_pin};
 ghost use Rattle.lru_journal.specs.Journals.{IsHistory};
-ghost use Rattle.lru_journal.specs.Records.{record_of, records_of_read};
-ghost use Rattle.lru_journal.specs.Replay.{told_of_failed, AreOfCopy, IsOfCopy};
+ghost use Rattle.lru_journal.specs.Records.{record_of};
+ghost use Rattle.lru_journal.specs.Replay.{told_of_failed, told_of_found, IsOfCopy};
 ghost use Rattle.concurrent_lru.specs.Request as ask;
-ghost use Rattle.lru_journal.specs.Tallies.{hand, hand_with_hand, all_parts, AreExactly, AreTallied, IsTallied};
+ghost use Rattle.lru_journal.specs.Tallies.{hand, hand_with_hand, all_parts, AreExactly, IsTallied};
 
 use crate::desk::{Desk, step};
 use crate::door::Door;
@@ -28,10 +28,9 @@ use std::sync::{Arc, Wait};
 /// A journaled cache that threads share.
 ///
 /// Each call takes the caller's tally. An accepted call adds one receipt to it, the record of its
-/// own step and reply, at a position past all that the tally had (a `read` that finds its value
-/// adds two); a refused one leaves the tally as it was. Any call returns `Memory` if there is no
-/// room for its record or for the record's copy of the key. This check precedes `Overflow` and
-/// `Stale`.
+/// own step and reply, at a position past all that the tally had; a refused one leaves the tally as
+/// it was. Any call returns `Memory` if there is no room for its record or for the record's copy of
+/// the key. This check precedes `Overflow` and `Stale`.
 #[derive(Drop)]
 pub struct LruCache<K: Hash + Eq + Clone, V, R, I: Identity> {
     door: Door<K, V, R, I>,
@@ -157,14 +156,10 @@ impl<
     /// entry's stamp. Returns `None` if the key has no entry or its value is still being made;
     /// `reader` is then dropped without being called. It copies no value.
     ///
-    /// Adds two receipts, those of a `get` and of the release of its stamp, in this order, or that
-    /// of the `get` alone if there is no value.
-    ///
     /// `reader` runs, or is dropped, under the lock. It should be short, and must not use this
     /// cache, since such a call would deadlock.
     ///
-    /// Returns `Overflow` if the entry has the maximum number of pins, and `Memory` if there is no
-    /// room for two records, whether or not there is a value.
+    /// Returns `Overflow` if the entry has the maximum number of pins.
     pub fn read<T, G>(
         &self,
         tally: &mut Tally<K, I>,
@@ -174,9 +169,9 @@ impl<
     where
         G: FnOnce(&V) -> T + Drop,
         requires callable { (v : V) → FnOnceTakesAt G.FnOnce reader v }
-        ensures tallied { AreTallied tally.old
-            (λ found. AreOfCopy K.eq key.now (λ copy. records_of_read copy found)) result
-            tally.new }
+        ensures tallied { IsTallied tally.old
+            (λ found. IsOfCopy K.eq key.now (λ copy. record_of (ask.read copy)
+            (told_of_found found))) result tally.new }
         ensures parts { tally.new.parts ≡ tally.old.parts }
         ensures answered { IfOk result (λ found. IfSome found
             (λ r. (v : V) × FnOnceReturnsAt G.FnOnce reader v r.1)) }
@@ -233,6 +228,38 @@ impl<
         let evicted = self.door.lock().call(tally, step::Invalidate { key })?;
         drop(evicted);
         Ok(())
+    }
+
+    /// Inserts a value, replacing what the key has, and returns a pin of the new entry. A refusal
+    /// returns the value, and the key keeps what it has.
+    ///
+    /// An idle entry of the key is evicted; a held one is detached from its key and stays for its
+    /// holders until the last pin is released.
+    ///
+    /// Returns `Overflow` as `Journal::insert` does, and `Memory` also if the allocator refuses the
+    /// new entry or a second owner of the value.
+    pub fn insert(
+        &self,
+        tally: &mut Tally<K, I>,
+        key: &K,
+        charge: u64,
+        value: Arc<V>,
+    ) -> Result<Pin<V>, (Refusal, Arc<V>)>
+        requires { 0 < charge }
+        ensures tallied { IsTallied tally.old
+            (λ pin. IsOfCopy K.eq key.now (λ copy. record_of (ask.insert copy charge tt)
+            (Told.Inserted pin.stamp))) result tally.new }
+        ensures parts { tally.new.parts ≡ tally.old.parts }
+        ensures value { IfOk result (λ pin. pin.value ≡ arc_value value) }
+        ensures never_stale { IfErr result (λ e. e.0 ≢ Refusal.Stale) }
+        ensures back { IfErr result (λ e. arc_value e.1 ≡ arc_value value) }
+    {
+        let Ok(own) = value.clone() else {
+            return Err((Refusal::Memory, value));
+        };
+        let step = step::Insert { key, charge, value };
+        let inserted = self.door.lock().call(tally, step)?;
+        Ok(Pin::new(inserted.stamp, own))
     }
 
     /// Evicts every idle entry.

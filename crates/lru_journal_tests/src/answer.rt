@@ -21,6 +21,8 @@ pub(crate) enum Answer {
     Refused(Refusal),
     /// To `Ready` and `Release`: a refusal, and the stamp and the value that were returned with it.
     Back(Refusal, u64, u64),
+    /// To `Insert`: a refusal, and the value that was returned with it.
+    NotInserted(Refusal, u64),
     /// The call was not made: a `Begin` at charge 0, or one that journals do not have.
     Unmade,
 }

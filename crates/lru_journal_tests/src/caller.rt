@@ -22,6 +22,9 @@ pub(crate) fn ask<R: Wait + Drop, I: Identity>(
         Call::Release(stamp) => {
             Ok(release(cache, tally, Pin::new(stamp, Arc::new(alloc, PINNED)?)))
         }
+        Call::Insert(key, charge, value) => {
+            Ok(insert(cache, tally, key, charge, Arc::new(alloc, value)?))
+        }
         _ => Ok(ask_with_numbers(cache, tally, call)),
     }
 }
@@ -86,5 +89,23 @@ fn release<R: Wait + Drop, I: Identity>(
     match cache.release(tally, pin) {
         Ok(()) => Answer::Says(Told::Done),
         Err((refusal, pin)) => Answer::Back(refusal, pin.stamp(), *pin.value()),
+    }
+}
+
+fn insert<R: Wait + Drop, I: Identity>(
+    cache: &LruCache<u64, u64, R, I>,
+    tally: &mut Tally<u64, I>,
+    key: u64,
+    charge: u64,
+    value: Arc<u64>,
+) -> Answer
+    ensures { tally.new.parts ≡ tally.old.parts }
+{
+    if charge == 0 {
+        return Answer::Unmade;
+    }
+    match cache.insert(tally, &key, charge, value) {
+        Ok(pin) => Answer::Gives(Told::Inserted(pin.stamp()), *pin.value()),
+        Err((refusal, value)) => Answer::NotInserted(refusal, *value),
     }
 }

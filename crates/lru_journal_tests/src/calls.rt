@@ -4,15 +4,16 @@
 //! A row has a call, its answer, the stamps and keys of what is evicted, and the text of its
 //! record.
 
-use crate::answer::Answer::{Back, Gives, Refused, Says};
+use crate::answer::Answer::{Back, Gives, NotInserted, Refused, Says};
 use crate::answer::PINNED;
 use crate::table::{Row, ask_all};
 use concurrent_lru::lru_core::Refusal::{Overflow, Stale};
 use lru_fixtures::tables::Call::{
-    AdviceEvict, Begin, Fail, Get, Invalidate, Poll, Prune, Ready, Release, SetCapacity, Total,
+    AdviceEvict, Begin, Fail, Get, Insert, Invalidate, Poll, Prune, Read, Ready, Release,
+    SetCapacity, Total,
 };
 use lru_journal::journal::Told::{
-    Done, Found, Hit, Left, Make, Missed, Removed, Total as Sum, Wait,
+    Done, Found, Hit, Inserted, Left, Make, Missed, Removed, Total as Sum, Wait,
 };
 use std::test;
 
@@ -214,4 +215,87 @@ static SHRUNK_UNDER_A_MAKING: [Row; 7] = [
 #[test]
 fn a_new_capacity_leaves_what_is_being_made(rt: HostRuntime) -> Result<(), test::Fail> {
     ask_all(&rt, rt.alloc(), 2, &SHRUNK_UNDER_A_MAKING)
+}
+
+// A read of a key that is absent, is being made, is held and is idle. It leaves no pin, and makes
+// the entry the newest idle one.
+static READS: [Row; 13] = [
+    (Read(1), Says(Missed), &[], "read 1 -> none"),
+    (Begin(1, 3), Says(Make(0)), &[], "begin 1 3 -> make 0"),
+    (Read(1), Says(Missed), &[], "read 1 -> none"),
+    (Ready(0, 10), Says(Done), &[], "ready 0 -> done"),
+    (Read(1), Gives(Found(0), 10), &[], "read 1 -> some 0"),
+    (Release(0), Says(Done), &[], "release 0 -> done"),
+    (Release(0), Back(Stale, 0, PINNED), &[], ""),
+    (Begin(2, 3), Says(Make(1)), &[], "begin 2 3 -> make 1"),
+    (Ready(1, 20), Says(Done), &[], "ready 1 -> done"),
+    (Release(1), Says(Done), &[], "release 1 -> done"),
+    (Read(1), Gives(Found(0), 10), &[], "read 1 -> some 0"),
+    (Prune, Says(Done), &[(1, 2), (0, 1)], "prune -> done"),
+    (Total, Says(Sum(0)), &[], "total -> total 0"),
+];
+
+#[test]
+fn a_read_is_one_record(rt: HostRuntime) -> Result<(), test::Fail> {
+    ask_all(&rt, rt.alloc(), 10, &READS)
+}
+
+// An insert for a key that is absent, idle, held and being made, and one that is refused. An idle
+// entry is evicted, also by the new charge; a held one is detached, and evicted with its last pin.
+static INSERTS: [Row; 20] = [
+    (
+        Insert(1, 3, 10),
+        Gives(Inserted(0), 10),
+        &[],
+        "insert 1 3 -> inserted 0",
+    ),
+    (Read(1), Gives(Found(0), 10), &[], "read 1 -> some 0"),
+    (Insert(1, u64::MAX, 11), NotInserted(Overflow, 11), &[], ""),
+    (
+        Insert(1, 4, 12),
+        Gives(Inserted(1), 12),
+        &[],
+        "insert 1 4 -> inserted 1",
+    ),
+    (Release(1), Says(Done), &[], "release 1 -> done"),
+    (Release(0), Says(Done), &[(0, 1)], "release 0 -> done"),
+    (
+        Insert(1, 5, 13),
+        Gives(Inserted(2), 13),
+        &[(1, 1)],
+        "insert 1 5 -> inserted 2",
+    ),
+    (Read(1), Gives(Found(2), 13), &[], "read 1 -> some 2"),
+    (Release(2), Says(Done), &[], "release 2 -> done"),
+    (
+        Insert(2, 2, 20),
+        Gives(Inserted(3), 20),
+        &[],
+        "insert 2 2 -> inserted 3",
+    ),
+    (Release(3), Says(Done), &[], "release 3 -> done"),
+    (
+        Insert(2, 9, 21),
+        Gives(Inserted(4), 21),
+        &[(3, 2), (2, 1)],
+        "insert 2 9 -> inserted 4",
+    ),
+    (Begin(3, 1), Says(Make(5)), &[], "begin 3 1 -> make 5"),
+    (
+        Insert(3, 1, 30),
+        Gives(Inserted(6), 30),
+        &[],
+        "insert 3 1 -> inserted 6",
+    ),
+    (Fail(5), Gives(Removed, 3), &[], "fail 5 -> removed"),
+    (Release(4), Says(Done), &[], "release 4 -> done"),
+    (Release(6), Says(Done), &[], "release 6 -> done"),
+    (Release(6), Back(Stale, 6, PINNED), &[], ""),
+    (Prune, Says(Done), &[(4, 2), (6, 3)], "prune -> done"),
+    (Total, Says(Sum(0)), &[], "total -> total 0"),
+];
+
+#[test]
+fn an_insert_is_one_record(rt: HostRuntime) -> Result<(), test::Fail> {
+    ask_all(&rt, rt.alloc(), 10, &INSERTS)
 }

@@ -18,8 +18,6 @@ mod long;
 #[cfg(test)]
 mod owner;
 #[cfg(test)]
-mod reads;
-#[cfg(test)]
 mod records;
 #[cfg(test)]
 mod seeded;

@@ -2,7 +2,7 @@
 ghost use Rattle.std.specs.Prelude.{◌<◌};
 
 use crate::answer::{Answer, PINNED};
-use concurrent_lru::lru_core::{Begun, Evicted, Refusal};
+use concurrent_lru::lru_core::{Evicted, Refusal};
 use lru_fixtures::tables::Call;
 use lru_journal::journal::{Journal, Told};
 use std::alloc::{AllocError, Global};
@@ -12,41 +12,51 @@ use std::sync::Arc;
 #[derive(Drop)]
 pub(crate) struct Heard {
     pub(crate) answer: Answer,
+    replaced: Option<Evicted<u64, u64>>,
     evicted: Option<Evicted<u64, u64>>,
 }
 
 impl Heard {
     fn evicts(told: Result<Evicted<u64, u64>, Refusal>) -> Heard {
         match told {
-            Ok(evicted) => Heard {
-                answer: Answer::Says(Told::Done),
-                evicted: Some(evicted),
-            },
+            Ok(evicted) => Heard::of(Answer::Says(Told::Done), evicted),
             Err(refusal) => Heard::from(Answer::Refused(refusal)),
         }
     }
 
-    /// Returns the stamps and keys of the entries that left, oldest first.
-    pub(crate) fn gone(self, alloc: Global) -> Result<Vec<(u64, u64)>, AllocError> {
-        match self.evicted {
-            Some(evicted) => all_of(alloc, evicted),
-            None => Ok(Vec::new(alloc)),
+    fn of(answer: Answer, evicted: Evicted<u64, u64>) -> Heard {
+        Heard {
+            answer,
+            replaced: None,
+            evicted: Some(evicted),
         }
+    }
+
+    /// Returns the stamps and keys of the entries that left: the replaced one, and then those that
+    /// were evicted, oldest first.
+    pub(crate) fn gone(self, alloc: Global) -> Result<Vec<(u64, u64)>, AllocError> {
+        let mut all = Vec::new(alloc);
+        for left in [self.replaced, self.evicted] {
+            if let Some(left) = left {
+                push_all(&mut all, left)?;
+            }
+        }
+        Ok(all)
     }
 }
 
-fn all_of(alloc: Global, evicted: Evicted<u64, u64>) -> Result<Vec<(u64, u64)>, AllocError> {
-    let mut all = Vec::new(alloc);
-    for gone in evicted {
+fn push_all(all: &mut Vec<(u64, u64)>, left: Evicted<u64, u64>) -> Result<(), AllocError> {
+    for gone in left {
         all.push((gone.stamp, gone.key))?;
     }
-    Ok(all)
+    Ok(())
 }
 
 impl From<Answer> for Heard {
     fn from(answer: Answer) -> Heard {
         Heard {
             answer,
+            replaced: None,
             evicted: None,
         }
     }
@@ -64,6 +74,7 @@ pub(crate) fn ask(
             stamp,
             Arc::new(alloc, value)?,
         ))),
+        Call::Insert(key, charge, value) => insert(alloc, journal, key, charge, value),
         Call::Begin(key, charge) => Ok(begin(journal, key, charge)),
         Call::Release(stamp) => Ok(release(journal, stamp)),
         Call::AdviceEvict(key) => Ok(Heard::evicts(journal.advice_evict(&key))),
@@ -91,10 +102,7 @@ fn begin(journal: &mut Journal<u64, u64>, key: u64, charge: u64) -> Heard {
         return Heard::from(Answer::Unmade);
     }
     match journal.begin(&key, charge) {
-        Ok((begun, evicted)) => Heard {
-            answer: Answer::from(begun),
-            evicted: Some(evicted),
-        },
+        Ok((begun, evicted)) => Heard::of(Answer::from(begun), evicted),
         Err(refusal) => Heard::from(Answer::Refused(refusal)),
     }
 }
@@ -109,10 +117,28 @@ fn ready(journal: &mut Journal<u64, u64>, stamp: u64, value: Arc<u64>) -> Answer
 // A journal is passed only the stamp: the value stays with the holder of the pin.
 fn release(journal: &mut Journal<u64, u64>, stamp: u64) -> Heard {
     match journal.release(stamp) {
-        Ok(evicted) => Heard {
-            answer: Answer::Says(Told::Done),
-            evicted: Some(evicted),
-        },
+        Ok(evicted) => Heard::of(Answer::Says(Told::Done), evicted),
         Err(refusal) => Heard::from(Answer::Back(refusal, stamp, PINNED)),
+    }
+}
+
+// The new entry's value is the one that was given.
+fn insert(
+    alloc: Global,
+    journal: &mut Journal<u64, u64>,
+    key: u64,
+    charge: u64,
+    value: u64,
+) -> Result<Heard, AllocError> {
+    if charge == 0 {
+        return Ok(Heard::from(Answer::Unmade));
+    }
+    match journal.insert(&key, charge, Arc::new(alloc, value)?) {
+        Ok(inserted) => Ok(Heard {
+            answer: Answer::Gives(Told::Inserted(inserted.stamp), value),
+            replaced: Some(inserted.replaced),
+            evicted: Some(inserted.evicted),
+        }),
+        Err((refusal, value)) => Ok(Heard::from(Answer::NotInserted(refusal, *value))),
     }
 }

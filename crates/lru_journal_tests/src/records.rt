@@ -19,6 +19,9 @@ fn each_kind_of_record_has_its_text(rt: HostRuntime) -> Result<(), Fail> {
         (Recorded::Release(6), Told::Done),
         (Recorded::AdviceEvict(8), Told::Done),
         (Recorded::Invalidate(8), Told::Done),
+        (Recorded::Insert(8, 18446744073709551615), Told::Inserted(7)),
+        (Recorded::Read(8), Told::Found(7)),
+        (Recorded::Read(9), Told::Missed),
         (Recorded::Prune, Told::Done),
         (Recorded::SetCapacity(18446744073709551615), Told::Done),
         (Recorded::Total, Told::Total(18446744073709551615)),
@@ -38,6 +41,9 @@ fn each_kind_of_record_has_its_text(rt: HostRuntime) -> Result<(), Fail> {
         release 6 -> done\n\
         advice 8 -> done\n\
         invalidate 8 -> done\n\
+        insert 8 18446744073709551615 -> inserted 7\n\
+        read 8 -> some 7\n\
+        read 9 -> none\n\
         prune -> done\n\
         capacity 18446744073709551615 -> done\n\
         total -> total 18446744073709551615\n";

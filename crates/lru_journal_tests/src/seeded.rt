@@ -48,7 +48,7 @@ impl Draws {
 
     // Returns a call on one of six keys or of the last pins.
     fn draw(&mut self) -> Call {
-        let kind = self.generator.next_u64() % 18;
+        let kind = self.generator.next_u64() % 21;
         let key = self.generator.next_u64() % 6;
         let number = self.generator.next_u64() % 8;
         let stamp = self.pins[(self.generator.next_u64() % 4) as usize];
@@ -64,6 +64,10 @@ impl Draws {
             Call::Read(key),
             Call::AdviceEvict(key),
             Call::Invalidate(key),
+            Call::Insert(key, 1 + number % 3, number),
+            Call::Insert(key, 1 + number % 3, number),
+            // Refused, unless nothing stays beside it.
+            Call::Insert(key, u64::MAX, number),
             Call::Prune,
             Call::SetCapacity(4 + number),
             Call::Total,
@@ -78,9 +82,12 @@ impl Draws {
 
     // Keeps the stamp if the call returned a pin, and has the oldest pin released.
     fn note(&mut self, call: Call, answer: Answer) {
-        if let Call::Begin(..) | Call::Get(_) = call
+        if let Call::Begin(..) | Call::Get(_) | Call::Insert(..) = call
             && let Answer::Says(Told::Make(stamp) | Told::Wait(stamp))
-            | Answer::Gives(Told::Hit(stamp) | Told::Found(stamp), _) = answer
+            | Answer::Gives(
+                Told::Hit(stamp) | Told::Found(stamp) | Told::Inserted(stamp),
+                _,
+            ) = answer
         {
             let [oldest, one, two, three] = self.pins;
             self.pins = [one, two, three, stamp];

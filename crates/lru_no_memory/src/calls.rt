@@ -1,5 +1,6 @@
 //! Making the calls of a table, and once more each that was refused for lack of memory. A charge of
 //! 0 counts as 1.
+ghost use Rattle.std.specs.Prelude.{◌<◌};
 
 use crate::report::Report;
 use concurrent_lru::lru_core::Refusal;
@@ -43,14 +44,24 @@ pub type TextCall = tables::Call<&'static str>;
 
 /// A cache whose keys are texts: copies of them ask for memory.
 pub trait AskedByText {
-    /// Makes a call that has this key. Answers as `CallTarget::ask` does.
+    /// Makes a call that has this key and is no `Insert`. Returns true as `CallTarget::ask` does.
     fn ask_with_key<O: Write, E: Write>(
         &mut self,
-        alloc: Global,
         call: TextCall,
         key: &String,
         report: &mut Report<'_, O, E>,
-    ) -> Result<bool, Refusal>;
+    ) -> bool;
+
+    /// Inserts this value; one that comes back for lack of memory is inserted once more.
+    fn put_in<O: Write, E: Write>(
+        &mut self,
+        call: TextCall,
+        key: &String,
+        charge: u64,
+        value: Arc<u64>,
+        report: &mut Report<'_, O, E>,
+    )
+        requires { 0 < charge };
 
     /// Stores the value of this stamp; one that comes back for lack of memory is stored once more.
     fn store<O: Write, E: Write>(
@@ -79,7 +90,11 @@ impl<A: AskedByText> CallTarget<TextCall> for A {
     ) -> Result<bool, Refusal> {
         if let Some(key) = call.key() {
             let key = String::from_str(alloc, key)?;
-            return self.ask_with_key(alloc, call, &key, report);
+            if let tables::Call::Insert(_, charge, value) = call {
+                self.put_in(call, &key, charge.max(1), Arc::new(alloc, value)?, report);
+                return Ok(false);
+            }
+            return Ok(self.ask_with_key(call, &key, report));
         }
         match call {
             tables::Call::Ready(stamp, value) => {

@@ -27,19 +27,33 @@ pub fn play<O: Write, E: Write>(
 impl AskedByText for Journal<String, u64> {
     fn ask_with_key<O: Write, E: Write>(
         &mut self,
-        _alloc: Global,
         call: TextCall,
         key: &String,
         report: &mut Report<'_, O, E>,
-    ) -> Result<bool, Refusal> {
-        Ok(match call {
+    ) -> bool {
+        match call {
             Call::Begin(_, charge) => report.answer(&call, &self.begin(key, charge.max(1))),
             Call::Get(_) => report.answer(&call, &self.get(key)),
             Call::Read(_) => report.answer(&call, &self.read(key, |value| *value)),
             Call::AdviceEvict(_) => report.answer(&call, &self.advice_evict(key)),
             Call::Invalidate(_) => report.answer(&call, &self.invalidate(key)),
             _ => report.no_such_call(&call),
-        })
+        }
+    }
+
+    fn put_in<O: Write, E: Write>(
+        &mut self,
+        call: TextCall,
+        key: &String,
+        charge: u64,
+        value: Arc<u64>,
+        report: &mut Report<'_, O, E>,
+    )
+        requires { 0 < charge }
+    {
+        if let Some(value) = report.handed_over(&call, self.insert(key, charge, value)) {
+            report.line(&call, &self.insert(key, charge, value));
+        }
     }
 
     fn store<O: Write, E: Write>(

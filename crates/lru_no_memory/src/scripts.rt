@@ -8,7 +8,7 @@ mod threaded;
 use self::journal::{
     EVICTS, FAILS, FINDS_NOTHING, FIRST_CALLER, POLLS, REFUSES, SECOND_CALLER, STORES, TWIN_HITS,
 };
-use self::shards::{SHARDS, SHARDS_TAKEN_BACK};
+use self::shards::{SHARDS, SHARDS_PUT_IN, SHARDS_TAKEN_BACK};
 use self::state::{
     AT_LAST_STAMP, CAPACITIES, FILLED, GROWTHS, HANDED_OVER, HITS, LAST_STAMP, OF_ONE_PIN, ONE_PIN,
     PINNED, PUT_IN, READS, STRAYS, TAKEN_BACK, WITH_MUCH_ROOM, WITH_ROOM,
@@ -39,6 +39,7 @@ pub const SCRIPTS: &[(&str, Script)] = &[
     ("state-list", Script::List),
     ("shards-one-evicts", Script::Shards(2, 2, SHARDS)),
     ("shards-taken-back", Script::Shards(6, 2, SHARDS_TAKEN_BACK)),
+    ("shards-put-in", Script::Shards(6, 2, SHARDS_PUT_IN)),
     ("shards-list", Script::ShardList),
     ("journal-evicts", Script::Journal(1, EVICTS)),
     ("journal-polls", Script::Journal(10, POLLS)),
@@ -46,6 +47,7 @@ pub const SCRIPTS: &[(&str, Script)] = &[
     ("journal-fails", Script::Journal(10, FAILS)),
     ("journal-reads", Script::Journal(2, READS)),
     ("journal-taken-back", Script::Journal(10, TAKEN_BACK)),
+    ("journal-put-in", Script::Journal(3, PUT_IN)),
     ("journal-finds-nothing", Script::Journal(10, FINDS_NOTHING)),
     ("journal-refuses", Script::Journal(10, REFUSES)),
     ("twin-hits", Script::Twin(10, TWIN_HITS, &[])),
@@ -55,6 +57,7 @@ pub const SCRIPTS: &[(&str, Script)] = &[
     ("twin-fails", Script::Twin(10, FAILS, &[])),
     ("twin-reads", Script::Twin(2, READS, &[])),
     ("twin-taken-back", Script::Twin(10, TAKEN_BACK, &[])),
+    ("twin-put-in", Script::Twin(3, PUT_IN, &[])),
     ("twin-finds-nothing", Script::Twin(10, FINDS_NOTHING, &[])),
     ("twin-refuses", Script::Twin(10, REFUSES, &[])),
     (

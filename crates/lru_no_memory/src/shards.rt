@@ -67,6 +67,11 @@ impl CallTarget<ShardCall> for Shards<u64, u64, ByOwnNumber> {
                 report.line(&call, &self.invalidate(&key));
                 Ok(false)
             }
+            Call::Insert(key, charge, value) => {
+                let value = Arc::new(alloc, value)?;
+                insert(self, call, &key, charge.max(1), value, report);
+                Ok(false)
+            }
             Call::Ready(stamp, value) => {
                 let value = Arc::new(alloc, value)?;
                 report.line(&call, &self.ready(shard, stamp, value));
@@ -74,6 +79,22 @@ impl CallTarget<ShardCall> for Shards<u64, u64, ByOwnNumber> {
             }
             _ => Ok(ask_shard(self, shard, call, report)),
         }
+    }
+}
+
+// Inserts a value, and again if it was refused for lack of memory.
+fn insert<O: Write, E: Write>(
+    shards: &mut Shards<u64, u64, ByOwnNumber>,
+    call: Call<u64>,
+    key: &u64,
+    charge: u64,
+    value: Arc<u64>,
+    report: &mut Report<'_, O, E>,
+)
+    requires { 0 < charge }
+{
+    if let Some(value) = report.handed_over(&call, shards.insert(key, charge, value)) {
+        report.line(&call, &shards.insert(key, charge, value));
     }
 }
 

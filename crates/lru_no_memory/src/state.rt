@@ -58,25 +58,35 @@ pub fn play<O: Write, E: Write>(
 impl AskedByText for State<String, u64> {
     fn ask_with_key<O: Write, E: Write>(
         &mut self,
-        alloc: Global,
         call: TextCall,
         key: &String,
         report: &mut Report<'_, O, E>,
-    ) -> Result<bool, Refusal> {
+    ) -> bool {
         match call {
             Call::Begin(_, charge) => {
-                return Ok(report.answer(&call, &self.begin(key, charge.max(1))));
+                return report.answer(&call, &self.begin(key, charge.max(1)));
             }
-            Call::Get(_) => return Ok(report.answer(&call, &self.get(key))),
-            Call::Read(_) => return Ok(report.answer(&call, &self.read(key, |value| *value))),
-            Call::Insert(_, charge, value) => {
-                let value = Arc::new(alloc, value)?;
-                insert(self, call, key, charge.max(1), value, report);
-            }
+            Call::Get(_) => return report.answer(&call, &self.get(key)),
+            Call::Read(_) => return report.answer(&call, &self.read(key, |value| *value)),
             Call::Invalidate(_) => report.line(&call, &self.invalidate(key)),
             _ => report.line(&call, &self.advice_evict(key)),
         }
-        Ok(false)
+        false
+    }
+
+    fn put_in<O: Write, E: Write>(
+        &mut self,
+        call: TextCall,
+        key: &String,
+        charge: u64,
+        value: Arc<u64>,
+        report: &mut Report<'_, O, E>,
+    )
+        requires { 0 < charge }
+    {
+        if let Some(value) = report.handed_over(&call, self.insert(key, charge, value)) {
+            report.line(&call, &self.insert(key, charge, value));
+        }
     }
 
     fn store<O: Write, E: Write>(
@@ -105,21 +115,5 @@ impl AskedByText for State<String, u64> {
             _ => return Ok(report.no_such_call(&call)),
         }
         Ok(false)
-    }
-}
-
-// Inserts a value, and again if it was refused for lack of memory.
-fn insert<O: Write, E: Write>(
-    state: &mut State<String, u64>,
-    call: TextCall,
-    key: &String,
-    charge: u64,
-    value: Arc<u64>,
-    report: &mut Report<'_, O, E>,
-)
-    requires { 0 < charge }
-{
-    if let Some(value) = report.handed_over(&call, state.insert(key, charge, value)) {
-        report.line(&call, &state.insert(key, charge, value));
     }
 }

@@ -202,6 +202,7 @@ fn ask_for_none<C: Cached<u64>, O: Write, E: Write>(
         ThreadedCall::Reserve(entries) => return report.answer(&call, &cache.reserve(entries)),
         ThreadedCall::Get(key, _) => return report.answer(&call, &value_found(cache, key)),
         ThreadedCall::Read(key) => return report.answer(&call, &cache.read(key, |value| *value)),
+        ThreadedCall::Contains(key) => report.line(&call, &cache.contains(key)),
         ThreadedCall::SetCapacity(capacity) => cache.set_capacity(capacity),
         ThreadedCall::AdviceEvict(key) => cache.advice_evict(key),
         ThreadedCall::Invalidate(key) => cache.invalidate(key),

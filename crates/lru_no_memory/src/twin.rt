@@ -1,5 +1,5 @@
 //! Calls of a twin, whose keys are texts, and then its records.
-ghost use Rattle.std.specs.Prelude.{◌≡◌};
+ghost use Rattle.std.specs.Prelude.{◌≡◌, ◌<◌};
 
 use crate::calls::{self, AskedByText, TextCall};
 use crate::report::Report;
@@ -115,13 +115,12 @@ impl<'c, R: Wait + Drop, I: Identity> Caller<'c, R, I> {
 impl<'c, R: Wait + Drop, I: Identity> AskedByText for Caller<'c, R, I> {
     fn ask_with_key<O: Write, E: Write>(
         &mut self,
-        _alloc: Global,
         call: TextCall,
         key: &String,
         report: &mut Report<'_, O, E>,
-    ) -> Result<bool, Refusal> {
+    ) -> bool {
         let (cache, tally) = (self.cache, &mut self.tally);
-        Ok(match call {
+        match call {
             Call::Begin(_, charge) => {
                 report.answer(&call, &outcome_of(cache.begin(tally, key, charge.max(1))))
             }
@@ -130,7 +129,26 @@ impl<'c, R: Wait + Drop, I: Identity> AskedByText for Caller<'c, R, I> {
             Call::AdviceEvict(_) => report.answer(&call, &cache.advice_evict(tally, key)),
             Call::Invalidate(_) => report.answer(&call, &cache.invalidate(tally, key)),
             _ => report.no_such_call(&call),
-        })
+        }
+    }
+
+    fn put_in<O: Write, E: Write>(
+        &mut self,
+        call: TextCall,
+        key: &String,
+        charge: u64,
+        value: Arc<u64>,
+        report: &mut Report<'_, O, E>,
+    )
+        requires { 0 < charge }
+    {
+        let (cache, tally) = (self.cache, &mut self.tally);
+        if let Some(value) = report.handed_over(
+            &call,
+            put(cache.insert(tally, key, charge, value)),
+        ) {
+            report.line(&call, &put(cache.insert(tally, key, charge, value)));
+        }
     }
 
     fn store<O: Write, E: Write>(
@@ -190,6 +208,12 @@ fn found(got: Result<Option<Pin<u64>>, Refusal>) -> Result<Option<(u64, u64)>, R
         Ok(None) => Ok(None),
         Err(refusal) => Err(refusal),
     }
+}
+
+// Returns the stamp and the value of a pin of an inserted entry.
+fn put(inserted: Result<Pin<u64>, (Refusal, Arc<u64>)>) -> Result<(u64, u64), (Refusal, Arc<u64>)> {
+    let pin = inserted?;
+    Ok((pin.stamp(), *pin.value()))
 }
 
 // Returns a pin that was not taken as its stamp.

@@ -1,3 +1,5 @@
 -- The lemmas of the replay.
-pub mod Makings
+pub mod Entries
+pub mod Fates
 pub mod Inits
+pub mod Inserts

@@ -8,9 +8,10 @@ use Rattle.lru_replay.specs.declared.step.Fate.{Fate}
 use Rattle.lru_replay.specs.declared.step.Fate.TheVariants.{Drop, Keep}
 use Rattle.lru_replay.specs.declared.step.Outcome.{Outcome}
 use Rattle.lru_replay.specs.declared.step.Outcome.TheVariants.{Gives, Fails}
+use Rattle.lru_replay.specs.declared.step.Entry.{Entry}
 use Rattle.lru_replay.specs.declared.step.Making.{Making}
 use Rattle.lru_replay.specs.declared.step.Step.{Step}
-use Rattle.lru_replay.specs.declared.step.Step.TheVariants.{New, Init, Get, Release, Advice, Invalidate, Prune, Total}
+use Rattle.lru_replay.specs.declared.step.Step.TheVariants.{New, Init, Insert, Get, Read, Release, Advice, Invalidate, Prune, Total}
 
 -- the words of a line, a `&[&str]`
 abbrev pub Words : Type 0
@@ -40,9 +41,13 @@ SpellsSlot text One = text ≡ codes "1"
 SpellsSlot text Two = text ≡ codes "2"
 SpellsSlot text Three = text ≡ codes "3"
 
+-- two words are the key and the charge of an entry
+abbrev pub SpellsEntry : List ℕ → List ℕ → Entry → Type 0
+SpellsEntry key charge entry = Writes key entry.key × WritesCharge charge entry.charge
+
 -- three words are the key, the charge and the outcome of a making
 abbrev pub SpellsMaking : List ℕ → List ℕ → List ℕ → Making → Type 0
-SpellsMaking key charge outcome making = Writes key making.key × WritesCharge charge making.charge × SpellsOutcome outcome making.outcome
+SpellsMaking key charge outcome making = SpellsEntry key charge making.entry × SpellsOutcome outcome making.outcome
 
 -- the words from this place to the last are `drop`, or `keep` and a slot
 abbrev pub EndsIn : Words → ℕ → Fate → Type 0
@@ -53,7 +58,9 @@ EndsIn words place (Keep slot) = (length words ≡ place + 2) × (word words pla
 abbrev pub Spells : Words → Step → Type 0
 Spells words (New capacity) = (length words ≡ 2) × (word words 0 ≡ codes "new") × Writes (word words 1) capacity
 Spells words (Init making fate) = (word words 0 ≡ codes "init") × SpellsMaking (word words 1) (word words 2) (word words 3) making × EndsIn words 4 fate
+Spells words (Insert entry fate) = (word words 0 ≡ codes "insert") × SpellsEntry (word words 1) (word words 2) entry × EndsIn words 3 fate
 Spells words (Get key fate) = (word words 0 ≡ codes "get") × Writes (word words 1) key × EndsIn words 2 fate
+Spells words (Read key) = (length words ≡ 2) × (word words 0 ≡ codes "read") × Writes (word words 1) key
 Spells words (Release slot) = (length words ≡ 2) × (word words 0 ≡ codes "release") × SpellsSlot (word words 1) slot
 Spells words (Advice key) = (length words ≡ 2) × (word words 0 ≡ codes "advice") × Writes (word words 1) key
 Spells words (Invalidate key) = (length words ≡ 2) × (word words 0 ≡ codes "invalidate") × Writes (word words 1) key

@@ -11,8 +11,12 @@ pub enum Answer {
     Hit(u64),
     /// This step's `init` failed.
     Failed,
+    /// A handle of the value that this step inserted.
+    Inserted(u64),
     /// A lookup found this value.
     Found(u64),
+    /// A lookup read this value without a handle.
+    Read(u64),
     /// A lookup found nothing.
     Nothing,
     /// The sum of the charges.
@@ -27,7 +31,9 @@ impl fmt::Display for Answer {
             Answer::Made(value) => write!(f, "made {value}"),
             Answer::Hit(value) => write!(f, "hit {value}"),
             Answer::Failed => write!(f, "err"),
+            Answer::Inserted(value) => write!(f, "inserted {value}"),
             Answer::Found(value) => write!(f, "some {value}"),
+            Answer::Read(value) => write!(f, "read {value}"),
             Answer::Nothing => write!(f, "none"),
             Answer::Total(total) => write!(f, "total {total}"),
             Answer::Done => write!(f, "done"),

@@ -45,8 +45,12 @@ pub enum Expected {
     New,
     /// The words of an `init`.
     Init,
+    /// The words of an `insert`.
+    Insert,
     /// The words of a `get`.
     Get,
+    /// The words of a `read`.
+    Read,
     /// The words of a `release`.
     Release,
     /// The words of an `advice`.
@@ -73,10 +77,14 @@ impl Expected {
         match self {
             Expected::Text => "text of at most 1000 bytes",
             Expected::First => "`new CAPACITY` first",
-            Expected::Step => "a step: new, init, get, release, advice, invalidate, prune or total",
+            Expected::Step => {
+                "a step: new, init, insert, get, read, release, advice, invalidate, prune or total"
+            }
             Expected::New => "`new CAPACITY`",
             Expected::Init => "`init KEY CHARGE ok|fail drop|keep SLOT`",
+            Expected::Insert => "`insert KEY CHARGE drop|keep SLOT`",
             Expected::Get => "`get KEY drop|keep SLOT`",
+            Expected::Read => "`read KEY`",
             Expected::Release => "`release SLOT`",
             Expected::Advice => "`advice KEY`",
             Expected::Invalidate => "`invalidate KEY`",

@@ -2,14 +2,15 @@
 //!
 //! Each function accepts what the rules of `Spelling` spell, and nothing else.
 ghost use Rattle.std.specs.Prelude.{◌≡◌, ℕ, IfOk, Ok};
-ghost use Rattle.lru_replay.specs.Spelling.{Writes, WritesCharge, SpellsOutcome, SpellsSlot, SpellsMaking, Spells};
+ghost use Rattle.lru_replay.specs.Spelling.{Writes, WritesCharge, SpellsOutcome, SpellsSlot, SpellsEntry, SpellsMaking, Spells};
 ghost use Rattle.lru_replay.specs.declared.step.Slot.{Slot};
 ghost use Rattle.lru_replay.specs.declared.step.Outcome.{Outcome};
+ghost use Rattle.lru_replay.specs.declared.step.Entry.{Entry};
 ghost use Rattle.lru_replay.specs.declared.step.Making.{Making};
 ghost use Rattle.lru_replay.specs.declared.step.Step.{Step};
 
 use crate::expected::{Expected, Wrong};
-use crate::step::{Fate, Making, Outcome, Slot, Step};
+use crate::step::{Entry, Fate, Making, Outcome, Slot, Step};
 
 /// Parses the words of a line.
 ///
@@ -29,11 +30,20 @@ pub fn parse<'a>(words: &[&'a str]) -> Result<Step, Wrong<'a>>
             let making = parse_making(key, charge, outcome)?;
             Ok(Step::Init(making, Fate::Keep(parse_slot(slot)?)))
         }
+        ["insert", key, charge, "drop"] => {
+            let entry = parse_entry(key, charge)?;
+            Ok(Step::Insert(entry, Fate::Drop))
+        }
+        ["insert", key, charge, "keep", slot] => {
+            let entry = parse_entry(key, charge)?;
+            Ok(Step::Insert(entry, Fate::Keep(parse_slot(slot)?)))
+        }
         ["get", key, "drop"] => Ok(Step::Get(parse_number(key)?, Fate::Drop)),
         ["get", key, "keep", slot] => {
             let key = parse_number(key)?;
             Ok(Step::Get(key, Fate::Keep(parse_slot(slot)?)))
         }
+        ["read", key] => Ok(Step::Read(parse_number(key)?)),
         ["release", slot] => Ok(Step::Release(parse_slot(slot)?)),
         ["advice", key] => Ok(Step::Advice(parse_number(key)?)),
         ["invalidate", key] => Ok(Step::Invalidate(parse_number(key)?)),
@@ -49,7 +59,9 @@ fn wrong_of<'a>(name: &'a str) -> Wrong<'a> {
     match name {
         "new" => Wrong::line(Expected::New),
         "init" => Wrong::line(Expected::Init),
+        "insert" => Wrong::line(Expected::Insert),
         "get" => Wrong::line(Expected::Get),
+        "read" => Wrong::line(Expected::Read),
         "release" => Wrong::line(Expected::Release),
         "advice" => Wrong::line(Expected::Advice),
         "invalidate" => Wrong::line(Expected::Invalidate),
@@ -65,9 +77,18 @@ fn parse_making<'a>(key: &'a str, charge: &'a str, outcome: &'a str) -> Result<M
         ≡ Ok making }
 {
     Ok(Making {
+        entry: parse_entry(key, charge)?,
+        outcome: parse_outcome(outcome)?,
+    })
+}
+
+fn parse_entry<'a>(key: &'a str, charge: &'a str) -> Result<Entry, Wrong<'a>>
+    ensures read { IfOk result (SpellsEntry key.now charge.now) }
+    ensures all { (entry : Entry) → SpellsEntry key.now charge.now entry → result ≡ Ok entry }
+{
+    Ok(Entry {
         key: parse_number(key)?,
         charge: parse_charge(charge)?,
-        outcome: parse_outcome(outcome)?,
     })
 }
 

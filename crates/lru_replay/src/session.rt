@@ -2,7 +2,7 @@
 
 use crate::answer::Answer;
 use crate::slots::Slots;
-use crate::step::{Fate, Making, Outcome, Step};
+use crate::step::{Entry, Fate, Making, Outcome, Step};
 use concurrent_lru::lru_core::Refusal;
 use concurrent_lru::unsharded::{CacheHandle, GetError, LruCache};
 use lru_support::drops::{DropLog, Logged};
@@ -66,7 +66,9 @@ impl<R: Wait + Clone + Drop> Session<R> {
     ) -> Result<Answer, Refusal> {
         match step {
             Step::Init(making, fate) => return self.init(slots, number, making, fate),
+            Step::Insert(entry, fate) => return self.insert(slots, number, entry, fate),
             Step::Get(key, fate) => return self.get(slots, key, fate),
+            Step::Read(key) => return self.read(key),
             Step::Total => return Ok(Answer::Total(self.cache.total_charge())),
             Step::Release(slot) => drop(slots.replace(slot, None)),
             Step::Advice(key) => self.cache.advice_evict(key),
@@ -84,9 +86,10 @@ impl<R: Wait + Clone + Drop> Session<R> {
         making: Making,
         fate: Fate,
     ) -> Result<Answer, Refusal> {
+        let Making { entry, outcome } = making;
         let made = self
             .cache
-            .get_or_try_init(making.key, making.charge, |_| match making.outcome {
+            .get_or_try_init(entry.key, entry.charge, |_| match outcome {
                 Outcome::Gives => Ok(self.log.value(number)?),
                 Outcome::Fails => Err(NotMade::Asked),
             });
@@ -106,6 +109,20 @@ impl<R: Wait + Clone + Drop> Session<R> {
         }
     }
 
+    fn insert<'a>(
+        &'a self,
+        slots: &mut Slots<Handle<'a, R>>,
+        number: u64,
+        entry: Entry,
+        fate: Fate,
+    ) -> Result<Answer, Refusal> {
+        let value = self.log.value(number)?;
+        let handle = self.cache.insert(&entry.key, entry.charge, value)?;
+        let inserted = handle.value().number();
+        settle(slots, handle, fate);
+        Ok(Answer::Inserted(inserted))
+    }
+
     fn get<'a>(
         &'a self,
         slots: &mut Slots<Handle<'a, R>>,
@@ -118,6 +135,13 @@ impl<R: Wait + Clone + Drop> Session<R> {
                 settle(slots, handle, fate);
                 Ok(Answer::Found(value))
             }
+            None => Ok(Answer::Nothing),
+        }
+    }
+
+    fn read(&self, key: u64) -> Result<Answer, Refusal> {
+        match self.cache.read(&key, |value| value.number())? {
+            Some(value) => Ok(Answer::Read(value)),
             None => Ok(Answer::Nothing),
         }
     }

@@ -32,13 +32,19 @@ pub enum Outcome {
     Fails,
 }
 
-/// A value to make: its key, its charge, which is above 0, and what its `init` does.
+/// The key of an entry and its charge, which is above 0.
 #[derive(Clone, Copy)]
-pub struct Making {
+pub struct Entry {
     pub key: u64,
     pub charge: u64,
-    pub outcome: Outcome,
     ghost charged: { 0 < charge },
+}
+
+/// A value to make: its entry, and what its `init` does.
+#[derive(Clone, Copy)]
+pub struct Making {
+    pub entry: Entry,
+    pub outcome: Outcome,
 }
 
 /// A step.
@@ -48,8 +54,12 @@ pub enum Step {
     New(u64),
     /// Gets a handle of a value, which is made if there is none.
     Init(Making, Fate),
+    /// Inserts a value in place of what the key has, and gets a handle of it.
+    Insert(Entry, Fate),
     /// Gets a handle of the value of this key, if there is one.
     Get(u64, Fate),
+    /// Reads the value of this key without a handle, if there is one.
+    Read(u64),
     /// Empties the slot.
     Release(Slot),
     /// Evicts the entry of this key if it is idle.
@@ -91,9 +101,15 @@ impl fmt::Display for Outcome {
     }
 }
 
+impl fmt::Display for Entry {
+    fn fmt<W: fmt::Write>(&self, f: &mut fmt::Formatter<W>) -> fmt::Result {
+        write!(f, "{} {}", self.key, self.charge)
+    }
+}
+
 impl fmt::Display for Making {
     fn fmt<W: fmt::Write>(&self, f: &mut fmt::Formatter<W>) -> fmt::Result {
-        write!(f, "{} {} {}", self.key, self.charge, self.outcome)
+        write!(f, "{} {}", self.entry, self.outcome)
     }
 }
 
@@ -102,7 +118,9 @@ impl fmt::Display for Step {
         match self {
             Step::New(capacity) => write!(f, "new {capacity}"),
             Step::Init(making, fate) => write!(f, "init {making} {fate}"),
+            Step::Insert(entry, fate) => write!(f, "insert {entry} {fate}"),
             Step::Get(key, fate) => write!(f, "get {key} {fate}"),
+            Step::Read(key) => write!(f, "read {key}"),
             Step::Release(slot) => write!(f, "release {slot}"),
             Step::Advice(key) => write!(f, "advice {key}"),
             Step::Invalidate(key) => write!(f, "invalidate {key}"),

@@ -1,12 +1,12 @@
 -- What the reuse weights of a sample stand for, one by one, and the least capacity of an estimate.
-use Rattle.std.proofs.Common.{◌≡◌, ℕ, ◌+◌, ◌-◌, ◌*◌, ◌/◌, ◌<◌, ◌≤◌, inl, inr, List, [], ◌∷◌, ◌++◌, length, map, get_or, take, min, Option, None, Some, option_map, refl, sym, ap, ◌∙◌, subst, arith}
+use Rattle.std.proofs.Common.{◌≡◌, ℕ, ◌+◌, ◌-◌, ◌*◌, ◌/◌, ◌<◌, ◌≤◌, inl, inr, List, [], ◌∷◌, ◌++◌, length, map, get_or, take, Option, None, Some, option_map, refl, ap, ◌∙◌, arith}
 use Rattle.std.specs.List.{zip}
 use Rattle.std.specs.Option.{MatchOption, IsSomeAnd}
 use Rattle.std.proofs.Math.Nat.{div-mul-le_self, lt-mul-div-succ, min-eq_left, min-eq_right, min-le_left, mul-le-mul_left, mul-le-mul_right, mul_comm}
 use Rattle.std.proofs.lemmas.Bool.{cases_lt}
 use Rattle.std.proofs.lemmas.List.{get_or-map, length-map, take_all, take_more}
 use Rattle.std.proofs.lemmas.Slice.Zip.{get_or-zip}
-use Rattle.lru_sizing.specs.Curves.{StepCurve, hits_in, IsLeastFor}
+use Rattle.lru_sizing.specs.Curves.{hits_in, IsLeastFor}
 use Rattle.lru_sizing.specs.Estimates.{EstimatedCurve, estimated_misses, estimated_hits, scaled_weight, scaled}
 use Rattle.lru_sizing.proofs.Curves.{within_all}
 

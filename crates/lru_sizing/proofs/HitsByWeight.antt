@@ -1,6 +1,6 @@
 -- At every moment of a plain run a key is idle exactly where a use of it would have a reuse weight
 -- of at most the capacity.
-use Rattle.std.proofs.Common.{◌≡◌, ℕ, ◌+◌, ◌<◌, ◌≤◌, ◌↔◌, inl, inr, Bool, true, false, cond, List, [], ◌∷◌, ◌++◌, length, map, Some, None, refl, sym, ap, ◌∙◌, subst, arith, leb, ◌||◌, ◌==◌}
+use Rattle.std.proofs.Common.{◌≡◌, ℕ, ◌+◌, ◌<◌, ◌≤◌, ◌↔◌, inl, inr, Bool, true, false, cond, List, [], ◌∷◌, ◌++◌, map, Some, None, refl, sym, ap, ◌∙◌, subst, leb, ◌||◌, ◌==◌}
 use Rattle.std.specs.Cmp.{IsEquivalence}
 use Rattle.std.specs.FinMap as finmap
 use Rattle.std.specs.List.{AllByRecursion, count_by, find, list_any, sum_by, zip}
@@ -19,7 +19,7 @@ use Rattle.concurrent_lru.specs.Runs.{Outcome, accepted, Run}
 use Rattle.concurrent_lru.specs.Steps.{IsAbsent, Joins}
 use Rattle.concurrent_lru.specs.Uses.{IsPlain, last_uses, uses, begins, HaveNoGet, charge_in}
 use Rattle.concurrent_lru.specs.Weights.{weight}
-use Rattle.concurrent_lru.specs.WholeRuns.{IsEmpty, idle_keys, begun_keys}
+use Rattle.concurrent_lru.specs.WholeRuns.{IsEmpty, idle_keys}
 use Rattle.concurrent_lru.proofs.Runs.ChangingRuns.{IsNow, changing_run}
 use Rattle.concurrent_lru.proofs.Runs.ChargeOfKey.{charge_agrees, begins_charged, priced}
 use Rattle.concurrent_lru.proofs.Runs.GroupsOfPlainRun.{Paired, AreFound, each_is_found}
@@ -107,6 +107,8 @@ module _ {K V : Type 0} (E : K → K → Bool) (eq : IsEquivalence E) where
         ∙ ap (λ bs. fits first (reuse_weight E (charge_in E begun) (uses done) k) ∷ bs) (rest ∙ ap (λ ks. map (fits first) (reuse_weights_after E (charge_in E begun) ks (uses es))) (uses-append done group))
     answered all done ((ask.get k, accepted (say.hit s v) out1) ∷ (ask.release u, accepted say.done out2) ∷ es) old new plain parts i q g h r = absurd g
     answered all done ((ask.get k, accepted say.missed out) ∷ es) old new plain parts i q g h r = absurd g
+    answered all done ((ask.read k, accepted (say.read s v) out) ∷ es) old new plain parts i q g h r = absurd g
+    answered all done ((ask.read k, accepted say.missed out) ∷ es) old new plain parts i q g h r = absurd g
     answered all done (e ∷ es) old new plain parts i q g h r = absurd h
 
 module _ {K V : Type 0} where

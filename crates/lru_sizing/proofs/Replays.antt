@@ -1,21 +1,20 @@
 -- A replay, use by use: it goes on by one use, and answers as the reuse weights tell.
-use Rattle.std.proofs.Common.{◌≡◌, ℕ, zero, suc, ◌+◌, ◌<◌, ◌≤◌, ◌^◌, ◌⊎◌, inl, inr, Bool, true, false, List, [], ◌∷◌, ◌++◌, length, map, get_or, take, Some, refl, sym, ap, ◌∙◌, subst, arith}
+use Rattle.std.proofs.Common.{◌≡◌, ℕ, zero, suc, ◌+◌, ◌<◌, ◌≤◌, ◌^◌, inl, inr, Bool, true, false, List, [], ◌∷◌, ◌++◌, length, map, get_or, take, refl, sym, ap, ◌∙◌, subst, arith}
 use Rattle.std.specs.Cmp.{IsEquivalence}
 use Rattle.std.specs.FinMap as finmap
 use Rattle.std.specs.List.{AllByRecursion, sum_by, zip}
 use Rattle.std.specs.Ordering.{nat_cmp}
-use Rattle.std.proofs.lemmas.List.{take_more}
 use Rattle.std.proofs.lemmas.List.Elements.{filter-append}
 use Rattle.std.proofs.lemmas.List.Sums.{sum_by-append, sum_by_push}
 use Rattle.std.proofs.lemmas.Option.{none-some}
-use Rattle.concurrent_lru.specs.Cache.{Cache, Idle, Held, Phase, making, ready, IsLawful, sum_of, charges, held_at}
+use Rattle.concurrent_lru.specs.Cache.{Cache, Idle, Held, making, ready, sum_of, charges}
 use Rattle.concurrent_lru.specs.Representation.{held_charges}
 use Rattle.concurrent_lru.specs.Request as ask
 use Rattle.concurrent_lru.specs.Request.{Request}
 use Rattle.concurrent_lru.specs.Reply as say
 use Rattle.concurrent_lru.specs.Results.{IsCharged}
-use Rattle.concurrent_lru.specs.Runs.{Outcome, accepted, Run, Overflows, Refuses}
-use Rattle.concurrent_lru.specs.Steps.{IsAbsent, Makes, Joins, Hits, Holds, ChangesPhase, Step, held_in_phase, held_by_one}
+use Rattle.concurrent_lru.specs.Runs.{Outcome, accepted, Run, Overflows}
+use Rattle.concurrent_lru.specs.Steps.{IsAbsent, Holds, Step, held_in_phase, held_by_one}
 use Rattle.concurrent_lru.specs.Uses.{IsPlain, uses, begins, HaveNoGet, HaveOneCharge, charge_in, last_uses}
 use Rattle.concurrent_lru.specs.WholeRuns.{IsEmpty}
 use Rattle.concurrent_lru.proofs.Entries.NodesOfSetAndAdd.{inserted_at}
@@ -24,7 +23,6 @@ use Rattle.concurrent_lru.proofs.Runs.ChargeOfKey.{charge_agrees, begins_charged
 use Rattle.concurrent_lru.proofs.Runs.CutAndJoined.{Run-join}
 use Rattle.concurrent_lru.proofs.Runs.GroupsOfPlainRun.{AreFound, each_is_found, none_held_sum, others_absent, paired_sum}
 use Rattle.concurrent_lru.proofs.Runs.LongestEnds.{last_uses-push, others}
-use Rattle.concurrent_lru.proofs.Runs.PlainRuns.{IsPriced}
 use Rattle.concurrent_lru.proofs.Runs.PromisesOfRuns.{uses_begun}
 use Rattle.concurrent_lru.proofs.Runs.SteadyCapacity.{plain_has_no_change}
 use Rattle.lru_sizing.specs.HitsByWeight.{fits, begun_hits}
@@ -66,6 +64,7 @@ module _ {K V : Type 0} where
   no_get-append : (rs qs : List (Request K V)) → HaveNoGet rs → HaveNoGet qs → HaveNoGet (rs ++ qs)
   no_get-append [] qs g h = h
   no_get-append (ask.get k ∷ rs) qs g h = absurd g
+  no_get-append (ask.read k ∷ rs) qs g h = absurd g
   no_get-append (_ ∷ rs) qs g h = no_get-append rs qs g h
 
   plain-append : (es fs : List (Request K V × Outcome K V)) → IsPlain es → IsPlain fs → IsPlain (es ++ fs)
@@ -74,6 +73,8 @@ module _ {K V : Type 0} where
   plain-append ((ask.begin k c, accepted (say.hit s v) out1) ∷ (ask.release u, accepted say.done out2) ∷ es) fs p q = (p.0, plain-append es fs p.1 q)
   plain-append ((ask.get k, accepted (say.hit s v) out1) ∷ (ask.release u, accepted say.done out2) ∷ es) fs p q = (p.0, plain-append es fs p.1 q)
   plain-append ((ask.get k, accepted say.missed out) ∷ es) fs p q = plain-append es fs p q
+  plain-append ((ask.read k, accepted (say.read s v) out) ∷ es) fs p q = plain-append es fs p q
+  plain-append ((ask.read k, accepted say.missed out) ∷ es) fs p q = plain-append es fs p q
   plain-append (e ∷ es) fs p q = absurd p
 
   begun_hits-append : (es fs : List (Request K V × Outcome K V)) → begun_hits (es ++ fs) ≡ begun_hits es ++ begun_hits fs
@@ -82,11 +83,16 @@ module _ {K V : Type 0} where
   begun_hits-append ((ask.begin k c, o) ∷ es) fs = ap (λ bs. false ∷ bs) (begun_hits-append es fs)
   begun_hits-append (_ ∷ es) fs = begun_hits-append es fs
 
-  -- begins at charges above 0 are charged
-  charged_begins : (rs : List (Request K V)) → AllByRecursion (λ u. 0 < u.1) (begins rs) → AllByRecursion IsCharged rs
-  charged_begins [] h = tt
-  charged_begins (ask.begin k c ∷ rs) h = (h.0, charged_begins rs h.1)
-  charged_begins (_ ∷ rs) h = (tt, charged_begins rs h)
+  -- a plain run whose begins have charges above 0 is charged
+  charged_begins : (es : List (Request K V × Outcome K V)) → IsPlain es → AllByRecursion (λ u. 0 < u.1) (begins (requests_of es)) → AllByRecursion IsCharged (requests_of es)
+  charged_begins [] p h = tt
+  charged_begins ((ask.begin k c, accepted (say.make s) out1) ∷ (ask.ready t v, accepted say.done out2) ∷ (ask.release u, accepted say.done out3) ∷ es) p h = (h.0, (tt, (tt, charged_begins es p.2 h.1)))
+  charged_begins ((ask.begin k c, accepted (say.hit s v) out1) ∷ (ask.release u, accepted say.done out2) ∷ es) p h = (h.0, (tt, charged_begins es p.1 h.1))
+  charged_begins ((ask.get k, accepted (say.hit s v) out1) ∷ (ask.release u, accepted say.done out2) ∷ es) p h = (tt, (tt, charged_begins es p.1 h))
+  charged_begins ((ask.get k, accepted say.missed out) ∷ es) p h = (tt, charged_begins es p h)
+  charged_begins ((ask.read k, accepted (say.read s v) out) ∷ es) p h = (tt, charged_begins es p h)
+  charged_begins ((ask.read k, accepted say.missed out) ∷ es) p h = (tt, charged_begins es p h)
+  charged_begins (e ∷ es) p h = absurd p
 
 module _ {X : Type 0} (P : X → Type 0) where
   all_take : (n : ℕ) (xs : List X) → AllByRecursion P xs → AllByRecursion P (take n xs)
@@ -194,7 +200,7 @@ module _ {K V : Type 0} (E : K → K → Bool) where
     after_uses start c place hits empty pins r =
         let rs = requests_of r.steps in
         let charged : AllByRecursion (λ b. b.1 ≡ charge_in E trace b.0) (begins rs) = subst (AllByRecursion (λ b. b.1 ≡ charge_in E trace b.0)) (sym r.begun) (all_take (λ b. b.1 ≡ charge_in E trace b.0) place trace (begins_charged E eq trace one)) in
-        let high : AllByRecursion IsCharged rs = charged_begins rs (subst (AllByRecursion (λ u. 0 < u.1)) (sym r.begun) (all_take (λ u. 0 < u.1) place trace above)) in
+        let high : AllByRecursion IsCharged rs = charged_begins r.steps r.plain (subst (AllByRecursion (λ u. 0 < u.1)) (sym r.begun) (all_take (λ u. 0 < u.1) place trace above)) in
         changing_run E (charge_in E trace) eq (charge_agrees E eq trace) start.capacity [] r.steps start c (at_the_start E eq trace start empty pins) (priced (charge_in E trace) rs charged high) (plain_has_no_change K V start.capacity r.steps r.plain).0 r.run
 
     -- the keys that it used
@@ -240,7 +246,7 @@ module _ {K V : Type 0} (E : K → K → Bool) where
     answers_by_weight start c hits empty pins r =
         let rs = requests_of r.steps in
         let zipped = zip_parts r.steps in
-        let charged : AllByRecursion IsCharged rs = charged_begins rs (subst (AllByRecursion (λ u. 0 < u.1)) (sym r.begun) above) in
+        let charged : AllByRecursion IsCharged rs = charged_begins r.steps r.plain (subst (AllByRecursion (λ u. 0 < u.1)) (sym r.begun) above) in
         sym r.answered ∙ ap begun_hits (sym zipped)
         ∙ every_use_hits_by_weight K V E eq start c rs (outcomes_of r.steps) empty pins charged r.run (subst IsPlain (sym zipped) r.plain) r.no_get (subst (HaveOneCharge E) (sym r.begun) one)
         ∙ ap (λ us. map (fits start.capacity) (reuse_weights E us)) r.begun

@@ -1,5 +1,5 @@
 //! A trace, replayed through the cache for a single owner.
-ghost use Rattle.std.specs.Prelude.{◌≡◌, ◌<◌, ◌≤◌, ◌+◌, [], IfOk, IfErr, OnOk, IsTrue, map};
+ghost use Rattle.std.specs.Prelude.{◌≡◌, ◌<◌, ◌≤◌, ◌+◌, [], IfOk, IfErr, OnOk, IsFalse, IsTrue, map};
 ghost use Rattle.std.specs.List.{AllByRecursion};
 ghost use Rattle.std.specs.FinMap as finmap;
 ghost use Rattle.std.specs.Arc.{arc_value};
@@ -58,7 +58,8 @@ pub fn replay<K: Hash + Eq + Clone + Drop>(
 
 /// Returns whether each charge of a trace is above 0, as `replay` requires.
 pub fn has_charges<K>(trace: &[(K, u64)]) -> bool
-    ensures { IsTrue result → AllByRecursion (λ u. 0 < u.1) trace.now }
+    ensures yes { IsTrue result → AllByRecursion (λ u. 0 < u.1) trace.now }
+    ensures no { IsFalse result → ¬ (AllByRecursion (λ u. 0 < u.1) trace.now) }
 {
     for (_, charge) in trace {
         if *charge == 0 {

@@ -86,3 +86,27 @@ pub(crate) type Read = Result<Option<u64>, Refusal>;
 pub(crate) fn value_read<C: Cached<u64>>(cache: C, key: u64) -> Read {
     cache.read(key, |value| *value)
 }
+
+/// What a look for a value shows: whether it found the first and the third of three keys, whether
+/// it left the counts as they were, and which of the keys have a value at the end.
+pub(crate) type Looks = ([bool; 2], bool, [bool; 3]);
+
+/// What `looks_for_the_oldest` returns where a look is no use of a value: it counts neither a hit
+/// nor a miss, and the first key is still the oldest.
+pub(crate) const NO_USE: Looks = ([true, false], true, [false, true, true]);
+
+/// Makes the first two of these keys, which are all that their shard keeps, looks for the first and
+/// the third, and makes the third.
+pub(crate) fn looks_for_the_oldest<R: Abort, C: Contents>(
+    rt: &R,
+    cache: C,
+    keys: [u64; 3],
+) -> Looks {
+    let [first, second, third] = keys;
+    make_each(rt, cache, &[first, second]);
+    let counts = cache.counts();
+    let found = [cache.contains(first), cache.contains(third)];
+    let counts_nothing = cache.counts() == counts;
+    make_each(rt, cache, &[third]);
+    (found, counts_nothing, keys.map(|key| cache.contains(key)))
+}

@@ -7,6 +7,8 @@
 #[cfg(test)]
 mod contents;
 #[cfg(test)]
+mod copies;
+#[cfg(test)]
 mod sharded;
 #[cfg(test)]
 mod unsharded;

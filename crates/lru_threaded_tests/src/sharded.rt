@@ -5,6 +5,7 @@ mod careless;
 mod contents;
 mod counts;
 mod crossings;
+mod each_shard;
 mod errands;
 mod example;
 mod files;

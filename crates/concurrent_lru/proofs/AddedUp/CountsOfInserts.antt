@@ -1,18 +1,15 @@
 -- Counts that add up go on adding up where an insert replaces an entry.
-use Rattle.std.proofs.Common.{◌≡◌, ℕ, ◌+◌, ◌-◌, ◌*◌, ◌<◌, ◌≤◌, ◌^◌, inl, inr, Bool, List, [], length, sym, ap, ◌∙◌, subst, arith}
+use Rattle.std.proofs.Common.{◌≡◌, ℕ, ◌+◌, ◌-◌, ◌*◌, ◌<◌, ◌≤◌, ◌^◌, Bool, List, [], length, sym, ap, ◌∙◌, subst, arith}
 use Rattle.std.specs.Cmp.{IsEquivalence}
 use Rattle.concurrent_lru.specs.Cache.{Cache, Idle, making, ready, IsLawful, charges, count_of, sum_of}
 use Rattle.concurrent_lru.specs.CountedCalls.{AddUp, IsSoundlyCounted, replaced}
 use Rattle.concurrent_lru.specs.Counts.{end_of_u64, inserted, one_more, one_refusal}
 use Rattle.concurrent_lru.specs.Inserts.{Replaces}
-use Rattle.concurrent_lru.specs.Request as ask
-use Rattle.concurrent_lru.specs.Reply as say
-use Rattle.concurrent_lru.specs.Steps.{IsAbsent, Step}
 use Rattle.concurrent_lru.specs.declared.counts.Counts.{Counts}
 use Rattle.concurrent_lru.specs.declared.step.Begun.TheVariants as begun
 use Rattle.concurrent_lru.proofs.AddedUp.SizesOfSteps.{Resizes, made_size, phase_size, same_size}
 use Rattle.concurrent_lru.proofs.AddedUp.CountsOfSteps.{Owes, invalidate_evicts, owed_for_new, with_others}
-use Rattle.concurrent_lru.proofs.Steps.InsertOfKey.{begun_new, detached_absent, dropped_absent}
+use Rattle.concurrent_lru.proofs.Steps.InsertOfKey.{begun_new, invalidated_absent}
 use Rattle.concurrent_lru.proofs.Steps.ValuesInserted.{invalidated_lawful}
 
 module _ {K V : Type 0} where
@@ -23,19 +20,13 @@ module _ {K V : Type 0} where
     pub stamps : old.next + 1 < 2 ^ 64
 
 module _ {K V : Type 0} {E : K → K → Bool} where
-  -- a key that was invalidated is absent
-  invalidated_absent : (old mid : Cache K V) (k : K) (out : List (Idle K V)) → IsEquivalence E → IsLawful E old → Step E old (ask.invalidate k) say.done out mid → IsAbsent E mid k
-  invalidated_absent old mid k out laws l (inl d) = dropped_absent E laws old l k mid out d
-  invalidated_absent old mid k out laws l (inr (inl d)) = subst (λ c. IsAbsent E c k) (sym d.changed) (detached_absent E laws old l k d.stamp d.entry d.at d.found d.same_key)
-  invalidated_absent old mid k out laws l (inr (inr h)) = subst (λ c. IsAbsent E c k) (sym h.1.same) h.0
-
   pub enters : (old new : Cache K V) (k : K) (charge : ℕ) (v : V) (s : ℕ) (gone out : List (Idle K V)) → IsEquivalence E → IsLawful E old → IsLawful E new → Replaces E old k charge v s gone out new → Enters old charge gone out new
   enters old new k charge v s gone out laws l last r =
       let mid = r.0 in
       let made = r.2.0 in
       let stored = r.2.2.0 in
       let lawful = invalidated_lawful E old new k charge v s gone out laws l last r in
-      let m = begun_new E charge (invalidated_absent old mid k gone laws l r.1) (begun.Make s) out made r.2.1 in
+      let m = begun_new E charge (invalidated_absent E laws old l k mid gone r.1) (begun.Make s) out made r.2.1 in
       let a = invalidate_evicts {E = E} old mid k gone l r.1 in
       let b = made_size {E = E} mid made k charge mid.next out lawful m in
       let c = phase_size {E = E} made stored s making (ready v) [] r.2.2.1 in

@@ -4,6 +4,8 @@ use Rattle.std.specs.Option.{option_map_or}
 use Rattle.std.specs.Ordering.{nat_cmp}
 use Rattle.std.specs.FinMap.{values, empty}
 use Rattle.std.proofs.lemmas.Bool.{eqb-true, eq-eqb, true≢false}
+use Rattle.std.proofs.lemmas.List.{length-append}
+use Rattle.std.proofs.lemmas.List.Sums.{sum_by-append}
 use Rattle.std.specs.declared.sync.Arc.{Arc}
 use Rattle.std.specs.declared.alloc.Global.{Global}
 use Rattle.concurrent_lru.specs.Results.{outcome_of_begin, outcome_of_get, outcome_of_poll, outcome_of_ready, found_without_hint}
@@ -19,13 +21,14 @@ use Rattle.concurrent_lru.specs.Request.{Request}
 use Rattle.concurrent_lru.specs.Reply as say
 use Rattle.concurrent_lru.specs.Reply.{Reply}
 use Rattle.concurrent_lru.specs.Runs.{Outcome, accepted, refused, Stands}
-use Rattle.concurrent_lru.specs.Steps.{Step, with_capacity}
+use Rattle.concurrent_lru.specs.Steps.{Renews, Stores, Step, with_capacity}
 use Rattle.concurrent_lru.specs.declared.counts.Counts.{Counts}
 use Rattle.concurrent_lru.specs.declared.list.Refusal.{Refusal}
 use Rattle.concurrent_lru.specs.declared.list.Refusal.TheVariants.{Memory, Overflow, Stale}
 use Rattle.concurrent_lru.specs.declared.table.spot.Hint.{Hint}
 use Rattle.concurrent_lru.proofs.AddedUp.SizesOfSteps.{Resizes, KeepsSize, Evicts, same_size, settled_size, joined_size, left_size, phase_size, hit_size, made_size, removed_size, rested_size, ended_size, detached_size, dropped_size, stayed_size, pruned_size, evicts_none}
 use Rattle.concurrent_lru.proofs.Steps.EmptyCache.{no_entries, empty_sum, empty_lawful}
+use Rattle.concurrent_lru.proofs.Steps.StaysLawful.{invalidates_lawful}
 
 module _ {K V : Type 0} where
   -- the counts add up but for so many entries of so much charge that left and are not counted yet
@@ -150,6 +153,8 @@ module _ {K V : Type 0} where
   refusal_adds_up old n (ask.release s) e a = a
   refusal_adds_up old n (ask.advice_evict k) e a = a
   refusal_adds_up old n (ask.invalidate k) e a = a
+  refusal_adds_up old n (ask.insert k charge v) e a = with_others old n n.hits n.misses n.waits (one_more n.refusals) n.makings n.failures a
+  refusal_adds_up old n (ask.read k) e a = with_others old n n.hits n.misses n.waits (one_more n.refusals) n.makings n.failures a
   refusal_adds_up old n ask.prune e a = a
   refusal_adds_up old n (ask.set_capacity m) e a = a
   refusal_adds_up old n ask.total e a = a
@@ -182,6 +187,49 @@ module _ {K V : Type 0} where
     invalidate_evicts old new k out l (inr (inl h)) = evicts_none old new out (detached_size old new k out h) h.none
     invalidate_evicts old new k out l (inr (inr h)) = stayed_size old new out h.1
 
+    -- an insert: an entry of its charge comes, and what it replaces and evicts leaves
+    pub stored_size : (old new : Cache K V) (k : K) (charge : ℕ) (v : V) (s : ℕ) (out : List (Idle K V)) → IsLawful E old → Stores E old k charge v s out new → Inserts old charge s out new
+    stored_size old new k charge v s out l h =
+        let a = invalidate_evicts old h.mid k h.replaced l h.invalidated in
+        let b = made_size h.mid h.made k charge s h.evicted (invalidates_lawful E old k h.replaced h.mid l h.invalidated) h.begun in
+        let c = phase_size h.made new s making (ready v) [] h.given in
+        let ae : count_of h.mid + length h.replaced ≡ count_of old + 0 = a.entries in
+        let af : sum_of h.mid + charges h.replaced ≡ sum_of old + 0 = a.charge in
+        let an : h.mid.next ≡ old.next + 0 = a.next in
+        let be : count_of h.made + length h.evicted ≡ count_of h.mid + 1 = b.entries in
+        let bf : sum_of h.made + charges h.evicted ≡ sum_of h.mid + charge = b.charge in
+        let bn : h.made.next ≡ h.mid.next + 1 = b.next in
+        let ce : count_of new + 0 ≡ count_of h.made + 0 = c.entries in
+        let cf : sum_of new + 0 ≡ sum_of h.made + 0 = c.charge in
+        let cn : new.next ≡ h.made.next + 0 = c.next in
+        let n : length out ≡ length h.replaced + length h.evicted = ap length h.both ∙ length-append h.replaced h.evicted in
+        let m : charges out ≡ charges h.replaced + charges h.evicted = ap charges h.both ∙ sum_by-append (λ x. x.charge) h.replaced h.evicted in
+        let f : sum_of h.mid + charge < 2 ^ 64 = h.begun.fits.0 in
+        let g : h.mid.next + 1 < 2 ^ 64 = h.begun.fits.1 in
+        record {
+          sizes = record { entries = omega (arith, ae, be, ce, n); charge = omega (arith, af, bf, cf, m); next = omega (arith, an, bn, cn) };
+          charge_fits = omega (arith, f);
+          stamps = omega (arith, g, an);
+        }
+
+    -- a release that evicts nothing keeps the size, and so does a read
+    quiet_release_size : (old new : Cache K V) (s : ℕ) → Step E old (ask.release s) say.done [] new → KeepsSize old new
+    quiet_release_size old new s (inl h) = left_size old new s (ready h.0) (ready h.0) [] h.1
+    quiet_release_size old new s (inr (inl h)) = rested_size old new s [] h
+    quiet_release_size old new s (inr (inr h)) = ended_size old new s [] h
+
+    renewed_size : (old new : Cache K V) (k : K) (s : ℕ) (v : V) (out : List (Idle K V)) → IsLawful E old → Renews E old k s v out new → KeepsSize old new
+    renewed_size old new k s v out l h =
+        let a = hit_size old h.mid k s v [] l h.found in
+        let b = quiet_release_size h.mid new s h.released in
+        let ae : count_of h.mid + 0 ≡ count_of old + 0 = a.entries in
+        let af : sum_of h.mid + 0 ≡ sum_of old + 0 = a.charge in
+        let an : h.mid.next ≡ old.next + 0 = a.next in
+        let be : count_of new + 0 ≡ count_of h.mid + 0 = b.entries in
+        let bf : sum_of new + 0 ≡ sum_of h.mid + 0 = b.charge in
+        let bn : new.next ≡ h.mid.next + 0 = b.next in
+        record { entries = omega (arith, ae, be); charge = omega (arith, af, bf); next = omega (arith, an, bn) }
+
     -- a making that fails for good: what is owed once its failure is counted
     pub fail_owes : (old new : Cache K V) (n : Counts) (s : ℕ) (k : K) (out : List (Idle K V)) → AddUp old n → Step E old (ask.fail s) (say.removed k) out new → Owes new (one_failure n) 1 (held_charge old s)
     fail_owes old new n s k out a h =
@@ -209,6 +257,11 @@ module _ {K V : Type 0} where
     step_adds_up old new n (ask.release s) say.done out l a h = evicting_adds_up old new n out a (release_evicts old new s out h)
     step_adds_up old new n (ask.advice_evict k) say.done out l a h = evicting_adds_up old new n out a (advice_evicts old new k out l h)
     step_adds_up old new n (ask.invalidate k) say.done out l a h = evicting_adds_up old new n out a (invalidate_evicts old new k out l h)
+    step_adds_up old new n (ask.insert k charge v) (say.inserted s) out l a h =
+        let i = stored_size old new k charge v s out l h in
+        evictions_add_up new (inserted charge n) out (owed_for_new old new n charge (length out) (charges out) a i.sizes i.charge_fits i.stamps)
+    step_adds_up old new n (ask.read k) (say.read s v) out l a h = with_others new n (one_more n.hits) n.misses n.waits n.refusals n.makings n.failures (kept_adds_up old new n a (renewed_size old new k s v out l h))
+    step_adds_up old new n (ask.read k) say.missed out l a h = with_others new n n.hits (one_more n.misses) n.waits n.refusals n.makings n.failures (kept_adds_up old new n a (same_size old new h.1.same))
     step_adds_up old new n ask.prune say.done out l a h = evicting_adds_up old new n out a (pruned_size old new out h.0 h.1)
     step_adds_up old new n (ask.set_capacity m) say.done out l a h = evicting_adds_up old new n out a (capacity_evicts old new m out h)
     step_adds_up old new n ask.total (say.sum m) out l a h = kept_adds_up old new n a (same_size old new h.1.same)
@@ -218,12 +271,6 @@ module _ {K V : Type 0} where
     pub counted_adds_up : (old new : Cache K V) (n : Counts) (r : Request K V) (o : Outcome K V) → IsLawful E old → AddUp old n → Stands E old r o new → AddUp new (counted old r o n)
     counted_adds_up old new n r (accepted p out) l a h = step_adds_up old new n r p out l a h
     counted_adds_up old new n r (refused e) l a h = subst (λ c. AddUp c (counted old r (refused e) n)) (sym h.1) (refusal_adds_up old n r e a)
-
-    -- a release that evicts nothing keeps the size
-    quiet_release_size : (old new : Cache K V) (s : ℕ) → Step E old (ask.release s) say.done [] new → KeepsSize old new
-    quiet_release_size old new s (inl h) = left_size old new s (ready h.0) (ready h.0) [] h.1
-    quiet_release_size old new s (inr (inl h)) = rested_size old new s [] h
-    quiet_release_size old new s (inr (inr h)) = ended_size old new s [] h
 
     -- an invalidate, and then a begin that inserts an entry: what is owed once the entry is
     -- counted, and that it adds up

@@ -1,8 +1,8 @@
 -- What a table stores, and its entries, where one node is written: a held one, one that is revived,
 -- one that comes to rest.
-use Rattle.std.proofs.Common.{◌≡◌, ℕ, Bool, ◌<◌, ◌+◌, ◌++◌, ◌∷◌, [], false, not, Some, refl, sym, ap, ◌∙◌, eqb, ◌==◌, arith}
+use Rattle.std.proofs.Common.{◌≡◌, ℕ, Bool, ◌<◌, ◌+◌, ◌++◌, ◌∷◌, [], false, not, refl, sym, ap, ◌∙◌, eqb, ◌==◌, arith}
 use Rattle.std.specs.List.{filter}
-use Rattle.std.specs.FinMap.{get, insert, remove, keys}
+use Rattle.std.specs.FinMap.{insert, remove, keys}
 use Rattle.std.proofs.lemmas.Bool.{true≢false, eq-eqb, ne_eqb}
 use Rattle.concurrent_lru.specs.Cache.{ready}
 use Rattle.concurrent_lru.specs.Steps.{without}

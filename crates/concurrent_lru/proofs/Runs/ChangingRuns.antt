@@ -184,6 +184,14 @@ module _ {K V : Type 0} (E : K → K → Bool) where
         let e : Request K V × Outcome K V = (ask.get k, accepted say.missed out) in
         subst (λ ds. IsNow ds new) (append_assoc done (e ∷ []) es)
         (changing_run (done ++ e ∷ []) es r.0 new (now_quiet done e r.0 (subst (IsNow done) (sym r.1.1.same) i) refl refl) q.1 h r.2)
+    changing_run done ((ask.read k, accepted (say.read s v) out) ∷ es) old new i q h r =
+        let e : Request K V × Outcome K V = (ask.read k, accepted (say.read s v) out) in
+        let j = now_used done e k old r.0 i refl refl (hit_group E price eq p old r.1.mid r.0 k s s v [] [] i.kept (alone done old i) refl r.1.found r.1.released) in
+        subst (λ ds. IsNow ds new) (append_assoc done (e ∷ []) es) (changing_run (done ++ e ∷ []) es r.0 new j q.1 h r.2)
+    changing_run done ((ask.read k, accepted say.missed out) ∷ es) old new i q h r =
+        let e : Request K V × Outcome K V = (ask.read k, accepted say.missed out) in
+        subst (λ ds. IsNow ds new) (append_assoc done (e ∷ []) es)
+        (changing_run (done ++ e ∷ []) es r.0 new (now_quiet done e r.0 (subst (IsNow done) (sym r.1.1.same) i) refl refl) q.1 h r.2)
     changing_run done ((ask.set_capacity n, accepted say.done out) ∷ es) old new i q h r =
         subst (λ ds. IsNow ds new) (append_assoc done ((ask.set_capacity n, accepted say.done out) ∷ []) es)
         (changing_run (done ++ (ask.set_capacity n, accepted say.done out) ∷ []) es r.0 new (now_set done n out old r.0 i r.1) q.1 h r.2)

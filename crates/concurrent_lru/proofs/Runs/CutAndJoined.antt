@@ -1,13 +1,15 @@
 -- Runs go on by one step, and may be cut and put together.
-use Rattle.std.proofs.Common.{◌≡◌, ℕ, ◌+◌, ◌<◌, ◌≤◌, Bool, List, [], ◌∷◌, ◌++◌, length, sum_by, refl, sym, ap, ◌∙◌, subst, arith}
+use Rattle.std.proofs.Common.{◌≡◌, ℕ, ◌+◌, ◌<◌, ◌≤◌, Bool, List, [], ◌∷◌, ◌++◌, length, sum_by, Some, None, refl, sym, ap, ◌∙◌, subst, arith}
 use Rattle.std.proofs.lemmas.List.{length-append}
 use Rattle.std.proofs.lemmas.List.Sums.{sum_by_push}
 use Rattle.concurrent_lru.specs.Cache.{Cache}
-use Rattle.concurrent_lru.specs.Counted.{Counted, WritesAtMostOneMore, WritesAtMostOneMoreAStep, most_writes}
+use Rattle.concurrent_lru.specs.Counted.{Counted, StepWrites, StepsWriteAtMost, WritesAtMostOneMore, most_writes}
 use Rattle.concurrent_lru.specs.Request.{Request}
-use Rattle.concurrent_lru.specs.Results.{IsAnswerTo, AreAnswersTo}
+use Rattle.concurrent_lru.specs.Reply as say
+use Rattle.concurrent_lru.specs.Results.{outcome_of, IsAnswerTo, AreAnswersTo}
 use Rattle.concurrent_lru.specs.Runs.{Outcome, accepted, refused, Stands, Run}
 use Rattle.concurrent_lru.specs.declared.step.Answer.{Answer}
+use Rattle.concurrent_lru.specs.declared.step.Answer.TheVariants as answer
 use Rattle.concurrent_lru.specs.declared.step.Step.{Step as RustStep}
 
 module _ {K V : Type 0} where
@@ -31,17 +33,42 @@ module _ {K V : Type 0} where
   Run-cut E old new [] qs (o ∷ os) ps n h = absurd (omega (arith, n))
   Run-cut E old new (r ∷ rs) qs [] ps n h = absurd (omega (arith, n))
 
+  -- what a step writes is at most what its outcome says
+  outcome_writes : (old new : Counted K V) (o : Outcome K V) → WritesAtMostOneMore old o new → new.work ≤ old.work + most_writes o
+  outcome_writes old new (accepted (say.read s v) evicted) h = let step : new.work ≤ old.work + 1 + length evicted = h in omega (arith, step)
+  outcome_writes old new (accepted (say.make s) evicted) h = let step : new.work ≤ old.work + 1 + length evicted = h in omega (arith, step)
+  outcome_writes old new (accepted (say.wait s) evicted) h = let step : new.work ≤ old.work + 1 + length evicted = h in omega (arith, step)
+  outcome_writes old new (accepted (say.hit s v) evicted) h = let step : new.work ≤ old.work + 1 + length evicted = h in omega (arith, step)
+  outcome_writes old new (accepted say.done evicted) h = let step : new.work ≤ old.work + 1 + length evicted = h in omega (arith, step)
+  outcome_writes old new (accepted say.left evicted) h = let step : new.work ≤ old.work + 1 + length evicted = h in omega (arith, step)
+  outcome_writes old new (accepted (say.removed k) evicted) h = let step : new.work ≤ old.work + 1 + length evicted = h in omega (arith, step)
+  outcome_writes old new (accepted say.missed evicted) h = let step : new.work ≤ old.work + 1 + length evicted = h in omega (arith, step)
+  outcome_writes old new (accepted (say.sum n) evicted) h = let step : new.work ≤ old.work + 1 + length evicted = h in omega (arith, step)
+  outcome_writes old new (accepted (say.inserted s) evicted) h = let step : new.work ≤ old.work + 1 + length evicted = h in omega (arith, step)
+  outcome_writes old new (refused e) h = let step : new.work ≡ old.work = h in omega (arith, step)
+
+  step_writes : (old new : Counted K V) (a : Answer K V) → StepWrites old a new → new.work ≤ old.work + most_writes (outcome_of a)
+  step_writes old new (answer.Read None) h = let step : new.work ≤ old.work + 1 = h in omega (arith, step)
+  step_writes old new (answer.Read (Some r)) h = let step : new.work ≤ old.work + 2 = h in omega (arith, step)
+  step_writes old new (answer.Begun b out) h = outcome_writes old new (outcome_of (answer.Begun b out)) h
+  step_writes old new (answer.Polled b) h = outcome_writes old new (outcome_of (answer.Polled b)) h
+  step_writes old new answer.Done h = outcome_writes old new (outcome_of answer.Done) h
+  step_writes old new (answer.Back a) h = outcome_writes old new (outcome_of (answer.Back a)) h
+  step_writes old new (answer.Failed f) h = outcome_writes old new (outcome_of (answer.Failed f)) h
+  step_writes old new (answer.Got found) h = outcome_writes old new (outcome_of (answer.Got found)) h
+  step_writes old new (answer.Released out) h = outcome_writes old new (outcome_of (answer.Released out)) h
+  step_writes old new (answer.Gone out) h = outcome_writes old new (outcome_of (answer.Gone out)) h
+  step_writes old new (answer.Inserted i) h = outcome_writes old new (outcome_of (answer.Inserted i)) h
+  step_writes old new (answer.NotInserted e a) h = outcome_writes old new (outcome_of (answer.NotInserted e a)) h
+  step_writes old new (answer.Total n) h = outcome_writes old new (outcome_of (answer.Total n)) h
+  step_writes old new (answer.Refused e) h = outcome_writes old new (outcome_of (answer.Refused e)) h
+
   -- what a run writes at most goes on by what its next step does
-  pub WritesAtMostOneMoreAStep-push : (old mid new : Counted K V) (os : List (Outcome K V)) (o : Outcome K V) → WritesAtMostOneMoreAStep old os mid → WritesAtMostOneMore mid o new → WritesAtMostOneMoreAStep old (os ++ o ∷ []) new
-  WritesAtMostOneMoreAStep-push old mid new os (accepted reply evicted) so_far more =
+  pub StepsWriteAtMost-push : (old mid new : Counted K V) (os : List (Outcome K V)) (a : Answer K V) → StepsWriteAtMost old os mid → StepWrites mid a new → StepsWriteAtMost old (os ++ outcome_of a ∷ []) new
+  StepsWriteAtMost-push old mid new os a so_far more =
       let before : mid.work ≤ old.work + sum_by most_writes os = so_far in
-      let step : new.work ≤ mid.work + 1 + length evicted = more in
-      let sum : sum_by most_writes (os ++ accepted reply evicted ∷ []) ≡ sum_by most_writes os + (1 + length evicted) = sum_by_push most_writes os (accepted reply evicted) in
-      omega (arith, before, step, sum)
-  WritesAtMostOneMoreAStep-push old mid new os (refused e) so_far more =
-      let before : mid.work ≤ old.work + sum_by most_writes os = so_far in
-      let step : new.work ≡ mid.work = more in
-      let sum : sum_by most_writes (os ++ refused e ∷ []) ≡ sum_by most_writes os + 0 = sum_by_push most_writes os (refused e) in
+      let step : new.work ≤ mid.work + most_writes (outcome_of a) = step_writes mid new a more in
+      let sum : sum_by most_writes (os ++ outcome_of a ∷ []) ≡ sum_by most_writes os + most_writes (outcome_of a) = sum_by_push most_writes os (outcome_of a) in
       omega (arith, before, step, sum)
 
   pub AreAnswersTo-push : (ss : List (RustStep K V)) (others : List (Answer K V)) (s : RustStep K V) (a : Answer K V) → AreAnswersTo ss others → IsAnswerTo s a → AreAnswersTo (ss ++ s ∷ []) (others ++ a ∷ [])

@@ -44,6 +44,7 @@ module _ {K V : Type 0} where
   uses-append [] b = refl
   uses-append ((ask.begin k c, o) ∷ a) b = ap (λ ks. k ∷ ks) (uses-append a b)
   uses-append ((ask.get k, accepted (say.hit s v) out) ∷ a) b = ap (λ ks. k ∷ ks) (uses-append a b)
+  uses-append ((ask.read k, accepted (say.read s v) out) ∷ a) b = ap (λ ks. k ∷ ks) (uses-append a b)
   uses-append (_ ∷ a) b = uses-append a b
 
   pub capacity-append : (c : ℕ) (a b : List (Request K V × Outcome K V)) → capacity_after c (a ++ b) ≡ capacity_after (capacity_after c a) b

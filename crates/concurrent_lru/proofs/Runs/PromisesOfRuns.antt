@@ -46,6 +46,7 @@ module _ {K V : Type 0} where
   uses_begun (r ∷ rs) [] n h = absurd (omega (arith, n))
   uses_begun (ask.begin k c ∷ rs) (o ∷ os) n h = ap (λ ks. k ∷ ks) (uses_begun rs os (omega (arith, n)) h)
   uses_begun (ask.get k ∷ rs) (o ∷ os) n h = absurd h
+  uses_begun (ask.read k ∷ rs) (o ∷ os) n h = absurd h
   uses_begun (_ ∷ rs) (o ∷ os) n h = uses_begun rs os (omega (arith, n)) h
 
 pub keeps_stamps : (K V : Type 0) (E : K → K → Bool) → EveryRunKeepsStamps K V E

@@ -8,7 +8,7 @@ use Rattle.std.proofs.lemmas.Bool.{eqb-true, eq-eqb, ne_eqb, cases_lt}
 use Rattle.std.proofs.lemmas.Option.{none-some, same_Some}
 use Rattle.std.proofs.lemmas.List.Sums.{sum_by-append, sum_by-cons}
 use Rattle.concurrent_lru.specs.Cache.{Cache, Idle, Held, making, untaken, ready, Settles, held_at}
-use Rattle.concurrent_lru.specs.Steps.{Step, Makes, Removes, Rests, Stays, Drops, Hits, without, held_in_phase, one_more_pin, one_pin_less, held_by_one, idle_again, Ends, held_detached}
+use Rattle.concurrent_lru.specs.Steps.{Step, Makes, Removes, Rests, Stays, Drops, Hits, Releases, Invalidates, Stores, Renews, without, held_in_phase, one_more_pin, one_pin_less, held_by_one, idle_again, Ends, held_detached}
 use Rattle.concurrent_lru.specs.Request as ask
 use Rattle.concurrent_lru.specs.Request.{Request}
 use Rattle.concurrent_lru.specs.Reply as say
@@ -254,43 +254,15 @@ module _ {K V : Type 0} (E : K → K → Bool) where
         omega (arith, a, b),
   )
 
-  pub step_moves : (old new : Cache K V) (r : Request K V) (y : Reply K V) (out : List (Idle K V)) → IsStamped old → Step E old r y out new → Moves old (r, accepted y out) new
-  step_moves old new (ask.begin k c) (say.make s) out i h = elim h [
-    | inl m ↦ inr (makes_moves old new k c s out i m)
-    | inr j ↦ inl (same_stamp_count old new s j.entry (held_in_phase making (one_more_pin j.entry)) out j.holds.at j.changed j.none)
-  ]
-  step_moves old new (ask.begin k c) (say.wait s) out i j = inl (same_stamp_count old new s j.entry (held_in_phase making (one_more_pin j.entry)) out j.holds.at j.changed j.none)
-  step_moves old new (ask.begin k c) (say.hit s v) out i h = inl (hits_moves old new k s v out i h)
-  step_moves old new (ask.poll s) (say.wait t) out i h = inl (same_stamp_count old new s h.1.entry (held_in_phase making h.1.entry) out h.1.holds.at h.1.changed h.1.none)
-  step_moves old new (ask.poll s) (say.make t) out i h = inl (same_stamp_count old new s h.1.entry (held_in_phase making h.1.entry) out h.1.holds.at h.1.changed h.1.none)
-  step_moves old new (ask.poll s) (say.hit t v) out i h = inl (same_stamp_count old new s h.1.entry (held_in_phase (ready v) h.1.entry) out h.1.holds.at h.1.changed h.1.none)
-  step_moves old new (ask.ready s v) say.done out i h = inl (same_stamp_count old new s h.entry (held_in_phase (ready v) h.entry) out h.holds.at h.changed h.none)
-  step_moves old new (ask.fail s) say.left out i h = inl (same_stamp_count old new s h.entry (held_in_phase untaken (one_pin_less h.entry)) out h.holds.at h.changed h.none)
-  step_moves old new (ask.fail s) (say.removed k) out i h = inl (removes_moves old new s k out h)
-  step_moves old new (ask.get k) (say.hit s v) out i h = inl (hits_moves old new k s v out i h)
-  step_moves old new (ask.get k) say.missed out i h = inl (stays_moves old new out h.1)
-  step_moves old new (ask.release s) say.done out i h = elim h [
-    | inl l ↦ inl (same_stamp_count old new s l.1.entry (held_in_phase (ready l.0) (one_pin_less l.1.entry)) out l.1.holds.at l.1.changed l.1.none)
-    | inr b ↦ elim b [
-      | inl r ↦ inl (rests_moves old new s out r)
-      | inr r ↦ inl (ends_moves old new s out r)
-    ]
-  ]
-  step_moves old new (ask.advice_evict k) say.done out i h = elim h [
-    | inl d ↦ inl (drops_moves old new k out i d)
-    | inr s ↦ inl (stays_moves old new out s.1)
-  ]
-  step_moves old new (ask.invalidate k) say.done out i h = elim h [
-    | inl d ↦ inl (drops_moves old new k out i d)
-    | inr b ↦ elim b [
-      | inl d ↦ inl (same_stamp_count old new d.stamp d.entry (held_detached d.entry) out d.at d.changed d.none)
-      | inr s ↦ inl (stays_moves old new out s.1)
-    ]
-  ]
-  step_moves old new ask.prune say.done out i h = inl (prunes_moves old new out h.0 h.1)
-  step_moves old new (ask.set_capacity c) say.done out i h = inl (ap (λ z. z.next) h.others, λ q. settled_stamp_count (record old { capacity = c }) new out q h)
-  step_moves old new ask.total (say.sum n) out i h = inl (stays_moves old new out h.1)
-  step_moves old new _ _ out i h = absurd h
+  releases_moves : (old new : Cache K V) (s : ℕ) (out : List (Idle K V)) → Releases E old s out new → (new.next ≡ old.next) × ((q : ℕ) → stamp_count_in_list q out + stamp_count_in_cache new q ≡ stamp_count_in_cache old q)
+  releases_moves old new s out (inl l) = same_stamp_count old new s l.1.entry (held_in_phase (ready l.0) (one_pin_less l.1.entry)) out l.1.holds.at l.1.changed l.1.none
+  releases_moves old new s out (inr (inl r)) = rests_moves old new s out r
+  releases_moves old new s out (inr (inr r)) = ends_moves old new s out r
+
+  pub invalidates_moves : (old new : Cache K V) (k : K) (out : List (Idle K V)) → IsStamped old → Invalidates E old k out new → (new.next ≡ old.next) × ((q : ℕ) → stamp_count_in_list q out + stamp_count_in_cache new q ≡ stamp_count_in_cache old q)
+  invalidates_moves old new k out i (inl d) = drops_moves old new k out i d
+  invalidates_moves old new k out i (inr (inl d)) = same_stamp_count old new d.stamp d.entry (held_detached d.entry) out d.at d.changed d.none
+  invalidates_moves old new k out i (inr (inr s)) = stays_moves old new out s.1
 
   -- where a stamp is after one step
   pub record Grows (old : Cache K V) (e : Request K V × Outcome K V) (new : Cache K V) : Type 0 where
@@ -338,6 +310,69 @@ module _ {K V : Type 0} (E : K → K → Bool) where
     ];
     fresh = λ q h. let u = g.up in let a : stamp_count_in_outcome q e + stamp_count_in_cache new q ≡ 0 = g.later q (omega (arith, u, h)) h in omega (arith, a);
   }
+
+  -- an insert gives out the next stamp; a read keeps all counts
+  stores_moves : (old new : Cache K V) (k : K) (c s : ℕ) (v : V) (out : List (Idle K V)) → IsStamped old → Stores E old k c v s out new → (new.next ≡ old.next + 1) × ((q : ℕ) → stamp_count_in_list q out + stamp_count_in_cache new q ≡ stamp_count_in_cache old q + one_if (old.next == q))
+  stores_moves old new k c s v out i h =
+      let a = invalidates_moves old h.mid k h.replaced i h.invalidated in
+      let e : Request K V × Outcome K V = (ask.invalidate k, accepted say.done h.replaced) in
+      let b = makes_moves h.mid h.made k c s h.evicted (stamped old e h.mid i (grows old e h.mid i (inl a))) h.begun in
+      let d = same_stamp_count h.made new s h.given.entry (held_in_phase (ready v) h.given.entry) [] h.given.holds.at h.given.changed h.given.none in
+      let n : h.mid.next ≡ old.next = a.0 in
+      let m : h.made.next ≡ h.mid.next + 1 = b.0 in
+      let o : new.next ≡ h.made.next = d.0 in (
+        omega (arith, n, m, o),
+        λ q.
+            let x : stamp_count_in_list q h.replaced + stamp_count_in_cache h.mid q ≡ stamp_count_in_cache old q = a.1 q in
+            let y : stamp_count_in_list q h.evicted + stamp_count_in_cache h.made q ≡ stamp_count_in_cache h.mid q + one_if (h.mid.next == q) = b.1 q in
+            let z : stamp_count_in_list {K = K} {V = V} q [] + stamp_count_in_cache new q ≡ stamp_count_in_cache h.made q = d.1 q in
+            let w : stamp_count_in_list q out ≡ stamp_count_in_list q h.replaced + stamp_count_in_list q h.evicted = ap (stamp_count_in_list q) h.both ∙ sum_by-append (λ x. one_if (x.stamp == q)) h.replaced h.evicted in
+            let u : one_if (h.mid.next == q) ≡ one_if (old.next == q) = ap (λ t. one_if (t == q)) a.0 in
+            let r : stamp_count_in_list {K = K} {V = V} q [] ≡ 0 = refl in
+            omega (arith, x, y, z, w, u, r),
+      )
+
+  renews_moves : (old new : Cache K V) (k : K) (s : ℕ) (v : V) (out : List (Idle K V)) → IsStamped old → Renews E old k s v out new → (new.next ≡ old.next) × ((q : ℕ) → stamp_count_in_list q out + stamp_count_in_cache new q ≡ stamp_count_in_cache old q)
+  renews_moves old new k s v out i h =
+      let a = hits_moves old h.mid k s v [] i h.found in
+      let b = releases_moves h.mid new s [] h.released in (
+        b.0 ∙ a.0,
+        λ q.
+            let x : stamp_count_in_list {K = K} {V = V} q [] + stamp_count_in_cache h.mid q ≡ stamp_count_in_cache old q = a.1 q in
+            let y : stamp_count_in_list {K = K} {V = V} q [] + stamp_count_in_cache new q ≡ stamp_count_in_cache h.mid q = b.1 q in
+            let z : stamp_count_in_list q out ≡ 0 = none_told q out h.none in
+            let r : stamp_count_in_list {K = K} {V = V} q [] ≡ 0 = refl in
+            omega (arith, x, y, z, r),
+      )
+
+  pub step_moves : (old new : Cache K V) (r : Request K V) (y : Reply K V) (out : List (Idle K V)) → IsStamped old → Step E old r y out new → Moves old (r, accepted y out) new
+  step_moves old new (ask.begin k c) (say.make s) out i h = elim h [
+    | inl m ↦ inr (makes_moves old new k c s out i m)
+    | inr j ↦ inl (same_stamp_count old new s j.entry (held_in_phase making (one_more_pin j.entry)) out j.holds.at j.changed j.none)
+  ]
+  step_moves old new (ask.begin k c) (say.wait s) out i j = inl (same_stamp_count old new s j.entry (held_in_phase making (one_more_pin j.entry)) out j.holds.at j.changed j.none)
+  step_moves old new (ask.begin k c) (say.hit s v) out i h = inl (hits_moves old new k s v out i h)
+  step_moves old new (ask.poll s) (say.wait t) out i h = inl (same_stamp_count old new s h.1.entry (held_in_phase making h.1.entry) out h.1.holds.at h.1.changed h.1.none)
+  step_moves old new (ask.poll s) (say.make t) out i h = inl (same_stamp_count old new s h.1.entry (held_in_phase making h.1.entry) out h.1.holds.at h.1.changed h.1.none)
+  step_moves old new (ask.poll s) (say.hit t v) out i h = inl (same_stamp_count old new s h.1.entry (held_in_phase (ready v) h.1.entry) out h.1.holds.at h.1.changed h.1.none)
+  step_moves old new (ask.ready s v) say.done out i h = inl (same_stamp_count old new s h.entry (held_in_phase (ready v) h.entry) out h.holds.at h.changed h.none)
+  step_moves old new (ask.fail s) say.left out i h = inl (same_stamp_count old new s h.entry (held_in_phase untaken (one_pin_less h.entry)) out h.holds.at h.changed h.none)
+  step_moves old new (ask.fail s) (say.removed k) out i h = inl (removes_moves old new s k out h)
+  step_moves old new (ask.get k) (say.hit s v) out i h = inl (hits_moves old new k s v out i h)
+  step_moves old new (ask.get k) say.missed out i h = inl (stays_moves old new out h.1)
+  step_moves old new (ask.release s) say.done out i h = inl (releases_moves old new s out h)
+  step_moves old new (ask.advice_evict k) say.done out i h = elim h [
+    | inl d ↦ inl (drops_moves old new k out i d)
+    | inr s ↦ inl (stays_moves old new out s.1)
+  ]
+  step_moves old new (ask.invalidate k) say.done out i h = inl (invalidates_moves old new k out i h)
+  step_moves old new (ask.insert k c v) (say.inserted s) out i h = inr (stores_moves old new k c s v out i h)
+  step_moves old new (ask.read k) (say.read s v) out i h = inl (renews_moves old new k s v out i h)
+  step_moves old new (ask.read k) say.missed out i h = inl (stays_moves old new out h.1)
+  step_moves old new ask.prune say.done out i h = inl (prunes_moves old new out h.0 h.1)
+  step_moves old new (ask.set_capacity c) say.done out i h = inl (ap (λ z. z.next) h.others, λ q. settled_stamp_count (record old { capacity = c }) new out q h)
+  step_moves old new ask.total (say.sum n) out i h = inl (stays_moves old new out h.1)
+  step_moves old new _ _ out i h = absurd h
 
   pub run_stamp_count : (old new : Cache K V) (es : List (Request K V × Outcome K V)) → IsStamped old → Run E old (map (λ e. e.0) es) (map (λ e. e.1) es) new
       → IsStamped new × (old.next ≤ new.next) × ((s : ℕ) → s < old.next → stamp_count s es new ≡ stamp_count_in_cache old s) × ((s : ℕ) → old.next ≤ s → s < new.next → stamp_count s es new ≡ 1)

@@ -5,14 +5,14 @@ use Rattle.std.specs.Prelude.{nat_lt}
 use Rattle.std.proofs.lemmas.Bool.{eqb-true, cases_lt, lt-ltb, le-ltb}
 use Rattle.std.proofs.lemmas.List.Sums.{sum_by-cons}
 use Rattle.concurrent_lru.specs.Cache.{Cache, Idle, Held, IsLawful, held_at, idle_at}
-use Rattle.concurrent_lru.specs.Steps.{Step}
+use Rattle.concurrent_lru.specs.Steps.{Hits, Releases, Renews, Step}
 use Rattle.concurrent_lru.specs.Request as ask
 use Rattle.concurrent_lru.specs.Request.{Request}
 use Rattle.concurrent_lru.specs.Reply as say
 use Rattle.concurrent_lru.specs.Reply.{Reply}
 use Rattle.concurrent_lru.specs.Runs.{Outcome, accepted, refused, Run}
 use Rattle.concurrent_lru.specs.StampCounts.{one_if, one_if_some, stamp_count_in_list, stamp_count_in_cache, stamps_given, AreNumbersUpTo}
-use Rattle.concurrent_lru.proofs.Runs.StampCounts.{IsStamped, run_stamp_count}
+use Rattle.concurrent_lru.proofs.Runs.StampCounts.{IsStamped, invalidates_moves, run_stamp_count}
 
 module _ {K V : Type 0} where
   times_none : (s : ℕ) (xs : List (Idle K V)) → find (λ x. x.stamp == s) xs ≡ None → stamp_count_in_list s xs ≡ 0
@@ -81,6 +81,18 @@ module _ {K V : Type 0} (E : K → K → Bool) where
   abbrev Told : List (Request K V × Outcome K V) → ℕ → ℕ → Type 0
   Told es n m = AreNumbersUpTo m (stamps_given m es) n
 
+  releases_next : (old new : Cache K V) (s : ℕ) (out : List (Idle K V)) → Releases E old s out new → new.next ≡ old.next
+  releases_next old new s out (inl l) = ap (λ z. z.next) l.1.changed
+  releases_next old new s out (inr (inl r)) = ap (λ z. z.next) r.settles.others
+  releases_next old new s out (inr (inr r)) = ap (λ z. z.next) r.changed
+
+  hits_next : (old new : Cache K V) (k : K) (s : ℕ) (v : V) (out : List (Idle K V)) → Hits E old k s v out new → new.next ≡ old.next
+  hits_next old new k s v out (inl j) = ap (λ z. z.next) j.changed
+  hits_next old new k s v out (inr r) = ap (λ z. z.next) r.changed
+
+  renews_next : (old new : Cache K V) (k : K) (s : ℕ) (v : V) (out : List (Idle K V)) → Renews E old k s v out new → new.next ≡ old.next
+  renews_next old new k s v out h = releases_next h.mid new s [] h.released ∙ hits_next old h.mid k s v [] h.found
+
   step_given : (old mid : Cache K V) (r : Request K V) (y : Reply K V) (out : List (Idle K V)) (es : List (Request K V × Outcome K V)) (n : ℕ) → IsStamped old → Step E old r y out mid → Told es n mid.next → Told ((r, accepted y out) ∷ es) n old.next
   step_given old mid (ask.begin k c) (say.make s) out es n i h t = elim h [
     | inl m ↦
@@ -93,28 +105,16 @@ module _ {K V : Type 0} (E : K → K → Bool) where
         subst (λ b. AreNumbersUpTo old.next (cond b (stamps_given old.next es) (s ∷ stamps_given (s + 1) es)) n) (sym (lt-ltb s old.next low)) (subst (Told es n) (ap (λ z. z.next) j.changed) t)
   ]
   step_given old mid (ask.begin k c) (say.wait s) out es n i j t = subst (Told es n) (ap (λ z. z.next) j.changed) t
-  step_given old mid (ask.begin k c) (say.hit s v) out es n i h t = elim h [
-    | inl j ↦ subst (Told es n) (ap (λ z. z.next) j.changed) t
-    | inr r ↦ subst (Told es n) (ap (λ z. z.next) r.changed) t
-  ]
+  step_given old mid (ask.begin k c) (say.hit s v) out es n i h t = subst (Told es n) (hits_next old mid k s v out h) t
   step_given old mid (ask.poll s) (say.wait u) out es n i h t = subst (Told es n) (ap (λ z. z.next) h.1.changed) t
   step_given old mid (ask.poll s) (say.make u) out es n i h t = subst (Told es n) (ap (λ z. z.next) h.1.changed) t
   step_given old mid (ask.poll s) (say.hit u v) out es n i h t = subst (Told es n) (ap (λ z. z.next) h.1.changed) t
   step_given old mid (ask.ready s v) say.done out es n i h t = subst (Told es n) (ap (λ z. z.next) h.changed) t
   step_given old mid (ask.fail s) say.left out es n i h t = subst (Told es n) (ap (λ z. z.next) h.changed) t
   step_given old mid (ask.fail s) (say.removed k) out es n i h t = subst (Told es n) (ap (λ z. z.next) h.changed) t
-  step_given old mid (ask.get k) (say.hit s v) out es n i h t = elim h [
-    | inl j ↦ subst (Told es n) (ap (λ z. z.next) j.changed) t
-    | inr r ↦ subst (Told es n) (ap (λ z. z.next) r.changed) t
-  ]
+  step_given old mid (ask.get k) (say.hit s v) out es n i h t = subst (Told es n) (hits_next old mid k s v out h) t
   step_given old mid (ask.get k) say.missed out es n i h t = subst (Told es n) (ap (λ z. z.next) h.1.same) t
-  step_given old mid (ask.release s) say.done out es n i h t = elim h [
-    | inl l ↦ subst (Told es n) (ap (λ z. z.next) l.1.changed) t
-    | inr b ↦ elim b [
-      | inl r ↦ subst (Told es n) (ap (λ z. z.next) r.settles.others) t
-      | inr r ↦ subst (Told es n) (ap (λ z. z.next) r.changed) t
-    ]
-  ]
+  step_given old mid (ask.release s) say.done out es n i h t = subst (Told es n) (releases_next old mid s out h) t
   step_given old mid (ask.advice_evict k) say.done out es n i h t = elim h [
     | inl d ↦ subst (Told es n) (ap (λ z. z.next) d.changed) t
     | inr s ↦ subst (Told es n) (ap (λ z. z.next) s.1.same) t
@@ -126,6 +126,12 @@ module _ {K V : Type 0} (E : K → K → Bool) where
       | inr s ↦ subst (Told es n) (ap (λ z. z.next) s.1.same) t
     ]
   ]
+  step_given old mid (ask.insert k c v) (say.inserted s) out es n i h t =
+      let is : s ≡ old.next = h.begun.stamp ∙ (invalidates_moves E old h.mid k h.replaced i h.invalidated).0 in
+      let up : mid.next ≡ s + 1 = ap (λ z. z.next) h.given.changed ∙ ap (λ z. z.next) h.begun.settles.others ∙ ap (λ z. z + 1) (sym h.begun.stamp) in
+      (is, subst (λ z. AreNumbersUpTo (z + 1) (stamps_given (s + 1) es) n) is (subst (Told es n) up t))
+  step_given old mid (ask.read k) (say.read s v) out es n i h t = subst (Told es n) (renews_next old mid k s v out h) t
+  step_given old mid (ask.read k) say.missed out es n i h t = subst (Told es n) (ap (λ z. z.next) h.1.same) t
   step_given old mid ask.prune say.done out es n i h t = subst (Told es n) (ap (λ z. z.next) h.1) t
   step_given old mid (ask.set_capacity c) say.done out es n i h t = subst (Told es n) (ap (λ z. z.next) h.others) t
   step_given old mid ask.total (say.sum m) out es n i h t = subst (Told es n) (ap (λ z. z.next) h.1.same) t

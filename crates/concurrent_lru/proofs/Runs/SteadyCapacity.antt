@@ -77,6 +77,8 @@ module _ {K V : Type 0} where
   plain_changes ((ask.begin k c, accepted (say.hit s v) a) ∷ (ask.release u, accepted say.done b) ∷ es) h = let r = plain_changes es h.1 in ((h.0, r.0), (tt, (tt, r.1)))
   plain_changes ((ask.get k, accepted (say.hit s v) a) ∷ (ask.release u, accepted say.done b) ∷ es) h = let r = plain_changes es h.1 in ((h.0, r.0), (tt, (tt, r.1)))
   plain_changes ((ask.get k, accepted say.missed a) ∷ es) h = let r = plain_changes es h in (r.0, (tt, r.1))
+  plain_changes ((ask.read k, accepted (say.read s v) a) ∷ es) h = let r = plain_changes es h in (r.0, (tt, r.1))
+  plain_changes ((ask.read k, accepted say.missed a) ∷ es) h = let r = plain_changes es h in (r.0, (tt, r.1))
   plain_changes (e ∷ es) h = absurd h
 
   none_set : (c : ℕ) (a b : List (Request K V × Outcome K V)) → AllByRecursion SetsNone (a ++ b) → capacity_after c a ≡ c

@@ -4,7 +4,7 @@ use Rattle.concurrent_lru.specs.Cache.{Cache, Idle, Phase, making, untaken, read
 use Rattle.concurrent_lru.specs.Request as ask
 use Rattle.concurrent_lru.specs.Reply as say
 use Rattle.concurrent_lru.specs.Reply.{Reply}
-use Rattle.concurrent_lru.specs.Steps.{with_capacity, Makes, Joins, Revives, Hits, ChangesPhase, Leaves, Removes, Rests, Stays, Drops, Ends, Detaches, IsAbsent, IsUnready, IsNotIdle, Step}
+use Rattle.concurrent_lru.specs.Steps.{with_capacity, Makes, Joins, Revives, Hits, ChangesPhase, Leaves, Removes, Stays, Drops, IsUnready, IsNotIdle, Releases, Invalidates, Stores, Renews, Step}
 
 module _ {K V : Type 0} where
   -- what begin and poll reply at a held entry in a phase
@@ -54,7 +54,7 @@ module _ {K V : Type 0} (E : K → K → Bool) (old : Cache K V) where
   get_cases k p out new h = absurd h
 
   pub release_cases : (s : ℕ) (p : Reply K V) (out : List (Idle K V)) (new : Cache K V) → Step E old (ask.release s) p out new
-      → (p ≡ say.done) × (((v : V) × Leaves E old s (ready v) (ready v) out new) ⊎ (Rests E old s out new ⊎ Ends E old s out new))
+      → (p ≡ say.done) × Releases E old s out new
   release_cases s say.done out new h = (refl, h)
   release_cases s p out new h = absurd h
 
@@ -64,9 +64,20 @@ module _ {K V : Type 0} (E : K → K → Bool) (old : Cache K V) where
   advice_evict_cases k p out new h = absurd h
 
   pub invalidate_cases : (k : K) (p : Reply K V) (out : List (Idle K V)) (new : Cache K V) → Step E old (ask.invalidate k) p out new
-      → (p ≡ say.done) × (Drops E old k out new ⊎ (Detaches E old k out new ⊎ (IsAbsent E old k × Stays E old out new)))
+      → (p ≡ say.done) × Invalidates E old k out new
   invalidate_cases k say.done out new h = (refl, h)
   invalidate_cases k p out new h = absurd h
+
+  pub insert_cases : (k : K) (charge : ℕ) (v : V) (p : Reply K V) (out : List (Idle K V)) (new : Cache K V) → Step E old (ask.insert k charge v) p out new
+      → (s : ℕ) × (p ≡ say.inserted s) × Stores E old k charge v s out new
+  insert_cases k charge v (say.inserted s) out new h = (s, refl, h)
+  insert_cases k charge v p out new h = absurd h
+
+  pub read_cases : (k : K) (p : Reply K V) (out : List (Idle K V)) (new : Cache K V) → Step E old (ask.read k) p out new
+      → ((s : ℕ) × (v : V) × (p ≡ say.read s v) × Renews E old k s v out new) ⊎ ((p ≡ say.missed) × IsUnready E old k × Stays E old out new)
+  read_cases k (say.read s v) out new h = inl (s, v, refl, h)
+  read_cases k say.missed out new h = inr (refl, h.0, h.1)
+  read_cases k p out new h = absurd h
 
   pub prune_cases : (p : Reply K V) (out : List (Idle K V)) (new : Cache K V) → Step E old ask.prune p out new → (p ≡ say.done) × (out ≡ old.idle) × (new ≡ record old { idle = [] })
   prune_cases say.done out new h = (refl, h.0, h.1)

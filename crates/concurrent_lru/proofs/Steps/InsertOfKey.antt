@@ -8,7 +8,7 @@ use Rattle.std.specs.declared.alloc.Global.{Global}
 use Rattle.std.proofs.lemmas.Bool.{true≢false, eqb-true, eq-eqb}
 use Rattle.std.proofs.lemmas.Option.{none-some, same_Some}
 use Rattle.concurrent_lru.specs.Cache.{Cache, Idle, Held, making, sum_of, held_at, IsFound, IsLawful}
-use Rattle.concurrent_lru.specs.Steps.{IsAbsent, HasNumbers, Holds, Makes, Drops, Step, held_detached, held_in_phase, one_more_pin, with_held}
+use Rattle.concurrent_lru.specs.Steps.{IsAbsent, HasNumbers, Holds, Makes, Drops, Invalidates, Step, held_detached, held_in_phase, one_more_pin, with_held}
 use Rattle.concurrent_lru.specs.Request as ask
 use Rattle.concurrent_lru.specs.Reply as say
 use Rattle.concurrent_lru.specs.Runs.{accepted, refused, Stands}
@@ -58,6 +58,12 @@ module _ {K V : Type 0} (E : K → K → Bool) (eq : IsEquivalence E) (old : Cac
             let stamp : t ≡ d.stamp = l.one_entry t d.stamp a d.entry.key m d.entry.charge (inr h) own (alike a d.entry.key same d.same_key) in
             none-some h.0 (sym (l.held_apart d.stamp d.entry d.at) ∙ ap (held_at old) (sym stamp) ∙ h.1)
       ]))
+
+  -- so a key is absent once it was invalidated
+  pub invalidated_absent : (mid : Cache K V) (out : List (Idle K V)) → Invalidates E old k out mid → IsAbsent E mid k
+  invalidated_absent mid out (inl d) = dropped_absent mid out d
+  invalidated_absent mid out (inr (inl d)) = subst (λ c. IsAbsent E c k) (sym d.changed) (detached_absent d.stamp d.entry d.at d.found d.same_key)
+  invalidated_absent mid out (inr (inr h)) = subst (λ c. IsAbsent E c k) (sym h.1.same) h.0
 
 module _ {K V : Type 0} (E : K → K → Bool) {c : Cache K V} {k : K} (charge : ℕ) (absent : IsAbsent E c k) where
   -- how a begin on an absent key may be refused

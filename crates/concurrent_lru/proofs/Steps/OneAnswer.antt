@@ -10,13 +10,14 @@ use Rattle.concurrent_lru.specs.Request as ask
 use Rattle.concurrent_lru.specs.Request.{Request}
 use Rattle.concurrent_lru.specs.Reply as say
 use Rattle.concurrent_lru.specs.Reply.{Reply}
-use Rattle.concurrent_lru.specs.Steps.{with_held, with_capacity, without_held, without, held_in_phase, held_detached, one_more_pin, one_pin_less, held_by_one, idle_again, Makes, Joins, Revives, Hits, ChangesPhase, Leaves, Removes, Rests, Stays, Drops, Ends, Detaches, IsAbsent, IsUnready, IsNotIdle, Step}
+use Rattle.concurrent_lru.specs.Steps.{with_held, with_capacity, without_held, without, held_in_phase, held_detached, one_more_pin, one_pin_less, held_by_one, idle_again, Makes, Joins, Revives, Hits, ChangesPhase, Leaves, Removes, Rests, Stays, Drops, Ends, Detaches, IsAbsent, IsUnready, IsNotIdle, Releases, Invalidates, Step}
 use Rattle.concurrent_lru.specs.StepLaws.{AreAlike, IsAlike, LeadsToOne, OneAnswer}
 use Rattle.concurrent_lru.proofs.Steps.BeginOfAbsent.{with_new_entry, sum-made}
 use Rattle.concurrent_lru.proofs.Lists.DistinctEntries.{same}
 use Rattle.concurrent_lru.proofs.Steps.OneFront.{one_front}
 use Rattle.concurrent_lru.proofs.Steps.LawfulAfterChange.{orderly}
-use Rattle.concurrent_lru.proofs.Steps.CasesOfSteps.{reply_in_phase, phase_after_asking, begin_cases, poll_cases, ready_cases, fail_cases, get_cases, release_cases, advice_evict_cases, invalidate_cases, prune_cases, set_capacity_cases, total_cases}
+use Rattle.concurrent_lru.proofs.Steps.CasesOfSteps.{reply_in_phase, phase_after_asking, begin_cases, poll_cases, ready_cases, fail_cases, get_cases, release_cases, advice_evict_cases, invalidate_cases, insert_cases, read_cases, prune_cases, set_capacity_cases, total_cases}
+use Rattle.concurrent_lru.proofs.Steps.StaysLawful.{invalidates_lawful}
 
 pub same_value : {V : Type 0} (v w : V) → ready v ≡ ready w → v ≡ w
 same_value v w h = cc
@@ -83,6 +84,19 @@ module _ {K V : Type 0} (E : K → K → Bool) where
       let n : e.pins ≡ f.pins = ap (λ x. x.pins) (same_entry old s e f a b) in
       absurd (omega (arith, n, others, last))
 
+  releases_once : (old : Cache K V) (s : ℕ) (out away : List (Idle K V)) (new other : Cache K V) → Releases E old s out new → Releases E old s away other → (out ≡ away) × (new ≡ other)
+  releases_once old s out away new other (inl a) (inl b) =
+      let v : a.0 ≡ b.0 = same_value a.0 b.0 (sym a.1.holds.phase ∙ ap (λ x. x.phase) (same_entry old s a.1.entry b.1.entry a.1.holds.at b.1.holds.at) ∙ b.1.holds.phase) in
+      leaves_once old s (ready b.0) (ready b.0) out away new other (subst (λ w. Leaves E old s (ready w) (ready w) out new) v a.1) b.1
+  releases_once old s out away new other (inl a) (inr (inl b)) = absurd (not_last old s a.1.entry b.entry a.1.holds.at b.holds.at a.1.others b.last)
+  releases_once old s out away new other (inl a) (inr (inr b)) = absurd (not_last old s a.1.entry b.entry a.1.holds.at b.holds.at a.1.others b.last)
+  releases_once old s out away new other (inr (inl a)) (inl b) = absurd (not_last old s b.1.entry a.entry b.1.holds.at a.holds.at b.1.others a.last)
+  releases_once old s out away new other (inr (inr a)) (inl b) = absurd (not_last old s b.1.entry a.entry b.1.holds.at a.holds.at b.1.others a.last)
+  releases_once old s out away new other (inr (inl a)) (inr (inl b)) = rests_once old s out away new other a b
+  releases_once old s out away new other (inr (inl a)) (inr (inr b)) = absurd (not_found_and_lost old s a.entry b.entry a.holds.at b.holds.at a.found b.lost)
+  releases_once old s out away new other (inr (inr a)) (inr (inl b)) = absurd (not_found_and_lost old s b.entry a.entry b.holds.at a.holds.at b.found a.lost)
+  releases_once old s out away new other (inr (inr a)) (inr (inr b)) = ends_once old s out away new other a b
+
   alike_option : IsEquivalence E → (o : Option (Held K V)) → AreAlike E o o
   alike_option laws None = tt
   alike_option laws (Some e) = (laws.refl e.key, refl)
@@ -98,6 +112,28 @@ module _ {K V : Type 0} (E : K → K → Bool) where
   alike_inserted laws m s t e f h k =
       subst (λ o. AreAlike E o (finmap.get (finmap.insert m s f) t)) (sym (finmap.get-insert nat_cmp_total m s e t))
       (subst (AreAlike E (cond (same t s) (Some e) (finmap.get m t))) (sym (finmap.get-insert nat_cmp_total m s f t)) (alike_chosen laws (same t s) e f (finmap.get m t) h k))
+
+  -- a held entry is written in caches that are alike
+  alike_written : (b : Bool) (e f : Held K V) (o p : Option (Held K V)) → E e.key f.key ≡ true → record e { key = f.key } ≡ f → AreAlike E o p → AreAlike E (cond b (Some e) o) (cond b (Some f) p)
+  alike_written true e f o p h k a = (h, k)
+  alike_written false e f o p h k a = a
+
+  -- so is one that gets its value
+  gives_alike : (c d new other : Cache K V) (s : ℕ) (v : V) → IsAlike E c d → ChangesPhase E c s making (ready v) [] new → ChangesPhase E d s making (ready v) [] other → IsAlike E new other
+  gives_alike c d new other s v is a b =
+      let both : AreAlike E (Some a.entry) (Some b.entry) = subst (λ o. AreAlike E o (Some b.entry)) a.holds.at (subst (AreAlike E (held_at c s)) b.holds.at (is.held s)) in
+      record {
+        capacity = ap (λ x. x.capacity) a.changed ∙ is.capacity ∙ sym (ap (λ x. x.capacity) b.changed);
+        most_pins = ap (λ x. x.most_pins) a.changed ∙ is.most_pins ∙ sym (ap (λ x. x.most_pins) b.changed);
+        next = ap (λ x. x.next) a.changed ∙ is.next ∙ sym (ap (λ x. x.next) b.changed);
+        idle = ap (λ x. x.idle) a.changed ∙ is.idle ∙ sym (ap (λ x. x.idle) b.changed);
+        held = λ t.
+            let here = sym (ap (λ x. held_at x t) a.changed ∙ finmap.get-insert nat_cmp_total c.held s (held_in_phase (ready v) a.entry) t) in
+            let there = sym (ap (λ x. held_at x t) b.changed ∙ finmap.get-insert nat_cmp_total d.held s (held_in_phase (ready v) b.entry) t) in
+            subst (λ o. AreAlike E o (held_at other t)) here
+            (subst (AreAlike E (cond (same t s) (Some (held_in_phase (ready v) a.entry)) (held_at c t))) there
+            (alike_written (same t s) (held_in_phase (ready v) a.entry) (held_in_phase (ready v) b.entry) (held_at c t) (held_at d t) both.0 (ap (held_in_phase (ready v)) both.1) (is.held t)));
+      }
 
   module _ (laws : IsEquivalence E) (old : Cache K V) (l : IsLawful E old) where
     -- keys that equal one key are equal
@@ -228,19 +264,6 @@ module _ {K V : Type 0} (E : K → K → Bool) where
       ]
     ]
 
-    releases_once : (s : ℕ) (out away : List (Idle K V)) (new other : Cache K V) → ((v : V) × Leaves E old s (ready v) (ready v) out new) ⊎ (Rests E old s out new ⊎ Ends E old s out new) → ((v : V) × Leaves E old s (ready v) (ready v) away other) ⊎ (Rests E old s away other ⊎ Ends E old s away other) → (out ≡ away) × (new ≡ other)
-    releases_once s out away new other (inl a) (inl b) =
-        let v : a.0 ≡ b.0 = same_value a.0 b.0 (sym a.1.holds.phase ∙ ap (λ x. x.phase) (same_entry old s a.1.entry b.1.entry a.1.holds.at b.1.holds.at) ∙ b.1.holds.phase) in
-        leaves_once old s (ready b.0) (ready b.0) out away new other (subst (λ w. Leaves E old s (ready w) (ready w) out new) v a.1) b.1
-    releases_once s out away new other (inl a) (inr (inl b)) = absurd (not_last old s a.1.entry b.entry a.1.holds.at b.holds.at a.1.others b.last)
-    releases_once s out away new other (inl a) (inr (inr b)) = absurd (not_last old s a.1.entry b.entry a.1.holds.at b.holds.at a.1.others b.last)
-    releases_once s out away new other (inr (inl a)) (inl b) = absurd (not_last old s b.1.entry a.entry b.1.holds.at a.holds.at b.1.others a.last)
-    releases_once s out away new other (inr (inr a)) (inl b) = absurd (not_last old s b.1.entry a.entry b.1.holds.at a.holds.at b.1.others a.last)
-    releases_once s out away new other (inr (inl a)) (inr (inl b)) = rests_once old s out away new other a b
-    releases_once s out away new other (inr (inl a)) (inr (inr b)) = absurd (not_found_and_lost old s a.entry b.entry a.holds.at b.holds.at a.found b.lost)
-    releases_once s out away new other (inr (inr a)) (inr (inl b)) = absurd (not_found_and_lost old s b.entry a.entry b.holds.at a.holds.at b.found a.lost)
-    releases_once s out away new other (inr (inr a)) (inr (inr b)) = ends_once old s out away new other a b
-
     advises_once : (k : K) (out away : List (Idle K V)) (new other : Cache K V) → Drops E old k out new ⊎ (IsNotIdle E old k × Stays E old out new) → Drops E old k away other ⊎ (IsNotIdle E old k × Stays E old away other) → (out ≡ away) × (new ≡ other)
     advises_once k out away new other (inl a) (inl b) = drops_once k out away new other a b
     advises_once k out away new other (inl a) (inr b) = absurd (true≢false (sym a.same_key ∙ b.0 a.stamp a.entry a.at))
@@ -252,7 +275,7 @@ module _ {K V : Type 0} (E : K → K → Bool) where
         let e = held_once k a.stamp b.stamp a.entry b.entry a.at b.at a.found b.found a.same_key b.same_key in
         (a.none ∙ sym b.none, a.changed ∙ (λ i. with_held old (e.0 i) (held_detached (e.1 i))) ∙ sym b.changed)
 
-    invalidates_once : (k : K) (out away : List (Idle K V)) (new other : Cache K V) → Drops E old k out new ⊎ (Detaches E old k out new ⊎ (IsAbsent E old k × Stays E old out new)) → Drops E old k away other ⊎ (Detaches E old k away other ⊎ (IsAbsent E old k × Stays E old away other)) → (out ≡ away) × (new ≡ other)
+    pub invalidates_once : (k : K) (out away : List (Idle K V)) (new other : Cache K V) → Invalidates E old k out new → Invalidates E old k away other → (out ≡ away) × (new ≡ other)
     invalidates_once k out away new other (inl a) (inl b) = drops_once k out away new other a b
     invalidates_once k out away new other (inl a) (inr (inl b)) = absurd (not_both k b.stamp a.stamp b.entry a.entry b.at a.at b.found b.same_key a.same_key)
     invalidates_once k out away new other (inl a) (inr (inr b)) = absurd (not_idle k a.stamp a.entry b.0 a.at a.same_key)
@@ -263,8 +286,39 @@ module _ {K V : Type 0} (E : K → K → Bool) where
     invalidates_once k out away new other (inr (inr a)) (inr (inl b)) = absurd (not_held k b.stamp b.entry a.0 b.at b.found b.same_key)
     invalidates_once k out away new other (inr (inr a)) (inr (inr b)) = stays_once old out away new other a.1 b.1
 
+  module _ (laws : IsEquivalence E) (old : Cache K V) (l : IsLawful E old) where
+    one_insert : (k : K) (charge : ℕ) (v : V) (p q : Reply K V) (out away : List (Idle K V)) (new other : Cache K V) → Step E old (ask.insert k charge v) p out new → Step E old (ask.insert k charge v) q away other → (p ≡ q) × (out ≡ away) × IsAlike E new other
+    one_insert k charge v p q out away new other g h =
+        let a = insert_cases E old k charge v p out new g in
+        let b = insert_cases E old k charge v q away other h in
+        let x = a.2 in
+        let y = b.2 in
+        let i = invalidates_once laws old l k x.replaced y.replaced x.mid y.mid x.invalidated y.invalidated in
+        let m = makes_once laws x.mid (invalidates_lawful E old k x.replaced x.mid l x.invalidated) k charge a.0 b.0 x.evicted y.evicted x.made y.made x.begun (subst (λ c. Makes E c k charge b.0 y.evicted y.made) (sym i.1) y.begun) in (
+          a.1 ∙ ap say.inserted m.0 ∙ sym b.1,
+          x.both ∙ (λ j. i.0 j ++ m.1 j) ∙ sym y.both,
+          gives_alike x.made y.made new other a.0 v m.2 x.given (subst (λ u. ChangesPhase E y.made u making (ready v) [] other) (sym m.0) y.given),
+        )
+
+    one_read : (k : K) (p q : Reply K V) (out away : List (Idle K V)) (new other : Cache K V) → Step E old (ask.read k) p out new → Step E old (ask.read k) q away other → (p ≡ q) × (out ≡ away) × (new ≡ other)
+    one_read k p q out away new other g h = elim (read_cases E old k p out new g) [
+      | inl a ↦ elim (read_cases E old k q away other h) [
+        | inl b ↦
+            let x = a.3 in
+            let y = b.3 in
+            let j = hits_once laws old l k a.0 b.0 a.1 b.1 [] [] x.mid y.mid x.found y.found in
+            let r = releases_once x.mid a.0 [] [] new other x.released (subst (λ c. Releases E c a.0 [] other) (sym j.3) (subst (λ s. Releases E y.mid s [] other) (sym j.0) y.released)) in
+            (a.2 ∙ (λ i. say.read (j.0 i) (j.1 i)) ∙ sym b.2, x.none ∙ sym y.none, r.1)
+        | inr b ↦ absurd (hit_is_ready laws old l k a.0 a.1 [] a.3.mid a.3.found b.1)
+      ]
+      | inr a ↦ elim (read_cases E old k q away other h) [
+        | inl b ↦ absurd (hit_is_ready laws old l k b.0 b.1 [] b.3.mid b.3.found a.1)
+        | inr b ↦ let j = stays_once old out away new other a.2 b.2 in (a.0 ∙ sym b.0, j.0, j.1)
+      ]
+    ]
+
     one_step : (new other : Cache K V) (r : Request K V) (p q : Reply K V) (out away : List (Idle K V)) → Step E old r p out new → Step E old r q away other → (p ≡ q) × (out ≡ away) × LeadsToOne E r new other
-    one_step new other (ask.begin k charge) p q out away g h = one_begin k charge p q out away new other g h
+    one_step new other (ask.begin k charge) p q out away g h = one_begin laws old l k charge p q out away new other g h
     one_step new other (ask.poll s) p q out away g h =
         let a = poll_cases E old s p out new g in
         let b = poll_cases E old s q away other h in
@@ -275,23 +329,25 @@ module _ {K V : Type 0} (E : K → K → Bool) where
         let b = ready_cases E old s v q away other h in
         let j = readies_once old s v out away new other a.1 b.1 in
         (a.0 ∙ sym b.0, j.0, j.1)
-    one_step new other (ask.fail s) p q out away g h = one_fail s p q out away new other g h
-    one_step new other (ask.get k) p q out away g h = one_get k p q out away new other g h
+    one_step new other (ask.fail s) p q out away g h = one_fail laws old l s p q out away new other g h
+    one_step new other (ask.get k) p q out away g h = one_get laws old l k p q out away new other g h
     one_step new other (ask.release s) p q out away g h =
         let a = release_cases E old s p out new g in
         let b = release_cases E old s q away other h in
-        let j = releases_once s out away new other a.1 b.1 in
+        let j = releases_once old s out away new other a.1 b.1 in
         (a.0 ∙ sym b.0, j.0, j.1)
     one_step new other (ask.advice_evict k) p q out away g h =
         let a = advice_evict_cases E old k p out new g in
         let b = advice_evict_cases E old k q away other h in
-        let j = advises_once k out away new other a.1 b.1 in
+        let j = advises_once laws old l k out away new other a.1 b.1 in
         (a.0 ∙ sym b.0, j.0, j.1)
     one_step new other (ask.invalidate k) p q out away g h =
         let a = invalidate_cases E old k p out new g in
         let b = invalidate_cases E old k q away other h in
-        let j = invalidates_once k out away new other a.1 b.1 in
+        let j = invalidates_once laws old l k out away new other a.1 b.1 in
         (a.0 ∙ sym b.0, j.0, j.1)
+    one_step new other (ask.insert k charge v) p q out away g h = one_insert k charge v p q out away new other g h
+    one_step new other (ask.read k) p q out away g h = one_read k p q out away new other g h
     one_step new other ask.prune p q out away g h =
         let a = prune_cases E old p out new g in
         let b = prune_cases E old q away other h in

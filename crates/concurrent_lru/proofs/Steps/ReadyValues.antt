@@ -172,6 +172,8 @@ module _ {K V : Type 0} (E : K → K → Bool) where
   begin_fewer old new k charge (accepted (say.removed l) out) h = absurd h
   begin_fewer old new k charge (accepted say.missed out) h = absurd h
   begin_fewer old new k charge (accepted (say.sum n) out) h = absurd h
+  begin_fewer old new k charge (accepted (say.inserted n) out) h = absurd h
+  begin_fewer old new k charge (accepted (say.read n w) out) h = absurd h
   begin_fewer old new k charge (refused e) h = fewer_same old new h.1
 
   poll_fewer : (old new : Cache K V) (s : ℕ) (o : Outcome K V) → Stands E old (ask.poll s) o new → FewerReady old new
@@ -183,6 +185,8 @@ module _ {K V : Type 0} (E : K → K → Bool) where
   poll_fewer old new s (accepted (say.removed l) out) h = absurd h
   poll_fewer old new s (accepted say.missed out) h = absurd h
   poll_fewer old new s (accepted (say.sum n) out) h = absurd h
+  poll_fewer old new s (accepted (say.inserted n) out) h = absurd h
+  poll_fewer old new s (accepted (say.read n w) out) h = absurd h
   poll_fewer old new s (refused e) h = fewer_same old new h.1
 
   fail_fewer : (old new : Cache K V) (s : ℕ) (o : Outcome K V) → Stands E old (ask.fail s) o new → FewerReady old new
@@ -194,6 +198,8 @@ module _ {K V : Type 0} (E : K → K → Bool) where
   fail_fewer old new s (accepted say.done out) h = absurd h
   fail_fewer old new s (accepted say.missed out) h = absurd h
   fail_fewer old new s (accepted (say.sum n) out) h = absurd h
+  fail_fewer old new s (accepted (say.inserted n) out) h = absurd h
+  fail_fewer old new s (accepted (say.read n w) out) h = absurd h
   fail_fewer old new s (refused e) h = fewer_same old new h.1
 
   get_fewer : (old new : Cache K V) (k : K) (o : Outcome K V) → Stands E old (ask.get k) o new → FewerReady old new
@@ -205,6 +211,8 @@ module _ {K V : Type 0} (E : K → K → Bool) where
   get_fewer old new k (accepted say.left out) h = absurd h
   get_fewer old new k (accepted (say.removed l) out) h = absurd h
   get_fewer old new k (accepted (say.sum n) out) h = absurd h
+  get_fewer old new k (accepted (say.inserted n) out) h = absurd h
+  get_fewer old new k (accepted (say.read n w) out) h = absurd h
   get_fewer old new k (refused e) h = fewer_same old new h.1
 
   release_fewer : (old new : Cache K V) (s : ℕ) (o : Outcome K V) → Stands E old (ask.release s) o new → FewerReady old new
@@ -218,6 +226,8 @@ module _ {K V : Type 0} (E : K → K → Bool) where
   release_fewer old new s (accepted (say.removed l) out) h = absurd h
   release_fewer old new s (accepted say.missed out) h = absurd h
   release_fewer old new s (accepted (say.sum n) out) h = absurd h
+  release_fewer old new s (accepted (say.inserted n) out) h = absurd h
+  release_fewer old new s (accepted (say.read n w) out) h = absurd h
   release_fewer old new s (refused e) h = fewer_same old new h.1
 
   advice_evict_fewer : (old new : Cache K V) (k : K) (out : List (Idle K V)) → Stands E old (ask.advice_evict k) (accepted say.done out) new → FewerReady old new
@@ -336,6 +346,8 @@ module _ {K V : Type 0} (E : K → K → Bool) where
     ready_kept old new s k v (accepted (say.removed l) out) eq law lawful at fit h kept = absurd h
     ready_kept old new s k v (accepted say.missed out) eq law lawful at fit h kept = absurd h
     ready_kept old new s k v (accepted (say.sum n) out) eq law lawful at fit h kept = absurd h
+    ready_kept old new s k v (accepted (say.inserted n) out) eq law lawful at fit h kept = absurd h
+    ready_kept old new s k v (accepted (say.read n w) out) eq law lawful at fit h kept = absurd h
     ready_kept old new s k v (refused e) eq law lawful at fit h kept = kept_fewer old new (fewer_same old new h.1) kept
 
     -- where it is done only under a stamp whose entry has the key, the values fit whether it is

@@ -1,18 +1,18 @@
 -- A request that is refused has no step, and is refused in one way.
-use Rattle.std.proofs.Common.{◌≡◌, ℕ, ◌+◌, ◌<◌, ◌≤◌, ◌^◌, ◌⊎◌, inl, inr, Bool, true, false, List, Some, refl, sym, ap, ◌∙◌, arith}
+use Rattle.std.proofs.Common.{◌≡◌, ℕ, ◌+◌, ◌<◌, ◌≤◌, ◌^◌, ◌⊎◌, inl, inr, Bool, true, false, List, [], Some, refl, sym, ap, ◌∙◌, subst, arith}
 use Rattle.std.specs.Cmp.{IsEquivalence}
 use Rattle.std.proofs.lemmas.Option.{none-some}
-use Rattle.concurrent_lru.specs.Cache.{Cache, Idle, Held, IsLawful, held_at, sum_of}
+use Rattle.concurrent_lru.specs.Cache.{Cache, Idle, Held, IsLawful, ready, held_at, sum_of}
 use Rattle.concurrent_lru.specs.Request as ask
 use Rattle.concurrent_lru.specs.Request.{Request}
 use Rattle.concurrent_lru.specs.Reply.{Reply}
 use Rattle.concurrent_lru.specs.Runs.{IsFull, WouldHit, Overflows, IsStale, TakesMemory, Refuses}
-use Rattle.concurrent_lru.specs.Steps.{HasNumbers, Hits, Step}
+use Rattle.concurrent_lru.specs.Steps.{HasNumbers, Hits, IsUnready, Step}
 use Rattle.concurrent_lru.specs.StepLaws.{LeavesNoStep, OneRefusal}
 use Rattle.concurrent_lru.specs.declared.list.Refusal.{Refusal}
 use Rattle.concurrent_lru.specs.declared.list.Refusal.TheVariants.{Memory, Overflow, Stale}
-use Rattle.concurrent_lru.proofs.Steps.OneAnswer.{not_ready_too, same_entry, held_once, not_both, not_held, not_idle}
-use Rattle.concurrent_lru.proofs.Steps.CasesOfSteps.{begin_cases, poll_cases, ready_cases, fail_cases, get_cases, release_cases}
+use Rattle.concurrent_lru.proofs.Steps.OneAnswer.{not_ready_too, same_entry, held_once, invalidates_once, not_both, not_held, not_idle}
+use Rattle.concurrent_lru.proofs.Steps.CasesOfSteps.{begin_cases, poll_cases, ready_cases, fail_cases, get_cases, release_cases, insert_cases, read_cases}
 
 module _ {K V : Type 0} (E : K → K → Bool) where
   no_numbers : (c : Cache K V) (charge : ℕ) → HasNumbers E c charge → (2 ^ 64 ≤ sum_of c + charge) ⊎ (2 ^ 64 ≤ c.next + 1) → ⊥
@@ -23,11 +23,15 @@ module _ {K V : Type 0} (E : K → K → Bool) where
   stale_fits : (c : Cache K V) (r : Request K V) → IsStale E c r → Overflows E c r → ⊥
   stale_fits c (ask.begin k charge) h o = h
   stale_fits c (ask.get k) h o = h
+  stale_fits c (ask.insert k charge v) h o = h
+  stale_fits c (ask.read k) h o = h
   stale_fits c r h o = o
 
   stale_takes_none : (c : Cache K V) (r : Request K V) → IsStale E c r → TakesMemory E c r → ⊥
   stale_takes_none c (ask.begin k charge) h m = h
   stale_takes_none c (ask.get k) h m = h
+  stale_takes_none c (ask.insert k charge v) h m = h
+  stale_takes_none c (ask.read k) h m = h
   stale_takes_none c (ask.poll s) h m = none-some m.0 (sym h ∙ m.2.at)
   stale_takes_none c r h m = m
 
@@ -63,6 +67,12 @@ module _ {K V : Type 0} (E : K → K → Bool) where
     would_hit_not_full k (inl h) full = has_room k h.0 h.1 h.3.at h.6 h.4 h.5 full
     would_hit_not_full k (inr h) full = not_both E laws c l k full.stamp h.0 full.entry h.1 full.at h.2 full.found full.same_key h.3
 
+    -- one that is full and ready is not unready
+    full_is_ready : (k : K) → (full : IsFull E c k) × (v : V) × (full.entry.phase ≡ ready v) → IsUnready E c k → ⊥
+    full_is_ready k h unready =
+        let u = unready h.0.stamp h.0.entry.key h.0.entry.charge (inr (h.0.entry, h.0.at, refl, refl, h.0.found)) h.0.same_key in
+        not_ready_too u.0.phase h.1 (ap (λ x. x.phase) (same_entry E c h.0.stamp u.0 h.0.entry u.1 h.0.at) ∙ h.2) u.2
+
     overflow_stops : (new : Cache K V) (r : Request K V) (p : Reply K V) (out : List (Idle K V)) → Overflows E c r → Step E c r p out new → ⊥
     overflow_stops new (ask.begin k charge) p out (inl h) g = elim (begin_cases E c k charge p out new g) [
       | inl a ↦ no_numbers c charge a.2.fits h.1
@@ -80,9 +90,14 @@ module _ {K V : Type 0} (E : K → K → Bool) where
     ]
     overflow_stops new (ask.get k) p out h g = elim (get_cases E c k p out new g) [
       | inl a ↦ hit_not_full k a.0 a.1 out new a.3 h.0
-      | inr a ↦
-          let u = a.1 h.0.stamp h.0.entry.key h.0.entry.charge (inr (h.0.entry, h.0.at, refl, refl, h.0.found)) h.0.same_key in
-          not_ready_too u.0.phase h.1 (ap (λ x. x.phase) (same_entry E c h.0.stamp u.0 h.0.entry u.1 h.0.at) ∙ h.2) u.2
+      | inr a ↦ full_is_ready k h a.1
+    ]
+    overflow_stops new (ask.insert k charge v) p out h g =
+        let x = (insert_cases E c k charge v p out new g).2 in
+        no_numbers h.0 charge (subst (λ d. HasNumbers E d charge) (invalidates_once E laws c l k x.replaced h.1 x.mid h.0 x.invalidated h.2).1 x.begun.fits) h.3
+    overflow_stops new (ask.read k) p out h g = elim (read_cases E c k p out new g) [
+      | inl a ↦ hit_not_full k a.0 a.1 [] a.3.mid a.3.found h.0
+      | inr a ↦ full_is_ready k h a.1
     ]
     overflow_stops new r p out h g = absurd h
 
@@ -93,6 +108,8 @@ module _ {K V : Type 0} (E : K → K → Bool) where
     overflow_takes_none (ask.begin k charge) (inr h) (inl m) = not_held E laws c l k h.stamp h.entry m.0 h.at h.found h.same_key
     overflow_takes_none (ask.begin k charge) (inr h) (inr m) = would_hit_not_full k m h
     overflow_takes_none (ask.get k) h m = would_hit_not_full k m h.0
+    overflow_takes_none (ask.insert k charge v) h m = no_numbers h.0 charge (subst (λ d. HasNumbers E d charge) (invalidates_once E laws c l k m.1 h.1 m.0 h.0 m.2 h.2).1 m.3) h.3
+    overflow_takes_none (ask.read k) h m = would_hit_not_full k m h.0
     overflow_takes_none r h m = absurd h
 
     one_of : (r : Request K V) (e f : Refusal) → Refuses E c r e → Refuses E c r f → e ≡ f

@@ -7,7 +7,7 @@ use Rattle.concurrent_lru.specs.Request.{Request}
 use Rattle.concurrent_lru.specs.Reply.{Reply}
 use Rattle.concurrent_lru.specs.Results.{IsCharged}
 use Rattle.concurrent_lru.specs.Runs.{Outcome, accepted, refused, Stands}
-use Rattle.concurrent_lru.specs.Steps.{Hits, Step}
+use Rattle.concurrent_lru.specs.Steps.{Makes, Hits, Releases, Invalidates, Stores, Step}
 use Rattle.concurrent_lru.specs.declared.list.Refusal.{Refusal}
 use Rattle.concurrent_lru.specs.StepLaws.{capacity_by, KeepsLimits, KeepsLawful, RunsKeepLawful}
 use Rattle.concurrent_lru.proofs.Steps.BeginOfAbsent.{makes_lawful}
@@ -17,7 +17,7 @@ use Rattle.concurrent_lru.proofs.Steps.LawfulAfterChange.{sets_lawful}
 use Rattle.concurrent_lru.proofs.Steps.ReadyAndPoll.{changes_phase_lawful}
 use Rattle.concurrent_lru.proofs.Steps.Release.{rests_lawful, leaves_lawful, detaches_lawful}
 use Rattle.concurrent_lru.proofs.Steps.LawfulAfterRevival.{revives_lawful}
-use Rattle.concurrent_lru.proofs.Steps.CasesOfSteps.{phase_after_asking, begin_cases, poll_cases, ready_cases, fail_cases, get_cases, release_cases, advice_evict_cases, invalidate_cases, prune_cases, set_capacity_cases, total_cases}
+use Rattle.concurrent_lru.proofs.Steps.CasesOfSteps.{phase_after_asking, begin_cases, poll_cases, ready_cases, fail_cases, get_cases, release_cases, advice_evict_cases, invalidate_cases, insert_cases, read_cases, prune_cases, set_capacity_cases, total_cases}
 
 module _ {K V : Type 0} where
   -- the capacity is c, and the greatest number of pins is as it was
@@ -31,14 +31,31 @@ module _ {K V : Type 0} where
   refused_limits c (ask.set_capacity n) e = refl
   refused_limits c _ e = refl
 
-module _ {K V : Type 0} (E : K → K → Bool) (old : Cache K V) where
-  hits_limits : (k : K) (s : ℕ) (v : V) (out : List (Idle K V)) (new : Cache K V) → Hits E old k s v out new → HasLimits old old.capacity new
-  hits_limits k s v out new (inl h) = same_limits old _ new old.capacity (refl, refl) h.changed
-  hits_limits k s v out new (inr h) = same_limits old _ new old.capacity (refl, refl) h.changed
+  two_limits : (old mid new : Cache K V) → HasLimits old old.capacity mid → HasLimits mid mid.capacity new → HasLimits old old.capacity new
+  two_limits old mid new a b = (b.0 ∙ a.0, b.1 ∙ a.1)
 
+module _ {K V : Type 0} (E : K → K → Bool) where
+  hits_limits : (old : Cache K V) (k : K) (s : ℕ) (v : V) (out : List (Idle K V)) (new : Cache K V) → Hits E old k s v out new → HasLimits old old.capacity new
+  hits_limits old k s v out new (inl h) = same_limits old _ new old.capacity (refl, refl) h.changed
+  hits_limits old k s v out new (inr h) = same_limits old _ new old.capacity (refl, refl) h.changed
+
+  releases_limits : (old : Cache K V) (s : ℕ) (out : List (Idle K V)) (new : Cache K V) → Releases E old s out new → HasLimits old old.capacity new
+  releases_limits old s out new (inl a) = same_limits old _ new old.capacity (refl, refl) a.1.changed
+  releases_limits old s out new (inr (inl a)) = same_limits old _ new old.capacity (refl, refl) a.settles.others
+  releases_limits old s out new (inr (inr a)) = same_limits old _ new old.capacity (refl, refl) a.changed
+
+  invalidates_limits : (old : Cache K V) (k : K) (out : List (Idle K V)) (new : Cache K V) → Invalidates E old k out new → HasLimits old old.capacity new
+  invalidates_limits old k out new (inl a) = same_limits old _ new old.capacity (refl, refl) a.changed
+  invalidates_limits old k out new (inr (inl a)) = same_limits old _ new old.capacity (refl, refl) a.changed
+  invalidates_limits old k out new (inr (inr a)) = same_limits old _ new old.capacity (refl, refl) a.1.same
+
+  makes_limits : (old : Cache K V) (k : K) (charge s : ℕ) (out : List (Idle K V)) (new : Cache K V) → Makes E old k charge s out new → HasLimits old old.capacity new
+  makes_limits old k charge s out new a = same_limits old _ new old.capacity (refl, refl) a.settles.others
+
+module _ {K V : Type 0} (E : K → K → Bool) (old : Cache K V) where
   step_limits : (new : Cache K V) (r : Request K V) (p : Reply K V) (out : List (Idle K V)) → Step E old r p out new → HasLimits old (capacity_by old.capacity r (accepted p out)) new
   step_limits new (ask.begin k charge) p out h = elim (begin_cases E old k charge p out new h) [
-    | inl a ↦ same_limits old _ new old.capacity (refl, refl) a.2.settles.others
+    | inl a ↦ makes_limits E old k charge a.0 out new a.2
     | inr b ↦ elim b [
       | inl a ↦ same_limits old _ new old.capacity (refl, refl) a.3.changed
       | inr a ↦ same_limits old _ new old.capacity (refl, refl) a.3.changed
@@ -51,26 +68,22 @@ module _ {K V : Type 0} (E : K → K → Bool) (old : Cache K V) where
     | inr a ↦ same_limits old _ new old.capacity (refl, refl) a.2.changed
   ]
   step_limits new (ask.get k) p out h = elim (get_cases E old k p out new h) [
-    | inl a ↦ hits_limits k a.0 a.1 out new a.3
+    | inl a ↦ hits_limits E old k a.0 a.1 out new a.3
     | inr a ↦ same_limits old _ new old.capacity (refl, refl) a.2.same
   ]
-  step_limits new (ask.release s) p out h = elim (release_cases E old s p out new h).1 [
-    | inl a ↦ same_limits old _ new old.capacity (refl, refl) a.1.changed
-    | inr b ↦ elim b [
-      | inl a ↦ same_limits old _ new old.capacity (refl, refl) a.settles.others
-      | inr a ↦ same_limits old _ new old.capacity (refl, refl) a.changed
-    ]
-  ]
+  step_limits new (ask.release s) p out h = releases_limits E old s out new (release_cases E old s p out new h).1
   step_limits new (ask.advice_evict k) p out h = elim (advice_evict_cases E old k p out new h).1 [
     | inl a ↦ same_limits old _ new old.capacity (refl, refl) a.changed
     | inr a ↦ same_limits old _ new old.capacity (refl, refl) a.1.same
   ]
-  step_limits new (ask.invalidate k) p out h = elim (invalidate_cases E old k p out new h).1 [
-    | inl a ↦ same_limits old _ new old.capacity (refl, refl) a.changed
-    | inr b ↦ elim b [
-      | inl a ↦ same_limits old _ new old.capacity (refl, refl) a.changed
-      | inr a ↦ same_limits old _ new old.capacity (refl, refl) a.1.same
-    ]
+  step_limits new (ask.invalidate k) p out h = invalidates_limits E old k out new (invalidate_cases E old k p out new h).1
+  step_limits new (ask.insert k charge v) p out h =
+      let a = (insert_cases E old k charge v p out new h).2 in
+      two_limits old a.mid new (invalidates_limits E old k a.replaced a.mid a.invalidated)
+      (two_limits a.mid a.made new (makes_limits E a.mid k charge _ a.evicted a.made a.begun) (same_limits a.made _ new a.made.capacity (refl, refl) a.given.changed))
+  step_limits new (ask.read k) p out h = elim (read_cases E old k p out new h) [
+    | inl a ↦ two_limits old a.3.mid new (hits_limits E old k a.0 a.1 [] a.3.mid a.3.found) (releases_limits E a.3.mid a.0 [] new a.3.released)
+    | inr a ↦ same_limits old _ new old.capacity (refl, refl) a.2.same
   ]
   step_limits new ask.prune p out h = same_limits old _ new old.capacity (refl, refl) (prune_cases E old p out new h).2
   step_limits new (ask.set_capacity c) p out h = same_limits old _ new c (refl, refl) (set_capacity_cases E old c p out new h).1.others
@@ -82,6 +95,25 @@ module _ {K V : Type 0} (E : K → K → Bool) (old : Cache K V) where
 
 pub keeps_limits : (K V : Type 0) (E : K → K → Bool) → KeepsLimits K V E
 keeps_limits K V E old new r o h = outcome_limits E old new r o h
+
+module _ {K V : Type 0} (E : K → K → Bool) where
+  pub releases_lawful : (old : Cache K V) (s : ℕ) (out : List (Idle K V)) (new : Cache K V) → IsLawful E old → Releases E old s out new → IsLawful E new
+  releases_lawful old s out new l (inl a) = leaves_lawful E old new s (ready a.0) (ready a.0) out l a.1
+  releases_lawful old s out new l (inr (inl a)) = rests_lawful E old new s out l a
+  releases_lawful old s out new l (inr (inr a)) = ends_lawful E old new s out l a
+
+  pub invalidates_lawful : (old : Cache K V) (k : K) (out : List (Idle K V)) (new : Cache K V) → IsLawful E old → Invalidates E old k out new → IsLawful E new
+  invalidates_lawful old k out new l (inl a) = drops_lawful E old new k out l a
+  invalidates_lawful old k out new l (inr (inl a)) = detaches_lawful E old new k out l a
+  invalidates_lawful old k out new l (inr (inr a)) = subst (IsLawful E) (sym a.1.same) l
+
+  -- an insert, as the three steps that it is made of
+  stores_lawful : (old new : Cache K V) (k : K) (charge : ℕ) (v : V) (s : ℕ) (out : List (Idle K V)) → IsEquivalence E → IsLawful E old → 0 < old.most_pins → 0 < charge → Stores E old k charge v s out new → IsLawful E new
+  stores_lawful old new k charge v s out laws l pins above a =
+      let mid = invalidates_lawful old k a.replaced a.mid l a.invalidated in
+      let some = subst (λ n. 0 < n) (sym (invalidates_limits E old k a.replaced a.mid a.invalidated).1) pins in
+      let made = makes_lawful E a.mid a.made k charge s a.evicted laws mid above some a.begun in
+      changes_phase_lawful E a.made new s making (ready v) [] made a.given
 
 module _ {K V : Type 0} (E : K → K → Bool) (laws : IsEquivalence E) (old : Cache K V) (l : IsLawful E old) (pins : 0 < old.most_pins) where
   pub hits_lawful : (k : K) (s : ℕ) (v : V) (out : List (Idle K V)) (new : Cache K V) → Hits E old k s v out new → IsLawful E new
@@ -106,23 +138,16 @@ module _ {K V : Type 0} (E : K → K → Bool) (laws : IsEquivalence E) (old : C
     | inl a ↦ hits_lawful k a.0 a.1 out new a.3
     | inr a ↦ subst (IsLawful E) (sym a.2.same) l
   ]
-  step_lawful new (ask.release s) p out above h = elim (release_cases E old s p out new h).1 [
-    | inl a ↦ leaves_lawful E old new s (ready a.0) (ready a.0) out l a.1
-    | inr b ↦ elim b [
-      | inl a ↦ rests_lawful E old new s out l a
-      | inr a ↦ ends_lawful E old new s out l a
-    ]
-  ]
+  step_lawful new (ask.release s) p out above h = releases_lawful E old s out new l (release_cases E old s p out new h).1
   step_lawful new (ask.advice_evict k) p out above h = elim (advice_evict_cases E old k p out new h).1 [
     | inl a ↦ drops_lawful E old new k out l a
     | inr a ↦ subst (IsLawful E) (sym a.1.same) l
   ]
-  step_lawful new (ask.invalidate k) p out above h = elim (invalidate_cases E old k p out new h).1 [
-    | inl a ↦ drops_lawful E old new k out l a
-    | inr b ↦ elim b [
-      | inl a ↦ detaches_lawful E old new k out l a
-      | inr a ↦ subst (IsLawful E) (sym a.1.same) l
-    ]
+  step_lawful new (ask.invalidate k) p out above h = invalidates_lawful E old k out new l (invalidate_cases E old k p out new h).1
+  step_lawful new (ask.insert k charge v) p out above h = stores_lawful E old new k charge v _ out laws l pins above (insert_cases E old k charge v p out new h).2
+  step_lawful new (ask.read k) p out above h = elim (read_cases E old k p out new h) [
+    | inl a ↦ releases_lawful E a.3.mid a.0 [] new (hits_lawful k a.0 a.1 [] a.3.mid a.3.found) a.3.released
+    | inr a ↦ subst (IsLawful E) (sym a.2.same) l
   ]
   step_lawful new ask.prune p out above h = prunes_lawful E old new l (prune_cases E old p out new h).2
   step_lawful new (ask.set_capacity c) p out above h = sets_lawful E old new c out l (set_capacity_cases E old c p out new h).1

@@ -24,6 +24,8 @@ pub enum ShardCall {
     AdviceEvict(u64),
     /// `invalidate` with a key.
     Invalidate(u64),
+    /// `insert` with a key, a charge and a value.
+    Insert(u64, u64, u64),
     /// `poll`.
     Poll(usize, u64),
     /// `ready` with a value.
@@ -51,7 +53,13 @@ impl<S: BuildHasher + Drop> Answers<ShardCall> for Shards<u64, u64, S> {
             ShardCall::Begin(key, charge) if charge > 0 => {
                 text_of(alloc, &self.begin(&key, charge))
             }
-            ShardCall::Begin(..) => String::from_str(alloc, "a charge is above 0"),
+            ShardCall::Insert(key, charge, value) if charge > 0 => {
+                let value = Arc::new(alloc, value)?;
+                text_of(alloc, &self.insert(&key, charge, value))
+            }
+            ShardCall::Begin(..) | ShardCall::Insert(..) => {
+                String::from_str(alloc, "a charge is above 0")
+            }
             ShardCall::Get(key) => text_of(alloc, &self.get(&key)),
             ShardCall::Read(key) => text_of(alloc, &self.read(&key, |value| *value)),
             ShardCall::AdviceEvict(key) => text_of(alloc, &self.advice_evict(&key)),

@@ -22,6 +22,8 @@ pub enum ThreadedCall {
     Get(u64, Then),
     /// `read` with a key, by a reader that copies the value.
     Read(u64),
+    /// `contains` with a key.
+    Contains(u64),
     /// `get_or_init` with a key, a charge, and an `init` that returns this value.
     Init(u64, u64, u64, Then),
     /// `get_or_try_init` with a key, a charge, and an `init` that returns this value.
@@ -57,6 +59,8 @@ pub enum Said {
     Made(u64, u64),
     /// This value, without a handle.
     Read(u64),
+    /// Whether the key has a value.
+    Contains(bool),
     /// A handle of this value, and no `init` ran.
     Found(u64),
     /// A handle of this value, which was inserted.

@@ -41,6 +41,7 @@ impl<P: Owned> Model<P> {
         match call {
             ThreadedCall::Get(key, then) => self.get(key, then),
             ThreadedCall::Read(key) => self.read(key),
+            ThreadedCall::Contains(key) => Ok(Said::Contains(self.shows(key))),
             ThreadedCall::Init(key, charge, value, then)
             | ThreadedCall::TryInit(key, charge, value, then) => {
                 self.init(alloc, key, charge, Some(value), then)
@@ -87,6 +88,16 @@ impl<P: Owned> Model<P> {
             Said::Found(value) => Ok(Said::Read(value)),
             other => Ok(other),
         }
+    }
+
+    // Whether a key finds a value. The cache with one owner is not asked, so it cannot change.
+    fn shows(&self, key: u64) -> bool {
+        for (_, own, _) in &self.entries {
+            if *own == key {
+                return true;
+            }
+        }
+        false
     }
 
     // A making that is to fail has no value.

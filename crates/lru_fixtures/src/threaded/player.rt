@@ -162,6 +162,7 @@ pub fn play<R: Wait + Clone + Drop, C: Cached<Logged<R>> + fmt::Debug>(
 // Makes a call that returns no handle.
 fn ask<V, C: Cached<V>>(cache: C, call: ThreadedCall) -> Said {
     match call {
+        ThreadedCall::Contains(key) => return Said::Contains(cache.contains(key)),
         ThreadedCall::AdviceEvict(key) => cache.advice_evict(key),
         ThreadedCall::Invalidate(key) => cache.invalidate(key),
         ThreadedCall::Prune => cache.prune(),

@@ -27,7 +27,7 @@ pub fn capacity_of(seed: u64) -> u64 {
 // Returns the next call, whose value is its number. The numbers of 16 keys differ in their high
 // half only, in their low half only, or in both.
 fn draw(generator: &mut Xoshiro256PlusPlus, number: u64) -> ThreadedCall {
-    let kind = generator.next_u64() % 34;
+    let kind = generator.next_u64() % 36;
     let key = generator.next_u64() % 4 * 4_294_967_296 + generator.next_u64() % 4;
     let charge = 1 + generator.next_u64() % 9;
     let limit = generator.next_u64() % 48;
@@ -50,6 +50,7 @@ fn draw(generator: &mut Xoshiro256PlusPlus, number: u64) -> ThreadedCall {
         25..27 => ThreadedCall::Invalidate(key),
         27..30 => ThreadedCall::Insert(key, charge, number, then),
         30..33 => ThreadedCall::Read(key),
+        33..35 => ThreadedCall::Contains(key),
         _ => ThreadedCall::Total,
     }
 }

@@ -1,49 +1,43 @@
 -- What a journal is after a read that it records.
-use Rattle.std.proofs.Common.{◌≡◌, ℕ, Bool, List, [], ◌∷◌, ◌++◌, append_assoc, Option, Some, None, Result, Ok, Err, inl, inr, refl, sym, ap, ◌∙◌, subst}
+use Rattle.std.proofs.Common.{◌≡◌, ℕ, Bool, List, [], ◌∷◌, ◌++◌, Option, Some, None, Result, Ok, Err, inl, inr, refl, sym, ap, ◌∙◌, subst}
 use Rattle.std.specs.Prelude.{IfSome}
 use Rattle.std.specs.Result.{IsErrAnd}
 use Rattle.concurrent_lru.specs.Cache.{Cache, IsLawful}
-use Rattle.concurrent_lru.specs.Reads.{Reads, GetsAndReleases}
+use Rattle.concurrent_lru.specs.Reads.{Reads}
 use Rattle.concurrent_lru.specs.Request as ask
 use Rattle.concurrent_lru.specs.Reply as say
+use Rattle.concurrent_lru.specs.Reply.{Reply}
+use Rattle.concurrent_lru.specs.Steps.{Releases, Step}
 use Rattle.concurrent_lru.specs.declared.list.Refusal.{Refusal}
 use Rattle.concurrent_lru.specs.declared.list.Refusal.TheVariants.{Memory}
 use Rattle.lru_journal.specs.Journals.{Journaled, IsSoundJournal, JournalsRead}
-use Rattle.lru_journal.specs.Records.{Answered, record_of, records_of_read}
-use Rattle.lru_journal.specs.Replay.{without_values, start, Replays}
-use Rattle.lru_journal.specs.declared.record.Told.TheVariants as told
+use Rattle.lru_journal.specs.Records.{Answered, record_of}
+use Rattle.lru_journal.specs.Replay.{told_of, told_of_found}
 use Rattle.lru_journal.proofs.Replays.JournalAfterStep.{keeps_on}
-use Rattle.lru_journal.proofs.Replays.OneRecordMore.{goes_on}
 
 module _ {K V : Type 0} where
-  -- the records of a legal history, and those of a read
-  reads_on : (E : K → K → Bool) (from : Cache K (Unit {0})) (old new : Cache K V) (rs mid all : List (Answered K)) (k : K) (s : ℕ) (v : V)
-      → Replays E from rs (without_values old) → GetsAndReleases E old k s v new → mid ≡ rs → all ≡ mid ++ record_of (ask.get k) (told.Found s) ∷ record_of (ask.release s) told.Done ∷ [] → Replays E from all (without_values new)
-  reads_on E from old new rs mid all k s v h run same is =
-      let one = mid ++ record_of (ask.get k) (told.Found s) ∷ [] in
-      let got : Replays E from one (without_values run.0) = goes_on E from old run.0 rs mid one (ask.get k) (say.hit s v) [] h run.1 same refl in
-      subst (λ c. Replays E from all (without_values c)) (sym run.2.2)
-      (goes_on E from run.0 run.2.0 one one all (ask.release s) say.done [] got run.2.1 refl (is ∙ sym (append_assoc mid (record_of (ask.get k) (told.Found s) ∷ []) (record_of (ask.release s) told.Done ∷ []))))
+  -- a read is a step, whose reply is told as what was found
+  read_step : {T : Type 0} (E : K → K → Bool) (old new : Cache K V) (k : K) (answers : V → T → Type 0) (found : Option (ℕ × T)) → Reads E old k answers (Ok found) new
+      → (p : Reply K V) × Step E old (ask.read k) p [] new × (told_of_found found ≡ told_of {K = K} {V = V} (ask.read k) p)
+  read_step E old new k answers None s = (say.missed, s, refl)
+  read_step E old new k answers (Some r) s =
+      let run = s.1 in
+      (say.read r.0 s.0, record { mid = run.0; found = run.1; released = subst (λ c. Releases E run.0 r.0 [] c) (sym run.2.2) run.2.1; none = refl }, refl)
 
   -- what the journal keeps is kept over a recorded read
-  pub keeps_read : {T : Type 0} {is_clone : K → K → Type 0} {E : K → K → Bool} {old new : Cache K V} {rs mid all : List (Answered K)} {began : ℕ} (k : K) (answers : V → T → Type 0) (found : Option (ℕ × T))
-      → IsSoundJournal is_clone E old rs began → IsLawful E new → Reads E old k answers (Ok found) new → mid ≡ rs → all ≡ mid ++ records_of_read k found → IsSoundJournal is_clone E new all began
-  keeps_read k answers None j lawful s same is = keeps_on (ask.get k) say.missed [] j lawful s same is refl
-  keeps_read {T} {is_clone} {E} {old} {new} {rs} {mid} {all} {began} k answers (Some r) j lawful s same is = record {
-    copies = j.copies;
-    history = record {
-      lawful = lawful;
-      legal = reads_on E (start began) old new rs mid all k r.0 s.0 j.history.legal s.1 same is;
-    };
-  }
+  pub keeps_read : {T : Type 0} {is_clone : K → K → Type 0} {E : K → K → Bool} {old new : Cache K V} {rs mid all : List (Answered K)} {began : ℕ} {rec : Answered K} (k : K) (answers : V → T → Type 0) (found : Option (ℕ × T))
+      → IsSoundJournal is_clone E old rs began → IsLawful E new → Reads E old k answers (Ok found) new → mid ≡ rs → all ≡ mid ++ rec ∷ [] → rec ≡ record_of (ask.read k) (told_of_found found) → IsSoundJournal is_clone E new all began
+  keeps_read {T} {is_clone} {E} {old} {new} k answers found j lawful s same is told =
+      let x = read_step E old new k answers found s in
+      keeps_on (ask.read k) x.0 [] j lawful x.1 same is (told ∙ ap (record_of (ask.read k)) x.2)
 
   -- the recorded read, as the journal is seen
-  pub accepts_read : {T : Type 0} (E : K → K → Bool) {j : Journaled K V} {old new : Cache K V} {rs mid all : List (Answered K)} {began : ℕ} (k : K) (answers : V → T → Type 0) (found : Option (ℕ × T))
-      → record { cache = old; records = rs; began = began } ≡ j → Reads E old k answers (Ok found) new → mid ≡ rs → all ≡ mid ++ records_of_read k found
+  pub accepts_read : {T : Type 0} (E : K → K → Bool) {j : Journaled K V} {old new : Cache K V} {rs mid all : List (Answered K)} {began : ℕ} {rec : Answered K} (k : K) (answers : V → T → Type 0) (found : Option (ℕ × T))
+      → record { cache = old; records = rs; began = began } ≡ j → Reads E old k answers (Ok found) new → mid ≡ rs → all ≡ mid ++ rec ∷ [] → rec ≡ record_of (ask.read k) (told_of_found found)
       → JournalsRead E j k answers (Ok found) (record { cache = new; records = all; began = began })
-  accepts_read E {j} {old} {new} {rs} {mid} {all} {began} k answers found is_j s same is =
+  accepts_read E {j} {old} {new} {rs} {mid} {all} {began} {rec} k answers found is_j s same is told =
       subst (λ (x : Journaled K V). JournalsRead E x k answers (Ok found) (record { cache = new; records = all; began = began })) is_j
-      (s, ap (λ (l : List (Answered K)). record { cache = new; records = l; began = began }) (is ∙ ap (λ (l : List (Answered K)). l ++ records_of_read k found) same))
+      (s, ap (λ (l : List (Answered K)). record { cache = new; records = l; began = began }) (is ∙ ap (λ (l : List (Answered K)). l ++ rec ∷ []) same ∙ ap (λ (x : Answered K). rs ++ x ∷ []) told))
 
   -- what is answered is of some value
   pub answers_some : {T : Type 0} (E : K → K → Bool) (old new : Cache K V) (k : K) (answers : V → T → Type 0) (found : Option (ℕ × T)) → Reads E old k answers (Ok found) new → IfSome found (λ r. (v : V) × answers v r.1)

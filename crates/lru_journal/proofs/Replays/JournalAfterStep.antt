@@ -92,3 +92,11 @@ module _ {K V : Type 0} where
       let now : Journaled K V = record { cache = new; records = mid; began = began } in
       subst (λ (o : Outcome K V). Journals E j r o now) (sym (says x))
       (inr (subst (λ (y : Journaled K V × Refusal). Refuses E y.0.cache r y.1) (λ i. (is_j i, sym h i)) s.0), (λ i. record { cache = s.1 i; records = same i; began = began }) ∙ is_j)
+
+  -- the same of a call whose refusal returns a value too
+  pub refuses_with : (E : K → K → Bool) {j : Journaled K V} {old new : Cache K V} {rs mid : List (Answered K)} {began : ℕ} (r : Request K V) (e : Refusal)
+      → record { cache = old; records = rs; began = began } ≡ j → Refuses E old r e × (new ≡ old) → mid ≡ rs → Journals E j r (refused e) (record { cache = new; records = mid; began = began })
+  refuses_with E {j} {old} {new} {rs} {mid} {began} r e is_j s same = (
+    inr (subst (λ (y : Journaled K V). Refuses E y.cache r e) is_j s.0),
+    (λ i. record { cache = s.1 i; records = same i; began = began }) ∙ is_j,
+  )

@@ -1,5 +1,5 @@
 -- A replay goes on by one record, that of a step with values.
-use Rattle.std.proofs.Common.{◌≡◌, Bool, List, [], ◌∷◌, ◌++◌, map, refl, sym, ap, ◌∙◌, subst}
+use Rattle.std.proofs.Common.{◌≡◌, ℕ, Bool, List, [], ◌∷◌, ◌++◌, map, refl, sym, ap, ◌∙◌, subst}
 use Rattle.concurrent_lru.specs.Cache.{Cache, Idle}
 use Rattle.concurrent_lru.specs.Steps.{Step}
 use Rattle.concurrent_lru.specs.Request as ask
@@ -8,7 +8,7 @@ use Rattle.concurrent_lru.specs.Reply as say
 use Rattle.concurrent_lru.specs.Reply.{Reply}
 use Rattle.lru_journal.specs.Values.{request_by, reply_by, idle_by}
 use Rattle.lru_journal.specs.Records.{Answered, record_of}
-use Rattle.lru_journal.specs.Replay.{no_value, without_values, told_of, Follows, Replays}
+use Rattle.lru_journal.specs.Replay.{no_value, without_values, told_of, told_of_hit, Follows, Replays}
 use Rattle.lru_journal.proofs.Replays.WithOtherValues.{step_by}
 
 module _ {K : Type 0} (E : K → K → Bool) where
@@ -18,95 +18,32 @@ module _ {K : Type 0} (E : K → K → Bool) where
 
 module _ {K V : Type 0} where
   -- what is asked and told does not look at values
+  hit_by : (r : Request K V) (t : ℕ) → told_of_hit (request_by (no_value {V = V}) r) t ≡ told_of_hit r t
+  hit_by (ask.begin k c) t = refl
+  hit_by (ask.poll s) t = refl
+  hit_by (ask.ready s v) t = refl
+  hit_by (ask.fail s) t = refl
+  hit_by (ask.get k) t = refl
+  hit_by (ask.release s) t = refl
+  hit_by (ask.advice_evict k) t = refl
+  hit_by (ask.invalidate k) t = refl
+  hit_by (ask.insert k c v) t = refl
+  hit_by (ask.read k) t = refl
+  hit_by ask.prune t = refl
+  hit_by (ask.set_capacity c) t = refl
+  hit_by ask.total t = refl
+
   told_by : (r : Request K V) (p : Reply K V) → told_of (request_by (no_value {V = V}) r) (reply_by no_value p) ≡ told_of r p
-  told_by (ask.begin k c) (say.make t) = refl
-  told_by (ask.begin k c) (say.wait t) = refl
-  told_by (ask.begin k c) (say.hit t w) = refl
-  told_by (ask.begin k c) say.done = refl
-  told_by (ask.begin k c) say.left = refl
-  told_by (ask.begin k c) (say.removed l) = refl
-  told_by (ask.begin k c) say.missed = refl
-  told_by (ask.begin k c) (say.sum n) = refl
-  told_by (ask.poll s) (say.make t) = refl
-  told_by (ask.poll s) (say.wait t) = refl
-  told_by (ask.poll s) (say.hit t w) = refl
-  told_by (ask.poll s) say.done = refl
-  told_by (ask.poll s) say.left = refl
-  told_by (ask.poll s) (say.removed l) = refl
-  told_by (ask.poll s) say.missed = refl
-  told_by (ask.poll s) (say.sum n) = refl
-  told_by (ask.ready s v) (say.make t) = refl
-  told_by (ask.ready s v) (say.wait t) = refl
-  told_by (ask.ready s v) (say.hit t w) = refl
-  told_by (ask.ready s v) say.done = refl
-  told_by (ask.ready s v) say.left = refl
-  told_by (ask.ready s v) (say.removed l) = refl
-  told_by (ask.ready s v) say.missed = refl
-  told_by (ask.ready s v) (say.sum n) = refl
-  told_by (ask.fail s) (say.make t) = refl
-  told_by (ask.fail s) (say.wait t) = refl
-  told_by (ask.fail s) (say.hit t w) = refl
-  told_by (ask.fail s) say.done = refl
-  told_by (ask.fail s) say.left = refl
-  told_by (ask.fail s) (say.removed l) = refl
-  told_by (ask.fail s) say.missed = refl
-  told_by (ask.fail s) (say.sum n) = refl
-  told_by (ask.get k) (say.make t) = refl
-  told_by (ask.get k) (say.wait t) = refl
-  told_by (ask.get k) (say.hit t w) = refl
-  told_by (ask.get k) say.done = refl
-  told_by (ask.get k) say.left = refl
-  told_by (ask.get k) (say.removed l) = refl
-  told_by (ask.get k) say.missed = refl
-  told_by (ask.get k) (say.sum n) = refl
-  told_by (ask.release s) (say.make t) = refl
-  told_by (ask.release s) (say.wait t) = refl
-  told_by (ask.release s) (say.hit t w) = refl
-  told_by (ask.release s) say.done = refl
-  told_by (ask.release s) say.left = refl
-  told_by (ask.release s) (say.removed l) = refl
-  told_by (ask.release s) say.missed = refl
-  told_by (ask.release s) (say.sum n) = refl
-  told_by (ask.advice_evict k) (say.make t) = refl
-  told_by (ask.advice_evict k) (say.wait t) = refl
-  told_by (ask.advice_evict k) (say.hit t w) = refl
-  told_by (ask.advice_evict k) say.done = refl
-  told_by (ask.advice_evict k) say.left = refl
-  told_by (ask.advice_evict k) (say.removed l) = refl
-  told_by (ask.advice_evict k) say.missed = refl
-  told_by (ask.advice_evict k) (say.sum n) = refl
-  told_by (ask.invalidate k) (say.make t) = refl
-  told_by (ask.invalidate k) (say.wait t) = refl
-  told_by (ask.invalidate k) (say.hit t w) = refl
-  told_by (ask.invalidate k) say.done = refl
-  told_by (ask.invalidate k) say.left = refl
-  told_by (ask.invalidate k) (say.removed l) = refl
-  told_by (ask.invalidate k) say.missed = refl
-  told_by (ask.invalidate k) (say.sum n) = refl
-  told_by ask.prune (say.make t) = refl
-  told_by ask.prune (say.wait t) = refl
-  told_by ask.prune (say.hit t w) = refl
-  told_by ask.prune say.done = refl
-  told_by ask.prune say.left = refl
-  told_by ask.prune (say.removed l) = refl
-  told_by ask.prune say.missed = refl
-  told_by ask.prune (say.sum n) = refl
-  told_by (ask.set_capacity c) (say.make t) = refl
-  told_by (ask.set_capacity c) (say.wait t) = refl
-  told_by (ask.set_capacity c) (say.hit t w) = refl
-  told_by (ask.set_capacity c) say.done = refl
-  told_by (ask.set_capacity c) say.left = refl
-  told_by (ask.set_capacity c) (say.removed l) = refl
-  told_by (ask.set_capacity c) say.missed = refl
-  told_by (ask.set_capacity c) (say.sum n) = refl
-  told_by ask.total (say.make t) = refl
-  told_by ask.total (say.wait t) = refl
-  told_by ask.total (say.hit t w) = refl
-  told_by ask.total say.done = refl
-  told_by ask.total say.left = refl
-  told_by ask.total (say.removed l) = refl
-  told_by ask.total say.missed = refl
-  told_by ask.total (say.sum n) = refl
+  told_by r (say.make t) = refl
+  told_by r (say.wait t) = refl
+  told_by r (say.hit t w) = hit_by r t
+  told_by r say.done = refl
+  told_by r say.left = refl
+  told_by r (say.removed l) = refl
+  told_by r say.missed = refl
+  told_by r (say.sum n) = refl
+  told_by r (say.inserted t) = refl
+  told_by r (say.read t w) = refl
 
   follows : (E : K → K → Bool) (old : Cache K V) (r : Request K V) (p : Reply K V) (out : List (Idle K V)) (new : Cache K V)
       → Step E old r p out new → Follows E (without_values old) (record_of (request_by no_value r) (told_of r p)) (without_values new)

@@ -10,7 +10,7 @@ use Rattle.std.specs.FinMap.Entries.{is_sorted, below_all}
 use Rattle.std.specs.FinMap.Entries.{find as find_entry}
 use Rattle.std.proofs.lemmas.Option.{same_Some, none-some}
 use Rattle.concurrent_lru.specs.Cache.{Cache, Idle, Held, Phase, making, untaken, ready, charges, sum_of, IsFront, Suffices, Settles, held_at, idle_at, IsFound}
-use Rattle.concurrent_lru.specs.Steps.{IsAbsent, Holds, Makes, Joins, Revives, Hits, ChangesPhase, Leaves, Removes, Rests, Stays, Drops, Ends, Detaches, IsUnready, IsNotIdle, Step, with_held, without}
+use Rattle.concurrent_lru.specs.Steps.{IsAbsent, Holds, Makes, Joins, Revives, Hits, ChangesPhase, Leaves, Removes, Rests, Stays, Drops, Ends, Detaches, IsUnready, IsNotIdle, Releases, Invalidates, Stores, Renews, Step, with_held, without}
 use Rattle.concurrent_lru.specs.Request as ask
 use Rattle.concurrent_lru.specs.Request.{Request}
 use Rattle.concurrent_lru.specs.Reply as say
@@ -285,6 +285,36 @@ module _ {K V W : Type 0} (f : V → W) where
     hits_by old k s v out new (inl h) = inl (joins_by old k s (ready v) (ready v) out new h)
     hits_by old k s v out new (inr h) = inr (revives_by old k s v out new h)
 
+    releases_by : (old : Cache K V) (s : ℕ) (out : List (Idle K V)) (new : Cache K V) → Releases E old s out new → Releases E (cache_by f old) s (map (idle_by f) out) (cache_by f new)
+    releases_by old s out new (inl h) = inl (f h.0, leaves_by old s (ready h.0) (ready h.0) out new h.1)
+    releases_by old s out new (inr (inl h)) = inr (inl (rests_by old s out new h))
+    releases_by old s out new (inr (inr h)) = inr (inr (ends_by old s out new h))
+
+    invalidates_by : (old : Cache K V) (k : K) (out : List (Idle K V)) (new : Cache K V) → Invalidates E old k out new → Invalidates E (cache_by f old) k (map (idle_by f) out) (cache_by f new)
+    invalidates_by old k out new (inl h) = inl (drops_by old k out new h)
+    invalidates_by old k out new (inr (inl h)) = inr (inl (detaches_by old k out new h))
+    invalidates_by old k out new (inr (inr h)) = inr (inr (absent_by old k h.0, stays_by old out new h.1))
+
+    stores_by : (old : Cache K V) (k : K) (charge : ℕ) (v : V) (s : ℕ) (out : List (Idle K V)) (new : Cache K V) → Stores E old k charge v s out new → Stores E (cache_by f old) k charge (f v) s (map (idle_by f) out) (cache_by f new)
+    stores_by old k charge v s out new h = record {
+      replaced = map (idle_by f) h.replaced;
+      evicted = map (idle_by f) h.evicted;
+      mid = cache_by f h.mid;
+      made = cache_by f h.made;
+      invalidated = invalidates_by old k h.replaced h.mid h.invalidated;
+      begun = makes_by h.mid k charge s h.evicted h.made h.begun;
+      given = changes_phase_by h.made s making (ready v) [] new h.given;
+      both = ap (map (idle_by f)) h.both ∙ map-append (idle_by f) h.replaced h.evicted;
+    }
+
+    renews_by : (old : Cache K V) (k : K) (s : ℕ) (v : V) (out : List (Idle K V)) (new : Cache K V) → Renews E old k s v out new → Renews E (cache_by f old) k s (f v) (map (idle_by f) out) (cache_by f new)
+    renews_by old k s v out new h = record {
+      mid = cache_by f h.mid;
+      found = hits_by old k s v [] h.mid h.found;
+      released = releases_by h.mid s [] new h.released;
+      none = ap (map (idle_by f)) h.none;
+    }
+
     pub step_by : (old : Cache K V) (r : Request K V) (p : Reply K V) (out : List (Idle K V)) (new : Cache K V) → Step E old r p out new → Step E (cache_by f old) (request_by f r) (reply_by f p) (map (idle_by f) out) (cache_by f new)
     step_by old (ask.begin k c) (say.make s) out new (inl h) = inl (makes_by old k c s out new h)
     step_by old (ask.begin k c) (say.make s) out new (inr h) = inr (joins_by old k s untaken making out new h)
@@ -298,85 +328,14 @@ module _ {K V W : Type 0} (f : V → W) where
     step_by old (ask.fail s) (say.removed k) out new h = removes_by old s k out new h
     step_by old (ask.get k) (say.hit s v) out new h = hits_by old k s v out new h
     step_by old (ask.get k) say.missed out new h = (unready_by old k h.0, stays_by old out new h.1)
-    step_by old (ask.release s) say.done out new (inl h) = inl (f h.0, leaves_by old s (ready h.0) (ready h.0) out new h.1)
-    step_by old (ask.release s) say.done out new (inr (inl h)) = inr (inl (rests_by old s out new h))
-    step_by old (ask.release s) say.done out new (inr (inr h)) = inr (inr (ends_by old s out new h))
+    step_by old (ask.release s) say.done out new h = releases_by old s out new h
     step_by old (ask.advice_evict k) say.done out new (inl h) = inl (drops_by old k out new h)
     step_by old (ask.advice_evict k) say.done out new (inr h) = inr (not_idle_by old k h.0, stays_by old out new h.1)
-    step_by old (ask.invalidate k) say.done out new (inl h) = inl (drops_by old k out new h)
-    step_by old (ask.invalidate k) say.done out new (inr (inl h)) = inr (inl (detaches_by old k out new h))
-    step_by old (ask.invalidate k) say.done out new (inr (inr h)) = inr (inr (absent_by old k h.0, stays_by old out new h.1))
+    step_by old (ask.invalidate k) say.done out new h = invalidates_by old k out new h
+    step_by old (ask.insert k c v) (say.inserted s) out new h = stores_by old k c v s out new h
+    step_by old (ask.read k) (say.read s v) out new h = renews_by old k s v out new h
+    step_by old (ask.read k) say.missed out new h = (unready_by old k h.0, stays_by old out new h.1)
     step_by old ask.prune say.done out new h = (ap (map (idle_by f)) h.0, ap (cache_by f) h.1)
     step_by old (ask.set_capacity c) say.done out new h = settles_by _ out new h
     step_by old ask.total (say.sum n) out new h = (h.0 ∙ sym (sum_by_same old), stays_by old out new h.1)
-    step_by old (ask.begin k c) say.done out new h = elim h [ ]
-    step_by old (ask.begin k c) say.left out new h = elim h [ ]
-    step_by old (ask.begin k c) (say.removed _) out new h = elim h [ ]
-    step_by old (ask.begin k c) say.missed out new h = elim h [ ]
-    step_by old (ask.begin k c) (say.sum n) out new h = elim h [ ]
-    step_by old (ask.poll s) say.done out new h = elim h [ ]
-    step_by old (ask.poll s) say.left out new h = elim h [ ]
-    step_by old (ask.poll s) (say.removed k) out new h = elim h [ ]
-    step_by old (ask.poll s) say.missed out new h = elim h [ ]
-    step_by old (ask.poll s) (say.sum n) out new h = elim h [ ]
-    step_by old (ask.ready s v) (say.make t) out new h = elim h [ ]
-    step_by old (ask.ready s v) (say.wait t) out new h = elim h [ ]
-    step_by old (ask.ready s v) (say.hit t _) out new h = elim h [ ]
-    step_by old (ask.ready s v) say.left out new h = elim h [ ]
-    step_by old (ask.ready s v) (say.removed k) out new h = elim h [ ]
-    step_by old (ask.ready s v) say.missed out new h = elim h [ ]
-    step_by old (ask.ready s v) (say.sum n) out new h = elim h [ ]
-    step_by old (ask.fail s) (say.make t) out new h = elim h [ ]
-    step_by old (ask.fail s) (say.wait t) out new h = elim h [ ]
-    step_by old (ask.fail s) (say.hit t v) out new h = elim h [ ]
-    step_by old (ask.fail s) say.done out new h = elim h [ ]
-    step_by old (ask.fail s) say.missed out new h = elim h [ ]
-    step_by old (ask.fail s) (say.sum n) out new h = elim h [ ]
-    step_by old (ask.get k) (say.make s) out new h = elim h [ ]
-    step_by old (ask.get k) (say.wait s) out new h = elim h [ ]
-    step_by old (ask.get k) say.done out new h = elim h [ ]
-    step_by old (ask.get k) say.left out new h = elim h [ ]
-    step_by old (ask.get k) (say.removed _) out new h = elim h [ ]
-    step_by old (ask.get k) (say.sum n) out new h = elim h [ ]
-    step_by old (ask.release s) (say.make t) out new h = elim h [ ]
-    step_by old (ask.release s) (say.wait t) out new h = elim h [ ]
-    step_by old (ask.release s) (say.hit t v) out new h = elim h [ ]
-    step_by old (ask.release s) say.left out new h = elim h [ ]
-    step_by old (ask.release s) (say.removed k) out new h = elim h [ ]
-    step_by old (ask.release s) say.missed out new h = elim h [ ]
-    step_by old (ask.release s) (say.sum n) out new h = elim h [ ]
-    step_by old (ask.advice_evict l) (say.make s) out new h = elim h [ ]
-    step_by old (ask.advice_evict l) (say.wait s) out new h = elim h [ ]
-    step_by old (ask.advice_evict l) (say.hit s v) out new h = elim h [ ]
-    step_by old (ask.advice_evict l) say.left out new h = elim h [ ]
-    step_by old (ask.advice_evict l) (say.removed k) out new h = elim h [ ]
-    step_by old (ask.advice_evict l) say.missed out new h = elim h [ ]
-    step_by old (ask.advice_evict l) (say.sum n) out new h = elim h [ ]
-    step_by old ask.prune (say.make s) out new h = elim h [ ]
-    step_by old ask.prune (say.wait s) out new h = elim h [ ]
-    step_by old ask.prune (say.hit s v) out new h = elim h [ ]
-    step_by old ask.prune say.left out new h = elim h [ ]
-    step_by old ask.prune (say.removed k) out new h = elim h [ ]
-    step_by old ask.prune say.missed out new h = elim h [ ]
-    step_by old ask.prune (say.sum n) out new h = elim h [ ]
-    step_by old (ask.set_capacity c) (say.make s) out new h = elim h [ ]
-    step_by old (ask.set_capacity c) (say.wait s) out new h = elim h [ ]
-    step_by old (ask.set_capacity c) (say.hit s v) out new h = elim h [ ]
-    step_by old (ask.set_capacity c) say.left out new h = elim h [ ]
-    step_by old (ask.set_capacity c) (say.removed k) out new h = elim h [ ]
-    step_by old (ask.set_capacity c) say.missed out new h = elim h [ ]
-    step_by old (ask.set_capacity c) (say.sum n) out new h = elim h [ ]
-    step_by old ask.total (say.make s) out new h = elim h [ ]
-    step_by old ask.total (say.wait s) out new h = elim h [ ]
-    step_by old ask.total (say.hit s v) out new h = elim h [ ]
-    step_by old ask.total say.done out new h = elim h [ ]
-    step_by old ask.total say.left out new h = elim h [ ]
-    step_by old ask.total (say.removed k) out new h = elim h [ ]
-    step_by old ask.total say.missed out new h = elim h [ ]
-    step_by old (ask.invalidate l) (say.make s) out new h = elim h [ ]
-    step_by old (ask.invalidate l) (say.wait s) out new h = elim h [ ]
-    step_by old (ask.invalidate l) (say.hit s v) out new h = elim h [ ]
-    step_by old (ask.invalidate l) say.left out new h = elim h [ ]
-    step_by old (ask.invalidate l) (say.removed k) out new h = elim h [ ]
-    step_by old (ask.invalidate l) say.missed out new h = elim h [ ]
-    step_by old (ask.invalidate l) (say.sum n) out new h = elim h [ ]
+    step_by old _ _ out new h = absurd h

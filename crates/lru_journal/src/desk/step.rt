@@ -5,7 +5,7 @@ ghost use Rattle.std.specs.Prelude.{◌<◌, IfErr};
 ghost use Rattle.lru_journal.specs.Journals.{IsRecorded};
 
 use crate::journal::Journal;
-use concurrent_lru::lru_core::{Begun, Evicted, Failed, Refusal};
+use concurrent_lru::lru_core::{Begun, Evicted, Failed, Inserted, Refusal};
 use std::hash::Hash;
 use std::sync::Arc;
 
@@ -240,6 +240,36 @@ impl<'a, K: Hash + Eq + Clone, V: Drop> Step<K, V> for Invalidate<'a, K> {
 
     fn apply(self, journal: &mut Journal<K, V>) -> Result<Evicted<K, V>, Refusal> {
         journal.invalidate(self.key)
+    }
+}
+
+/// `Journal::insert`.
+#[derive(Drop)]
+pub struct Insert<'a, K, V> {
+    pub(crate) key: &'a K,
+    pub(crate) charge: u64,
+    pub(crate) value: Arc<V>,
+    ghost charged: { 0 < charge },
+}
+
+impl<'a, K: Hash + Eq + Clone, V: Drop> Step<K, V> for Insert<'a, K, V> {
+    type Answer = Inserted<K, V>;
+
+    type Refused = (Refusal, Arc<V>);
+
+    ghost use Rattle.std.specs.Prelude.{◌≡◌, ◌≢◌};
+    ghost use Rattle.concurrent_lru.specs.declared.list.Refusal.TheVariants.{Stale};
+    ghost use Rattle.lru_journal.specs.Records.{record_of};
+    ghost use Rattle.lru_journal.specs.Replay.{IsOfCopy};
+    ghost use Rattle.concurrent_lru.specs.Request as ask;
+    ghost use Rattle.lru_journal.specs.declared.record.Told.TheVariants as told;
+
+    ghost is_record = { λ s inserted. IsOfCopy K.eq s.key.now (λ copy. record_of (ask.insert copy s.charge tt) (told.Inserted inserted.stamp)) };
+
+    ghost may_refuse = { λ s e. (e.0 ≢ Stale) × (e.1 ≡ s.value) };
+
+    fn apply(self, journal: &mut Journal<K, V>) -> Result<Inserted<K, V>, (Refusal, Arc<V>)> {
+        journal.insert(self.key, self.charge, self.value)
     }
 }
 

@@ -1,6 +1,6 @@
 //! The calls of a journal and of a twin. They have each call once where its record needs new room:
-//! there is none at first, then it lasts for four records, and then for eight. A read asks for the
-//! room of two.
+//! there is none at first, then it lasts for four records, and then for eight. Those of reads and
+//! inserts are the calls of caches without a lock.
 
 use crate::calls::TextCall;
 use lru_fixtures::tables::Call::{

@@ -2,7 +2,7 @@
 
 use crate::shards::ShardCall;
 use lru_fixtures::tables::Call::{
-    Begin, Fail, Get, Invalidate, Poll, Prune, Read, Ready, Release, SetCapacity, Total,
+    Begin, Fail, Get, Insert, Invalidate, Poll, Prune, Read, Ready, Release, SetCapacity, Total,
 };
 
 /// A new entry evicts in its own shard only.
@@ -49,6 +49,25 @@ pub const SHARDS_TAKEN_BACK: &[ShardCall] = &[
     (1, Release(1)),
     (1, Invalidate(1)),
     (0, Invalidate(0)),
+    (0, Total),
+    (1, Total),
+];
+
+/// A new value replaces what its key has, and evicts in its own shard only.
+pub const SHARDS_PUT_IN: &[ShardCall] = &[
+    (1, Insert(1, 1, 10)),
+    (0, Insert(0, 1, 20)),
+    (0, Release(0)),
+    (1, Insert(1, 2, 11)),
+    (1, Release(0)),
+    (1, Release(1)),
+    (1, Insert(1, 3, 12)),
+    (1, Insert(3, u64::MAX, 30)),
+    (1, Release(2)),
+    (1, Insert(3, 2, 31)),
+    (1, Read(1)),
+    (1, Read(3)),
+    (0, Insert(2, 1, 40)),
     (0, Total),
     (1, Total),
 ];

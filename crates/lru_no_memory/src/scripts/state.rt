@@ -1,5 +1,5 @@
-//! The calls of caches without a lock. Those of reads and of keys that are taken back are made of
-//! a journal and of a twin too.
+//! The calls of caches without a lock. Those of reads, of inserts and of keys that are taken back
+//! are made of a journal and of a twin too.
 
 use crate::calls::TextCall;
 use crate::state::Limits;

@@ -3,7 +3,8 @@
 use lru_fixtures::threaded::Then::AtOnce;
 use lru_fixtures::threaded::ThreadedCall;
 use lru_fixtures::threaded::ThreadedCall::{
-    Fail, Get, Init, Insert, Invalidate, Prune, Read, Reserve, SetCapacity, Total, TryInit,
+    Contains, Fail, Get, Init, Insert, Invalidate, Prune, Read, Reserve, SetCapacity, Total,
+    TryInit,
 };
 
 /// A present key keeps its value.
@@ -45,6 +46,8 @@ pub const READ_VALUES: &[ThreadedCall] = &[
     Read(2),
     Read(1),
     Read(3),
+    Contains(1),
+    Contains(2),
     Total,
     Prune,
     Read(1),

@@ -1,7 +1,7 @@
 //! The number of entries of all shards, the pinned part of their totals, and which keys have a
 //! value.
 
-use crate::contents::{Contents, charges, make};
+use crate::contents::{Contents, NO_USE, charges, looks_for_the_oldest, make};
 use crate::sharded::shares::in_shards;
 use concurrent_lru::sharded::{LruCache, Shards};
 use lru_fixtures::tables::shards::ShardCall;
@@ -176,4 +176,12 @@ fn each_shard_is_asked_of_its_own_keys(rt: HostRuntime) {
             (0, true, [false, false, false, false]),
         ]
     );
+}
+
+// In each of two shards, which keep two entries each.
+#[test]
+fn a_look_for_a_value_is_no_use_of_it(rt: HostRuntime) {
+    let cache = in_shards(rt.alloc(), &rt, 4, 2).expect(&rt, "memory");
+    assert_eq!(rt; looks_for_the_oldest(&rt, &cache, [0, 2, 4]), NO_USE);
+    assert_eq!(rt; looks_for_the_oldest(&rt, &cache, [1, 3, 5]), NO_USE);
 }

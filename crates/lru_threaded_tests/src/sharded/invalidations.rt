@@ -12,7 +12,7 @@ use lru_support::hashers::ByOwnNumber;
 use std::test;
 
 // Only the shard of the key detaches; stamps of the other shard stay valid.
-const PURE: [(ShardCall, &str); 13] = [
+const PURE: [(ShardCall, &str); 23] = [
     (ShardCall::Begin(1, 3), "Ok((1, Make(0), []))"),
     (ShardCall::Ready(1, 0, 20), "Ok(())"),
     (ShardCall::Use(0), "Ok((0, [], []))"),
@@ -32,6 +32,33 @@ const PURE: [(ShardCall, &str); 13] = [
     ),
     (ShardCall::Total(0), "Ok(0)"),
     (ShardCall::Total(1), "Ok(0)"),
+    // An insert does the same: it detaches a held entry, and evicts an idle one.
+    (
+        ShardCall::Insert(1, 2, 30),
+        "Ok((1, Inserted { stamp: 2, replaced: [], evicted: [] }))",
+    ),
+    (
+        ShardCall::Insert(1, 3, 31),
+        "Ok((1, Inserted { stamp: 3, replaced: [], evicted: [] }))",
+    ),
+    (ShardCall::Release(1, 3), "Ok([])"),
+    (ShardCall::Insert(3, u64::MAX, 32), "Err((Overflow, 32))"),
+    (
+        ShardCall::Release(1, 2),
+        "Ok([Gone { stamp: 2, key: 1, charge: 2, value: 30 }])",
+    ),
+    (
+        ShardCall::Insert(1, 4, 33),
+        "Ok((1, Inserted { stamp: 4, \
+         replaced: [Gone { stamp: 3, key: 1, charge: 3, value: 31 }], evicted: [] }))",
+    ),
+    (
+        ShardCall::Insert(3, 7, 34),
+        "Ok((1, Inserted { stamp: 5, replaced: [], evicted: [] }))",
+    ),
+    (ShardCall::Read(1), "Ok(Some((4, 33)))"),
+    (ShardCall::Total(0), "Ok(0)"),
+    (ShardCall::Total(1), "Ok(11)"),
 ];
 
 #[test]

@@ -1,7 +1,7 @@
 //! The number of entries, the pinned part of the total, and which keys have a value, read from a
 //! cache that threads share.
 
-use crate::contents::{Contents, charges, make};
+use crate::contents::{Contents, NO_USE, charges, looks_for_the_oldest, make};
 use concurrent_lru::unsharded::LruCache;
 use std::process::Abort;
 use std::sync::Wait;
@@ -100,22 +100,8 @@ fn pinned_charges_are_summed(rt: HostRuntime) {
     );
 }
 
-// Looks for key 1, which stays the oldest, and makes a third key. Returns whether key 1 was there,
-// and the view after that.
-fn looks_for_the_oldest<R: Abort, C: Contents>(rt: &R, cache: C) -> (bool, View) {
-    for key in [1, 2] {
-        drop(make(rt, cache, key, 1, key));
-    }
-    let found = cache.contains(1);
-    drop(make(rt, cache, 3, 1, 3));
-    (found, view(cache))
-}
-
 #[test]
 fn a_look_for_a_value_is_no_use_of_it(rt: HostRuntime) {
     let cache: LruCache<u64, u64, &HostRuntime> = LruCache::new(rt.alloc(), &rt, 2);
-    assert_eq!(rt;
-        looks_for_the_oldest(&rt, &cache),
-        (true, (2, false, [false, true]))
-    );
+    assert_eq!(rt; looks_for_the_oldest(&rt, &cache, [1, 2, 3]), NO_USE);
 }

@@ -1,4 +1,4 @@
-use Rattle.std.proofs.Common.{◌≡◌, ℕ, [], ◌∷◌, ◌++◌, get_or, ap, sym, ◌∙◌, rules}
+use Rattle.std.proofs.Common.{ℕ, [], ◌∷◌, ◌++◌, get_or, ap, sym, ◌∙◌, rules}
 use Rattle.std.proofs.lemmas.List.Sorted.{IsNonDecreasingBy-from_sort_by_key}
 use Rattle.lru_sizing.proofs.Curves.{reused_first, reused_again}
 use Rattle.lru_sizing.proofs.curve.reuses.Goals as goal

@@ -1,4 +1,4 @@
-use Rattle.std.proofs.Common.{◌≡◌, ℕ, [], ◌∷◌, ◌++◌, length, map, get_or, take, None, rules, sym, ap, ◌∙◌, arith}
+use Rattle.std.proofs.Common.{◌≡◌, [], ◌∷◌, ◌++◌, length, map, get_or, take, None, rules, sym, ap, ◌∙◌, arith}
 use Rattle.lru_sizing.specs.Estimates.{scaled_weight, scaled}
 use Rattle.lru_sizing.proofs.Estimates.{mapped, scaled_long, scaled_more, scaled_all}
 use Rattle.lru_sizing.proofs.estimate.scale_weights.Goals as goal

@@ -1,11 +1,9 @@
-use Rattle.std.proofs.Common.{◌≡◌, ◌<◌, inl, inr, Some, None, length, take, sym, ap, ◌∙◌, subst, arith}
+use Rattle.std.proofs.Common.{◌≡◌, ◌<◌, inl, inr, take, sym, ap, ◌∙◌, subst, arith}
 use Rattle.std.specs.Borrow.{Bor}
-use Rattle.std.specs.HashMap as hash
 use Rattle.std.specs.Option.{option_copied}
 use Rattle.std.proofs.lemmas.List.{take_all}
 use Rattle.concurrent_lru.specs.Uses.{charge_in}
 use Rattle.concurrent_lru.proofs.Runs.ChargeOfKey.{charge_agrees}
-use Rattle.lru_sizing.specs.Marks.{last_place}
 use Rattle.lru_sizing.proofs.Marks.{AreCharged}
 use Rattle.lru_sizing.proofs.Passes.{one_charge, seen_early, seen_two, seen_on}
 use Rattle.lru_sizing.proofs.replay.check_charges.Goals as goal

@@ -2,7 +2,7 @@ use Rattle.std.proofs.Common.{◌≡◌, ◌≤◌, ◌++◌, map, length, vec_l
 use Rattle.std.specs.Vec.Iter.{into_iter_items, into_iter_len}
 use Rattle.std.specs.List.{AllByRecursion}
 use Rattle.concurrent_lru.specs.Cache.{IsLawful}
-use Rattle.concurrent_lru.specs.Counted.{WritesAtMostOneMoreAStep}
+use Rattle.concurrent_lru.specs.Counted.{StepsWriteAtMost}
 use Rattle.concurrent_lru.specs.Runs.{Run}
 use Rattle.concurrent_lru.specs.Results.{request_of, outcome_of, IsCharged, AreAnswersTo}
 use Rattle.concurrent_lru.proofs.lru_core.State.run.Given as goal
@@ -13,7 +13,7 @@ invariant-loop-step g l = record {
   left : into_iter_len l.step-iterator ≡ length (into_iter_items l.step-iterator);
   charged : AllByRecursion IsCharged (map request_of (into_iter_items l.step-iterator));
   run : Run g.K.PartialEq.eq l.fn.self.cache (map request_of l.yielded) (map outcome_of l.answers.items) l.self.cache;
-  work : WritesAtMostOneMoreAStep l.fn.self (map outcome_of l.answers.items) l.self;
+  work : StepsWriteAtMost l.fn.self (map outcome_of l.answers.items) l.self;
   kinds : AreAnswersTo l.yielded l.answers.items;
   lawful : IsLawful g.K.PartialEq.eq l.self.cache;
   told : vec_len l.answers ≡ length l.yielded;

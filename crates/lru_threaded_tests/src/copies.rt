@@ -1,0 +1,87 @@
+//! Keys that count their copies: a value is taken back without one.
+
+use concurrent_lru::{sharded, unsharded};
+use lru_support::hashers::ByOwnNumber;
+use std::alloc::AllocError;
+use std::hash::BuildHasher;
+use std::sync::Wait;
+use std::sync::atomic::{AtomicU64, Ordering};
+
+// A number, and how many copies were made of it and of all that share this count.
+#[derive(Drop)]
+#[derive_where(PartialEq, Eq, Hash)]
+struct Counted<'c> {
+    number: u64,
+    #[derive_where(skip)]
+    copies: &'c AtomicU64,
+}
+
+impl<'c> Clone for Counted<'c> {
+    ghost use Rattle.std.specs.Prelude.{◌≡◌};
+
+    ghost is_clone = { λ x y. y ≡ x };
+
+    fn clone(&self) -> Result<Counted<'c>, AllocError> {
+        self.copies.fetch_add(1, Ordering::SeqCst);
+        Ok(Counted {
+            number: self.number,
+            copies: self.copies,
+        })
+    }
+}
+
+// The copies that were made before a held key, an idle one and an absent one are invalidated, and
+// those that were made then; and whether one of the keys still has a value.
+type Copies = ([u64; 2], bool);
+
+fn in_one_lock<'c, R: Wait>(
+    cache: &unsharded::LruCache<Counted<'c>, u64, R>,
+    copies: &'c AtomicU64,
+) -> Copies {
+    let keys = [0, 1, 2].map(|number| Counted { number, copies });
+    let held = cache.insert(&keys[0], 1, 5);
+    drop(cache.insert(&keys[1], 1, 5));
+    let before = copies.load(Ordering::SeqCst);
+    for key in &keys {
+        cache.invalidate(key);
+    }
+    let after = copies.load(Ordering::SeqCst);
+    drop(held);
+    (
+        [before, after],
+        cache.contains(&keys[0]) || cache.contains(&keys[1]),
+    )
+}
+
+fn in_shards<'c, R: Wait, S: BuildHasher>(
+    cache: &sharded::LruCache<Counted<'c>, u64, R, S>,
+    copies: &'c AtomicU64,
+) -> Copies {
+    let keys = [0, 1, 2].map(|number| Counted { number, copies });
+    let held = cache.insert(&keys[0], 1, 5);
+    drop(cache.insert(&keys[1], 1, 5));
+    let before = copies.load(Ordering::SeqCst);
+    for key in &keys {
+        cache.invalidate(key);
+    }
+    let after = copies.load(Ordering::SeqCst);
+    drop(held);
+    (
+        [before, after],
+        cache.contains(&keys[0]) || cache.contains(&keys[1]),
+    )
+}
+
+#[test]
+fn an_invalidate_copies_no_key(rt: HostRuntime) {
+    let alloc = rt.alloc();
+    let copies = AtomicU64::new(0);
+    let cache: unsharded::LruCache<Counted<'_>, u64, &HostRuntime> = unsharded::LruCache::new(
+        alloc, &rt, 10,
+    );
+    assert_eq!(rt; in_one_lock(&cache, &copies), ([2, 2], false));
+    let made: Result<sharded::LruCache<Counted<'_>, u64, &HostRuntime, _>, _> =
+        sharded::LruCache::with_shards_hasher(alloc, &rt, 10, 3, ByOwnNumber);
+    let cache = made.expect(&rt, "memory");
+    assert_eq!(rt; in_shards(&cache, &copies), ([4, 4], false));
+}
