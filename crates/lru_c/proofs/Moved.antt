@@ -67,7 +67,7 @@ abbrev pub own_fields : Ptr → Heap.the_row.Denot → List Val → Fml
 own_fields p a us = (Struct Fields).own_val (p, (a, tt)) us
 
 -- the struct's value: the pointer beside the allocator's bits
-abbrev word : Ptr → Val → Val
+abbrev pub word : Ptr → Val → Val
 word p hv = vstruct (vcons (ptr_val p) (vcons hv vnil))
 
 ptr_typed : (p : Ptr) → T (has_ty ty_ptr (ptr_val p)) × WT (ptr_val p)

@@ -6,9 +6,12 @@ pub mod Handles
 pub mod Chains
 pub mod Opened
 pub mod Held
+pub mod Lends
 pub mod Counted
 pub mod Calls
 pub mod BytesHeld
+pub mod BytesLends
 pub mod BytesCalls
 pub mod WordsHeld
+pub mod WordsLends
 pub mod WordsCalls

@@ -10,16 +10,16 @@ ghost use Rattle.lru_c.specs.Opened.{Opens};
 ghost use Rattle.lru_c.specs.Told.{bare};
 ghost use Rattle.lru_c.specs.BytesCalls.{bytes_eq, AsksByKey, Begins, Contains, InsertsInto, Into, KeyOf};
 
-mod by_key;
 pub mod cache;
 pub mod handles;
 
+use crate::bytes::cache::copy_key;
 use crate::bytes::handles::{LruBytes, LruBytesEvicted};
-use crate::chain_calls::{insert_into_chain, into_chain};
-use crate::handle::{open, take};
+use crate::cache::make;
+use crate::chain_calls::{free_into_chain, insert_into_chain, into_chain};
+use crate::handle::Handle;
 use crate::told::{LruGone, LruStats, LruTold};
-use crate::{calls, chain_calls, code};
-use core::mem::replace_with;
+use crate::{chain_calls, code, steps};
 use std::alloc::Global;
 
 /// Opens an empty cache. An entry may have as many pins as a `u32` counts, and the first one gets
@@ -35,7 +35,7 @@ pub extern "C" fn lru_bytes_new(alloc: Global, capacity: u64, seed: u64, out: &m
     if out.is_open == 1 {
         return code::OPEN;
     }
-    match calls::make(alloc, capacity, 0, u32::MAX, seed, Vec::new(alloc)) {
+    match make(alloc, capacity, 0, u32::MAX, seed, Vec::new(alloc)) {
         Ok(cache) => {
             *out = cache;
             code::DONE
@@ -70,7 +70,7 @@ pub extern "C" fn lru_bytes_new_with_limits(
     if out.is_open == 1 {
         return code::OPEN;
     }
-    match calls::make(
+    match make(
         alloc,
         capacity,
         first_stamp,
@@ -95,7 +95,7 @@ pub extern "C" fn lru_bytes_free(cache: &mut LruBytes, left: &mut LruBytesEvicte
     ensures { Into left.old left.new result cache.old cache.new
         (λ o out n. (n ≡ None) × Frees o result out) }
 {
-    into_chain(cache, (), left, calls::free)
+    free_into_chain(cache, left)
 }
 
 /// Asks for the value of a key and pins its entry, which is made where there is none. What the
@@ -113,7 +113,7 @@ pub extern "C" fn lru_bytes_begin_nonnull(
     ensures { Into gone.old gone.new result.code cache.old cache.new
         (λ o out n. Begins o key.now charge result out n) }
 {
-    into_chain(cache, (key, charge), gone, by_key::begin)
+    into_chain(cache, gone, |cache| cache.begin(key, charge))
 }
 
 /// Asks again for a value that was being made.
@@ -123,7 +123,10 @@ pub extern "C" fn lru_bytes_begin_nonnull(
 pub extern "C" fn lru_bytes_poll(cache: &mut LruBytes, stamp: u64) -> LruTold
     ensures { Asks bytes_eq cache.old.cache.held (ask.poll stamp) result [] cache.new.cache.held }
 {
-    replace_with(cache, stamp, calls::poll)
+    match cache.get_mut() {
+        Some(cache) => steps::poll(&mut cache.state, stamp),
+        None => LruTold::bare(code::CLOSED),
+    }
 }
 
 /// Gives the value of an entry that is being made.
@@ -134,7 +137,10 @@ pub extern "C" fn lru_bytes_ready(cache: &mut LruBytes, stamp: u64, value: u64) 
     ensures { AsksWithMemory bytes_eq cache.old.cache.held (ask.ready stamp value)
         (bare result) [] cache.new.cache.held }
 {
-    replace_with(cache, (stamp, value), calls::ready)
+    match cache.get_mut() {
+        Some(cache) => steps::ready(&mut cache.state, cache.alloc, stamp, value),
+        None => code::CLOSED,
+    }
 }
 
 /// Gives a making up, and the pin with it: `LEFT` where others wait, and else `REMOVED`.
@@ -145,7 +151,10 @@ pub extern "C" fn lru_bytes_fail(cache: &mut LruBytes, stamp: u64) -> u32
     ensures { Asks bytes_eq cache.old.cache.held (ask.fail stamp)
         (bare result) [] cache.new.cache.held }
 {
-    replace_with(cache, stamp, calls::fail)
+    match cache.get_mut() {
+        Some(cache) => cache.fail(stamp),
+        None => code::CLOSED,
+    }
 }
 
 /// The value of a key that is ready, pinned once more; `MISSED` where there is none.
@@ -155,7 +164,10 @@ pub extern "C" fn lru_bytes_fail(cache: &mut LruBytes, stamp: u64) -> u32
 pub extern "C" fn lru_bytes_get_nonnull(cache: &mut LruBytes, key: &[u8]) -> LruTold
     ensures { AsksByKey cache.old.cache.held ask.get key.now result [] cache.new.cache.held }
 {
-    replace_with(cache, key, by_key::get)
+    match cache.get_mut() {
+        Some(cache) => cache.get(key),
+        None => LruTold::bare(code::CLOSED),
+    }
 }
 
 /// Whether a key has a value: `DONE` or `MISSED`. Pins nothing and moves nothing.
@@ -163,7 +175,10 @@ pub extern "C" fn lru_bytes_get_nonnull(cache: &mut LruBytes, key: &[u8]) -> Lru
 pub extern "C" fn lru_bytes_contains_nonnull(cache: &mut LruBytes, key: &[u8]) -> u32
     ensures { Contains cache.old.cache.held key.now result cache.new.cache.held }
 {
-    replace_with(cache, key, by_key::contains)
+    match cache.get_mut() {
+        Some(cache) => cache.contains(key),
+        None => code::CLOSED,
+    }
 }
 
 /// Gives a pin of a ready entry back. With its last pin the entry becomes the newest idle one, and
@@ -179,7 +194,7 @@ pub extern "C" fn lru_bytes_release(
     ensures { Into gone.old gone.new result cache.old cache.new
         (λ o out n. Asks bytes_eq o (ask.release stamp) (bare result) out n) }
 {
-    into_chain(cache, stamp, gone, calls::release)
+    into_chain(cache, gone, |cache| steps::release(&mut cache.state, stamp))
 }
 
 /// Evicts the entry of a key into a chain, where it is idle; else nothing happens, now or later.
@@ -192,7 +207,7 @@ pub extern "C" fn lru_bytes_advice_evict_nonnull(
     ensures { Into gone.old gone.new result cache.old cache.new
         (λ o out n. AsksByKey o ask.advice_evict key.now (bare result) out n) }
 {
-    into_chain(cache, key, gone, by_key::advice_evict)
+    into_chain(cache, gone, |cache| cache.advice_evict(key))
 }
 
 /// Detaches the entry of a key, so that no call by the key finds it. An idle entry is evicted into
@@ -207,7 +222,7 @@ pub extern "C" fn lru_bytes_invalidate_nonnull(
     ensures { Into gone.old gone.new result cache.old cache.new
         (λ o out n. AsksByKey o ask.invalidate key.now (bare result) out n) }
 {
-    into_chain(cache, key, gone, by_key::invalidate)
+    into_chain(cache, gone, |cache| cache.invalidate(key))
 }
 
 /// Puts a value in, whatever the key has: detaches the entry of the key as an invalidate does, and
@@ -228,7 +243,7 @@ pub extern "C" fn lru_bytes_insert_nonnull(
     ensures { Into gone.old gone.new result.code cache.old cache.new
         (λ o out n. InsertsInto o key.now charge value result out n) }
 {
-    insert_into_chain(cache, (key, charge, value), gone, by_key::insert)
+    insert_into_chain(cache, gone, |cache| cache.insert(key, charge, value))
 }
 
 /// Evicts each idle entry into a chain, oldest first.
@@ -237,7 +252,7 @@ pub extern "C" fn lru_bytes_prune(cache: &mut LruBytes, gone: &mut LruBytesEvict
     ensures { Into gone.old gone.new result cache.old cache.new
         (λ o out n. Asks bytes_eq o ask.prune (bare result) out n) }
 {
-    into_chain(cache, (), gone, calls::prune)
+    into_chain(cache, gone, |cache| steps::prune(&mut cache.state))
 }
 
 /// Sets the capacity, and evicts at once what is idle and too much for it.
@@ -250,7 +265,11 @@ pub extern "C" fn lru_bytes_set_capacity(
     ensures { Into gone.old gone.new result cache.old cache.new
         (λ o out n. Asks bytes_eq o (ask.set_capacity capacity) (bare result) out n) }
 {
-    into_chain(cache, capacity, gone, calls::set_capacity)
+    into_chain(
+        cache,
+        gone,
+        |cache| steps::set_capacity(&mut cache.state, capacity),
+    )
 }
 
 /// Makes room for this many entries in all. No entry changes in any case.
@@ -258,7 +277,10 @@ pub extern "C" fn lru_bytes_set_capacity(
 pub extern "C" fn lru_bytes_reserve(cache: &mut LruBytes, entries: usize) -> u32
     ensures { Reserves cache.old.cache.held result cache.new.cache.held }
 {
-    replace_with(cache, entries, calls::reserve)
+    match cache.get_mut() {
+        Some(cache) => steps::reserve(&mut cache.state, entries),
+        None => code::CLOSED,
+    }
 }
 
 /// The sum of the charges of all entries.
@@ -266,7 +288,10 @@ pub extern "C" fn lru_bytes_reserve(cache: &mut LruBytes, entries: usize) -> u32
 pub extern "C" fn lru_bytes_total(cache: &mut LruBytes) -> LruTold
     ensures { Numbers cache.old.cache.held sum_of result cache.new.cache.held }
 {
-    replace_with(cache, (), calls::total)
+    match cache.get_mut() {
+        Some(cache) => steps::total(&cache.state),
+        None => LruTold::bare(code::CLOSED),
+    }
 }
 
 /// The sum of the charges of the entries that have a pin.
@@ -274,7 +299,10 @@ pub extern "C" fn lru_bytes_total(cache: &mut LruBytes) -> LruTold
 pub extern "C" fn lru_bytes_pinned_charge(cache: &mut LruBytes) -> LruTold
     ensures { Numbers cache.old.cache.held pinned_of result cache.new.cache.held }
 {
-    replace_with(cache, (), calls::pinned_charge)
+    match cache.get_mut() {
+        Some(cache) => steps::pinned_charge(&cache.state),
+        None => LruTold::bare(code::CLOSED),
+    }
 }
 
 /// The total that the cache settles to.
@@ -282,7 +310,10 @@ pub extern "C" fn lru_bytes_pinned_charge(cache: &mut LruBytes) -> LruTold
 pub extern "C" fn lru_bytes_capacity(cache: &mut LruBytes) -> LruTold
     ensures { Numbers cache.old.cache.held (λ c. c.capacity) result cache.new.cache.held }
 {
-    replace_with(cache, (), calls::capacity)
+    match cache.get_mut() {
+        Some(cache) => steps::capacity(&cache.state),
+        None => LruTold::bare(code::CLOSED),
+    }
 }
 
 /// How many entries there are, held and idle.
@@ -290,7 +321,10 @@ pub extern "C" fn lru_bytes_capacity(cache: &mut LruBytes) -> LruTold
 pub extern "C" fn lru_bytes_len(cache: &mut LruBytes) -> LruTold
     ensures { Numbers cache.old.cache.held count_of result cache.new.cache.held }
 {
-    replace_with(cache, (), calls::len)
+    match cache.get_mut() {
+        Some(cache) => steps::len(&cache.state),
+        None => LruTold::bare(code::CLOSED),
+    }
 }
 
 /// Counts of what the calls on a cache have answered since it was opened, and what it holds.
@@ -301,12 +335,11 @@ pub extern "C" fn lru_bytes_stats(cache: &mut LruBytes, out: &mut LruStats) -> u
     ensures told { TellsStats cache.old.cache.held result out.new cache.new.cache.held }
     ensures kept { MatchBool (result == codes.done) ⊤ (out.new ≡ out.old) }
 {
-    let (code, stats) = replace_with(cache, (), calls::stats);
-    if code != code::DONE {
-        return code;
-    }
-    *out = stats;
-    code
+    let Some(cache) = cache.get_mut() else {
+        return code::CLOSED;
+    };
+    *out = cache.stats();
+    code::DONE
 }
 
 /// Copies the key of an entry, held or idle, to the front of a buffer: `NUMBER` with its length.
@@ -321,12 +354,8 @@ pub extern "C" fn lru_bytes_key_of_nonnull(
 ) -> LruTold
     ensures { KeyOf cache.old.cache.held stamp result buffer.old buffer.new cache.new.cache.held }
 {
-    match replace_with(cache, None, take) {
-        Some(taken) => {
-            let told = by_key::copy_key(&taken.state, stamp, buffer);
-            *cache = open(taken);
-            told
-        }
+    match cache.get_mut() {
+        Some(cache) => copy_key(&cache.state, stamp, buffer),
         None => LruTold::bare(code::CLOSED),
     }
 }
@@ -360,12 +389,7 @@ pub extern "C" fn lru_bytes_evicted_free(chain: &mut LruBytesEvicted) -> u32
     ensures chain { MatchBool (result == codes.done) (chain.new.chain.held ≡ None)
         (chain.new.chain.held ≡ chain.old.chain.held) }
 {
-    let filled = replace_with(chain, (), chain_calls::is_filled);
-    if filled != code::DONE {
-        return filled;
-    }
-    replace_with(chain, (), chain_calls::free);
-    filled
+    chain_calls::free(chain)
 }
 
 /// Takes the oldest entry out of a chain. False where none is left, or the chain is not open.
@@ -378,7 +402,7 @@ pub extern "C" fn lru_bytes_evicted_pop(chain: &mut LruBytesEvicted, out: &mut L
         ((entries_in (entries_of chain.old.chain.held) ≡ []) ×
         (entries_in (entries_of chain.new.chain.held) ≡ []) × (out.new ≡ out.old)) }
 {
-    match replace_with(chain, (), chain_calls::pop) {
+    match chain_calls::pop(chain) {
         Some(gone) => {
             *out = gone;
             true
@@ -394,5 +418,5 @@ pub extern "C" fn lru_bytes_evicted_is_empty(chain: &mut LruBytesEvicted) -> boo
     ensures empty { MatchBool (chain_code (entries_of chain.old.chain.held) == codes.not_empty)
         (result ≡ false) (result ≡ true) }
 {
-    replace_with(chain, (), chain_calls::is_filled) != code::NOT_EMPTY
+    chain_calls::is_filled(chain) != code::NOT_EMPTY
 }

@@ -1,12 +1,15 @@
 //! What the handle of a cache leads to.
-ghost use Rattle.std.specs.Prelude.{◌≡◌, []};
+ghost use Rattle.std.specs.Prelude.{◌≡◌, ◌<◌, [], IfOk, MatchOption};
+ghost use Rattle.concurrent_lru.specs.Cache.{CopiesAreEqual, empty_cache};
 ghost use Rattle.concurrent_lru.specs.Request as ask;
+ghost use Rattle.lru_c.specs.Counted.{no_calls};
 
 use crate::counts::Counts;
+use crate::handle::{Handle, open};
 use crate::steps;
 use crate::told::{LruStats, LruTold};
 use concurrent_lru::lru_core::State;
-use std::alloc::Global;
+use std::alloc::{AllocError, Global};
 use std::hash::Hash;
 
 /// A cache, and room to ask in, `R`, which depends on how C writes a key.
@@ -57,4 +60,29 @@ impl<K: Hash + Eq + Clone, R> Cache<K, R> {
             capacity: self.state.capacity(),
         }
     }
+}
+
+// A handle that leads to an empty cache.
+pub(crate) fn make<K: Hash + Eq + Clone, R: Drop, H: Handle<To = Cache<K, R>>>(
+    alloc: Global,
+    capacity: u64,
+    first_stamp: u64,
+    most_pins: u32,
+    seed: u64,
+    room: R,
+) -> Result<H, AllocError>
+    requires pinned { 0 < most_pins }
+    requires copies { CopiesAreEqual K.is_clone K.eq }
+    ensures { IfOk result (λ h. MatchOption (H.held h) ⊥
+        (λ c. (c.state.cache ≡ empty_cache capacity most_pins first_stamp) ×
+        (c.counts ≡ no_calls first_stamp))) }
+{
+    let cache = Cache {
+        alloc,
+        state: State::with_limits_and_seed(alloc, capacity, first_stamp, most_pins, seed),
+        counts: Counts::from(first_stamp),
+        room,
+    };
+    let boxed = Box::new(alloc, cache)?;
+    Ok(open(boxed))
 }

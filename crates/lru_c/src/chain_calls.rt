@@ -1,17 +1,24 @@
-//! The calls on a chain behind a handle, which is handed in and handed back, for keys of any type.
-ghost use Rattle.std.specs.Prelude.{◌≡◌, ◌++◌, [], None, Some, is_some, true, ℕ, IfOk, List as Seq, MatchOption};
+//! The calls on a chain, and those on a cache that put what they take out into a chain, for keys of
+//! any type.
+ghost use Rattle.std.specs.Borrow.{sem};
+ghost use Rattle.std.specs.Fn.{FnOnceReturnsAtMut};
+ghost use Rattle.std.specs.Prelude.{◌≡◌, ◌≢◌, ◌==◌, ◌++◌, [], None, Some, is_some, ℕ, IfOk, List as Seq, MatchBool, MatchOption, MatchResult};
 ghost use Rattle.concurrent_lru.specs.Cache.{Idle};
-ghost use Rattle.lru_c.specs.Calls.{entries_of};
+ghost use Rattle.lru_c.specs.Calls.{entries_of, Frees};
 ghost use Rattle.lru_c.specs.Chains.{chain_code, entries_in, IntoChain, Pops};
 ghost use Rattle.lru_c.specs.Codes as codes;
+ghost use Rattle.lru_c.specs.Handles.{OnOpen};
+ghost use Rattle.lru_c.specs.Lends.{LendsChain};
+ghost use Rattle.lru_c.specs.Told.{bare};
 
+use crate::cache::Cache;
 use crate::chain::Chain;
 use crate::code;
-use crate::handle::{Handle, closed, open, opened, take};
+use crate::handle::{Handle, open, take};
 use crate::told::{Answer, LruGone, LruTold};
 use concurrent_lru::lru_core::Evicted;
-use core::mem::replace_with;
 use std::alloc::{AllocError, Global};
+use std::hash::Hash;
 
 pub(crate) fn make<K: Drop, G: Handle<To = Chain<K>>>(alloc: Global) -> Result<G, AllocError>
     ensures { IfOk result (λ h. MatchOption (G.held h) ⊥
@@ -26,114 +33,143 @@ pub(crate) fn make<K: Drop, G: Handle<To = Chain<K>>>(alloc: Global) -> Result<G
 }
 
 // Whether a chain takes more.
-pub(crate) fn is_filled<K: Drop, G: Handle<To = Chain<K>>>(handle: G, _nothing: ()) -> (G, u32)
-    ensures same { G.held result.0 ≡ G.held handle }
-    ensures code { result.1 ≡ chain_code (entries_of (G.held handle)) }
-    ensures stays { result.1 ≡ codes.done → is_some (G.held result.0) ≡ true }
+pub(crate) fn is_filled<K: Drop, G: Handle<To = Chain<K>>>(chain: &mut G) -> u32
+    ensures same { G.held chain.new ≡ G.held chain.old }
+    ensures code { result ≡ chain_code (entries_of (G.held chain.old)) }
 {
-    match opened(handle) {
-        Ok(chain) => {
-            let code = chain.is_filled();
-            (open(chain), code)
-        }
-        Err(handle) => (handle, code::CLOSED),
+    match chain.get_mut() {
+        Some(chain) => chain.is_filled(),
+        None => code::CLOSED,
     }
 }
 
-pub(crate) fn pop<K: Drop, G: Handle<To = Chain<K>>>(
-    handle: G,
-    _nothing: (),
-) -> (G, Option<LruGone>)
-    ensures stays { is_some (G.held result.0) ≡ is_some (G.held handle) }
-    ensures first { Pops (entries_in (entries_of (G.held handle))) result.1
-        (entries_in (entries_of (G.held result.0))) }
+pub(crate) fn pop<K: Drop, G: Handle<To = Chain<K>>>(chain: &mut G) -> Option<LruGone>
+    ensures stays { is_some (G.held chain.new) ≡ is_some (G.held chain.old) }
+    ensures first { Pops (entries_in (entries_of (G.held chain.old))) result
+        (entries_in (entries_of (G.held chain.new))) }
 {
-    match opened(handle) {
-        Ok(mut chain) => {
-            let gone = chain.pop();
-            (open(chain), gone)
-        }
-        Err(handle) => (handle, None),
+    match chain.get_mut() {
+        Some(chain) => chain.pop(),
+        None => None,
     }
 }
 
-// Frees a chain, and what is in it.
-pub(crate) fn free<K: Drop, G: Handle<To = Chain<K>>>(handle: G, _nothing: ()) -> (G, ())
-    ensures { G.held result.0 ≡ None }
+// The chain of a handle that is open and has no entries, for a call that fills it. Else the code
+// that tells why there is none.
+fn empty_chain<K: Drop, G: Handle<To = Chain<K>>>(gone: &mut G) -> Result<&mut Chain<K>, u32>
+    ensures* writes_back { sem 𝓛 (LendsChain G.row K.row G.held gone.entry result) }
+    ensures chain { MatchResult result (λ chain. (G.held gone.old ≡ Some chain.now) ×
+        (chain_code (entries_of (G.held gone.old)) ≡ codes.done))
+        (λ code. (code ≡ chain_code (entries_of (G.held gone.old))) × (code ≢ codes.done)) }
 {
-    match opened(handle) {
-        Ok(chain) => {
-            let alloc = *Box::allocator(&chain);
-            drop(chain);
-            (closed(alloc), ())
+    match gone.get_mut() {
+        Some(chain) => {
+            let filled = chain.is_filled();
+            if filled == code::DONE {
+                Ok(chain)
+            } else {
+                Err(filled)
+            }
         }
-        Err(handle) => (handle, ()),
+        None => Err(code::CLOSED),
     }
+}
+
+// Frees a chain that has no entries.
+pub(crate) fn free<K: Drop, G: Handle<To = Chain<K>>>(chain: &mut G) -> u32
+    ensures code { result ≡ chain_code (entries_of (G.held chain.old)) }
+    ensures chain { MatchBool (result == codes.done) (G.held chain.new ≡ None)
+        (G.held chain.new ≡ G.held chain.old) }
+{
+    let filled = is_filled(chain);
+    if filled == code::DONE {
+        drop(take(chain));
+    }
+    filled
 }
 
 // Makes a call on a cache, and puts what it evicted into a chain; no call where the chain takes no
 // more.
-pub(crate) fn into_chain<K, G, H, A, B, F>(cache: &mut H, asked: A, gone: &mut G, call: F) -> B
+pub(crate) fn into_chain<K, C, G, H, B, F>(cache: &mut H, gone: &mut G, call: F) -> B
 where
     K: Drop,
-    G: Handle<To = Chain<K>> + Drop,
-    A: Drop,
+    C: Drop,
+    G: Handle<To = Chain<K>>,
+    H: Handle<To = C>,
     B: Answer,
-    F: FnOnce(H, A) -> (H, (B, Evicted<K, u64>)) + Drop,
-    requires { F.pre call cache.old asked }
+    F: FnOnce(&mut C) -> (B, Evicted<K, u64>) + Drop,
+    requires { F.IsAlwaysCallable call }
     ensures { IntoChain (entries_of (G.held gone.old)) (entries_of (G.held gone.new))
-        (B.code result) cache.old cache.new
-        (λ out. F.post call cache.old asked (cache.new, (result, out))) }
+        (B.code result) cache.old cache.new (λ out. OnOpen (H.held cache.old) (H.held cache.new)
+        (λ o n. FnOnceReturnsAtMut F.FnOnce call o (result, out) n)
+        ((result ≡ B.alone codes.closed) × (out ≡ []))) }
 {
-    let Some(mut chain) = replace_with(gone, None, take) else {
+    let chain = match empty_chain(gone) {
+        Ok(chain) => chain,
+        Err(code) => return B::of_code(code),
+    };
+    let Some(cache) = cache.get_mut() else {
         return B::of_code(code::CLOSED);
     };
-    let filled = chain.is_filled();
-    if filled != code::DONE {
-        *gone = open(chain);
-        return B::of_code(filled);
-    }
-    let (answer, taken) = replace_with(cache, asked, call);
+    let (answer, taken) = call(cache);
     *chain = Chain {
         first: Evicted::none(),
         rest: taken,
     };
-    *gone = open(chain);
     answer
 }
 
 // The same of an insert: what it replaced comes before what it evicted.
-pub(crate) fn insert_into_chain<K, G, H, A, F>(
-    cache: &mut H,
-    asked: A,
-    gone: &mut G,
-    call: F,
-) -> LruTold
+pub(crate) fn insert_into_chain<K, C, G, H, F>(cache: &mut H, gone: &mut G, call: F) -> LruTold
 where
     K: Drop,
-    G: Handle<To = Chain<K>> + Drop,
-    A: Drop,
-    F: FnOnce(H, A) -> (H, (LruTold, (Evicted<K, u64>, Evicted<K, u64>))) + Drop,
-    requires { F.pre call cache.old asked }
+    C: Drop,
+    G: Handle<To = Chain<K>>,
+    H: Handle<To = C>,
+    F: FnOnce(&mut C) -> (LruTold, (Evicted<K, u64>, Evicted<K, u64>)) + Drop,
+    requires { F.IsAlwaysCallable call }
     ensures { IntoChain (entries_of (G.held gone.old)) (entries_of (G.held gone.new)) result.code
-        cache.old cache.new
-        (λ out. (replaced : Seq (Idle K ℕ)) × (evicted : Seq (Idle K ℕ)) ×
-        (out ≡ replaced ++ evicted) ×
-        F.post call cache.old asked (cache.new, (result, (replaced, evicted)))) }
+        cache.old cache.new (λ out. (replaced : Seq (Idle K ℕ)) × (evicted : Seq (Idle K ℕ)) ×
+        (out ≡ replaced ++ evicted) × OnOpen (H.held cache.old) (H.held cache.new)
+        (λ o n. FnOnceReturnsAtMut F.FnOnce call o (result, (replaced, evicted)) n)
+        ((result ≡ bare codes.closed) × (replaced ≡ []) × (evicted ≡ []))) }
 {
-    let Some(mut chain) = replace_with(gone, None, take) else {
+    let chain = match empty_chain(gone) {
+        Ok(chain) => chain,
+        Err(code) => return LruTold::bare(code),
+    };
+    let Some(cache) = cache.get_mut() else {
         return LruTold::bare(code::CLOSED);
     };
-    let filled = chain.is_filled();
-    if filled != code::DONE {
-        *gone = open(chain);
-        return LruTold::bare(filled);
-    }
-    let (answer, taken) = replace_with(cache, asked, call);
+    let (answer, taken) = call(cache);
     *chain = Chain {
         first: taken.0,
         rest: taken.1,
     };
-    *gone = open(chain);
     answer
+}
+
+// Takes each entry out of a cache into a chain, and frees the cache.
+pub(crate) fn free_into_chain<K, R, G, H>(cache: &mut H, left: &mut G) -> u32
+where
+    K: Hash + Eq + Clone,
+    R: Drop,
+    G: Handle<To = Chain<K>>,
+    H: Handle<To = Cache<K, R>>,
+    ensures { IntoChain (entries_of (G.held left.old)) (entries_of (G.held left.new)) result
+        cache.old cache.new
+        (λ out. (H.held cache.new ≡ None) × Frees (H.held cache.old) result out) }
+{
+    let chain = match empty_chain(left) {
+        Ok(chain) => chain,
+        Err(code) => return code,
+    };
+    let Some(mut taken) = take(cache) else {
+        return code::CLOSED;
+    };
+    *chain = Chain {
+        first: Evicted::none(),
+        rest: taken.state.take_all(),
+    };
+    code::DONE
 }

@@ -1,7 +1,10 @@
 //! What the handles of C have in common, whatever they lead to.
-ghost use Rattle.std.specs.Prelude.{◌≡◌, Option as Maybe, Some, None, false, is_some, true, MatchOption, MatchResult};
+ghost use Rattle.std.specs.Borrow.{sem};
+ghost use Rattle.std.specs.Prelude.{◌≡◌, Option as Maybe, Some, None, is_some, MatchOption};
+ghost use Rattle.lru_c.specs.Lends.{LendsHeld};
 
 use crate::at::At;
+use core::mem::replace_with;
 use std::alloc::Global;
 
 /// A handle of C, which is open and leads to a value, or is not open.
@@ -21,6 +24,12 @@ pub trait Handle: Sized {
     fn into_parts(self) -> (At<Self::To, Global>, bool)
         ensures held { result.0.held ≡ held self }
         ensures is_open { is_some result.0.held ≡ result.1 };
+
+    /// The value that the handle leads to, for a call on it. `None` where it is not open.
+    fn get_mut(&mut self) -> Option<&mut Self::To>
+        ensures* writes_back { sem 𝓛 (LendsHeld Self.row Self.To.row held self.entry result) }
+        ensures value { MatchOption result (held self.old ≡ None)
+            (λ inner. held self.old ≡ Some inner.now) };
 }
 
 pub(crate) fn open<H: Handle>(inner: Box<H::To>) -> H
@@ -29,38 +38,34 @@ pub(crate) fn open<H: Handle>(inner: Box<H::To>) -> H
     H::of_parts(At::of(inner), true)
 }
 
-pub(crate) fn closed<H: Handle>(alloc: Global) -> H
+fn closed<H: Handle>(alloc: Global) -> H
     ensures { H.held result ≡ None }
 {
     H::of_parts(At::none(alloc), false)
 }
 
-// What a handle leads to; the handle again where it is not open.
-pub(crate) fn opened<H: Handle>(handle: H) -> Result<Box<H::To>, H>
-    ensures { MatchResult result (λ inner. H.held handle ≡ Some inner.value)
-        (λ same. (H.held handle ≡ None) × (H.held same ≡ None)) }
+// Takes the value out of a handle, which is not open then. `None` where it was not open.
+pub(crate) fn take<H: Handle>(handle: &mut H) -> Option<Box<H::To>>
+    ensures closed { H.held handle.new ≡ None }
+    ensures taken { MatchOption result (H.held handle.old ≡ None)
+        (λ inner. H.held handle.old ≡ Some inner.value) }
 {
-    let (at, is_open) = handle.into_parts();
-    if is_open {
-        Ok(at.into_box())
-    } else {
-        Err(H::of_parts(at, false))
-    }
+    replace_with(handle, None, taken)
 }
 
-// Takes what a handle leads to out of it, so that it is not open; answers `none` where it is not
-// open already. A function that is passed on may answer only what its arguments' types name.
-pub(crate) fn take<H: Handle>(handle: H, none: Option<Box<H::To>>) -> (H, Option<Box<H::To>>)
+// Answers `none` where the handle is not open: a function that is passed on may answer only what
+// its arguments' types name.
+fn taken<H: Handle>(handle: H, none: Option<Box<H::To>>) -> (H, Option<Box<H::To>>)
     requires { none ≡ None }
     ensures closed { H.held result.0 ≡ None }
     ensures taken { MatchOption result.1 (H.held handle ≡ None)
         (λ inner. H.held handle ≡ Some inner.value) }
 {
-    match opened(handle) {
-        Ok(inner) => {
-            let alloc = *Box::allocator(&inner);
-            (closed(alloc), Some(inner))
-        }
-        Err(handle) => (handle, none),
+    let (at, is_open) = handle.into_parts();
+    if !is_open {
+        return (H::of_parts(at, false), none);
     }
+    let inner = at.into_box();
+    let alloc = *Box::allocator(&inner);
+    (closed(alloc), Some(inner))
 }

@@ -6,7 +6,6 @@
 pub mod at;
 pub mod bytes;
 pub mod cache;
-mod calls;
 pub mod chain;
 mod chain_calls;
 pub mod code;

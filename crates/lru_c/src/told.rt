@@ -66,16 +66,22 @@ pub struct LruStats {
     pub capacity: u64,
 }
 
-// What a call that refuses for a chain answers: a code, or what is told with it.
+// What a call that puts entries into a chain answers: a code, or what is told with it.
 pub(crate) trait Answer: Sized {
     ghost code: { Self → ℕ };
 
+    // The answer that tells a code and nothing else.
+    ghost alone: { ℕ → Self };
+
     fn of_code(number: u32) -> Self
-        ensures { code result ≡ number };
+        ensures code { code result ≡ number }
+        ensures alone { result ≡ alone number };
 }
 
 impl Answer for u32 {
     ghost code = { λ c. c };
+
+    ghost alone = { λ c. c };
 
     fn of_code(number: u32) -> u32 {
         number
@@ -84,6 +90,8 @@ impl Answer for u32 {
 
 impl Answer for LruTold {
     ghost code = { λ t. t.code };
+
+    ghost alone = { bare };
 
     fn of_code(number: u32) -> LruTold {
         LruTold::bare(number)

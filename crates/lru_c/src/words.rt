@@ -10,17 +10,17 @@ ghost use Rattle.lru_c.specs.Opened.{Opens};
 ghost use Rattle.lru_c.specs.Told.{bare};
 ghost use Rattle.lru_c.specs.WordsCalls.{words, words_eq, Begins, Contains, InsertsInto, Into, KeyOf};
 
-mod by_key;
 pub mod cache;
 pub mod handles;
 pub mod key;
 
-use crate::chain_calls::{insert_into_chain, into_chain};
+use crate::cache::make;
+use crate::chain_calls::{free_into_chain, insert_into_chain, into_chain};
+use crate::handle::Handle;
 use crate::told::{LruGone, LruStats, LruTold};
 use crate::words::handles::{LruWords, LruWordsEvicted};
 use crate::words::key::Words;
-use crate::{calls, chain_calls, code};
-use core::mem::replace_with;
+use crate::{chain_calls, code, steps};
 use std::alloc::Global;
 
 /// Opens an empty cache. An entry may have as many pins as a `u32` counts, and the first one gets
@@ -36,7 +36,7 @@ pub extern "C" fn lru_words_new(alloc: Global, capacity: u64, seed: u64, out: &m
     if out.is_open == 1 {
         return code::OPEN;
     }
-    match calls::make(alloc, capacity, 0, u32::MAX, seed, ()) {
+    match make(alloc, capacity, 0, u32::MAX, seed, ()) {
         Ok(cache) => {
             *out = cache;
             code::DONE
@@ -71,7 +71,7 @@ pub extern "C" fn lru_words_new_with_limits(
     if out.is_open == 1 {
         return code::OPEN;
     }
-    match calls::make(alloc, capacity, first_stamp, most_pins, seed, ()) {
+    match make(alloc, capacity, first_stamp, most_pins, seed, ()) {
         Ok(cache) => {
             *out = cache;
             code::DONE
@@ -89,7 +89,7 @@ pub extern "C" fn lru_words_free(cache: &mut LruWords, left: &mut LruWordsEvicte
     ensures { Into left.old left.new result cache.old cache.new
         (λ o out n. (n ≡ None) × Frees o result out) }
 {
-    into_chain(cache, (), left, calls::free)
+    free_into_chain(cache, left)
 }
 
 /// Asks for the value of a key and pins its entry, which is made where there is none. What the
@@ -110,9 +110,8 @@ pub extern "C" fn lru_words_begin(
 {
     into_chain(
         cache,
-        (Words { first, second }, charge),
         gone,
-        by_key::begin,
+        |cache| cache.begin(&Words { first, second }, charge),
     )
 }
 
@@ -123,7 +122,10 @@ pub extern "C" fn lru_words_begin(
 pub extern "C" fn lru_words_poll(cache: &mut LruWords, stamp: u64) -> LruTold
     ensures { Asks words_eq cache.old.cache.held (ask.poll stamp) result [] cache.new.cache.held }
 {
-    replace_with(cache, stamp, calls::poll)
+    match cache.get_mut() {
+        Some(cache) => steps::poll(&mut cache.state, stamp),
+        None => LruTold::bare(code::CLOSED),
+    }
 }
 
 /// Gives the value of an entry that is being made.
@@ -134,7 +136,10 @@ pub extern "C" fn lru_words_ready(cache: &mut LruWords, stamp: u64, value: u64) 
     ensures { AsksWithMemory words_eq cache.old.cache.held (ask.ready stamp value)
         (bare result) [] cache.new.cache.held }
 {
-    replace_with(cache, (stamp, value), calls::ready)
+    match cache.get_mut() {
+        Some(cache) => steps::ready(&mut cache.state, cache.alloc, stamp, value),
+        None => code::CLOSED,
+    }
 }
 
 /// Gives a making up, and the pin with it: `LEFT` where others wait, and else `REMOVED`.
@@ -145,7 +150,10 @@ pub extern "C" fn lru_words_fail(cache: &mut LruWords, stamp: u64) -> u32
     ensures { Asks words_eq cache.old.cache.held (ask.fail stamp)
         (bare result) [] cache.new.cache.held }
 {
-    replace_with(cache, stamp, calls::fail)
+    match cache.get_mut() {
+        Some(cache) => cache.fail(stamp),
+        None => code::CLOSED,
+    }
 }
 
 /// The value of a key that is ready, pinned once more; `MISSED` where there is none.
@@ -156,7 +164,10 @@ pub extern "C" fn lru_words_get(cache: &mut LruWords, first: u64, second: u64) -
     ensures { Asks words_eq cache.old.cache.held (ask.get (words first second)) result []
         cache.new.cache.held }
 {
-    replace_with(cache, Words { first, second }, by_key::get)
+    match cache.get_mut() {
+        Some(cache) => cache.get(&Words { first, second }),
+        None => LruTold::bare(code::CLOSED),
+    }
 }
 
 /// Whether a key has a value: `DONE` or `MISSED`. Pins nothing and moves nothing.
@@ -164,7 +175,10 @@ pub extern "C" fn lru_words_get(cache: &mut LruWords, first: u64, second: u64) -
 pub extern "C" fn lru_words_contains(cache: &mut LruWords, first: u64, second: u64) -> u32
     ensures { Contains cache.old.cache.held (words first second) result cache.new.cache.held }
 {
-    replace_with(cache, Words { first, second }, by_key::contains)
+    match cache.get_mut() {
+        Some(cache) => steps::contains(&cache.state, &Words { first, second }),
+        None => code::CLOSED,
+    }
 }
 
 /// Gives a pin of a ready entry back. With its last pin the entry becomes the newest idle one, and
@@ -180,7 +194,7 @@ pub extern "C" fn lru_words_release(
     ensures { Into gone.old gone.new result cache.old cache.new
         (λ o out n. Asks words_eq o (ask.release stamp) (bare result) out n) }
 {
-    into_chain(cache, stamp, gone, calls::release)
+    into_chain(cache, gone, |cache| steps::release(&mut cache.state, stamp))
 }
 
 /// Evicts the entry of a key into a chain, where it is idle; else nothing happens, now or later.
@@ -194,7 +208,11 @@ pub extern "C" fn lru_words_advice_evict(
     ensures { Into gone.old gone.new result cache.old cache.new
         (λ o out n. Asks words_eq o (ask.advice_evict (words first second)) (bare result) out n) }
 {
-    into_chain(cache, Words { first, second }, gone, by_key::advice_evict)
+    into_chain(
+        cache,
+        gone,
+        |cache| steps::advice_evict(&mut cache.state, &Words { first, second }),
+    )
 }
 
 /// Detaches the entry of a key, so that no call by the key finds it. An idle entry is evicted into
@@ -210,7 +228,11 @@ pub extern "C" fn lru_words_invalidate(
     ensures { Into gone.old gone.new result cache.old cache.new
         (λ o out n. Asks words_eq o (ask.invalidate (words first second)) (bare result) out n) }
 {
-    into_chain(cache, Words { first, second }, gone, by_key::invalidate)
+    into_chain(
+        cache,
+        gone,
+        |cache| steps::invalidate(&mut cache.state, &Words { first, second }),
+    )
 }
 
 /// Puts a value in, whatever the key has: detaches the entry of the key as an invalidate does, and
@@ -234,9 +256,8 @@ pub extern "C" fn lru_words_insert(
 {
     insert_into_chain(
         cache,
-        (Words { first, second }, charge, value),
         gone,
-        by_key::insert,
+        |cache| cache.insert(&Words { first, second }, charge, value),
     )
 }
 
@@ -246,7 +267,7 @@ pub extern "C" fn lru_words_prune(cache: &mut LruWords, gone: &mut LruWordsEvict
     ensures { Into gone.old gone.new result cache.old cache.new
         (λ o out n. Asks words_eq o ask.prune (bare result) out n) }
 {
-    into_chain(cache, (), gone, calls::prune)
+    into_chain(cache, gone, |cache| steps::prune(&mut cache.state))
 }
 
 /// Sets the capacity, and evicts at once what is idle and too much for it.
@@ -259,7 +280,11 @@ pub extern "C" fn lru_words_set_capacity(
     ensures { Into gone.old gone.new result cache.old cache.new
         (λ o out n. Asks words_eq o (ask.set_capacity capacity) (bare result) out n) }
 {
-    into_chain(cache, capacity, gone, calls::set_capacity)
+    into_chain(
+        cache,
+        gone,
+        |cache| steps::set_capacity(&mut cache.state, capacity),
+    )
 }
 
 /// Makes room for this many entries in all. No entry changes in any case.
@@ -267,7 +292,10 @@ pub extern "C" fn lru_words_set_capacity(
 pub extern "C" fn lru_words_reserve(cache: &mut LruWords, entries: usize) -> u32
     ensures { Reserves cache.old.cache.held result cache.new.cache.held }
 {
-    replace_with(cache, entries, calls::reserve)
+    match cache.get_mut() {
+        Some(cache) => steps::reserve(&mut cache.state, entries),
+        None => code::CLOSED,
+    }
 }
 
 /// The sum of the charges of all entries.
@@ -275,7 +303,10 @@ pub extern "C" fn lru_words_reserve(cache: &mut LruWords, entries: usize) -> u32
 pub extern "C" fn lru_words_total(cache: &mut LruWords) -> LruTold
     ensures { Numbers cache.old.cache.held sum_of result cache.new.cache.held }
 {
-    replace_with(cache, (), calls::total)
+    match cache.get_mut() {
+        Some(cache) => steps::total(&cache.state),
+        None => LruTold::bare(code::CLOSED),
+    }
 }
 
 /// The sum of the charges of the entries that have a pin.
@@ -283,7 +314,10 @@ pub extern "C" fn lru_words_total(cache: &mut LruWords) -> LruTold
 pub extern "C" fn lru_words_pinned_charge(cache: &mut LruWords) -> LruTold
     ensures { Numbers cache.old.cache.held pinned_of result cache.new.cache.held }
 {
-    replace_with(cache, (), calls::pinned_charge)
+    match cache.get_mut() {
+        Some(cache) => steps::pinned_charge(&cache.state),
+        None => LruTold::bare(code::CLOSED),
+    }
 }
 
 /// The total that the cache settles to.
@@ -291,7 +325,10 @@ pub extern "C" fn lru_words_pinned_charge(cache: &mut LruWords) -> LruTold
 pub extern "C" fn lru_words_capacity(cache: &mut LruWords) -> LruTold
     ensures { Numbers cache.old.cache.held (λ c. c.capacity) result cache.new.cache.held }
 {
-    replace_with(cache, (), calls::capacity)
+    match cache.get_mut() {
+        Some(cache) => steps::capacity(&cache.state),
+        None => LruTold::bare(code::CLOSED),
+    }
 }
 
 /// How many entries there are, held and idle.
@@ -299,7 +336,10 @@ pub extern "C" fn lru_words_capacity(cache: &mut LruWords) -> LruTold
 pub extern "C" fn lru_words_len(cache: &mut LruWords) -> LruTold
     ensures { Numbers cache.old.cache.held count_of result cache.new.cache.held }
 {
-    replace_with(cache, (), calls::len)
+    match cache.get_mut() {
+        Some(cache) => steps::len(&cache.state),
+        None => LruTold::bare(code::CLOSED),
+    }
 }
 
 /// Counts of what the calls on a cache have answered since it was opened, and what it holds.
@@ -310,12 +350,11 @@ pub extern "C" fn lru_words_stats(cache: &mut LruWords, out: &mut LruStats) -> u
     ensures told { TellsStats cache.old.cache.held result out.new cache.new.cache.held }
     ensures kept { MatchBool (result == codes.done) ⊤ (out.new ≡ out.old) }
 {
-    let (code, stats) = replace_with(cache, (), calls::stats);
-    if code != code::DONE {
-        return code;
-    }
-    *out = stats;
-    code
+    let Some(cache) = cache.get_mut() else {
+        return code::CLOSED;
+    };
+    *out = cache.stats();
+    code::DONE
 }
 
 /// The key of an entry, held or idle, as its two words. `STALE` where no entry has the stamp.
@@ -331,13 +370,17 @@ pub extern "C" fn lru_words_key_of(
     ensures kept { MatchBool (result == codes.done) ⊤
         ((first.new ≡ first.old) × (second.new ≡ second.old)) }
 {
-    let (code, key) = replace_with(cache, stamp, by_key::key_of);
-    if code != code::DONE {
-        return code;
+    let Some(cache) = cache.get_mut() else {
+        return code::CLOSED;
+    };
+    match cache.state.key_of(stamp) {
+        Some(key) => {
+            *first = key.first;
+            *second = key.second;
+            code::DONE
+        }
+        None => code::STALE,
     }
-    *first = key.first;
-    *second = key.second;
-    code
 }
 
 /// Opens an empty chain.
@@ -369,12 +412,7 @@ pub extern "C" fn lru_words_evicted_free(chain: &mut LruWordsEvicted) -> u32
     ensures chain { MatchBool (result == codes.done) (chain.new.chain.held ≡ None)
         (chain.new.chain.held ≡ chain.old.chain.held) }
 {
-    let filled = replace_with(chain, (), chain_calls::is_filled);
-    if filled != code::DONE {
-        return filled;
-    }
-    replace_with(chain, (), chain_calls::free);
-    filled
+    chain_calls::free(chain)
 }
 
 /// Takes the oldest entry out of a chain. False where none is left, or the chain is not open.
@@ -387,7 +425,7 @@ pub extern "C" fn lru_words_evicted_pop(chain: &mut LruWordsEvicted, out: &mut L
         ((entries_in (entries_of chain.old.chain.held) ≡ []) ×
         (entries_in (entries_of chain.new.chain.held) ≡ []) × (out.new ≡ out.old)) }
 {
-    match replace_with(chain, (), chain_calls::pop) {
+    match chain_calls::pop(chain) {
         Some(gone) => {
             *out = gone;
             true
@@ -403,5 +441,5 @@ pub extern "C" fn lru_words_evicted_is_empty(chain: &mut LruWordsEvicted) -> boo
     ensures empty { MatchBool (chain_code (entries_of chain.old.chain.held) == codes.not_empty)
         (result ≡ false) (result ≡ true) }
 {
-    replace_with(chain, (), chain_calls::is_filled) != code::NOT_EMPTY
+    chain_calls::is_filled(chain) != code::NOT_EMPTY
 }

@@ -2,11 +2,12 @@
 //! A look-up takes a whole key, so the bytes that are asked are copied into one that is kept.
 ghost use Rattle.std.specs.Prelude.{◌≡◌, [], true};
 ghost use Rattle.concurrent_lru.specs.Request as ask;
+ghost use Rattle.lru_c.specs.BytesCalls.{CopiesKey};
 
 use crate::cache::Cache;
 use crate::told::LruTold;
 use crate::{code, steps};
-use concurrent_lru::lru_core::Evicted;
+use concurrent_lru::lru_core::{Evicted, State};
 
 impl Cache<Vec<u8>, Vec<u8>> {
     ghost use Rattle.lru_c.specs.BytesCalls.{bytes_eq, BeginsByKey, ContainsBytes};
@@ -106,4 +107,19 @@ impl Cache<Vec<u8>, Vec<u8>> {
         }
         steps::contains(&self.state, &self.room)
     }
+}
+
+// Copies the key of a stamp to the front of a buffer.
+pub(crate) fn copy_key(state: &State<Vec<u8>, u64>, stamp: u64, buffer: &mut [u8]) -> LruTold
+    ensures { CopiesKey state.now.cache stamp result buffer.old buffer.new }
+{
+    let Some(key) = state.key_of(stamp) else {
+        return LruTold::bare(code::STALE);
+    };
+    let length = key.len();
+    if length > buffer.len() {
+        return LruTold::of(code::NO_ROOM, 0, length as u64);
+    }
+    buffer[..length].copy_from_slice(key);
+    LruTold::of(code::NUMBER, 0, length as u64)
 }

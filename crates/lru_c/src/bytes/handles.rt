@@ -1,5 +1,6 @@
 //! The handles of caches and chains whose keys are bytes, as C holds them.
-ghost use Rattle.std.specs.Prelude.{◌≡◌, ◌==◌, Option, is_some};
+ghost use Rattle.std.specs.Borrow.{sem};
+ghost use Rattle.std.specs.Prelude.{◌≡◌, ◌==◌, Option, Some, is_some, true};
 ghost use Rattle.lru_c.specs.BytesHeld.{BytesCache as HeldCache, BytesChain as HeldChain, bytes_cache_coded, bytes_cache_owns, bytes_chain_coded, bytes_chain_owns};
 
 use crate::at::At;
@@ -33,6 +34,8 @@ impl Model for BytesCacheAt {
 unsafe impl Send for BytesCacheAt {}
 
 impl BytesCacheAt {
+    ghost use Rattle.lru_c.specs.BytesLends.{lends_cache};
+
     fn of(parts: At<BytesCache, Global>) -> BytesCacheAt
         ensures { result.held ≡ parts.held }
     {
@@ -51,6 +54,15 @@ impl BytesCacheAt {
             ptr: at as *mut BytesCache,
             alloc,
         }
+    }
+
+    // The cache that the pointer leads to.
+    fn lend(&mut self) -> &mut BytesCache
+        requires { is_some self.old.held ≡ true }
+        ensures* writes_back { sem 𝓛 (lends_cache self.entry result) }
+        ensures value { self.old.held ≡ Some result.now }
+    {
+        unsafe { &mut *(self.at as *mut BytesCache) }
     }
 }
 
@@ -89,6 +101,14 @@ impl Handle for LruBytes {
         let LruBytes { cache, is_open } = self;
         (cache.into_parts(), is_open == 1)
     }
+
+    fn get_mut(&mut self) -> Option<&mut BytesCache> {
+        if self.is_open == 1 {
+            Some(self.cache.lend())
+        } else {
+            None
+        }
+    }
 }
 
 /// A pointer of C. Where `held` is some, it owns that chain as a box does; else it owns nothing.
@@ -108,6 +128,8 @@ impl Model for BytesChainAt {
 unsafe impl Send for BytesChainAt {}
 
 impl BytesChainAt {
+    ghost use Rattle.lru_c.specs.BytesLends.{lends_chain};
+
     fn of(parts: At<BytesChain, Global>) -> BytesChainAt
         ensures { result.held ≡ parts.held }
     {
@@ -126,6 +148,15 @@ impl BytesChainAt {
             ptr: at as *mut BytesChain,
             alloc,
         }
+    }
+
+    // The chain that the pointer leads to.
+    fn lend(&mut self) -> &mut BytesChain
+        requires { is_some self.old.held ≡ true }
+        ensures* writes_back { sem 𝓛 (lends_chain self.entry result) }
+        ensures value { self.old.held ≡ Some result.now }
+    {
+        unsafe { &mut *(self.at as *mut BytesChain) }
     }
 }
 
@@ -163,5 +194,13 @@ impl Handle for LruBytesEvicted {
     {
         let LruBytesEvicted { chain, is_open } = self;
         (chain.into_parts(), is_open == 1)
+    }
+
+    fn get_mut(&mut self) -> Option<&mut BytesChain> {
+        if self.is_open == 1 {
+            Some(self.chain.lend())
+        } else {
+            None
+        }
     }
 }

@@ -1,5 +1,6 @@
 //! The handles of caches and chains whose keys are two words, as C holds them.
-ghost use Rattle.std.specs.Prelude.{◌≡◌, ◌==◌, Option, is_some};
+ghost use Rattle.std.specs.Borrow.{sem};
+ghost use Rattle.std.specs.Prelude.{◌≡◌, ◌==◌, Option, Some, is_some, true};
 ghost use Rattle.lru_c.specs.WordsHeld.{WordsCache as HeldCache, WordsChain as HeldChain, words_cache_coded, words_cache_owns, words_chain_coded, words_chain_owns};
 
 use crate::at::At;
@@ -33,6 +34,8 @@ impl Model for WordsCacheAt {
 unsafe impl Send for WordsCacheAt {}
 
 impl WordsCacheAt {
+    ghost use Rattle.lru_c.specs.WordsLends.{lends_cache};
+
     fn of(parts: At<WordsCache, Global>) -> WordsCacheAt
         ensures { result.held ≡ parts.held }
     {
@@ -51,6 +54,15 @@ impl WordsCacheAt {
             ptr: at as *mut WordsCache,
             alloc,
         }
+    }
+
+    // The cache that the pointer leads to.
+    fn lend(&mut self) -> &mut WordsCache
+        requires { is_some self.old.held ≡ true }
+        ensures* writes_back { sem 𝓛 (lends_cache self.entry result) }
+        ensures value { self.old.held ≡ Some result.now }
+    {
+        unsafe { &mut *(self.at as *mut WordsCache) }
     }
 }
 
@@ -89,6 +101,14 @@ impl Handle for LruWords {
         let LruWords { cache, is_open } = self;
         (cache.into_parts(), is_open == 1)
     }
+
+    fn get_mut(&mut self) -> Option<&mut WordsCache> {
+        if self.is_open == 1 {
+            Some(self.cache.lend())
+        } else {
+            None
+        }
+    }
 }
 
 /// A pointer of C. Where `held` is some, it owns that chain as a box does; else it owns nothing.
@@ -108,6 +128,8 @@ impl Model for WordsChainAt {
 unsafe impl Send for WordsChainAt {}
 
 impl WordsChainAt {
+    ghost use Rattle.lru_c.specs.WordsLends.{lends_chain};
+
     fn of(parts: At<WordsChain, Global>) -> WordsChainAt
         ensures { result.held ≡ parts.held }
     {
@@ -126,6 +148,15 @@ impl WordsChainAt {
             ptr: at as *mut WordsChain,
             alloc,
         }
+    }
+
+    // The chain that the pointer leads to.
+    fn lend(&mut self) -> &mut WordsChain
+        requires { is_some self.old.held ≡ true }
+        ensures* writes_back { sem 𝓛 (lends_chain self.entry result) }
+        ensures value { self.old.held ≡ Some result.now }
+    {
+        unsafe { &mut *(self.at as *mut WordsChain) }
     }
 }
 
@@ -163,5 +194,13 @@ impl Handle for LruWordsEvicted {
     {
         let LruWordsEvicted { chain, is_open } = self;
         (chain.into_parts(), is_open == 1)
+    }
+
+    fn get_mut(&mut self) -> Option<&mut WordsChain> {
+        if self.is_open == 1 {
+            Some(self.chain.lend())
+        } else {
+            None
+        }
     }
 }

@@ -1,7 +1,7 @@
 use Rattle.std.proofs.Common.{arith, ◌≡◌, ◌++◌, ◌∙◌, ap, refl, inl, inr, drop, length}
 use Rattle.lru_c.specs.Codes as codes
 use Rattle.lru_c.specs.Told.{told}
-use Rattle.lru_c.proofs.bytes.by_key.copy_key.Goals as goal
+use Rattle.lru_c.proofs.bytes.cache.copy_key.Goals as goal
 
 pub returns-then-length-buffer : goal.returns-then-length-buffer
 returns-then-length-buffer c =

@@ -1,5 +1,0 @@
-use Rattle.lru_c.proofs.Opened.{on_box}
-use Rattle.lru_c.proofs.words.by_key.begin.Goals as goal
-
-pub returns-in-Ok : goal.returns-in-Ok
-returns-in-Ok c = on_box _ _ c.in-Ok.ensures c.open.ensures c.deref_mut.ensures.value (c.begin-answer.ensures.asks, c.begin-answer.ensures.counts)
