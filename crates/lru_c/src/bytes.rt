@@ -16,10 +16,12 @@ pub mod handles;
 use crate::bytes::cache::copy_key;
 use crate::bytes::handles::{LruBytes, LruBytesEvicted};
 use crate::cache::make;
-use crate::chain_calls::{free_into_chain, insert_into_chain, into_chain};
+use crate::chain::Chain;
+use crate::chain_calls::{empty_chain, free_into_chain};
 use crate::handle::Handle;
 use crate::told::{LruGone, LruStats, LruTold};
 use crate::{chain_calls, code, steps};
+use concurrent_lru::lru_core::Evicted;
 use std::alloc::Global;
 
 /// Opens an empty cache. An entry may have as many pins as a `u32` counts, and the first one gets
@@ -113,7 +115,19 @@ pub extern "C" fn lru_bytes_begin_nonnull(
     ensures { Into gone.old gone.new result.code cache.old cache.new
         (λ o out n. Begins o key.now charge result out n) }
 {
-    into_chain(cache, gone, |cache| cache.begin(key, charge))
+    let chain = match empty_chain(gone) {
+        Ok(chain) => chain,
+        Err(code) => return LruTold::bare(code),
+    };
+    let Some(cache) = cache.get_mut() else {
+        return LruTold::bare(code::CLOSED);
+    };
+    let (answer, taken) = cache.begin(key, charge);
+    *chain = Chain {
+        first: Evicted::none(),
+        rest: taken,
+    };
+    answer
 }
 
 /// Asks again for a value that was being made.
@@ -194,7 +208,19 @@ pub extern "C" fn lru_bytes_release(
     ensures { Into gone.old gone.new result cache.old cache.new
         (λ o out n. Asks bytes_eq o (ask.release stamp) (bare result) out n) }
 {
-    into_chain(cache, gone, |cache| steps::release(&mut cache.state, stamp))
+    let chain = match empty_chain(gone) {
+        Ok(chain) => chain,
+        Err(code) => return code,
+    };
+    let Some(cache) = cache.get_mut() else {
+        return code::CLOSED;
+    };
+    let (answer, taken) = cache.release(stamp);
+    *chain = Chain {
+        first: Evicted::none(),
+        rest: taken,
+    };
+    answer
 }
 
 /// Evicts the entry of a key into a chain, where it is idle; else nothing happens, now or later.
@@ -207,7 +233,19 @@ pub extern "C" fn lru_bytes_advice_evict_nonnull(
     ensures { Into gone.old gone.new result cache.old cache.new
         (λ o out n. AsksByKey o ask.advice_evict key.now (bare result) out n) }
 {
-    into_chain(cache, gone, |cache| cache.advice_evict(key))
+    let chain = match empty_chain(gone) {
+        Ok(chain) => chain,
+        Err(code) => return code,
+    };
+    let Some(cache) = cache.get_mut() else {
+        return code::CLOSED;
+    };
+    let (answer, taken) = cache.advice_evict(key);
+    *chain = Chain {
+        first: Evicted::none(),
+        rest: taken,
+    };
+    answer
 }
 
 /// Detaches the entry of a key, so that no call by the key finds it. An idle entry is evicted into
@@ -222,7 +260,19 @@ pub extern "C" fn lru_bytes_invalidate_nonnull(
     ensures { Into gone.old gone.new result cache.old cache.new
         (λ o out n. AsksByKey o ask.invalidate key.now (bare result) out n) }
 {
-    into_chain(cache, gone, |cache| cache.invalidate(key))
+    let chain = match empty_chain(gone) {
+        Ok(chain) => chain,
+        Err(code) => return code,
+    };
+    let Some(cache) = cache.get_mut() else {
+        return code::CLOSED;
+    };
+    let (answer, taken) = cache.invalidate(key);
+    *chain = Chain {
+        first: Evicted::none(),
+        rest: taken,
+    };
+    answer
 }
 
 /// Puts a value in, whatever the key has: detaches the entry of the key as an invalidate does, and
@@ -243,7 +293,19 @@ pub extern "C" fn lru_bytes_insert_nonnull(
     ensures { Into gone.old gone.new result.code cache.old cache.new
         (λ o out n. InsertsInto o key.now charge value result out n) }
 {
-    insert_into_chain(cache, gone, |cache| cache.insert(key, charge, value))
+    let chain = match empty_chain(gone) {
+        Ok(chain) => chain,
+        Err(code) => return LruTold::bare(code),
+    };
+    let Some(cache) = cache.get_mut() else {
+        return LruTold::bare(code::CLOSED);
+    };
+    let (answer, taken) = cache.insert(key, charge, value);
+    *chain = Chain {
+        first: taken.0,
+        rest: taken.1,
+    };
+    answer
 }
 
 /// Evicts each idle entry into a chain, oldest first.
@@ -252,7 +314,19 @@ pub extern "C" fn lru_bytes_prune(cache: &mut LruBytes, gone: &mut LruBytesEvict
     ensures { Into gone.old gone.new result cache.old cache.new
         (λ o out n. Asks bytes_eq o ask.prune (bare result) out n) }
 {
-    into_chain(cache, gone, |cache| steps::prune(&mut cache.state))
+    let chain = match empty_chain(gone) {
+        Ok(chain) => chain,
+        Err(code) => return code,
+    };
+    let Some(cache) = cache.get_mut() else {
+        return code::CLOSED;
+    };
+    let (answer, taken) = cache.prune();
+    *chain = Chain {
+        first: Evicted::none(),
+        rest: taken,
+    };
+    answer
 }
 
 /// Sets the capacity, and evicts at once what is idle and too much for it.
@@ -265,11 +339,19 @@ pub extern "C" fn lru_bytes_set_capacity(
     ensures { Into gone.old gone.new result cache.old cache.new
         (λ o out n. Asks bytes_eq o (ask.set_capacity capacity) (bare result) out n) }
 {
-    into_chain(
-        cache,
-        gone,
-        |cache| steps::set_capacity(&mut cache.state, capacity),
-    )
+    let chain = match empty_chain(gone) {
+        Ok(chain) => chain,
+        Err(code) => return code,
+    };
+    let Some(cache) = cache.get_mut() else {
+        return code::CLOSED;
+    };
+    let (answer, taken) = cache.set_capacity(capacity);
+    *chain = Chain {
+        first: Evicted::none(),
+        rest: taken,
+    };
+    answer
 }
 
 /// Makes room for this many entries in all. No entry changes in any case.

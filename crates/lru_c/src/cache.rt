@@ -8,7 +8,7 @@ use crate::counts::Counts;
 use crate::handle::{Handle, open};
 use crate::steps;
 use crate::told::{LruStats, LruTold};
-use concurrent_lru::lru_core::State;
+use concurrent_lru::lru_core::{Evicted, State};
 use std::alloc::{AllocError, Global};
 use std::hash::Hash;
 
@@ -37,6 +37,30 @@ impl<K: Hash + Eq + Clone, R> Cache<K, R> {
         let code = steps::fail(&mut self.state, stamp);
         self.counts.answer(LruTold::bare(code));
         code
+    }
+
+    pub(crate) fn release(&mut self, stamp: u64) -> (u32, Evicted<K, u64>)
+        ensures asks { Asks K.eq self.old.state.cache (ask.release stamp) (bare result.0) result.1
+            self.new.state.cache }
+        ensures counts { self.new.counts ≡ self.old.counts }
+    {
+        steps::release(&mut self.state, stamp)
+    }
+
+    pub(crate) fn prune(&mut self) -> (u32, Evicted<K, u64>)
+        ensures asks { Asks K.eq self.old.state.cache ask.prune (bare result.0) result.1
+            self.new.state.cache }
+        ensures counts { self.new.counts ≡ self.old.counts }
+    {
+        steps::prune(&mut self.state)
+    }
+
+    pub(crate) fn set_capacity(&mut self, capacity: u64) -> (u32, Evicted<K, u64>)
+        ensures asks { Asks K.eq self.old.state.cache (ask.set_capacity capacity) (bare result.0) result.1
+            self.new.state.cache }
+        ensures counts { self.new.counts ≡ self.old.counts }
+    {
+        steps::set_capacity(&mut self.state, capacity)
     }
 
     pub(crate) fn stats(&self) -> LruStats

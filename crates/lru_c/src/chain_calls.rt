@@ -2,20 +2,18 @@
 //! any type.
 ghost use Rattle.std.specs.Borrow.{sem};
 ghost use Rattle.std.specs.Fn.{FnOnceReturnsAtMut};
-ghost use Rattle.std.specs.Prelude.{◌≡◌, ◌≢◌, ◌==◌, ◌++◌, [], None, Some, is_some, ℕ, IfOk, List as Seq, MatchBool, MatchOption, MatchResult};
-ghost use Rattle.concurrent_lru.specs.Cache.{Idle};
+ghost use Rattle.std.specs.Prelude.{◌≡◌, ◌≢◌, ◌==◌, [], None, Some, is_some, IfOk, MatchBool, MatchOption, MatchResult};
 ghost use Rattle.lru_c.specs.Calls.{entries_of, Frees};
 ghost use Rattle.lru_c.specs.Chains.{chain_code, entries_in, IntoChain, Pops};
 ghost use Rattle.lru_c.specs.Codes as codes;
 ghost use Rattle.lru_c.specs.Handles.{OnOpen};
 ghost use Rattle.lru_c.specs.Lends.{LendsChain};
-ghost use Rattle.lru_c.specs.Told.{bare};
 
 use crate::cache::Cache;
 use crate::chain::Chain;
 use crate::code;
 use crate::handle::{Handle, open, take};
-use crate::told::{Answer, LruGone, LruTold};
+use crate::told::{Answer, LruGone};
 use concurrent_lru::lru_core::Evicted;
 use std::alloc::{AllocError, Global};
 use std::hash::Hash;
@@ -56,7 +54,9 @@ pub(crate) fn pop<K: Drop, G: Handle<To = Chain<K>>>(chain: &mut G) -> Option<Lr
 
 // The chain of a handle that is open and has no entries, for a call that fills it. Else the code
 // that tells why there is none.
-fn empty_chain<K: Drop, G: Handle<To = Chain<K>>>(gone: &mut G) -> Result<&mut Chain<K>, u32>
+pub(crate) fn empty_chain<K: Drop, G: Handle<To = Chain<K>>>(
+    gone: &mut G,
+) -> Result<&mut Chain<K>, u32>
     ensures* writes_back { sem 𝓛 (LendsChain G.row K.row G.held gone.entry result) }
     ensures chain { MatchResult result (λ chain. (G.held gone.old ≡ Some chain.now) ×
         (chain_code (entries_of (G.held gone.old)) ≡ codes.done))
@@ -115,36 +115,6 @@ where
     *chain = Chain {
         first: Evicted::none(),
         rest: taken,
-    };
-    answer
-}
-
-// The same of an insert: what it replaced comes before what it evicted.
-pub(crate) fn insert_into_chain<K, C, G, H, F>(cache: &mut H, gone: &mut G, call: F) -> LruTold
-where
-    K: Drop,
-    C: Drop,
-    G: Handle<To = Chain<K>>,
-    H: Handle<To = C>,
-    F: FnOnce(&mut C) -> (LruTold, (Evicted<K, u64>, Evicted<K, u64>)) + Drop,
-    requires { F.IsAlwaysCallable call }
-    ensures { IntoChain (entries_of (G.held gone.old)) (entries_of (G.held gone.new)) result.code
-        cache.old cache.new (λ out. (replaced : Seq (Idle K ℕ)) × (evicted : Seq (Idle K ℕ)) ×
-        (out ≡ replaced ++ evicted) × OnOpen (H.held cache.old) (H.held cache.new)
-        (λ o n. FnOnceReturnsAtMut F.FnOnce call o (result, (replaced, evicted)) n)
-        ((result ≡ bare codes.closed) × (replaced ≡ []) × (evicted ≡ []))) }
-{
-    let chain = match empty_chain(gone) {
-        Ok(chain) => chain,
-        Err(code) => return LruTold::bare(code),
-    };
-    let Some(cache) = cache.get_mut() else {
-        return LruTold::bare(code::CLOSED);
-    };
-    let (answer, taken) = call(cache);
-    *chain = Chain {
-        first: taken.0,
-        rest: taken.1,
     };
     answer
 }

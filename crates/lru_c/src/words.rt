@@ -15,12 +15,14 @@ pub mod handles;
 pub mod key;
 
 use crate::cache::make;
-use crate::chain_calls::{free_into_chain, insert_into_chain, into_chain};
+use crate::chain::Chain;
+use crate::chain_calls::{empty_chain, free_into_chain, into_chain};
 use crate::handle::Handle;
 use crate::told::{LruGone, LruStats, LruTold};
 use crate::words::handles::{LruWords, LruWordsEvicted};
 use crate::words::key::Words;
 use crate::{chain_calls, code, steps};
+use concurrent_lru::lru_core::Evicted;
 use std::alloc::Global;
 
 /// Opens an empty cache. An entry may have as many pins as a `u32` counts, and the first one gets
@@ -194,7 +196,19 @@ pub extern "C" fn lru_words_release(
     ensures { Into gone.old gone.new result cache.old cache.new
         (λ o out n. Asks words_eq o (ask.release stamp) (bare result) out n) }
 {
-    into_chain(cache, gone, |cache| steps::release(&mut cache.state, stamp))
+    let chain = match empty_chain(gone) {
+        Ok(chain) => chain,
+        Err(code) => return code,
+    };
+    let Some(cache) = cache.get_mut() else {
+        return code::CLOSED;
+    };
+    let (answer, taken) = cache.release(stamp);
+    *chain = Chain {
+        first: Evicted::none(),
+        rest: taken,
+    };
+    answer
 }
 
 /// Evicts the entry of a key into a chain, where it is idle; else nothing happens, now or later.
@@ -208,11 +222,19 @@ pub extern "C" fn lru_words_advice_evict(
     ensures { Into gone.old gone.new result cache.old cache.new
         (λ o out n. Asks words_eq o (ask.advice_evict (words first second)) (bare result) out n) }
 {
-    into_chain(
-        cache,
-        gone,
-        |cache| steps::advice_evict(&mut cache.state, &Words { first, second }),
-    )
+    let chain = match empty_chain(gone) {
+        Ok(chain) => chain,
+        Err(code) => return code,
+    };
+    let Some(cache) = cache.get_mut() else {
+        return code::CLOSED;
+    };
+    let (answer, taken) = cache.advice_evict(&Words { first, second });
+    *chain = Chain {
+        first: Evicted::none(),
+        rest: taken,
+    };
+    answer
 }
 
 /// Detaches the entry of a key, so that no call by the key finds it. An idle entry is evicted into
@@ -228,11 +250,19 @@ pub extern "C" fn lru_words_invalidate(
     ensures { Into gone.old gone.new result cache.old cache.new
         (λ o out n. Asks words_eq o (ask.invalidate (words first second)) (bare result) out n) }
 {
-    into_chain(
-        cache,
-        gone,
-        |cache| steps::invalidate(&mut cache.state, &Words { first, second }),
-    )
+    let chain = match empty_chain(gone) {
+        Ok(chain) => chain,
+        Err(code) => return code,
+    };
+    let Some(cache) = cache.get_mut() else {
+        return code::CLOSED;
+    };
+    let (answer, taken) = cache.invalidate(&Words { first, second });
+    *chain = Chain {
+        first: Evicted::none(),
+        rest: taken,
+    };
+    answer
 }
 
 /// Puts a value in, whatever the key has: detaches the entry of the key as an invalidate does, and
@@ -254,11 +284,19 @@ pub extern "C" fn lru_words_insert(
     ensures { Into gone.old gone.new result.code cache.old cache.new
         (λ o out n. InsertsInto o (words first second) charge value result out n) }
 {
-    insert_into_chain(
-        cache,
-        gone,
-        |cache| cache.insert(&Words { first, second }, charge, value),
-    )
+    let chain = match empty_chain(gone) {
+        Ok(chain) => chain,
+        Err(code) => return LruTold::bare(code),
+    };
+    let Some(cache) = cache.get_mut() else {
+        return LruTold::bare(code::CLOSED);
+    };
+    let (answer, taken) = cache.insert(&Words { first, second }, charge, value);
+    *chain = Chain {
+        first: taken.0,
+        rest: taken.1,
+    };
+    answer
 }
 
 /// Evicts each idle entry into a chain, oldest first.
@@ -267,7 +305,19 @@ pub extern "C" fn lru_words_prune(cache: &mut LruWords, gone: &mut LruWordsEvict
     ensures { Into gone.old gone.new result cache.old cache.new
         (λ o out n. Asks words_eq o ask.prune (bare result) out n) }
 {
-    into_chain(cache, gone, |cache| steps::prune(&mut cache.state))
+    let chain = match empty_chain(gone) {
+        Ok(chain) => chain,
+        Err(code) => return code,
+    };
+    let Some(cache) = cache.get_mut() else {
+        return code::CLOSED;
+    };
+    let (answer, taken) = cache.prune();
+    *chain = Chain {
+        first: Evicted::none(),
+        rest: taken,
+    };
+    answer
 }
 
 /// Sets the capacity, and evicts at once what is idle and too much for it.
@@ -280,11 +330,19 @@ pub extern "C" fn lru_words_set_capacity(
     ensures { Into gone.old gone.new result cache.old cache.new
         (λ o out n. Asks words_eq o (ask.set_capacity capacity) (bare result) out n) }
 {
-    into_chain(
-        cache,
-        gone,
-        |cache| steps::set_capacity(&mut cache.state, capacity),
-    )
+    let chain = match empty_chain(gone) {
+        Ok(chain) => chain,
+        Err(code) => return code,
+    };
+    let Some(cache) = cache.get_mut() else {
+        return code::CLOSED;
+    };
+    let (answer, taken) = cache.set_capacity(capacity);
+    *chain = Chain {
+        first: Evicted::none(),
+        rest: taken,
+    };
+    answer
 }
 
 /// Makes room for this many entries in all. No entry changes in any case.
