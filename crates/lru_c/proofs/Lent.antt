@@ -8,7 +8,7 @@ use base.Fraction.{full_share}
 use mir.Syntax.{Fn, Sym, Ty, named, erased, mut, ty_ptr, ty_ref, ty_struct, local, value_local, place, deref, field, copy, rv_opd, addr_of, seq, assign, block, return}
 use mir.Val.{Val, vptr, vstruct, of_list}
 use mir.Raw.{raw as bare}
-use base.Logic.{SProp, ent, sep, emp, never, fst∗}
+use base.Logic.{SProp, ent, sep, never, fst∗}
 use base.Fml.{Lft, GName, Share, Fml, ftrue, flft, fsep}
 use prog.Wp.{Env, Calls, Loops, WpFn, Tables}
 use types.Logic.{Logic, sem}
@@ -20,7 +20,7 @@ use types.Run.{stop, fld, load, of_opd, first, blocks, exec, returns, enter, add
 use types.ByLocal.{alloc_all, pass_all, free_all, look_at, get, through, sets, env, sets_last}
 use denote.RattleType.{RattleType, Valss, owns}
 use denote.Memory.{part_at, mem, cell_at, part_of, lone}
-use denote.RawPtr.{Ptr, RawPtr, block_ptr, null_ptr, ptr_val, in_a_block}
+use denote.RawPtr.{Ptr, block_ptr, null_ptr, ptr_val, in_a_block}
 use denote.Ref.{MutBor, MutRef, mut_vals, mut_Tells}
 use denote.Signature.{plain, mut_ref_to}
 use denote.Steps.{nothing, opens}
@@ -38,7 +38,7 @@ use Rattle.std_alloc.specs.Box.Ownership.{box_owns}
 use Rattle.std_heap.specs.contracts.Global as Heap
 use Rattle.std_heap.specs.contracts.GlobalAllocator.TheImpl.{ghosts}
 use Rattle.lru_c.specs.Held.{held_owns}
-use Rattle.lru_c.proofs.Moved.{Z, Fields, two, own_fields, word, Form}
+use Rattle.lru_c.proofs.Moved.{Z, Fields, two, word, Form}
 
 -- the function, where the value that the pointer leads to has this type; what stands behind a
 -- reference is as it is written

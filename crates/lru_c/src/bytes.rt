@@ -7,6 +7,7 @@ ghost use Rattle.lru_c.specs.Chains.{chain_code, entries_in, TellsFirst};
 ghost use Rattle.lru_c.specs.Codes as codes;
 ghost use Rattle.lru_c.specs.Counted.{no_calls};
 ghost use Rattle.lru_c.specs.Opened.{Opens};
+ghost use Rattle.lru_c.specs.Told as tells;
 ghost use Rattle.lru_c.specs.Told.{bare};
 ghost use Rattle.lru_c.specs.BytesCalls.{bytes_eq, AsksByKey, Begins, Contains, InsertsInto, Into, KeyOf};
 
@@ -17,7 +18,7 @@ use crate::bytes::cache::copy_key;
 use crate::bytes::handles::{LruBytes, LruBytesEvicted};
 use crate::cache::make;
 use crate::chain::Chain;
-use crate::chain_calls::{empty_chain, free_into_chain};
+use crate::chain_calls::{empty_chain, free_into_chain, into_chain};
 use crate::handle::Handle;
 use crate::told::{LruGone, LruStats, LruTold};
 use crate::{chain_calls, code, steps};
@@ -208,19 +209,17 @@ pub extern "C" fn lru_bytes_release(
     ensures { Into gone.old gone.new result cache.old cache.new
         (λ o out n. Asks bytes_eq o (ask.release stamp) (bare result) out n) }
 {
-    let chain = match empty_chain(gone) {
-        Ok(chain) => chain,
-        Err(code) => return code,
-    };
-    let Some(cache) = cache.get_mut() else {
-        return code::CLOSED;
-    };
-    let (answer, taken) = cache.release(stamp);
-    *chain = Chain {
-        first: Evicted::none(),
-        rest: taken,
-    };
-    answer
+    into_chain(
+        cache,
+        gone,
+        |cache|
+            ensures asks { tells.Asks bytes_eq cache.old.state.cache (ask.release stamp)
+                (bare result.0) result.1 cache.new.state.cache }
+            ensures counts { cache.new.counts ≡ cache.old.counts }
+        {
+            cache.release(stamp)
+        },
+    )
 }
 
 /// Evicts the entry of a key into a chain, where it is idle; else nothing happens, now or later.
@@ -314,19 +313,17 @@ pub extern "C" fn lru_bytes_prune(cache: &mut LruBytes, gone: &mut LruBytesEvict
     ensures { Into gone.old gone.new result cache.old cache.new
         (λ o out n. Asks bytes_eq o ask.prune (bare result) out n) }
 {
-    let chain = match empty_chain(gone) {
-        Ok(chain) => chain,
-        Err(code) => return code,
-    };
-    let Some(cache) = cache.get_mut() else {
-        return code::CLOSED;
-    };
-    let (answer, taken) = cache.prune();
-    *chain = Chain {
-        first: Evicted::none(),
-        rest: taken,
-    };
-    answer
+    into_chain(
+        cache,
+        gone,
+        |cache|
+            ensures asks { tells.Asks bytes_eq cache.old.state.cache ask.prune
+                (bare result.0) result.1 cache.new.state.cache }
+            ensures counts { cache.new.counts ≡ cache.old.counts }
+        {
+            cache.prune()
+        },
+    )
 }
 
 /// Sets the capacity, and evicts at once what is idle and too much for it.
@@ -339,19 +336,17 @@ pub extern "C" fn lru_bytes_set_capacity(
     ensures { Into gone.old gone.new result cache.old cache.new
         (λ o out n. Asks bytes_eq o (ask.set_capacity capacity) (bare result) out n) }
 {
-    let chain = match empty_chain(gone) {
-        Ok(chain) => chain,
-        Err(code) => return code,
-    };
-    let Some(cache) = cache.get_mut() else {
-        return code::CLOSED;
-    };
-    let (answer, taken) = cache.set_capacity(capacity);
-    *chain = Chain {
-        first: Evicted::none(),
-        rest: taken,
-    };
-    answer
+    into_chain(
+        cache,
+        gone,
+        |cache|
+            ensures asks { tells.Asks bytes_eq cache.old.state.cache (ask.set_capacity capacity)
+                (bare result.0) result.1 cache.new.state.cache }
+            ensures counts { cache.new.counts ≡ cache.old.counts }
+        {
+            cache.set_capacity(capacity)
+        },
+    )
 }
 
 /// Makes room for this many entries in all. No entry changes in any case.

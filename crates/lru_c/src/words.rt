@@ -7,6 +7,7 @@ ghost use Rattle.lru_c.specs.Chains.{chain_code, entries_in, TellsFirst};
 ghost use Rattle.lru_c.specs.Codes as codes;
 ghost use Rattle.lru_c.specs.Counted.{no_calls};
 ghost use Rattle.lru_c.specs.Opened.{Opens};
+ghost use Rattle.lru_c.specs.Told as tells;
 ghost use Rattle.lru_c.specs.Told.{bare};
 ghost use Rattle.lru_c.specs.WordsCalls.{words, words_eq, Begins, Contains, InsertsInto, Into, KeyOf};
 
@@ -22,7 +23,6 @@ use crate::told::{LruGone, LruStats, LruTold};
 use crate::words::handles::{LruWords, LruWordsEvicted};
 use crate::words::key::Words;
 use crate::{chain_calls, code, steps};
-use concurrent_lru::lru_core::Evicted;
 use std::alloc::Global;
 
 /// Opens an empty cache. An entry may have as many pins as a `u32` counts, and the first one gets
@@ -196,19 +196,17 @@ pub extern "C" fn lru_words_release(
     ensures { Into gone.old gone.new result cache.old cache.new
         (λ o out n. Asks words_eq o (ask.release stamp) (bare result) out n) }
 {
-    let chain = match empty_chain(gone) {
-        Ok(chain) => chain,
-        Err(code) => return code,
-    };
-    let Some(cache) = cache.get_mut() else {
-        return code::CLOSED;
-    };
-    let (answer, taken) = cache.release(stamp);
-    *chain = Chain {
-        first: Evicted::none(),
-        rest: taken,
-    };
-    answer
+    into_chain(
+        cache,
+        gone,
+        |cache|
+            ensures asks { tells.Asks words_eq cache.old.state.cache (ask.release stamp)
+                (bare result.0) result.1 cache.new.state.cache }
+            ensures counts { cache.new.counts ≡ cache.old.counts }
+        {
+            cache.release(stamp)
+        },
+    )
 }
 
 /// Evicts the entry of a key into a chain, where it is idle; else nothing happens, now or later.
@@ -222,19 +220,18 @@ pub extern "C" fn lru_words_advice_evict(
     ensures { Into gone.old gone.new result cache.old cache.new
         (λ o out n. Asks words_eq o (ask.advice_evict (words first second)) (bare result) out n) }
 {
-    let chain = match empty_chain(gone) {
-        Ok(chain) => chain,
-        Err(code) => return code,
-    };
-    let Some(cache) = cache.get_mut() else {
-        return code::CLOSED;
-    };
-    let (answer, taken) = cache.advice_evict(&Words { first, second });
-    *chain = Chain {
-        first: Evicted::none(),
-        rest: taken,
-    };
-    answer
+    into_chain(
+        cache,
+        gone,
+        |cache|
+            ensures asks { tells.Asks words_eq cache.old.state.cache
+                (ask.advice_evict (words first second)) (bare result.0) result.1
+                cache.new.state.cache }
+            ensures counts { cache.new.counts ≡ cache.old.counts }
+        {
+            cache.advice_evict(&Words { first, second })
+        },
+    )
 }
 
 /// Detaches the entry of a key, so that no call by the key finds it. An idle entry is evicted into
@@ -250,19 +247,18 @@ pub extern "C" fn lru_words_invalidate(
     ensures { Into gone.old gone.new result cache.old cache.new
         (λ o out n. Asks words_eq o (ask.invalidate (words first second)) (bare result) out n) }
 {
-    let chain = match empty_chain(gone) {
-        Ok(chain) => chain,
-        Err(code) => return code,
-    };
-    let Some(cache) = cache.get_mut() else {
-        return code::CLOSED;
-    };
-    let (answer, taken) = cache.invalidate(&Words { first, second });
-    *chain = Chain {
-        first: Evicted::none(),
-        rest: taken,
-    };
-    answer
+    into_chain(
+        cache,
+        gone,
+        |cache|
+            ensures asks { tells.Asks words_eq cache.old.state.cache
+                (ask.invalidate (words first second)) (bare result.0) result.1
+                cache.new.state.cache }
+            ensures counts { cache.new.counts ≡ cache.old.counts }
+        {
+            cache.invalidate(&Words { first, second })
+        },
+    )
 }
 
 /// Puts a value in, whatever the key has: detaches the entry of the key as an invalidate does, and
@@ -305,19 +301,17 @@ pub extern "C" fn lru_words_prune(cache: &mut LruWords, gone: &mut LruWordsEvict
     ensures { Into gone.old gone.new result cache.old cache.new
         (λ o out n. Asks words_eq o ask.prune (bare result) out n) }
 {
-    let chain = match empty_chain(gone) {
-        Ok(chain) => chain,
-        Err(code) => return code,
-    };
-    let Some(cache) = cache.get_mut() else {
-        return code::CLOSED;
-    };
-    let (answer, taken) = cache.prune();
-    *chain = Chain {
-        first: Evicted::none(),
-        rest: taken,
-    };
-    answer
+    into_chain(
+        cache,
+        gone,
+        |cache|
+            ensures asks { tells.Asks words_eq cache.old.state.cache ask.prune
+                (bare result.0) result.1 cache.new.state.cache }
+            ensures counts { cache.new.counts ≡ cache.old.counts }
+        {
+            cache.prune()
+        },
+    )
 }
 
 /// Sets the capacity, and evicts at once what is idle and too much for it.
@@ -330,19 +324,17 @@ pub extern "C" fn lru_words_set_capacity(
     ensures { Into gone.old gone.new result cache.old cache.new
         (λ o out n. Asks words_eq o (ask.set_capacity capacity) (bare result) out n) }
 {
-    let chain = match empty_chain(gone) {
-        Ok(chain) => chain,
-        Err(code) => return code,
-    };
-    let Some(cache) = cache.get_mut() else {
-        return code::CLOSED;
-    };
-    let (answer, taken) = cache.set_capacity(capacity);
-    *chain = Chain {
-        first: Evicted::none(),
-        rest: taken,
-    };
-    answer
+    into_chain(
+        cache,
+        gone,
+        |cache|
+            ensures asks { tells.Asks words_eq cache.old.state.cache (ask.set_capacity capacity)
+                (bare result.0) result.1 cache.new.state.cache }
+            ensures counts { cache.new.counts ≡ cache.old.counts }
+        {
+            cache.set_capacity(capacity)
+        },
+    )
 }
 
 /// Makes room for this many entries in all. No entry changes in any case.
