@@ -216,9 +216,7 @@ pub extern "C" fn lru_bytes_release(
             ensures asks { tells.Asks bytes_eq cache.old.state.cache (ask.release stamp)
                 (bare result.0) result.1 cache.new.state.cache }
             ensures counts { cache.new.counts ≡ cache.old.counts }
-        {
-            cache.release(stamp)
-        },
+        { cache.release(stamp) },
     )
 }
 
@@ -320,9 +318,7 @@ pub extern "C" fn lru_bytes_prune(cache: &mut LruBytes, gone: &mut LruBytesEvict
             ensures asks { tells.Asks bytes_eq cache.old.state.cache ask.prune
                 (bare result.0) result.1 cache.new.state.cache }
             ensures counts { cache.new.counts ≡ cache.old.counts }
-        {
-            cache.prune()
-        },
+        { cache.prune() },
     )
 }
 
@@ -343,9 +339,7 @@ pub extern "C" fn lru_bytes_set_capacity(
             ensures asks { tells.Asks bytes_eq cache.old.state.cache (ask.set_capacity capacity)
                 (bare result.0) result.1 cache.new.state.cache }
             ensures counts { cache.new.counts ≡ cache.old.counts }
-        {
-            cache.set_capacity(capacity)
-        },
+        { cache.set_capacity(capacity) },
     )
 }
 

@@ -203,9 +203,7 @@ pub extern "C" fn lru_words_release(
             ensures asks { tells.Asks words_eq cache.old.state.cache (ask.release stamp)
                 (bare result.0) result.1 cache.new.state.cache }
             ensures counts { cache.new.counts ≡ cache.old.counts }
-        {
-            cache.release(stamp)
-        },
+        { cache.release(stamp) },
     )
 }
 
@@ -228,9 +226,7 @@ pub extern "C" fn lru_words_advice_evict(
                 (ask.advice_evict (words first second)) (bare result.0) result.1
                 cache.new.state.cache }
             ensures counts { cache.new.counts ≡ cache.old.counts }
-        {
-            cache.advice_evict(&Words { first, second })
-        },
+        { cache.advice_evict(&Words { first, second }) },
     )
 }
 
@@ -255,9 +251,7 @@ pub extern "C" fn lru_words_invalidate(
                 (ask.invalidate (words first second)) (bare result.0) result.1
                 cache.new.state.cache }
             ensures counts { cache.new.counts ≡ cache.old.counts }
-        {
-            cache.invalidate(&Words { first, second })
-        },
+        { cache.invalidate(&Words { first, second }) },
     )
 }
 
@@ -308,9 +302,7 @@ pub extern "C" fn lru_words_prune(cache: &mut LruWords, gone: &mut LruWordsEvict
             ensures asks { tells.Asks words_eq cache.old.state.cache ask.prune
                 (bare result.0) result.1 cache.new.state.cache }
             ensures counts { cache.new.counts ≡ cache.old.counts }
-        {
-            cache.prune()
-        },
+        { cache.prune() },
     )
 }
 
@@ -331,9 +323,7 @@ pub extern "C" fn lru_words_set_capacity(
             ensures asks { tells.Asks words_eq cache.old.state.cache (ask.set_capacity capacity)
                 (bare result.0) result.1 cache.new.state.cache }
             ensures counts { cache.new.counts ≡ cache.old.counts }
-        {
-            cache.set_capacity(capacity)
-        },
+        { cache.set_capacity(capacity) },
     )
 }
 
