@@ -94,6 +94,6 @@ impl<K: Hash + Eq + Clone + Drop, V: Drop, R: Wait, F: Fit<K, V>> Drop
     #[inline(always)]
     fn drop(self) {
         let Self { door, pin } = self;
-        door.lock().release(pin);
+        door.release(pin);
     }
 }
