@@ -201,8 +201,8 @@ impl<K: Hash + Eq + Clone + Drop, V: Drop, R: Wait, F: Fit<K, V>> Door<K, V, R, 
             let (guard, waiting) = asleep;
             let (guard, entered) = self.sleep(guard, waiting, key, charge)?;
             asleep = match entered {
-                Entered::Make(making, evicted) => {
-                    drop(evicted.open(guard));
+                Entered::Make(making, gone) => {
+                    drop(gone.open(guard));
                     return Ok(Lookup::Make(Maker { door: self, making }));
                 }
                 Entered::Wait(waiting) => (guard, waiting),
@@ -346,8 +346,8 @@ impl<'a, K: Hash + Eq + Clone + Drop, V: Drop, R: Wait, F: Fit<K, V>> Maker<'a, 
     {
         let Self { door, making } = self;
         let mut guard = door.lock();
-        let (failed, waiters) = guard.fail(making, key);
-        waiters.wake(&door.woken);
+        let (failed, others) = guard.fail(making, key);
+        others.wake(&door.woken);
         // If it is refused as `Stale`, there is no making to give up.
         drop(failed.open(guard));
     }

@@ -8,8 +8,7 @@ use Rattle.concurrent_lru.proofs.locked.Locked.poll_spot.Goals as goal
 
 pub returns-in-Ok-Make-clause-step : goal.returns-in-Ok-Make-clause-step
 returns-in-Ok-Make-clause-step g c = λ at.
-    let step = subst (λ b. Stands g.K.PartialEq.eq c.args.self.now.cache (ask.poll c.args.spot.stamp) (outcome_of_poll (Ok b)) c.poll_core.new.self.cache) c.in-Ok-Make.field-0-is (c.in-Ok-Make.ensures.step at) in
-    (
+    let step = subst (λ b. Stands g.K.PartialEq.eq c.args.self.now.cache (ask.poll c.args.spot.stamp) (outcome_of_poll (Ok b)) c.poll_core.new.self.cache) c.in-Ok-Make.field-0-is (c.in-Ok-Make.ensures.step at) in (
       ap (λ m. m.stamp) c.of-making.ensures,
       subst (λ e. ChangesPhase g.K.PartialEq.eq c.args.self.now.cache c.args.spot.stamp untaken making e c.poll_core.new.self.cache) (sym (c.of.ensures ∙ c.none.ensures)) step.1,
     )
