@@ -13,9 +13,10 @@ use Rattle.concurrent_lru.specs.Runs.{Outcome, accepted}
 use Rattle.concurrent_lru.specs.Uses.{IsPlain, uses, last_uses, charge_in}
 use Rattle.concurrent_lru.specs.Removals.{HaveNoRemoval, remaining_uses}
 use Rattle.concurrent_lru.specs.Weights.{IsPlainWithChanges, end_from, weight, capacity_after}
-use Rattle.concurrent_lru.specs.WholeRuns.{PlainHasNoChange, LightKeysFitted, OldChangesAreForgotten}
+use Rattle.concurrent_lru.specs.WholeRuns.{PlainHasNoChange, LightKeysFitted, OldChangesAreForgotten, ChangesAloneAreForgotten}
 use Rattle.concurrent_lru.proofs.Runs.ChargeOfKey.{charge_agrees}
 use Rattle.concurrent_lru.proofs.Runs.Moments.{uses-append, fitted_now, none_parts}
+use Rattle.concurrent_lru.proofs.Runs.RemainingUses.{none_since}
 use Rattle.concurrent_lru.proofs.Runs.RoomOfRemovals.{weight_remaining, weight_since}
 use Rattle.concurrent_lru.proofs.Runs.LongestEnds.{AgreesOnEqual, AreDistinctKeys, others, others_sum, last_uses-push, last_uses-apart}
 
@@ -67,6 +68,9 @@ old_changes_are_forgotten K V E eq begun capacity c es k steady none = (
   λ h. subst (λ n. n ≤ c) (weight_since E (charge_in E begun) eq k es none) (subst (λ n. weight E (charge_in E begun) (remaining_uses E es) k ≤ n) (steady es [] (sym (append-nil es)) refl) (fitted_now E (charge_in E begun) capacity es k h)),
   λ h. light_keys_fitted K V E eq begun capacity es k (λ before after p n. subst (λ m. weight E (charge_in E begun) (uses es) k ≤ m) (sym (steady before after p n)) h),
 )
+
+pub changes_alone_are_forgotten : (K V : Type 0) (E : K → K → Bool) → IsEquivalence E → ChangesAloneAreForgotten K V E
+changes_alone_are_forgotten K V E eq begun capacity c es k steady none = old_changes_are_forgotten K V E eq begun capacity c es k steady (none_since E es none k)
 
 module _ {K V : Type 0} where
   -- the request sets no capacity
