@@ -89,10 +89,11 @@ impl<K: Hash + Eq + Clone, V: Drop> State<K, V> {
     ///
     /// After a plain run (`IsPlain`: each use is released at once, and there are no other steps),
     /// what an empty cache is left with is the longest suffix of the keys, ordered by last use,
-    /// whose charges fit (`tail`). If the capacity is set in between, a used key is idle afterwards
-    /// if and only if, at every moment since its last use, it weighed at most the capacity of that
-    /// moment (`fitted`). Each stamp that was present or
-    /// was given out is in exactly one place: in the cache, in the answer of `fail`, or in an
+    /// whose charges fit (`tail`). Between uses, the capacity may be set, and keys may be removed
+    /// by `AdviceEvict`, `Invalidate` and `Prune`. A key that was removed since its last use is not
+    /// idle afterwards. Any other used key is idle if and only if, at every moment since its last
+    /// use, it weighed at most the capacity of that moment (`fitted`). Each stamp that was present
+    /// or was given out is in exactly one place: in the cache, in the answer of `fail`, or in an
     /// evicted list (`stamps`). The idle order is written at most once for each step that is not
     /// refused, twice for a `Read`, and once for each evicted entry (`work`).
     pub fn run(&mut self, steps: Vec<Step<K, V>>) -> Result<Vec<Answer<K, V>>, Refusal>
