@@ -16,6 +16,9 @@ use std::sync::Wait;
 /// A pinned value: its entry is neither freed nor evicted while the handle exists. A handle that is
 /// forgotten keeps its pin forever.
 ///
+/// It may be sent to other threads and shared with them, if keys, values, the mark and the right to
+/// wait may.
+///
 /// Clauses see the key and the charge that were asked for (`get` has no charge), and the value,
 /// which fits that key by the mark `F`.
 pub struct CacheHandle<'a, K: Hash + Eq + Clone, V, R: Wait, F: Fit<K, V> = Anything> {
