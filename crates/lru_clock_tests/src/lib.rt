@@ -7,6 +7,8 @@
 #[cfg(test)]
 mod calls;
 #[cfg(test)]
+mod crossings;
+#[cfg(test)]
 mod makings;
 #[cfg(test)]
 mod plain;
