@@ -21,10 +21,11 @@ use std::thread::Threads;
 // The seed of all calls.
 const SEED: u64 = 1;
 
-// The capacity on one lock, and in shards.
+// The capacity on one lock.
 const LOCK_CAPACITY: u64 = 100;
 
-const SHARDS_CAPACITY: u64 = 128;
+/// The capacity in shards.
+pub const SHARDS_CAPACITY: u64 = 128;
 
 /// How many workers there are, and how many calls each makes.
 #[derive(Clone, Copy)]
@@ -36,8 +37,8 @@ pub struct Load {
 }
 
 impl Load {
-    // The workload on a system of this capacity.
-    fn work(self, system: System, capacity: u64) -> Work {
+    /// The workload on a system of this capacity.
+    pub fn work(self, system: System, capacity: u64) -> Work {
         Work {
             system,
             workload: Workload::Stress,
@@ -58,7 +59,7 @@ impl<C: Cached<u64>> StressTarget for Keyed<C> {
     fn ask(&self, call: &WorkerCall) -> Result<Answer, Unmade> {
         match self
             .cache
-            .get_or_try_init(call.key, call.charge, |_| make(call))
+            .get_or_try_init(call.key, call.charge, |_| make_key(call))
         {
             Ok(handle) => Ok(Answer::of_key(*C::value_of(&handle))),
             Err(error) => Err(Unmade::from(error)),
@@ -66,8 +67,8 @@ impl<C: Cached<u64>> StressTarget for Keyed<C> {
     }
 }
 
-// The `init` of a call: returns the key, or fails.
-fn make(call: &WorkerCall) -> Result<u64, Unmade> {
+/// The `init` of a call: returns the key, or fails.
+pub fn make_key(call: &WorkerCall) -> Result<u64, Unmade> {
     if call.fails {
         Err(Unmade::Failed)
     } else {
@@ -101,9 +102,9 @@ impl<
         self.stress(&Keyed { cache: &cache }, load, &work)
     }
 
-    // Has each worker make its calls, one after another with no rest. The sum of what was read by
-    // those whose making would not fail is the same on every schedule.
-    fn stress<C: StressTarget + Sync>(
+    /// Has each worker make its calls, one after another with no rest. The sum of what was read by
+    /// those whose making would not fail is the same on every schedule.
+    pub fn stress<C: StressTarget + Sync>(
         &mut self,
         cache: &C,
         load: Load,
