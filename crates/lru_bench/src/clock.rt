@@ -1,104 +1,21 @@
-//! The workloads on a clock cache, whose hits take no lock. Each handle is dropped at once.
+//! The workloads on a clock cache, whose hits take no lock.
 ghost use Rattle.std.specs.Prelude.{◌<◌};
 
 use crate::bench::Bench;
 use crate::failure::Failure;
-use crate::operation::{Found, Operation};
+use crate::operation::{Get, Init, Make, Read};
 use crate::plan::Mostly;
 use crate::size::Size;
-use crate::stress::{Load, SHARDS_CAPACITY, make_key};
+use crate::stress::{Keyed, Load, SHARDS_CAPACITY};
 use crate::system::{SHARDS, System};
 use crate::workers;
-use concurrent_lru::lru_core::Refusal;
 use lru_clock::clock::Cache;
-use lru_stress::workers::{Answer, StressTarget, Unmade};
-use lru_support::calls::WorkerCall;
 use std::hash::RandomState;
 use std::io::Write;
 use std::random::RandomSource;
 use std::rt::Clock;
 use std::sync::Wait;
 use std::thread::Threads;
-
-// `get`.
-#[derive(Drop)]
-struct Get<'a, R: Wait> {
-    cache: &'a Cache<u64, u64, R>,
-}
-
-impl<R: Wait> Operation for Get<'_, R> {
-    #[inline(always)]
-    fn run(&self, key: u64) -> Result<Found, Refusal> {
-        match self.cache.get(key)? {
-            Some(handle) => Ok(Found::of(Some(*handle.value()))),
-            None => Ok(Found::of(None)),
-        }
-    }
-}
-
-// `read`.
-#[derive(Drop)]
-struct Read<'a, R: Wait> {
-    cache: &'a Cache<u64, u64, R>,
-}
-
-impl<R: Wait> Operation for Read<'_, R> {
-    #[inline(always)]
-    fn run(&self, key: u64) -> Result<Found, Refusal> {
-        Ok(Found::of(self.cache.read(&key, |value| *value)?))
-    }
-}
-
-// `get_or_init` of a present key. A value that had to be made is 0.
-#[derive(Drop)]
-struct Init<'a, R: Wait> {
-    cache: &'a Cache<u64, u64, R>,
-}
-
-impl<R: Wait> Operation for Init<'_, R> {
-    #[inline(always)]
-    fn run(&self, key: u64) -> Result<Found, Refusal> {
-        let handle = self.cache.get_or_init(key, 1, |_| 0)?;
-        Ok(Found::of(Some(*handle.value())))
-    }
-}
-
-// `get_or_init`, which makes the key itself as its value where there is none.
-#[derive(Drop)]
-struct Make<'a, R: Wait> {
-    cache: &'a Cache<u64, u64, R>,
-}
-
-impl<R: Wait> Operation for Make<'_, R> {
-    #[inline(always)]
-    fn run(&self, key: u64) -> Result<Found, Refusal> {
-        let mut is_hit = true;
-        let handle = self.cache.get_or_init(key, 1, |key| {
-            is_hit = false;
-            *key
-        })?;
-        let value = *handle.value();
-        Ok(Found { value, is_hit })
-    }
-}
-
-// The calls of the stress workload. The value of a key is the key.
-#[derive(Drop)]
-struct Keyed<'a, R: Wait> {
-    cache: &'a Cache<u64, u64, R>,
-}
-
-impl<R: Wait> StressTarget for Keyed<'_, R> {
-    fn ask(&self, call: &WorkerCall) -> Result<Answer, Unmade> {
-        match self
-            .cache
-            .get_or_try_init(call.key, call.charge, |_| make_key(call))
-        {
-            Ok(handle) => Ok(Answer::of_key(*handle.value())),
-            Err(error) => Err(Unmade::from(error)),
-        }
-    }
-}
 
 impl<
     R: Threads + Wait + Clock + RandomSource + Sync,

@@ -49,17 +49,18 @@ impl Load {
     }
 }
 
-// A reference to a cache of one lock or in shards. The value of a key is the key.
+/// A reference to a cache. The value of a key is the key.
 #[derive(Drop)]
-struct Keyed<C> {
-    cache: C,
+pub struct Keyed<C> {
+    /// The reference.
+    pub cache: C,
 }
 
 impl<C: Cached<u64>> StressTarget for Keyed<C> {
     fn ask(&self, call: &WorkerCall) -> Result<Answer, Unmade> {
         match self
             .cache
-            .get_or_try_init(call.key, call.charge, |_| make_key(call))
+            .get_or_try_init(call.key, call.charge, |_| make(call))
         {
             Ok(handle) => Ok(Answer::of_key(*C::value_of(&handle))),
             Err(error) => Err(Unmade::from(error)),
@@ -67,8 +68,8 @@ impl<C: Cached<u64>> StressTarget for Keyed<C> {
     }
 }
 
-/// The `init` of a call: returns the key, or fails.
-pub fn make_key(call: &WorkerCall) -> Result<u64, Unmade> {
+// The `init` of a call: returns the key, or fails.
+fn make(call: &WorkerCall) -> Result<u64, Unmade> {
     if call.fails {
         Err(Unmade::Failed)
     } else {

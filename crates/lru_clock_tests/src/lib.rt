@@ -15,4 +15,6 @@ mod plain;
 #[cfg(test)]
 mod seeded;
 #[cfg(test)]
+mod shared;
+#[cfg(test)]
 mod storm;
