@@ -55,8 +55,12 @@ fn drops_run_without_the_lock_of_their_shard(rt: HostRuntime) {
             continue;
         }
         let own = rt.clone().expect(&rt, "memory");
-        let made: Option<Shards<Slow, HostRuntime>> =
-            in_shards(rt.alloc(), own, share.saturating_mul(2), 2);
+        let made: Option<Shards<Slow, HostRuntime>> = in_shards(
+            rt.alloc(),
+            own,
+            share.saturating_mul(2),
+            2,
+        );
         let cache = made.expect(&rt, "memory");
         assert_eq!(rt;
             total_in_drop(&rt, rt.alloc(), &&cache, cause),
@@ -148,8 +152,9 @@ fn makers_use_the_cache_three_deep(rt: HostRuntime) {
 
 #[test]
 fn four_threads_read_what_was_made(rt: HostRuntime) {
-    let cache: Shards<u64, &HostRuntime> =
-        in_shards(rt.alloc(), &rt, CAPACITY, 2).expect(&rt, "memory");
+    let cache: Shards<u64, &HostRuntime> = in_shards(rt.alloc(), &rt, CAPACITY, 2).expect(
+        &rt, "memory",
+    );
     let right = thread::map_indices(&rt, rt.alloc(), 4, &|_| stays_right(&cache));
     let right = right.expect(&rt, "four threads");
     assert_eq!(rt; right.as_slice(), [true; 4].as_slice());
