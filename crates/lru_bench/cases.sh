@@ -95,8 +95,8 @@ times() {
         awk -v whole=\$whole -f untimed.awk lines"
 }
 times "8 hit_get" "std-map hit_get 8 1" "parts-unsharded hit_get 8 1" "port-unsharded hit_get 8 1"
-times "3 hit_read threads" "port-unsharded hit_read 3 1" "port-unsharded hit_read 3 2" \
-    "port-sharded hit_read 3 2"
+times "3 hit_read threads" "port-unsharded hit_read 3 1" "port-clock-1 hit_read 3 1" \
+    "port-unsharded hit_read 3 2" "port-sharded hit_read 3 2"
 
 # Of 30 keys 2 hit, since no key stays until its next turn: a cache has room for 100,000.
 python3 -c 'import struct, sys
@@ -105,5 +105,7 @@ sys.stdout.buffer.write(b"".join(struct.pack("<I", key) for key in keys))' > tur
 ends 0 "# hits port-unsharded read_mostly 100000 1 0.0666"$'\n' "" \
     "lru_bench time read_mostly turns 2>&1 > lines | sed -n '2{p;q}'"
 ends 0 "# hits port-sharded-256-read read_mostly 100000 1 1.0000
+# hits port-clock read_mostly 100000 1 1.0000
+# hits port-clock-64 read_mostly 100000 1 1.0000
 # hits port-unsharded read_mostly 100000 2 1.0000
-" "" "lru_bench time read_mostly one 2>&1 > lines | sed -n '9p;10{p;q}'"
+" "" "lru_bench time read_mostly one 2>&1 > lines | sed -n '9,11p;12{p;q}'"

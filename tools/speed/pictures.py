@@ -27,6 +27,9 @@ COLOURS = {
     "port-sharded": ("#0b62c4", "#6cb6ff"),
     "port-sharded-64": ("#2f3fb8", "#98a8ff"),
     "port-sharded-256": ("#6a2bb8", "#c09cf5"),
+    "port-clock": ("#0a7a4b", "#5fd6a3"),
+    "port-clock-1": ("#0a7a4b", "#5fd6a3"),
+    "port-clock-64": ("#3d6b00", "#a5d66a"),
     "orig-unsharded": ("#b4470f", "#ff9d5c"),
     "orig-sharded": ("#b4470f", "#ff9d5c"),
     "leveldb-sharded": ("#2e7d32", "#7bc67e"),
@@ -54,6 +57,7 @@ CALLED = {
     "parts": "this cache's parts",
     "unsharded": "one lock",
     "sharded": "16 shards",
+    "clock": "clock",
     "hyper": "HyperClock",
     "reserved": "room reserved",
 }

@@ -8,6 +8,9 @@ pub mod LargerCapacity
 pub mod ChargeOfKey
 pub mod WeightOfKey
 pub mod Moments
+pub mod RemainingUses
+pub mod RemovedKeys
+pub mod RoomOfRemovals
 pub mod SteadyCapacity
 pub mod StampCounts
 pub mod StampsOnce

@@ -41,6 +41,7 @@ pub mod ShardSteps
 pub mod ShardLaws
 pub mod StepLaws
 pub mod Uses
+pub mod Removals
 pub mod Weights
 pub mod StampCounts
 pub mod WholeRuns

@@ -1,17 +1,19 @@
--- Runs in which the capacity changes, their moments, and the weight of a used key. E is the
--- equality of keys. None of this knows of pins, of an idle order or of evicting: it speaks of last
--- uses, charges and capacities alone.
-use Rattle.std.specs.Prelude.{◌≡◌, ℕ, ◌≤◌, Bool, false, cond, List, [], ◌∷◌, ◌++◌, sum_by}
+-- Runs in which the capacity changes and keys are removed, their moments, and the weight of a used
+-- key. E is the equality of keys. None of this knows of pins, of an idle order or of evicting: it
+-- speaks of last uses, removals, charges and capacities alone.
+use Rattle.std.specs.Prelude.{◌≡◌, ℕ, ◌≤◌, Bool, false, cond, List, [], ◌∷◌, ◌++◌, map, sum_by}
 use Rattle.std.specs.List.{list_any}
 use Rattle.concurrent_lru.specs.Request as ask
 use Rattle.concurrent_lru.specs.Request.{Request}
 use Rattle.concurrent_lru.specs.Reply as say
 use Rattle.concurrent_lru.specs.Runs.{Outcome, accepted}
 use Rattle.concurrent_lru.specs.Uses.{uses, last_uses}
+use Rattle.concurrent_lru.specs.Removals.{HaveNoRemoval, remaining_uses}
 
 module _ {K V : Type 0} where
-  -- A plain run with changes of capacity besides: each key is made or hit, and released at once, or
-  -- read, a get or a read may miss, and between two such groups the capacity may be set.
+  -- A plain run with changes besides: each key is made or hit, and released at once, or read, a get
+  -- or a read may miss, and between two such groups the capacity may be set, a key may be removed
+  -- by an advice_evict or an invalidate, and all keys by a prune.
   abbrev pub IsPlainWithChanges : List (Request K V × Outcome K V) → Type 0
   IsPlainWithChanges [] = Unit {0}
   IsPlainWithChanges ((ask.begin k c, accepted (say.make s) _) ∷ (ask.ready t _, accepted say.done _) ∷ (ask.release u, accepted say.done _) ∷ es) = (t ≡ s) × (u ≡ s) × IsPlainWithChanges es
@@ -21,6 +23,9 @@ module _ {K V : Type 0} where
   IsPlainWithChanges ((ask.read k, accepted (say.read s _) _) ∷ es) = IsPlainWithChanges es
   IsPlainWithChanges ((ask.read k, accepted say.missed _) ∷ es) = IsPlainWithChanges es
   IsPlainWithChanges ((ask.set_capacity c, accepted say.done _) ∷ es) = IsPlainWithChanges es
+  IsPlainWithChanges ((ask.advice_evict k, accepted say.done _) ∷ es) = IsPlainWithChanges es
+  IsPlainWithChanges ((ask.invalidate k, accepted say.done _) ∷ es) = IsPlainWithChanges es
+  IsPlainWithChanges ((ask.prune, accepted say.done _) ∷ es) = IsPlainWithChanges es
   IsPlainWithChanges _ = ⊥
 
   -- the capacity after these steps: the one that was set last
@@ -54,6 +59,16 @@ module _ {K : Type 0} (E : K → K → Bool) where
   abbrev pub SinceLastUse : {V : Type 0} → List (Request K V × Outcome K V) → K → (List (Request K V × Outcome K V) → Type 0) → Type 0
   SinceLastUse {V} es k P = (before after : List (Request K V × Outcome K V)) → IsMoment es before after → LacksUseOf k after → P before
 
-  -- at every moment since its last use the weight of a key was at most the capacity of that moment
+  -- At every moment since its last use, the weight of a key among the uses that remained then was
+  -- at most the capacity of that moment. A key that is removed later still counts at the moments
+  -- before its removal.
   abbrev pub AlwaysFitted : {V : Type 0} → (K → ℕ) → ℕ → List (Request K V × Outcome K V) → K → Type 0
-  AlwaysFitted charge capacity es k = SinceLastUse es k (λ before. weight charge (uses before) k ≤ capacity_after capacity before)
+  AlwaysFitted charge capacity es k = SinceLastUse es k (λ before. weight charge (remaining_uses E before) k ≤ capacity_after capacity before)
+
+  -- no step since the last use of k is a removal, of whatever key
+  abbrev pub NoneRemovedSince : {V : Type 0} → List (Request K V × Outcome K V) → K → Type 0
+  NoneRemovedSince {V} es k = (before after : List (Request K V × Outcome K V)) → IsMoment es before after → LacksUseOf k after → HaveNoRemoval (map (λ e. e.0) after)
+
+  -- at every moment all uses before it remain
+  abbrev pub AllRemain : {V : Type 0} → List (Request K V × Outcome K V) → Type 0
+  AllRemain {V} es = (before after : List (Request K V × Outcome K V)) → IsMoment es before after → remaining_uses E before ≡ uses before

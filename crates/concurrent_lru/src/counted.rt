@@ -1,17 +1,16 @@
 //! The core's state together with counts of what its calls did.
-ghost use Rattle.std.specs.Prelude.{◌≡◌, ◌<◌, Some, None, IsTrue, IsFalse, IfErr, IfOk, OnOk, OnErr, MatchOption};
+ghost use Rattle.std.specs.Prelude.{◌≡◌, ◌<◌, Some, None, IsFalse, IfErr, IfOk, OnOk, OnErr, MatchOption};
 ghost use Rattle.std.specs.Arc.{arc_value};
 ghost use Rattle.std.specs.Fn.{FnOnceReturnsAt, FnOnceTakesAt};
-ghost use Rattle.concurrent_lru.specs.Cache.{count_of, empty_cache, most_pins_by_default, pinned_of, sum_of, HasKeyAt, LacksStamp, IsLawful, CopiesAreEqual, HasNoOtherPin};
+ghost use Rattle.concurrent_lru.specs.Cache.{count_of, empty_cache, most_pins_by_default, sum_of, HasKeyAt, LacksStamp, IsLawful, CopiesAreEqual, HasNoOtherPin};
 ghost use Rattle.concurrent_lru.specs.CountedCalls.{counted, counted_begin, counted_look, counted_poll, is_insertion, replaced, AddUp};
 ghost use Rattle.concurrent_lru.specs.Counts.{counts_from, one_refusal};
 ghost use Rattle.concurrent_lru.specs.Inserts.{Inserts};
 ghost use Rattle.concurrent_lru.specs.Reads.{Finds, Reads};
-ghost use Rattle.concurrent_lru.specs.Ready.{HasEqualKeyAt, HasReadyKey};
+ghost use Rattle.concurrent_lru.specs.Ready.{HasEqualKeyAt};
 ghost use Rattle.concurrent_lru.specs.Request as ask;
 ghost use Rattle.concurrent_lru.specs.Results.{outcome_of_begin, outcome_of_poll, outcome_of_ready, outcome_of_fail, outcome_of_get, outcome_of_release, outcome_of_evictions, begun_without_hint, found_without_hint, inserted_without_hint};
 ghost use Rattle.concurrent_lru.specs.Runs.{Stands};
-ghost use Rattle.concurrent_lru.specs.Steps.{IsUnready};
 
 use crate::counts::Counts;
 use crate::lru_core::{Begun, Evicted, Failed, Inserted, Refusal, State};
@@ -65,6 +64,13 @@ impl<K: Hash + Eq + Clone, V: Drop> CountedState<K, V> {
         ensures adds_up { AddUp self.now.cache self.now.counts }
     {
         let _ = &self.state;
+    }
+
+    /// Returns the core's state, for calls that change nothing.
+    pub fn state(&self) -> &State<K, V>
+        ensures { result.now.cache ≡ self.now.cache }
+    {
+        &self.state
     }
 
     /// Returns the counts.
@@ -307,42 +313,6 @@ impl<K: Hash + Eq + Clone, V: Drop> CountedState<K, V> {
         self.counts
             .evict(self.state.len() as u64, self.state.total());
         evicted
-    }
-
-    /// Returns the sum of the charges of all entries, including those still being made.
-    pub fn total(&self) -> u64
-        ensures total { result ≡ sum_of self.now.cache }
-    {
-        self.state.total()
-    }
-
-    /// Returns the sum of the charges of the held entries, including those still being made.
-    pub fn pinned_charge(&self) -> u64
-        ensures { result ≡ pinned_of self.now.cache }
-    {
-        self.state.pinned_charge()
-    }
-
-    /// Returns the number of entries, including those still being made.
-    pub fn len(&self) -> usize
-        ensures { result ≡ count_of self.now.cache }
-    {
-        self.state.len()
-    }
-
-    /// The core's `contains`.
-    pub fn contains(&self, key: &K) -> bool
-        ensures yes { IsTrue result → HasReadyKey K.eq self.now.cache key.now }
-        ensures no { IsFalse result → IsUnready K.eq self.now.cache key.now }
-    {
-        self.state.contains(key)
-    }
-
-    /// Returns the capacity.
-    pub fn capacity(&self) -> u64
-        ensures capacity { result ≡ self.now.cache.capacity }
-    {
-        self.state.capacity()
     }
 
     /// The core's `key_of`.

@@ -15,6 +15,8 @@ use std::sync::Wait;
 /// A pinned value: its entry is not evicted while the handle exists. A handle that is forgotten
 /// keeps its pin forever.
 ///
+/// A sharded cache returns the handle of the shard, which is of this type too.
+///
 /// Clauses see the key and the charge that were asked for (`get` has no charge), and the value,
 /// which fits that key by the mark `F`.
 pub struct CacheHandle<'a, K: Hash + Eq + Clone, V, R: Wait, F: Fit<K, V> = Anything> {
@@ -94,6 +96,6 @@ impl<K: Hash + Eq + Clone + Drop, V: Drop, R: Wait, F: Fit<K, V>> Drop
     #[inline(always)]
     fn drop(self) {
         let Self { door, pin } = self;
-        door.lock().release(pin);
+        door.release(pin);
     }
 }

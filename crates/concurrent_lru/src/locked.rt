@@ -6,31 +6,27 @@
 ghost use Rattle.std.specs.Prelude.{◌≡◌, ◌≢◌, ◌<◌, true, [], Err, Some, None, IsTrue, IsFalse, IfOk, IfErr, IfSome, OnErr};
 ghost use Rattle.std.specs.Arc.{arc_value};
 ghost use Rattle.std.specs.Fn.{FnOnceReturnsAt, FnOnceTakesAt};
-ghost use Rattle.concurrent_lru.specs.Cache.{count_of, empty_cache, most_pins_by_default, pinned_of, sum_of, IsLawful, CopiesAreEqual, HasNoOtherPin, IsSettled};
+ghost use Rattle.concurrent_lru.specs.Cache.{count_of, empty_cache, most_pins_by_default, sum_of, IsLawful, CopiesAreEqual, HasNoOtherPin, IsSettled};
 ghost use Rattle.concurrent_lru.specs.CountedCalls.{counted, counted_look, replaced, AddUp};
 ghost use Rattle.concurrent_lru.specs.Counts.{counts_from, one_refusal};
 ghost use Rattle.concurrent_lru.specs.Debts.{outcome_of_locked_begin, outcome_of_locked_poll, outcome_of_locked_get, AsksOnEntry, AsksOnPoll, IfEntered, IfPolled};
 ghost use Rattle.concurrent_lru.specs.Inserts.{Replaces, RefusesToReplace};
-ghost use Rattle.concurrent_lru.specs.Pins.{made_stamp, made_key, made_charge, woken_stamp, woken_key, woken_charge, unread_stamp};
 ghost use Rattle.concurrent_lru.specs.Reads.{Reads};
-ghost use Rattle.concurrent_lru.specs.Ready.{ValuesFit, HasEqualKeyAt, HasReadyKey};
+ghost use Rattle.concurrent_lru.specs.Ready.{ValuesFit, HasEqualKeyAt};
 ghost use Rattle.concurrent_lru.specs.Request as ask;
 ghost use Rattle.concurrent_lru.specs.Results.{outcome_of_begin, outcome_of_poll, outcome_of_ready, outcome_of_fail, outcome_of_release, outcome_of_evictions, begun_without_hint};
 ghost use Rattle.concurrent_lru.specs.Runs.{Stands};
-ghost use Rattle.concurrent_lru.specs.Steps.{IsUnready};
 ghost use Rattle.concurrent_lru.specs.ThreadedCalls.{IfHit};
 
-mod done;
 mod pins;
 mod waiters;
 
-pub use self::done::{Advised, Invalidated, Pruned, Reserved, Resized};
 pub use self::pins::{Entered, HeldPin, Making, Polled, Unread, Waiting, Woken};
 pub use self::waiters::Waiters;
 use crate::counted::CountedState;
 use crate::counts::Counts;
 use crate::fit::Fit;
-use crate::lru_core::{Begun, Evicted, Failed, Inserted, Refusal};
+use crate::lru_core::{Begun, Evicted, Failed, Inserted, Refusal, State};
 use crate::sealed::Sealed;
 use crate::table::{Hint, Spot};
 use std::alloc::Global;
@@ -86,13 +82,11 @@ impl<K: Hash + Eq + Clone + Drop, V: Drop, F: Fit<K, V>> Locked<K, V, F> {
     /// The core's `reserve`.
     ///
     /// Returns `Memory` if the allocator refuses.
-    pub fn reserve(&mut self, entries: usize) -> Result<Reserved, Refusal>
+    pub fn reserve(&mut self, entries: usize) -> Result<(), Refusal>
         ensures err { IfErr result (λ e. e ≡ Refusal.Memory) }
         ensures same { self.new ≡ self.old }
-        ensures done { IfOk result (λ reserved. reserved ≡ entries) }
     {
-        self.state.reserve(entries)?;
-        Ok(Reserved::of(entries))
+        self.state.reserve(entries)
     }
 
     /// Does nothing. Its contract states what holds whenever the lock is acquired.
@@ -103,6 +97,13 @@ impl<K: Hash + Eq + Clone + Drop, V: Drop, F: Fit<K, V>> Locked<K, V, F> {
         ensures adds_up { AddUp self.now.cache self.now.counts }
     {
         self.state.show();
+    }
+
+    /// Returns the core's state, for calls that change nothing.
+    pub fn state(&self) -> &State<K, V>
+        ensures { result.now.cache ≡ self.now.cache }
+    {
+        self.state.state()
     }
 
     /// Returns the counts.
@@ -230,15 +231,15 @@ impl<K: Hash + Eq + Clone + Drop, V: Drop, F: Fit<K, V>> Locked<K, V, F> {
 
     /// The core's `poll`, if the pin's entry has the key. The value of a hit fits the key.
     pub fn poll(&mut self, woken: Woken<K>, key: &K) -> Polled<K, V, F>
-        requires asked { woken_key woken ≡ key.now }
-        ensures step { HasEqualKeyAt K.eq self.old.cache (woken_stamp woken) key.now
-            → Stands K.eq self.old.cache (ask.poll (woken_stamp woken))
+        requires asked { woken.key ≡ key.now }
+        ensures step { HasEqualKeyAt K.eq self.old.cache woken.stamp key.now
+            → Stands K.eq self.old.cache (ask.poll woken.stamp)
             (outcome_of_locked_poll result) self.new.cache }
-        ensures counted { self.new.counts ≡ counted self.old.cache (ask.poll (woken_stamp woken))
+        ensures counted { self.new.counts ≡ counted self.old.cache (ask.poll woken.stamp)
             (outcome_of_locked_poll result) self.old.counts }
-        ensures no_entry { (HasEqualKeyAt K.eq self.old.cache (woken_stamp woken) key.now → ⊥)
+        ensures no_entry { (HasEqualKeyAt K.eq self.old.cache woken.stamp key.now → ⊥)
             → (result ≡ Polled.NoPin) × (self.new ≡ self.old) }
-        ensures asked { AsksOnPoll result key.now (woken_charge woken) self.new }
+        ensures asked { AsksOnPoll result key.now woken.charge self.new }
         ensures hit { IfPolled result (F.fits key.now) }
     {
         let Woken {
@@ -246,10 +247,32 @@ impl<K: Hash + Eq + Clone + Drop, V: Drop, F: Fit<K, V>> Locked<K, V, F> {
             asked: _,
             charge,
         } = woken;
+        self.poll_spot(spot, key, charge)
+    }
+
+    // The core's `poll`, if the spot's entry has the key, for a caller that asked with this charge.
+    fn poll_spot(&mut self, spot: Spot, key: &K, charge: u64) -> Polled<K, V, F>
+        ensures step { HasEqualKeyAt K.eq self.old.cache spot.stamp key.now
+            → Stands K.eq self.old.cache (ask.poll spot.stamp) (outcome_of_locked_poll result)
+            self.new.cache }
+        ensures counted { self.new.counts ≡ counted self.old.cache (ask.poll spot.stamp)
+            (outcome_of_locked_poll result) self.old.counts }
+        ensures no_entry { (HasEqualKeyAt K.eq self.old.cache spot.stamp key.now → ⊥)
+            → (result ≡ Polled.NoPin) × (self.new ≡ self.old) }
+        ensures asked { AsksOnPoll result key.now charge self.new }
+        ensures hit { IfPolled result (F.fits key.now) }
+    {
         match self.poll_core(&spot, key) {
-            Ok(Begun::Make(_)) => Polled::Make(Making::of(spot, key, charge)),
-            Ok(Begun::Wait(_)) => Polled::Wait(Waiting::of(spot, key, charge, self)),
-            Ok(Begun::Hit(_, value)) => Polled::Hit(HeldPin::of(spot, key, Some(charge), value)),
+            Ok(Begun::Make(_)) => {
+                let making = Making::of(spot, key, charge);
+                Polled::Entered(Entered::Make(making, Sealed::of(Evicted::none())))
+            }
+            Ok(Begun::Wait(_)) => {
+                Polled::Entered(Entered::Wait(Waiting::of(spot, key, charge, self)))
+            }
+            Ok(Begun::Hit(_, value)) => {
+                Polled::Entered(Entered::Hit(HeldPin::of(spot, key, Some(charge), value)))
+            }
             Err(Refusal::Memory) => Polled::Refused(Unread { spot }),
             // A poll never overflows, so this is `Stale`, and there is no pin to release.
             Err(_) => Polled::NoPin,
@@ -286,23 +309,23 @@ impl<K: Hash + Eq + Clone + Drop, V: Drop, F: Fit<K, V>> Locked<K, V, F> {
         stored: Arc<V>,
         read: Arc<V>,
     ) -> (HeldPin<K, V, F>, Sealed<Result<(), Arc<V>>>, Waiters)
-        requires asked { made_key making ≡ key.now }
+        requires asked { making.key ≡ key.now }
         requires fits { F.fits key.now (arc_value stored) }
         requires same { arc_value read ≡ arc_value stored }
-        ensures step { HasEqualKeyAt K.eq self.old.cache (made_stamp making) key.now
-            → Stands K.eq self.old.cache (ask.ready (made_stamp making) (arc_value stored))
+        ensures step { HasEqualKeyAt K.eq self.old.cache making.stamp key.now
+            → Stands K.eq self.old.cache (ask.ready making.stamp (arc_value stored))
             (outcome_of_ready result.1) self.new.cache }
         ensures counts { self.new.counts ≡ self.old.counts }
-        ensures no_entry { (HasEqualKeyAt K.eq self.old.cache (made_stamp making) key.now → ⊥)
+        ensures no_entry { (HasEqualKeyAt K.eq self.old.cache making.stamp key.now → ⊥)
             → (result.1 ≡ Err stored) × (self.new ≡ self.old) }
         ensures back { IfErr result.1 (λ a. arc_value a ≡ arc_value stored) }
         ensures pin { result.0 ≡ record {
-          stamp = made_stamp making;
+          stamp = making.stamp;
           key = key.now;
-          charge = Some (made_charge making);
+          charge = Some making.charge;
           value = arc_value stored;
         } }
-        ensures quiet { IsFalse result.2 → HasNoOtherPin self.old.cache (made_stamp making) }
+        ensures quiet { IsFalse result.2 → HasNoOtherPin self.old.cache making.stamp }
     {
         let Making {
             spot,
@@ -323,15 +346,15 @@ impl<K: Hash + Eq + Clone + Drop, V: Drop, F: Fit<K, V>> Locked<K, V, F> {
         making: Making<K>,
         key: &K,
     ) -> (Sealed<Result<Failed<K>, Refusal>>, Waiters)
-        requires asked { made_key making ≡ key.now }
-        ensures step { HasEqualKeyAt K.eq self.old.cache (made_stamp making) key.now
-            → Stands K.eq self.old.cache (ask.fail (made_stamp making)) (outcome_of_fail result.0)
+        requires asked { making.key ≡ key.now }
+        ensures step { HasEqualKeyAt K.eq self.old.cache making.stamp key.now
+            → Stands K.eq self.old.cache (ask.fail making.stamp) (outcome_of_fail result.0)
             self.new.cache }
-        ensures counted { self.new.counts ≡ counted self.old.cache (ask.fail (made_stamp making))
+        ensures counted { self.new.counts ≡ counted self.old.cache (ask.fail making.stamp)
             (outcome_of_fail result.0) self.old.counts }
-        ensures no_entry { (HasEqualKeyAt K.eq self.old.cache (made_stamp making) key.now → ⊥)
+        ensures no_entry { (HasEqualKeyAt K.eq self.old.cache making.stamp key.now → ⊥)
             → (result.0 ≡ Err Refusal.Stale) × (self.new ≡ self.old) }
-        ensures quiet { IsFalse result.1 → HasNoOtherPin self.old.cache (made_stamp making) }
+        ensures quiet { IsFalse result.1 → HasNoOtherPin self.old.cache making.stamp }
     {
         let Making {
             spot,
@@ -374,35 +397,33 @@ impl<K: Hash + Eq + Clone + Drop, V: Drop, F: Fit<K, V>> Locked<K, V, F> {
     ///
     /// Returns `Stale` as `release` does.
     pub fn give_up(&mut self, unread: Unread) -> Sealed<Result<Evicted<K, V>, Refusal>>
-        ensures step { Stands K.eq self.old.cache (ask.release (unread_stamp unread))
+        ensures step { Stands K.eq self.old.cache (ask.release unread)
             (outcome_of_release result) self.new.cache }
         ensures counted { self.new.counts ≡ counted self.old.cache
-            (ask.release (unread_stamp unread)) (outcome_of_release result) self.old.counts }
+            (ask.release unread) (outcome_of_release result) self.old.counts }
     {
         let Unread { spot } = unread;
         Sealed::of(self.state.release(&spot))
     }
 
     /// The core's `advice_evict`. Takes no memory.
-    pub fn advice_evict(&mut self, key: &K) -> (Sealed<Evicted<K, V>>, Advised<K>)
+    pub fn advice_evict(&mut self, key: &K) -> Sealed<Evicted<K, V>>
         ensures step { Stands K.eq self.old.cache (ask.advice_evict key.now)
-            (outcome_of_evictions result.0) self.new.cache }
+            (outcome_of_evictions result) self.new.cache }
         ensures counted { self.new.counts ≡ counted self.old.cache (ask.advice_evict key.now)
-            (outcome_of_evictions result.0) self.old.counts }
-        ensures done { result.1 ≡ key.now }
+            (outcome_of_evictions result) self.old.counts }
     {
-        (Sealed::of(self.state.advice_evict(key)), Advised::of(key))
+        Sealed::of(self.state.advice_evict(key))
     }
 
     /// The core's `invalidate`. Takes no memory.
-    pub fn invalidate(&mut self, key: &K) -> (Sealed<Evicted<K, V>>, Invalidated<K>)
+    pub fn invalidate(&mut self, key: &K) -> Sealed<Evicted<K, V>>
         ensures step { Stands K.eq self.old.cache (ask.invalidate key.now)
-            (outcome_of_evictions result.0) self.new.cache }
+            (outcome_of_evictions result) self.new.cache }
         ensures counted { self.new.counts ≡ counted self.old.cache (ask.invalidate key.now)
-            (outcome_of_evictions result.0) self.old.counts }
-        ensures done { result.1 ≡ key.now }
+            (outcome_of_evictions result) self.old.counts }
     {
-        (Sealed::of(self.state.invalidate(key)), Invalidated::of(key))
+        Sealed::of(self.state.invalidate(key))
     }
 
     /// The core's `insert`: the new entry of the key gets `stored`, and the pin holds `read`,
@@ -447,65 +468,23 @@ impl<K: Hash + Eq + Clone + Drop, V: Drop, F: Fit<K, V>> Locked<K, V, F> {
     }
 
     /// The core's `prune`. Takes no memory.
-    pub fn prune(&mut self) -> (Sealed<Evicted<K, V>>, Pruned)
-        ensures step { Stands K.eq self.old.cache ask.prune (outcome_of_evictions result.0)
+    pub fn prune(&mut self) -> Sealed<Evicted<K, V>>
+        ensures step { Stands K.eq self.old.cache ask.prune (outcome_of_evictions result)
             self.new.cache }
         ensures counted { self.new.counts ≡ counted self.old.cache ask.prune
-            (outcome_of_evictions result.0) self.old.counts }
+            (outcome_of_evictions result) self.old.counts }
     {
-        (Sealed::of(self.state.prune()), Pruned::new())
+        Sealed::of(self.state.prune())
     }
 
     /// The core's `set_capacity`. Takes no memory.
-    pub fn set_capacity(&mut self, capacity: u64) -> (Sealed<Evicted<K, V>>, Resized)
+    pub fn set_capacity(&mut self, capacity: u64) -> Sealed<Evicted<K, V>>
         ensures step { Stands K.eq self.old.cache (ask.set_capacity capacity)
-            (outcome_of_evictions result.0) self.new.cache }
+            (outcome_of_evictions result) self.new.cache }
         ensures counted { self.new.counts ≡ counted self.old.cache (ask.set_capacity capacity)
-            (outcome_of_evictions result.0) self.old.counts }
-        ensures done { result.1 ≡ capacity }
+            (outcome_of_evictions result) self.old.counts }
     {
-        (
-            Sealed::of(self.state.set_capacity(capacity)),
-            Resized::of(capacity),
-        )
-    }
-
-    /// Returns the sum of the charges of all entries, including those still being made.
-    pub fn total(&self) -> u64
-        ensures total { result ≡ sum_of self.now.cache }
-    {
-        self.state.total()
-    }
-
-    /// Returns the sum of the charges of the held entries, including those still being made and
-    /// those held after an `invalidate`.
-    pub fn pinned_charge(&self) -> u64
-        ensures { result ≡ pinned_of self.now.cache }
-    {
-        self.state.pinned_charge()
-    }
-
-    /// Returns the number of entries, including those still being made and those held after an
-    /// `invalidate`.
-    pub fn len(&self) -> usize
-        ensures { result ≡ count_of self.now.cache }
-    {
-        self.state.len()
-    }
-
-    /// The core's `contains`.
-    pub fn contains(&self, key: &K) -> bool
-        ensures yes { IsTrue result → HasReadyKey K.eq self.now.cache key.now }
-        ensures no { IsFalse result → IsUnready K.eq self.now.cache key.now }
-    {
-        self.state.contains(key)
-    }
-
-    /// Returns the capacity.
-    pub fn capacity(&self) -> u64
-        ensures capacity { result ≡ self.now.cache.capacity }
-    {
-        self.state.capacity()
+        Sealed::of(self.state.set_capacity(capacity))
     }
 }
 

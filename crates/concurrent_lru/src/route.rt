@@ -1,13 +1,12 @@
 //! The shards of a cache that threads share, and which of them serves a key.
 //!
 //! A single shard is reached only by its key or by a route, so no call goes to another shard.
-ghost use Rattle.std.specs.Prelude.{◌≡◌, ◌<◌, ◌+◌, ◌-◌, ◌/◌, ◌%◌, Some, IfErr, IfOk, slice_get, vec_len};
+ghost use Rattle.std.specs.Prelude.{◌≡◌, ◌<◌, ◌%◌, Some, IfErr, slice_get, vec_len};
 ghost use Rattle.concurrent_lru.specs.Cache.{CopiesAreEqual};
 ghost use Rattle.concurrent_lru.specs.Sharded.{key_number};
 
 use crate::counts::Counts;
 use crate::fit::Fit;
-use crate::locked::{Pruned, Reserved, Resized};
 use crate::lru_core::Refusal;
 use crate::shards::{capacity_per_shard, choose_shard};
 use crate::table::seed_of_shard;
@@ -109,46 +108,26 @@ impl<K: Hash + Eq + Clone + Drop, V: Drop, R: Wait, S: BuildHasher, F: Fit<K, V>
     pub fn reserve(&self, entries: usize) -> Result<(), Refusal>
         ensures { IfErr result (λ e. e ≡ Refusal.Memory) }
     {
+        let share = entries.div_ceil(self.shards.len());
         for shard in &self.shards {
-            let _: Reserved = self.reserve_share(shard, entries)?;
+            shard.reserve(share)?;
         }
         Ok(())
-    }
-
-    // Reserves room in one shard for its share of `entries` entries.
-    fn reserve_share(
-        &self,
-        shard: &LruCache<K, V, R, F>,
-        entries: usize,
-    ) -> Result<Reserved, Refusal>
-        ensures err { IfErr result (λ e. e ≡ Refusal.Memory) }
-        ensures done { IfOk result (λ reserved. reserved
-            ≡ (entries + vec_len self.now.shards - 1) / vec_len self.now.shards) }
-    {
-        // Unwrapped and wrapped again, since the clause on the share is found by the cases of `?`.
-        let reserved = shard.reserve_with_evidence(entries.div_ceil(self.shards.len()))?;
-        Ok(reserved)
     }
 
     /// Calls `prune` of each shard, one after another.
     pub fn prune(&self) {
         for shard in &self.shards {
-            let _: Pruned = shard.prune_with_evidence();
+            shard.prune();
         }
     }
 
     /// Calls `set_capacity` of each shard, one after another, with its share of the capacity.
     pub fn set_capacity(&self, capacity: u64) {
+        let share = capacity_per_shard(capacity, self.shards.len());
         for shard in &self.shards {
-            let _: Resized = self.set_capacity_share(shard, capacity);
+            shard.set_capacity(share);
         }
-    }
-
-    // Sets the capacity of one shard to its share.
-    fn set_capacity_share(&self, shard: &LruCache<K, V, R, F>, capacity: u64) -> Resized
-        ensures { result ≡ (capacity + vec_len self.now.shards - 1) / vec_len self.now.shards }
-    {
-        shard.set_capacity_with_evidence(capacity_per_shard(capacity, self.shards.len()))
     }
 
     /// Returns the sum of the shards' capacities, read one after another.

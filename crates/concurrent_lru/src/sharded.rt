@@ -12,17 +12,14 @@ pub use self::owned::OwnedHandle;
 pub use crate::counts::Counts;
 pub use crate::fit::{Anything, Fit};
 pub use crate::get_error::GetError;
-use crate::locked::{Advised, Invalidated};
 pub use crate::lru_core::Refusal;
 use crate::route::Routes;
 use crate::shards::DEFAULT_SHARDS;
 pub use crate::shards::{ShardStep, Shards, capacity_per_shard};
-use crate::unsharded;
+pub use crate::unsharded::CacheHandle;
 use std::alloc::Global;
 use std::fmt;
 use std::hash::{BuildHasher, Hash, RandomState};
-use std::marker::Model;
-use std::ops::Deref;
 use std::sync::Wait;
 
 /// A cache that threads share, in shards that each have a lock and a share of the capacity. `S`
@@ -40,65 +37,6 @@ pub struct LruCache<
     F: Fit<K, V> = Anything,
 > {
     routes: Routes<K, V, R, S, F>,
-}
-
-/// A pinned value: its entry is not evicted while the handle exists. A handle that is forgotten
-/// keeps its pin forever.
-///
-/// Clauses see the key and the charge that were asked for (`get` has no charge), and the value,
-/// which fits that key by the mark `F`.
-pub struct CacheHandle<'a, K: Hash + Eq + Clone, V, R: Wait, F: Fit<K, V> = Anything> {
-    held: unsharded::CacheHandle<'a, K, V, R, F>,
-}
-
-impl<'a, K: Hash + Eq + Clone, V, R: Wait, F: Fit<K, V>> Model for CacheHandle<'a, K, V, R, F> {
-    ghost use Rattle.concurrent_lru.specs.Pins.{HandleOf};
-
-    ghost Value = { HandleOf K V };
-
-    ghost view = { λ h. h.held };
-}
-
-impl<'a, K: Hash + Eq + Clone, V, R: Wait, F: Fit<K, V>> CacheHandle<'a, K, V, R, F> {
-    /// Returns the value. Acquires no lock.
-    pub fn value(&self) -> &V
-        ensures value { result.now ≡ self.now.value }
-        ensures fits { F.fits self.now.key result.now }
-    {
-        self.held.value()
-    }
-}
-
-impl<'a, K: Hash + Eq + Clone, V, R: Wait, F: Fit<K, V>> Deref for CacheHandle<'a, K, V, R, F> {
-    type Target = V;
-
-    ghost deref_gives = { λ h v. v ≡ h.value };
-
-    fn deref(&self) -> &V
-        ensures value { result.now ≡ self.now.value }
-        ensures fits { F.fits self.now.key result.now }
-    {
-        self.value()
-    }
-}
-
-// Prints as the value does.
-impl<'a, K: Hash + Eq + Clone, V: fmt::Debug, R: Wait, F: Fit<K, V>> fmt::Debug
-    for CacheHandle<'a, K, V, R, F> {
-    ghost debug_output = { λ h. V.debug_output h.value };
-
-    fn fmt<W: fmt::Write>(&self, f: &mut fmt::Formatter<W>) -> fmt::Result {
-        fmt::Debug::fmt(self.value(), f)
-    }
-}
-
-impl<K: Hash + Eq + Clone + Drop, V: Drop, R: Wait, F: Fit<K, V>> Drop
-    for CacheHandle<'_, K, V, R, F> {
-    #[inline(always)]
-    fn drop(self) {
-        let Self { held } = self;
-        drop(held);
-    }
 }
 
 impl<K: Hash + Eq + Clone + Drop, V: Drop, R: Wait + Clone> LruCache<
@@ -221,10 +159,7 @@ impl<K: Hash + Eq + Clone + Drop, V: Drop, R: Wait, S: BuildHasher, F: Fit<K, V>
         ensures fits { IfOk result (λ found. IfSome found (λ h. F.fits key.now h.value)) }
         ensures never_stale { IfErr result (λ e. e ≢ Refusal.Stale) }
     {
-        match self.routes.of(key).find(key)? {
-            Some(held) => Ok(Some(CacheHandle { held })),
-            None => Ok(None),
-        }
+        self.routes.of(key).find(key)
     }
 
     /// Calls `reader` with the key's value, if it is ready, and returns its result. Returns `None`
@@ -297,8 +232,7 @@ impl<K: Hash + Eq + Clone + Drop, V: Drop, R: Wait, S: BuildHasher, F: Fit<K, V>
         ensures error { IfErr result (λ e. IfInit e
             (λ x. FnOnceReturnsAt I.FnOnce init key.now (Err x))) }
     {
-        let held = self.routes.of(key).get_or_try_init_by(key, charge, init)?;
-        Ok(CacheHandle { held })
+        self.routes.of(key).get_or_try_init_by(key, charge, init)
     }
 
     /// `get_or_try_init` with an `init` that cannot fail. `get_or_init_by` takes the key by
@@ -344,8 +278,7 @@ impl<K: Hash + Eq + Clone + Drop, V: Drop, R: Wait, S: BuildHasher, F: Fit<K, V>
         ensures fits { IfOk result (λ h. F.fits key.now h.value) }
         ensures never_stale { IfErr result (λ e. e ≢ Refusal.Stale) }
     {
-        let held = self.routes.of(key).get_or_init_by(key, charge, init)?;
-        Ok(CacheHandle { held })
+        self.routes.of(key).get_or_init_by(key, charge, init)
     }
 
     /// Evicts the entry of a key if it is idle. Otherwise nothing happens, now or later. Takes no
@@ -356,7 +289,7 @@ impl<K: Hash + Eq + Clone + Drop, V: Drop, R: Wait, S: BuildHasher, F: Fit<K, V>
 
     /// `advice_evict` with the key by reference.
     pub fn advise(&self, key: &K) {
-        let _: Advised<K> = self.routes.of(key).advise_with_evidence(key);
+        self.routes.of(key).advise(key);
     }
 
     /// Invalidates a key in its shard: whoever asks for it after this call gets a value that is
@@ -364,7 +297,7 @@ impl<K: Hash + Eq + Clone + Drop, V: Drop, R: Wait, S: BuildHasher, F: Fit<K, V>
     /// stays for its holders only, and is evicted when its last handle is dropped. Copies no key
     /// and takes no memory.
     pub fn invalidate(&self, key: &K) {
-        let _: Invalidated<K> = self.routes.of(key).invalidate_with_evidence(key);
+        self.routes.of(key).invalidate(key);
     }
 
     /// Inserts a value into the key's shard, replacing what the key has, and returns its handle, as
@@ -385,8 +318,7 @@ impl<K: Hash + Eq + Clone + Drop, V: Drop, R: Wait, S: BuildHasher, F: Fit<K, V>
         ensures fits { IfOk result (λ h. F.fits key.now h.value) }
         ensures never_stale { IfErr result (λ e. e ≢ Refusal.Stale) }
     {
-        let held = self.routes.of(key).insert(key, charge, value)?;
-        Ok(CacheHandle { held })
+        self.routes.of(key).insert(key, charge, value)
     }
 
     /// Evicts every idle entry, one shard after another, so the call is not atomic. Takes no

@@ -4,18 +4,17 @@
 //! a value that is being made wait for it.
 ghost use Rattle.std.specs.Prelude.{◌≡◌, ◌≢◌, ◌+◌, ◌<◌, ◌≤◌, Some, None, Ok, Err, IfOk, IfErr, IfSome};
 ghost use Rattle.std.specs.Fn.{FnOnceReturnsAt, FnOnceTakesAt};
-ghost use Rattle.concurrent_lru.specs.Doors.{IsAwake};
 ghost use Rattle.concurrent_lru.specs.Cache.{CopiesAreEqual};
 ghost use Rattle.concurrent_lru.specs.Counts.{charge_in, entries_in};
-ghost use Rattle.concurrent_lru.specs.Pins.{IsHandleFor, made_key, made_charge, awaited_key, awaited_charge};
-ghost use Rattle.concurrent_lru.specs.ThreadedCalls.{IsTurnFor, IfInit};
+ghost use Rattle.concurrent_lru.specs.Pins.{IsHandleFor};
+ghost use Rattle.concurrent_lru.specs.ThreadedCalls.{IfInit};
 
 pub use crate::counts::Counts;
-use crate::door::{Door, Lookup, Maker, WaitGuard};
+use crate::door::{Door, Lookup, Maker};
 pub use crate::fit::{Anything, Fit};
 pub use crate::get_error::GetError;
 pub use crate::handle::CacheHandle;
-use crate::locked::{Advised, HeldPin, Invalidated, Pruned, Reserved, Resized};
+use crate::locked::HeldPin;
 pub use crate::lru_core::Refusal;
 pub use crate::owned::OwnedHandle;
 use std::alloc::Global;
@@ -85,8 +84,8 @@ impl<K: Hash + Eq + Clone + Drop, V: Drop, R: Wait, F: Fit<K, V>> LruCache<K, V,
     pub fn reserve(&self, entries: usize) -> Result<(), Refusal>
         ensures { IfErr result (λ e. e ≡ Refusal.Memory) }
     {
-        let _: Reserved = self.reserve_with_evidence(entries)?;
-        Ok(())
+        let mut guard = self.door.lock();
+        guard.reserve(entries)
     }
 
     /// Returns a handle of the key's value if it is ready, and `None` if the key has no entry or
@@ -114,7 +113,7 @@ impl<K: Hash + Eq + Clone + Drop, V: Drop, R: Wait, F: Fit<K, V>> LruCache<K, V,
         ensures fits { IfOk result (λ found. IfSome found (λ h. F.fits key.now h.value)) }
         ensures never_stale { IfErr result (λ e. e ≢ Refusal.Stale) }
     {
-        self.door.lock().get(key)
+        self.door.get(key)
     }
 
     /// Calls `reader` with the key's value, if it is ready, and returns its result. Returns `None`
@@ -136,7 +135,7 @@ impl<K: Hash + Eq + Clone + Drop, V: Drop, R: Wait, F: Fit<K, V>> LruCache<K, V,
             (λ t. (v : V) × F.fits key.now v × FnOnceReturnsAt G.FnOnce reader v t)) }
         ensures refused { IfErr result (λ e. e ≡ Refusal.Overflow) }
     {
-        self.door.lock().read(key, reader)
+        self.door.read(key, reader)
     }
 
     /// Returns a handle of the key's value, which `init` makes if the key has no entry or if its
@@ -196,10 +195,10 @@ impl<K: Hash + Eq + Clone + Drop, V: Drop, R: Wait, F: Fit<K, V>> LruCache<K, V,
         ensures error { IfErr result (λ e. IfInit e
             (λ x. FnOnceReturnsAt I.FnOnce init key.now (Err x))) }
     {
-        match self.start(key, charge) {
+        match self.door.begin(key, charge) {
             Err(refusal) => Err(GetError::of_refusal(refusal)),
-            Ok(Turn::Ready(handle)) => Ok(handle),
-            Ok(Turn::Make(maker)) => match init(key) {
+            Ok(Lookup::Hit(handle)) => Ok(handle),
+            Ok(Lookup::Make(maker)) => match init(key) {
                 Err(error) => {
                     maker.fail(key);
                     Err(GetError::Init(error))
@@ -255,9 +254,9 @@ impl<K: Hash + Eq + Clone + Drop, V: Drop, R: Wait, F: Fit<K, V>> LruCache<K, V,
         ensures fits { IfOk result (λ h. F.fits key.now h.value) }
         ensures never_stale { IfErr result (λ e. e ≢ Refusal.Stale) }
     {
-        match self.start(key, charge)? {
-            Turn::Ready(handle) => Ok(handle),
-            Turn::Make(maker) => {
+        match self.door.begin(key, charge)? {
+            Lookup::Hit(handle) => Ok(handle),
+            Lookup::Make(maker) => {
                 let value = init(key);
                 self.finish(maker, key, value)
             }
@@ -272,7 +271,7 @@ impl<K: Hash + Eq + Clone + Drop, V: Drop, R: Wait, F: Fit<K, V>> LruCache<K, V,
 
     /// `advice_evict` with the key by reference.
     pub fn advise(&self, key: &K) {
-        let _: Advised<K> = self.advise_with_evidence(key);
+        self.door.advice_evict(key);
     }
 
     /// Invalidates a key: whoever asks for it after this call gets a value that is made after it,
@@ -284,7 +283,7 @@ impl<K: Hash + Eq + Clone + Drop, V: Drop, R: Wait, F: Fit<K, V>> LruCache<K, V,
     /// last handle is dropped, and counts in `total_charge` and `len` until then. If the key has no
     /// entry, nothing happens.
     pub fn invalidate(&self, key: &K) {
-        let _: Invalidated<K> = self.invalidate_with_evidence(key);
+        self.door.invalidate(key);
     }
 
     /// Inserts a value, replacing what the key has, and returns its handle. It invalidates the key
@@ -314,41 +313,45 @@ impl<K: Hash + Eq + Clone + Drop, V: Drop, R: Wait, F: Fit<K, V>> LruCache<K, V,
     {
         let stored = Arc::new(self.alloc, value)?;
         let read = Arc::try_clone(&stored)?;
-        self.door.lock().insert(key, charge, stored, read)
+        self.door.insert(key, charge, stored, read)
     }
 
     /// Evicts every idle entry, oldest first. Takes no memory.
     pub fn prune(&self) {
-        let _: Pruned = self.prune_with_evidence();
+        self.door.prune();
     }
 
     /// Sets the capacity, and evicts idle entries, oldest first, while the total is above it. Takes
     /// no memory.
     pub fn set_capacity(&self, capacity: u64) {
-        let _: Resized = self.set_capacity_with_evidence(capacity);
+        self.door.set_capacity(capacity);
     }
 
     /// Returns the capacity. Takes no memory.
     pub fn capacity(&self) -> u64 {
-        self.door.lock().capacity()
+        let guard = self.door.lock();
+        guard.state().capacity()
     }
 
     /// Returns the sum of the charges of all entries, including those still being made and those
     /// held after an `invalidate`. Takes no memory.
     pub fn total_charge(&self) -> u64 {
-        self.door.lock().total()
+        let guard = self.door.lock();
+        guard.state().total()
     }
 
     /// Returns the sum of the charges of the held entries, including those still being made and
     /// those held after an `invalidate`. The rest of `total_charge` is idle. Takes no memory.
     pub fn pinned_charge(&self) -> u64 {
-        self.door.lock().pinned_charge()
+        let guard = self.door.lock();
+        guard.state().pinned_charge()
     }
 
     /// Returns the number of entries, idle or held, including those still being made and those held
     /// after an `invalidate`. Takes no memory.
     pub fn len(&self) -> usize {
-        self.door.lock().len()
+        let guard = self.door.lock();
+        guard.state().len()
     }
 
     /// Returns whether there are no entries. Takes no memory.
@@ -360,7 +363,8 @@ impl<K: Hash + Eq + Clone + Drop, V: Drop, R: Wait, F: Fit<K, V>> LruCache<K, V,
     /// being made does not count. Pins nothing, so the value may be evicted before the next call,
     /// and leaves the order of eviction as it is. Takes no memory.
     pub fn contains(&self, key: &K) -> bool {
-        self.door.lock().contains(key)
+        let guard = self.door.lock();
+        guard.state().contains(key)
     }
 
     /// Returns the counts of this cache's calls since it was created or last reset. They are read
@@ -369,7 +373,8 @@ impl<K: Hash + Eq + Clone + Drop, V: Drop, R: Wait, F: Fit<K, V>> LruCache<K, V,
         ensures entries { result.evictions + result.removals ≤ entries_in result }
         ensures charge { result.evicted_charge + result.removed_charge ≤ charge_in result }
     {
-        self.door.lock().counts()
+        let guard = self.door.lock();
+        guard.counts()
     }
 
     /// Returns what `counts` returns and resets all counts to 0; the counting starts again from the
@@ -378,104 +383,13 @@ impl<K: Hash + Eq + Clone + Drop, V: Drop, R: Wait, F: Fit<K, V>> LruCache<K, V,
         ensures entries { result.evictions + result.removals ≤ entries_in result }
         ensures charge { result.evicted_charge + result.removed_charge ≤ charge_in result }
     {
-        self.door.lock().reset_counts()
-    }
-
-    // The calls above, each returning evidence of what was done under the lock.
-    pub(crate) fn reserve_with_evidence(&self, entries: usize) -> Result<Reserved, Refusal>
-        ensures err { IfErr result (λ e. e ≡ Refusal.Memory) }
-        ensures done { IfOk result (λ reserved. reserved ≡ entries) }
-    {
-        self.door.lock().reserve(entries)
-    }
-
-    pub(crate) fn advise_with_evidence(&self, key: &K) -> Advised<K>
-        ensures { result ≡ key.now }
-    {
-        self.door.lock().advice_evict(key)
-    }
-
-    pub(crate) fn invalidate_with_evidence(&self, key: &K) -> Invalidated<K>
-        ensures { result ≡ key.now }
-    {
-        self.door.lock().invalidate(key)
-    }
-
-    pub(crate) fn prune_with_evidence(&self) -> Pruned {
-        self.door.lock().prune()
-    }
-
-    pub(crate) fn set_capacity_with_evidence(&self, capacity: u64) -> Resized
-        ensures { result ≡ capacity }
-    {
-        self.door.lock().set_capacity(capacity)
+        let mut guard = self.door.lock();
+        guard.reset_counts()
     }
 
     // Releases the pin of a handle that keeps the cache alive.
     pub(crate) fn release(&self, pin: HeldPin<K, V, F>) {
-        self.door.lock().release(pin);
-    }
-
-    // Begins, and waits while another caller makes the value.
-    #[inline(always)]
-    fn start(&self, key: &K, charge: u64) -> Result<Turn<'_, K, V, R, F>, Refusal>
-        requires { 0 < charge }
-        ensures turn { IfOk result (λ turn. IsTurnFor F.fits turn key.now charge) }
-        ensures never_stale { IfErr result (λ e. e ≢ Refusal.Stale) }
-    {
-        match self.door.lock().begin(key, charge)? {
-            Lookup::Make(maker) => Ok(Turn::Make(maker)),
-            Lookup::Hit(handle) => Ok(Turn::Ready(handle)),
-            Lookup::Wait(guard) => self.wait_for(guard, key, charge),
-        }
-    }
-
-    // `wait_slow`, kept out of `start` so that only a call that waits sets up the stack that a wait
-    // needs. Inlined beside a hit, every hit would pay for it.
-    #[inline(always)]
-    fn wait_for<'a>(
-        &'a self,
-        guard: WaitGuard<'a, K, V, R, F>,
-        key: &K,
-        charge: u64,
-    ) -> Result<Turn<'a, K, V, R, F>, Refusal>
-        requires charged { 0 < charge }
-        requires asked { awaited_key guard.waiting ≡ key.now }
-        requires charge { awaited_charge guard.waiting ≡ charge }
-        requires awake { IsAwake guard }
-        ensures turn { IfOk result (λ turn. IsTurnFor F.fits turn key.now charge) }
-        ensures never_stale { IfErr result (λ e. e ≢ Refusal.Stale) }
-    {
-        Ok(self.wait_slow(guard, key, charge)?)
-    }
-
-    // Waits while another caller makes the value. A waiter that finds its pin gone begins again.
-    #[cold]
-    fn wait_slow<'a>(
-        &'a self,
-        guard: WaitGuard<'a, K, V, R, F>,
-        key: &K,
-        charge: u64,
-    ) -> Result<Turn<'a, K, V, R, F>, Refusal>
-        requires charged { 0 < charge }
-        requires asked { awaited_key guard.waiting ≡ key.now }
-        requires charge { awaited_charge guard.waiting ≡ charge }
-        requires awake { IsAwake guard }
-        ensures turn { IfOk result (λ turn. IsTurnFor F.fits turn key.now charge) }
-        ensures never_stale { IfErr result (λ e. e ≢ Refusal.Stale) }
-    {
-        let mut lookup = Lookup::Wait(guard);
-        for _ in self.door.rt().forever() {
-            lookup = match lookup {
-                Lookup::Make(maker) => return Ok(Turn::Make(maker)),
-                Lookup::Hit(handle) => return Ok(Turn::Ready(handle)),
-                Lookup::Wait(guard) => match guard.wait(key)? {
-                    Some(woken) => woken,
-                    None => self.door.lock().begin(key, charge)?,
-                },
-            };
-        }
-        unreachable!()
+        self.door.release(pin);
     }
 
     // Stores a value that was made and wakes the callers that wait for it. Gives the making up if
@@ -487,10 +401,10 @@ impl<K: Hash + Eq + Clone + Drop, V: Drop, R: Wait, F: Fit<K, V>> LruCache<K, V,
         key: &K,
         value: V,
     ) -> Result<CacheHandle<'a, K, V, R, F>, Refusal>
-        requires asked { made_key maker.making ≡ key.now }
+        requires asked { maker.key ≡ key.now }
         requires fits { F.fits key.now value }
         ensures handle { IfOk result (λ h. IsHandleFor F.fits h key.now
-            (Some (made_charge maker.entry.making))) }
+            (Some maker.entry.charge)) }
         ensures value { IfOk result (λ h. h.value ≡ value) }
         ensures refused { IfErr result (λ e. e ≡ Refusal.Memory) }
     {
@@ -506,14 +420,6 @@ impl<K: Hash + Eq + Clone + Drop, V: Drop, R: Wait, F: Fit<K, V>> LruCache<K, V,
     }
 }
 
-// What a caller that asked for a value is to do.
-enum Turn<'a, K: Hash + Eq + Clone, V, R: Wait, F: Fit<K, V>> {
-    // Make the value.
-    Make(Maker<'a, K, V, R, F>),
-    // Read it.
-    Ready(CacheHandle<'a, K, V, R, F>),
-}
-
 // Prints the ready entries as a map, under the lock.
 impl<
     K: Hash + Eq + Clone + Drop + fmt::Debug,
@@ -522,6 +428,7 @@ impl<
     F: Fit<K, V>,
 > fmt::Debug for LruCache<K, V, R, F> {
     fn fmt<W: fmt::Write>(&self, f: &mut fmt::Formatter<W>) -> fmt::Result {
-        self.door.lock().print(f)
+        let guard = self.door.lock();
+        fmt::Debug::fmt(&*guard, f)
     }
 }

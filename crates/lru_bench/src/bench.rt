@@ -82,6 +82,7 @@ impl<
             if size.has_misses() {
                 self.use_room(&size)?;
             }
+            self.use_clock(1, &size)?;
         }
         Ok(())
     }
@@ -94,6 +95,8 @@ impl<
                 self.use_one_lock(&size)?;
                 self.use_shards(SHARDS, &size)?;
                 self.use_shards(MORE_SHARDS, &size)?;
+                self.use_clock(SHARDS, &size)?;
+                self.use_clock(MORE_SHARDS, &size)?;
             }
         }
         Ok(())
@@ -104,6 +107,7 @@ impl<
             let load = Load { workers, calls };
             self.stress_parts(load)?;
             self.stress_caches(load)?;
+            self.stress_clock(load)?;
         }
         Ok(())
     }
@@ -114,6 +118,8 @@ impl<
             self.read_in_shards(SHARDS, mostly, threads)?;
             self.read_in_shards(MORE_SHARDS, mostly, threads)?;
             self.read_in_shards(MOST_SHARDS, mostly, threads)?;
+            self.read_on_clock(SHARDS, mostly, threads)?;
+            self.read_on_clock(MORE_SHARDS, mostly, threads)?;
         }
         Ok(())
     }

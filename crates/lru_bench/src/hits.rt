@@ -72,9 +72,9 @@ impl<
         Ok(())
     }
 
-    // The workloads of present keys, by operations on one cache. Each has a type of its own, since
-    // the checker covers no thread that asks a cache of a type parameter.
-    fn hits<G: Operation + Sync, S: Operation + Sync, I: Operation + Sync>(
+    /// The workloads of present keys, by operations on one cache. Each has a type of its own, since
+    /// the checker covers no thread that asks a cache of a type parameter.
+    pub fn hits<G: Operation + Sync, S: Operation + Sync, I: Operation + Sync>(
         &mut self,
         (get, read, init): (&G, &S, &I),
         system: System,
@@ -89,8 +89,8 @@ impl<
         self.time(init, present, size, &work)
     }
 
-    // The workload of absent keys, for each of which an idle one is evicted.
-    fn misses<M: Operation + Sync>(
+    /// The workload of absent keys, for each of which an entry is evicted.
+    pub fn misses<M: Operation + Sync>(
         &mut self,
         make: &M,
         system: System,

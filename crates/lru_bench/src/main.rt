@@ -5,6 +5,7 @@
 mod attack;
 mod bench;
 mod caches;
+mod clock;
 mod draws;
 mod failure;
 mod hits;

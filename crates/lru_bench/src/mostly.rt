@@ -49,9 +49,9 @@ impl<
         self.read(&ReadOrMake { cache: &cache }, mostly, &work)
     }
 
-    // The workload on an empty cache, which is filled before the time begins. A single worker has
-    // a thread of its own too.
-    fn read<U: Operation + Sync>(
+    /// The workload on an empty cache, which is filled before the time begins. A single worker has
+    /// a thread of its own too.
+    pub fn read<U: Operation + Sync>(
         &mut self,
         operation: &U,
         mostly: &Mostly,

@@ -21,10 +21,11 @@ use std::thread::Threads;
 // The seed of all calls.
 const SEED: u64 = 1;
 
-// The capacity on one lock, and in shards.
+// The capacity on one lock.
 const LOCK_CAPACITY: u64 = 100;
 
-const SHARDS_CAPACITY: u64 = 128;
+/// The capacity in shards.
+pub const SHARDS_CAPACITY: u64 = 128;
 
 /// How many workers there are, and how many calls each makes.
 #[derive(Clone, Copy)]
@@ -36,8 +37,8 @@ pub struct Load {
 }
 
 impl Load {
-    // The workload on a system of this capacity.
-    fn work(self, system: System, capacity: u64) -> Work {
+    /// The workload on a system of this capacity.
+    pub fn work(self, system: System, capacity: u64) -> Work {
         Work {
             system,
             workload: Workload::Stress,
@@ -48,10 +49,11 @@ impl Load {
     }
 }
 
-// A reference to a cache of one lock or in shards. The value of a key is the key.
+/// A reference to a cache. The value of a key is the key.
 #[derive(Drop)]
-struct Keyed<C> {
-    cache: C,
+pub struct Keyed<C> {
+    /// The reference.
+    pub cache: C,
 }
 
 impl<C: Cached<u64>> StressTarget for Keyed<C> {
@@ -101,9 +103,9 @@ impl<
         self.stress(&Keyed { cache: &cache }, load, &work)
     }
 
-    // Has each worker make its calls, one after another with no rest. The sum of what was read by
-    // those whose making would not fail is the same on every schedule.
-    fn stress<C: StressTarget + Sync>(
+    /// Has each worker make its calls, one after another with no rest. The sum of what was read by
+    /// those whose making would not fail is the same on every schedule.
+    pub fn stress<C: StressTarget + Sync>(
         &mut self,
         cache: &C,
         load: Load,

@@ -30,6 +30,8 @@ pub enum System {
     ReadOnOneLock,
     /// The cache in so many shards, asked so.
     ReadInShards(usize),
+    /// The clock cache in so many shards.
+    Clock(usize),
 }
 
 // One word. The number of shards is left out where it is 16.
@@ -46,6 +48,8 @@ impl fmt::Display for System {
             System::ReadOnOneLock => f.write_str("port-unsharded-read"),
             System::ReadInShards(SHARDS) => f.write_str("port-sharded-read"),
             System::ReadInShards(shards) => write!(f, "port-sharded-{shards}-read"),
+            System::Clock(SHARDS) => f.write_str("port-clock"),
+            System::Clock(shards) => write!(f, "port-clock-{shards}"),
         }
     }
 }

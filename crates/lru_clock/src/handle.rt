@@ -4,17 +4,20 @@
 ghost use Rattle.std.specs.Prelude.{◌≡◌};
 
 use crate::shard::Shard;
+use crate::shown::Shown;
 use crate::slot::{Pin, Released};
 use concurrent_lru::fit::{Anything, Fit};
 use std::fmt;
 use std::hash::Hash;
 use std::marker::Model;
 use std::ops::Deref;
-use std::snapshot::Snapshot;
 use std::sync::Wait;
 
 /// A pinned value: its entry is neither freed nor evicted while the handle exists. A handle that is
 /// forgotten keeps its pin forever.
+///
+/// It may be sent to other threads and shared with them, if keys, values, the mark and the right to
+/// wait may.
 ///
 /// Clauses see the key and the charge that were asked for (`get` has no charge), and the value,
 /// which fits that key by the mark `F`.
@@ -23,7 +26,7 @@ pub struct CacheHandle<'a, K: Hash + Eq + Clone, V, R: Wait, F: Fit<K, V> = Anyt
     shard: &'a Shard<K, V, F>,
     place: u32,
     pin: Pin<'a, K, V, F>,
-    charge: Snapshot<Option<u64>>,
+    charge: Shown<Option<u64>>,
 }
 
 impl<'a, K: Hash + Eq + Clone, V, R: Wait, F: Fit<K, V>> Model for CacheHandle<'a, K, V, R, F> {
@@ -53,7 +56,7 @@ impl<'a, K: Hash + Eq + Clone, V, R: Wait, F: Fit<K, V>> CacheHandle<'a, K, V, R
             shard,
             place,
             pin,
-            charge: Snapshot::of(&charge),
+            charge: Shown::of(&charge),
         }
     }
 

@@ -17,5 +17,6 @@ mod makings;
 mod seats;
 mod sent;
 mod shard;
+mod shown;
 mod slot;
 mod store;

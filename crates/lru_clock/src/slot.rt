@@ -7,12 +7,12 @@ ghost use Rattle.std.specs.Prelude.{◌≡◌, ◌<◌, ◌%◌, IfErr, IfOk, If
 ghost use Rattle.counted_slot.specs.Counting.{readers, IsTurn};
 
 use crate::sent::Sent;
+use crate::shown::Shown;
 use concurrent_lru::fit::Fit;
 use concurrent_lru::sealed::Sealed;
 use concurrent_lru::sharded::Refusal;
 use counted_slot::{Claim, Counted, FREE, Fits, MARKED, ONE_READER, PRESENT, TAKEN};
 use std::marker::{Model, PhantomData};
-use std::snapshot::Snapshot;
 
 /// The maximum of pins that an entry may have. One more fits its word: whoever finds the maximum
 /// takes that one for as long as it compares the key.
@@ -52,8 +52,8 @@ pub struct Slot<K: Eq, V, F: Fit<K, V>> {
 /// Clauses see the key that was asked for, and the value, which fits that key by the mark `F`.
 pub struct Pin<'a, K: Eq, V, F: Fit<K, V>> {
     claim: Sent<'a, Option<Kept<K, V, F>>>,
-    asked: Snapshot<K>,
-    shown: Snapshot<V>,
+    asked: Shown<K>,
+    shown: Shown<V>,
 }
 
 impl<'a, K: Eq, V, F: Fit<K, V>> Model for Pin<'a, K, V, F> {
@@ -290,7 +290,7 @@ impl<'a, K: Eq, V, F: Fit<K, V>> Pin<'a, K, V, F> {
         let found = match claim.get() {
             Some(kept) => {
                 if kept.key == *key {
-                    Some(Snapshot::of(&kept.value))
+                    Some(Shown::of(&kept.value))
                 } else {
                     None
                 }
@@ -305,7 +305,7 @@ impl<'a, K: Eq, V, F: Fit<K, V>> Pin<'a, K, V, F> {
                 }
                 Ok(Some(Pin {
                     claim: Sent::of(claim),
-                    asked: Snapshot::of(key),
+                    asked: Shown::of(key),
                     shown,
                 }))
             }

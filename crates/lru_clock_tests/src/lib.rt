@@ -7,10 +7,14 @@
 #[cfg(test)]
 mod calls;
 #[cfg(test)]
+mod crossings;
+#[cfg(test)]
 mod makings;
 #[cfg(test)]
 mod plain;
 #[cfg(test)]
 mod seeded;
+#[cfg(test)]
+mod shared;
 #[cfg(test)]
 mod storm;

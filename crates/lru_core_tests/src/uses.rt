@@ -1,10 +1,12 @@
-//! Whole runs of uses, each key released at once, compared with a table and a plain function.
+//! Whole runs of uses, each key released at once, and of removals between them, compared with a
+//! table and plain functions.
 ghost use Rattle.std.specs.Prelude.{◌<◌};
 
 use concurrent_lru::lru_core::{Evicted, State};
 use lru_fixtures::makes::make;
 use lru_fixtures::tables::Call::{Begin, Prune, Ready, Release};
 use lru_fixtures::tables::{Call, answers_as_expected, says};
+use std::alloc::Global;
 use std::process::Abort;
 use std::sync::Arc;
 use std::test::Fail;
@@ -137,6 +139,14 @@ fn keys_of(rt: &impl Abort, mut evicted: Evicted<u64, u64>) -> [u64; 3] {
     keys
 }
 
+// Uses a key once.
+fn use_once(rt: &impl Abort, alloc: Global, state: &mut State<u64, u64>, key: u64, charge: u64)
+    requires { 0 < charge }
+{
+    let value = Arc::new(alloc, key).expect(rt, "memory for the value");
+    assert!(rt; make(state, &key, charge, value).is_ok());
+}
+
 #[test]
 fn holds_the_longest_tail_that_fits(rt: HostRuntime) {
     let alloc = rt.alloc();
@@ -145,12 +155,149 @@ fn holds_the_longest_tail_that_fits(rt: HostRuntime) {
         for capacity in 0..=7 {
             let mut state = State::new(alloc, capacity);
             for key in uses {
-                let value = Arc::new(alloc, key).expect(&rt, "memory for the value");
-                assert!(rt; make(&mut state, &key, charge_of(key), value).is_ok());
+                use_once(&rt, alloc, &mut state, key, charge_of(key));
             }
             let held = keys_of(&rt, state.prune());
             let tail = longest_tail(&uses, capacity);
             assert_eq!(rt; held, tail, "{uses:?} at capacity {capacity}");
+        }
+    }
+}
+
+#[test]
+fn a_removal_brings_no_evicted_key_back(rt: HostRuntime) {
+    let alloc = rt.alloc();
+    let mut state = State::new(alloc, 2);
+    for key in 1..=3 {
+        use_once(&rt, alloc, &mut state, key, 1);
+    }
+    assert_eq!(rt; state.advice_evict(&3).len(), 1);
+    assert_eq!(rt; keys_of(&rt, state.prune()), [2, 0, 0]);
+}
+
+#[test]
+fn a_removal_makes_room_for_later_uses(rt: HostRuntime) {
+    let alloc = rt.alloc();
+    let mut state = State::new(alloc, 2);
+    use_once(&rt, alloc, &mut state, 1, 1);
+    use_once(&rt, alloc, &mut state, 2, 1);
+    assert_eq!(rt; state.invalidate(&2).len(), 1);
+    use_once(&rt, alloc, &mut state, 3, 1);
+    assert_eq!(rt; keys_of(&rt, state.prune()), [3, 1, 0]);
+}
+
+#[test]
+fn a_prune_makes_room_for_later_uses(rt: HostRuntime) {
+    let alloc = rt.alloc();
+    let mut state = State::new(alloc, 2);
+    use_once(&rt, alloc, &mut state, 1, 1);
+    use_once(&rt, alloc, &mut state, 2, 1);
+    assert_eq!(rt; state.prune().len(), 2);
+    use_once(&rt, alloc, &mut state, 3, 1);
+    use_once(&rt, alloc, &mut state, 1, 1);
+    assert_eq!(rt; keys_of(&rt, state.prune()), [1, 3, 0]);
+}
+
+// Takes a step: 1, 2 and 3 are uses of these keys, 4 and 5 remove the keys 2 and 1, and 6 prunes.
+fn take(rt: &impl Abort, alloc: Global, state: &mut State<u64, u64>, step: u64) {
+    match step {
+        4 => {
+            let _evicted = state.advice_evict(&2);
+        }
+        5 => {
+            let _evicted = state.invalidate(&1);
+        }
+        6 => {
+            let _evicted = state.prune();
+        }
+        key => use_once(rt, alloc, state, key, charge_of(key)),
+    }
+}
+
+// Returns the list of five steps with this number, below 6 to the fifth.
+fn five_steps(number: u64) -> [u64; 5] {
+    [
+        1 + number % 6,
+        1 + number / 6 % 6,
+        1 + number / 36 % 6,
+        1 + number / 216 % 6,
+        1 + number / 1296 % 6,
+    ]
+}
+
+// Returns whether a step removes a key.
+fn removes(step: u64, key: u64) -> bool {
+    match step {
+        4 => key == 2,
+        5 => key == 1,
+        6 => true,
+        _ => false,
+    }
+}
+
+// Returns the index of the last use of a key, unless a later step removes the key.
+fn last_use(steps: &[u64], key: u64) -> Option<usize> {
+    let mut last = None;
+    for (place, step) in steps.iter().enumerate() {
+        if *step == key {
+            last = Some(place);
+        } else if removes(*step, key) {
+            last = None;
+        }
+    }
+    last
+}
+
+// Returns the sum of the charges of the keys whose last use, which was not forgotten, has this
+// index or a higher one.
+fn weight(steps: &[u64], since: usize) -> u64 {
+    let mut weight: u64 = 0;
+    for key in 1..=3 {
+        if matches!(last_use(steps, key), Some(place) if place >= since) {
+            weight = weight.saturating_add(charge_of(key));
+        }
+    }
+    weight
+}
+
+// Returns whether the weight since the use with this index was at most the capacity after each step
+// from that use on.
+fn always_fitted(steps: &[u64; 5], since: usize, capacity: u64) -> bool {
+    for end in since..steps.len() {
+        if weight(&steps[..end + 1], since) > capacity {
+            return false;
+        }
+    }
+    true
+}
+
+// Returns the keys that these steps leave idle, newest first, padded with 0.
+fn idle_after(steps: &[u64; 5], capacity: u64) -> [u64; 3] {
+    let mut idle = [0; 3];
+    for (place, key) in steps.iter().enumerate() {
+        if *key <= 3
+            && last_use(&steps[..], *key) == Some(place)
+            && always_fitted(steps, place, capacity)
+        {
+            idle = [*key, idle[0], idle[1]];
+        }
+    }
+    idle
+}
+
+#[test]
+fn holds_what_always_fitted_of_the_uses_that_remain(rt: HostRuntime) {
+    let alloc = rt.alloc();
+    for number in 0..7776 {
+        let steps = five_steps(number);
+        for capacity in 0..=6 {
+            let mut state = State::new(alloc, capacity);
+            for step in steps {
+                take(&rt, alloc, &mut state, step);
+            }
+            let held = keys_of(&rt, state.prune());
+            let idle = idle_after(&steps, capacity);
+            assert_eq!(rt; held, idle, "{steps:?} at capacity {capacity}");
         }
     }
 }

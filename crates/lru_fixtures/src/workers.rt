@@ -3,7 +3,7 @@
 ghost use Rattle.std.specs.Prelude.{◌<◌};
 
 use concurrent_lru::counts::Counts;
-use lru_support::cached::Cached;
+use lru_support::cached::{Cached, CountingCached};
 use std::alloc::{AllocError, Global};
 use std::thread;
 use std::thread::Threads;
@@ -61,7 +61,7 @@ pub trait CountingCache {
     fn lookups(&self) -> u64;
 }
 
-impl<C: Cached<u64>> CountingCache for C {
+impl<C: CountingCached<u64>> CountingCache for C {
     fn reset_often(&self) -> u64 {
         let mut lookups: u64 = 0;
         for _ in 0..RESETS {

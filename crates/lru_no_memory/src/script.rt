@@ -33,6 +33,10 @@ pub enum Script {
     Unsharded(u64, &'static [ThreadedCall]),
     /// Calls of a cache in this many shards, with a capacity.
     Sharded(u64, usize, &'static [ThreadedCall]),
+    /// Calls of a clock cache in this many shards, with a capacity.
+    Clock(u64, usize, &'static [ThreadedCall]),
+    /// More entries than the first slots of a clock cache are for.
+    ClockGrowth,
     /// An entry that takes the room of two, on a cache of one lock.
     OverTwo,
     /// Two threads that ask for one key.
@@ -69,6 +73,10 @@ impl Script {
             Script::Sharded(capacity, number, calls) => {
                 threaded::play_sharded(rt, alloc, capacity, number, calls, report)
             }
+            Script::Clock(capacity, number, calls) => {
+                threaded::play_clock(rt, alloc, capacity, number, calls, report)
+            }
+            Script::ClockGrowth => threaded::grow_clock(rt, alloc, report),
             Script::OverTwo => threaded::play_over_two(rt, alloc, report),
             Script::Meeting => {
                 meeting::play(rt, alloc, report);

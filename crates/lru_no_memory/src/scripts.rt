@@ -83,4 +83,13 @@ pub const SCRIPTS: &[(&str, Script)] = &[
     ("sharded-room", Script::Sharded(40, 4, ROOM)),
     ("sharded-much-room", Script::Sharded(80, 2, MUCH_ROOM)),
     ("sharded-many", Script::Sharded(160, 16, VALUES)),
+    ("clock-values", Script::Clock(10, 1, VALUES)),
+    ("clock-evicts", Script::Clock(5, 1, LARGE_VALUES)),
+    ("clock-fails", Script::Clock(10, 1, FAILED)),
+    ("clock-reads", Script::Clock(2, 1, READ_VALUES)),
+    ("clock-taken-back", Script::Clock(160, 16, TAKEN_VALUES)),
+    ("clock-put-in", Script::Clock(3, 1, PUT_VALUES)),
+    ("clock-room", Script::Clock(40, 4, ROOM)),
+    ("clock-much-room", Script::Clock(80, 2, MUCH_ROOM)),
+    ("clock-grows", Script::ClockGrowth),
 ];

@@ -6,6 +6,7 @@ use crate::calls::{CallTarget, play};
 use crate::report::Report;
 use concurrent_lru::lru_core::Refusal;
 use concurrent_lru::{sharded, unsharded};
+use lru_clock::clock;
 use lru_fixtures::threaded::Then::AtOnce;
 use lru_fixtures::threaded::{NoHandle, ThreadedCall, make_value, try_make_value};
 use lru_support::cached::Cached;
@@ -19,6 +20,8 @@ use std::sync::Wait;
 pub struct CacheRef<C>(pub C);
 
 type Sharded<R> = sharded::LruCache<u64, u64, R, BuildHasherDefault<FoldHasher>>;
+
+type Clock<R> = clock::Cache<u64, u64, R, BuildHasherDefault<FoldHasher>>;
 
 /// Makes calls on a new cache with one lock.
 pub fn play_unsharded<R: Wait + Drop, O: Write, E: Write>(
@@ -62,6 +65,48 @@ fn make<R: Wait + Clone + Drop>(
 ) -> Result<Sharded<R>, Refusal> {
     let hasher: BuildHasherDefault<FoldHasher> = BuildHasherDefault::new();
     sharded::LruCache::with_shards_hasher(alloc, rt, capacity, shards.max(1), hasher)
+}
+
+/// Makes calls on a new clock cache, as `play_sharded` does.
+pub fn play_clock<R: Wait + Copy + Drop, O: Write, E: Write>(
+    rt: R,
+    alloc: Global,
+    capacity: u64,
+    shards: usize,
+    calls: &[ThreadedCall],
+    report: &mut Report<'_, O, E>,
+) -> Result<(), Refusal> {
+    report.name("clock::Cache");
+    let cache = match make_clock(rt, alloc, capacity, shards) {
+        Err(_) => {
+            report.memory(&"with_shards_hasher");
+            make_clock(rt, alloc, capacity, shards)?
+        }
+        Ok(cache) => cache,
+    };
+    play(alloc, &mut CacheRef(&cache), calls, report)
+}
+
+/// Makes 70 values in a clock cache of one shard, whose first slots are for 64 entries.
+pub fn grow_clock<R: Wait + Copy + Drop, O: Write, E: Write>(
+    rt: R,
+    alloc: Global,
+    report: &mut Report<'_, O, E>,
+) -> Result<(), Refusal> {
+    let calls: Vec<ThreadedCall> = (1..=70)
+        .map(|key| ThreadedCall::Init(key, 1, key, AtOnce))
+        .collect(alloc)?;
+    play_clock(rt, alloc, 70, 1, calls.as_slice(), report)
+}
+
+fn make_clock<R: Wait + Drop>(
+    rt: R,
+    alloc: Global,
+    capacity: u64,
+    shards: usize,
+) -> Result<Clock<R>, Refusal> {
+    let hasher: BuildHasherDefault<FoldHasher> = BuildHasherDefault::new();
+    clock::Cache::with_shards_hasher(alloc, rt, capacity, shards.max(1), hasher)
 }
 
 /// Makes two idle entries and one that takes the room of both. If that is refused for lack of

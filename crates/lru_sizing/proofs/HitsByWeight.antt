@@ -18,6 +18,7 @@ use Rattle.concurrent_lru.specs.Reply as say
 use Rattle.concurrent_lru.specs.Runs.{Outcome, accepted, Run}
 use Rattle.concurrent_lru.specs.Steps.{IsAbsent, Joins}
 use Rattle.concurrent_lru.specs.Uses.{IsPlain, last_uses, uses, begins, HaveNoGet, charge_in}
+use Rattle.concurrent_lru.specs.Removals.{HaveNoRemoval, remaining_uses}
 use Rattle.concurrent_lru.specs.Weights.{weight}
 use Rattle.concurrent_lru.specs.WholeRuns.{IsEmpty, idle_keys}
 use Rattle.concurrent_lru.proofs.Runs.ChangingRuns.{IsNow, changing_run}
@@ -28,6 +29,7 @@ use Rattle.concurrent_lru.proofs.Runs.LongestEnds.{any_last}
 use Rattle.concurrent_lru.proofs.Runs.Moments.{uses-append, none_parts}
 use Rattle.concurrent_lru.proofs.Runs.PlainRuns.{IsPriced}
 use Rattle.concurrent_lru.proofs.Runs.PromisesOfRuns.{run_length, uses_begun}
+use Rattle.concurrent_lru.proofs.Runs.RemainingUses.{all_remain, no_removal_parts, none_since}
 use Rattle.concurrent_lru.proofs.Runs.SteadyCapacity.{old_changes_are_forgotten, plain_has_no_change}
 use Rattle.concurrent_lru.proofs.Steps.EmptyCache.{empty_lawful}
 use Rattle.lru_sizing.specs.ReuseWeights.{used_since, reuse_weight, reuse_weights_after, reuse_weights}
@@ -73,12 +75,14 @@ module _ {K V : Type 0} (E : K → K → Bool) (eq : IsEquivalence E) where
     -- a key is idle exactly where a use of it would have a reuse weight of at most the capacity
     idle_by_weight : (all done es : List (Request K V × Outcome K V)) (c : Cache K V) (k : K) → IsPlain all → all ≡ done ++ es → (i : IsThen done c) → list_any (E k) (idle_keys c) ≡ fits first (reuse_weight E (charge_in E begun) (uses done) k)
     idle_by_weight all done es c k plain parts i =
+        let changes = plain_has_no_change K V first all plain in
+        let remain : remaining_uses E done ≡ uses done = all_remain E all changes.2 done es parts in
         paired_any E (charge_in E begun) eq k c.idle i.kept i.paired ∙ elim (list_any (E k) (uses done)) as (λ t. list_any (E k) (uses done) ≡ t → list_any (E k) i.kept ≡ fits first (cond t (Some (sum_by (charge_in E begun) (last_uses E (used_since E k (uses done))))) None)) [
           | true ↦ λ u.
-              let f = i.fitted k u in
-              let w = old_changes_are_forgotten K V E eq begun first first done k (λ a b p _. (plain_has_no_change K V first all plain).1 a (b ++ es) (parts ∙ ap (λ zs. zs ++ es) p ∙ append_assoc a b es)) in
+              let f = i.fitted k (ap (list_any (E k)) remain ∙ u) in
+              let w = old_changes_are_forgotten K V E eq begun first first done k (λ a b p _. changes.1 a (b ++ es) (parts ∙ ap (λ zs. zs ++ es) p ∙ append_assoc a b es)) (none_since E done (no_removal_parts E done es (subst (λ zs. HaveNoRemoval (map (λ e. e.0) zs)) parts changes.2)).0 k) in
               same_test (list_any (E k) i.kept) (weight E (charge_in E begun) (uses done) k) first (λ h. w.0 (f.0 h), λ h. f.1 (w.1 h)) ∙ ap (λ n. leb n first) (weight_since E eq (charge_in E begun) k (uses done) u)
-          | false ↦ λ u. (none_parts (E k) i.gone i.kept (ap (list_any (E k)) (sym i.in_order) ∙ any_last E k (uses done) u)).1
+          | false ↦ λ u. (none_parts (E k) i.gone i.kept (ap (list_any (E k)) (sym i.in_order ∙ ap (last_uses E) remain) ∙ any_last E k (uses done) u)).1
         ] refl
 
     -- the begins of the steps that are left hit by the weights after those that are done

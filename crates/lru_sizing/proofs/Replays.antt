@@ -4,6 +4,7 @@ use Rattle.std.specs.Cmp.{IsEquivalence}
 use Rattle.std.specs.FinMap as finmap
 use Rattle.std.specs.List.{AllByRecursion, sum_by, zip}
 use Rattle.std.specs.Ordering.{nat_cmp}
+use Rattle.std.proofs.lemmas.List.{append-nil}
 use Rattle.std.proofs.lemmas.List.Elements.{filter-append}
 use Rattle.std.proofs.lemmas.List.Sums.{sum_by-append, sum_by_push}
 use Rattle.std.proofs.lemmas.Option.{none-some}
@@ -15,6 +16,7 @@ use Rattle.concurrent_lru.specs.Reply as say
 use Rattle.concurrent_lru.specs.Results.{IsCharged}
 use Rattle.concurrent_lru.specs.Runs.{Outcome, accepted, Run, Overflows}
 use Rattle.concurrent_lru.specs.Steps.{IsAbsent, Holds, Step, held_in_phase, held_by_one}
+use Rattle.concurrent_lru.specs.Removals.{remaining_uses}
 use Rattle.concurrent_lru.specs.Uses.{IsPlain, uses, begins, HaveNoGet, HaveOneCharge, charge_in, last_uses}
 use Rattle.concurrent_lru.specs.WholeRuns.{IsEmpty}
 use Rattle.concurrent_lru.proofs.Entries.NodesOfSetAndAdd.{inserted_at}
@@ -24,6 +26,7 @@ use Rattle.concurrent_lru.proofs.Runs.CutAndJoined.{Run-join}
 use Rattle.concurrent_lru.proofs.Runs.GroupsOfPlainRun.{AreFound, each_is_found, none_held_sum, others_absent, paired_sum}
 use Rattle.concurrent_lru.proofs.Runs.LongestEnds.{last_uses-push, others}
 use Rattle.concurrent_lru.proofs.Runs.PromisesOfRuns.{uses_begun}
+use Rattle.concurrent_lru.proofs.Runs.RemainingUses.{all_remain}
 use Rattle.concurrent_lru.proofs.Runs.SteadyCapacity.{plain_has_no_change}
 use Rattle.lru_sizing.specs.HitsByWeight.{fits, begun_hits}
 use Rattle.lru_sizing.specs.Replays.{IsReplay, IsUsedOnce}
@@ -208,6 +211,11 @@ module _ {K V : Type 0} (E : K → K → Bool) where
     used_then start c place hits r =
         ap uses (sym (zip_parts r.steps)) ∙ uses_begun (requests_of r.steps) (outcomes_of r.steps) (parts_long r.steps) r.no_get ∙ ap used_keys r.begun
 
+    -- all of which remain
+    remain_then : (start c : Cache K V) (place : ℕ) (hits : List Bool) (r : IsReplay E start (take place trace) hits c) → remaining_uses E r.steps ≡ used_keys (take place trace)
+    remain_then start c place hits r =
+        all_remain E r.steps (plain_has_no_change K V start.capacity r.steps r.plain).2 r.steps [] (sym (append-nil r.steps)) ∙ used_then start c place hits r
+
     -- where a begin overflows then, the charges of the distinct keys up to it do
     pub overflows_then : (start c : Cache K V) (place : ℕ) (hits : List Bool) (u : K × ℕ) → IsEmpty start → 0 < start.most_pins → (r : IsReplay E start (take place trace) hits c)
         → c.next ≤ place → place < length trace → length trace < 2 ^ 64 → take (place + 1) trace ≡ take place trace ++ u ∷ [] → u.1 ≡ charge_in E trace u.0
@@ -222,7 +230,7 @@ module _ {K V : Type 0} (E : K → K → Bool) where
                 let used : used_keys (take (place + 1) trace) ≡ used_keys (take place trace) ++ u.0 ∷ [] = ap used_keys next ∙ used_push (take place trace) u in
                 let order : last_uses E (used_keys (take (place + 1) trace)) ≡ (others E u.0 i.gone ++ others E u.0 i.kept) ++ u.0 ∷ [] =
                 ap (last_uses E) used ∙ last_uses-push E (used_keys (take place trace)) u.0
-                ∙ ap (λ ks. others E u.0 ks ++ u.0 ∷ []) (ap (last_uses E) (sym (used_then start c place hits r)) ∙ i.in_order)
+                ∙ ap (λ ks. others E u.0 ks ++ u.0 ∷ []) (ap (last_uses E) (sym (remain_then start c place hits r)) ∙ i.in_order)
                 ∙ ap (λ ks. ks ++ u.0 ∷ []) (filter-append _ i.gone i.kept) in
                 let same : others E u.0 i.kept ≡ i.kept = others_absent E (charge_in E trace) eq (charge_agrees E eq trace) u.0 c.idle i.kept (lacks c u.0 a.0 c.idle (each_is_found c.idle i.lawful.idle_apart)) i.paired in
                 let all : sum_by (charge_in E trace) (last_uses E (used_keys (take (place + 1) trace))) ≡ sum_by (charge_in E trace) (others E u.0 i.gone) + sum_by (charge_in E trace) (others E u.0 i.kept) + charge_in E trace u.0 =

@@ -1,4 +1,5 @@
-//! One trait for references to either of the two caches that threads share.
+//! One trait for references to any of the three caches that threads share, and one for those whose
+//! counts tell of each call.
 //!
 //! Keys are `u64`. Look-ups are inlined, since the benchmark times them through this trait.
 ghost use Rattle.std.specs.Prelude.{◌<◌};
@@ -8,6 +9,7 @@ use concurrent_lru::counts::Counts;
 use concurrent_lru::lru_core::Refusal;
 use concurrent_lru::unsharded::GetError;
 use concurrent_lru::{sharded, unsharded};
+use lru_clock::clock;
 use std::hash::BuildHasher;
 use std::sync::Wait;
 
@@ -74,7 +76,10 @@ pub trait Cached<V>: Copy {
 
     /// `contains`.
     fn contains(self, key: u64) -> bool;
+}
 
+/// A reference to a cache that counts each call. The clock counts no hits, and so is none.
+pub trait CountingCached<V>: Cached<V> {
     /// `counts`.
     fn counts(self) -> Counts;
 
@@ -166,7 +171,9 @@ impl<'a, V: Drop, R: Wait> Cached<V> for &'a unsharded::LruCache<u64, V, R> {
     fn contains(self, key: u64) -> bool {
         unsharded::LruCache::contains(self, &key)
     }
+}
 
+impl<'a, V: Drop, R: Wait> CountingCached<V> for &'a unsharded::LruCache<u64, V, R> {
     fn counts(self) -> Counts {
         unsharded::LruCache::counts(self)
     }
@@ -260,12 +267,101 @@ impl<'a, V: Drop, R: Wait, S: BuildHasher> Cached<V> for &'a sharded::LruCache<u
     fn contains(self, key: u64) -> bool {
         sharded::LruCache::contains(self, &key)
     }
+}
 
+impl<'a, V: Drop, R: Wait, S: BuildHasher> CountingCached<V>
+    for &'a sharded::LruCache<u64, V, R, S> {
     fn counts(self) -> Counts {
         sharded::LruCache::counts(self)
     }
 
     fn reset_counts(self) -> Counts {
         sharded::LruCache::reset_counts(self)
+    }
+}
+
+impl<'a, V: Drop, R: Wait, S: BuildHasher> Cached<V> for &'a clock::Cache<u64, V, R, S> {
+    type Handle = clock::CacheHandle<'a, u64, V, R>;
+
+    #[inline(always)]
+    fn value_of(handle: &Self::Handle) -> &V {
+        handle.value()
+    }
+
+    #[inline(always)]
+    fn get(self, key: u64) -> Result<Option<Self::Handle>, Refusal> {
+        clock::Cache::get(self, key)
+    }
+
+    #[inline(always)]
+    fn read<T, G>(self, key: u64, reader: G) -> Result<Option<T>, Refusal>
+    where
+        G: FnOnce(&V) -> T + Drop,
+        requires callable { (v : V) → FnOnceTakesAt G.FnOnce reader v }
+    {
+        clock::Cache::read(self, &key, reader)
+    }
+
+    #[inline(always)]
+    fn get_or_init<I>(self, key: u64, charge: u64, init: I) -> Result<Self::Handle, Refusal>
+    where
+        I: FnOnce(&u64) -> V + Drop,
+        requires charged { 0 < charge }
+        requires callable { FnOnceTakesAt I.FnOnce init key }
+    {
+        clock::Cache::get_or_init(self, key, charge, init)
+    }
+
+    #[inline(always)]
+    fn get_or_try_init<E, I>(
+        self,
+        key: u64,
+        charge: u64,
+        init: I,
+    ) -> Result<Self::Handle, GetError<E>>
+    where
+        I: FnOnce(&u64) -> Result<V, E> + Drop,
+        requires charged { 0 < charge }
+        requires callable { FnOnceTakesAt I.FnOnce init key }
+    {
+        clock::Cache::get_or_try_init(self, key, charge, init)
+    }
+
+    fn advice_evict(self, key: u64) {
+        clock::Cache::advice_evict(self, key);
+    }
+
+    fn invalidate(self, key: u64) {
+        clock::Cache::invalidate(self, &key);
+    }
+
+    fn insert(self, key: u64, charge: u64, value: V) -> Result<Self::Handle, Refusal>
+        requires { 0 < charge }
+    {
+        clock::Cache::insert(self, &key, charge, value)
+    }
+
+    fn prune(self) {
+        clock::Cache::prune(self);
+    }
+
+    fn set_capacity(self, capacity: u64) {
+        clock::Cache::set_capacity(self, capacity);
+    }
+
+    fn reserve(self, entries: usize) -> Result<(), Refusal> {
+        clock::Cache::reserve(self, entries)
+    }
+
+    fn capacity(self) -> u128 {
+        clock::Cache::capacity(self)
+    }
+
+    fn total_charge(self) -> u128 {
+        clock::Cache::total_charge(self)
+    }
+
+    fn contains(self, key: u64) -> bool {
+        clock::Cache::contains(self, &key)
     }
 }

@@ -5,13 +5,13 @@ ghost use Rattle.std.specs.Prelude.{◌<◌};
 use concurrent_lru::lru_core::Refusal;
 use concurrent_lru::{sharded, unsharded};
 use lru_fixtures::threaded::make_value;
-use lru_support::cached::Cached;
+use lru_support::cached::{Cached, CountingCached};
 use std::hash::BuildHasher;
 use std::process::Abort;
 use std::sync::Wait;
 
 /// A reference to a cache of numbers whose contents can be read.
-pub(crate) trait Contents: Cached<u64> {
+pub(crate) trait Contents: CountingCached<u64> {
     /// `len`.
     fn len(self) -> usize;
 

@@ -135,6 +135,28 @@ module _ {K V : Type 0} where
       behind x xs [] d h = tt
       behind x xs (y ∷ ys) d h = (ap (λ b. cond b (Some x) (find (λ z. z.stamp == y.stamp) xs)) d.0 ∙ h.0, behind x xs ys d.1 h.1)
 
+module _ {K V : Type 0} (E : K → K → Bool) (eq : IsEquivalence E) where
+  -- the stamp of an idle entry tells the entry of its key
+  pub stamp_of_key : (c : Cache K V) (s : ℕ) (x : Idle K V) (k : K) → IsLawful E c → idle_at c s ≡ Some x → E x.key k ≡ true → AllByRecursion (λ y. (y.stamp == s) ≡ E y.key k) c.idle
+  stamp_of_key c s x k l at key = alike c.idle (each_is_found c.idle l.idle_apart)
+    where
+      same_stamp : (y : Idle K V) → idle_at c y.stamp ≡ Some y → (y.stamp == s) ≡ E y.key k
+      same_stamp y here = elim (y.stamp == s) as (λ b. (y.stamp == s) ≡ b → b ≡ E y.key k) [
+        | true ↦ λ b.
+            let is : y ≡ x = same_Some _ _ (sym here ∙ ap (idle_at c) (eqb-true y.stamp s b) ∙ at) in
+            sym (ap (λ z. E z.key k) is ∙ key)
+        | false ↦ λ b. elim (E y.key k) as (λ t. E y.key k ≡ t → false ≡ t) [
+          | true ↦ λ t.
+              let same : E y.key x.key ≡ true = eq.congr y.key k x.key t ∙ eq.symm k x.key ∙ key in
+              absurd (true≢false (sym (eq-eqb y.stamp s (l.one_entry y.stamp s y.key x.key y.charge x.charge (inl (y, here, refl, refl)) (inl (x, at, refl, refl)) same)) ∙ b))
+          | false ↦ λ t. refl
+        ] refl
+      ] refl
+
+      alike : (ys : List (Idle K V)) → AreFound c.idle ys → AllByRecursion (λ y. (y.stamp == s) ≡ E y.key k) ys
+      alike [] h = tt
+      alike (y ∷ ys) h = (same_stamp y h.0, alike ys h.1)
+
 module _ {K V : Type 0} (E : K → K → Bool) (price : K → ℕ) (eq : IsEquivalence E) (p : AgreesOnEqual E price) where
   -- the keys of a cache that lacks k are others
   pub others_absent : (k : K) (xs : List (Idle K V)) (ks : List K) → AllByRecursion (λ y. E y.key k ≡ false) xs → Paired E price xs ks → others E k ks ≡ ks
@@ -217,24 +239,7 @@ module _ {K V : Type 0} (E : K → K → Bool) (price : K → ℕ) (eq : IsEquiv
         capacity = rest.capacity ∙ cap1;
         most_pins = rest.most_pins ∙ ap (λ z. z.most_pins) h.changed;
         before = without s old.idle ++ rest.entry ∷ [];
-        paired = paired_push E price (without s old.idle) (others E k ks) rest.entry k (paired_without s k old.idle ks (alike old.idle (each_is_found old.idle l.idle_apart)) pairs)
+        paired = paired_push E price (without s old.idle) (others E k ks) rest.entry k (paired_without s k old.idle ks (stamp_of_key E eq old s h.entry k l h.at h.same_key) pairs)
             (ap (λ x. E x k) rest.key ∙ h.same_key) (rest.charge ∙ paired_charge s h.entry old.idle ks h.at pairs ∙ p h.entry.key k h.same_key);
         fits = subst (λ n. Fitting (λ x. x.charge) 0 n (without s old.idle ++ rest.entry ∷ []) new.idle) cap1 (subst (λ zs. Fitting (λ x. x.charge) 0 one.capacity (zs ++ rest.entry ∷ []) new.idle) idle1 rest.fits);
       }
-    where
-      same_stamp : (y : Idle K V) → idle_at old y.stamp ≡ Some y → (y.stamp == s) ≡ E y.key k
-      same_stamp y at = elim (y.stamp == s) as (λ b. (y.stamp == s) ≡ b → b ≡ E y.key k) [
-        | true ↦ λ b.
-            let is : y ≡ h.entry = same_Some _ _ (sym at ∙ ap (idle_at old) (eqb-true y.stamp s b) ∙ h.at) in
-            sym (ap (λ z. E z.key k) is ∙ h.same_key)
-        | false ↦ λ b. elim (E y.key k) as (λ t. E y.key k ≡ t → false ≡ t) [
-          | true ↦ λ t.
-              let same : E y.key h.entry.key ≡ true = eq.congr y.key k h.entry.key t ∙ eq.symm k h.entry.key ∙ h.same_key in
-              absurd (true≢false (sym (eq-eqb y.stamp s (l.one_entry y.stamp s y.key h.entry.key y.charge h.entry.charge (inl (y, at, refl, refl)) (inl (h.entry, h.at, refl, refl)) same)) ∙ b))
-          | false ↦ λ t. refl
-        ] refl
-      ] refl
-
-      alike : (ys : List (Idle K V)) → AreFound old.idle ys → AllByRecursion (λ y. (y.stamp == s) ≡ E y.key k) ys
-      alike [] h = tt
-      alike (y ∷ ys) h = (same_stamp y h.0, alike ys h.1)

@@ -9,6 +9,7 @@ use Rattle.concurrent_lru.specs.Request.{Request}
 use Rattle.concurrent_lru.specs.Reply as say
 use Rattle.concurrent_lru.specs.Runs.{Outcome, accepted}
 use Rattle.concurrent_lru.specs.Uses.{uses}
+use Rattle.concurrent_lru.specs.Removals.{remaining_uses}
 use Rattle.concurrent_lru.specs.Weights.{capacity_after, weight, AlwaysFitted}
 use Rattle.concurrent_lru.proofs.Steps.OneFront.{tail_of, head_or}
 
@@ -55,7 +56,7 @@ module _ {K V : Type 0} where
 module _ {K V : Type 0} (E : K → K → Bool) (price : K → ℕ) (first : ℕ) where
   -- the moment after these steps
   abbrev pub FitsNow : List (Request K V × Outcome K V) → K → Type 0
-  FitsNow es q = weight E price (uses es) q ≤ capacity_after first es
+  FitsNow es q = weight E price (remaining_uses E es) q ≤ capacity_after first es
 
   pub fitted_now : (es : List (Request K V × Outcome K V)) (q : K) → AlwaysFitted E price first es q → FitsNow es q
   fitted_now es q h = h es [] (sym (append-nil es)) refl

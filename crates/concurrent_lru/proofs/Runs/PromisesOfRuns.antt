@@ -1,9 +1,10 @@
--- What every run promises: what plain runs leave, with changes of capacity and without, and that
--- each stamp stands once.
-use Rattle.std.proofs.Common.{◌≡◌, ℕ, ◌<◌, ◌≤◌, ◌↔◌, inl, inr, Bool, true, false, List, [], ◌∷◌, length, map, refl, sym, ap, ◌∙◌, subst, arith}
+-- What every run promises: what plain runs leave, with changes of capacity and removals and without,
+-- and that each stamp stands once.
+use Rattle.std.proofs.Common.{◌≡◌, ℕ, ◌<◌, ◌≤◌, ◌↔◌, inl, inr, Bool, true, false, List, [], ◌∷◌, ◌++◌, length, map, refl, sym, ap, ◌∙◌, subst, arith}
 use Rattle.std.specs.List.{zip, sum_by, list_any, AllByRecursion}
 use Rattle.std.specs.Cmp.{IsEquivalence}
 use Rattle.std.proofs.lemmas.Bool.{true≢false}
+use Rattle.std.proofs.lemmas.List.{append-nil}
 use Rattle.std.proofs.lemmas.Slice.Zip.{firsts-zip, seconds-zip}
 use Rattle.concurrent_lru.specs.Cache.{Cache, IsLawful}
 use Rattle.concurrent_lru.specs.Results.{IsCharged}
@@ -11,10 +12,13 @@ use Rattle.concurrent_lru.specs.Request as ask
 use Rattle.concurrent_lru.specs.Request.{Request}
 use Rattle.concurrent_lru.specs.Runs.{Outcome, Run}
 use Rattle.concurrent_lru.specs.Uses.{IsPlain, uses, begins, HaveNoGet, HaveOneCharge, last_uses, charge_in, AreAmong, IsTail}
+use Rattle.concurrent_lru.specs.Removals.{HaveNoRemoval, remaining_uses}
 use Rattle.concurrent_lru.specs.Weights.{IsPlainWithChanges, end_from}
 use Rattle.concurrent_lru.specs.StampCounts.{stamp_count, stamp_count_in_cache}
 use Rattle.concurrent_lru.specs.WholeRuns.{IsEmpty, EveryRunLeavesTail, EveryRunLeavesFitted, EveryRunKeepsStamps, LargerHolds, idle_keys, begun_keys, IsTailOfRun}
 use Rattle.concurrent_lru.proofs.Runs.SteadyCapacity.{old_changes_are_forgotten, plain_has_no_change}
+use Rattle.concurrent_lru.proofs.Runs.Moments.{none_parts}
+use Rattle.concurrent_lru.proofs.Runs.RemainingUses.{all_remain, none_since}
 use Rattle.concurrent_lru.proofs.Runs.LongestEnds.{Fitting, AreDistinctKeys, any_last, fitting_tail, last_uses-apart}
 use Rattle.concurrent_lru.proofs.Runs.WeightOfKey.{light_end}
 use Rattle.concurrent_lru.proofs.Runs.GroupsOfPlainRun.{paired_same}
@@ -97,17 +101,24 @@ module _ {K V : Type 0} (E : K → K → Bool) (eq : IsEquivalence E) where
       changing_run E price eq (charge_agrees E eq (begins rs)) old.capacity [] (zip rs os) old new start
       (subst (AllByRecursion (IsPriced price)) (sym (firsts-zip rs os n)) (priced price rs (begins_charged E eq (begins rs) one) charged)) plain (zipped_run E old new rs os run)
 
-  -- where the capacity stays, the keys that always fitted are the longest end that fits
+  -- where the capacity stays and nothing is removed, the keys that always fitted are the longest end
+  -- that fits
   steady_tail : (old new : Cache K V) (rs : List (Request K V)) (os : List (Outcome K V)) → IsPlain (zip rs os) → (i : IsLeft old rs os new) → Fitting (charge_in E (begins rs)) 0 old.capacity (last_uses E (uses (zip rs os))) i.kept
   steady_tail old new rs os plain i =
       let price = charge_in E (begins rs) in
-      let us = uses (zip rs os) in
-      let apart = subst (AreDistinctKeys E) i.in_order (last_uses-apart E us) in
-      subst (λ ks. Fitting price 0 old.capacity ks i.kept) (sym i.in_order) (light_end E price eq old.capacity i.gone i.kept apart (λ q m.
-      let f = i.fitted q (used q us (ap (list_any (E q)) i.in_order ∙ m)) in
-      let w = old_changes_are_forgotten K V E eq (begins rs) old.capacity old.capacity (zip rs os) q (λ a b p _. (plain_has_no_change K V old.capacity (zip rs os) plain).1 a b p) in
-      subst (λ ks. (list_any (E q) i.kept ≡ true) ↔ (sum_by price (end_from E q ks) ≤ old.capacity)) i.in_order (λ h. w.0 (f.0 h), λ h. f.1 (w.1 h))))
+      let es = zip rs os in
+      let us = uses es in
+      let changes = plain_has_no_change K V old.capacity es plain in
+      let order : last_uses E us ≡ i.gone ++ i.kept = ap (last_uses E) (sym (remain es changes.2)) ∙ i.in_order in
+      let apart = subst (AreDistinctKeys E) order (last_uses-apart E us) in
+      subst (λ ks. Fitting price 0 old.capacity ks i.kept) (sym order) (light_end E price eq old.capacity i.gone i.kept apart (λ q m.
+      let f = i.fitted q (ap (list_any (E q)) (remain es changes.2) ∙ used q us (ap (list_any (E q)) order ∙ m)) in
+      let w = old_changes_are_forgotten K V E eq (begins rs) old.capacity old.capacity es q (λ a b p _. changes.1 a b p) (none_since E es changes.2 q) in
+      subst (λ ks. (list_any (E q) i.kept ≡ true) ↔ (sum_by price (end_from E q ks) ≤ old.capacity)) order (λ h. w.0 (f.0 h), λ h. f.1 (w.1 h))))
     where
+      remain : (es : List (Request K V × Outcome K V)) → HaveNoRemoval (map (λ e. e.0) es) → remaining_uses E es ≡ uses es
+      remain es h = all_remain E es h es [] (sym (append-nil es))
+
       used : (q : K) (us : List K) → list_any (E q) (last_uses E us) ≡ true → list_any (E q) us ≡ true
       used q us h = elim (list_any (E q) us) as (λ t. list_any (E q) us ≡ t → t ≡ true) [ true ↦ λ _. refl | false ↦ λ n. sym (any_last E q us n) ∙ h ] refl
 
@@ -126,7 +137,9 @@ leaves_fitted K V E eq old new rs os lawful high charged run empty plain one =
         λ m. (i.fitted q h).0 (sym (paired_any E price eq q new.idle i.kept i.paired) ∙ m),
         λ m. paired_any E price eq q new.idle i.kept i.paired ∙ (i.fitted q h).1 m,
       );
+      removed = λ q h. paired_any E price eq q new.idle i.kept i.paired ∙ (none_parts (E q) i.gone i.kept (ap (list_any (E q)) (sym i.in_order) ∙ any_last E q (remaining_uses E (zip rs os)) h)).1;
       begun = used_begun E eq (begins rs) (uses (zip rs os)) i.charged;
+      without_removals = λ h. all_remain E (zip rs os) (subst HaveNoRemoval (sym (firsts-zip rs os (run_length E old new rs os run))) h);
     }
 
 pub leaves_tail : (K V : Type 0) (E : K → K → Bool) → IsEquivalence E → EveryRunLeavesTail K V E

@@ -1,6 +1,6 @@
 -- The weight of a key only grows from its last use on, so the weight at the end decides wherever
 -- the capacity stays.
-use Rattle.std.proofs.Common.{◌≡◌, ℕ, ◌+◌, ◌≤◌, Bool, true, false, cond, not, List, [], ◌∷◌, ◌++◌, refl, sym, ap, ◌∙◌, subst, arith}
+use Rattle.std.proofs.Common.{◌≡◌, ℕ, ◌+◌, ◌≤◌, Bool, true, false, cond, not, List, [], ◌∷◌, ◌++◌, map, refl, sym, ap, ◌∙◌, subst, arith}
 use Rattle.std.specs.List.{AllByRecursion, sum_by, list_any}
 use Rattle.std.specs.Cmp.{IsEquivalence}
 use Rattle.std.proofs.Math.Bool.{or-false}
@@ -11,10 +11,13 @@ use Rattle.concurrent_lru.specs.Reply as say
 use Rattle.concurrent_lru.specs.Request.{Request}
 use Rattle.concurrent_lru.specs.Runs.{Outcome, accepted}
 use Rattle.concurrent_lru.specs.Uses.{IsPlain, uses, last_uses, charge_in}
+use Rattle.concurrent_lru.specs.Removals.{HaveNoRemoval, remaining_uses}
 use Rattle.concurrent_lru.specs.Weights.{IsPlainWithChanges, end_from, weight, capacity_after}
-use Rattle.concurrent_lru.specs.WholeRuns.{PlainHasNoChange, LightKeysFitted, OldChangesAreForgotten}
+use Rattle.concurrent_lru.specs.WholeRuns.{PlainHasNoChange, LightKeysFitted, OldChangesAreForgotten, ChangesAloneAreForgotten}
 use Rattle.concurrent_lru.proofs.Runs.ChargeOfKey.{charge_agrees}
 use Rattle.concurrent_lru.proofs.Runs.Moments.{uses-append, fitted_now, none_parts}
+use Rattle.concurrent_lru.proofs.Runs.RemainingUses.{none_since}
+use Rattle.concurrent_lru.proofs.Runs.RoomOfRemovals.{weight_remaining, weight_since}
 use Rattle.concurrent_lru.proofs.Runs.LongestEnds.{AgreesOnEqual, AreDistinctKeys, others, others_sum, last_uses-push, last_uses-apart}
 
 module _ {K : Type 0} (E : K → K → Bool) (price : K → ℕ) (eq : IsEquivalence E) (p : AgreesOnEqual E price) where
@@ -57,13 +60,17 @@ light_keys_fitted K V E eq begun capacity es k light before after p n =
     let grows : weight E price (uses before) k ≤ weight E price (uses before ++ uses after) k = weight_grows E price eq (charge_agrees E eq begun) k (uses before) (uses after) n in
     let same : weight E price (uses es) k ≡ weight E price (uses before ++ uses after) k = ap (λ us. weight E price us k) (ap uses p ∙ uses-append before after) in
     let fits : weight E price (uses es) k ≤ capacity_after capacity before = light before after p n in
-    omega (arith, grows, same, fits)
+    let less : weight E price (remaining_uses E before) k ≤ weight E price (uses before) k = weight_remaining E price eq k before in
+    omega (arith, grows, same, fits, less)
 
 pub old_changes_are_forgotten : (K V : Type 0) (E : K → K → Bool) → IsEquivalence E → OldChangesAreForgotten K V E
-old_changes_are_forgotten K V E eq begun capacity c es k steady = (
-  λ h. subst (λ n. weight E (charge_in E begun) (uses es) k ≤ n) (steady es [] (sym (append-nil es)) refl) (fitted_now E (charge_in E begun) capacity es k h),
+old_changes_are_forgotten K V E eq begun capacity c es k steady none = (
+  λ h. subst (λ n. n ≤ c) (weight_since E (charge_in E begun) eq k es none) (subst (λ n. weight E (charge_in E begun) (remaining_uses E es) k ≤ n) (steady es [] (sym (append-nil es)) refl) (fitted_now E (charge_in E begun) capacity es k h)),
   λ h. light_keys_fitted K V E eq begun capacity es k (λ before after p n. subst (λ m. weight E (charge_in E begun) (uses es) k ≤ m) (sym (steady before after p n)) h),
 )
+
+pub changes_alone_are_forgotten : (K V : Type 0) (E : K → K → Bool) → IsEquivalence E → ChangesAloneAreForgotten K V E
+changes_alone_are_forgotten K V E eq begun capacity c es k steady none = old_changes_are_forgotten K V E eq begun capacity c es k steady (none_since E es none k)
 
 module _ {K V : Type 0} where
   -- the request sets no capacity
@@ -86,5 +93,15 @@ module _ {K V : Type 0} where
   none_set c ((ask.set_capacity n, o) ∷ a) b h = absurd h.0
   none_set c (_ ∷ a) b h = none_set c a b h.1
 
+  plain_removes_none : (es : List (Request K V × Outcome K V)) → IsPlain es → HaveNoRemoval (map (λ e. e.0) es)
+  plain_removes_none [] h = tt
+  plain_removes_none ((ask.begin k c, accepted (say.make s) a) ∷ (ask.ready t v, accepted say.done b) ∷ (ask.release u, accepted say.done d) ∷ es) h = plain_removes_none es h.2
+  plain_removes_none ((ask.begin k c, accepted (say.hit s v) a) ∷ (ask.release u, accepted say.done b) ∷ es) h = plain_removes_none es h.1
+  plain_removes_none ((ask.get k, accepted (say.hit s v) a) ∷ (ask.release u, accepted say.done b) ∷ es) h = plain_removes_none es h.1
+  plain_removes_none ((ask.get k, accepted say.missed a) ∷ es) h = plain_removes_none es h
+  plain_removes_none ((ask.read k, accepted (say.read s v) a) ∷ es) h = plain_removes_none es h
+  plain_removes_none ((ask.read k, accepted say.missed a) ∷ es) h = plain_removes_none es h
+  plain_removes_none (e ∷ es) h = absurd h
+
 pub plain_has_no_change : (K V : Type 0) → PlainHasNoChange K V
-plain_has_no_change K V c es h = let r = plain_changes es h in (r.0, λ a b p. none_set c a b (subst (AllByRecursion SetsNone) p r.1))
+plain_has_no_change K V c es h = let r = plain_changes es h in (r.0, λ a b p. none_set c a b (subst (AllByRecursion SetsNone) p r.1), plain_removes_none es h)

@@ -40,7 +40,7 @@ module _ {K : Type 0} (E : K → K → Bool) where
       | false ↦ λ t. end_behind q a b d.1 h
     ] refl
 
-    end_sum : (q : K) (ks : List K) → sum_by price (end_from E q ks) ≤ sum_by price ks
+    pub end_sum : (q : K) (ks : List K) → sum_by price (end_from E q ks) ≤ sum_by price ks
     end_sum q [] = omega arith
     end_sum q (k ∷ ks) =
         let r : sum_by price (end_from E q ks) ≤ sum_by price ks = end_sum q ks in

@@ -14,20 +14,35 @@ use std::marker::{Model, PhantomData};
 use std::snapshot::Snapshot;
 use std::sync::{Arc, Condvar, MutexGuard, Wait};
 
-/// A debt: the caller is to make the value of an entry. `ready` and `fail` take it. Clauses see the
-/// key and the charge that were asked for.
+/// A debt: the caller is to make the value of an entry. `ready` and `fail` take it.
+///
+/// Clauses see the stamp of the entry, and the key and the charge that were asked for.
 pub struct Making<K> {
     pub(super) spot: Spot,
     pub(super) asked: Snapshot<K>,
     pub(super) charge: u64,
 }
 
+impl<K> Model for Making<K> {
+    ghost use Rattle.concurrent_lru.specs.Pins.{AskOf};
+
+    ghost Value = { AskOf K };
+
+    ghost view = { λ m. record {
+      stamp = m.spot.stamp;
+      key = m.asked.value;
+      charge = m.charge;
+    } };
+}
+
 impl<K> Making<K> {
     // Creates the making of the spot's entry.
     pub(super) fn of(spot: Spot, key: &K, charge: u64) -> Self
-        ensures stamp { result.spot.stamp ≡ spot.stamp }
-        ensures asked { result.asked.value ≡ key.now }
-        ensures charge { result.charge ≡ charge }
+        ensures { result ≡ record {
+          stamp = spot.stamp;
+          key = key.now;
+          charge = charge;
+        } }
     {
         Making {
             spot,
@@ -38,8 +53,10 @@ impl<K> Making<K> {
 }
 
 /// A debt: a pin in an entry whose value another caller makes. `sleep` takes it; a release would
-/// not, since there is no value yet. Clauses see the key and the charge that were asked for, and
-/// the state in which the call that returned it left the cache.
+/// not, since there is no value yet.
+///
+/// Clauses see the stamp of the entry, the key and the charge that were asked for, and the state in
+/// which the call that returned it left the cache.
 pub struct Waiting<K: Hash + Eq + Clone, V, F: Fit<K, V>> {
     spot: Spot,
     asked: Snapshot<K>,
@@ -47,13 +64,30 @@ pub struct Waiting<K: Hash + Eq + Clone, V, F: Fit<K, V>> {
     left: Snapshot<Locked<K, V, F>>,
 }
 
+impl<K: Hash + Eq + Clone, V, F: Fit<K, V>> Model for Waiting<K, V, F> {
+    ghost use Rattle.concurrent_lru.specs.Pins.{WaitOf, wait_code};
+
+    ghost Value = { WaitOf K V };
+
+    ghost coded = { wait_code K.code V.code };
+
+    ghost view = { λ w. record {
+      stamp = w.spot.stamp;
+      key = w.asked.value;
+      charge = w.charge;
+      left = w.left.value;
+    } };
+}
+
 impl<K: Hash + Eq + Clone, V, F: Fit<K, V>> Waiting<K, V, F> {
     // Creates a pin in the spot's entry.
     pub(super) fn of(spot: Spot, key: &K, charge: u64, left: &Locked<K, V, F>) -> Self
-        ensures stamp { result.spot.stamp ≡ spot.stamp }
-        ensures asked { result.asked.value ≡ key.now }
-        ensures charge { result.charge ≡ charge }
-        ensures left { result.left.value ≡ left.now }
+        ensures { result ≡ record {
+          stamp = spot.stamp;
+          key = key.now;
+          charge = charge;
+          left = left.now;
+        } }
     {
         Waiting {
             spot,
@@ -73,10 +107,12 @@ impl<K: Hash + Eq + Clone, V, F: Fit<K, V>> Waiting<K, V, F> {
         woken: &Condvar,
         guard: MutexGuard<'a, Locked<K, V, F>>,
     ) -> (MutexGuard<'a, Locked<K, V, F>>, Woken<K>)
-        requires awake { mutex_guard_value guard ≡ self.left.value }
-        ensures stamp { result.1.spot.stamp ≡ self.spot.stamp }
-        ensures asked { result.1.asked.value ≡ self.asked.value }
-        ensures charge { result.1.charge ≡ self.charge }
+        requires awake { mutex_guard_value guard ≡ self.left }
+        ensures { result.1 ≡ record {
+          stamp = self.stamp;
+          key = self.key;
+          charge = self.charge;
+        } }
     {
         let Self {
             spot,
@@ -98,16 +134,40 @@ impl<K: Hash + Eq + Clone, V, F: Fit<K, V>> Waiting<K, V, F> {
 
 /// A debt: a pin of a caller that has slept, in an entry whose value another caller made or is
 /// still making. `poll` takes it.
+///
+/// Clauses see what they see of a `Making`.
 pub struct Woken<K> {
     pub(super) spot: Spot,
     pub(super) asked: Snapshot<K>,
     pub(super) charge: u64,
 }
 
+impl<K> Model for Woken<K> {
+    ghost use Rattle.concurrent_lru.specs.Pins.{AskOf};
+
+    ghost Value = { AskOf K };
+
+    ghost view = { λ w. record {
+      stamp = w.spot.stamp;
+      key = w.asked.value;
+      charge = w.charge;
+    } };
+}
+
 /// A debt: a pin in a ready entry whose value was not read, since its copy was refused. `give_up`
 /// takes it.
+///
+/// Clauses see the stamp of the entry.
 pub struct Unread {
     pub(super) spot: Spot,
+}
+
+impl Model for Unread {
+    ghost use Rattle.std.specs.Prelude.{ℕ};
+
+    ghost Value = { ℕ };
+
+    ghost view = { λ u. u.spot.stamp };
 }
 
 /// A debt: a pin in a ready entry, and the value. `release` takes it.
@@ -167,11 +227,11 @@ impl<K: Hash + Eq + Clone, V, F: Fit<K, V>> HeldPin<K, V, F> {
     }
 }
 
-/// The result of `begin`.
+/// What a caller that asked for a value finds, by `begin` or, once it has waited, by `poll`.
 pub enum Entered<K: Hash + Eq + Clone, V, F: Fit<K, V>> {
     /// The caller is to make the value; with it, what the charge evicted.
     Make(Making<K>, Sealed<Evicted<K, V>>),
-    /// Another caller is making it; ask again by `poll`.
+    /// Another caller is making it; sleep, and ask again by `poll`.
     Wait(Waiting<K, V, F>),
     /// The value is ready.
     Hit(HeldPin<K, V, F>),
@@ -179,12 +239,9 @@ pub enum Entered<K: Hash + Eq + Clone, V, F: Fit<K, V>> {
 
 /// The result of `poll`.
 pub enum Polled<K: Hash + Eq + Clone, V, F: Fit<K, V>> {
-    /// The caller is to make the value, since its maker failed.
-    Make(Making<K>),
-    /// Another caller is making it; ask again by `poll`.
-    Wait(Waiting<K, V, F>),
-    /// The value is ready.
-    Hit(HeldPin<K, V, F>),
+    /// The pin's entry was found. If the caller is to make the value, its maker has failed, and
+    /// nothing was evicted.
+    Entered(Entered<K, V, F>),
     /// The value is ready, but its copy was refused.
     Refused(Unread),
     /// No held entry has the stamp and the key: there is no pin.

@@ -1,10 +1,10 @@
-//! What runs without the lock of a shard: makers and drops.
+//! What runs without the lock of a shard: makers, drops, and the reading of a handle.
 //! In each gate two threads have to meet; where one held the lock, a limit of looks would end it.
 
 use crate::sharded::shares::in_shards;
 use concurrent_lru::sharded::LruCache;
 use lru_fixtures::gates::{CAUSES, Slow, total_in_drop};
-use lru_fixtures::meetings::makers_meet;
+use lru_fixtures::meetings::{Shown, makers_meet, text_while_read};
 use lru_support::hashers::ByOwnNumber;
 
 type Cache<V, R> = LruCache<u64, V, R, ByOwnNumber>;
@@ -37,4 +37,20 @@ fn drops_run_without_the_lock_of_their_shard(rt: HostRuntime) {
             "{cause:?}"
         );
     }
+}
+
+#[test]
+fn a_handle_is_read_without_the_lock_of_its_shard(rt: HostRuntime) {
+    let own = rt.clone().expect(&rt, "memory");
+    let made: Result<Cache<Shown, HostRuntime>, _> = LruCache::with_shards_hasher(
+        rt.alloc(),
+        own,
+        20,
+        2,
+        ByOwnNumber,
+    );
+    let cache = made.expect(&rt, "memory");
+    let read = text_while_read(&rt, rt.alloc(), &cache);
+    let (text, number) = read.expect(&rt, "a meeting");
+    assert_eq!(rt; (text.as_str(), number), ("[{}, {1: 7}]", 7));
 }

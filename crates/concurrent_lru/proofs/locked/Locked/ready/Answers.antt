@@ -17,12 +17,13 @@ invariant_of-self g c =
 pub returns-clause-step : goal.returns-clause-step
 returns-clause-step g c =
     let new = c.ready_keyed-back.new.self.cache in
-    rw c.of.ensures (subst (λ old. HasEqualKeyAt g.K.PartialEq.eq old.cache c.args.making.spot.stamp c.args.key.now → Stands g.K.PartialEq.eq old.cache (ask.ready c.args.making.spot.stamp c.args.stored.value) (outcome_of_ready c.ready_keyed-back.result.0) new) c.self.view_is c.ready_keyed-back.ensures.step)
+    let step = subst (λ old. HasEqualKeyAt g.K.PartialEq.eq old.cache c.making.inside.spot.stamp c.args.key.now → Stands g.K.PartialEq.eq old.cache (ask.ready c.making.inside.spot.stamp c.args.stored.value) (outcome_of_ready c.ready_keyed-back.result.0) new) c.self.view_is c.ready_keyed-back.ensures.step in
+    rw c.of.ensures (subst (λ m. HasEqualKeyAt g.K.PartialEq.eq c.args.self.now.cache m.stamp c.args.key.now → Stands g.K.PartialEq.eq c.args.self.now.cache (ask.ready m.stamp c.args.stored.value) (outcome_of_ready c.ready_keyed-back.result.0) new) c.making.view_is step)
 
 pub returns-clause-no_entry : goal.returns-clause-no_entry
 returns-clause-no_entry g c =
     let ready = c.ready_keyed-back.ensures in
     let is = ap (λ x. x.cache) c.self.view_is in
     λ none.
-    let back = keyed_no_entry g.K.PartialEq.eq _ c.ready_keyed-back.new.self.cache c.args.making.spot.stamp c.args.key.now c.args.stored _ ready.keyed ready.same ready.back (λ at. none (subst (λ old. HasEqualKeyAt g.K.PartialEq.eq old c.args.making.spot.stamp c.args.key.now) is at)) in
+    let back = keyed_no_entry g.K.PartialEq.eq _ c.ready_keyed-back.new.self.cache c.making.inside.spot.stamp c.args.key.now c.args.stored _ ready.keyed ready.same ready.back (λ at. none (subst (λ m. HasEqualKeyAt g.K.PartialEq.eq c.args.self.now.cache m.stamp c.args.key.now) c.making.view_is (subst (λ old. HasEqualKeyAt g.K.PartialEq.eq old c.making.inside.spot.stamp c.args.key.now) is at))) in
     (c.of.ensures ∙ back.0, λ j. record { cache = (back.1 ∙ is) j; counts = (ready.counts ∙ ap (λ x. x.counts) c.self.view_is) j })

@@ -1,0 +1,125 @@
+//! Steps as data, and runs of them.
+ghost use Rattle.std.specs.Prelude.{◌≡◌, ◌+◌, ◌≤◌, None, OnErr, IfErr, IfOk, map};
+ghost use Rattle.std.specs.List.{AllByRecursion};
+ghost use Rattle.concurrent_lru.specs.Cache.{IsLawful};
+ghost use Rattle.concurrent_lru.specs.Counted.{most_writes_of_read, StepWrites, StepsWriteAtMost};
+ghost use Rattle.concurrent_lru.specs.Request as ask;
+ghost use Rattle.concurrent_lru.specs.Results.{outcome_of_read, request_of, outcome_of, IsCharged, IsAnswerTo, AreAnswersTo};
+ghost use Rattle.concurrent_lru.specs.Runs.{Stands, Run};
+ghost use Rattle.concurrent_lru.specs.WholeRuns.{KeepsStamps, LeavesFitted, LeavesTail};
+
+use crate::lru_core::{Answer, Begun, Failed, Inserted, Refusal, State, Step};
+use std::hash::Hash;
+use std::sync::Arc;
+
+impl<K: Hash + Eq + Clone, V: Drop> State<K, V> {
+    // `read` that shares the value, as `get` does: a `get`, and the release of its pin.
+    fn read_shared(&mut self, key: &K) -> Result<Option<(u64, Arc<V>)>, Refusal>
+        ensures step { Stands K.eq self.old.cache (ask.read key.now) (outcome_of_read result)
+            self.new.cache }
+        ensures work { IfOk result (λ found. self.new.work ≤ self.old.work + most_writes_of_read
+            found) }
+        ensures same { OnErr result (self.new.work ≡ self.old.work) }
+        ensures lawful { IsLawful K.eq self.new.cache }
+    {
+        let _ = &self.alloc;
+        let Some((stamp, value)) = self.get(key)? else {
+            return Ok(None);
+        };
+        // Never refused, and evicts nothing.
+        let _evicted = self.release(stamp);
+        Ok(Some((stamp, value)))
+    }
+
+    // Takes one step.
+    pub(crate) fn step(&mut self, step: Step<K, V>) -> Answer<K, V>
+        requires { IsCharged (request_of step) }
+        ensures step { Stands K.eq self.old.cache (request_of step) (outcome_of result)
+            self.new.cache }
+        ensures work { StepWrites self.old result self.new }
+        ensures kind { IsAnswerTo step result }
+        ensures lawful { IsLawful K.eq self.new.cache }
+    {
+        match step {
+            Step::Begin(key, charge) => match self.begin(&key, charge) {
+                Ok((begun, evicted)) => Answer::Begun(begun, evicted),
+                Err(refusal) => Answer::Refused(refusal),
+            },
+            Step::Poll(stamp) => match self.poll(stamp) {
+                Ok(begun) => Answer::Polled(begun),
+                Err(refusal) => Answer::Refused(refusal),
+            },
+            Step::Ready(stamp, value) => match self.ready(stamp, value) {
+                Ok(()) => Answer::Done,
+                Err(value) => Answer::Back(value),
+            },
+            Step::Fail(stamp) => match self.fail(stamp) {
+                Ok(failed) => Answer::Failed(failed),
+                Err(refusal) => Answer::Refused(refusal),
+            },
+            Step::Get(key) => match self.get(&key) {
+                Ok(found) => Answer::Got(found),
+                Err(refusal) => Answer::Refused(refusal),
+            },
+            Step::Release(stamp) => match self.release(stamp) {
+                Ok(evicted) => Answer::Released(evicted),
+                Err(refusal) => Answer::Refused(refusal),
+            },
+            Step::AdviceEvict(key) => Answer::Gone(self.advice_evict(&key)),
+            Step::Invalidate(key) => Answer::Gone(self.invalidate(&key)),
+            Step::Insert(key, charge, value) => match self.insert(&key, charge, value) {
+                Ok(inserted) => Answer::Inserted(inserted),
+                Err((refusal, value)) => Answer::NotInserted(refusal, value),
+            },
+            Step::Read(key) => match self.read_shared(&key) {
+                Ok(found) => Answer::Read(found),
+                Err(refusal) => Answer::Refused(refusal),
+            },
+            Step::Prune => Answer::Gone(self.prune()),
+            Step::SetCapacity(capacity) => Answer::Gone(self.set_capacity(capacity)),
+            Step::Total => Answer::Total(self.total()),
+        }
+    }
+
+    /// Takes steps in order and returns one answer for each. Each charge is above 0; stamps may be
+    /// stale or invented.
+    ///
+    /// Returns `Memory` if there is no room for the answers, which is reserved first: then no step
+    /// was taken, and the steps are dropped.
+    ///
+    /// After a plain run (`IsPlain`: each use is released at once, and there are no other steps),
+    /// what an empty cache is left with is the longest suffix of the keys, ordered by last use,
+    /// whose charges fit (`tail`). Between uses, the capacity may be set, and keys may be removed
+    /// by `AdviceEvict`, `Invalidate` and `Prune`. A key that was removed since its last use is not
+    /// idle afterwards. Any other used key is idle if and only if, at every moment since its last
+    /// use, it weighed at most the capacity of that moment (`fitted`). Each stamp that was present
+    /// or was given out is in exactly one place: in the cache, in the answer of `fail`, or in an
+    /// evicted list (`stamps`). The idle order is written at most once for each step that is not
+    /// refused, twice for a `Read`, and once for each evicted entry (`work`).
+    pub fn run(&mut self, steps: Vec<Step<K, V>>) -> Result<Vec<Answer<K, V>>, Refusal>
+        requires { AllByRecursion IsCharged (map request_of steps.items) }
+        ensures run { IfOk result (λ answers. Run K.eq self.old.cache (map request_of steps.items)
+            (map outcome_of answers.items) self.new.cache) }
+        ensures kinds { IfOk result (λ answers. AreAnswersTo steps.items answers.items) }
+        ensures tail { IfOk result (λ answers. LeavesTail K.eq self.old.cache
+            (map request_of steps.items) (map outcome_of answers.items) self.new.cache) }
+        ensures fitted { IfOk result (λ answers. LeavesFitted K.eq self.old.cache
+            (map request_of steps.items) (map outcome_of answers.items) self.new.cache) }
+        ensures stamps { IfOk result (λ answers. KeepsStamps self.old.cache
+            (map request_of steps.items) (map outcome_of answers.items) self.new.cache) }
+        ensures work { IfOk result (λ answers. StepsWriteAtMost self.old
+            (map outcome_of answers.items) self.new) }
+        ensures err { IfErr result (λ e. e ≡ Refusal.Memory) }
+        ensures same { OnErr result (self.new ≡ self.old) }
+        ensures lawful { IsLawful K.eq self.new.cache }
+    {
+        let mut answers = Vec::new(self.alloc);
+        answers.reserve(steps.len())?;
+        for step in steps {
+            let answer = self.step(step);
+            // Never refused: the room was reserved before the first step.
+            let _kept = answers.push(answer);
+        }
+        Ok(answers)
+    }
+}

@@ -1,0 +1,370 @@
+//! The calls of the crate's own modules: each finds the entry of a stamp by its spot, and returns a
+//! hint of the entry that it pins.
+ghost use Rattle.std.specs.Prelude.{◌≡◌, ◌+◌, ◌<◌, ◌≤◌, None, OnOk, OnErr, IfErr, IfOk, IsFalse, MatchOption, length};
+ghost use Rattle.std.specs.Arc.{arc_value};
+ghost use Rattle.concurrent_lru.specs.Cache.{IsLawful, HasKeyAt, LacksStamp, HasNoOtherPin};
+ghost use Rattle.concurrent_lru.specs.Counted.{WritesAtMostOneMore};
+ghost use Rattle.concurrent_lru.specs.Inserts.{Inserts, Remakes};
+ghost use Rattle.concurrent_lru.specs.KeyHashes.{IsHashOf};
+ghost use Rattle.concurrent_lru.specs.Ready.{HasEqualKeyAt};
+ghost use Rattle.concurrent_lru.specs.Request as ask;
+ghost use Rattle.concurrent_lru.specs.Results.{outcome_of_begin, outcome_of_poll, outcome_of_ready, outcome_of_fail, outcome_of_get, outcome_of_release, outcome_of_insert, begun_without_hint, found_without_hint, inserted_without_hint};
+ghost use Rattle.concurrent_lru.specs.Runs.{Stands};
+ghost use Rattle.concurrent_lru.specs.Steps.{IsAbsent};
+
+use crate::list::{Node, Phase};
+use crate::lru_core::{Begun, Evicted, Failed, Inserted, Refusal, State};
+use crate::table::{Hint, KeyHash, Spot};
+use std::hash::Hash;
+use std::sync::Arc;
+
+impl<K: Hash + Eq + Clone, V: Drop> State<K, V> {
+    // `begin`, which also returns a hint of the entry, for a caller that keeps a spot.
+    #[inline(always)]
+    pub(crate) fn begin_at(
+        &mut self,
+        key: &K,
+        charge: u64,
+    ) -> Result<(Begun<V>, Evicted<K, V>, Hint), Refusal>
+        requires { 0 < charge }
+        ensures step { Stands K.eq self.old.cache (ask.begin key.now charge)
+            (outcome_of_begin (begun_without_hint result)) self.new.cache }
+        ensures work { WritesAtMostOneMore self.old (outcome_of_begin (begun_without_hint result))
+            self.new }
+        ensures lawful { IsLawful K.eq self.new.cache }
+    {
+        // A proved program does not run this. One that `rt try` runs stops here at a charge of 0.
+        prove!(charge > 0);
+        let hash = self.table.hash_of(key);
+        let Some((place, near)) = self.table.find_key(hash, key) else {
+            return self.make(hash, key, charge);
+        };
+        let node = self.table.node(place, near);
+        let (stamp, pins) = (node.stamp, node.pins);
+        if pins == self.most_pins {
+            return Err(Refusal::Overflow);
+        }
+        let hint = Hint::to(hash, place);
+        match &node.phase {
+            Phase::Making => {
+                self.table.set_pins(place, near, pins + 1);
+                Ok((Begun::Wait(stamp), Evicted::none(), hint))
+            }
+            Phase::Untaken => {
+                self.table.set_pins(place, near, pins + 1);
+                self.table.set_phase(place, near, Phase::Making);
+                Ok((Begun::Make(stamp), Evicted::none(), hint))
+            }
+            Phase::Ready(_) => {
+                let value = self.table.pin(place, near)?;
+                Ok((Begun::Hit(stamp, value), Evicted::none(), hint))
+            }
+        }
+    }
+
+    // Begins on a key that has no entry. Everything that can be refused precedes the first change.
+    #[inline(always)]
+    fn make(
+        &mut self,
+        hash: KeyHash,
+        key: &K,
+        charge: u64,
+    ) -> Result<(Begun<V>, Evicted<K, V>, Hint), Refusal>
+        requires charged { 0 < charge }
+        requires hash { IsHashOf K.hash_input hash key.now }
+        requires absent { IsAbsent K.eq self.old.cache key.now }
+        ensures step { Stands K.eq self.old.cache (ask.begin key.now charge)
+            (outcome_of_begin (begun_without_hint result)) self.new.cache }
+        ensures work { WritesAtMostOneMore self.old (outcome_of_begin (begun_without_hint result))
+            self.new }
+        ensures same { OnErr result (self.new ≡ self.old) }
+        ensures lawful { IsLawful K.eq self.new.cache }
+    {
+        if charge > u64::MAX - self.table.total() || self.next == u64::MAX {
+            return Err(Refusal::Overflow);
+        }
+        let stamp = self.next;
+        let place = self.table.add(self.alloc, stamp, hash, key, charge)?;
+        self.next += 1;
+        let evicted = self.table.settle(self.capacity);
+        Ok((Begun::Make(stamp), evicted, Hint::to(hash, place)))
+    }
+
+    // `poll` by spot.
+    pub(crate) fn poll_at(&mut self, spot: &Spot) -> Result<Begun<V>, Refusal>
+        ensures step { Stands K.eq self.old.cache (ask.poll spot.now.stamp) (outcome_of_poll result)
+            self.new.cache }
+        ensures work { self.new.work ≡ self.old.work }
+        ensures lawful { IsLawful K.eq self.new.cache }
+    {
+        let Some((place, near)) = self.table.find_stamp(spot) else {
+            return Err(Refusal::Stale);
+        };
+        let node = self.table.node(place, near);
+        if node.pins == 0 {
+            return Err(Refusal::Stale);
+        }
+        match &node.phase {
+            Phase::Making => Ok(Begun::Wait(spot.stamp)),
+            Phase::Untaken => {
+                self.table.set_phase(place, near, Phase::Making);
+                Ok(Begun::Make(spot.stamp))
+            }
+            Phase::Ready(value) => Ok(Begun::Hit(spot.stamp, value.clone()?)),
+        }
+    }
+
+    // `ready` by spot.
+    pub(super) fn ready_at(&mut self, spot: &Spot, value: Arc<V>) -> Result<(), Arc<V>>
+        ensures step { Stands K.eq self.old.cache (ask.ready spot.now.stamp (arc_value value))
+            (outcome_of_ready result) self.new.cache }
+        ensures work { self.new.work ≡ self.old.work }
+        ensures back { IfErr result (λ a. arc_value a ≡ arc_value value) }
+        ensures lawful { IsLawful K.eq self.new.cache }
+    {
+        match self.table.find_stamp(spot) {
+            Some((place, near)) => self.table.store(place, near, value),
+            None => Err(value),
+        }
+    }
+
+    // `ready`, if the spot's entry has this key. Also returns whether the entry has a pin besides
+    // the maker's, since both need the same lookup.
+    #[inline(always)]
+    pub(crate) fn ready_keyed(
+        &mut self,
+        spot: &Spot,
+        key: &K,
+        value: Arc<V>,
+    ) -> (Result<(), Arc<V>>, bool)
+        ensures step { HasEqualKeyAt K.eq self.old.cache spot.now.stamp key.now
+            → Stands K.eq self.old.cache (ask.ready spot.now.stamp (arc_value value))
+            (outcome_of_ready result.0) self.new.cache }
+        ensures keyed { OnOk result.0 (HasEqualKeyAt K.eq self.old.cache spot.now.stamp key.now) }
+        ensures same { OnErr result.0 (self.new.cache ≡ self.old.cache) }
+        ensures back { IfErr result.0 (λ a. a ≡ value) }
+        ensures quiet { IsFalse result.1 → HasNoOtherPin self.old.cache spot.now.stamp }
+        ensures lawful { IsLawful K.eq self.new.cache }
+    {
+        let Some((place, near)) = self.table.find_stamp(spot) else {
+            return (Err(value), false);
+        };
+        let node = self.table.node(place, near);
+        let shared = node.pins > 1;
+        if node.key != *key {
+            return (Err(value), shared);
+        }
+        (self.table.store(place, near, value), shared)
+    }
+
+    // `fail` by spot.
+    pub(crate) fn fail_at(&mut self, spot: &Spot) -> Result<Failed<K>, Refusal>
+        ensures step { Stands K.eq self.old.cache (ask.fail spot.now.stamp) (outcome_of_fail result)
+            self.new.cache }
+        ensures work { self.new.work ≡ self.old.work }
+        ensures lawful { IsLawful K.eq self.new.cache }
+    {
+        let Some((place, near)) = self.table.find_stamp(spot) else {
+            return Err(Refusal::Stale);
+        };
+        let node = self.table.node(place, near);
+        let pins = node.pins;
+        let Phase::Making = &node.phase else {
+            return Err(Refusal::Stale);
+        };
+        if pins > 1 {
+            self.table.set_pins(place, near, pins - 1);
+            self.table.set_phase(place, near, Phase::Untaken);
+            return Ok(Failed::Left);
+        }
+        let node = self.table.take_held(place);
+        let Node {
+            stamp: _,
+            key,
+            charge: _,
+            pins: _,
+            detached: _,
+            phase: _,
+            next: _,
+            ..
+        } = Box::into_inner(node);
+        Ok(Failed::Removed(key))
+    }
+
+    // `get`, which also returns a hint of the entry, for a caller that keeps a spot.
+    #[inline(always)]
+    pub(crate) fn get_at(&mut self, key: &K) -> Result<Option<(u64, Arc<V>, Hint)>, Refusal>
+        ensures step { Stands K.eq self.old.cache (ask.get key.now)
+            (outcome_of_get (found_without_hint result)) self.new.cache }
+        ensures work { WritesAtMostOneMore self.old (outcome_of_get (found_without_hint result))
+            self.new }
+        ensures lawful { IsLawful K.eq self.new.cache }
+    {
+        let hash = self.table.hash_of(key);
+        let Some((place, near)) = self.table.find_key(hash, key) else {
+            return Ok(None);
+        };
+        let node = self.table.node(place, near);
+        let (stamp, pins) = (node.stamp, node.pins);
+        let Phase::Ready(_) = &node.phase else {
+            return Ok(None);
+        };
+        if pins == self.most_pins {
+            return Err(Refusal::Overflow);
+        }
+        let value = self.table.pin(place, near)?;
+        Ok(Some((stamp, value, Hint::to(hash, place))))
+    }
+
+    // `release` by spot.
+    #[inline(always)]
+    pub(crate) fn release_at(&mut self, spot: &Spot) -> Result<Evicted<K, V>, Refusal>
+        ensures step { Stands K.eq self.old.cache (ask.release spot.now.stamp)
+            (outcome_of_release result) self.new.cache }
+        ensures work { WritesAtMostOneMore self.old (outcome_of_release result) self.new }
+        ensures lawful { IsLawful K.eq self.new.cache }
+    {
+        let Some((place, near)) = self.table.find_stamp(spot) else {
+            return Err(Refusal::Stale);
+        };
+        let node = self.table.node(place, near);
+        let (pins, detached) = (node.pins, node.detached);
+        let Phase::Ready(_) = &node.phase else {
+            return Err(Refusal::Stale);
+        };
+        if pins == 0 {
+            return Err(Refusal::Stale);
+        }
+        if pins > 1 {
+            self.table.set_pins(place, near, pins - 1);
+            return Ok(Evicted::none());
+        }
+        if detached {
+            return Ok(Evicted::one(self.table.take_held(place)));
+        }
+        self.table.rest(place, near);
+        Ok(self.table.settle(self.capacity))
+    }
+
+    // `insert`, which also returns a hint of the new entry, for a caller that keeps a spot.
+    pub(crate) fn insert_at(
+        &mut self,
+        key: &K,
+        charge: u64,
+        value: Arc<V>,
+    ) -> Result<(Inserted<K, V>, Hint), (Refusal, Arc<V>)>
+        requires { 0 < charge }
+        ensures step { Inserts K.eq self.old.cache key.now charge (arc_value value)
+            (inserted_without_hint result) self.new.cache }
+        ensures request { Stands K.eq self.old.cache (ask.insert key.now charge (arc_value value))
+            (outcome_of_insert (inserted_without_hint result)) self.new.cache }
+        ensures work { IfOk result (λ r. self.new.work ≤ self.old.work + length
+            r.0.replaced + length r.0.evicted + 1) }
+        ensures same { OnErr result (self.new ≡ self.old) }
+        ensures back { IfErr result (λ e. e.1 ≡ value) }
+        ensures lawful { IsLawful K.eq self.new.cache }
+    {
+        // A proved program does not run this. One that `rt try` runs stops here at a charge of 0.
+        prove!(charge > 0);
+        let (spot, replaced, evicted) = match self.remake(key, charge) {
+            Ok(made) => made,
+            Err(refusal) => return Err((refusal, value)),
+        };
+        // Never refused: the entry is being made.
+        let _stored = self.ready_at(&spot, value);
+        let inserted = Inserted {
+            stamp: spot.stamp,
+            replaced,
+            evicted,
+        };
+        Ok((inserted, spot.hint))
+    }
+
+    // `invalidate` followed by `begin`. Everything that can be refused precedes the first change.
+    fn remake(
+        &mut self,
+        key: &K,
+        charge: u64,
+    ) -> Result<(Spot, Evicted<K, V>, Evicted<K, V>), Refusal>
+        requires { 0 < charge }
+        ensures step { Remakes K.eq self.old.cache key.now charge result self.new.cache }
+        ensures work { IfOk result (λ r. self.new.work ≤ self.old.work + length r.1 + length
+            r.2 + 1) }
+        ensures same { OnErr result (self.new ≡ self.old) }
+        ensures before { IsLawful K.eq self.old.cache }
+        ensures lawful { IsLawful K.eq self.new.cache }
+    {
+        let stamp = self.next;
+        let hash = self.table.hash_of(key);
+        let Some((place, near)) = self.table.find_key(hash, key) else {
+            let (_begun, evicted, hint) = self.make(hash, key, charge)?;
+            return Ok((Spot { stamp, hint }, Evicted::none(), evicted));
+        };
+        let node = self.table.node(place, near);
+        let (pins, own) = (node.pins, node.charge);
+        if pins > 0 {
+            if charge > u64::MAX - self.table.total() || stamp == u64::MAX {
+                return Err(Refusal::Overflow);
+            }
+            let new = self
+                .table
+                .add_over_held(self.alloc, place, stamp, hash, key, charge)?;
+            self.next += 1;
+            let evicted = self.table.settle(self.capacity);
+            let hint = Hint::to(hash, new);
+            return Ok((Spot { stamp, hint }, Evicted::none(), evicted));
+        }
+        // An idle entry leaves with its charge.
+        let rest = self.table.total() - own;
+        if charge > u64::MAX - rest || stamp == u64::MAX {
+            return Err(Refusal::Overflow);
+        }
+        let (old, new) = self
+            .table
+            .add_over_idle(self.alloc, place, stamp, hash, key, charge)?;
+        self.next += 1;
+        let evicted = self.table.settle(self.capacity);
+        let hint = Hint::to(hash, new);
+        Ok((Spot { stamp, hint }, Evicted::one(old), evicted))
+    }
+
+    // `key_of` by spot.
+    pub(crate) fn key_at(&self, spot: &Spot) -> Option<&K>
+        ensures { MatchOption result (LacksStamp self.now.cache spot.now.stamp)
+            (λ key. HasKeyAt self.now.cache spot.now.stamp key.now) }
+    {
+        let (place, near) = self.table.find_stamp(spot)?;
+        Some(&self.table.node(place, near).key)
+    }
+
+    // Returns whether the spot's entry has more than one pin.
+    pub(crate) fn is_shared(&self, spot: &Spot) -> bool
+        ensures { IsFalse result → HasNoOtherPin self.now.cache spot.now.stamp }
+    {
+        match self.table.find_stamp(spot) {
+            Some((place, near)) => self.table.node(place, near).pins > 1,
+            None => false,
+        }
+    }
+
+    // Returns the stamp with the hint of the entry pinned last, which may be another entry's.
+    #[inline(always)]
+    pub(super) fn spot(&self, stamp: u64) -> Spot
+        ensures { result.stamp ≡ stamp }
+    {
+        Spot {
+            stamp,
+            hint: Hint {
+                hash: self.last.hash,
+                place: self.last.place,
+            },
+        }
+    }
+
+    // Returns the stamp that the next new entry gets.
+    pub(crate) fn next_stamp(&self) -> u64
+        ensures { result ≡ self.now.cache.next }
+    {
+        self.next
+    }
+}

@@ -1,0 +1,77 @@
+//! The workloads on a clock cache, whose hits take no lock.
+ghost use Rattle.std.specs.Prelude.{◌<◌};
+
+use crate::bench::Bench;
+use crate::failure::Failure;
+use crate::operation::{Get, Init, Make, Read};
+use crate::plan::Mostly;
+use crate::size::Size;
+use crate::stress::{Keyed, Load, SHARDS_CAPACITY};
+use crate::system::{SHARDS, System};
+use crate::workers;
+use lru_clock::clock::Cache;
+use std::hash::RandomState;
+use std::io::Write;
+use std::random::RandomSource;
+use std::rt::Clock;
+use std::sync::Wait;
+use std::thread::Threads;
+
+impl<
+    R: Threads + Wait + Clock + RandomSource + Sync,
+    W: Wait + Clone + Drop + Sync,
+    O: Write,
+    E: Write,
+> Bench<'_, R, W, O, E> {
+    // A clock cache in so many shards, over which its hasher spreads the keys at random.
+    fn on_clock(&self, capacity: u64, shards: usize) -> Result<Cache<u64, u64, W>, Failure>
+        requires { 0 < shards }
+    {
+        let hasher = RandomState::new(self.rt)?;
+        let wait = self.wait.clone()?;
+        Ok(Cache::with_shards(self.alloc, wait, capacity, shards, hasher)?)
+    }
+
+    /// In so many shards: the hits on a cache in which all entries fit, however they are spread
+    /// over the shards, and the misses on another one, which has no room left.
+    pub fn use_clock(&mut self, shards: usize, size: &Size<'_>) -> Result<(), Failure>
+        requires { 0 < shards }
+    {
+        let (system, entries) = (System::Clock(shards), size.entries.get());
+        if size.has_hits() {
+            let roomy = self.on_clock(entries.saturating_mul(shards as u64), shards)?;
+            workers::fill(&Make { cache: &roomy }, size.entries)?;
+            let get = Get { cache: &roomy };
+            let read = Read { cache: &roomy };
+            let init = Init { cache: &roomy };
+            self.hits((&get, &read, &init), system, size)?;
+        }
+        if size.has_misses() {
+            let full = self.on_clock(entries, shards)?;
+            workers::fill(&Make { cache: &full }, size.entries)?;
+            self.misses(&Make { cache: &full }, system, size)?;
+        }
+        Ok(())
+    }
+
+    /// The stress workload, in shards.
+    pub fn stress_clock(&mut self, load: Load) -> Result<(), Failure> {
+        let cache = self.on_clock(SHARDS_CAPACITY, SHARDS)?;
+        let work = load.work(System::Clock(SHARDS), SHARDS_CAPACITY);
+        self.stress(&Keyed { cache: &cache }, load, &work)
+    }
+
+    /// Reads that mostly hit, in so many shards.
+    pub fn read_on_clock(
+        &mut self,
+        shards: usize,
+        mostly: &Mostly,
+        threads: u16,
+    ) -> Result<(), Failure>
+        requires { 0 < shards }
+    {
+        let cache = self.on_clock(mostly.capacity, shards)?;
+        let work = mostly.work(System::Clock(shards), threads);
+        self.read(&Make { cache: &cache }, mostly, &work)
+    }
+}
