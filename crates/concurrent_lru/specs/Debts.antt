@@ -5,8 +5,8 @@ use Rattle.concurrent_lru.specs.CountedCalls.{LockedCache}
 use Rattle.concurrent_lru.specs.Pins.{PinOf}
 use Rattle.concurrent_lru.specs.Reply as say
 use Rattle.concurrent_lru.specs.Runs.{Outcome, accepted, refused}
-use Rattle.concurrent_lru.specs.declared.list.Refusal.{Refusal}
-use Rattle.concurrent_lru.specs.declared.list.Refusal.TheVariants.{Memory, Stale}
+use Rattle.concurrent_lru.specs.declared.refusal.Refusal.{Refusal}
+use Rattle.concurrent_lru.specs.declared.refusal.Refusal.TheVariants.{Memory, Stale}
 use Rattle.concurrent_lru.specs.declared.locked.pins.Entered.{Entered}
 use Rattle.concurrent_lru.specs.declared.locked.pins.Entered.TheVariants as enter
 use Rattle.concurrent_lru.specs.declared.locked.pins.Polled.{Polled}

@@ -6,7 +6,7 @@ use Rattle.concurrent_lru.specs.Cache.{Cache, Idle}
 use Rattle.concurrent_lru.specs.Request as ask
 use Rattle.concurrent_lru.specs.Reply as say
 use Rattle.concurrent_lru.specs.Runs.{accepted, refused, Stands, Run}
-use Rattle.concurrent_lru.specs.declared.list.Refusal.{Refusal}
+use Rattle.concurrent_lru.specs.declared.refusal.Refusal.{Refusal}
 use Rattle.concurrent_lru.specs.declared.step.Inserted.{Inserted}
 use Rattle.concurrent_lru.specs.declared.table.spot.Spot.{Spot}
 

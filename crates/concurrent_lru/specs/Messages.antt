@@ -1,7 +1,7 @@
 -- What `{}` prints of an error.
 use Rattle.std.specs.Prelude.{ℕ, List, Option, Some, codes}
-use Rattle.concurrent_lru.specs.declared.list.Refusal.{Refusal}
-use Rattle.concurrent_lru.specs.declared.list.Refusal.TheVariants as refusal
+use Rattle.concurrent_lru.specs.declared.refusal.Refusal.{Refusal}
+use Rattle.concurrent_lru.specs.declared.refusal.Refusal.TheVariants as refusal
 use Rattle.concurrent_lru.specs.declared.get_error.GetError.{GetError}
 use Rattle.concurrent_lru.specs.declared.get_error.GetError.TheVariants as error
 

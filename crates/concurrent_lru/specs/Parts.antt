@@ -7,7 +7,7 @@ use Rattle.concurrent_lru.specs.Request.{Request}
 use Rattle.concurrent_lru.specs.Reply as say
 use Rattle.concurrent_lru.specs.Runs.{Outcome, accepted, refused, Stands, Run}
 use Rattle.concurrent_lru.specs.Sharded.{Sharded}
-use Rattle.concurrent_lru.specs.declared.list.Refusal.TheVariants.{Stale}
+use Rattle.concurrent_lru.specs.declared.refusal.Refusal.TheVariants.{Stale}
 
 -- the part of shard i: what stands beside the number i, in order
 abbrev pub part : {X : Type 0} → ℕ → List (ℕ × X) → List X

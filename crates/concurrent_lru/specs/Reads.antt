@@ -7,8 +7,8 @@ use Rattle.concurrent_lru.specs.Request as ask
 use Rattle.concurrent_lru.specs.Reply as say
 use Rattle.concurrent_lru.specs.Runs.{accepted, refused, Stands, Run}
 use Rattle.concurrent_lru.specs.Sharded.{Sharded}
-use Rattle.concurrent_lru.specs.declared.list.Refusal.{Refusal}
-use Rattle.concurrent_lru.specs.declared.list.Refusal.TheVariants.{Overflow}
+use Rattle.concurrent_lru.specs.declared.refusal.Refusal.{Refusal}
+use Rattle.concurrent_lru.specs.declared.refusal.Refusal.TheVariants.{Overflow}
 
 module _ {K V : Type 0} where
   -- the idle entry at the place becomes the newest idle one: it is pinned, and the pin is released

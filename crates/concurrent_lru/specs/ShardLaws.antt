@@ -4,7 +4,7 @@ use Rattle.concurrent_lru.specs.Request.{Request}
 use Rattle.concurrent_lru.specs.Runs.{refused}
 use Rattle.concurrent_lru.specs.Sharded.{Sharded, shard_of}
 use Rattle.concurrent_lru.specs.Parts.{StandsAt}
-use Rattle.concurrent_lru.specs.declared.list.Refusal.{Refusal}
+use Rattle.concurrent_lru.specs.declared.refusal.Refusal.{Refusal}
 
 -- one shard serves equal keys
 abbrev pub OneShard : (K V S : Type 0) → (K → K → Bool) → (S → K → ℕ) → Type 0

@@ -4,7 +4,7 @@
 ghost use Rattle.std.specs.Prelude.{◌≡◌, ◌≢◌};
 ghost use Rattle.concurrent_lru.specs.ThreadedCalls.{IsNotInit};
 
-use crate::list::Refusal;
+use crate::refusal::Refusal;
 use std::error::Error;
 use std::fmt;
 

@@ -16,6 +16,7 @@ pub mod list;
 pub mod locked;
 pub mod lru_core;
 mod owned;
+mod refusal;
 mod route;
 pub mod sealed;
 pub mod shard_laws;

@@ -11,7 +11,7 @@ ghost use Rattle.concurrent_lru.specs.Reads.{FindsAt, ReadsAt};
 ghost use Rattle.concurrent_lru.specs.Request as ask;
 ghost use Rattle.concurrent_lru.specs.Results.{IsCharged, outcome_of_evictions, outcome_of_fail, outcome_of, outcome_of_poll, outcome_of_ready, outcome_of_release, request_of};
 ghost use Rattle.concurrent_lru.specs.Runs.{refused};
-ghost use Rattle.concurrent_lru.specs.declared.list.Refusal.TheVariants.{Stale};
+ghost use Rattle.concurrent_lru.specs.declared.refusal.Refusal.TheVariants.{Stale};
 ghost use Rattle.concurrent_lru.specs.Sharded.{AreLawful, HasReadyKeyAt, IsUnreadyAt, key_number, key_shard};
 ghost use Rattle.concurrent_lru.specs.ShardSteps.{request_at_shard, outcome_of_shard_begin, outcome_of_shard_insert, outcome_of_shard_get, outcome_of_shard_evictions, shard_of_step, step_at_shard, outcome_at_shard, outcome_of_shard_total, IsShardAnswerTo, TellsNoShard};
 

@@ -4,27 +4,26 @@
 //!
 //! A key is hashed by `Table::hash_of`, once in a call of the core, which passes the hash on with
 //! the key.
-ghost use Rattle.std.specs.Prelude.{◌≡◌, ◌≢◌, ℕ, ◌+◌, ◌<◌, ◌≤◌, ◌^◌, Some, None, [], IsSome, OnOk, OnErr, IfOk, IfErr, IfSome, MatchOption, filter_map, length, ◌∷◌, ◌++◌, true, cond, nat_eq};
+ghost use Rattle.std.specs.Prelude.{◌≡◌, ◌≢◌, ℕ, ◌+◌, ◌<◌, ◌≤◌, ◌^◌, Some, None, [], IsSome, OnOk, OnErr, IfOk, IfErr, MatchOption, true, cond, nat_eq};
 ghost use Rattle.std.specs.Arc.{arc_value};
-ghost use Rattle.concurrent_lru.specs.Cache.{count_of, idle_at, pinned_of, IsFront, CopiesAreEqual};
+ghost use Rattle.concurrent_lru.specs.Cache.{count_of, pinned_of, CopiesAreEqual};
 ghost use Rattle.std.specs.FinMap as map;
 ghost use Rattle.concurrent_lru.specs.NodeTable.{Entry, entry_of, hash_of as hash_in, new_entry, chain_of, phase_of, value_of, ContainsNode, LacksIdle, IsNewStamp};
-ghost use Rattle.concurrent_lru.specs.Representation.{as_idle, held_entry, GetsEntry};
-ghost use Rattle.concurrent_lru.specs.Entries.{cache_of, charges_of, ContainsEntry, ContainsNoStamp, ContainsNoKey, IsPlaceOfKey, ContainsPlace, ContainsIdleAt, ContainsHeldAt, ContainsFoundAt, GetsAt, LacksMakingAt, IsReadyAt, ReadiesAt, Rewrites, RevivesAt, RestsAt, AddsOverHeld, AddsOverIdle, pins_at, value_at, held_with_pins, new_held};
+ghost use Rattle.concurrent_lru.specs.Representation.{as_idle, GetsEntry};
+ghost use Rattle.concurrent_lru.specs.Entries.{cache_of, charges_of, ContainsNoStamp, ContainsNoKey, IsPlaceOfKey, ContainsPlace, ContainsIdleAt, ContainsHeldAt, ContainsFoundAt, GetsAt, LacksMakingAt, IsReadyAt, ReadiesAt, Rewrites, RevivesAt, RestsAt, AddsOverHeld, AddsOverIdle, pins_at, value_at, held_with_pins, new_held};
 ghost use Rattle.concurrent_lru.specs.KeyHashes.{IsHashOf};
 ghost use Rattle.concurrent_lru.specs.Reads.{RenewsAt};
 ghost use Rattle.concurrent_lru.specs.StampIndex.{keeps_map, mapped_place, HasRoomFor};
-ghost use Rattle.concurrent_lru.specs.Steps.{without, held_in_phase, held_detached};
-ghost use Rattle.concurrent_lru.specs.TakeAll.{TakesHeld, TakesHeldAt};
+ghost use Rattle.concurrent_lru.specs.Steps.{held_in_phase, held_detached};
 
 mod key_hashes;
+mod removals;
 mod spot;
 mod stamp_index;
 mod word_hasher;
 
 pub use self::key_hashes::{KeyHash, seed_of_shard};
 pub use self::spot::{Hint, Spot};
-use crate::eviction::{Evicted, reverse};
 use crate::list::{Cursor, Node, Nodes, Phase, Place, Refusal};
 use crate::table::stamp_index::StampIndex;
 use std::alloc::Global;
@@ -380,12 +379,12 @@ impl<K: Hash + Eq + Clone, V: Drop> Table<K, V> {
 
     /// Removes the pins of a ready entry, which becomes the newest idle one. Takes no memory.
     #[inline(always)]
-    pub fn rest(&mut self, place: Place, near: Cursor)
+    pub fn make_idle(&mut self, place: Place, near: Cursor)
         requires { IsReadyAt self.old place }
         ensures { RestsAt self.old place self.new }
     {
         let charge = self.nodes.node_near(place, near).charge;
-        self.nodes.rest(place, near);
+        self.nodes.make_idle(place, near);
         self.idle_charge += charge;
     }
 
@@ -396,120 +395,6 @@ impl<K: Hash + Eq + Clone, V: Drop> Table<K, V> {
         ensures value { value_at self.new place ≡ value_at self.old place }
     {
         self.nodes.renew(place, near);
-    }
-
-    /// Removes a held entry. Takes no memory.
-    pub fn take_held(&mut self, place: Place) -> Box<Node<K, V>>
-        requires { ContainsHeldAt self.old place }
-        ensures at { map.get self.old.stamps place ≡ Some (entry_of result.value).stamp }
-        ensures entry { map.get self.old.held (entry_of result.value).stamp
-            ≡ Some (held_entry (entry_of result.value)) }
-        ensures alone { chain_of result.value ≡ [] }
-        ensures idle { self.new.idle ≡ self.old.idle }
-        ensures held { self.new.held ≡ map.remove self.old.held (entry_of result.value).stamp }
-        ensures stamps { self.new.stamps ≡ map.remove self.old.stamps place }
-        ensures work { self.new.work ≡ self.old.work }
-    {
-        take_away(&mut self.nodes, &mut self.by_stamp, &mut self.total, place)
-    }
-
-    /// Removes an idle entry. Takes no memory.
-    pub fn evict(&mut self, place: Place) -> Box<Node<K, V>>
-        requires { ContainsIdleAt self.old place }
-        ensures at { map.get self.old.stamps place ≡ Some (entry_of result.value).stamp }
-        ensures ready { IsSome (as_idle (entry_of result.value)) }
-        ensures entry { idle_at (cache_of self.old) (entry_of result.value).stamp
-            ≡ as_idle (entry_of result.value) }
-        ensures alone { chain_of result.value ≡ [] }
-        ensures idle { self.new.idle ≡ without (entry_of result.value).stamp self.old.idle }
-        ensures held { self.new.held ≡ self.old.held }
-        ensures stamps { self.new.stamps ≡ map.remove self.old.stamps place }
-        ensures work { self.new.work ≡ self.old.work + 1 }
-    {
-        self.nodes.remove(place);
-        let node = take_away(&mut self.nodes, &mut self.by_stamp, &mut self.total, place);
-        self.idle_charge -= node.charge;
-        node
-    }
-
-    /// Removes every held entry, including detached ones, if no entry is idle. Returns those that
-    /// have a value, in an unspecified order, and drops the others. Takes no memory.
-    pub fn take_each_held(&mut self) -> Evicted<K, V>
-        requires { self.old.idle ≡ [] }
-        ensures taken { TakesHeld self.old.held result }
-        ensures idle { self.new.idle ≡ [] }
-        ensures held { self.new.held ≡ map.empty }
-        ensures work { self.new.work ≡ self.old.work }
-    {
-        let mut taken = Evicted::none();
-        for number in 0..self.nodes.end_of_places() {
-            if let Some(node) = self.take_held_at(Place::at(number)) {
-                taken.push_front(node);
-            }
-        }
-        taken
-    }
-
-    // Removes the held entry at a place, if there is one. No entry is idle.
-    fn take_held_at(&mut self, place: Place) -> Option<Box<Node<K, V>>>
-        requires { self.old.idle ≡ [] }
-        ensures taken { MatchOption result ((map.get self.old.stamps place ≡ None)
-            × (self.new ≡ self.old)) (λ node. TakesHeldAt self.old place (entry_of node.value)
-            self.new) }
-        ensures alone { IfSome result (λ node. chain_of node.value ≡ []) }
-    {
-        if self.nodes.contains(place) {
-            return Some(self.take_held(place));
-        }
-        None
-    }
-
-    // Removes the oldest idle entry, if there is one.
-    fn evict_oldest(&mut self) -> Option<Box<Node<K, V>>>
-        ensures held { self.new.held ≡ self.old.held }
-        ensures idle { MatchOption result ((self.old.idle ≡ []) × (self.new.idle ≡ []))
-            (λ node. self.old.idle ≡ filter_map as_idle (entry_of node.value ∷ [])
-            ++ self.new.idle) }
-        ensures ready { IfSome result (λ node. IsSome (as_idle (entry_of node.value))) }
-        ensures alone { IfSome result (λ node. chain_of node.value ≡ []) }
-        ensures work { MatchOption result (self.new.work ≡ self.old.work)
-            (λ _. self.new.work ≡ self.old.work + 1) }
-    {
-        let place = self.nodes.oldest()?;
-        Some(self.evict(place))
-    }
-
-    /// Evicts the oldest idle entries until the total is at most the capacity or none is left.
-    #[inline(always)]
-    pub fn settle(&mut self, capacity: u64) -> Evicted<K, V>
-        ensures held { self.new.held ≡ self.old.held }
-        ensures front { IsFront (charges_of self.old) capacity self.old.idle result self.new.idle }
-        ensures work { self.new.work ≡ self.old.work + length result }
-    {
-        if self.total() <= capacity {
-            return Evicted::none();
-        }
-        self.evict_down_to(capacity)
-    }
-
-    // Evicts from a table whose total is above the capacity.
-    #[inline(never)]
-    fn evict_down_to(&mut self, capacity: u64) -> Evicted<K, V>
-        ensures held { self.new.held ≡ self.old.held }
-        ensures front { IsFront (charges_of self.old) capacity self.old.idle result self.new.idle }
-        ensures work { self.new.work ≡ self.old.work + length result }
-    {
-        let mut newest_first = None;
-        while self.total() > capacity {
-            match self.evict_oldest() {
-                None => break,
-                Some(mut node) => {
-                    node.next = newest_first;
-                    newest_first = Some(node);
-                }
-            }
-        }
-        reverse(newest_first)
     }
 }
 

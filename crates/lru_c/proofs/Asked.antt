@@ -8,8 +8,8 @@ use Rattle.concurrent_lru.specs.Request as ask
 use Rattle.concurrent_lru.specs.Request.{Request}
 use Rattle.concurrent_lru.specs.Results.{reply_of_begun, reply_of_failed, reply_of_found}
 use Rattle.concurrent_lru.specs.Runs.{accepted, refused, Stands}
-use Rattle.concurrent_lru.specs.declared.list.Refusal.{Refusal}
-use Rattle.concurrent_lru.specs.declared.list.Refusal.TheVariants.{Memory, Overflow, Stale}
+use Rattle.concurrent_lru.specs.declared.refusal.Refusal.{Refusal}
+use Rattle.concurrent_lru.specs.declared.refusal.Refusal.TheVariants.{Memory, Overflow, Stale}
 use Rattle.concurrent_lru.specs.declared.step.Begun.{Begun}
 use Rattle.concurrent_lru.specs.declared.step.Begun.TheVariants as begun
 use Rattle.concurrent_lru.specs.declared.step.Failed.{Failed}

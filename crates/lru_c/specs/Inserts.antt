@@ -3,7 +3,7 @@
 use Rattle.std.specs.Prelude.{◌≡◌, ◌⊎◌, ◌==◌, ℕ, Bool, List, [], MatchBool}
 use Rattle.concurrent_lru.specs.Cache.{Cache, Idle, IsLawful}
 use Rattle.concurrent_lru.specs.Inserts.{Replaces, RefusesToReplace}
-use Rattle.concurrent_lru.specs.declared.list.Refusal.{Refusal}
+use Rattle.concurrent_lru.specs.declared.refusal.Refusal.{Refusal}
 use Rattle.lru_c.specs.Codes as code
 use Rattle.lru_c.specs.Told.{bare, refusal_code, told}
 use Rattle.lru_c.specs.declared.told.LruTold.{LruTold}

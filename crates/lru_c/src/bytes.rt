@@ -463,7 +463,7 @@ pub extern "C" fn lru_bytes_evicted_free(chain: &mut LruBytesEvicted) -> u32
     chain_calls::free(chain)
 }
 
-/// Takes the oldest entry out of a chain. False where none is left, or the chain is not open.
+/// Takes the first entry out of a chain. Returns false if none is left or the chain is not open.
 #[unsafe(no_mangle)]
 pub extern "C" fn lru_bytes_evicted_pop(chain: &mut LruBytesEvicted, out: &mut LruGone) -> bool
     ensures stays { is_some chain.new.chain.held ≡ is_some chain.old.chain.held }

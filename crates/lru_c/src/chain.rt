@@ -29,7 +29,7 @@ impl<K: Drop> Chain<K> {
         code::DONE
     }
 
-    // Takes the oldest entry out.
+    // Takes the first entry out.
     pub(crate) fn pop(&mut self) -> Option<LruGone>
         ensures { Pops (self.old.first ++ self.old.rest) result (self.new.first ++ self.new.rest) }
     {

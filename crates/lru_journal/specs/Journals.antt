@@ -9,8 +9,8 @@ use Rattle.concurrent_lru.specs.Reads.{Reads}
 use Rattle.concurrent_lru.specs.Reply as say
 use Rattle.concurrent_lru.specs.Runs.{Outcome, accepted, refused, Refuses}
 use Rattle.concurrent_lru.specs.Steps.{Step}
-use Rattle.concurrent_lru.specs.declared.list.Refusal.{Refusal}
-use Rattle.concurrent_lru.specs.declared.list.Refusal.TheVariants.{Memory}
+use Rattle.concurrent_lru.specs.declared.refusal.Refusal.{Refusal}
+use Rattle.concurrent_lru.specs.declared.refusal.Refusal.TheVariants.{Memory}
 use Rattle.lru_journal.specs.Records.{Answered, record_of}
 use Rattle.lru_journal.specs.Replay.{no_value, without_values, told_of, told_of_found, start, Replays}
 use Rattle.lru_journal.specs.Values.{request_by}

@@ -11,7 +11,7 @@ use Rattle.concurrent_lru.specs.Inserts.{Remakes, RefusesToReplace}
 use Rattle.concurrent_lru.specs.NodeTable.{Entry}
 use Rattle.concurrent_lru.specs.Representation.{as_idle, held_entry}
 use Rattle.concurrent_lru.specs.Entries.{Entries, AddsOverHeld, AddsOverIdle, GetsAt, cache_with, charges_of}
-use Rattle.concurrent_lru.specs.declared.list.Refusal.TheVariants.{Memory, Overflow}
+use Rattle.concurrent_lru.specs.declared.refusal.Refusal.TheVariants.{Memory, Overflow}
 use Rattle.concurrent_lru.specs.declared.table.spot.Hint.{Hint}
 use Rattle.concurrent_lru.proofs.Entries.EntryAtPlace.{seen_ready, idle_here}
 use Rattle.concurrent_lru.proofs.Entries.StepsOfEntries.{makes, detaches, drops}

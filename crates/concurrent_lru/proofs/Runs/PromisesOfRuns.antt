@@ -1,4 +1,4 @@
--- What every run promises: what plain runs leave, with changes of capacity and removals and without,
+-- What every run promises: what plain runs leave, with and without changes of capacity and removals,
 -- and that each stamp stands once.
 use Rattle.std.proofs.Common.{◌≡◌, ℕ, ◌<◌, ◌≤◌, ◌↔◌, inl, inr, Bool, true, false, List, [], ◌∷◌, ◌++◌, length, map, refl, sym, ap, ◌∙◌, subst, arith}
 use Rattle.std.specs.List.{zip, sum_by, list_any, AllByRecursion}

@@ -422,6 +422,6 @@ module _ {K V : Type 0} (E : K → K → Bool) where
             let b : sum_by (stamp_count_in_outcome s) es + stamp_count_in_cache new s ≡ 1 = rest.3 s k l in omega (arith, c, b, z)),
       )
     where
-      untold : (s : ℕ) (r : Request K V) (f : Rattle.concurrent_lru.specs.declared.list.Refusal.Refusal) → stamp_count_in_outcome s (r, refused f) ≡ 0
+      untold : (s : ℕ) (r : Request K V) (f : Rattle.concurrent_lru.specs.declared.refusal.Refusal.Refusal) → stamp_count_in_outcome s (r, refused f) ≡ 0
       untold s (ask.fail t) f = refl
       untold s _ f = refl

@@ -10,7 +10,7 @@ use Rattle.concurrent_lru.specs.Request.{Request}
 use Rattle.concurrent_lru.specs.Runs.{Outcome, refused, Stands, Run}
 use Rattle.concurrent_lru.specs.Sharded.{Sharded}
 use Rattle.concurrent_lru.specs.Parts.{part, StandsAt, RunsApart}
-use Rattle.concurrent_lru.specs.declared.list.Refusal.{Refusal}
+use Rattle.concurrent_lru.specs.declared.refusal.Refusal.{Refusal}
 use Rattle.concurrent_lru.proofs.Steps.EmptyCache.{empty_lawful}
 use Rattle.concurrent_lru.proofs.Runs.CutAndJoined.{Run-push}
 

@@ -6,7 +6,7 @@ use Rattle.concurrent_lru.specs.Cache.{Cache}
 use Rattle.concurrent_lru.specs.Counted.{Counted, caches_in}
 use Rattle.concurrent_lru.specs.Reads.{Finds, FindsAt, Reads, ReadsAt}
 use Rattle.concurrent_lru.specs.Sharded.{Sharded}
-use Rattle.concurrent_lru.specs.declared.list.Refusal.{Refusal}
+use Rattle.concurrent_lru.specs.declared.refusal.Refusal.{Refusal}
 
 module _ {K V S : Type 0} (E : K → K → Bool) (old : Sharded K V S) (hasher : S) (cs : List (Counted K V)) (i j : ℕ) (was : Counted K V) (is : record { hasher = hasher; caches = caches_in cs } ≡ old) (same : i ≡ j) (within : i < length old.caches) (at : was ≡ slice_index_or cs i was) where
   inside : i < length cs

@@ -15,8 +15,8 @@ use Rattle.concurrent_lru.specs.Results.{outcome_of_insert, outcome_of_read, out
 use Rattle.concurrent_lru.specs.Runs.{Refuses, Stands}
 use Rattle.concurrent_lru.specs.StepLaws.{InsertIsThree, InsertIsRefused, ReadIsTwo}
 use Rattle.concurrent_lru.specs.Steps.{held_by_one, held_in_phase, one_more_pin, Hits, Holds, IsAbsent, Makes, Releases, Step, Stores}
-use Rattle.concurrent_lru.specs.declared.list.Refusal.{Refusal}
-use Rattle.concurrent_lru.specs.declared.list.Refusal.TheVariants.{Memory, Overflow, Stale}
+use Rattle.concurrent_lru.specs.declared.refusal.Refusal.{Refusal}
+use Rattle.concurrent_lru.specs.declared.refusal.Refusal.TheVariants.{Memory, Overflow, Stale}
 use Rattle.concurrent_lru.specs.declared.step.Inserted.{Inserted}
 use Rattle.concurrent_lru.proofs.AddedUp.SizesOfSteps.{hit_size}
 use Rattle.concurrent_lru.proofs.Entries.NodesOfSetAndAdd.{inserted_at}

@@ -19,8 +19,8 @@ use Rattle.concurrent_lru.specs.Results.{outcome_of_begin, outcome_of_poll, outc
 use Rattle.concurrent_lru.specs.Runs.{Outcome, accepted, refused, Refuses, Stands}
 use Rattle.concurrent_lru.specs.Steps.{with_capacity, with_held, without_held, without, one_more_pin, one_pin_less, held_in_phase, held_by_one, idle_again, Makes, Joins, Revives, Hits, ChangesPhase, Leaves, Removes, Rests, Drops, held_detached}
 use Rattle.concurrent_lru.specs.ThreadedCalls.{IfHit}
-use Rattle.concurrent_lru.specs.declared.list.Refusal.{Refusal}
-use Rattle.concurrent_lru.specs.declared.list.Refusal.TheVariants.{Stale}
+use Rattle.concurrent_lru.specs.declared.refusal.Refusal.{Refusal}
+use Rattle.concurrent_lru.specs.declared.refusal.Refusal.TheVariants.{Stale}
 use Rattle.concurrent_lru.specs.declared.step.Begun.{Begun}
 use Rattle.concurrent_lru.specs.declared.step.Begun.TheVariants as rust
 use Rattle.concurrent_lru.specs.declared.table.spot.Hint.{Hint}

@@ -9,8 +9,8 @@ use Rattle.concurrent_lru.specs.Reply.{Reply}
 use Rattle.concurrent_lru.specs.Runs.{IsFull, WouldHit, Overflows, IsStale, TakesMemory, Refuses}
 use Rattle.concurrent_lru.specs.Steps.{HasNumbers, Hits, IsUnready, Step}
 use Rattle.concurrent_lru.specs.StepLaws.{LeavesNoStep, OneRefusal}
-use Rattle.concurrent_lru.specs.declared.list.Refusal.{Refusal}
-use Rattle.concurrent_lru.specs.declared.list.Refusal.TheVariants.{Memory, Overflow, Stale}
+use Rattle.concurrent_lru.specs.declared.refusal.Refusal.{Refusal}
+use Rattle.concurrent_lru.specs.declared.refusal.Refusal.TheVariants.{Memory, Overflow, Stale}
 use Rattle.concurrent_lru.proofs.Steps.OneAnswer.{not_ready_too, same_entry, held_once, invalidates_once, not_both, not_held, not_idle}
 use Rattle.concurrent_lru.proofs.Steps.CasesOfSteps.{begin_cases, poll_cases, ready_cases, fail_cases, get_cases, release_cases, insert_cases, read_cases}
 

@@ -8,7 +8,7 @@ use Rattle.concurrent_lru.specs.Reply.{Reply}
 use Rattle.concurrent_lru.specs.Results.{IsCharged}
 use Rattle.concurrent_lru.specs.Runs.{Outcome, accepted, refused, Stands}
 use Rattle.concurrent_lru.specs.Steps.{Makes, Hits, Releases, Invalidates, Stores, Step}
-use Rattle.concurrent_lru.specs.declared.list.Refusal.{Refusal}
+use Rattle.concurrent_lru.specs.declared.refusal.Refusal.{Refusal}
 use Rattle.concurrent_lru.specs.StepLaws.{capacity_by, KeepsLimits, KeepsLawful, RunsKeepLawful}
 use Rattle.concurrent_lru.proofs.Steps.BeginOfAbsent.{makes_lawful}
 use Rattle.concurrent_lru.proofs.Steps.LawfulAfterLeaving.{removes_lawful, ends_lawful, drops_lawful, prunes_lawful}

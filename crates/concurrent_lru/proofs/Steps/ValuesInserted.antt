@@ -9,7 +9,7 @@ use Rattle.concurrent_lru.specs.Reply as say
 use Rattle.concurrent_lru.specs.Runs.{accepted, Stands}
 use Rattle.concurrent_lru.specs.Ready.{EqualKeysFit, HasEqualKeyAt, ValuesFit}
 use Rattle.concurrent_lru.specs.Inserts.{Replaces, RefusesToReplace}
-use Rattle.concurrent_lru.specs.declared.list.Refusal.TheVariants.{Stale}
+use Rattle.concurrent_lru.specs.declared.refusal.Refusal.TheVariants.{Stale}
 use Rattle.concurrent_lru.proofs.Entries.NodesOfSetAndAdd.{inserted_at}
 use Rattle.concurrent_lru.proofs.Steps.InsertOfKey.{made, made_holds}
 use Rattle.concurrent_lru.proofs.Steps.StaysLawful.{keeps_limits, outcome_lawful}

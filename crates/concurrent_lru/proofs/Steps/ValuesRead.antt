@@ -6,8 +6,8 @@ use Rattle.concurrent_lru.specs.Ready.{EqualKeysFit, ValuesFit}
 use Rattle.concurrent_lru.specs.Reads.{Finds, Reads}
 use Rattle.concurrent_lru.specs.Reply as say
 use Rattle.concurrent_lru.specs.Runs.{accepted, refused}
-use Rattle.concurrent_lru.specs.declared.list.Refusal.{Refusal}
-use Rattle.concurrent_lru.specs.declared.list.Refusal.TheVariants.{Overflow}
+use Rattle.concurrent_lru.specs.declared.refusal.Refusal.{Refusal}
+use Rattle.concurrent_lru.specs.declared.refusal.Refusal.TheVariants.{Overflow}
 use Rattle.concurrent_lru.proofs.Steps.ReadyValues.{hits_ready, kept_for, get_kept, release_kept}
 
 module _ {K V : Type 0} (E : K → K → Bool) (fits : K → V → Type 0) (old : Cache K V) (k : K) (kept : ValuesFit fits old) where

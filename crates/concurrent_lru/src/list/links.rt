@@ -53,7 +53,7 @@ impl<K: Drop, V: Drop> Order<K, V> {
 
     // Removes the pins of the node in a slot and makes it the newest idle one, with one lookup.
     #[inline(always)]
-    pub(super) fn rest(&mut self, slot: usize, near: Cursor)
+    pub(super) fn make_idle(&mut self, slot: usize, near: Cursor)
         requires linked { IsWellLinked self.old }
         requires listed { IsListed self.old.slots }
         requires present { HasNode self.old.slots slot }

@@ -8,7 +8,7 @@ ghost use Rattle.concurrent_lru.specs.Results.{outcome_of_read, request_of, outc
 ghost use Rattle.concurrent_lru.specs.Runs.{Stands, Run};
 ghost use Rattle.concurrent_lru.specs.WholeRuns.{KeepsStamps, LeavesFitted, LeavesTail};
 
-use crate::lru_core::{Answer, Begun, Failed, Inserted, Refusal, State, Step};
+use crate::lru_core::{Answer, Refusal, State, Step};
 use std::hash::Hash;
 use std::sync::Arc;
 

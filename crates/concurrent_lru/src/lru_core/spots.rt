@@ -242,7 +242,7 @@ impl<K: Hash + Eq + Clone, V: Drop> State<K, V> {
         if detached {
             return Ok(Evicted::one(self.table.take_held(place)));
         }
-        self.table.rest(place, near);
+        self.table.make_idle(place, near);
         Ok(self.table.settle(self.capacity))
     }
 

@@ -8,8 +8,8 @@ use Rattle.concurrent_lru.specs.Request as ask
 use Rattle.concurrent_lru.specs.Reply as say
 use Rattle.concurrent_lru.specs.Reply.{Reply}
 use Rattle.concurrent_lru.specs.Steps.{Releases, Step}
-use Rattle.concurrent_lru.specs.declared.list.Refusal.{Refusal}
-use Rattle.concurrent_lru.specs.declared.list.Refusal.TheVariants.{Memory}
+use Rattle.concurrent_lru.specs.declared.refusal.Refusal.{Refusal}
+use Rattle.concurrent_lru.specs.declared.refusal.Refusal.TheVariants.{Memory}
 use Rattle.lru_journal.specs.Journals.{Journaled, IsSoundJournal, JournalsRead}
 use Rattle.lru_journal.specs.Records.{Answered, record_of}
 use Rattle.lru_journal.specs.Replay.{told_of, told_of_found}

@@ -13,8 +13,8 @@ use Rattle.concurrent_lru.specs.Reply.{Reply}
 use Rattle.concurrent_lru.specs.Results.{reply_of_begun, reply_of_failed, reply_of_found}
 use Rattle.concurrent_lru.specs.Runs.{Outcome, refused, accepted, Refuses}
 use Rattle.concurrent_lru.specs.Steps.{Step}
-use Rattle.concurrent_lru.specs.declared.list.Refusal.{Refusal}
-use Rattle.concurrent_lru.specs.declared.list.Refusal.TheVariants.{Memory}
+use Rattle.concurrent_lru.specs.declared.refusal.Refusal.{Refusal}
+use Rattle.concurrent_lru.specs.declared.refusal.Refusal.TheVariants.{Memory}
 use Rattle.concurrent_lru.specs.declared.step.Begun.{Begun}
 use Rattle.concurrent_lru.specs.declared.step.Begun.TheVariants as begun
 use Rattle.concurrent_lru.specs.declared.step.Failed.{Failed}

@@ -43,7 +43,7 @@ impl<'a, K: Hash + Eq + Clone, V: Drop> Step<K, V> for Begin<'a, K> {
     type Refused = Refusal;
 
     ghost use Rattle.std.specs.Prelude.{◌≢◌};
-    ghost use Rattle.concurrent_lru.specs.declared.list.Refusal.TheVariants.{Stale};
+    ghost use Rattle.concurrent_lru.specs.declared.refusal.Refusal.TheVariants.{Stale};
     ghost use Rattle.lru_journal.specs.Records.{record_of};
     ghost use Rattle.lru_journal.specs.Replay.{told_of_begun, IsOfCopy};
     ghost use Rattle.concurrent_lru.specs.Request as ask;
@@ -69,7 +69,7 @@ impl<K: Hash + Eq + Clone, V: Drop> Step<K, V> for Poll {
     type Refused = Refusal;
 
     ghost use Rattle.std.specs.Prelude.{◌≡◌, ◌≢◌};
-    ghost use Rattle.concurrent_lru.specs.declared.list.Refusal.TheVariants.{Overflow};
+    ghost use Rattle.concurrent_lru.specs.declared.refusal.Refusal.TheVariants.{Overflow};
     ghost use Rattle.lru_journal.specs.Records.{record_of};
     ghost use Rattle.lru_journal.specs.Replay.{told_of_begun};
     ghost use Rattle.concurrent_lru.specs.Request as ask;
@@ -97,7 +97,7 @@ impl<K: Hash + Eq + Clone, V: Drop> Step<K, V> for Ready<V> {
 
     ghost use Rattle.std.specs.Prelude.{◌≡◌, ◌≢◌};
     ghost use Rattle.std.specs.Arc.{arc_value};
-    ghost use Rattle.concurrent_lru.specs.declared.list.Refusal.TheVariants.{Overflow};
+    ghost use Rattle.concurrent_lru.specs.declared.refusal.Refusal.TheVariants.{Overflow};
     ghost use Rattle.lru_journal.specs.Records.{record_of};
     ghost use Rattle.concurrent_lru.specs.Request as ask;
     ghost use Rattle.lru_journal.specs.declared.record.Told.TheVariants.{Done};
@@ -123,7 +123,7 @@ impl<K: Hash + Eq + Clone, V: Drop> Step<K, V> for Fail {
     type Refused = Refusal;
 
     ghost use Rattle.std.specs.Prelude.{◌≡◌, ◌≢◌};
-    ghost use Rattle.concurrent_lru.specs.declared.list.Refusal.TheVariants.{Overflow};
+    ghost use Rattle.concurrent_lru.specs.declared.refusal.Refusal.TheVariants.{Overflow};
     ghost use Rattle.lru_journal.specs.Records.{record_of};
     ghost use Rattle.lru_journal.specs.Replay.{told_of_failed};
     ghost use Rattle.concurrent_lru.specs.Request as ask;
@@ -149,7 +149,7 @@ impl<'a, K: Hash + Eq + Clone, V: Drop> Step<K, V> for Get<'a, K> {
     type Refused = Refusal;
 
     ghost use Rattle.std.specs.Prelude.{◌≢◌};
-    ghost use Rattle.concurrent_lru.specs.declared.list.Refusal.TheVariants.{Stale};
+    ghost use Rattle.concurrent_lru.specs.declared.refusal.Refusal.TheVariants.{Stale};
     ghost use Rattle.lru_journal.specs.Records.{record_of};
     ghost use Rattle.lru_journal.specs.Replay.{told_of_found, IsOfCopy};
     ghost use Rattle.concurrent_lru.specs.Request as ask;
@@ -175,7 +175,7 @@ impl<K: Hash + Eq + Clone, V: Drop> Step<K, V> for Release {
     type Refused = Refusal;
 
     ghost use Rattle.std.specs.Prelude.{◌≡◌, ◌≢◌};
-    ghost use Rattle.concurrent_lru.specs.declared.list.Refusal.TheVariants.{Overflow};
+    ghost use Rattle.concurrent_lru.specs.declared.refusal.Refusal.TheVariants.{Overflow};
     ghost use Rattle.lru_journal.specs.Records.{record_of};
     ghost use Rattle.concurrent_lru.specs.Request as ask;
     ghost use Rattle.lru_journal.specs.declared.record.Told.TheVariants.{Done};
@@ -201,7 +201,7 @@ impl<'a, K: Hash + Eq + Clone, V: Drop> Step<K, V> for AdviceEvict<'a, K> {
     type Refused = Refusal;
 
     ghost use Rattle.std.specs.Prelude.{◌≡◌};
-    ghost use Rattle.concurrent_lru.specs.declared.list.Refusal.TheVariants.{Memory};
+    ghost use Rattle.concurrent_lru.specs.declared.refusal.Refusal.TheVariants.{Memory};
     ghost use Rattle.lru_journal.specs.Records.{record_of};
     ghost use Rattle.lru_journal.specs.Replay.{IsOfCopy};
     ghost use Rattle.concurrent_lru.specs.Request as ask;
@@ -228,7 +228,7 @@ impl<'a, K: Hash + Eq + Clone, V: Drop> Step<K, V> for Invalidate<'a, K> {
     type Refused = Refusal;
 
     ghost use Rattle.std.specs.Prelude.{◌≡◌};
-    ghost use Rattle.concurrent_lru.specs.declared.list.Refusal.TheVariants.{Memory};
+    ghost use Rattle.concurrent_lru.specs.declared.refusal.Refusal.TheVariants.{Memory};
     ghost use Rattle.lru_journal.specs.Records.{record_of};
     ghost use Rattle.lru_journal.specs.Replay.{IsOfCopy};
     ghost use Rattle.concurrent_lru.specs.Request as ask;
@@ -258,7 +258,7 @@ impl<'a, K: Hash + Eq + Clone, V: Drop> Step<K, V> for Insert<'a, K, V> {
     type Refused = (Refusal, Arc<V>);
 
     ghost use Rattle.std.specs.Prelude.{◌≡◌, ◌≢◌};
-    ghost use Rattle.concurrent_lru.specs.declared.list.Refusal.TheVariants.{Stale};
+    ghost use Rattle.concurrent_lru.specs.declared.refusal.Refusal.TheVariants.{Stale};
     ghost use Rattle.lru_journal.specs.Records.{record_of};
     ghost use Rattle.lru_journal.specs.Replay.{IsOfCopy};
     ghost use Rattle.concurrent_lru.specs.Request as ask;
@@ -283,7 +283,7 @@ impl<K: Hash + Eq + Clone, V: Drop> Step<K, V> for Prune {
     type Refused = Refusal;
 
     ghost use Rattle.std.specs.Prelude.{◌≡◌};
-    ghost use Rattle.concurrent_lru.specs.declared.list.Refusal.TheVariants.{Memory};
+    ghost use Rattle.concurrent_lru.specs.declared.refusal.Refusal.TheVariants.{Memory};
     ghost use Rattle.lru_journal.specs.Records.{record_of};
     ghost use Rattle.concurrent_lru.specs.Request as ask;
     ghost use Rattle.lru_journal.specs.declared.record.Told.TheVariants.{Done};
@@ -309,7 +309,7 @@ impl<K: Hash + Eq + Clone, V: Drop> Step<K, V> for SetCapacity {
     type Refused = Refusal;
 
     ghost use Rattle.std.specs.Prelude.{◌≡◌};
-    ghost use Rattle.concurrent_lru.specs.declared.list.Refusal.TheVariants.{Memory};
+    ghost use Rattle.concurrent_lru.specs.declared.refusal.Refusal.TheVariants.{Memory};
     ghost use Rattle.lru_journal.specs.Records.{record_of};
     ghost use Rattle.concurrent_lru.specs.Request as ask;
     ghost use Rattle.lru_journal.specs.declared.record.Told.TheVariants.{Done};
@@ -333,7 +333,7 @@ impl<K: Hash + Eq + Clone, V: Drop> Step<K, V> for Total {
     type Refused = Refusal;
 
     ghost use Rattle.std.specs.Prelude.{◌≡◌};
-    ghost use Rattle.concurrent_lru.specs.declared.list.Refusal.TheVariants.{Memory};
+    ghost use Rattle.concurrent_lru.specs.declared.refusal.Refusal.TheVariants.{Memory};
     ghost use Rattle.lru_journal.specs.Records.{record_of};
     ghost use Rattle.concurrent_lru.specs.Request as ask;
     ghost use Rattle.lru_journal.specs.declared.record.Told.TheVariants.{Total};

@@ -51,8 +51,8 @@ returns-then-pins-gt1-clause-step g c =
 pub returns-then-pins-gt1-clause-lawful : goal.returns-then-pins-gt1-clause-lawful
 returns-then-pins-gt1-clause-lawful g c = leaves_lawful _ _ _ _ _ _ _ c.self.invariant.lawful (unpinned g c)
 
-pub rest-requires : goal.rest-requires
-rest-requires g c = ready_place c.node-node.ensures.entry c.in-Ready.field-0.value (ap phase_of c.in-Ready.is) c.if-pins-eq0.false c.if-detached.false
+pub make_idle-requires : goal.make_idle-requires
+make_idle-requires g c = ready_place c.node-node.ensures.entry c.in-Ready.field-0.value (ap phase_of c.in-Ready.is) c.if-pins-eq0.false c.if-detached.false
 
 one : (n : ℕ) → (n ≡ 0 → ⊥) → (1 < n → ⊥) → n ≡ 1
 one n some few = omega arith
@@ -75,8 +75,8 @@ returns-then-detached-clause-lawful g c = ends_lawful _ _ _ _ _ c.self.invariant
 rested : (g : _) (c : After-settle g) → Rests g.K.PartialEq.eq (cache_with c.self.inside.capacity c.self.inside.most_pins c.self.inside.next c.self.inside.table) c.args.spot.now.stamp c.settle.result (cache_with c.self.inside.capacity c.self.inside.most_pins c.self.inside.next c.settle.new.self)
 rested g c =
     let few = c.if-pins-gt1.false in
-    rests g.K.PartialEq.eq c.self.inside.capacity c.self.inside.most_pins c.self.inside.next c.node-node.ensures.entry c.rest.new.self c.settle.new.self c.args.spot.now.stamp c.settle.result c.in-Some.ensures
-    (one (entry_of c.node-node.result.now).pins c.if-pins-eq0.false (λ many. omega (arith, many, few))) c.rest.ensures c.settle.ensures.held c.settle.ensures.front
+    rests g.K.PartialEq.eq c.self.inside.capacity c.self.inside.most_pins c.self.inside.next c.node-node.ensures.entry c.make_idle.new.self c.settle.new.self c.args.spot.now.stamp c.settle.result c.in-Some.ensures
+    (one (entry_of c.node-node.result.now).pins c.if-pins-eq0.false (λ many. omega (arith, many, few))) c.make_idle.ensures c.settle.ensures.held c.settle.ensures.front
 
 pub invariant_of-self-2 : goal.invariant_of-self-2
 invariant_of-self-2 g c = record { lawful = rests_lawful _ _ _ _ _ c.self.invariant.lawful (rested g c); pins_above = c.self.invariant.pins_above }

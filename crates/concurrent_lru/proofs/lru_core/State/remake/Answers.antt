@@ -4,7 +4,7 @@ use Rattle.concurrent_lru.specs.Steps.{IsAbsent, Makes}
 use Rattle.concurrent_lru.specs.NodeTable.{entry_of}
 use Rattle.concurrent_lru.specs.Entries.{charges_of, cache_with}
 use Rattle.concurrent_lru.specs.Inserts.{Remakes, RefusesToReplace}
-use Rattle.concurrent_lru.specs.declared.list.Refusal.TheVariants.{Overflow}
+use Rattle.concurrent_lru.specs.declared.refusal.Refusal.TheVariants.{Overflow}
 use Rattle.concurrent_lru.proofs.Entries.EntryAtPlace.{key_is, found_is, found_here}
 use Rattle.concurrent_lru.proofs.Entries.StepsOfInserts as steps
 use Rattle.concurrent_lru.proofs.Steps.InsertOfKey.{begun_new, remade_refused}

@@ -5,7 +5,7 @@ use Rattle.concurrent_lru.specs.SlotPointers.{cells_of}
 use Rattle.concurrent_lru.proofs.Nodes.Listings.{then_keeps}
 use Rattle.concurrent_lru.proofs.Nodes.NodeWrites.{only_looked, only_wrote, then_writes}
 use Rattle.concurrent_lru.proofs.Nodes.SlotViews.{IsWritten, written}
-use Rattle.concurrent_lru.proofs.list.links.Order.rest.Goals as goal
+use Rattle.concurrent_lru.proofs.list.links.Order.make_idle.Goals as goal
 
 -- the node was looked up, and its pins removed
 rested : (g : _) (c : goal.After-push-arg-1 g) → IsWritten c.args.self.now (record c.args.self.now { slots = c.set_pins_by_link.new.self }) c.args.slot c.look_near-own.result (entry_with_pins 0)

@@ -9,44 +9,44 @@ use Rattle.concurrent_lru.proofs.Steps.Release.{pinned_writes}
 use Rattle.concurrent_lru.proofs.Entries.SetPinsAndRest.{stored_rested, entries_rested}
 use Rattle.concurrent_lru.proofs.Entries.ChargesOfIdle.{rest_bound}
 use Rattle.concurrent_lru.proofs.Entries.SumsOfCharges.{idle_more, sum_rested}
-use Rattle.concurrent_lru.proofs.table.Table.rest.Goals as goal
+use Rattle.concurrent_lru.proofs.table.Table.make_idle.Goals as goal
 
-pub rest-requires-clause-within : goal.rest-requires-clause-within
-rest-requires-clause-within g c = let h = subst (λ t. IsReadyAt t c.args.place) (sym c.self.view_is) c.requires in has_node c.self.invariant.stored c.args.place (h.stamp, h.at)
+pub make_idle-requires-clause-within : goal.make_idle-requires-clause-within
+make_idle-requires-clause-within g c = let h = subst (λ t. IsReadyAt t c.args.place) (sym c.self.view_is) c.requires in has_node c.self.invariant.stored c.args.place (h.stamp, h.at)
 
-pub rest-requires-clause-held : goal.rest-requires-clause-held
-rest-requires-clause-held g c =
+pub make_idle-requires-clause-held : goal.make_idle-requires-clause-held
+make_idle-requires-clause-held g c =
     let h = subst (λ t. IsReadyAt t c.args.place) (sym c.self.view_is) c.requires in
     let n = some_node c.self.invariant.stored c.args.place (h.stamp, h.at) in
     held_not_idle c.self.inside.nodes _ c.args.place n.0 c.self.invariant.stored.represents n.1 (ready_like c.self.invariant.stored c.args.place n.0 h n.1).0
 
 -- the charge of the entry joins those of the idle ones, and the sum of all stays
-more_idle : (g : _) (c : goal.After-self-1 g) → c.self.inside.idle_charge + (entry_of c.node_near.result.now).charge ≡ charges (entries_of c.rest.new.self).idle
+more_idle : (g : _) (c : goal.After-self-1 g) → c.self.inside.idle_charge + (entry_of c.node_near.result.now).charge ≡ charges (entries_of c.make_idle.new.self).idle
 more_idle g c =
     let h = subst (λ t. IsReadyAt t c.args.place) (sym c.self.view_is) c.requires in
     let l = ready_like c.self.invariant.stored c.args.place (entry_of c.node_near.result.now) h c.node_near.ensures.entry in
-    let nodes = pinned_writes c.self.inside.nodes c.rest.new.self c.args.place 0 _ c.node_near.ensures.entry c.rest.ensures.nodes in
-    let changed = entries_rested c.self.invariant.stored nodes refl refl h.value (c.rest.ensures.idle) l.0 refl l.1 (c.rest.ensures.work) in
-    let more = idle_more (entries_of c.self.inside.nodes) (entries_of c.rest.new.self) _ (ap (λ t. t.idle) changed) in
+    let nodes = pinned_writes c.self.inside.nodes c.make_idle.new.self c.args.place 0 _ c.node_near.ensures.entry c.make_idle.ensures.nodes in
+    let changed = entries_rested c.self.invariant.stored nodes refl refl h.value (c.make_idle.ensures.idle) l.0 refl l.1 (c.make_idle.ensures.work) in
+    let more = idle_more (entries_of c.self.inside.nodes) (entries_of c.make_idle.new.self) _ (ap (λ t. t.idle) changed) in
     let rests = c.self.invariant.rests in
     omega (arith, more, rests)
 
-sum_same : (g : _) (c : goal.After-self-1 g) → charges_of (entries_of c.rest.new.self) ≡ charges_of (entries_of c.self.inside.nodes)
+sum_same : (g : _) (c : goal.After-self-1 g) → charges_of (entries_of c.make_idle.new.self) ≡ charges_of (entries_of c.self.inside.nodes)
 sum_same g c =
     let h = subst (λ t. IsReadyAt t c.args.place) (sym c.self.view_is) c.requires in
     let l = ready_like c.self.invariant.stored c.args.place (entry_of c.node_near.result.now) h c.node_near.ensures.entry in
-    let nodes = pinned_writes c.self.inside.nodes c.rest.new.self c.args.place 0 _ c.node_near.ensures.entry c.rest.ensures.nodes in
-    let changed = entries_rested c.self.invariant.stored nodes refl refl h.value (c.rest.ensures.idle) l.0 refl l.1 (c.rest.ensures.work) in
-    sum_rested (entries_of c.self.inside.nodes) (entries_of c.rest.new.self) (entry_of c.node_near.result.now).stamp _ _ (ap (λ t. t.idle) changed) (ap (λ t. t.held) changed) (held_found c.self.invariant.stored c.args.place _ c.node_near.ensures.entry l.0) refl
+    let nodes = pinned_writes c.self.inside.nodes c.make_idle.new.self c.args.place 0 _ c.node_near.ensures.entry c.make_idle.ensures.nodes in
+    let changed = entries_rested c.self.invariant.stored nodes refl refl h.value (c.make_idle.ensures.idle) l.0 refl l.1 (c.make_idle.ensures.work) in
+    sum_rested (entries_of c.self.inside.nodes) (entries_of c.make_idle.new.self) (entry_of c.node_near.result.now).stamp _ _ (ap (λ t. t.idle) changed) (ap (λ t. t.held) changed) (held_found c.self.invariant.stored c.args.place _ c.node_near.ensures.entry l.0) refl
 
 pub invariant_of-self : goal.invariant_of-self
 invariant_of-self g c =
     let h = subst (λ t. IsReadyAt t c.args.place) (sym c.self.view_is) c.requires in
     let n = some_node c.self.invariant.stored c.args.place (h.stamp, h.at) in
     let l = ready_like c.self.invariant.stored c.args.place n.0 h n.1 in
-    let nodes = pinned_writes c.self.inside.nodes c.rest.new.self c.args.place 0 n.0 n.1 c.rest.ensures.nodes in
+    let nodes = pinned_writes c.self.inside.nodes c.make_idle.new.self c.args.place 0 n.0 n.1 c.make_idle.ensures.nodes in
     record {
-      stored = stored_rested c.self.invariant.stored nodes refl refl (c.rest.ensures.hashes) h.value (c.rest.ensures.idle) l.0 refl l.1 (ready_found c.self.invariant.stored c.args.place n.0 h n.1);
+      stored = stored_rested c.self.invariant.stored nodes refl refl (c.make_idle.ensures.hashes) h.value (c.make_idle.ensures.idle) l.0 refl l.1 (ready_found c.self.invariant.stored c.args.place n.0 h n.1);
       sums = c.self.invariant.sums ∙ sym (sum_same g c);
       rests = more_idle g c;
     }
@@ -56,7 +56,7 @@ returns g c =
     let h = subst (λ t. IsReadyAt t c.args.place) (sym c.self.view_is) c.requires in
     let n = some_node c.self.invariant.stored c.args.place (h.stamp, h.at) in
     let l = ready_like c.self.invariant.stored c.args.place n.0 h n.1 in
-    subst (λ t. RestsAt t c.args.place (entries_of c.rest.new.self)) c.self.view_is (record {
+    subst (λ t. RestsAt t c.args.place (entries_of c.make_idle.new.self)) c.self.view_is (record {
       was = record {
         stamp = n.0.stamp;
         entry = _;
@@ -66,7 +66,7 @@ returns g c =
         phase = l.1;
         found = ready_found c.self.invariant.stored c.args.place n.0 h n.1;
       };
-      changed = entries_rested c.self.invariant.stored (pinned_writes c.self.inside.nodes c.rest.new.self c.args.place 0 n.0 n.1 c.rest.ensures.nodes) refl refl h.value (c.rest.ensures.idle) l.0 refl l.1 (c.rest.ensures.work);
+      changed = entries_rested c.self.invariant.stored (pinned_writes c.self.inside.nodes c.make_idle.new.self c.args.place 0 n.0 n.1 c.make_idle.ensures.nodes) refl refl h.value (c.make_idle.ensures.idle) l.0 refl l.1 (c.make_idle.ensures.work);
     })
 
 pub node_near-requires : goal.node_near-requires
