@@ -3,6 +3,7 @@ ghost use Rattle.std.specs.Prelude.{◌<◌};
 
 use crate::bench::Bench;
 use crate::failure::Failure;
+use crate::hits::mix;
 use crate::operation::{Get, Init, Make, Read};
 use crate::plan::Mostly;
 use crate::size::Size;
@@ -49,6 +50,7 @@ impl<
         if size.has_misses() {
             let full = self.on_clock(entries, shards)?;
             workers::fill(&Make { cache: &full }, size.entries)?;
+            mix(&full, size)?;
             self.misses(&Make { cache: &full }, system, size)?;
         }
         Ok(())

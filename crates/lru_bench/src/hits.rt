@@ -118,9 +118,9 @@ impl<
     }
 }
 
-// Uses present keys as often as a workload does, which leaves the oldest entries anywhere in
-// memory.
-fn mix<C: Cached<u64>>(cache: C, size: &Size<'_>) -> Result<(), Failure> {
+/// Uses present keys as often as a workload does, so that the entries that leave first lie anywhere
+/// in memory.
+pub fn mix<C: Cached<u64>>(cache: C, size: &Size<'_>) -> Result<(), Failure> {
     let present = WorkloadKeys::Present(size.entries);
     workers::work(&Make { cache }, present, 0, size.plan.operations)?;
     Ok(())
