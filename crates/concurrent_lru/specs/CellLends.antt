@@ -1,4 +1,4 @@
--- What a `Memory` ends as, once a `&mut` to a value of it has ended.
+-- What a `Memory` owns once a `&mut` to one of its values has ended.
 use Rattle.std.specs.Borrow.{Fml, RattleType, MutBor, Lends}
 use denote.RawPtr.{Ptr}
 use Rattle.std.specs.declared.alloc.Allocator.{Ghosts}
@@ -6,7 +6,7 @@ use Rattle.concurrent_lru.specs.Cells.{write_to}
 use Rattle.concurrent_lru.specs.declared.list.memory.Memory.{Memory}
 use Rattle.concurrent_lru.specs.contracts.list.memory.Memory.{the_row}
 
--- the same memory with w as the first value that lies at p
+-- the memory with the first value at the pointer p replaced by w
 abbrev pub with_value : {T A : Type 0} → Memory T A → Ptr → T → Memory T A
 with_value m p w = record m { cells = write_to p w m.cells }
 

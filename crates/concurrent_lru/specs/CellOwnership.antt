@@ -1,4 +1,4 @@
--- What a `Memory` owns and lends: each value where it lies, and the right to free its block.
+-- What a `Memory` owns and lends: each value at its address, and the right to free its block.
 use Rattle.std.specs.Prelude.{List, [], ◌∷◌, Option, Some, None}
 use base.Fml.{Lft, Fml, ftrue, fsep}
 use mir.Syntax.{Ty}

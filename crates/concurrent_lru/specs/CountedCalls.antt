@@ -1,5 +1,5 @@
--- How each call on a cache changes its counts, by what it is asked and what it answers, and that
--- the counts add up.
+-- How each call on a cache changes its counts, depending on its request and outcome, and that the
+-- counts add up.
 use Rattle.std.specs.Prelude.{◌≡◌, ℕ, ◌+◌, ◌*◌, ◌<◌, ◌≤◌, ◌^◌, Bool, false, cond, List, length, ◌==◌, Option, Some, None, Result, Ok, Err, refl}
 use Rattle.std.specs.Option.{option_map_or}
 use Rattle.std.specs.Coded.{Coded, code_by, coded×}
@@ -15,25 +15,25 @@ use Rattle.concurrent_lru.specs.declared.refusal.Refusal.TheVariants.{Memory, Ov
 use Rattle.concurrent_lru.specs.declared.step.Begun.{Begun}
 use Rattle.concurrent_lru.specs.declared.step.Begun.TheVariants as begun
 
--- what lies under the lock of a cache: the cache, and the counts of its calls
+-- the state under the lock of a cache: the cache and the counts of its calls
 pub record LockedCache (K V : Type 0) : Type 0 where
   pub cache : Cache K V
   pub counts : Counts
 
 module _ {V : Type 0} where
-  -- what the answer of a begin does to the counts, where it is not refused
+  -- the counts after a begin with this answer, apart from an insertion
   abbrev counted_begun : Begun V → Counts → Counts
   counted_begun (begun.Make s) n = one_making (one_miss n)
   counted_begun (begun.Wait s) n = one_wait n
   counted_begun (begun.Hit s a) n = one_hit n
 
-  -- whether it is to make the value of the entry with this stamp
+  -- whether the answer is to make the value of the entry with this stamp
   abbrev has_stamp_to_make : Begun V → ℕ → Bool
   has_stamp_to_make (begun.Make s) t = s == t
   has_stamp_to_make (begun.Wait s) t = false
   has_stamp_to_make (begun.Hit s a) t = false
 
-  -- what a poll does to the counts by its answer
+  -- the counts after a poll with this result
   abbrev pub counted_poll : Result (Begun V) Refusal → Counts → Counts
   counted_poll (Ok (begun.Make s)) n = one_making n
   counted_poll (Ok (begun.Wait s)) n = n
@@ -46,22 +46,22 @@ module _ {K V : Type 0} where
   abbrev pub locked_cache_code : Coded K → Coded V → Coded (LockedCache K V)
   locked_cache_code k v = code_by (Cache K V × Counts) (coded× (cache_code k v) counts_code) (λ c. (c.cache, c.counts)) (λ p. record { cache = p.0; counts = p.1 }) (λ _. refl)
 
-  -- these entries more were evicted
+  -- the counts after these entries were evicted
   abbrev pub evicted : List (Idle K V) → Counts → Counts
   evicted out n = record n { evictions = n.evictions + length out; evicted_charge = n.evicted_charge + charges out }
 
-  -- an insert: these entries were replaced, one of this charge was inserted, and these were evicted
-  -- for it
+  -- the counts after an insert that replaced the entries old, added one of this charge, and evicted
+  -- the entries out to make room
   abbrev pub replaced : List (Idle K V) → List (Idle K V) → ℕ → Counts → Counts
   replaced old out charge n = evicted out (inserted charge (evicted old n))
 
-  -- the charge of the held entry with this stamp
+  -- the charge of the held entry with this stamp, or 0 if there is none
   abbrev pub held_charge : Cache K V → ℕ → ℕ
   held_charge c s = option_map_or (λ e. e.charge) (held_at c s) 0
 
-  -- What a call on the cache c does to the counts, by what it is asked and what it answers. A begin
-  -- that is answered the next stamp inserted an entry; one that is answered another stamp took a
-  -- failed making over.
+  -- The counts after a call on the cache c with this request and outcome. A begin that is to make
+  -- the value under the next stamp inserted an entry; under another stamp it took over a making
+  -- that failed.
   abbrev pub counted : Cache K V → Request K V → Outcome K V → Counts → Counts
   counted c (ask.begin k charge) (accepted (say.make s) out) n = cond (s == c.next) (evicted out (inserted charge (one_making (one_miss n)))) (one_making (one_miss n))
   counted c (ask.begin k charge) (accepted (say.wait s) out) n = one_wait n
@@ -86,33 +86,33 @@ module _ {K V : Type 0} where
   counted c (ask.set_capacity m) (accepted p out) n = evicted out n
   counted c _ _ n = n
 
-  -- What holds of the counts whenever the lock is got. The entries present are those before and
-  -- those inserted, less those evicted and those removed, and so are the charges. None of these
-  -- numbers is at its end.
+  -- What holds of the counts whenever the lock is acquired. The entries present are those before
+  -- and those inserted, less those evicted and those removed; the same holds of the charges. None
+  -- of these numbers overflows.
   pub record AddUp (c : Cache K V) (n : Counts) : Type 0 where
     pub entries : count_of c + n.evictions + n.removals ≡ entries_in n
     pub charge : sum_of c + n.evicted_charge + n.removed_charge ≡ charge_in n
-    -- each entry took a stamp, and a charge that fits a u64
+    -- each entry took a stamp, and its charge fits a u64
     pub stamps : c.next < 2 ^ 64
     pub entries_fit : entries_in n ≤ c.next
     pub charge_fits : charge_in n ≤ c.next * end_of_u64
 
-  -- what holds of a cache of one owner with its counts
+  -- what holds of a cache with one owner and of its counts
   pub record IsSoundlyCounted (E : K → K → Bool) (c : Cache K V) (n : Counts) : Type 0 where
     pub lawful : IsLawful E c
     pub adds_up : AddUp c n
 
-  -- what a begin does to the counts by its answer, apart from an insertion
+  -- the counts after a begin with this result, apart from an insertion
   abbrev pub counted_begin : Result (Begun V × List (Idle K V)) Refusal → Counts → Counts
   counted_begin (Ok r) n = counted_begun r.0 n
   counted_begin (Err e) n = one_refusal n
 
-  -- whether a begin with the next stamp at hand inserted an entry
+  -- whether a begin inserted an entry, that is, is to make the value under the next stamp
   abbrev pub is_insertion : Result (Begun V × List (Idle K V)) Refusal → ℕ → Bool
   is_insertion (Ok r) next = has_stamp_to_make r.0 next
   is_insertion (Err e) next = false
 
--- what a look for a value does to the counts, by its answer
+-- the counts after a lookup with this result
 abbrev pub counted_look : {T : Type 0} → Result (Option T) Refusal → Counts → Counts
 counted_look (Ok (Some t)) n = one_hit n
 counted_look (Ok None) n = one_miss n

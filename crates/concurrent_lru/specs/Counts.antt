@@ -1,18 +1,18 @@
--- Counts of what the calls of a cache did: one more of each kind, sums, and what is told of them.
+-- Counts of what the calls of a cache did: increments, sums, the hit ratio, and the printed line.
 use Rattle.std.specs.Prelude.{ℕ, ◌+◌, ◌-◌, ◌^◌, cond, List, [], ◌∷◌, ◌++◌, min, ◌==◌, Option, Some, None, codes, decimal, refl, pos, get_or}
 use Rattle.std.specs.Float.Ieee as float
 use Rattle.std.specs.Float.Ieee.{Float, binary64}
 use Rattle.std.specs.Coded.{Coded, code_by, coded_ℕ, coded_list}
 use Rattle.concurrent_lru.specs.declared.counts.Counts.{Counts}
 
--- the greatest number of a u64
+-- `u64::MAX` and `u128::MAX`
 abbrev pub end_of_u64 : ℕ
 end_of_u64 = 2 ^ 64 - 1
 
 abbrev pub end_of_u128 : ℕ
 end_of_u128 = 2 ^ 128 - 1
 
--- one more, but a count at its end stays there
+-- one more, saturating at the maximum
 abbrev pub one_more : ℕ → ℕ
 one_more n = min (n + 1) end_of_u64
 
@@ -34,14 +34,14 @@ one_making n = record n { makings = one_more n.makings }
 abbrev pub one_failure : Counts → Counts
 one_failure n = record n { failures = one_more n.failures }
 
--- one entry more was inserted, of this charge; one more was removed
+-- the counts after an entry of this charge was inserted; after one was removed
 abbrev pub inserted : ℕ → Counts → Counts
 inserted charge n = record n { insertions = n.insertions + 1; inserted_charge = n.inserted_charge + charge }
 
 abbrev pub removed : ℕ → Counts → Counts
 removed charge n = record n { removals = n.removals + 1; removed_charge = n.removed_charge + charge }
 
--- no calls yet, at a cache with so many entries of so much charge
+-- no calls yet, on a cache with this many entries of this total charge
 abbrev pub counts_from : ℕ → ℕ → Counts
 counts_from entries charge = record {
   hits = 0;
@@ -60,14 +60,14 @@ counts_from entries charge = record {
   charge_before = charge;
 }
 
--- the entries that were there before the counts began and those inserted since; their charge
+-- the entries present before counting began and those inserted since; their total charge
 abbrev pub entries_in : Counts → ℕ
 entries_in n = n.entries_before + n.insertions
 
 abbrev pub charge_in : Counts → ℕ
 charge_in n = n.charge_before + n.inserted_charge
 
--- the sum of two caches' counts, up to the ends of their types
+-- the sums of two caches' counts, saturating at the maxima of their types
 abbrev pub added : Counts → Counts → Counts
 added n m = record {
   hits = min (n.hits + m.hits) end_of_u64;
@@ -86,15 +86,15 @@ added n m = record {
   charge_before = min (n.charge_before + m.charge_before) end_of_u128;
 }
 
--- the part of so many that hit, where there are any
+-- the hit ratio of this many hits and lookups, if there were any lookups
 abbrev pub part_of : ℕ → ℕ → Option Float
 part_of hits asked = cond (asked == 0) None (Some (float.div binary64 (float.of_int binary64 (pos hits)) (float.of_int binary64 (pos asked))))
 
 abbrev pub hit_ratio_of : Counts → Option Float
 hit_ratio_of n = part_of n.hits (min (n.hits + n.misses) end_of_u64)
 
--- The line that `{}` prints: what calls found, what was refused and made, and how many entries
--- there are of each kind, with the sum of their charges.
+-- The line that `{}` prints: what calls found, what was refused and made, and for each kind of
+-- entry their number and their total charge.
 abbrev pub asked_text : Counts → List ℕ
 asked_text n = codes "hits " ++ (decimal n.hits ++ (codes ", misses " ++ (decimal n.misses ++ (codes ", waits " ++ decimal n.waits))))
 
@@ -113,7 +113,7 @@ counts_text n =
     ++ (entries_text (codes "removed") n.removals n.removed_charge
     ++ entries_text (codes "before") n.entries_before n.charge_before))))
 
--- counts as the list of their numbers
+-- the counts as a list of numbers
 abbrev numbers : Counts → List ℕ
 numbers n =
     n.hits ∷ n.misses ∷ n.waits ∷ n.refusals ∷ n.makings ∷ n.failures ∷ n.insertions ∷ n.evictions ∷ n.removals ∷ n.entries_before ∷ n.inserted_charge ∷ n.evicted_charge ∷ n.removed_charge ∷ n.charge_before ∷ []

@@ -1,5 +1,5 @@
--- What the calls under the lock return: each as an outcome of the abstract cache, and what its
--- debts were asked for.
+-- The results of the calls under the lock: each as an outcome of the abstract cache, and the key
+-- and charge that it is for.
 use Rattle.std.specs.Prelude.{◌≡◌, ℕ, [], Option, Some, None, Result, Ok, Err, ⊤}
 use Rattle.concurrent_lru.specs.CountedCalls.{LockedCache}
 use Rattle.concurrent_lru.specs.Pins.{PinOf}
@@ -33,8 +33,8 @@ module _ {K V F : Type 0} where
   outcome_of_locked_poll (poll.Refused unread) = refused Memory
   outcome_of_locked_poll poll.NoPin = refused Stale
 
-  -- the debts are of a caller that asked for this key, with this charge, from a call that left this
-  -- cache under the lock
+  -- the answer belongs to a caller that asked for this key and charge, in a call that left this
+  -- state under the lock
   abbrev pub AsksOnEntry : Entered K V F → K → ℕ → LockedCache K V → Type 0
   AsksOnEntry (enter.Make m evicted) k c new = (m.key ≡ k) × (m.charge ≡ c)
   AsksOnEntry (enter.Wait w) k c new = (w.key ≡ k) × (w.charge ≡ c) × (w.left ≡ new)
@@ -45,7 +45,7 @@ module _ {K V F : Type 0} where
   AsksOnPoll (poll.Refused unread) k c new = ⊤
   AsksOnPoll poll.NoPin k c new = ⊤
 
-  -- P of the value, if it was found ready
+  -- P holds of the value, if the call hit
   abbrev pub IfEntered : Entered K V F → (V → Type 0) → Type 0
   IfEntered (enter.Make m evicted) P = ⊤
   IfEntered (enter.Wait w) P = ⊤

@@ -1,5 +1,5 @@
--- What a `Table` keeps: nodes that stand for entries, with the hashes of their keys, and the map
--- from stamps to places, where one is kept.
+-- The invariant of a `Table`: its nodes represent entries, and the hashes of their keys and the map
+-- from stamps to places, if there is one, agree with them.
 use Rattle.std.specs.Prelude.{◌≡◌, ℕ, Bool, true, false, Some, map}
 use Rattle.std.specs.Ordering.{nat_cmp}
 use Rattle.std.specs.FinMap as finmap
@@ -11,8 +11,8 @@ use Rattle.concurrent_lru.specs.StampIndex.{keeps_map, mapped_place}
 use Rattle.concurrent_lru.specs.declared.table.stamp_index.StampIndex.{StampIndex}
 
 module _ {K V : Type 0} where
-  -- only nodes with pins are detached; where a map of stamps is kept, each node is found by its
-  -- stamp, and what is found is a node with that stamp
+  -- only nodes with pins are detached; a map of stamps, if there is one, finds each node by its
+  -- stamp, and finds nothing else
   pub record IsIndexed (nodes : finmap.FinMap nat_cmp (Entry K V)) (by_stamp : StampIndex) : Type 0 where
     pub idle_kept : (p : ℕ) (e : Entry K V) → finmap.get nodes p ≡ Some e → e.pins ≡ 0 → e.detached ≡ false
     pub stamp_found : keeps_map by_stamp ≡ true → (p : ℕ) (e : Entry K V) → finmap.get nodes p ≡ Some e → mapped_place by_stamp e.stamp ≡ Some p
@@ -29,16 +29,16 @@ module _ {K V : Type 0} where
   abbrev pub entries_of : NodeTable K V → Entries K V
   entries_of nodes = record { idle = idle_in nodes; held = held_in nodes (finmap.keys nodes.nodes); stamps = stamps_of nodes.nodes; work = nodes.work }
 
-  -- the nodes stand for entries, their hashes and the map of stamps fit them, and copies of
-  -- keys equal them
+  -- the nodes represent entries, their hashes and the map of stamps agree with them, and copies of
+  -- keys equal the keys
   pub record IsStored (is_clone : K → K → Type 0) (E : K → K → Bool) (hash : K → ℕ) (nodes : NodeTable K V) (by_stamp : StampIndex) : Type 0 where
     pub represents : IsRepresentation nodes (finmap.keys nodes.nodes)
     pub indexed : IsIndexed nodes.nodes by_stamp
     pub hashed : AreHashed hash nodes.nodes nodes.hashes
     pub copies : CopiesAreEqual is_clone E
 
-  -- and the total is the sum of the charges, and beside it stands the sum of those of the idle
-  -- entries
+  -- the same, and the total is the sum of the charges of all entries, and idle_charge that of the
+  -- idle ones
   pub record IsSoundTable (is_clone : K → K → Type 0) (E : K → K → Bool) (hash : K → ℕ) (nodes : NodeTable K V) (by_stamp : StampIndex) (total idle_charge : ℕ) : Type 0 where
     pub stored : IsStored is_clone E hash nodes by_stamp
     pub sums : total ≡ charges_of (entries_of nodes)

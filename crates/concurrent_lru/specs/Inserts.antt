@@ -1,4 +1,4 @@
--- An insert is an invalidate, a begin and its ready in one go, or a refusal that changes nothing.
+-- An insert is an invalidate, a begin and a ready in one step, or a refusal that changes nothing.
 use Rattle.std.specs.Prelude.{◌≡◌, ℕ, Bool, List, [], ◌∷◌, Result, Ok, Err}
 use Rattle.std.specs.declared.sync.Arc.{Arc}
 use Rattle.std.specs.declared.alloc.Global.{Global}
@@ -11,13 +11,13 @@ use Rattle.concurrent_lru.specs.declared.step.Inserted.{Inserted}
 use Rattle.concurrent_lru.specs.declared.table.spot.Spot.{Spot}
 
 module _ {K V : Type 0} (E : K → K → Bool) where
-  -- From old, the key is invalidated, begun at this charge under the stamp s, and has the value v.
+  -- From old, the key is invalidated, begun with this charge under the stamp s, and given v.
   abbrev pub Replaces : Cache K V → K → ℕ → V → ℕ → List (Idle K V) → List (Idle K V) → Cache K V → Type 0
   Replaces old k charge v s replaced evicted new =
       Run E old (ask.invalidate k ∷ ask.begin k charge ∷ ask.ready s v ∷ [])
       (accepted say.done replaced ∷ accepted (say.make s) evicted ∷ accepted say.done [] ∷ []) new
 
-  -- After an invalidate the begin would be refused so. Nothing changes.
+  -- After an invalidate, the begin would be refused with e. Nothing changes.
   pub record RefusesToReplace (old : Cache K V) (k : K) (charge : ℕ) (e : Refusal) (new : Cache K V) : Type 0 where
     pub mid : Cache K V
     pub replaced : List (Idle K V)
@@ -25,12 +25,12 @@ module _ {K V : Type 0} (E : K → K → Bool) where
     pub refuses : Stands E mid (ask.begin k charge) (refused e) mid
     pub same : new ≡ old
 
-  -- what an insert does
+  -- what an insert with this result does
   abbrev pub Inserts : Cache K V → K → ℕ → V → Result (Inserted K V) (Refusal × Arc V Global) → Cache K V → Type 0
   Inserts old k charge v (Ok i) new = Replaces old k charge v i.stamp i.replaced i.evicted new
   Inserts old k charge v (Err e) new = RefusesToReplace old k charge e.0 new
 
-  -- the same without the value: what was replaced, and the begin with its spot and what it evicted
+  -- an insert before its ready: the spot of the new entry, what was replaced and what was evicted
   abbrev pub Remakes : Cache K V → K → ℕ → Result (Spot × List (Idle K V) × List (Idle K V)) Refusal → Cache K V → Type 0
   Remakes old k charge (Ok r) new =
       (mid : Cache K V) × Stands E old (ask.invalidate k) (accepted say.done r.1) mid × Stands E mid (ask.begin k charge) (accepted (say.make r.0.stamp) r.2) new

@@ -1,4 +1,4 @@
--- The definitions that the contracts of the cache cite.
+-- The definitions that the contracts of the cache use.
 pub mod Cache
 pub mod Request
 pub mod Reply

@@ -1,4 +1,4 @@
--- How the table by hash leads to the nodes that are not detached.
+-- How the hash table leads to the nodes that are not detached.
 use Rattle.std.specs.Prelude.{◌≡◌, ◌≢◌, ℕ, ◌-◌, min, Bool, true, false, Option, Some, None}
 use Rattle.slab.specs.Slab.{slab_len}
 use Rattle.concurrent_lru.specs.Cells.{cell_at}
@@ -12,17 +12,17 @@ use Rattle.concurrent_lru.specs.declared.list.memory.At.{At}
 use Rattle.concurrent_lru.specs.declared.list.probes.Slot.{Slot}
 use Rattle.concurrent_lru.specs.declared.list.slots.Slots.{Slots}
 
--- x, unless this is so
+-- x, unless the condition holds
 abbrev pub unless : {X : Type 0} → Bool → X → Option X
 unless true x = None
 unless false x = Some x
 
 module _ {K V : Type 0} where
-  -- the entry of the table for a node
+  -- the entry of the hash table for a node
   abbrev pub listing : NodeCell K V → Slot (At (Node K V))
   listing c = entry (mark_of (hash_of c.value)) (record { ptr = c.at })
 
-  -- the entry for the node that is there, unless it is detached
+  -- the entry for the node in a slot, if there is one and it is not detached
   abbrev pub listing_in : Option (NodeCell K V) → Option (Slot (At (Node K V)))
   listing_in None = None
   listing_in (Some c) = unless (entry_of c.value).detached (listing c)
@@ -31,28 +31,28 @@ module _ {K V : Type 0} where
   hash_in None = None
   hash_in (Some c) = Some (hash_of c.value)
 
-  -- each node has the hash that it had, and the entry of the table
+  -- each node keeps its hash and its entry in the hash table
   abbrev pub KeepsListings : NodeCells K V → NodeCells K V → Type 0
   KeepsListings cs ds = (k : ℕ) → (hash_in (cell_at ds k) ≡ hash_in (cell_at cs k)) × (listing_in (cell_at ds k) ≡ listing_in (cell_at cs k))
 
   abbrev pub listing_at : Slots K V → ℕ → Option (Slot (At (Node K V)))
   listing_at s slot = listing_in (cell_at (cells_of s) slot)
 
-  -- the table has the entries of the nodes, and no others
+  -- the hash table has the entries of the nodes that are not detached, and no others
   pub record IsListed (s : Slots K V) : Type 0 where
     pub listed : (slot : ℕ) (e : Slot (At (Node K V))) → listing_at s slot ≡ Some e → Has s.by_hash e
     pub led : (e : Slot (At (Node K V))) → Has s.by_hash e → (slot : ℕ) × (listing_at s slot ≡ Some e)
 
-  -- and so it is without the node in this slot
+  -- the same, as if the node in this slot were not there
   pub record IsListedBut (s : Slots K V) (but : ℕ) : Type 0 where
     pub listed : (slot : ℕ) (e : Slot (At (Node K V))) → slot ≢ but → listing_at s slot ≡ Some e → Has s.by_hash e
     pub led : (e : Slot (At (Node K V))) → Has s.by_hash e → (slot : ℕ) × (slot ≢ but) × (listing_at s slot ≡ Some e)
 
-  -- how many more nodes fit without memory
+  -- how many more nodes fit without allocating
   abbrev pub spare_of : Slots K V → ℕ
   spare_of s = min (s.pointers.capacity - slab_len s.pointers) (capacity s.by_hash - count s.by_hash)
 
-  -- a slot of the table leads to this node
+  -- the slot k of the hash table leads to the node n
   pub record LeadsToCandidate (s : Slots K V) (k : ℕ) (n : Node K V) : Type 0 where
     pub slot : ℕ
     pub cell : NodeCell K V
@@ -61,7 +61,7 @@ module _ {K V : Type 0} where
     pub found : (entry_of cell.value).detached ≡ false
     pub holds : Holds s.by_hash k (listing cell)
 
-  -- a slot of the table holds the entry of the node in this slot
+  -- the slot k of the hash table has the entry of the node in this slot
   abbrev pub HoldsSlot : Slots K V → ℕ → ℕ → Type 0
   HoldsSlot s k slot = (e : Slot (At (Node K V))) × (listing_at s slot ≡ Some e) × Holds s.by_hash k e
 
@@ -69,7 +69,7 @@ module _ {K V : Type 0} where
   abbrev pub LacksSlot : Slots K V → ℕ → ℕ → Type 0
   LacksSlot s hash slot = (c : NodeCell K V) → cell_at (cells_of s) slot ≡ Some c → (entry_of c.value).detached ≡ false → hash_of c.value ≢ hash
 
-  -- no node with this hash has an equal key and is not detached
+  -- every node with this hash and an equal key is detached
   abbrev pub LacksKey : (K → K → Bool) → Slots K V → ℕ → K → Type 0
   LacksKey E s hash key = (slot : ℕ) (c : NodeCell K V) → cell_at (cells_of s) slot ≡ Some c → (entry_of c.value).detached ≡ false → hash_of c.value ≡ hash → E (entry_of c.value).key key ≡ false
 

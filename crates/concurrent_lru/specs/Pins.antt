@@ -1,24 +1,23 @@
--- What a caller has in an entry, as clauses see it.
+-- The views of the pins and handles of callers.
 use Rattle.std.specs.Prelude.{◌≡◌, ℕ, Option, refl}
 use Rattle.std.specs.Coded.{Coded, code_by, coded×, coded_ℕ}
 use Rattle.concurrent_lru.specs.CountedCalls.{LockedCache, locked_cache_code}
 
--- an entry that a caller makes, or whose value it has waited for: the stamp of the entry, and the
--- key and the charge that the caller asked for
+-- an entry whose value a caller makes or has waited for: its stamp, and the key and charge that the
+-- caller asked for
 pub record AskOf (K : Type 0) : Type 0 where
   pub stamp : ℕ
   pub key : K
   pub charge : ℕ
 
--- the same of an entry whose value a caller is to wait for, and the state in which the call that
--- told it so left the cache
+-- the same for a caller that is to wait, and the state in which its call left the cache
 pub record WaitOf (K V : Type 0) : Type 0 where
   pub stamp : ℕ
   pub key : K
   pub charge : ℕ
   pub left : LockedCache K V
 
--- a pin in a ready entry: the stamp of the entry, the key and the charge that were asked for, and
+-- a pin of a ready entry: its stamp, the key that was asked for, the charge if one was given, and
 -- the value
 pub record PinOf (K V : Type 0) : Type 0 where
   pub stamp : ℕ
@@ -32,7 +31,7 @@ pub record HandleOf (K V : Type 0) : Type 0 where
   pub charge : Option ℕ
   pub value : V
 
--- a handle of a caller that asked for this key, with this charge, has a value that fits the key
+-- the handle belongs to a caller that asked for this key and charge, and its value fits the key
 abbrev pub IsHandleFor : {K V : Type 0} → (K → V → Type 0) → HandleOf K V → K → Option ℕ → Type 0
 IsHandleFor fits h k c = (h.key ≡ k) × (h.charge ≡ c) × fits k h.value
 

@@ -1,4 +1,4 @@
--- The table that leads from hashes to nodes: slots that are probed one after another.
+-- The hash table of nodes, with linear probing.
 pub mod Cycle
 pub mod Probes
 pub mod Entries

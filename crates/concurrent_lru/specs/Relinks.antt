@@ -1,4 +1,4 @@
--- The cells of nodes, with the links that these carry, and what a change of links leaves.
+-- The cells of nodes and their links, and what a change of links leaves unchanged.
 use Rattle.std.specs.Prelude.{◌≡◌, ◌≢◌, ℕ, List, Option, Some, None, cond}
 use Rattle.std.specs.declared.alloc.Global.{Global}
 use denote.RawPtr.{Ptr}
@@ -31,14 +31,14 @@ module _ {K V : Type 0} where
   slot_in cs None = None
   slot_in cs (Some p) = slot_at cs p
 
-  -- the same node in its own slot
+  -- the same node, with this slot recorded as its own
   pub record IsPlaced (old new : Node K V) (slot : ℕ) : Type 0 where
     pub entry : entry_of new ≡ entry_of old
     pub hash : hash_of new ≡ hash_of old
     pub chain : chain_of new ≡ chain_of old
     pub place : place_of new ≡ slot
 
-  -- the same node with other links
+  -- the same node with the links b and a
   pub record IsRelinked (old new : Node K V) (b a : Option Ptr) : Type 0 where
     pub entry : entry_of new ≡ entry_of old
     pub hash : hash_of new ≡ hash_of old
@@ -47,7 +47,7 @@ module _ {K V : Type 0} where
     pub before : before_link new ≡ b
     pub after : after_link new ≡ a
 
-  -- the node in the slot has these links, and nothing else changed
+  -- the node in the slot k now has the links b and a, and nothing else changed
   pub record Relinks (cs ds : NodeCells K V) (k : ℕ) (b a : Option Ptr) : Type 0 where
     pub others : (j : ℕ) → j ≢ k → cell_at ds j ≡ cell_at cs j
     pub old : NodeCell K V
@@ -57,7 +57,7 @@ module _ {K V : Type 0} where
     pub at : new.at ≡ old.at
     pub node : IsRelinked old.value new.value b a
 
-  -- the same node with another entry
+  -- the same node with the entry e
   pub record IsRevalued (old new : Node K V) (e : Entry K V) : Type 0 where
     pub entry : entry_of new ≡ e
     pub hash : hash_of new ≡ hash_of old
@@ -89,18 +89,18 @@ module _ {K V : Type 0} where
   abbrev pub after_at : NodeCells K V → ℕ → Option Ptr
   after_at cs k = after_in (cell_at cs k)
 
-  -- the links of the node in the slot were cut, and led to b and a
+  -- the node in the slot k lost its links, which were b and a
   pub record Unlinks (cs ds : NodeCells K V) (k : ℕ) (b a : Option Ptr) : Type 0 where
     pub cut : Relinks cs ds k None None
     pub was_before : b ≡ before_at cs k
     pub was_after : a ≡ after_at cs k
 
-  -- the places before and after were joined, seen from the one before, where there is one
+  -- the node before a removed one now links to a, or, if there was none, the oldest is now at a
   abbrev pub LeftJoined : NodeCells K V → NodeCells K V → Option ℕ → Option ℕ → Option Ptr → Option Ptr → Type 0
   LeftJoined cs ds o p None a = (ds ≡ cs) × (p ≡ slot_in cs a)
   LeftJoined cs ds o p (Some l) a = AtSlot cs l (λ k. Relinks cs ds k (before_at cs k) a) × (p ≡ o)
 
-  -- and from the one after
+  -- the node after a removed one now links to b, or, if there was none, the newest is now at b
   abbrev pub RightJoined : NodeCells K V → NodeCells K V → Option Ptr → Option Ptr → Option Ptr → Option Ptr → Type 0
   RightJoined cs ds n m b None = (ds ≡ cs) × (m ≡ b)
   RightJoined cs ds n m b (Some l) = AtSlot cs l (λ k. Relinks cs ds k b (after_at cs k)) × (m ≡ n)

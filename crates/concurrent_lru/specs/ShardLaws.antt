@@ -1,4 +1,4 @@
--- What is true of all caches side by side.
+-- The laws of shards.
 use Rattle.std.specs.Prelude.{◌≡◌, ℕ, Bool, true}
 use Rattle.concurrent_lru.specs.Request.{Request}
 use Rattle.concurrent_lru.specs.Runs.{refused}
@@ -6,7 +6,7 @@ use Rattle.concurrent_lru.specs.Sharded.{Sharded, shard_of}
 use Rattle.concurrent_lru.specs.Parts.{StandsAt}
 use Rattle.concurrent_lru.specs.declared.refusal.Refusal.{Refusal}
 
--- one shard serves equal keys
+-- equal keys belong to one shard
 abbrev pub OneShard : (K V S : Type 0) → (K → K → Bool) → (S → K → ℕ) → Type 0
 OneShard K V S E number = (c : Sharded K V S) (k l : K) → E k l ≡ true → shard_of number c k ≡ shard_of number c l
 

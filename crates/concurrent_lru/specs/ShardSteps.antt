@@ -1,4 +1,4 @@
--- What the steps and the calls of shards ask, of which shard, and what their results say.
+-- The steps of shards as requests to one shard each, and the results of their calls as outcomes.
 use Rattle.std.specs.Prelude.{◌≡◌, ℕ, ◌⊎◌, List, [], ◌++◌, Option, Some, None, Result, Ok, Err}
 use Rattle.std.specs.declared.sync.Arc.{Arc}
 use Rattle.std.specs.declared.alloc.Global.{Global}
@@ -19,7 +19,7 @@ use Rattle.concurrent_lru.specs.declared.shards.ShardStep.{ShardStep}
 use Rattle.concurrent_lru.specs.declared.shards.ShardStep.TheVariants as shard
 
 module _ {K V : Type 0} where
-  -- the shard that a step goes to: that of its key, or the one that it names
+  -- the shard that a step goes to: the one of its key, or the one that it names
   abbrev pub shard_of_step : (K → ℕ) → ShardStep K V → ℕ
   shard_of_step route (shard.Begin k c) = route k
   shard_of_step route (shard.Get k) = route k
@@ -51,14 +51,14 @@ module _ {K V : Type 0} where
   step_at_shard (shard.SetCapacity i c) = step.SetCapacity c
   step_at_shard (shard.Total i) = step.Total
 
-  -- a step as a request and its shard, and an answer with its shard as an outcome
+  -- a step as a shard and its request; an answer of a shard as an outcome of that shard
   abbrev pub request_at_shard : (K → ℕ) → ShardStep K V → ℕ × Request K V
   request_at_shard route s = (shard_of_step route s, request_of (step_at_shard s))
 
   abbrev pub outcome_at_shard : ℕ × Answer K V → ℕ × Outcome K V
   outcome_at_shard a = (a.0, outcome_of a.1)
 
-  -- the answer to a step for a shard that is not there; a value comes back
+  -- the answer to a step for a shard that does not exist; a value is returned to the caller
   abbrev pub TellsNoShard : RustStep K V → Answer K V → Type 0
   TellsNoShard (step.Ready s a) (answer.Back b) = b.value ≡ a.value
   TellsNoShard (step.Ready s a) _ = ⊥
@@ -66,11 +66,11 @@ module _ {K V : Type 0} where
   TellsNoShard (step.Insert k c a) _ = ⊥
   TellsNoShard _ a = a ≡ answer.Refused Stale
 
-  -- the answer is of its step's kind, or tells that there is no such shard
+  -- the answer is of its step's kind, or says that there is no such shard
   abbrev pub IsShardAnswerTo : ShardStep K V → ℕ × Answer K V → Type 0
   IsShardAnswerTo s a = IsAnswerTo (step_at_shard s) a.1 ⊎ TellsNoShard (step_at_shard s) a.1
 
-  -- what the calls of shards answer, as outcomes
+  -- the results of the calls of shards as outcomes
   abbrev pub outcome_of_shard_begin : Result (ℕ × Begun V × List (Idle K V)) Refusal → Outcome K V
   outcome_of_shard_begin (Ok r) = accepted (reply_of_begun r.1) r.2
   outcome_of_shard_begin (Err e) = refused e

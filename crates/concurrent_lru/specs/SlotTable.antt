@@ -1,4 +1,4 @@
--- The idle order of a `Nodes`: what its slots and two ends are seen as, and what holds of them.
+-- The idle order of a `Nodes`: the view of its slots and its two ends, and their invariant.
 use Rattle.std.specs.Prelude.{◌≡◌, ℕ, ◌==◌, List, [], ◌∷◌, map, filter, not, length, Option, Some, None, IsSome, nat_eq, true, false}
 use Rattle.std.specs.FinMap.{FinMap}
 use Rattle.std.specs.List.{list_any}
@@ -29,7 +29,7 @@ module _ {K V : Type 0} where
   abbrev pub idle_places : NodeCells K V → Option ℕ → List ℕ
   idle_places cs oldest = order (length cs) (link_at cs) oldest
 
-  -- the link leads to a node
+  -- the link, if there is one, leads to a node
   abbrev pub IsGood : NodeCells K V → Option Ptr → Type 0
   IsGood cs None = Unit {0}
   IsGood cs (Some p) = IsSome (slot_at cs p)
@@ -41,7 +41,7 @@ module _ {K V : Type 0} where
   AreGood cs [] = Unit {0}
   AreGood cs (k ∷ ks) = IsGoodAt cs k × AreGood cs ks
 
-  -- the node is the last of its chain
+  -- the node, if there is one, has no chain behind it
   abbrev pub IsEnd : Option (NodeCell K V) → Type 0
   IsEnd None = Unit {0}
   IsEnd (Some c) = chain_of c.value ≡ []
@@ -50,7 +50,7 @@ module _ {K V : Type 0} where
   abbrev pub order_with : Slots K V → Option ℕ → Option Ptr → Order K V
   order_with s oldest newest = record { slots = s; oldest = oldest; newest = newest }
 
-  -- the entries by slot, and the slots of the idle ones, oldest first
+  -- the entries by slot; the slots of the idle ones, oldest first
   abbrev pub nodes_of : Order K V → FinMap nat_cmp (Entry K V)
   nodes_of o = map_of_slots (map entry_in (cells_of o.slots))
 
@@ -64,7 +64,7 @@ module _ {K V : Type 0} where
   abbrev pub node_table_of : Order K V → ℕ → NodeTable K V
   node_table_of o work = record { nodes = nodes_of o; hashes = hashes_of o; idle = idle_of o; spare = spare_of o.slots; work = work; looks = o.slots.looks.count }
 
-  -- each link leads to the neighbour, and nothing hangs on a node
+  -- the links of the idle nodes lead from the oldest to the newest, and no node has a chain
   pub record IsWellLinked (o : Order K V) : Type 0 where
     pub tied : IsTied o.slots
     pub ordered : IsOrder (link_at (cells_of o.slots)) o.oldest (slot_in (cells_of o.slots) o.newest) (idle_of o)
@@ -72,27 +72,27 @@ module _ {K V : Type 0} where
     pub last_good : IsGood (cells_of o.slots) o.newest
     pub ends : (k : ℕ) → IsEnd (cell_at (cells_of o.slots) k)
 
-  -- and the table by hash leads to the nodes
+  -- the same, and the hash table leads to the nodes that are not detached
   pub record IsWhole (o : Order K V) : Type 0 where
     pub linked : IsWellLinked o
     pub listed : IsListed o.slots
 
-  -- the slot is in the order, or is not
+  -- the slot is in the idle order; it is not
   abbrev pub Lists : Order K V → ℕ → Type 0
   Lists o slot = list_any (nat_eq slot) (idle_of o) ≡ true
 
   abbrev pub Omits : Order K V → ℕ → Type 0
   Omits o slot = list_any (nat_eq slot) (idle_of o) ≡ false
 
-  -- the link leads to a node that is in the order
+  -- the link leads to a node that is in the idle order
   abbrev pub ListsLink : Order K V → Ptr → Type 0
   ListsLink o p = AtSlot (cells_of o.slots) p (Lists o)
 
-  -- what is idle without the slot
+  -- the idle order without the slot
   abbrev pub idle_without : Order K V → ℕ → List ℕ
   idle_without o slot = filter (λ q. not (q == slot)) (idle_of o)
 
-  -- the node that the link leads to was taken out of the order
+  -- the node that the link leads to was removed from the idle order
   abbrev pub LosesLink : Order K V → Order K V → Ptr → Type 0
   LosesLink old new p = OfSlot (cells_of old.slots) p (λ slot. idle_of new ≡ idle_without old slot)
 
@@ -100,14 +100,14 @@ module _ {K V : Type 0} where
   abbrev pub entry_at : Order K V → ℕ → Option (Entry K V)
   entry_at o slot = entry_in (cell_at (cells_of o.slots) slot)
 
-  -- nothing changed but the count of looks
+  -- nothing changed except the count of lookups
   abbrev pub OnlyLooked : Order K V → Order K V → Type 0
   OnlyLooked old new = new ≡ record old { slots = record old.slots { looks = new.slots.looks } }
 
-  -- the nodes before and after one that was cut out were joined, seen from the one before
+  -- the node before a removed one, or the oldest end, now leads to the node after it
   abbrev pub JoinsLeft : Order K V → Order K V → Option Ptr → Option Ptr → Type 0
   JoinsLeft old new before after = LeftJoined (cells_of old.slots) (cells_of new.slots) old.oldest new.oldest before after
 
-  -- and from the one after
+  -- the node after a removed one, or the newest end, now leads to the node before it
   abbrev pub JoinsRight : Order K V → Order K V → Option Ptr → Option Ptr → Type 0
   JoinsRight old new before after = RightJoined (cells_of old.slots) (cells_of new.slots) old.newest new.newest before after

@@ -1,4 +1,4 @@
--- What a write to one node leaves of the slots.
+-- What a write to one node changes in the slots.
 use Rattle.std.specs.Prelude.{◌≡◌, ℕ, Option}
 use denote.RawPtr.{Ptr}
 use Rattle.concurrent_lru.specs.Cells.{AtSlot, OfSlot}
@@ -8,32 +8,32 @@ use Rattle.concurrent_lru.specs.SlotPointers.{cells_of}
 use Rattle.concurrent_lru.specs.declared.list.slots.Slots.{Slots}
 
 module _ {K V : Type 0} where
-  -- nothing changed but the memory of the nodes, or that and the count of looks
+  -- nothing changed except the memory of the nodes; except that and the count of lookups
   abbrev pub OnlyWrites : Slots K V → Slots K V → Type 0
   OnlyWrites old new = new ≡ record old { memory = new.memory }
 
   abbrev pub OnlyLooksAndWrites : Slots K V → Slots K V → Type 0
   OnlyLooksAndWrites old new = new ≡ record old { memory = new.memory; looks = new.looks }
 
-  -- the node at p has these links
+  -- the links of the node at p were set
   abbrev pub SetsLinks : Slots K V → Slots K V → Ptr → Option Ptr → Option Ptr → Type 0
   SetsLinks old new p before after = AtSlot (cells_of old) p (λ slot. Relinks (cells_of old) (cells_of new) slot before after)
 
-  -- one of its links is this, and the other is as it was
+  -- one link of the node at p was set, and the other one did not change
   abbrev pub SetsBefore : Slots K V → Slots K V → Ptr → Option Ptr → Type 0
   SetsBefore old new p before = AtSlot (cells_of old) p (λ slot. Relinks (cells_of old) (cells_of new) slot before (after_at (cells_of old) slot))
 
   abbrev pub SetsAfter : Slots K V → Slots K V → Ptr → Option Ptr → Type 0
   SetsAfter old new p after = AtSlot (cells_of old) p (λ slot. Relinks (cells_of old) (cells_of new) slot (before_at (cells_of old) slot) after)
 
-  -- the links of the node at p were cut, and led to before and after
+  -- the links of the node at p, which were before and after, were removed
   abbrev pub CutsLinks : Slots K V → Slots K V → Ptr → Option Ptr → Option Ptr → Type 0
   CutsLinks old new p before after = OfSlot (cells_of old) p (λ slot. Unlinks (cells_of old) (cells_of new) slot before after)
 
-  -- the entry of the node in the slot went through f
+  -- the entry of the node in the slot was changed by f
   abbrev pub Rewrites : Slots K V → Slots K V → ℕ → (Entry K V → Entry K V) → Type 0
   Rewrites old new slot f = Revalues (cells_of old) (cells_of new) slot f
 
-  -- and so did the entry of the node at p
+  -- the entry of the node at p was changed by f
   abbrev pub RewritesLink : Slots K V → Slots K V → Ptr → (Entry K V → Entry K V) → Type 0
   RewritesLink old new p f = OfSlot (cells_of old) p (λ slot. Rewrites old new slot f)

@@ -1,6 +1,6 @@
 -- Runs in which the capacity changes and keys are removed, their moments, and the weight of a used
--- key. E is the equality of keys. None of this knows of pins, of an idle order or of evicting: it
--- speaks of last uses, removals, charges and capacities alone.
+-- key. E is the equality of keys. None of this mentions pins, the idle order or evictions, only
+-- last uses, removals, charges and capacities.
 use Rattle.std.specs.Prelude.{◌≡◌, ℕ, ◌≤◌, Bool, false, cond, List, [], ◌∷◌, ◌++◌, map, sum_by}
 use Rattle.std.specs.List.{list_any}
 use Rattle.concurrent_lru.specs.Request as ask
@@ -11,9 +11,9 @@ use Rattle.concurrent_lru.specs.Uses.{uses, last_uses}
 use Rattle.concurrent_lru.specs.Removals.{HaveNoRemoval, remaining_uses}
 
 module _ {K V : Type 0} where
-  -- A plain run with changes besides: each key is made or hit, and released at once, or read, a get
-  -- or a read may miss, and between two such groups the capacity may be set, a key may be removed
-  -- by an advice_evict or an invalidate, and all keys by a prune.
+  -- A plain run with changes: each key is either made or hit and then released at once, or read; a
+  -- get or a read may miss; and in between the capacity may be set, a key may be removed by an
+  -- advice_evict or an invalidate, and all keys by a prune.
   abbrev pub IsPlainWithChanges : List (Request K V × Outcome K V) → Type 0
   IsPlainWithChanges [] = Unit {0}
   IsPlainWithChanges ((ask.begin k c, accepted (say.make s) _) ∷ (ask.ready t _, accepted say.done _) ∷ (ask.release u, accepted say.done _) ∷ es) = (t ≡ s) × (u ≡ s) × IsPlainWithChanges es
@@ -28,19 +28,19 @@ module _ {K V : Type 0} where
   IsPlainWithChanges ((ask.prune, accepted say.done _) ∷ es) = IsPlainWithChanges es
   IsPlainWithChanges _ = ⊥
 
-  -- the capacity after these steps: the one that was set last
+  -- the capacity after these steps: the one that was set last, or else the initial one
   abbrev pub capacity_after : ℕ → List (Request K V × Outcome K V) → ℕ
   capacity_after capacity [] = capacity
   capacity_after capacity ((ask.set_capacity c, _) ∷ es) = capacity_after c es
   capacity_after capacity (_ ∷ es) = capacity_after capacity es
 
-  -- A moment of a run is a place where it comes apart: some steps lie before it, and the others
+  -- A moment of a run is a point at which it can be split: some steps are before it, and the others
   -- after it.
   abbrev pub IsMoment : List (Request K V × Outcome K V) → List (Request K V × Outcome K V) → List (Request K V × Outcome K V) → Type 0
   IsMoment es before after = es ≡ before ++ after
 
 module _ {K : Type 0} (E : K → K → Bool) where
-  -- the end of a list of keys that begins with a key equal to k
+  -- the end of a list of keys, from the first one equal to k on
   abbrev pub end_from : K → List K → List K
   end_from k [] = []
   end_from k (l ∷ ls) = cond (E k l) (l ∷ ls) (end_from k ls)
@@ -54,8 +54,8 @@ module _ {K : Type 0} (E : K → K → Bool) where
   abbrev pub LacksUseOf : {V : Type 0} → K → List (Request K V × Outcome K V) → Type 0
   LacksUseOf k es = list_any (E k) (uses es) ≡ false
 
-  -- P holds, of the steps before it, at every moment since the last use of k, the end of that use
-  -- included
+  -- at every moment since the last use of k, including the end of that use, P holds of the steps
+  -- before it
   abbrev pub SinceLastUse : {V : Type 0} → List (Request K V × Outcome K V) → K → (List (Request K V × Outcome K V) → Type 0) → Type 0
   SinceLastUse {V} es k P = (before after : List (Request K V × Outcome K V)) → IsMoment es before after → LacksUseOf k after → P before
 
@@ -65,10 +65,10 @@ module _ {K : Type 0} (E : K → K → Bool) where
   abbrev pub AlwaysFitted : {V : Type 0} → (K → ℕ) → ℕ → List (Request K V × Outcome K V) → K → Type 0
   AlwaysFitted charge capacity es k = SinceLastUse es k (λ before. weight charge (remaining_uses E before) k ≤ capacity_after capacity before)
 
-  -- no step since the last use of k is a removal, of whatever key
+  -- no step since the last use of k is a removal, whatever its key
   abbrev pub NoneRemovedSince : {V : Type 0} → List (Request K V × Outcome K V) → K → Type 0
   NoneRemovedSince {V} es k = (before after : List (Request K V × Outcome K V)) → IsMoment es before after → LacksUseOf k after → HaveNoRemoval (map (λ e. e.0) after)
 
-  -- at every moment all uses before it remain
+  -- at every moment, all uses before it remain
   abbrev pub AllRemain : {V : Type 0} → List (Request K V × Outcome K V) → Type 0
   AllRemain {V} es = (before after : List (Request K V × Outcome K V)) → IsMoment es before after → remaining_uses E before ≡ uses before

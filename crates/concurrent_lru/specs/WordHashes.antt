@@ -12,7 +12,7 @@ abbrev pub words : FoldHasher → List ℕ → ℕ → FoldHasher
 words h bytes zero = h
 words h bytes (suc n) = folding.write (words h bytes n) (take 8 (drop (8 * n) bytes))
 
--- the words before the last one, which may be shorter
+-- the number of words before the last one, which may be shorter
 abbrev pub words_before : List ℕ → ℕ
 words_before bytes = (length bytes - 1) / 8
 

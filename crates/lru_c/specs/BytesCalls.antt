@@ -1,4 +1,4 @@
--- The calls of C by a key of bytes.
+-- The calls from C with keys of bytes.
 use Rattle.std.specs.Prelude.{◌≡◌, ◌==◌, ◌<◌, ◌++◌, ◌⊎◌, ℕ, Bool, nat_eq, length, drop, List, [], Option, MatchBool}
 use Rattle.concurrent_lru.specs.Cache.{Cache, Idle, HasKeyAt, LacksStamp}
 use Rattle.concurrent_lru.specs.Request.{Request}
@@ -20,7 +20,7 @@ use Rattle.std_alloc.specs.declared.vec.Vec.{Vec}
 use Rattle.std.specs.declared.alloc.Global.{Global}
 use Rattle.core.specs.Cmp.Lexicographic.{pointwise}
 
--- a key, and whether two are equal: they have the same bytes
+-- a key, and whether two keys are equal: they have the same bytes
 abbrev pub Key : Type 0
 Key = Vec ℕ Global
 
@@ -30,46 +30,46 @@ bytes_eq a b = pointwise nat_eq a.items b.items
 abbrev pub Entries : Type 0
 Entries = List (Idle Key ℕ)
 
--- A call on a cache that puts what it took out into a chain, told with both handles before and
--- after it. Where the chain took more, this holds of the cache before, what is in the chain now,
--- and the cache after; else the call told why, and nothing changed.
+-- A call that puts what it takes out of a cache into a chain. If the chain was open and empty, Step
+-- holds of the cache before the call, the entries now in the chain, and the cache after the call;
+-- otherwise the call returned the reason, and nothing changed.
 abbrev pub Into : LruBytesEvicted → LruBytesEvicted → ℕ → LruBytes → LruBytes → (Option BytesCache → Entries → Option BytesCache → Type 0) → Type 0
 Into before after c old new Step =
     IntoChain (entries_of before.chain.held) (entries_of after.chain.held) c old new (λ out. Step old.cache.held out new.cache.held)
 
--- A begin by a key of these bytes, on a cache.
+-- A begin with a key of these bytes, which refuses a charge of 0.
 abbrev pub BeginsByKey : Cache Key ℕ → List ℕ → ℕ → LruTold → Entries → Cache Key ℕ → Type 0
 BeginsByKey old bytes charge t gone new =
     MatchBool (charge == 0) ((t ≡ bare code.no_charge) × IsSame old gone new) (tells.AsksOf bytes_eq (λ key. key.items ≡ bytes) old (λ key. ask.begin key charge) t gone new)
 
--- The call took one step by a key of these bytes, told its outcome and counted it, which depends on
--- no key; or memory was refused, and nothing changed.
+-- The call took one step with a key of these bytes, returned its outcome and counted it, with the
+-- same counts for every key; or memory was refused, and nothing changed.
 abbrev pub AsksByKey : Option BytesCache → (Key → Request Key ℕ) → List ℕ → LruTold → Entries → Option BytesCache → Type 0
 AsksByKey old r bytes t gone new = OnCache old (λ o n. tells.AsksOf bytes_eq (λ key. key.items ≡ bytes) o r t gone n) (λ m n. (key : Key) → n ≡ counted (r key) t m) t gone new
 
--- The same of a begin, which refuses a charge of 0.
+-- The same for a begin, which refuses a charge of 0.
 abbrev pub Begins : Option BytesCache → List ℕ → ℕ → LruTold → Entries → Option BytesCache → Type 0
 Begins old bytes charge t gone new = OnCache old (λ o n. BeginsByKey o bytes charge t gone n) (λ m n. n ≡ answered t m) t gone new
 
--- An insert, with what it replaced and what it evicted.
+-- An insert, with the entries that it replaced and those that it evicted.
 abbrev pub Inserts : Option BytesCache → List ℕ → ℕ → ℕ → LruTold → Entries → Entries → Option BytesCache → Type 0
 Inserts old bytes charge v t replaced evicted new =
     OnOpen old new (λ o n. TellsInsertOf bytes_eq (λ key. key.items ≡ bytes) o.state.cache charge v t replaced evicted n.state.cache × (n.counts ≡ inserted t o.counts)) ((t ≡ bare code.closed) × (replaced ≡ []) × (evicted ≡ []))
 
--- The same, with both in one chain.
+-- The same, with both in one chain, those that were replaced first.
 abbrev pub InsertsInto : Option BytesCache → List ℕ → ℕ → ℕ → LruTold → Entries → Option BytesCache → Type 0
 InsertsInto old bytes charge v t out new = (replaced : Entries) × (evicted : Entries) × (out ≡ replaced ++ evicted) × Inserts old bytes charge v t replaced evicted new
 
--- Whether a key of these bytes has a value was told, or memory refused, and the cache is the same.
+-- The call returned whether a key of these bytes has a value, or that memory was refused.
 abbrev pub ContainsBytes : Cache Key ℕ → List ℕ → ℕ → Type 0
 ContainsBytes cache bytes c = (c ≡ code.memory) ⊎ ((key : Key) × (key.items ≡ bytes) × TellsReady bytes_eq cache key c)
 
 abbrev pub Contains : Option BytesCache → List ℕ → ℕ → Option BytesCache → Type 0
 Contains old bytes c new = OnOpen old new (λ o n. ContainsBytes o.state.cache bytes c × IsUnchanged o n) (c ≡ code.closed)
 
--- The key of a stamp was copied to the front of a buffer and its length told, or its length and
--- that there is no room, or that there is no such key; the rest of the buffer and the cache are the
--- same.
+-- The call copied the key of a stamp to the front of a buffer and returned its length, or returned
+-- its length and that there is no room, or returned that no entry has the stamp. The rest of the
+-- buffer is unchanged.
 abbrev pub CopiesKey : Cache Key ℕ → ℕ → LruTold → List ℕ → List ℕ → Type 0
 CopiesKey cache stamp t before after =
     ((key : Key) × HasKeyAt cache stamp key × (t ≡ told code.number 0 (length key.items)) × (after ≡ key.items ++ drop (length key.items) before))

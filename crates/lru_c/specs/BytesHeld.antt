@@ -1,4 +1,4 @@
--- What the handles of caches and chains whose keys are bytes lead to, and own.
+-- What the handles of caches and chains with keys of bytes lead to, and own.
 use Rattle.std.specs.Prelude.{Option}
 use Rattle.std.specs.Coded.{coded_option}
 use base.Fml.{Fml}
@@ -25,11 +25,11 @@ use Rattle.lru_c.specs.Held.{held_owns}
 use Rattle.lru_c.specs.contracts.cache.Cache as Cache
 use Rattle.lru_c.specs.contracts.chain.Chain as Chain
 
--- a key as a row
+-- the type of keys, as a `RattleType`
 abbrev pub key_row : RattleType
 key_row = Vec-type.the_row u8 Heap.the_row ghosts
 
--- what keys are hashed, compared and copied by, which stands in the type of a cache
+-- how keys are hashed, compared and copied, which is part of the type of a cache
 abbrev pub hashed : Hashed.Ghosts key_row.Denot
 hashed = VecHash.ghosts u8 Heap.the_row Hash.ghosts VecHash.no_dict Eq.ghosts VecHash.no_dict PartialEq.ghosts VecHash.no_dict ghosts VecHash.no_dict VecHash.no_dict
 

@@ -1,5 +1,5 @@
--- What the pointers of C to caches and chains whose keys are bytes end as, once a `&mut` to
--- what they lead to has ended.
+-- What the pointers of C to caches and chains with keys of bytes lead to once a `&mut` that was
+-- lent from them has ended.
 use Rattle.std.specs.Prelude.{Some}
 use Rattle.std.specs.Borrow.{Fml, Lends, MutBor}
 use Rattle.lru_c.specs.BytesHeld.{BytesCache, BytesChain, cache_row, chain_row}
@@ -8,7 +8,7 @@ use Rattle.lru_c.specs.declared.bytes.handles.BytesChainAt.{BytesChainAt}
 use Rattle.lru_c.specs.contracts.bytes.handles.BytesCacheAt as CacheAt
 use Rattle.lru_c.specs.contracts.bytes.handles.BytesChainAt as ChainAt
 
--- the pointer leads to the last value behind the reference
+-- the pointer leads to the last value behind the reference that was lent
 abbrev pub lends_cache : MutBor BytesCacheAt → MutBor BytesCache → Fml
 lends_cache p r = Lends CacheAt.the_row cache_row p r (λ w. record p.now { held = Some w })
 

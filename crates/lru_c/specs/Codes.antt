@@ -1,4 +1,4 @@
--- The codes that C is told, by the names of the header.
+-- The codes that calls return to C, by their names in the header.
 use Rattle.std.specs.Prelude.{ℕ}
 
 abbrev pub make : ℕ

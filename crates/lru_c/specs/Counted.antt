@@ -1,5 +1,5 @@
--- Counts of what the calls on a cache of C answered: how each answer changes them, and the numbers
--- that C is told.
+-- Counts of what the calls from C on a cache returned: how each answer changes them, and the
+-- statistics that C can ask for.
 use Rattle.std.specs.Prelude.{◌==◌, ◌+◌, ◌-◌, ◌^◌, ℕ, cond, min}
 use Rattle.concurrent_lru.specs.Cache.{Cache, count_of, pinned_of, sum_of}
 use Rattle.concurrent_lru.specs.Request as ask
@@ -9,7 +9,7 @@ use Rattle.lru_c.specs.declared.counts.Counts.{Counts}
 use Rattle.lru_c.specs.declared.told.LruStats.{LruStats}
 use Rattle.lru_c.specs.declared.told.LruTold.{LruTold}
 
--- one more, but a number at its end stays there
+-- one more, saturating at the maximum
 abbrev pub one_more : ℕ → ℕ
 one_more n = min (n + 1) (2 ^ 64 - 1)
 
@@ -17,35 +17,35 @@ one_more n = min (n + 1) (2 ^ 64 - 1)
 abbrev pub no_calls : ℕ → Counts
 no_calls first_stamp = record { hits = 0; misses = 0; waits = 0; removals = 0; first_stamp = first_stamp; next_stamp = first_stamp }
 
--- one more entry was inserted
+-- the counts after an entry was inserted
 abbrev pub one_insertion : Counts → Counts
 one_insertion n = record n { next_stamp = one_more n.next_stamp }
 
--- A caller is to make the value of the entry with this stamp: a miss. The entry is a new one if the
--- stamp is the next one; otherwise the caller took over a making that had failed.
+-- The counts after a miss whose caller is to make the value under this stamp. The entry is new if
+-- the stamp is the next one; otherwise the caller took over a making that had failed.
 abbrev pub one_making : ℕ → Counts → Counts
 one_making stamp n = cond (stamp == n.next_stamp) (one_insertion (record n { misses = one_more n.misses })) (record n { misses = one_more n.misses })
 
--- what the answer of a begin, a get or a fail does to the counts
+-- the counts after a begin, a get or a fail with this answer
 abbrev pub answered : LruTold → Counts → Counts
 answered t n =
     cond (t.code == code.hit) (record n { hits = one_more n.hits }) (cond (t.code == code.make) (one_making t.stamp n) (
     cond (t.code == code.missed) (record n { misses = one_more n.misses }) (cond (t.code == code.wait) (record n { waits = one_more n.waits }) (
     cond (t.code == code.removed) (record n { removals = one_more n.removals }) n))))
 
--- what the answer of an insert does to them
+-- the counts after an insert with this answer
 abbrev pub inserted : LruTold → Counts → Counts
 inserted t n = cond (t.code == code.done) (one_insertion n) n
 
--- What a call does to the counts, by what it asked and what it was told. Only these three change
--- them.
+-- The counts after any call but an insert, with this request and answer. Only a begin, a get and a
+-- fail change them.
 abbrev pub counted : {K : Type 0} → Request K ℕ → LruTold → Counts → Counts
 counted (ask.begin k charge) t n = answered t n
 counted (ask.get k) t n = answered t n
 counted (ask.fail stamp) t n = answered t n
 counted _ t n = n
 
--- What C is told of a cache and its counts. Each new entry took the next stamp, and an entry that
+-- The statistics of a cache and its counts. Each new entry took the next stamp, and an entry that
 -- is neither present nor removed was evicted.
 abbrev pub stats_of : {K : Type 0} → Cache K ℕ → Counts → LruStats
 stats_of c n = record {

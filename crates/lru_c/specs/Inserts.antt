@@ -1,5 +1,5 @@
--- What an insert tells C: the stamp of the new entry, or why there is none. E is the equality of
--- keys.
+-- What an insert returns to C: the stamp of the new entry, or why there is none. E is the equality
+-- of keys.
 use Rattle.std.specs.Prelude.{◌≡◌, ◌⊎◌, ◌==◌, ℕ, Bool, List, [], MatchBool}
 use Rattle.concurrent_lru.specs.Cache.{Cache, Idle, IsLawful}
 use Rattle.concurrent_lru.specs.Inserts.{Replaces, RefusesToReplace}
@@ -9,26 +9,26 @@ use Rattle.lru_c.specs.Told.{bare, refusal_code, told}
 use Rattle.lru_c.specs.declared.told.LruTold.{LruTold}
 
 module _ {K : Type 0} where
-  -- nothing changed, nothing was replaced and nothing evicted
+  -- nothing changed, and nothing was replaced or evicted
   abbrev pub IsUntouched : Cache K ℕ → List (Idle K ℕ) → List (Idle K ℕ) → Cache K ℕ → Type 0
   IsUntouched old replaced evicted new = (new ≡ old) × (replaced ≡ []) × (evicted ≡ [])
 
   module _ (E : K → K → Bool) where
-    -- The value was put in under a new stamp, which is told.
+    -- The value was inserted under a new stamp, which the call returned.
     abbrev pub TellsNewStamp : Cache K ℕ → K → ℕ → ℕ → LruTold → List (Idle K ℕ) → List (Idle K ℕ) → Cache K ℕ → Type 0
     TellsNewStamp old k charge v t replaced evicted new = (t ≡ told code.done t.stamp 0) × Replaces E old k charge v t.stamp replaced evicted new × IsLawful E new
 
-    -- The core refused, and the code of its refusal is told.
+    -- The core refused, and the call returned the code of its refusal.
     abbrev pub TellsRefusal : Cache K ℕ → K → ℕ → LruTold → List (Idle K ℕ) → List (Idle K ℕ) → Cache K ℕ → Type 0
     TellsRefusal old k charge t replaced evicted new = (e : Refusal) × (t ≡ bare (refusal_code e)) × RefusesToReplace E old k charge e new × IsUntouched old replaced evicted new
 
-    -- One of these; or memory was refused before the core was asked.
+    -- One of these; or memory was refused before the core was called.
     abbrev pub TellsInsert : Cache K ℕ → K → ℕ → ℕ → LruTold → List (Idle K ℕ) → List (Idle K ℕ) → Cache K ℕ → Type 0
     TellsInsert old k charge v t replaced evicted new =
         TellsNewStamp old k charge v t replaced evicted new ⊎ (TellsRefusal old k charge t replaced evicted new ⊎ ((t ≡ bare code.memory) × IsUntouched old replaced evicted new))
 
-    -- The same of a call that refuses a charge of 0, and that first makes a key of these bytes, or
-    -- the like: it is of a key for which this holds.
+    -- The same for a call that refuses a charge of 0 and first makes a key, from bytes for example:
+    -- IsKey holds of that key.
     abbrev pub TellsInsertOf : (K → Type 0) → Cache K ℕ → ℕ → ℕ → LruTold → List (Idle K ℕ) → List (Idle K ℕ) → Cache K ℕ → Type 0
     TellsInsertOf IsKey old charge v t replaced evicted new =
         MatchBool (charge == 0) ((t ≡ bare code.no_charge) × IsUntouched old replaced evicted new)

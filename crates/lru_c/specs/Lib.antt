@@ -1,4 +1,4 @@
--- The definitions that the contracts of the calls from C cite.
+-- The definitions that the contracts of the calls from C use.
 pub mod Codes
 pub mod Told
 pub mod Inserts

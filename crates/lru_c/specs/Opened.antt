@@ -1,20 +1,20 @@
--- What opening a handle and looking at a cache tell C.
+-- What calls that open a handle, or look at a cache, return to C.
 use Rattle.std.specs.Prelude.{◌≡◌, ◌⊎◌, ◌==◌, ℕ, Bool, Option, MatchBool, MatchOption}
 use Rattle.concurrent_lru.specs.Cache.{Cache, HasKeyAt, LacksStamp}
 use Rattle.concurrent_lru.specs.Ready.{HasReadyKey}
 use Rattle.concurrent_lru.specs.Steps.{IsUnready}
 use Rattle.lru_c.specs.Codes as code
 
--- A call that opens a handle: where it is open already, or no memory is had, it stays what it was;
--- else it leads to what is new.
+-- A call that opens a handle: if it is open already, or memory is refused, it stays as it was;
+-- otherwise it leads to something for which IsNew holds.
 abbrev pub Opens : {A : Type 0} → Bool → Option A → (A → Type 0) → ℕ → Option A → Type 0
 Opens is_open old IsNew c new = MatchBool is_open ((c ≡ code.opened) × (new ≡ old)) (MatchBool (c == code.memory) (new ≡ old) ((c ≡ code.done) × MatchOption new ⊥ IsNew))
 
 module _ {K : Type 0} where
-  -- whether a key has a value was told
+  -- the call returned whether a key has a value
   abbrev pub TellsReady : (K → K → Bool) → Cache K ℕ → K → ℕ → Type 0
   TellsReady E cache key c = ((c ≡ code.done) × HasReadyKey E cache key) ⊎ ((c ≡ code.missed) × IsUnready E cache key)
 
-  -- the key of a stamp was told, or that there is none
+  -- the call returned the key of a stamp, or that no entry has the stamp
   abbrev pub TellsKey : Cache K ℕ → ℕ → ℕ → K → Type 0
   TellsKey cache stamp c key = ((c ≡ code.done) × HasKeyAt cache stamp key) ⊎ ((c ≡ code.stale) × LacksStamp cache stamp)

@@ -1,4 +1,4 @@
--- What a call tells C, as an outcome of the abstract cache. E is the equality of keys.
+-- What a call returns to C, as an outcome of the abstract cache. E is the equality of keys.
 use Rattle.std.specs.Prelude.{◌≡◌, ℕ, Bool, cond, ◌==◌, List, [], Option, Some, None, MatchBool, ⊤}
 use Rattle.std.specs.declared.sync.Arc.{Arc}
 use Rattle.std.specs.declared.alloc.Global.{Global}
@@ -15,7 +15,7 @@ use Rattle.concurrent_lru.specs.declared.step.Failed.TheVariants as failed
 use Rattle.lru_c.specs.Codes as code
 use Rattle.lru_c.specs.declared.told.LruTold.{LruTold}
 
--- these three are told; a code is told alone
+-- an answer of three numbers; an answer that is a code alone
 abbrev pub told : ℕ → ℕ → ℕ → LruTold
 told c stamp value = record { stamp = stamp; value = value; code = c }
 
@@ -28,7 +28,7 @@ refusal_code Overflow = code.overflow
 refusal_code Stale = code.stale
 refusal_code Memory = code.memory
 
--- what is told of an entry that was begun or polled, and of one that was found or not
+-- what a begin or a poll returns; what a get returns
 abbrev pub begun_told : Begun ℕ → LruTold
 begun_told (begun.Make s) = told code.make s 0
 begun_told (begun.Wait s) = told code.wait s 0
@@ -39,13 +39,13 @@ found_told None = bare code.missed
 found_told (Some r) = told code.hit r.0 r.1.value
 
 module _ {K : Type 0} where
-  -- the code of a making that was given up
+  -- the code of a making that failed
   abbrev pub failed_code : Failed K → ℕ
   failed_code failed.Left = code.left
   failed_code (failed.Removed k) = code.removed
 
-  -- The outcome that is told, where no key was removed: what was put into a chain goes with it. Any
-  -- other code reads as a sum, and no step that is told so has that outcome.
+  -- The outcome that an answer stands for, unless a key was removed; what was put into a chain
+  -- belongs to it. Any other code reads as a sum, and no step with such an answer has that outcome.
   abbrev pub outcome_told : LruTold → List (Idle K ℕ) → Outcome K ℕ
   outcome_told t gone =
       cond (t.code == code.make) (accepted (say.make t.stamp) gone) (cond (t.code == code.wait) (accepted (say.wait t.stamp) gone) (
@@ -64,22 +64,21 @@ module _ {K : Type 0} where
   IsSame old gone new = (new ≡ old) × (gone ≡ [])
 
   module _ (E : K → K → Bool) where
-    -- The call took one step of the cache, and told its outcome. A key that was removed is not
-    -- told.
+    -- The call took one step of the cache and returned its outcome. A key that was removed is not
+    -- returned.
     abbrev pub Tells : Cache K ℕ → Request K ℕ → LruTold → List (Idle K ℕ) → Cache K ℕ → Type 0
     Tells old r t gone new =
         MatchBool (t.code == code.removed) ((k : K) × Stands E old r (accepted (say.removed k) gone) new) (Stands E old r (outcome_told t gone) new)
 
-    -- The same; a refusal put nothing into a chain, and the cache that is left is lawful.
+    -- The same; a refusal put nothing into a chain, and the cache is lawful afterwards.
     abbrev pub Asks : Cache K ℕ → Request K ℕ → LruTold → List (Idle K ℕ) → Cache K ℕ → Type 0
     Asks old r t gone new = Tells old r t gone new × IsQuiet (outcome_told t gone) gone × IsLawful E new
 
-    -- The same of a call that first asks for memory of its own: where that is refused nothing
+    -- The same for a call that first allocates memory of its own; if that is refused, nothing
     -- changed.
     abbrev pub AsksWithMemory : Cache K ℕ → Request K ℕ → LruTold → List (Idle K ℕ) → Cache K ℕ → Type 0
     AsksWithMemory old r t gone new = MatchBool (t.code == code.memory) (IsSame old gone new) (Asks old r t gone new)
 
-    -- The same of a call that first makes a key of these bytes, or the like: it is of a key for
-    -- which this holds.
+    -- The same for a call that first makes a key, from bytes for example: IsKey holds of that key.
     abbrev pub AsksOf : (K → Type 0) → Cache K ℕ → (K → Request K ℕ) → LruTold → List (Idle K ℕ) → Cache K ℕ → Type 0
     AsksOf IsKey old r t gone new = MatchBool (t.code == code.memory) (IsSame old gone new) ((key : K) × IsKey key × Asks old (r key) t gone new)

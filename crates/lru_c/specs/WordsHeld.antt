@@ -1,4 +1,4 @@
--- What the handles of caches and chains whose keys are two words lead to, and own.
+-- What the handles of caches and chains with keys of two words lead to, and own.
 use Rattle.std.specs.Prelude.{Option}
 use Rattle.std.specs.Coded.{coded_option}
 use base.Fml.{Fml}
@@ -17,12 +17,11 @@ use Rattle.lru_c.specs.contracts.words.key.WordsPartialEq.TheImpl as PartialEq
 use Rattle.core.specs.declared.clone.Clone as Cloned
 use Rattle.core.specs.contracts.clone.Clone+copy.TheImpl as Copied
 
--- a key as a row
+-- the type of keys, as a `RattleType`
 abbrev pub key_row : RattleType
 key_row = Words.the_row
 
--- what keys are copied by, which stands in the type of a cache beside what they are hashed and
--- compared by
+-- how keys are copied, which is part of the type of a cache, as is how they are hashed and compared
 abbrev pub cloned : Cloned.Ghosts key_row.Denot
 cloned = Copied.ghosts key_row
 

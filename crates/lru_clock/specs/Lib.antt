@@ -1,3 +1,3 @@
--- The definitions that the contracts of the clock cite.
+-- The definitions that the contracts of the clock use.
 pub mod Pins
 pub mod Turns

@@ -4,7 +4,7 @@ use Rattle.lru_clock.specs.Pins.{PinOf}
 use Rattle.lru_clock.specs.declared.shard.Turn.{Turn}
 use Rattle.lru_clock.specs.declared.shard.Turn.TheVariants as turn
 
--- P of the pin, if the entry is there
+-- P holds of the pin, if the call hit
 abbrev pub IfHit : {K V F : Type 0} → Turn K V F → (PinOf K V → Type 0) → Type 0
 IfHit (turn.Make t) P = ⊤
 IfHit (turn.Hit n p) P = P p

@@ -1,4 +1,4 @@
--- What is told of the answers of the twin's calls.
+-- What is recorded of the answers of a twin's calls.
 use Rattle.std.specs.Prelude.{ℕ, Option, Some, None}
 use Rattle.lru_journal.specs.Pins.{TwinPin}
 use Rattle.lru_journal.specs.declared.pin.Started.{Started}
@@ -10,7 +10,7 @@ module _ {V : Type 0} where
   abbrev pub twin_pin : ℕ → V → TwinPin V
   twin_pin stamp value = record { stamp = stamp; value = value }
 
-  -- of an answer to `begin` or `poll`, and to `get`
+  -- what is recorded of an answer to `begin` or `poll`, and to `get`
   abbrev pub told_of_started : Started V → Told
   told_of_started (started.Make s) = told.Make s
   told_of_started (started.Wait s) = told.Wait s

@@ -1,4 +1,4 @@
--- A journal: a cache beside the records of its accepted steps, and what each of its calls does.
+-- A journal: a cache with the records of its accepted steps, and what each of its calls does.
 use Rattle.std.specs.Prelude.{◌≡◌, ℕ, ◌⊎◌, Bool, List, [], ◌∷◌, ◌++◌, Option, Result, Ok, Err, IfOk, OnErr}
 use Rattle.std.specs.declared.sync.Arc.{Arc}
 use Rattle.std.specs.declared.alloc.Global.{Global}
@@ -22,11 +22,11 @@ pub record Journaled (K V : Type 0) : Type 0 where
   pub began : ℕ
 
 module _ {K V : Type 0} where
-  -- an empty journal
+  -- an empty journal of this capacity
   abbrev pub empty_journal : ℕ → Journaled K V
   empty_journal capacity = record { cache = empty_cache capacity most_pins_by_default 0; records = []; began = capacity }
 
-  -- what the calls answer that the cache alone does not, as an outcome
+  -- the results of `ready` and `total`, as outcomes
   abbrev pub outcome_of_journal_ready : Result (Unit {0}) (Refusal × Arc V Global) → Outcome K V
   outcome_of_journal_ready (Ok _) = accepted say.done []
   outcome_of_journal_ready (Err e) = refused e.0
@@ -35,36 +35,36 @@ module _ {K V : Type 0} where
   outcome_of_journal_total (Ok n) = accepted (say.sum n) []
   outcome_of_journal_total (Err e) = refused e
 
-  -- the cache is lawful, and the records are a legal history from the empty cache to this one
+  -- the cache is lawful, and the records replay from the empty cache to this one
   pub record IsHistory (E : K → K → Bool) (j : Journaled K V) : Type 0 where
     pub lawful : IsLawful E j.cache
     pub legal : Replays E (start j.began) j.records (without_values j.cache)
 
-  -- From old, a journal may do this with the request: an accepted one is the cache's step and adds
-  -- its own record; a refused one changes nothing, for lack of memory or as the cache refuses it.
+  -- From old, a journal may give the request this outcome: an accepted request is a step of the
+  -- cache and adds its record; one refused by the cache or for lack of memory changes nothing.
   abbrev pub Journals : (K → K → Bool) → Journaled K V → Request K V → Outcome K V → Journaled K V → Type 0
   Journals E old r (accepted reply evicted) new =
       Step E old.cache r reply evicted new.cache
       × (new ≡ record { cache = new.cache; records = old.records ++ record_of (request_by no_value r) (told_of r reply) ∷ []; began = old.began })
   Journals E old r (refused e) new = ((e ≡ Memory) ⊎ Refuses E old.cache r e) × (new ≡ old)
 
-  -- From old, a journal may read the key: an accepted read is the cache's and adds its record; a
-  -- refused one changes nothing, for lack of memory or as the cache refuses it.
+  -- From old, a journal may read the key: an accepted read is one of the cache and adds its record;
+  -- one refused by the cache or for lack of memory changes nothing.
   abbrev pub JournalsRead : {T : Type 0} → (K → K → Bool) → Journaled K V → K → (V → T → Type 0) → Result (Option (ℕ × T)) Refusal → Journaled K V → Type 0
   JournalsRead E old k answers (Ok found) new =
       Reads E old.cache k answers (Ok found) new.cache
       × (new ≡ record { cache = new.cache; records = old.records ++ record_of (ask.read k) (told_of_found found) ∷ []; began = old.began })
   JournalsRead E old k answers (Err e) new = ((e ≡ Memory) ⊎ Reads E old.cache k answers (Err e) new.cache) × (new ≡ old)
 
--- a step and its record, which is told of the answer: an accepted step adds it, a refused one
--- changes nothing
+-- a call and its record: an accepted call adds one record that is_record allows for its result; a
+-- refused one changes nothing
 pub record IsRecorded {K V T E : Type 0} (old : Journaled K V) (is_record : T → Answered K → Type 0) (result : Result T E) (new : Journaled K V) : Type 0 where
   pub began : new.began ≡ old.began
   pub accepted : IfOk result (λ x. (r : Answered K) × is_record x r × (new.records ≡ old.records ++ r ∷ []))
   pub refused : OnErr result (new ≡ old)
 
 module _ {K V : Type 0} where
-  -- what every journal keeps: its records are its history, and a copy of a key equals it
+  -- what holds of every journal: its records are its history, and a copy of a key equals the key
   pub record IsSoundJournal (is_clone : K → K → Type 0) (E : K → K → Bool) (cache : Cache K V) (records : List (Answered K)) (began : ℕ) : Type 0 where
     pub copies : CopiesAreEqual is_clone E
     pub history : IsHistory E (record { cache = cache; records = records; began = began })

@@ -1,4 +1,4 @@
--- The definitions that the contracts of the journal and the twin cite.
+-- The definitions that the contracts of the journal and the twin use.
 pub mod Values
 pub mod Records
 pub mod Replay

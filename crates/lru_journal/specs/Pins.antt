@@ -1,7 +1,7 @@
--- What a pin is seen as.
+-- The view of a pin of the twin.
 use Rattle.std.specs.Prelude.{ℕ}
 
--- the stamp of an entry, and its value
+-- the stamp of the entry, and its value
 pub record TwinPin (V : Type 0) : Type 0 where
   pub stamp : ℕ
   pub value : V

@@ -1,11 +1,11 @@
--- What contracts see of a record: the request without its value, and what was told.
+-- The view of a record: the request without its value, and what was recorded of the reply.
 use Rattle.concurrent_lru.specs.Request as ask
 use Rattle.concurrent_lru.specs.Request.{Request}
 use Rattle.lru_journal.specs.declared.record.Recorded.{Recorded}
 use Rattle.lru_journal.specs.declared.record.Recorded.TheVariants as step
 use Rattle.lru_journal.specs.declared.record.Told.{Told}
 
--- an accepted request without its value, and what was told
+-- an accepted request without its value, and what was recorded of the reply
 pub record Answered (K : Type 0) : Type 0 where
   pub request : Request K (Unit {0})
   pub reply : Told

@@ -1,4 +1,4 @@
--- What clauses see of a page.
+-- The view of a page.
 use Rattle.std.specs.Prelude.{ℕ, List}
 
 -- the reader that a page refers to, the number of its block, and its bytes

@@ -1,3 +1,3 @@
--- The definitions that the contracts of the replay cite.
+-- The definitions that the contracts of the replay use.
 pub mod Slots
 pub mod Spelling

@@ -1,10 +1,10 @@
--- What the slots keep.
+-- The contents of the slots.
 use Rattle.std.specs.Prelude.{Option}
 use Rattle.lru_replay.specs.declared.slots.Slots.{Slots}
 use Rattle.lru_replay.specs.declared.step.Slot.{Slot}
 use Rattle.lru_replay.specs.declared.step.Slot.TheVariants.{Zero, One, Two, Three}
 
--- what a slot keeps, if it keeps anything
+-- what a slot has, if it has anything
 abbrev pub kept_in : {T : Type 0} → Slots T → Slot → Option T
 kept_in slots Zero = slots.zero
 kept_in slots One = slots.one

@@ -17,15 +17,15 @@ use Rattle.lru_replay.specs.declared.step.Step.TheVariants.{New, Init, Insert, G
 abbrev pub Words : Type 0
 Words = List (Bor (List ℕ))
 
--- the text of the word at a place, from 0, which is empty past the end
+-- the word at this index, counted from 0, or an empty text past the end
 abbrev pub word : Words → ℕ → List ℕ
 word words place = (slice_index_or words place (record { ref_ptr = (0, 0); now = [] })).now
 
--- the word is decimal digits, one or more and nothing else, whose value is n, and 64 bits hold it
+-- the word is one or more decimal digits and nothing else, and their value is n, which fits a u64
 abbrev pub Writes : List ℕ → ℕ → Type 0
 Writes text n = IsNumeral 10 text × (digits_value 10 text ≡ n) × (n < 2 ^ 64)
 
--- the word writes a number above 0
+-- the word is such a number, and above 0
 abbrev pub WritesCharge : List ℕ → ℕ → Type 0
 WritesCharge text n = Writes text n × (0 < n)
 
@@ -49,12 +49,12 @@ SpellsEntry key charge entry = Writes key entry.key × WritesCharge charge entry
 abbrev pub SpellsMaking : List ℕ → List ℕ → List ℕ → Making → Type 0
 SpellsMaking key charge outcome making = SpellsEntry key charge making.entry × SpellsOutcome outcome making.outcome
 
--- the words from this place to the last are `drop`, or `keep` and a slot
+-- the words from this index on are `drop`, or `keep` and a slot
 abbrev pub EndsIn : Words → ℕ → Fate → Type 0
 EndsIn words place Drop = (length words ≡ place + 1) × (word words place ≡ codes "drop")
 EndsIn words place (Keep slot) = (length words ≡ place + 2) × (word words place ≡ codes "keep") × SpellsSlot (word words (place + 1)) slot
 
--- the words are the name of the step and what it is asked with, and no more
+-- the words are the name of the step and its arguments, and no more
 abbrev pub Spells : Words → Step → Type 0
 Spells words (New capacity) = (length words ≡ 2) × (word words 0 ≡ codes "new") × Writes (word words 1) capacity
 Spells words (Init making fate) = (word words 0 ≡ codes "init") × SpellsMaking (word words 1) (word words 2) (word words 3) making × EndsIn words 4 fate

@@ -1,11 +1,11 @@
--- A curve as contracts see it: how many uses hit at each capacity, and the charge that is made for
--- the others.
+-- The view of a curve: how many uses hit at each capacity, and the charge that is made for the
+-- others.
 use Rattle.std.specs.Prelude.{◌≡◌, ℕ, ◌+◌, ◌<◌, ◌≤◌, cond, List, [], ◌∷◌, length, count_by, sum_by, nat_le, slice_index, zip, Option, Some, None, refl}
 use Rattle.std.specs.Coded.{Coded, code_by, coded×, coded_ℕ, coded_list}
 use Rattle.lru_sizing.specs.HitsByWeight.{fits, hits_at}
 
--- How many uses there are; in order of size, the reuse weights of those that have one; and for each
--- number of hits, from 0 on, the charge that is made where so many uses hit.
+-- The number of uses; the reuse weights of those that have one, in order of size; and for each
+-- number of hits, from 0 on, the charge that is made if this many uses hit.
 pub record StepCurve : Type 0 where
   pub uses : ℕ
   pub weights : List ℕ
@@ -35,12 +35,11 @@ pub record IsStepCurve (uses : ℕ) (weights made : List ℕ) : Type 0 where
   pub some_hit : length weights ≤ uses
   pub each_made : length made ≡ length weights + 1
 
--- the sum of the charges of the uses that don't fit, each with its reuse weight: what is made at
--- this capacity
+-- the charge that is made at this capacity: the sum of the charges of the uses that do not fit
 abbrev pub charge_made_at : ℕ → List ℕ → List (Option ℕ) → ℕ
 charge_made_at capacity charges weights = sum_by (λ u. cond (fits capacity u.1) 0 u.0) (zip charges weights)
 
--- the reuse weights that there are, each with the charge of its use
+-- the uses that have a reuse weight, each as its weight and its charge
 abbrev pub reused : List ℕ → List (Option ℕ) → List (ℕ × ℕ)
 reused [] weights = []
 reused (c ∷ charges) [] = []
@@ -53,7 +52,7 @@ pub record IsCurveOf (charges : List ℕ) (weights : List (Option ℕ)) (curve :
   pub hits : (capacity : ℕ) → hits_in capacity curve ≡ hits_at capacity weights
   pub made : (capacity : ℕ) → charge_made_in capacity curve ≡ charge_made_at capacity charges weights
 
--- the least capacity at which so many uses hit, where so many hit at each
+-- the least capacity at which at least this many uses hit, by the hits at each capacity
 pub record IsLeastFor (hits : ℕ) (hits_of : ℕ → ℕ) (capacity : ℕ) : Type 0 where
   pub enough : hits ≤ hits_of capacity
   pub least : (less : ℕ) → less < capacity → hits_of less < hits

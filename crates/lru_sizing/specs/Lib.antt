@@ -1,4 +1,4 @@
--- The definitions that the contracts of sizing cite.
+-- The definitions that the contracts of sizing use.
 pub mod ReuseWeights
 pub mod HitsByWeight
 pub mod SumTrees

@@ -1,11 +1,11 @@
--- Slots in a circle: which comes next, and how far it is from one to another.
+-- Slots in a circle: the next slot, and the distance from one slot to another.
 use Rattle.std.specs.Prelude.{ℕ, ◌+◌, ◌-◌, nat_lt, bit_and, if◌then◌else◌}
 
--- the slot after this one, of n; after the last comes the first
+-- the slot after this one, of n slots; the first one follows the last one
 abbrev pub next_of : ℕ → ℕ → ℕ
 next_of n at = if nat_lt (at + 1) n then at + 1 else 0
 
--- how many steps it is from one slot on to another
+-- the number of steps from one slot on to another
 abbrev pub steps : ℕ → ℕ → ℕ → ℕ
 steps n from to = if nat_lt to from then n - from + to else to - from
 

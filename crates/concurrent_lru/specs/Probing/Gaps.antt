@@ -1,14 +1,14 @@
--- A slot that has been emptied, while what follows it is moved back.
+-- A slot that was emptied, while the entries after it are moved back.
 use Rattle.std.specs.Prelude.{◌≡◌, ◌≢◌, ℕ, ◌<◌, ◌≤◌, List, length, ◌⊎◌}
 use Rattle.concurrent_lru.specs.Probing.Cycle.{next_of, steps, home_of}
 use Rattle.concurrent_lru.specs.Probing.Probes.{mark_at, IsEmptyAt, IsFilledAt}
 
--- how far a slot lies after the empty slot `end`, at which every search ends
+-- the distance of a slot from the one after the empty slot `end`, where every search ends
 abbrev pub rank : ℕ → ℕ → ℕ → ℕ
 rank n end k = steps n (next_of n end) k
 
--- among n slots `hole` is empty; the slots after `start` and before `at` have been dealt with, and
--- what is reached over the hole lies from `at` on
+-- among n slots `hole` is empty; the slots after `start` and before `at` are done, and an entry
+-- whose search crosses the hole is at `at` or after it
 pub record IsGap (n : ℕ) (ms : List ℕ) (start hole at : ℕ) : Type 0 where
   pub end : ℕ
   pub long : length ms ≡ n

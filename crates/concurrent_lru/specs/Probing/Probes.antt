@@ -8,7 +8,7 @@ use Rattle.concurrent_lru.specs.declared.list.probes.Probe.TheVariants.{Filled, 
 abbrev pub marks_of : {T : Type 0} → List (Slot T) → List ℕ
 marks_of slots = map (λ s. s.mark) slots
 
--- the mark of a slot; past the last slot there is none
+-- the mark of a slot, or 0 past the last slot
 abbrev pub mark_at : List ℕ → ℕ → ℕ
 mark_at ms k = slice_index_or ms k 0
 
@@ -21,7 +21,7 @@ IsFilledAt ms k = mark_at ms k ≢ 0
 abbrev pub HasEmpty : List ℕ → Type 0
 HasEmpty ms = (k : ℕ) × (k < length ms) × IsEmptyAt ms k
 
--- the filled slots from this one on, at most so many, up to the first empty one
+-- the filled slots from this one up to the first empty one, at most this many
 abbrev pub run : ℕ → List ℕ → ℕ → List ℕ
 run zero ms at = []
 run (suc more) ms at = if mark_at ms at == 0 then [] else at ∷ run more ms (next_of (length ms) at)
@@ -37,16 +37,16 @@ run_at ms at = run (length ms) ms at
 abbrev pub end_at : List ℕ → ℕ → ℕ
 end_at ms at = end (length ms) ms at
 
--- the slots with this mark that a walk from a slot on comes to
+-- the slots with this mark that a walk from a slot visits
 abbrev pub walk_at : List ℕ → ℕ → ℕ → List ℕ
 walk_at ms mark at = filter (λ k. mark_at ms k == mark) (run_at ms at)
 
--- what a search from a slot on comes to first: a slot with the mark, or else an empty slot
+-- what a search from a slot finds first: a slot with the mark, or else an empty slot
 abbrev pub Finds : List ℕ → ℕ → ℕ → Probe → Type 0
 Finds ms mark at (Filled k) = (mark_at ms k ≡ mark) × (walk_at ms mark at ≡ walk_at ms mark k)
 Finds ms mark at (Empty k) = (k ≡ end_at ms at) × (walk_at ms mark at ≡ [])
 
--- no slot from the home of a mark to the slot of the mark is empty, among n slots
+-- among n slots, none from the home of a mark to the slot with the mark is empty
 abbrev pub IsReachedIn : ℕ → List ℕ → Type 0
 IsReachedIn n ms = (k m : ℕ) → IsFilledAt ms k → m < n
     → steps n (home_of n (mark_at ms k)) m ≤ steps n (home_of n (mark_at ms k)) k → IsFilledAt ms m
