@@ -23,9 +23,6 @@ module _ {K V : Type 0} where
   abbrev pub after_link : Node K V → Option Ptr
   after_link n = cond (out-Node K V n).has_after (Some (out-Node K V n).after) None
 
-  abbrev pub HasCell : NodeCells K V → ℕ → Type 0
-  HasCell cs k = (c : NodeCell K V) × (cell_at cs k ≡ Some c)
-
   -- the slot of the node that a link leads to
   abbrev pub slot_in : NodeCells K V → Option Ptr → Option ℕ
   slot_in cs None = None
