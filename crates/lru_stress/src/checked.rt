@@ -59,7 +59,7 @@ impl<C: Cached<CountedValue>> StressTarget for CheckedCache<C> {
 }
 
 impl<C: Cached<CountedValue>> CheckedCache<C> {
-    /// Creates a new book for the values of an empty cache, which is asked as the plan says.
+    /// Creates a checked cache from an empty one, with a new book, to be asked as the plan says.
     ///
     /// Returns `Refused` if memory was refused.
     pub fn of(alloc: Global, plan: &Plan, cache: C) -> Result<CheckedCache<C>, Trouble> {
