@@ -33,15 +33,15 @@ HERE = pathlib.Path(__file__).resolve().parent
 EXPECTED = HERE / "expected"
 # which of two threads makes a request, and in which call, is up to the schedule
 UNTOLD = ["unsharded-two-threads"]
-# what a program says where a request of its own is refused, unless it says `refused 1`
+# what a program writes if a request of its own is refused, unless it writes `refused 1`
 OWN = {
     "lru_cat": r'lru_cat: (there is no memory|cannot read ".*": (no memory|there is no memory for the block))\n',
     "lru_replay": r"(line \d+: )?refused 1\n",
     "lru_size": r"lru_size: out of memory\n",
 }
-# what a program says where nothing is refused, unless that is nothing
+# what a program writes if nothing is refused; the others write nothing
 USUAL = {"lru_cat": "4 blocks read, 9 answers from memory\n"}
-# what deny.c writes where it refuses
+# what deny.c writes when it refuses a request
 MARK = b"this request is refused\n"
 
 
@@ -170,7 +170,7 @@ def main():
     asked = words.parse_args()
     os.chdir(HERE.parent.parent)
     scripted, rows = built("lru_no_memory"), built("lru_rows")
-    # the words and the input with which the gate runs it
+    # the arguments and the input with which the gate runs lru_size
     sizing, trace = pathlib.Path("crates/lru_size/args").read_text(encoding="utf-8").split(), "crates/lru_size/stdin"
     size = built("lru_size")
     bench, soak = built("lru_bench"), built("lru_soak")
@@ -178,8 +178,8 @@ def main():
     cat, replay = built("lru_cat"), built("lru_replay")
     _, out, _ = run(scripted, [])
     scripts = re.findall(r"^script (.*)$", out.decode(), re.MULTILINE)
-    # the workloads make up to some 400,000 requests: the first ones are refused, and then some far
-    # between
+    # the workloads make up to about 400,000 requests: the first ones are refused, and then a few,
+    # farther and farther apart
     some = [*range(1, 21), *(100 * 2**power for power in range(13))]
     runs = [
         (rows, ["stress", "1"], some),

@@ -12,10 +12,10 @@ from html import escape
 from pathlib import Path
 from typing import NamedTuple
 
-# The width of a picture, and of what is left and right of its lines: numbers, and labels.
+# The width of a picture, of the numbers left of its lines, and of the labels right of them.
 WIDTH, LEFT, RIGHT = 860, 64, 270
 
-# The heights of the titles, of a chart with its own, and of the marks and words below its lines.
+# The heights of the titles, of a chart with its title, and of what is above and below its lines.
 HEAD, CHART, ABOVE, BELOW = 74, 480, 16, 72
 
 # How near a label may be to the next one.
@@ -45,7 +45,7 @@ OTHER_COLOURS = ("#5a5a5a", "#b4b4b4")
 # What the picture by threads leaves out, since its lines run close to those of others.
 CLOSE = {"port-unsharded-read", "port-sharded-read", "port-sharded-256", "port-sharded-256-read"}
 
-# What the parts of a system's name are called. A number is one of shards.
+# The labels of the parts of a system's name. A number in a name is a number of shards.
 CALLED = {
     "std-map": "std's map",
     "port": "this cache",

@@ -1,13 +1,13 @@
-//! A pointer that owns what it leads to, as a box does, or leads to nothing.
-//! A handle of C has the same fields, in a struct of its own: a struct with a type parameter does
-//! not cross to C.
+//! A pointer that owns what it points to, as a box does, or owns nothing. A handle of C has the
+//! same fields in a struct of its own, because a struct with a type parameter cannot be passed to
+//! C.
 ghost use Rattle.std.specs.Prelude.{◌≡◌, Option as Maybe, Some, None, is_some, true};
 ghost use Rattle.lru_c.specs.Held.{held_owns};
 
 use std::alloc::Allocator;
 use std::marker::Model;
 
-/// A pointer. Where `held` is some, it owns that as a box does; else it owns nothing.
+/// A pointer. If `held` is some, it owns that value as a box does; otherwise it owns nothing.
 pub struct At<T, A: Allocator> {
     pub(crate) ptr: *mut T,
     pub(crate) alloc: A,

@@ -25,10 +25,10 @@ use crate::{chain_calls, code, steps};
 use concurrent_lru::lru_core::Evicted;
 use std::alloc::Global;
 
-/// Opens an empty cache. An entry may have as many pins as a `u32` counts, and the first one gets
-/// the stamp 0. Keys are hashed with `seed`; no answer depends on it.
+/// Opens an empty cache. An entry may have up to `u32::MAX` pins, and the first entry gets the
+/// stamp 0. Keys are hashed with `seed`; no answer depends on it.
 ///
-/// `OPEN` where the handle is open already, and `MEMORY`: the handle is as it was.
+/// Returns `OPEN` if the handle is already open, or `MEMORY`; the handle is unchanged then.
 #[unsafe(no_mangle)]
 pub extern "C" fn lru_bytes_new(alloc: Global, capacity: u64, seed: u64, out: &mut LruBytes) -> u32
     ensures { Opens (out.old.is_open == 1) out.old.cache.held
@@ -50,8 +50,8 @@ pub extern "C" fn lru_bytes_new(alloc: Global, capacity: u64, seed: u64, out: &m
 /// Opens an empty cache whose first entry gets the stamp `first_stamp`, and whose entries have at
 /// most `most_pins` pins each. Keys are hashed with `seed`; no answer depends on it.
 ///
-/// `NO_PINS` where that is 0, `OPEN` where the handle is open already, and `MEMORY`: the handle is
-/// as it was.
+/// Returns `NO_PINS` if `most_pins` is 0, `OPEN` if the handle is already open, and `MEMORY` if the
+/// allocator refuses. The handle is unchanged then.
 #[unsafe(no_mangle)]
 pub extern "C" fn lru_bytes_new_with_limits(
     alloc: Global,
@@ -89,10 +89,10 @@ pub extern "C" fn lru_bytes_new_with_limits(
     }
 }
 
-/// Frees a cache, and puts each entry that has a value into a chain: what was idle, oldest first,
-/// and then what was held, in no particular order. The handle is not open then.
+/// Frees a cache, closes its handle, and puts its entries that have a value into a chain: the idle
+/// ones, oldest first, followed by the held ones, in no particular order.
 ///
-/// `CLOSED` where the cache or the chain is not open, and `NOT_EMPTY` where the chain has entries.
+/// Returns `CLOSED` if the cache or chain is not open, and `NOT_EMPTY` if the chain has entries.
 #[unsafe(no_mangle)]
 pub extern "C" fn lru_bytes_free(cache: &mut LruBytes, left: &mut LruBytesEvicted) -> u32
     ensures { Into left.old left.new result cache.old cache.new
@@ -101,11 +101,11 @@ pub extern "C" fn lru_bytes_free(cache: &mut LruBytes, left: &mut LruBytesEvicte
     free_into_chain(cache, left)
 }
 
-/// Asks for the value of a key and pins its entry, which is made where there is none. What the
-/// charge of a new entry evicted is put into a chain, oldest first.
+/// Asks for the value of a key and pins its entry, inserting one with this charge if there is none.
+/// What the charge of a new entry evicts is put into a chain, oldest first.
 ///
-/// `NO_CHARGE` for a charge of 0, `CLOSED` where the cache or the chain is not open, `NOT_EMPTY`
-/// where the chain has entries, and the refusals of the core: nothing changes.
+/// Returns `NO_CHARGE` if the charge is 0, `CLOSED` if the cache or chain is not open, `NOT_EMPTY`
+/// if the chain has entries, and `OVERFLOW` or `MEMORY` as `lru.h` says; nothing changes then.
 #[unsafe(no_mangle)]
 pub extern "C" fn lru_bytes_begin_nonnull(
     cache: &mut LruBytes,
@@ -131,9 +131,9 @@ pub extern "C" fn lru_bytes_begin_nonnull(
     answer
 }
 
-/// Asks again for a value that was being made.
+/// Asks again for a value that was being made. Returns `MAKE` if its maker has failed.
 ///
-/// `STALE` where no held entry has the stamp.
+/// Returns `STALE` if no held entry has the stamp.
 #[unsafe(no_mangle)]
 pub extern "C" fn lru_bytes_poll(cache: &mut LruBytes, stamp: u64) -> LruTold
     ensures { Asks bytes_eq cache.old.cache.held (ask.poll stamp) result [] cache.new.cache.held }
@@ -144,9 +144,8 @@ pub extern "C" fn lru_bytes_poll(cache: &mut LruBytes, stamp: u64) -> LruTold
     }
 }
 
-/// Gives the value of an entry that is being made.
-///
-/// `STALE` where none is being made under the stamp; `MEMORY`, and then it is still being made.
+/// Stores the value of an entry that is being made. Returns `STALE` if no entry is being made under
+/// the stamp, and `MEMORY` if the allocator refuses; the entry is then still being made.
 #[unsafe(no_mangle)]
 pub extern "C" fn lru_bytes_ready(cache: &mut LruBytes, stamp: u64, value: u64) -> u32
     ensures { AsksWithMemory bytes_eq cache.old.cache.held (ask.ready stamp value)
@@ -158,9 +157,9 @@ pub extern "C" fn lru_bytes_ready(cache: &mut LruBytes, stamp: u64, value: u64) 
     }
 }
 
-/// Gives a making up, and the pin with it: `LEFT` where others wait, and else `REMOVED`.
+/// Gives up a making and releases its pin. Returns `LEFT` if others wait, otherwise `REMOVED`.
 ///
-/// `STALE` where none is being made under the stamp.
+/// Returns `STALE` if no entry is being made under the stamp.
 #[unsafe(no_mangle)]
 pub extern "C" fn lru_bytes_fail(cache: &mut LruBytes, stamp: u64) -> u32
     ensures { Asks bytes_eq cache.old.cache.held (ask.fail stamp)
@@ -172,9 +171,9 @@ pub extern "C" fn lru_bytes_fail(cache: &mut LruBytes, stamp: u64) -> u32
     }
 }
 
-/// The value of a key that is ready, pinned once more; `MISSED` where there is none.
-///
-/// `OVERFLOW` where the entry has all its pins, `MEMORY` and `CLOSED`: nothing changes.
+/// Pins the entry of a key and returns its value, or returns `MISSED` if the key has no ready
+/// value. Returns `OVERFLOW` if the entry has the maximum number of pins, `MEMORY` if a copy of the
+/// key or value is refused, and `CLOSED` if the cache is not open; nothing changes then.
 #[unsafe(no_mangle)]
 pub extern "C" fn lru_bytes_get_nonnull(cache: &mut LruBytes, key: &[u8]) -> LruTold
     ensures { AsksByKey cache.old.cache.held ask.get key.now result [] cache.new.cache.held }
@@ -185,7 +184,7 @@ pub extern "C" fn lru_bytes_get_nonnull(cache: &mut LruBytes, key: &[u8]) -> Lru
     }
 }
 
-/// Whether a key has a value: `DONE` or `MISSED`. Pins nothing and moves nothing.
+/// Returns `DONE` if a key has a ready value, otherwise `MISSED`. Pins nothing and moves nothing.
 #[unsafe(no_mangle)]
 pub extern "C" fn lru_bytes_contains_nonnull(cache: &mut LruBytes, key: &[u8]) -> u32
     ensures { Contains cache.old.cache.held key.now result cache.new.cache.held }
@@ -196,10 +195,10 @@ pub extern "C" fn lru_bytes_contains_nonnull(cache: &mut LruBytes, key: &[u8]) -
     }
 }
 
-/// Gives a pin of a ready entry back. With its last pin the entry becomes the newest idle one, and
-/// what is evicted then is put into a chain, oldest first.
+/// Releases a pin of a ready entry. With its last pin the entry becomes the newest idle one, or is
+/// evicted if it is detached. What is evicted is put into a chain, oldest first.
 ///
-/// `STALE` where no held and ready entry has the stamp.
+/// Returns `STALE` if no held and ready entry has the stamp.
 #[unsafe(no_mangle)]
 pub extern "C" fn lru_bytes_release(
     cache: &mut LruBytes,
@@ -220,7 +219,7 @@ pub extern "C" fn lru_bytes_release(
     )
 }
 
-/// Evicts the entry of a key into a chain, where it is idle; else nothing happens, now or later.
+/// Evicts the entry of a key into a chain if it is idle. Otherwise nothing happens, now or later.
 #[unsafe(no_mangle)]
 pub extern "C" fn lru_bytes_advice_evict_nonnull(
     cache: &mut LruBytes,
@@ -245,8 +244,8 @@ pub extern "C" fn lru_bytes_advice_evict_nonnull(
     answer
 }
 
-/// Detaches the entry of a key, so that no call by the key finds it. An idle entry is evicted into
-/// a chain; a held one is found by its stamp still, and is evicted with its last pin. Where the key
+/// Detaches the entry of a key, so that no call finds it by the key. An idle entry is evicted into
+/// a chain; a held one is still found by its stamp, and is evicted with its last pin. If the key
 /// has no entry, nothing happens.
 #[unsafe(no_mangle)]
 pub extern "C" fn lru_bytes_invalidate_nonnull(
@@ -272,13 +271,13 @@ pub extern "C" fn lru_bytes_invalidate_nonnull(
     answer
 }
 
-/// Puts a value in, whatever the key has: detaches the entry of the key as an invalidate does, and
-/// makes a new one, in which the caller has a pin: `DONE` with its stamp. The entry that was idle
-/// under the key, and then what the charge evicted, oldest first, are put into a chain.
+/// Inserts a value, replacing what the key has: detaches the entry of the key as `invalidate` does,
+/// and inserts a new one with a pin for the caller. Returns `DONE` with its stamp. The idle entry
+/// that was replaced, and then what the charge evicted, oldest first, are put into a chain.
 ///
-/// `NO_CHARGE` for a charge of 0, `CLOSED` where the cache or the chain is not open, `NOT_EMPTY`
-/// where the chain has entries, `OVERFLOW` and `MEMORY`: nothing changes, and the value is not
-/// taken.
+/// Returns `NO_CHARGE` if the charge is 0, `CLOSED` if the cache or chain is not open, `NOT_EMPTY`
+/// if the chain has entries, and `OVERFLOW` or `MEMORY` as `lru.h` says. Nothing changes then, and
+/// the value is not taken.
 #[unsafe(no_mangle)]
 pub extern "C" fn lru_bytes_insert_nonnull(
     cache: &mut LruBytes,
@@ -305,7 +304,7 @@ pub extern "C" fn lru_bytes_insert_nonnull(
     answer
 }
 
-/// Evicts each idle entry into a chain, oldest first.
+/// Evicts every idle entry into a chain, oldest first.
 #[unsafe(no_mangle)]
 pub extern "C" fn lru_bytes_prune(cache: &mut LruBytes, gone: &mut LruBytesEvicted) -> u32
     ensures { Into gone.old gone.new result cache.old cache.new
@@ -322,7 +321,7 @@ pub extern "C" fn lru_bytes_prune(cache: &mut LruBytes, gone: &mut LruBytesEvict
     )
 }
 
-/// Sets the capacity, and evicts at once what is idle and too much for it.
+/// Sets the capacity, and evicts idle entries into a chain while the total is above it.
 #[unsafe(no_mangle)]
 pub extern "C" fn lru_bytes_set_capacity(
     cache: &mut LruBytes,
@@ -343,7 +342,7 @@ pub extern "C" fn lru_bytes_set_capacity(
     )
 }
 
-/// Makes room for this many entries in all. No entry changes in any case.
+/// Reserves room for a total of `entries` entries. No entry changes, even if it returns `MEMORY`.
 #[unsafe(no_mangle)]
 pub extern "C" fn lru_bytes_reserve(cache: &mut LruBytes, entries: usize) -> u32
     ensures { Reserves cache.old.cache.held result cache.new.cache.held }
@@ -354,7 +353,7 @@ pub extern "C" fn lru_bytes_reserve(cache: &mut LruBytes, entries: usize) -> u32
     }
 }
 
-/// The sum of the charges of all entries.
+/// Returns the sum of the charges of all entries.
 #[unsafe(no_mangle)]
 pub extern "C" fn lru_bytes_total(cache: &mut LruBytes) -> LruTold
     ensures { Numbers cache.old.cache.held sum_of result cache.new.cache.held }
@@ -365,7 +364,7 @@ pub extern "C" fn lru_bytes_total(cache: &mut LruBytes) -> LruTold
     }
 }
 
-/// The sum of the charges of the entries that have a pin.
+/// Returns the sum of the charges of the held entries.
 #[unsafe(no_mangle)]
 pub extern "C" fn lru_bytes_pinned_charge(cache: &mut LruBytes) -> LruTold
     ensures { Numbers cache.old.cache.held pinned_of result cache.new.cache.held }
@@ -376,7 +375,7 @@ pub extern "C" fn lru_bytes_pinned_charge(cache: &mut LruBytes) -> LruTold
     }
 }
 
-/// The total that the cache settles to.
+/// Returns the capacity.
 #[unsafe(no_mangle)]
 pub extern "C" fn lru_bytes_capacity(cache: &mut LruBytes) -> LruTold
     ensures { Numbers cache.old.cache.held (λ c. c.capacity) result cache.new.cache.held }
@@ -387,7 +386,7 @@ pub extern "C" fn lru_bytes_capacity(cache: &mut LruBytes) -> LruTold
     }
 }
 
-/// How many entries there are, held and idle.
+/// Returns the number of entries, held and idle.
 #[unsafe(no_mangle)]
 pub extern "C" fn lru_bytes_len(cache: &mut LruBytes) -> LruTold
     ensures { Numbers cache.old.cache.held count_of result cache.new.cache.held }
@@ -398,9 +397,9 @@ pub extern "C" fn lru_bytes_len(cache: &mut LruBytes) -> LruTold
     }
 }
 
-/// Counts of what the calls on a cache have answered since it was opened, and what it holds.
+/// Writes counts of what the calls on a cache have returned since it was opened, and what it holds.
 ///
-/// `CLOSED` where the cache is not open, and then nothing is written.
+/// Returns `CLOSED` if the cache is not open; nothing is written then.
 #[unsafe(no_mangle)]
 pub extern "C" fn lru_bytes_stats(cache: &mut LruBytes, out: &mut LruStats) -> u32
     ensures told { TellsStats cache.old.cache.held result out.new cache.new.cache.held }
@@ -413,10 +412,10 @@ pub extern "C" fn lru_bytes_stats(cache: &mut LruBytes, out: &mut LruStats) -> u
     code::DONE
 }
 
-/// Copies the key of an entry, held or idle, to the front of a buffer: `NUMBER` with its length.
+/// Copies the key of an entry, held or idle, to the start of a buffer: `NUMBER` with its length.
 ///
-/// `NO_ROOM` with its length where the buffer is too small, and `STALE` where no entry has the
-/// stamp: nothing is written.
+/// Returns `NO_ROOM` with its length if the buffer is too small, and `STALE` if no entry has the
+/// stamp. Nothing is written then.
 #[unsafe(no_mangle)]
 pub extern "C" fn lru_bytes_key_of_nonnull(
     cache: &mut LruBytes,
@@ -433,7 +432,7 @@ pub extern "C" fn lru_bytes_key_of_nonnull(
 
 /// Opens an empty chain.
 ///
-/// `OPEN` where the handle is open already, and `MEMORY`: the handle is as it was.
+/// Returns `OPEN` if the handle is already open, or `MEMORY`; the handle is unchanged then.
 #[unsafe(no_mangle)]
 pub extern "C" fn lru_bytes_evicted_new(alloc: Global, out: &mut LruBytesEvicted) -> u32
     ensures { Opens (out.old.is_open == 1) out.old.chain.held
@@ -451,9 +450,9 @@ pub extern "C" fn lru_bytes_evicted_new(alloc: Global, out: &mut LruBytesEvicted
     }
 }
 
-/// Frees a chain that has no entries. The handle is not open then.
+/// Frees an empty chain and closes its handle.
 ///
-/// `NOT_EMPTY` where it has some, and then nothing changes.
+/// Returns `NOT_EMPTY` if the chain has entries; nothing changes then.
 #[unsafe(no_mangle)]
 pub extern "C" fn lru_bytes_evicted_free(chain: &mut LruBytesEvicted) -> u32
     ensures code { result ≡ chain_code (entries_of chain.old.chain.held) }
@@ -482,7 +481,7 @@ pub extern "C" fn lru_bytes_evicted_pop(chain: &mut LruBytesEvicted, out: &mut L
     }
 }
 
-/// Whether a chain has no entry; true too where it is not open.
+/// Returns whether a chain has no entries or is not open.
 #[unsafe(no_mangle)]
 pub extern "C" fn lru_bytes_evicted_is_empty(chain: &mut LruBytesEvicted) -> bool
     ensures same { chain.new.chain.held ≡ chain.old.chain.held }

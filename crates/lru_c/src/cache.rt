@@ -1,4 +1,4 @@
-//! What the handle of a cache leads to.
+//! What the handle of a cache points to.
 ghost use Rattle.std.specs.Prelude.{◌≡◌, ◌<◌, [], IfOk, MatchOption};
 ghost use Rattle.concurrent_lru.specs.Cache.{CopiesAreEqual, empty_cache};
 ghost use Rattle.concurrent_lru.specs.Request as ask;
@@ -12,16 +12,16 @@ use concurrent_lru::lru_core::{Evicted, State};
 use std::alloc::{AllocError, Global};
 use std::hash::Hash;
 
-/// A cache, and room to ask in, `R`, which depends on how C writes a key.
+/// A cache with its counts and a key buffer, `R`, which depends on how C passes a key.
 #[derive(Drop)]
 pub struct Cache<K: Hash + Eq + Clone, R> {
-    /// What values are put on the heap by.
+    /// The allocator of the values.
     pub alloc: Global,
     /// The cache.
     pub state: State<K, u64>,
-    /// What the calls on it have answered.
+    /// The counts of what its calls have returned.
     pub counts: Counts,
-    /// Where a key that is asked is put together, where it does not come as a whole.
+    /// A buffer for the key of the current call, unless C passes whole keys.
     pub room: R,
 }
 
@@ -86,7 +86,7 @@ impl<K: Hash + Eq + Clone, R> Cache<K, R> {
     }
 }
 
-// A handle that leads to an empty cache.
+// Returns a handle to a new, empty cache, or `AllocError` if the allocator refuses.
 pub(crate) fn make<K: Hash + Eq + Clone, R: Drop, H: Handle<To = Cache<K, R>>>(
     alloc: Global,
     capacity: u64,

@@ -1,4 +1,4 @@
-//! What the handle of a chain leads to.
+//! What the handle of a chain points to.
 ghost use Rattle.std.specs.Prelude.{◌≡◌, ◌++◌, Some};
 ghost use Rattle.lru_c.specs.Chains.{chain_code, Pops};
 
@@ -6,17 +6,17 @@ use crate::code;
 use crate::told::LruGone;
 use concurrent_lru::lru_core::{Evicted, Gone};
 
-/// What a call took out of a cache, oldest first: these, and then those.
+/// The entries that a call took out of a cache, in order: `first`, and then `rest`.
 #[derive(Drop)]
 pub struct Chain<K> {
-    /// What is popped first.
+    /// The entries that are popped first.
     pub first: Evicted<K, u64>,
-    /// What is popped after it.
+    /// The entries that are popped after those.
     pub rest: Evicted<K, u64>,
 }
 
 impl<K: Drop> Chain<K> {
-    // Whether it takes more.
+    // Returns `NOT_EMPTY` if the chain has entries, otherwise `DONE`.
     pub(crate) fn is_filled(&self) -> u32
         ensures { result ≡ chain_code (Some (self.now.first ++ self.now.rest)) }
     {
@@ -29,7 +29,7 @@ impl<K: Drop> Chain<K> {
         code::DONE
     }
 
-    // Takes the first entry out.
+    // Takes out the first entry and returns it, or `None` if none is left.
     pub(crate) fn pop(&mut self) -> Option<LruGone>
         ensures { Pops (self.old.first ++ self.old.rest) result (self.new.first ++ self.new.rest) }
     {

@@ -1,5 +1,5 @@
-//! The calls on a chain, and those on a cache that put what they take out into a chain, for keys of
-//! any type.
+//! The calls on a chain, and the calls on a cache that put entries into a chain, for any type of
+//! key.
 ghost use Rattle.std.specs.Borrow.{sem};
 ghost use Rattle.std.specs.Fn.{FnOnceReturnsAtMut};
 ghost use Rattle.std.specs.Prelude.{◌≡◌, ◌≢◌, ◌==◌, [], None, Some, is_some, IfOk, MatchBool, MatchOption, MatchResult};
@@ -30,7 +30,7 @@ pub(crate) fn make<K: Drop, G: Handle<To = Chain<K>>>(alloc: Global) -> Result<G
     Ok(open(boxed))
 }
 
-// Whether a chain takes more.
+// Returns `DONE` if a chain is open and empty, otherwise `CLOSED` or `NOT_EMPTY`.
 pub(crate) fn is_filled<K: Drop, G: Handle<To = Chain<K>>>(chain: &mut G) -> u32
     ensures same { G.held chain.new ≡ G.held chain.old }
     ensures code { result ≡ chain_code (entries_of (G.held chain.old)) }
@@ -52,8 +52,8 @@ pub(crate) fn pop<K: Drop, G: Handle<To = Chain<K>>>(chain: &mut G) -> Option<Lr
     }
 }
 
-// The chain of a handle that is open and has no entries, for a call that fills it. Else the code
-// that tells why there is none.
+// Returns the chain of a handle for a call to fill, if it is open and empty. Otherwise returns the
+// code that says why not: `CLOSED` or `NOT_EMPTY`.
 pub(crate) fn empty_chain<K: Drop, G: Handle<To = Chain<K>>>(
     gone: &mut G,
 ) -> Result<&mut Chain<K>, u32>
@@ -75,7 +75,7 @@ pub(crate) fn empty_chain<K: Drop, G: Handle<To = Chain<K>>>(
     }
 }
 
-// Frees a chain that has no entries.
+// Frees a chain if it is empty and closes its handle. Returns the code of `is_filled`.
 pub(crate) fn free<K: Drop, G: Handle<To = Chain<K>>>(chain: &mut G) -> u32
     ensures code { result ≡ chain_code (entries_of (G.held chain.old)) }
     ensures chain { MatchBool (result == codes.done) (G.held chain.new ≡ None)
@@ -88,8 +88,8 @@ pub(crate) fn free<K: Drop, G: Handle<To = Chain<K>>>(chain: &mut G) -> u32
     filled
 }
 
-// Makes a call on a cache, and puts what it evicted into a chain; no call where the chain takes no
-// more.
+// Makes a call on a cache, and puts what it evicted into a chain. Unless the cache is open and the
+// chain is open and empty, makes no call and returns the code that says why.
 pub(crate) fn into_chain<K, C, G, H, B, F>(cache: &mut H, gone: &mut G, call: F) -> B
 where
     K: Drop,
@@ -119,7 +119,7 @@ where
     answer
 }
 
-// Takes each entry out of a cache into a chain, and frees the cache.
+// Frees a cache and puts its entries that have a value into a chain. Refuses as `into_chain` does.
 pub(crate) fn free_into_chain<K, R, G, H>(cache: &mut H, left: &mut G) -> u32
 where
     K: Hash + Eq + Clone,

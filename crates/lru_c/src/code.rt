@@ -1,26 +1,26 @@
-//! The codes that C is told, as the header lists them.
+//! The codes that calls return to C, as `lru.h` lists them.
 
 /// Pinned; the caller makes the value.
 pub const MAKE: u32 = 0;
-/// Pinned; another makes the value.
+/// Pinned; another caller makes the value.
 pub const WAIT: u32 = 1;
-/// Pinned; the value is told.
+/// Pinned; the value is returned.
 pub const HIT: u32 = 2;
 /// Done.
 pub const DONE: u32 = 3;
-/// A making was given up, and others wait.
+/// A making was given up while others wait.
 pub const LEFT: u32 = 4;
-/// A making was given up, and its entry is gone.
+/// A making was given up and its entry removed.
 pub const REMOVED: u32 = 5;
 /// No ready entry has the key.
 pub const MISSED: u32 = 6;
-/// Refused: a number is at its end.
+/// Refused: a number would overflow.
 pub const OVERFLOW: u32 = 7;
-/// Refused: no entry that the call is for has the stamp.
+/// Refused: the stamp names no entry that the call is for.
 pub const STALE: u32 = 8;
-/// Refused: the allocator gave no memory.
+/// Refused: the allocator refused memory.
 pub const MEMORY: u32 = 9;
-/// The number that was asked for is told.
+/// The number that was asked for is returned.
 pub const NUMBER: u32 = 10;
 /// Refused: a charge of 0.
 pub const NO_CHARGE: u32 = 11;

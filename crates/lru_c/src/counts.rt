@@ -1,19 +1,19 @@
-//! Counts of what the calls on a cache of C answered.
+//! Counts of what the calls on a cache have returned to C.
 //!
-//! They are plain numbers, kept beside the cache behind its handle.
+//! They are plain numbers, kept with the cache behind its handle.
 ghost use Rattle.std.specs.Prelude.{◌≡◌};
 ghost use Rattle.lru_c.specs.Counted.{answered, inserted, no_calls, one_insertion, one_making};
 
 use crate::code;
 use crate::told::LruTold;
 
-/// What the calls on a cache have answered since it was opened. A count that reaches `u64::MAX`
+/// What the calls on a cache have returned since it was opened. A count that reaches `u64::MAX`
 /// stays there.
 #[derive(Clone, Copy)]
 pub struct Counts {
     /// Calls of `begin` and `get` that found a value.
     pub hits: u64,
-    /// Calls of `begin` and `get` that found none, and did not wait.
+    /// Calls of `begin` and `get` that found none and did not wait.
     pub misses: u64,
     /// Calls of `begin` that found the value being made.
     pub waits: u64,
@@ -26,7 +26,7 @@ pub struct Counts {
 }
 
 impl Counts {
-    // No calls yet, on a cache whose first entry gets this stamp.
+    // Returns the counts of a cache without calls whose first entry gets this stamp.
     pub(crate) fn from(first_stamp: u64) -> Counts
         ensures { result ≡ no_calls first_stamp }
     {
@@ -40,7 +40,7 @@ impl Counts {
         }
     }
 
-    // Counts the answer of a begin, a get or a fail.
+    // Counts the answer of `begin`, `get` or `fail`.
     #[inline(always)]
     pub(crate) fn answer(&mut self, told: LruTold)
         ensures { self.new ≡ answered told self.old }
@@ -58,7 +58,7 @@ impl Counts {
         }
     }
 
-    // Counts a caller that is to make the value of the entry with this stamp.
+    // Counts a miss, and a new entry unless the caller took over a making that failed.
     fn make(&mut self, stamp: u64)
         ensures { self.new ≡ one_making stamp self.old }
     {
@@ -75,7 +75,7 @@ impl Counts {
         self.next_stamp = self.next_stamp.saturating_add(1);
     }
 
-    // Counts the answer of an insert.
+    // Counts the answer of `insert`.
     pub(crate) fn answer_insert(&mut self, told: LruTold)
         ensures { self.new ≡ inserted told self.old }
     {

@@ -1,4 +1,4 @@
-//! What the handles of C have in common, whatever they lead to.
+//! What the handles of C have in common, whatever they point to.
 ghost use Rattle.std.specs.Borrow.{sem};
 ghost use Rattle.std.specs.Prelude.{◌≡◌, Option as Maybe, Some, None, is_some, MatchOption};
 ghost use Rattle.lru_c.specs.Lends.{LendsHeld};
@@ -7,25 +7,25 @@ use crate::at::At;
 use core::mem::replace_with;
 use std::alloc::Global;
 
-/// A handle of C, which is open and leads to a value, or is not open.
+/// A handle of C, which is open and points to a value, or is not open.
 pub trait Handle: Sized {
-    /// What it leads to.
+    /// The type of the value.
     type To: Drop;
 
-    /// That value, where it is open.
+    /// The value, if the handle is open.
     ghost held: { Self → Maybe Self.To };
 
-    /// A handle of these parts.
+    /// Returns a handle with these parts.
     fn of_parts(at: At<Self::To, Global>, is_open: bool) -> Self
         requires { is_some at.held ≡ is_open }
         ensures { held result ≡ at.held };
 
-    /// The pointer of a handle, and whether the handle is open.
+    /// Returns the pointer of a handle, and whether the handle is open.
     fn into_parts(self) -> (At<Self::To, Global>, bool)
         ensures held { result.0.held ≡ held self }
         ensures is_open { is_some result.0.held ≡ result.1 };
 
-    /// The value that the handle leads to, for a call on it. `None` where it is not open.
+    /// Borrows the value of the handle, for a call on it. Returns `None` if it is not open.
     fn get_mut(&mut self) -> Option<&mut Self::To>
         ensures* writes_back { sem 𝓛 (LendsHeld Self.row Self.To.row held self.entry result) }
         ensures value { MatchOption result (held self.old ≡ None)
@@ -44,7 +44,7 @@ fn closed<H: Handle>(alloc: Global) -> H
     H::of_parts(At::none(alloc), false)
 }
 
-// Takes the value out of a handle, which is not open then. `None` where it was not open.
+// Takes the value out of a handle and closes it. Returns `None` if the handle was not open.
 pub(crate) fn take<H: Handle>(handle: &mut H) -> Option<Box<H::To>>
     ensures closed { H.held handle.new ≡ None }
     ensures taken { MatchOption result (H.held handle.old ≡ None)
@@ -53,8 +53,8 @@ pub(crate) fn take<H: Handle>(handle: &mut H) -> Option<Box<H::To>>
     replace_with(handle, None, taken)
 }
 
-// Answers `none` where the handle is not open: a function that is passed on may answer only what
-// its arguments' types name.
+// Returns `none` if the handle is not open. It is an argument because a function that is passed as
+// a value may return only types that its arguments name.
 fn taken<H: Handle>(handle: H, none: Option<Box<H::To>>) -> (H, Option<Box<H::To>>)
     requires { none ≡ None }
     ensures closed { H.held result.0 ≡ None }

@@ -1,6 +1,6 @@
-//! The cache for one owner, for programs in C and in other languages that call C.
-//! C holds handles to caches and to chains of evicted entries, and has a lock of its own round
-//! each call.
+//! The cache with a single owner, for programs in C and in other languages that call C. C holds
+//! handles to caches and to chains of evicted entries. Threads that share a handle need a lock of
+//! their own around each call.
 #![tactic(auto)]
 
 pub mod at;

@@ -1,5 +1,5 @@
-//! The steps of a cache of words, for keys of any type: each as the core takes it, told as C is
-//! told.
+//! The steps of a cache of words, for any type of key. Each takes one step of the core and returns
+//! its answer as C gets it.
 ghost use Rattle.std.specs.Prelude.{◌≡◌, ◌<◌, ◌==◌, ◌⊎◌, [], MatchBool};
 ghost use Rattle.std.specs.Arc.{arc_value};
 ghost use Rattle.concurrent_lru.specs.Cache.{count_of, pinned_of, sum_of};
@@ -163,7 +163,7 @@ pub(crate) fn invalidate<K: Hash + Eq + Clone>(
     (code::DONE, state.invalidate(key))
 }
 
-// Answers what the new entry replaced, and what its charge evicted.
+// Also returns what the new entry replaced, and what its charge evicted.
 pub(crate) fn insert<K: Hash + Eq + Clone>(
     state: &mut State<K, u64>,
     alloc: Global,
@@ -204,7 +204,7 @@ fn insert_shared<K: Hash + Eq + Clone>(
     }
 }
 
-// A refusal of an insert: a code, and nothing that was replaced or evicted.
+// Refuses an insert with a code: nothing was replaced or evicted.
 pub(crate) fn refused<K: Drop>(code: u32) -> (LruTold, (Evicted<K, u64>, Evicted<K, u64>))
     ensures { (result.0 ≡ bare code) × (result.1.0 ≡ []) × (result.1.1 ≡ []) }
 {

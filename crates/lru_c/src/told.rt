@@ -1,8 +1,8 @@
-//! What a call tells C.
+//! What a call returns to C.
 ghost use Rattle.std.specs.Prelude.{◌≡◌, ℕ};
 ghost use Rattle.lru_c.specs.Told.{told, bare};
 
-/// What a call tells: which answer it is, and the numbers that go with it.
+/// What a call returns: a code, and the numbers that go with it.
 #[repr(C)]
 #[derive(Clone, Copy, PartialEq, Eq)]
 pub struct LruTold {
@@ -10,7 +10,7 @@ pub struct LruTold {
     pub stamp: u64,
     /// The value, or the number that was asked for.
     pub value: u64,
-    /// Which answer it is.
+    /// One of the codes of `code`.
     pub code: u32,
 }
 
@@ -34,13 +34,13 @@ impl LruTold {
 pub struct LruGone {
     /// The number that named the entry.
     pub stamp: u64,
-    /// What the entry added to the total.
+    /// The charge of the entry.
     pub charge: u64,
     /// The value.
     pub value: u64,
 }
 
-/// What the calls on a cache have answered since it was opened, and what it holds.
+/// What the calls on a cache have returned since it was opened, and what it holds.
 #[repr(C)]
 #[derive(Clone, Copy, PartialEq, Eq)]
 pub struct LruStats {
@@ -60,17 +60,17 @@ pub struct LruStats {
     pub entries: u64,
     /// The sum of their charges.
     pub charge: u64,
-    /// The sum of the charges of those that have a pin.
+    /// The sum of the charges of the held entries.
     pub pinned_charge: u64,
     /// The capacity.
     pub capacity: u64,
 }
 
-// What a call that puts entries into a chain answers: a code, or what is told with it.
+// What a call that fills a chain returns: a code, perhaps with numbers.
 pub(crate) trait Answer: Sized {
     ghost code: { Self → ℕ };
 
-    // The answer that tells a code and nothing else.
+    // The answer that has this code and nothing else.
     ghost alone: { ℕ → Self };
 
     fn of_code(number: u32) -> Self

@@ -45,7 +45,7 @@ pub struct Errands {
 }
 
 impl Errands {
-    /// Creates errands that were not asked for yet.
+    /// Creates errands that nobody has asked for yet.
     fn new() -> Errands {
         Errands {
             all: [
@@ -66,7 +66,7 @@ impl Errands {
         &self.all[(number.saturating_sub(1) % VALUES as u64) as usize]
     }
 
-    // The drop of a value: waits until its errand is done. Once one is missed, no drop waits any
+    // Drops a value: waits until its errand is done. Once an errand is missed, no drop waits any
     // more, so that the test ends.
     fn drop_value(&self, number: u64) {
         let errand = self.of(number);

@@ -38,7 +38,7 @@ impl Gate {
         total
     }
 
-    // The drop of a value: waits until the other thread has acquired the lock.
+    // Drops a value: waits until the other thread has acquired the lock.
     fn drop_value(&self) {
         raise(&self.dropping);
         if !meets(&self.entered) {
@@ -150,8 +150,7 @@ fn make_for<C: Cached<Slow>>(
     }
 }
 
-/// Evicts by this cause, by dropping the handle or by making another value, of key 5, if the cause
-/// needs that.
+/// Evicts by this cause. If the cause needs it, drops the handle or makes another value, of key 5.
 pub fn evict_with<V: Drop, C: Cached<V>>(
     cache: C,
     cause: Cause,

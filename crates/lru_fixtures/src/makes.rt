@@ -29,7 +29,7 @@ pub fn hold<K: Hash + Eq + Clone, V: Drop>(
     }
 }
 
-/// As `hold`, but releases the pin. What that evicts is dropped.
+/// Does what `hold` does, and releases the pin. What that evicts is dropped.
 ///
 /// Returns the errors of `hold`, and `Stale` if another caller is making the value.
 pub fn make<K: Hash + Eq + Clone, V: Drop>(

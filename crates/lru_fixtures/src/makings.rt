@@ -70,16 +70,16 @@ pub fn value_found<C: Cached<u64>>(cache: C, key: u64) -> Option<u64> {
 /// A cache as two callers ask it. It has no associated type, since the checker supports no closure
 /// of a thread over a type that has one.
 pub trait MakingCache {
-    /// `makes_first`.
+    /// Calls `makes_first`.
     fn make_first(&self, meeting: &Meeting) -> Option<u64>;
 
-    /// `comes_second`.
+    /// Calls `comes_second`.
     fn come_second(&self, meeting: &Meeting) -> Option<u64>;
 
     /// Returns the value of key 1, if it is ready.
     fn find(&self) -> Option<u64>;
 
-    /// `total_charge`.
+    /// Calls `total_charge`.
     fn charged(&self) -> u128;
 }
 

@@ -1,5 +1,5 @@
-//! Marks of caches: which value fits which key. And one test of the caches with a mark that threads
-//! share.
+//! Marks of caches, which say which value fits which key, and one test of the caches with a mark
+//! that threads share.
 ghost use Rattle.std.specs.Prelude.{◌≡◌, ◌*◌, ◌<◌, IfSome};
 ghost use Rattle.std.proofs.Common.{rules};
 

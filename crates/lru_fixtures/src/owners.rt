@@ -1,5 +1,5 @@
-//! Caches that have several owners, asked for handles that own a reference to them: one trait for
-//! both caches, and what their handles do.
+//! Caches with several owners, and handles that own a reference to the cache: one trait for both
+//! caches, and what their handles do.
 ghost use Rattle.std.specs.Prelude.{◌<◌};
 
 use concurrent_lru::counts::Counts;
@@ -11,20 +11,20 @@ use std::sync::{Arc, Wait};
 
 /// An owner of a cache whose keys and values are numbers.
 pub trait CacheOwner {
-    /// Pins a value, and owns a reference to the cache.
+    /// A handle, which pins a value and owns a reference to the cache.
     type Handle: Drop;
 
     /// Returns a handle's value.
     fn value_of(handle: &Self::Handle) -> u64;
 
-    /// `get_owned`.
+    /// Calls `get_owned`.
     fn get_owned(&self, key: u64) -> Result<Option<Self::Handle>, Refusal>;
 
-    /// `get_or_init_owned`, whose `init` returns this value.
+    /// Calls `get_or_init_owned` with an `init` that returns this value.
     fn get_or_init_owned(&self, key: u64, charge: u64, value: u64) -> Result<Self::Handle, Refusal>
         requires { 0 < charge };
 
-    /// `get_or_try_init_owned`, whose `init` returns this value or this error.
+    /// Calls `get_or_try_init_owned` with an `init` that returns this value or this error.
     fn get_or_try_init_owned(
         &self,
         key: u64,
@@ -36,10 +36,10 @@ pub trait CacheOwner {
     /// Returns the number of owners of the cache.
     fn owners(&self) -> usize;
 
-    /// `total_charge` and `pinned_charge`.
+    /// Returns `total_charge` and `pinned_charge`.
     fn charges(&self) -> (u128, u128);
 
-    /// `counts`.
+    /// Calls `counts`.
     fn counts(&self) -> Counts;
 }
 
@@ -149,8 +149,8 @@ pub const DROPPED_IN_TURN: TwoHandles = TwoHandles {
     both_dropped: (0, 1),
 };
 
-/// Makes key 1 as 5, with the charge 3, in an empty cache, and gets it; then drops the two handles,
-/// one after the other. Returns `None` if a call answers otherwise.
+/// Makes key 1 with the value 5 and the charge 3 in an empty cache, and gets it; then drops the two
+/// handles, one after the other. Returns `None` if a call answers otherwise.
 pub fn drops_two_handles<C: CacheOwner>(cache: &C) -> Option<TwoHandles> {
     let Ok(None) = cache.get_owned(1) else {
         return None;
@@ -174,8 +174,8 @@ pub fn drops_two_handles<C: CacheOwner>(cache: &C) -> Option<TwoHandles> {
     })
 }
 
-/// Fails to make key 1 with the error 9, and then makes it as 4. Returns the error, the total after
-/// it, and the value that was made.
+/// Fails to make key 1, with the error 9, and then makes it with the value 4. Returns the error,
+/// the total after it, and the value that was made.
 pub fn fails_once<C: CacheOwner>(cache: &C) -> (Option<u64>, u128, Option<u64>) {
     let error = match cache.get_or_try_init_owned(1, 3, Err(9)) {
         Err(GetError::Init(error)) => Some(error),
@@ -189,9 +189,9 @@ pub fn fails_once<C: CacheOwner>(cache: &C) -> (Option<u64>, u128, Option<u64>) 
     (error, total, value)
 }
 
-/// Makes each call once on a key that is there and once on one that is not, in an empty cache that
-/// keeps nothing idle. Returns the counts while the handle of the made entry is held, and those
-/// once it is dropped, or `None` if a call answers otherwise.
+/// Makes each call once for a present key and once for an absent one, in an empty cache that keeps
+/// nothing idle. Returns the counts while the handle of the made entry is held, and those after it
+/// is dropped, or `None` if a call answers otherwise.
 pub fn counts_of_calls<C: CacheOwner>(cache: &C) -> Option<(Counts, Counts)> {
     let Ok(None) = cache.get_owned(1) else {
         return None;

@@ -1,12 +1,12 @@
-//! Steps that a cache of one owner takes as one list.
+//! Steps that a cache for a single owner takes as one list.
 ghost use Rattle.concurrent_lru.specs.Results.{IsCharged, request_of};
 
 use concurrent_lru::lru_core::{Answer, Refusal, State, Step};
 use std::alloc::{AllocError, Global};
 use std::sync::Arc;
 
-/// What an empty cache answers to this step, and then to a making of key 1 that one caller gives up
-/// and another, which waits for it, takes over. `AllocError` where memory for the steps is refused.
+/// Returns what an empty cache answers to this step, and then to a making of key 1 that one caller
+/// gives up and a waiting one takes over. Returns `AllocError` if memory for the steps is refused.
 pub fn hand_over_after(
     alloc: Global,
     first: Step<u64, u64>,

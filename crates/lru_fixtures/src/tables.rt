@@ -10,7 +10,7 @@ use std::fmt::Debug;
 use std::sync::Arc;
 use std::test::Fail;
 
-/// A call of a cache with one owner, whose values are numbers.
+/// A call on a cache for a single owner, whose values are numbers.
 #[derive(Clone, Copy, Debug)]
 pub enum Call<K = u64> {
     /// `begin` with a key and a charge, which is above 0.
@@ -74,7 +74,7 @@ pub trait Answers<C> {
 
 /// Makes the calls of a table in order, and fails at the first whose answer is not the expected
 /// one: the failure shows the row's number, its call, the answer and the expected one. It also
-/// fails if memory is refused to a text.
+/// fails if memory for a text is refused.
 pub fn answers_as_expected<C: Copy + Debug + Drop, T: Answers<C>>(
     alloc: Global,
     cache: &mut T,

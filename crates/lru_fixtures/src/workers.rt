@@ -1,5 +1,5 @@
-//! What each of several workers does with one cache: it reads keys of which the cache keeps too
-//! few, resets the counts, or is counted.
+//! What each of several workers does with one cache: it reads more keys than the cache keeps,
+//! resets the counts, or has its calls counted.
 ghost use Rattle.std.specs.Prelude.{◌<◌};
 
 use concurrent_lru::counts::Counts;
@@ -47,13 +47,13 @@ const RESETS: u32 = 2_000;
 
 const ASKS: u64 = 20_000;
 
-/// A cache as workers ask it that count calls. It has no associated type, since the checker
+/// A cache as workers that count calls ask it. It has no associated type, since the checker
 /// supports no closure of a thread over a type that has one.
 pub trait CountingCache {
     /// Resets the counts 2,000 times, and returns how many calls the resets reported.
     fn reset_often(&self) -> u64;
 
-    /// Asks for 20,000 values, none of which is there, and answers how many of these calls found
+    /// Asks for 20,000 values, none of which is present, and returns how many of these calls found
     /// nothing.
     fn ask_often(&self) -> u64;
 
@@ -94,16 +94,16 @@ fn lookups_in(counts: &Counts) -> u64 {
         .wrapping_add(counts.waits)
 }
 
-/// The calls that workers made of a cache, and those of which its counts told.
+/// The calls that workers made on a cache, and those that its counts reported.
 #[derive(Clone, Copy, Debug, PartialEq, Eq)]
 pub struct Asked {
-    /// How many calls found nothing, as those who made them say.
+    /// How many calls found nothing, as their callers counted them.
     pub made: u64,
-    /// How many calls the resets and the counts after the last of them told of.
+    /// How many calls the resets, and the counts after the last of them, reported.
     pub told: u64,
 }
 
-/// What `lookups_between_resets` comes to where each call is told of once.
+/// The result of `lookups_between_resets` if each call is reported once.
 pub const EACH_ONCE: Asked = Asked {
     made: 60_000,
     told: 60_000,

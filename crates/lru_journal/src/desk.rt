@@ -96,7 +96,7 @@ impl<K: Hash + Eq + Clone, V: Drop, I: Identity> Desk<K, V, I> {
         }
     }
 
-    /// Reads from the journal, as `call` takes a step.
+    /// Reads from the journal, with a record and a receipt as `call` adds them.
     pub(crate) fn read<T, G, R: Wait>(
         &mut self,
         rt: &R,

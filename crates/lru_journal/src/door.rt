@@ -24,7 +24,7 @@ pub struct Door<K: Hash + Eq + Clone, V, R, I: Identity> {
     pub ghost own: { cell.table.shared.table_id ≡ I.name.table },
 }
 
-/// A debt: the lock is held. Each call takes this value, so there is one call for each time that
+/// A debt: the lock is held. A call consumes this value, so there is one call for each time that
 /// the lock is acquired.
 pub struct Guard<'a, K: Hash + Eq + Clone, V, R, I: Identity> {
     door: &'a Door<K, V, R, I>,

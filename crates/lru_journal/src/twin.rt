@@ -292,7 +292,7 @@ impl<
         Ok(())
     }
 
-    /// Returns the sum of the charges of all entries, including those still being made.
+    /// Returns the sum of the charges of all entries, including those being made and detached ones.
     pub fn total(&self, tally: &mut Tally<K, I>) -> Result<u64, Refusal>
         ensures tallied { IsTallied tally.old
             (λ total r. r ≡ record_of ask.total (Told.Total total)) result tally.new }
@@ -303,7 +303,7 @@ impl<
     }
 
     /// Returns the journal to whoever has the whole tally. Its records are one legal history from
-    /// the empty cache with the opening's capacity, whichever was set since, and position by
+    /// the empty cache with the opening's capacity, whatever was set since, and position by
     /// position they are exactly the tally's receipts: each accepted call occurs once.
     pub fn into_journal(self, tally: Tally<K, I>) -> Journal<K, V>
         requires { tally.parts ≡ all_parts }
@@ -313,7 +313,7 @@ impl<
     {
         let LruCache { door } = self;
         let journal = door.close(tally);
-        // States its invariant as a clause.
+        // `records` states the journal's invariant as a clause.
         let _records = journal.records();
         journal
     }

@@ -1,6 +1,6 @@
 //! The lines of the input, read one at a time as steps.
 //!
-//! A line takes no more memory than the longest line that is read.
+//! At most `MOST_BYTES + 1` bytes of a line are read, however long it is.
 
 use crate::expected::{Expected, MOST_BYTES};
 use crate::failure::Failure;
@@ -31,12 +31,12 @@ impl<I: BufRead> Lines<I> {
         self.lines.number()
     }
 
-    /// The step on the next line, or none at the end of the input.
+    /// Returns the step on the next line, or `None` at the end of the input.
     ///
-    /// `Line` where the line is none, `Read` where the input fails, and `Refused` where memory
-    /// is refused. The line is then read all the same.
+    /// Returns `Line` if the line is not a step, `Read` if the input fails, and `Refused` if memory
+    /// is refused. The line counts as read even then.
     pub fn next(&mut self) -> Result<Option<Step>, Failure> {
-        // A line with its end, or what there is of it up to one byte past the longest.
+        // A line with its end, or as much of it as shows that it is too long.
         match self.lines.read(MOST_BYTES + 1) {
             Ok(true) => self.step().map(|step| Some(step)),
             Ok(false) => Ok(None),

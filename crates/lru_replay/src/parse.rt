@@ -14,8 +14,8 @@ use crate::step::{Entry, Fate, Making, Outcome, Slot, Step};
 
 /// Parses the words of a line.
 ///
-/// The error is at the first wrong word if the step has a name and the right number of words; at
-/// the name if there is no such step; and otherwise in the line as a whole.
+/// The error is at the name if there is no such step, at the first wrong word if the step has the
+/// right number of words, and otherwise in the line as a whole.
 pub fn parse<'a>(words: &[&'a str]) -> Result<Step, Wrong<'a>>
     ensures read { IfOk result (Spells words.now) }
     ensures all { (step : Step) → Spells words.now step → result ≡ Ok step }
@@ -92,7 +92,7 @@ fn parse_entry<'a>(key: &'a str, charge: &'a str) -> Result<Entry, Wrong<'a>>
     })
 }
 
-// A sign is not a digit.
+// `str::parse` accepts a leading `+`, which is not a digit.
 fn parse_number<'a>(word: &'a str) -> Result<u64, Wrong<'a>>
     ensures read { IfOk result (Writes word.now) }
     ensures all { (number : ℕ) → Writes word.now number → result ≡ Ok number }

@@ -9,13 +9,12 @@ use std::sync::Wait;
 
 /// Runs the steps of `input` and returns the exit status.
 ///
-/// Each step is written to `out` with its answer and its drops, on one line, before the next line
-/// is read. The status is 0 at the end of the input. A line that is not a step ends the run with
-/// status 1: its number, what was expected and what was found are written to `err`. A step that is
-/// refused ends it with status 1 as well: the line's number, `refused` and the refusal's code are
-/// written to `err`. If a read of `input` or a write to `out` fails, the system's error is written
-/// to `err`, and the status is 1. The program takes no arguments: if there are any, the usage line
-/// is written to `err`, and the status is 2.
+/// Writes each step to `out` with its answer and its drops, on one line, before it reads the next
+/// line. The status is 0 at the end of the input. It is 1, after a line on `err`, if a line is not
+/// a step (its number, what was expected and what was found), a step is refused (the line's number,
+/// `refused` and the code of the refusal), or a read of `input` or a write to `out` fails (the
+/// system's error). The program takes no arguments: if there are any, it writes the usage line to
+/// `err`, and the status is 2.
 pub fn program<R: Wait + Clone + Drop, I: BufRead + Drop, O: Write, E: Write>(
     alloc: Global,
     rt: &R,

@@ -1,4 +1,4 @@
-//! Running the steps, on one cache after the other.
+//! Runs the steps, on one cache after another.
 //!
 //! Each step that creates a cache begins a session and ends the one before.
 

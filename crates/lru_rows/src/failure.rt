@@ -13,7 +13,7 @@ use std::io::Write;
 pub enum Failure {
     /// The arguments are invalid.
     Usage,
-    /// A call was refused that no row expects to be, or memory for the program's own data.
+    /// A call was refused though no row expects it, or memory for the program's own data was.
     Refused(Refusal),
     /// The stress workload failed.
     Stress(RoundFailure),

@@ -1,5 +1,5 @@
-//! Prints worked rows, each of which shows one rule of the cache at work. Everything but the access
-//! to the process is done by `program`.
+//! Prints worked rows, each of which shows one rule of the cache at work. `program` does everything
+//! except access the process.
 #![tactic(auto)]
 
 mod failure;

@@ -12,12 +12,12 @@ use std::thread::Threads;
 
 /// Runs the program on its arguments and returns the exit status.
 ///
-/// `rows` writes the worked rows to `out`. `stress SEED`, whose seed is a `u64` in decimal digits,
-/// runs the stress workload from this seed, and writes `stress ok` to `out`. The status is 0. Any
-/// other arguments write the usage line to `err`, with status 2. The status is 1, after a line on
-/// `err`, if a check of the stress workload fails (the seed and the check), if a call is refused
-/// that no row expects to be or a thread cannot be started (`refused` and the code of the refusal),
-/// or if a write to `out` fails (the system's error). What was written before stays written.
+/// `rows` writes the worked rows to `out`. `stress SEED`, with a `u64` in decimal digits, runs the
+/// stress workload from this seed and writes `stress ok` to `out`. The status is then 0. Any other
+/// arguments write the usage line to `err`, with status 2. The status is 1, after a line on `err`,
+/// if a check of the stress workload fails (the seed and the check), a call is refused though no
+/// row expects it or a thread cannot be started (`refused` and the code), or a write to `out` fails
+/// (the system's error). What was written before stays written.
 pub fn program<R: Threads + Wait + Clone + Drop + Send + Sync, O: Write, E: Write>(
     rt: &R,
     alloc: Global,

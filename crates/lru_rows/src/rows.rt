@@ -48,8 +48,8 @@ pub const ROWS: &[Row] = &[
 pub enum Row {
     /// Runs scripts, one after another, on a cache without a lock.
     Scripts(&'static [Script]),
-    /// A present key keeps its value, and after an eviction it is made again: at this capacity,
-    /// with this charge for each entry.
+    /// At this capacity, with this charge for each entry: a present key keeps its value, and after
+    /// an eviction it is made again.
     Values(u64, u64),
     /// Advice evicts an entry that is not pinned, and does nothing to a pinned one.
     Advice,
@@ -57,12 +57,11 @@ pub enum Row {
     FailedMaking,
     /// A prune evicts in every shard.
     PrunedShards,
-    /// Each shard's share of a capacity: the quotient, rounded up. A number of 0 shards counts as
-    /// 1.
+    /// Each shard's share of a capacity: the quotient, rounded up. 0 shards count as 1.
     Shares(&'static [(u64, usize)]),
     /// A new entry evicts in its own shard only.
     ShardOfAKey,
-    /// A thread finds what another made before it ended.
+    /// A thread finds the value that another thread made.
     TwoThreads,
     /// Accepted steps are recorded, even if nothing was found; refused ones are not.
     Journal,

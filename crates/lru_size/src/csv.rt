@@ -6,7 +6,7 @@ use std::alloc::Global;
 use std::io;
 use std::io::Write;
 
-// The greatest number of rows.
+// The maximum number of rows.
 const ROWS: u64 = 1_000;
 
 /// Writes the curve as CSV: a header, and a row for each of up to 1,000 evenly spaced capacities.

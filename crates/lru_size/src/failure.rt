@@ -192,7 +192,7 @@ impl fmt::Display for Failure {
     }
 }
 
-// The message of the arguments' parser, which begins with `error: ` and ends with a newline.
+// Strips `error: ` and the newline at the end from a message of the arguments' parser.
 fn message_of(text: &str) -> &str {
     let text = text.trim_end();
     text.strip_prefix("error: ").unwrap_or(text)

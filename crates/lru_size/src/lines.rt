@@ -6,7 +6,7 @@ use lru_support::lines;
 use std::alloc::Global;
 use std::io::BufRead;
 
-// What some editors write at the head of a file.
+// Some editors write it at the start of a file.
 const BYTE_ORDER_MARK: char = '\u{feff}';
 
 /// A use of a key.
@@ -66,7 +66,7 @@ impl<I: BufRead> Lines<I> {
         let Some(key) = words.next() else {
             return Err(self.error(Expected::Use, None));
         };
-        // It would be part of the first key, which would be another key than on later lines.
+        // It would become part of the first key, and make it differ from that key on later lines.
         if key.starts_with(BYTE_ORDER_MARK) {
             return Err(self.error(Expected::Use, Some(key)));
         }
@@ -91,7 +91,7 @@ impl<I: BufRead> Lines<I> {
         }
     }
 
-    // The error that the current line has `found` where something else was expected.
+    // Returns the error that the current line has `found` where something else was expected.
     fn error(&self, expected: Expected, found: Option<&str>) -> Failure {
         let Some(found) = found else {
             return Failure::Line {

@@ -1,7 +1,7 @@
 //! Prints how many uses of a trace hit a cache, at any capacity of the cache.
 //!
 //! The arguments are those of `options`. The trace is read from the file that they name, or from
-//! standard input. Everything but the access to the process is done by `program`.
+//! standard input. `program` does everything except access the process.
 #![tactic(auto)]
 
 mod csv;

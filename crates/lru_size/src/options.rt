@@ -8,13 +8,13 @@ use std::alloc::{AllocError, Global};
 /// The version of the program, which is that of the whole repository.
 const VERSION: &str = "1.0.0";
 
-/// The path that means standard input of the trace, and standard output of the results.
+/// The path that means standard input for the trace, and standard output for the results.
 const STANDARD_STREAM: &str = "-";
 
 /// What the arguments ask for.
 #[derive(Drop)]
 pub enum Request<'a> {
-    /// The help text or the version, which is given here.
+    /// The text of the help or of the version.
     Text(String),
     /// A hit curve.
     Size(Options<'a>),
@@ -66,7 +66,7 @@ impl<'a> Request<'a> {
 }
 
 impl<'a> Options<'a> {
-    /// Whether the plot or the CSV file goes to standard output, in place of the table.
+    /// Returns whether the plot or the CSV file goes to standard output, in place of the table.
     pub fn replace_table(&self) -> bool {
         self.svg == Some(STANDARD_STREAM) || self.csv == Some(STANDARD_STREAM)
     }

@@ -20,13 +20,13 @@ const WIDTH: u64 = RIGHT - LEFT;
 
 const HEIGHT: u64 = BOTTOM - TOP;
 
-// Where labels end at the latest.
+// The right end that no label goes beyond.
 const EDGE: u64 = 7_960;
 
-// At least the width of a character of a label, in any common font.
+// An upper bound on the width of a character of a label, in any common font.
 const CHARACTER: u64 = 85;
 
-// The least space between two labels of the x axis.
+// The minimum space between two labels of the x axis.
 const GAP: u64 = 150;
 
 // The number of points of the curve, one for each pixel of its width.
@@ -95,13 +95,13 @@ impl<'a> Plot<'a> {
         writeln!(out, "</svg>")
     }
 
-    // The x coordinate of a capacity.
+    // Returns the x coordinate of a capacity.
     fn x(&self, capacity: u64) -> u64 {
         let capacity = capacity.min(self.max_capacity);
         LEFT.saturating_add(fraction(WIDTH, capacity, self.max_capacity))
     }
 
-    // The y coordinate of a number of hits. The y axis points down.
+    // Returns the y coordinate of a number of hits. The y axis points down.
     fn y(&self, hits: u64) -> u64 {
         let height = u128::from(HEIGHT * 100).saturating_mul(u128::from(hits));
         let whole = u128::from(self.curve.uses()).saturating_mul(u128::from(self.max_percent));
@@ -126,7 +126,7 @@ impl<'a> Plot<'a> {
         )
     }
 
-    // The lines of the grid, each with its hit ratio.
+    // Writes the lines of the grid, each with its hit ratio.
     fn write_grid<O: Write>(&self, out: &mut O) -> io::Result<()> {
         for line in 0..=GRID_ROWS {
             let y = BOTTOM.saturating_sub(fraction(HEIGHT, line, GRID_ROWS));
@@ -141,8 +141,8 @@ impl<'a> Plot<'a> {
         Ok(())
     }
 
-    // The two axes, a tick at the greatest capacity, and one at each round capacity whose label has
-    // room beside the others.
+    // Writes the two axes, a tick at the greatest capacity, and one at each round capacity whose
+    // label has room beside the others.
     fn write_axes<O: Write>(&self, out: &mut O) -> io::Result<()> {
         let last = self.tick(self.max_capacity);
         let step = round_step(self.max_capacity);
@@ -173,7 +173,7 @@ impl<'a> Plot<'a> {
         }
     }
 
-    // The curve, a step at each point where more uses hit than at the one before.
+    // Writes the curve, with a step at each point where more uses hit than at the one before.
     fn write_curve<O: Write>(&self, out: &mut O) -> io::Result<()> {
         let mut previous = self.y(self.curve.hits(0));
         write!(out, "<path class='curve' d='M{LEFT} {previous}")?;
@@ -188,8 +188,8 @@ impl<'a> Plot<'a> {
         writeln!(out, "H{RIGHT}'/>")
     }
 
-    // A mark at each knee, once if several are at one capacity. The labels are below the curve and
-    // above it in turn, so that neighbors do not overlap.
+    // Writes a mark at each knee, or a single one if several are at one capacity. The labels are
+    // below and above the curve in turn, so that neighbors do not overlap.
     fn write_knees<O: Write>(&self, out: &mut O) -> io::Result<()> {
         let mut side = Side::Below;
         let mut previous = None;
@@ -235,8 +235,8 @@ impl<'a> Plot<'a> {
     }
 }
 
-// A mark on the x axis, with its capacity below it. The label is left of the mark where it would
-// not fit on the image otherwise.
+// A mark on the x axis, with its capacity below it. The label is moved left if it would not fit on
+// the image otherwise.
 #[derive(Clone, Copy)]
 struct Tick {
     capacity: u64,
@@ -247,12 +247,12 @@ struct Tick {
 }
 
 impl Tick {
-    // The left edge of the label.
+    // Returns the left edge of the label.
     fn start(&self) -> u64 {
         self.center.saturating_sub(self.half)
     }
 
-    // The right edge of the label.
+    // Returns the right edge of the label.
     fn end(&self) -> u64 {
         self.center.saturating_add(self.half)
     }
@@ -289,7 +289,7 @@ impl Side {
     }
 }
 
-// The least of some round percentages that `hits` of `uses` do not exceed.
+// Returns the least of some round percentages that `hits` of `uses` do not exceed.
 fn max_percent(hits: u64, uses: u64) -> u64 {
     let hits = u128::from(hits).saturating_mul(100);
     for percent in [5u64, 10, 20, 50] {

@@ -153,7 +153,7 @@ fn estimate(alloc: Global, trace: &Trace) -> Result<HitCurve, Failure> {
     sample::check(trace)?;
     match Estimate::new(alloc, trace.sample, &trace.uses, trace.total_uses) {
         Ok(estimate) => Ok(HitCurve::Estimated(estimate)),
-        // The place is one among the sampled uses, and so not a line.
+        // The place is one among the sampled uses, so it is not a line.
         Err(Refusal::Overflow(_)) => Err(Failure::SampleOverflow),
         Err(refusal) => Err(Failure::from(refusal)),
     }

@@ -7,7 +7,7 @@ use std::alloc::{AllocError, Global};
 use std::io;
 use std::io::Write;
 
-/// The percentages of the greatest hit ratio whose least capacities are of interest.
+/// Percentages of the greatest hit ratio. A knee is the least capacity that reaches one of them.
 pub const KNEES: [u64; 4] = [50, 80, 90, 95];
 
 // The number of rows if the capacities are evenly spaced.
@@ -36,7 +36,7 @@ impl Row {
 }
 
 /// Returns `count` evenly spaced capacities, the last of which is the least with the greatest hit
-/// ratio. There are fewer if that is less than `count`.
+/// ratio. Returns fewer if that capacity is less than `count`.
 ///
 /// # Errors
 ///

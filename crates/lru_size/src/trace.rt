@@ -26,7 +26,7 @@ pub struct Trace {
     ghost charged: { AllByRecursion (λ u. 0 < u.1) uses.items } by { Prim.hlevel props },
 }
 
-// The first use of a key: the number that the key gets, its charge and the line.
+// The first use of a key: the number that the key gets, its charge and its line.
 #[derive(Clone, Copy)]
 struct FirstUse {
     number: u64,
@@ -54,7 +54,7 @@ impl Trace {
             uses: Vec::new(alloc),
             total_uses: 0,
         };
-        // The loop needs a bound, and no input has so many lines.
+        // The loop needs a bound, and no input has that many lines.
         for _ in 0..u64::MAX {
             if !lines.advance()? {
                 break;
@@ -81,7 +81,7 @@ impl Trace {
         Ok(())
     }
 
-    // The number of the key that is used on a line.
+    // Returns the number of the key that a line uses. A new key gets the next number.
     fn number(&mut self, line: u64, used: Use<'_>) -> Result<u64, Failure> {
         if let Some(first) = self.keys.get(used.key) {
             if first.charge != used.charge {

@@ -1,4 +1,4 @@
-//! Unsharded and sharded caches whose values count themselves, and what is checked of them.
+//! Unsharded and sharded caches whose values count themselves, and the checks of them.
 ghost use Rattle.std.specs.Prelude.{◌<◌};
 
 use crate::counted::{Book, CountedValue};
@@ -12,13 +12,13 @@ use std::alloc::Global;
 use std::hash::{BuildHasherDefault, FoldHasher};
 use std::sync::Arc;
 
-/// The hasher of the cache in shards.
+/// The hasher of the cache with shards.
 pub type KeyHasher = BuildHasherDefault<FoldHasher>;
 
-/// The cache of one lock.
+/// The cache behind one lock.
 pub type Cache<R> = unsharded::LruCache<u64, CountedValue, R>;
 
-/// The cache in shards.
+/// The cache with shards.
 pub type Shards<R> = sharded::LruCache<u64, CountedValue, R, KeyHasher>;
 
 /// A reference to a cache, how it is asked, and the book of its values.
@@ -28,7 +28,7 @@ pub struct CheckedCache<C> {
     book: Arc<Book>,
     // How often an `init` yields.
     yields: u32,
-    // Whether the total is read with the handle held.
+    // Whether the total is read while the handle is held.
     looks: bool,
 }
 
@@ -59,7 +59,7 @@ impl<C: Cached<CountedValue>> StressTarget for CheckedCache<C> {
 }
 
 impl<C: Cached<CountedValue>> CheckedCache<C> {
-    /// Returns an empty cache of whose values a new book is kept, to be asked as the plan says.
+    /// Creates a checked cache from an empty one, with a new book, to be asked as the plan says.
     ///
     /// Returns `Refused` if memory was refused.
     pub fn of(alloc: Global, plan: &Plan, cache: C) -> Result<CheckedCache<C>, Trouble> {
@@ -72,8 +72,8 @@ impl<C: Cached<CountedValue>> CheckedCache<C> {
         })
     }
 
-    /// Checks the cache once no worker uses it any more, whose total may be at most `allowed`, and
-    /// returns what was counted.
+    /// Checks the cache after all workers have ended, and returns what was counted. Its total may
+    /// be at most `allowed`.
     ///
     /// Returns the first check that failed.
     pub fn finish(&self, noted: Notes, allowed: u128) -> Result<Counts, Trouble> {

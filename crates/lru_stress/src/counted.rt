@@ -28,7 +28,7 @@ impl Book {
         }
     }
 
-    /// Returns a moment that is after all those returned before.
+    /// Returns a moment that is later than all those returned before.
     pub fn now(&self) -> u64 {
         self.clock.fetch_add(1, Ordering::SeqCst)
     }
@@ -57,7 +57,7 @@ pub struct CountedValue {
 }
 
 impl CountedValue {
-    /// The `init` of a call: yields this many times, and then fails or makes the value.
+    /// Runs the `init` of a call: yields this many times, and then fails or makes the value.
     pub fn make(book: &Arc<Book>, call: &WorkerCall, yields: u32) -> Result<CountedValue, Unmade> {
         book.inits.fetch_add(1, Ordering::SeqCst);
         for _ in 0..yields {

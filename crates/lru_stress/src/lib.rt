@@ -1,6 +1,6 @@
-//! The stress workload: workers that share a cache or a twin, and everything that is checked and
-//! counted of what they did. Programs and tests run it with their own numbers, and a benchmark has
-//! the workers share its own caches.
+//! The stress workload: workers that share a cache or a twin, and the checks and counts of what
+//! they did. Programs and tests run it with their own numbers, and a benchmark has the workers
+//! share its own caches.
 #![tactic(auto)]
 
 mod checked;

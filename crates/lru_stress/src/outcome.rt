@@ -7,11 +7,11 @@ use std::fmt;
 /// What the three parts of a run counted together.
 #[derive(Clone, Copy)]
 pub struct Counts {
-    /// How often a value was to be made: an `init` ran, or the twin returned `Make`.
+    /// How often a value had to be made: an `init` ran, or the twin returned `Make`.
     pub makings: u64,
     /// How many calls returned a value that another call made.
     pub hits: u64,
-    /// How many values were evicted before the end of their part. Those of the twin are not seen.
+    /// How many values were evicted before the end of their part, not counting those of the twin.
     pub evictions: u64,
     /// How many of the hits returned a value that was made during the call. Such a caller waited
     /// for it, unless it acquired the lock only after the making. The twin has none.
@@ -32,7 +32,7 @@ impl Counts {
         }
     }
 
-    /// Returns the sums of both, and the greater of the totals.
+    /// Returns the sums of the counts, and the greater of the totals.
     pub fn and(self, other: Counts) -> Counts {
         Counts {
             makings: self.makings.saturating_add(other.makings),
@@ -44,7 +44,7 @@ impl Counts {
     }
 }
 
-/// The checks of a run. The first four are of a cache, of one lock and in shards.
+/// The checks of a run. The first four are of the unsharded and of the sharded cache.
 #[derive(Clone, Copy, Debug, PartialEq, Eq)]
 pub enum Check {
     /// A call whose making would not fail returns a value of its key.
@@ -53,7 +53,7 @@ pub enum Check {
     Total,
     /// After a prune the total is 0.
     Prune,
-    /// After that prune as many values were dropped as were made.
+    /// After that prune, as many values were dropped as were made.
     Drops,
     /// No call of the twin returns `Wait`, and none is refused.
     TwinAnswers,

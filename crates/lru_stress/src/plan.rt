@@ -7,7 +7,7 @@ ghost use Rattle.std.specs.Prelude.{◌<◌};
 /// its own. It is a constant, so that drawing a call takes no division.
 pub const KEYS: u64 = 100;
 
-/// How many calls a worker makes where nothing else is said.
+/// The default number of calls of a worker.
 pub const CALLS: u32 = 10_000;
 
 /// The size of a stress run, and its caches.
@@ -19,7 +19,7 @@ pub struct Plan {
     pub workers: u16,
     /// The number of calls of each worker.
     pub calls: u32,
-    /// The capacity of the cache of one lock and of the twin, in the unit of the charges.
+    /// The capacity of the cache behind one lock and of the twin, in the unit of the charges.
     pub lock_capacity: u64,
     /// The capacity of the sharded cache.
     pub shards_capacity: u64,
@@ -29,7 +29,7 @@ pub struct Plan {
     pub rests: bool,
     /// How often an `init` yields, so that others ask for what it makes.
     pub yields: u32,
-    /// Whether the total is read with each handle held.
+    /// Whether the total is read while each handle is held.
     pub looks: bool,
     ghost sharded: { 0 < shards },
 }

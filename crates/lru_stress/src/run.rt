@@ -1,4 +1,4 @@
-//! The three parts of a stress run: a cache of one lock, a cache in shards, and a twin.
+//! The three parts of a stress run: a cache behind one lock, a cache with shards, and a twin.
 
 use crate::checked::{Cache, CheckedCache, Shards};
 use crate::outcome::{Counts, Trouble};

@@ -76,8 +76,8 @@ pub fn share<I: Identity + Send + Sync, R: Threads + Wait + Clone + Drop + Send 
     })
 }
 
-// Makes the calls of this many workers, beginning with one. All but the last get a thread of their
-// own and one part of the tally.
+// Makes the calls of this many workers, the first of which is `worker`. All but the last get a
+// thread of their own and one part of the tally.
 fn work_from<I: Identity + Send + Sync, R: Threads + Wait + Drop + Send + Sync>(
     rt: &R,
     cache: &LruCache<u64, u64, R, I>,
@@ -136,7 +136,7 @@ fn work<I: Identity, R: Wait + Drop>(
     Ok((tally, accepted))
 }
 
-// Begins, and completes what that asks for.
+// Begins on a key, and then does what the answer asks for.
 fn use_key<I: Identity, R: Wait + Drop>(
     cache: &LruCache<u64, u64, R, I>,
     alloc: Global,

@@ -128,10 +128,10 @@ impl Notes {
     }
 }
 
-/// Has all workers make their calls on a cache at once, and returns what they noted together.
+/// Makes all workers' calls on a cache at once, and returns what they noted together.
 ///
 /// Returns `Refused` if memory was refused to a call or a worker could not have its own thread, and
-/// else `Failed(Answers)` if a call whose making would not fail returned no value, or that of
+/// otherwise `Failed(Answers)` if a call whose making would not fail returned no value, or that of
 /// another key.
 pub fn share<R: Threads + Sync, C: StressTarget + Sync>(
     rt: &R,

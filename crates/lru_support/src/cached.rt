@@ -1,7 +1,7 @@
-//! One trait for references to any of the three caches that threads share, and one for those whose
-//! counts tell of each call.
+//! One trait for references to any of the three caches that threads share, and one for those that
+//! count each call.
 //!
-//! Keys are `u64`. Look-ups are inlined, since the benchmark times them through this trait.
+//! Keys are `u64`. Lookups are inlined, because the benchmark times them through this trait.
 ghost use Rattle.std.specs.Prelude.{◌<◌};
 ghost use Rattle.std.specs.Fn.{FnOnceTakesAt};
 
@@ -15,29 +15,29 @@ use std::sync::Wait;
 
 /// A reference to a cache of values `V`.
 pub trait Cached<V>: Copy {
-    /// What pins a value.
+    /// A handle, which pins a value.
     type Handle: Drop;
 
     /// Returns a handle's value.
     fn value_of(handle: &Self::Handle) -> &V;
 
-    /// `get`.
+    /// Calls `get`.
     fn get(self, key: u64) -> Result<Option<Self::Handle>, Refusal>;
 
-    /// `read`.
+    /// Calls `read`.
     fn read<T, G>(self, key: u64, reader: G) -> Result<Option<T>, Refusal>
     where
         G: FnOnce(&V) -> T + Drop,
         requires callable { (v : V) → FnOnceTakesAt G.FnOnce reader v };
 
-    /// `get_or_init`.
+    /// Calls `get_or_init`.
     fn get_or_init<I>(self, key: u64, charge: u64, init: I) -> Result<Self::Handle, Refusal>
     where
         I: FnOnce(&u64) -> V + Drop,
         requires charged { 0 < charge }
         requires callable { FnOnceTakesAt I.FnOnce init key };
 
-    /// `get_or_try_init`.
+    /// Calls `get_or_try_init`.
     fn get_or_try_init<E, I>(
         self,
         key: u64,
@@ -49,41 +49,41 @@ pub trait Cached<V>: Copy {
         requires charged { 0 < charge }
         requires callable { FnOnceTakesAt I.FnOnce init key };
 
-    /// `advice_evict`.
+    /// Calls `advice_evict`.
     fn advice_evict(self, key: u64);
 
-    /// `invalidate`.
+    /// Calls `invalidate`.
     fn invalidate(self, key: u64);
 
-    /// `insert`.
+    /// Calls `insert`.
     fn insert(self, key: u64, charge: u64, value: V) -> Result<Self::Handle, Refusal>
         requires { 0 < charge };
 
-    /// `prune`.
+    /// Calls `prune`.
     fn prune(self);
 
-    /// `set_capacity`.
+    /// Calls `set_capacity`.
     fn set_capacity(self, capacity: u64);
 
-    /// `reserve`.
+    /// Calls `reserve`.
     fn reserve(self, entries: usize) -> Result<(), Refusal>;
 
-    /// `capacity`.
+    /// Calls `capacity`.
     fn capacity(self) -> u128;
 
-    /// `total_charge`.
+    /// Calls `total_charge`.
     fn total_charge(self) -> u128;
 
-    /// `contains`.
+    /// Calls `contains`.
     fn contains(self, key: u64) -> bool;
 }
 
-/// A reference to a cache that counts each call. The clock counts no hits, and so is none.
+/// A reference to a cache that counts each call. The clock is not one, since it counts no hits.
 pub trait CountingCached<V>: Cached<V> {
-    /// `counts`.
+    /// Calls `counts`.
     fn counts(self) -> Counts;
 
-    /// `reset_counts`.
+    /// Calls `reset_counts`.
     fn reset_counts(self) -> Counts;
 }
 

@@ -1,6 +1,6 @@
-//! Flags that threads raise for one another, with waits that end.
+//! Flags that threads raise for one another, with limited waits for them.
 //!
-//! A test that waits so fails instead of hanging if the other thread never comes.
+//! A test that waits this way fails, instead of hanging, if the other thread never comes.
 
 use std::sync::atomic::{AtomicU64, Ordering};
 use std::thread;
@@ -8,7 +8,7 @@ use std::thread;
 // How often a thread checks a flag before it gives up.
 const LOOKS: u32 = 10_000_000;
 
-// How often a thread that pauses yields.
+// How often `pause` yields.
 const YIELDS: u32 = 100_000;
 
 /// Raises a flag.

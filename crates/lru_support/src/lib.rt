@@ -1,6 +1,6 @@
 //! What tests and programs share: one trait for the caches that threads share, flags, values that
-//! note their drops, hashers with known numbers, the calls of workers, the words of a command line,
-//! and the lines of an input.
+//! record their drops, hashers with known hashes, the calls of workers, the words of a command
+//! line, and the lines of an input.
 #![tactic(auto)]
 
 pub mod cached;

@@ -27,13 +27,13 @@ impl<I: BufRead> Lines<I> {
         self.number
     }
 
-    /// The line that was read last, with its end if that was read.
+    /// Returns the line that was read last, with its end if that was read.
     pub fn line(&self) -> &[u8] {
         self.line.as_slice()
     }
 
-    /// Reads the next line with its end, or so many bytes of it where it is longer, and says
-    /// whether there was any.
+    /// Reads the next line with its end, or only its first `most` bytes if it is longer. Returns
+    /// whether there was anything to read.
     pub fn read(&mut self, most: u64) -> io::Result<bool> {
         self.number = self.number.saturating_add(1);
         self.line.clear();

@@ -21,8 +21,8 @@ fn read_after_name<R: Env + AllocGlobal>(rt: &R) -> io::Result<Vec<String>> {
     Ok(env::args(rt)?.skip(1).collect(rt.alloc())?)
 }
 
-// Returns a program's failure for words that could not be read for this error: its own for lack of
-// memory, or the one for a word that is not text.
+// Converts the error of reading the words to the program's failure: its own for lack of memory, or
+// the one for a word that is not text.
 fn failure_of<F: From<AllocError> + Drop>(error: &io::Error, not_text: F) -> F {
     match error.kind() {
         ErrorKind::OutOfMemory => F::from(AllocError),

@@ -1,5 +1,5 @@
-//! The steps of a cache by the bytes of a key.
-//! A look-up takes a whole key, so the bytes that are asked are copied into one that is kept.
+//! The steps of a cache whose keys are bytes. A lookup needs a whole key, so the bytes of a call
+//! are copied into a buffer that is kept.
 ghost use Rattle.std.specs.Prelude.{◌≡◌, [], true};
 ghost use Rattle.concurrent_lru.specs.Request as ask;
 ghost use Rattle.lru_c.specs.BytesCalls.{CopiesKey};
@@ -15,7 +15,7 @@ impl Cache<Vec<u8>, Vec<u8>> {
     ghost use Rattle.lru_c.specs.Inserts.{TellsInsertOf};
     ghost use Rattle.lru_c.specs.Told.{bare, Asks, AsksOf};
 
-    // Copies the bytes of a key into the room for one. False where the room can't grow.
+    // Copies the bytes of a key into the buffer. Returns false if the buffer cannot grow.
     fn keep(&mut self, key: &[u8]) -> bool
         ensures kept { result ≡ true → self.new.room.items ≡ key.now }
         ensures state { self.new.state ≡ self.old.state }
@@ -109,7 +109,7 @@ impl Cache<Vec<u8>, Vec<u8>> {
     }
 }
 
-// Copies the key of a stamp to the front of a buffer.
+// Copies the key of the entry with this stamp to the start of a buffer.
 pub(crate) fn copy_key(state: &State<Vec<u8>, u64>, stamp: u64, buffer: &mut [u8]) -> LruTold
     ensures { CopiesKey state.now.cache stamp result buffer.old buffer.new }
 {

@@ -1,4 +1,4 @@
-//! The handles of caches and chains whose keys are bytes, as C holds them.
+//! The handles by which C holds caches and chains whose keys are bytes.
 ghost use Rattle.std.specs.Borrow.{sem};
 ghost use Rattle.std.specs.Prelude.{◌≡◌, ◌==◌, Option, Some, is_some, true};
 ghost use Rattle.lru_c.specs.BytesHeld.{BytesCache as HeldCache, BytesChain as HeldChain, bytes_cache_coded, bytes_cache_owns, bytes_chain_coded, bytes_chain_owns};
@@ -10,14 +10,14 @@ use crate::handle::Handle;
 use std::alloc::Global;
 use std::marker::{Model, Send};
 
-/// A cache whose keys are bytes. A look-up takes a whole key, so the bytes that are asked are
-/// copied into one that is kept.
+/// A cache whose keys are bytes. A lookup needs a whole key, so the bytes of a call are copied into
+/// a buffer that is kept.
 pub type BytesCache = Cache<Vec<u8>, Vec<u8>>;
 
 /// A chain of entries of such caches.
 pub type BytesChain = Chain<Vec<u8>>;
 
-/// A pointer of C. Where `held` is some, it owns that cache as a box does; else it owns nothing.
+/// A pointer of C. If `held` is some, it owns that cache as a box does; otherwise it owns nothing.
 #[repr(C)]
 #[derive(Drop)]
 pub struct BytesCacheAt {
@@ -30,7 +30,7 @@ impl Model for BytesCacheAt {
     ghost also_owns = { λ c. bytes_cache_owns c.alloc c.at c.held };
 }
 
-// One call at a time, from any thread.
+// C makes one call at a time on a handle, from any thread.
 unsafe impl Send for BytesCacheAt {}
 
 impl BytesCacheAt {
@@ -56,7 +56,7 @@ impl BytesCacheAt {
         }
     }
 
-    // The cache that the pointer leads to.
+    // Borrows the cache that the pointer leads to.
     fn lend(&mut self) -> &mut BytesCache
         requires { is_some self.old.held ≡ true }
         ensures* writes_back { sem 𝓛 (lends_cache self.entry result) }
@@ -66,15 +66,15 @@ impl BytesCacheAt {
     }
 }
 
-/// A cache as C holds it: a pointer, and whether it is open, which a call can test. All zeros is a
-/// handle that is not open.
+/// A cache as C holds it: a pointer, and a word by which a call can tell whether it is open. A
+/// handle of all zeros is not open.
 #[repr(C)]
 #[derive(Drop)]
 pub struct LruBytes {
     /// The pointer, with what it owns.
     pub cache: BytesCacheAt,
-    /// 1 if it owns anything, else 0. A word, since a `bool` would be followed by padding, which is
-    /// copied wherever the struct is.
+    /// 1 if the pointer owns a cache, otherwise 0. It is a word because a `bool` would be followed
+    /// by padding, which is copied with the struct.
     pub is_open: u64,
     pub ghost agrees: { is_some cache.held ≡ (is_open == 1) },
 }
@@ -111,7 +111,7 @@ impl Handle for LruBytes {
     }
 }
 
-/// A pointer of C. Where `held` is some, it owns that chain as a box does; else it owns nothing.
+/// A pointer of C. If `held` is some, it owns that chain as a box does; otherwise it owns nothing.
 #[repr(C)]
 #[derive(Drop)]
 pub struct BytesChainAt {
@@ -124,7 +124,7 @@ impl Model for BytesChainAt {
     ghost also_owns = { λ c. bytes_chain_owns c.alloc c.at c.held };
 }
 
-// One call at a time, from any thread.
+// C makes one call at a time on a handle, from any thread.
 unsafe impl Send for BytesChainAt {}
 
 impl BytesChainAt {
@@ -150,7 +150,7 @@ impl BytesChainAt {
         }
     }
 
-    // The chain that the pointer leads to.
+    // Borrows the chain that the pointer leads to.
     fn lend(&mut self) -> &mut BytesChain
         requires { is_some self.old.held ≡ true }
         ensures* writes_back { sem 𝓛 (lends_chain self.entry result) }
@@ -160,15 +160,15 @@ impl BytesChainAt {
     }
 }
 
-/// A chain as C holds it: a pointer, and whether it is open, which a call can test. All zeros is a
-/// handle that is not open.
+/// A chain as C holds it: a pointer, and a word by which a call can tell whether it is open. A
+/// handle of all zeros is not open.
 #[repr(C)]
 #[derive(Drop)]
 pub struct LruBytesEvicted {
     /// The pointer, with what it owns.
     pub chain: BytesChainAt,
-    /// 1 if it owns anything, else 0. A word, since a `bool` would be followed by padding, which is
-    /// copied wherever the struct is.
+    /// 1 if the pointer owns a chain, otherwise 0. It is a word because a `bool` would be followed
+    /// by padding, which is copied with the struct.
     pub is_open: u64,
     pub ghost agrees: { is_some chain.held ≡ (is_open == 1) },
 }

@@ -1,4 +1,4 @@
-//! The steps of a cache by a key of two words.
+//! The steps of a cache whose keys are two words.
 ghost use Rattle.std.specs.Prelude.{◌≡◌, ◌==◌, [], MatchBool};
 ghost use Rattle.concurrent_lru.specs.Request as ask;
 ghost use Rattle.lru_c.specs.Codes as codes;

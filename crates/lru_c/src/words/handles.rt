@@ -1,4 +1,4 @@
-//! The handles of caches and chains whose keys are two words, as C holds them.
+//! The handles by which C holds caches and chains whose keys are two words.
 ghost use Rattle.std.specs.Borrow.{sem};
 ghost use Rattle.std.specs.Prelude.{◌≡◌, ◌==◌, Option, Some, is_some, true};
 ghost use Rattle.lru_c.specs.WordsHeld.{WordsCache as HeldCache, WordsChain as HeldChain, words_cache_coded, words_cache_owns, words_chain_coded, words_chain_owns};
@@ -17,7 +17,7 @@ pub type WordsCache = Cache<Words, ()>;
 /// A chain of entries of such caches.
 pub type WordsChain = Chain<Words>;
 
-/// A pointer of C. Where `held` is some, it owns that cache as a box does; else it owns nothing.
+/// A pointer of C. If `held` is some, it owns that cache as a box does; otherwise it owns nothing.
 #[repr(C)]
 #[derive(Drop)]
 pub struct WordsCacheAt {
@@ -30,7 +30,7 @@ impl Model for WordsCacheAt {
     ghost also_owns = { λ c. words_cache_owns c.alloc c.at c.held };
 }
 
-// One call at a time, from any thread.
+// C makes one call at a time on a handle, from any thread.
 unsafe impl Send for WordsCacheAt {}
 
 impl WordsCacheAt {
@@ -56,7 +56,7 @@ impl WordsCacheAt {
         }
     }
 
-    // The cache that the pointer leads to.
+    // Borrows the cache that the pointer leads to.
     fn lend(&mut self) -> &mut WordsCache
         requires { is_some self.old.held ≡ true }
         ensures* writes_back { sem 𝓛 (lends_cache self.entry result) }
@@ -66,15 +66,15 @@ impl WordsCacheAt {
     }
 }
 
-/// A cache as C holds it: a pointer, and whether it is open, which a call can test. All zeros is a
-/// handle that is not open.
+/// A cache as C holds it: a pointer, and a word by which a call can tell whether it is open. A
+/// handle of all zeros is not open.
 #[repr(C)]
 #[derive(Drop)]
 pub struct LruWords {
     /// The pointer, with what it owns.
     pub cache: WordsCacheAt,
-    /// 1 if it owns anything, else 0. A word, since a `bool` would be followed by padding, which is
-    /// copied wherever the struct is.
+    /// 1 if the pointer owns a cache, otherwise 0. It is a word because a `bool` would be followed
+    /// by padding, which is copied with the struct.
     pub is_open: u64,
     pub ghost agrees: { is_some cache.held ≡ (is_open == 1) },
 }
@@ -111,7 +111,7 @@ impl Handle for LruWords {
     }
 }
 
-/// A pointer of C. Where `held` is some, it owns that chain as a box does; else it owns nothing.
+/// A pointer of C. If `held` is some, it owns that chain as a box does; otherwise it owns nothing.
 #[repr(C)]
 #[derive(Drop)]
 pub struct WordsChainAt {
@@ -124,7 +124,7 @@ impl Model for WordsChainAt {
     ghost also_owns = { λ c. words_chain_owns c.alloc c.at c.held };
 }
 
-// One call at a time, from any thread.
+// C makes one call at a time on a handle, from any thread.
 unsafe impl Send for WordsChainAt {}
 
 impl WordsChainAt {
@@ -150,7 +150,7 @@ impl WordsChainAt {
         }
     }
 
-    // The chain that the pointer leads to.
+    // Borrows the chain that the pointer leads to.
     fn lend(&mut self) -> &mut WordsChain
         requires { is_some self.old.held ≡ true }
         ensures* writes_back { sem 𝓛 (lends_chain self.entry result) }
@@ -160,15 +160,15 @@ impl WordsChainAt {
     }
 }
 
-/// A chain as C holds it: a pointer, and whether it is open, which a call can test. All zeros is a
-/// handle that is not open.
+/// A chain as C holds it: a pointer, and a word by which a call can tell whether it is open. A
+/// handle of all zeros is not open.
 #[repr(C)]
 #[derive(Drop)]
 pub struct LruWordsEvicted {
     /// The pointer, with what it owns.
     pub chain: WordsChainAt,
-    /// 1 if it owns anything, else 0. A word, since a `bool` would be followed by padding, which is
-    /// copied wherever the struct is.
+    /// 1 if the pointer owns a chain, otherwise 0. It is a word because a `bool` would be followed
+    /// by padding, which is copied with the struct.
     pub is_open: u64,
     pub ghost agrees: { is_some chain.held ≡ (is_open == 1) },
 }

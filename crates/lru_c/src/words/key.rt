@@ -1,6 +1,6 @@
 //! Keys of 16 bytes.
 
-/// A key of two words. Two are equal where both words are.
+/// A key of two words. Two keys are equal if both words are.
 #[derive(Clone, Copy, PartialEq, Eq, Hash)]
 pub struct Words {
     /// The first word.

@@ -1,4 +1,4 @@
-//! Calls of `Shards` as rows of a table.
+//! Calls on `Shards` as rows of a table.
 ghost use Rattle.std.specs.Prelude.{◌<◌};
 
 use crate::tables::{Answers, text_of};
@@ -8,7 +8,7 @@ use std::alloc::{AllocError, Global};
 use std::hash::BuildHasher;
 use std::sync::Arc;
 
-/// A call of shards whose keys and values are numbers. A shard comes before a stamp.
+/// A call on shards whose keys and values are numbers. A shard comes before a stamp.
 #[derive(Clone, Copy, Debug)]
 pub enum ShardCall {
     /// Makes a key's value, the key itself, with the charge 1, and releases it at once. The answer
@@ -82,7 +82,7 @@ impl<S: BuildHasher + Drop> Answers<ShardCall> for Shards<u64, u64, S> {
     }
 }
 
-// The answer to `Use`. A stored value that comes back is `Stale`.
+// Returns the answer to `Use`. A stored value that comes back is `Stale`.
 fn use_key<S: BuildHasher + Drop>(
     alloc: Global,
     shards: &mut Shards<u64, u64, S>,

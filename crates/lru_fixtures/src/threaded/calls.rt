@@ -1,4 +1,4 @@
-//! Calls of a cache that threads share, as data, and their answers.
+//! Calls on a cache that threads share, as data, and their answers.
 //!
 //! An answer shows whether an `init` ran, and with which key.
 
@@ -11,7 +11,7 @@ pub enum Then {
     AtOnce,
     /// It is kept in this slot, and the previous content of the slot is dropped.
     Keep(usize),
-    /// It is forgotten, and its pin with it.
+    /// It is forgotten, so its pin is never released.
     Forget,
 }
 

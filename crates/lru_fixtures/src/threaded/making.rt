@@ -32,7 +32,7 @@ impl From<GetError<u64>> for NoHandle {
     }
 }
 
-/// `get_or_init`, whose `init` records its key in `ran` and returns the value.
+/// Calls `get_or_init` with an `init` that records its key in `ran` and returns the value.
 pub fn make_value<V: Drop, C: Cached<V>>(
     cache: C,
     key: u64,
@@ -49,8 +49,8 @@ pub fn make_value<V: Drop, C: Cached<V>>(
     Ok(handle)
 }
 
-/// `get_or_try_init`, whose `init` records its key in `ran`, and returns the value or, if there is
-/// none, its key as the error.
+/// Calls `get_or_try_init` with an `init` that records its key in `ran`, and returns the value or,
+/// if there is none, its key as the error.
 pub fn try_make_value<V: Drop, C: Cached<V>>(
     cache: C,
     key: u64,

@@ -90,7 +90,7 @@ impl<P: Owned> Model<P> {
         }
     }
 
-    // Whether a key finds a value. The cache with one owner is not asked, so it cannot change.
+    // Returns whether a key finds a value. The cache is not asked, so it cannot change.
     fn shows(&self, key: u64) -> bool {
         for (_, own, _) in &self.entries {
             if *own == key {

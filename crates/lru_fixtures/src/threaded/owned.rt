@@ -8,7 +8,7 @@ use std::sync::Arc;
 
 /// A cache for a single owner, whose keys and values are numbers.
 pub trait Owned {
-    /// `begin`. Returns the key's shard first.
+    /// Calls `begin`. Returns the key's shard first.
     fn begin(
         &mut self,
         key: u64,
@@ -16,31 +16,31 @@ pub trait Owned {
     ) -> Result<(usize, Begun<u64>, Evicted<u64, u64>), Refusal>
         requires { 0 < charge };
 
-    /// `get`. Returns the key's shard first, and then the stamp.
+    /// Calls `get`. Returns the key's shard first, and then the stamp.
     fn get(&mut self, key: u64) -> Result<Option<(usize, u64, Arc<u64>)>, Refusal>;
 
-    /// `ready`.
+    /// Calls `ready`.
     fn ready(&mut self, shard: usize, stamp: u64, value: Arc<u64>) -> Result<(), Arc<u64>>;
 
-    /// `fail`.
+    /// Calls `fail`.
     fn fail(&mut self, shard: usize, stamp: u64) -> Result<Failed<u64>, Refusal>;
 
-    /// `release`.
+    /// Calls `release`.
     fn release(&mut self, shard: usize, stamp: u64) -> Result<Evicted<u64, u64>, Refusal>;
 
-    /// `advice_evict`.
+    /// Calls `advice_evict`.
     fn advice_evict(&mut self, key: u64) -> Evicted<u64, u64>;
 
-    /// `invalidate`.
+    /// Calls `invalidate`.
     fn invalidate(&mut self, key: u64) -> Evicted<u64, u64>;
 
-    /// `set_capacity`, of all shards.
+    /// Calls `set_capacity` for all shards.
     fn set_capacity(&mut self, capacity: u64) -> Evicted<u64, u64>;
 
-    /// `prune` of a shard. Returns `Stale` if there is no such shard.
+    /// Calls `prune` on a shard. Returns `Stale` if there is no such shard.
     fn prune_shard(&mut self, shard: usize) -> Result<Evicted<u64, u64>, Refusal>;
 
-    /// `total` of a shard. Returns `Stale` if there is no such shard.
+    /// Calls `total` on a shard. Returns `Stale` if there is no such shard.
     fn total_shard(&self, shard: usize) -> Result<u64, Refusal>;
 }
 

@@ -1,4 +1,4 @@
-//! A single thread that makes calls of a cache, and holds handles in slots.
+//! A single thread that makes calls on a cache, and holds handles in slots.
 ghost use Rattle.std.specs.Prelude.{◌<◌};
 
 use crate::tables::{Answers, answers_as_expected, text_of};
@@ -139,7 +139,7 @@ impl<'l, R: Wait + Clone + Drop, C: Cached<Logged<R>>> Player<'l, R, C> {
     }
 }
 
-// The answer for a handle, whose value an `init` made for this key, or was already there.
+// Returns the answer for a handle. If an `init` made its value, `ran` has the key of that `init`.
 fn made_or_found(ran: Option<u64>, number: u64) -> Said {
     match ran {
         Some(key) => Said::Made(key, number),

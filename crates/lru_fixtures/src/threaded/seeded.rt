@@ -24,8 +24,8 @@ pub fn capacity_of(seed: u64) -> u64 {
     CAPACITIES[(seed % 4) as usize]
 }
 
-// Returns the next call, whose value is its number. The numbers of 16 keys differ in their high
-// half only, in their low half only, or in both.
+// Returns the next call, whose value is its number. The 16 keys differ in their high half only, in
+// their low half only, or in both.
 fn draw(generator: &mut Xoshiro256PlusPlus, number: u64) -> ThreadedCall {
     let kind = generator.next_u64() % 36;
     let key = generator.next_u64() % 4 * 4_294_967_296 + generator.next_u64() % 4;

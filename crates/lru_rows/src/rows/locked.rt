@@ -81,7 +81,7 @@ fn show_value<R: Wait>(
     }
 }
 
-// No call may leave the function while its handle exists: such a path is expensive to prove.
+// Returns early only where no handle exists: other paths are expensive to prove.
 fn advise<R: Wait>(cache: &LruCache<u64, u64, R>, line: &mut Line) -> Result<(), Refusal> {
     let pinned = handle(cache, 1, 3, Some(1))?;
     let while_pinned = is_found_after_advice(cache, 1);
@@ -98,8 +98,8 @@ fn is_found_after_advice<R: Wait>(
     Ok(cache.get(key)?.is_some())
 }
 
-// Returns a handle of a key's value, which is made if there is none, or `None` if its making
-// failed, as it does with no value. A charge of 0 counts as 1.
+// Returns a handle of a key's value, making the value if there is none. Returns `None` if the
+// making fails, as it does if `value` is `None`. A charge of 0 counts as 1.
 fn handle<'a, R: Wait>(
     cache: &'a LruCache<u64, u64, R>,
     key: u64,

@@ -1,4 +1,4 @@
-//! Scripts: calls of a cache without a lock, and what is shown of them.
+//! Scripts: calls on a cache without a lock, and what is shown of them.
 //!
 //! The value of a key is the key itself. A charge of 0 counts as 1, the minimum.
 ghost use Rattle.std.specs.Prelude.{◌<◌};

@@ -38,8 +38,7 @@ fn show_found<R: Wait>(
     line.show_found(is_found)
 }
 
-/// Shows each shard's share of a capacity: the quotient, rounded up. A number of 0 shards counts as
-/// 1.
+/// Shows each shard's share of a capacity: the quotient, rounded up. 0 shards count as 1.
 pub fn divides_its_capacity(shares: &[(u64, usize)], line: &mut Line) -> Result<(), Refusal> {
     for (capacity, shards) in shares {
         line.show(capacity_per_shard(*capacity, (*shards).max(1)))?;

@@ -9,9 +9,9 @@ use std::sync::Wait;
 use std::thread;
 use std::thread::Threads;
 
-/// A thread finds what another made before it ended.
+/// A thread finds the value that another thread made.
 ///
-/// A thread that cannot be started counts as a refusal of memory.
+/// Returns `Memory` if a thread cannot be started.
 pub fn finds_what_another_thread_made<R: Threads + Wait + Sync>(
     rt: &R,
     alloc: Global,
