@@ -127,7 +127,10 @@ fn threads_share_a_cache(rt: HostRuntime) {
         let cache = Cache::with_shards(rt.alloc(), &rt, CAPACITY, 2, hasher).expect(&rt, "memory");
         assert_eq!(rt; storm(&rt, &cache, threads), 0, "{threads} threads");
         // No call is running, so what is above the capacity would be pinned.
-        assert!(rt; cache.total_charge() <= u128::from(CAPACITY), "{threads} threads");
+        assert!(rt;
+            cache.total_charge() <= u128::from(CAPACITY),
+            "{threads} threads"
+        );
         assert_eq!(rt; cache.pinned_charge(), 0);
         cache.prune();
         assert_eq!(rt; (cache.len(), cache.total_charge()), (0, 0));

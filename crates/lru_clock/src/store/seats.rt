@@ -137,10 +137,7 @@ impl Seats {
 
     /// Gives back the place of an entry that was taken out, and returns the entry. Its charge
     /// counts no more.
-    pub fn vacate<K: Eq, V, F: Fit<K, V>>(
-        &mut self,
-        taken: Taken<K, V, F>,
-    ) -> Sealed<Kept<K, V, F>>
+    pub fn vacate<K: Eq, V, F: Fit<K, V>>(&mut self, taken: Taken<K, V, F>) -> Sealed<Kept<K, V, F>>
         ensures { self.new ≡ set self.old taken.place NO_ENTRY }
     {
         let Taken { place, entry } = taken;

@@ -188,7 +188,11 @@ impl<K: Eq + Drop, V: Drop, F: Fit<K, V>> Slot<K, V, F> {
 
     /// Stores an entry in a free slot, or returns it. One that was invalidated before it came can
     /// be pinned by `pin_invalidated` alone.
-    pub(super) fn fill(&self, kept: Kept<K, V, F>, is_invalidated: bool) -> Result<(), Kept<K, V, F>>
+    pub(super) fn fill(
+        &self,
+        kept: Kept<K, V, F>,
+        is_invalidated: bool,
+    ) -> Result<(), Kept<K, V, F>>
         requires { F.fits kept.key kept.value }
     {
         let seen = self.cell.load();
