@@ -46,11 +46,12 @@ for word in 0 +8 -1 "''" "' 8'" few 10000001 18446744073709551615 "8 0" "8 few" 
         "lru_bench time $word"
 done
 usage="usage: lru_bench check | (plan | time) [WORD ..] [read_mostly FILE] | \
-run WORKLOAD ENTRIES CALLS | \
+run (lock | clock) WORKLOAD ENTRIES CALLS | \
 attack (chosen | drawn) (known | seeded | shards) KEYS"$'\n'
-for words in "" times "check 8" "read_mostly empty" "time \$'\xff'" "run hit_get 8" \
-    "run stress 8 1" "run read_mostly 8 1" "run hits 8 1" "run hit_get 0 1" "run hit_get 8 0" \
-    "run hit_get 8 +1" "run hit_get 10000001 1" "run hit_get 8 10000001" "run hit_get 8 1 1" \
+for words in "" times "check 8" "read_mostly empty" "time \$'\xff'" "run lock hit_get 8" \
+    "run hit_get 8 1" "run watch hit_get 8 1" "run lock stress 8 1" "run clock read_mostly 8 1" \
+    "run lock hits 8 1" "run lock hit_get 0 1" "run clock hit_get 8 0" "run lock hit_get 8 +1" \
+    "run lock hit_get 10000001 1" "run lock hit_get 8 10000001" "run lock hit_get 8 1 1" \
     "attack chosen known" "attack made known 8" "attack chosen unknown 8" "attack drawn shards 0"; do
     ends 2 "" "$usage" "lru_bench $words"
 done
@@ -59,11 +60,13 @@ ends 1 "" "$system" "lru_bench time read_mostly /"
 ends 1 "" "$system" "lru_bench plan > /dev/full"
 
 # the sums of crates/lru_bench/stdout
-for workload in hit_get hit_read hit_init; do
-    ends 0 "351"$'\n' "" "lru_bench run $workload 8 100"
+for cache in lock clock; do
+    for workload in hit_get hit_read hit_init; do
+        ends 0 "351"$'\n' "" "lru_bench run $cache $workload 8 100"
+    done
+    ends 0 "1000004950"$'\n' "" "lru_bench run $cache miss_evict 100 100"
 done
-ends 0 "1000004950"$'\n' "" "lru_bench run miss_evict 100 100"
-ends 1 "" "$system" "lru_bench run hit_get 8 1 > /dev/full"
+ends 1 "" "$system" "lru_bench run lock hit_get 8 1 > /dev/full"
 
 # a shard may get more than its share of many keys, and then evicts some
 for keys in chosen drawn; do

@@ -34,7 +34,7 @@ impl Failure {
             Failure::Usage => writeln!(
                 err,
                 "usage: lru_bench check | (plan | time) [WORD ..] [read_mostly FILE] | \
-                 run WORKLOAD ENTRIES CALLS | \
+                 run (lock | clock) WORKLOAD ENTRIES CALLS | \
                  attack (chosen | drawn) (known | seeded | shards) KEYS"
             ),
             Failure::Word => writeln!(

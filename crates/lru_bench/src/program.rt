@@ -26,9 +26,9 @@ use std::thread::Threads;
 ///   `read_mostly` and the path of a file of keys, for reads that mostly hit, whose hit ratios go
 ///   to `err`. Status 0, or 2 after a line on `err` if it does not know a word: then nothing runs.
 /// - `plan` writes to `out` what `time` would run with the same words, and runs nothing. Status 0.
-/// - `run`, a workload of hits or misses, a number of entries and a number of calls make these
-///   calls in one thread on a cache of one lock, and write the sum of the values that they read to
-///   `out`. Status 0.
+/// - `run`, `lock` or `clock`, a workload of hits or misses, a number of entries and a number of
+///   calls make these calls in one thread, on a cache of one lock or on a clock of one shard, and
+///   write the sum of the values that they read to `out`. Status 0.
 /// - `attack`, `chosen` or `drawn`, `known`, `seeded` or `shards`, and a number put so many keys
 ///   into a cache, and write how many entries it has then to `out`. Status 0.
 /// - Any other words write the usage line to `err`. Status 2.
@@ -69,8 +69,13 @@ fn run<R: Threads + Wait + Clock + RandomSource + Files + Sync, O: Write, E: Wri
             writeln!(out, "{}", timed(rt, alloc, asked)?)?;
             Ok(())
         }
-        [word, workload, entries, calls] if word.as_str() == "run" => {
-            let single = Single::of_words(workload.as_str(), entries.as_str(), calls.as_str())?;
+        [word, target, workload, entries, calls] if word.as_str() == "run" => {
+            let single = Single::of_words(
+                target.as_str(),
+                workload.as_str(),
+                entries.as_str(),
+                calls.as_str(),
+            )?;
             writeln!(out, "{}", single.run(alloc, rt)?)?;
             Ok(())
         }

@@ -1,6 +1,5 @@
-//! One workload on a cache of one lock, in one thread, for tools that count what a call does. Two
-//! runs with the same arguments do the same work, since no clock and no random number has a part in
-//! it.
+//! One workload on one cache, in one thread, for tools that count what a call does. Two runs with the
+//! same arguments do the same work, since no clock and no random number has a part in it.
 
 use crate::failure::Failure;
 use crate::operation::{Get, Init, Make, Read};
@@ -9,27 +8,57 @@ use crate::workers;
 use crate::workers::WorkloadKeys;
 use crate::workload::Workload;
 use concurrent_lru::unsharded::LruCache;
+use lru_clock::clock::Cache;
+use lru_support::cached::Cached;
 use std::alloc::Global;
+use std::hash::{BuildHasherDefault, FoldHasher};
 use std::num::NonZeroU64;
 use std::sync::Wait;
 
-/// A workload of hits or misses, and how much of it is run.
+// Which cache is called.
+#[derive(Clone, Copy)]
+enum Target {
+    // One lock.
+    Lock,
+    // A clock of one shard.
+    Clock,
+}
+
+impl Target {
+    fn named(name: &str) -> Option<Target> {
+        match name {
+            "lock" => Some(Target::Lock),
+            "clock" => Some(Target::Clock),
+            _ => None,
+        }
+    }
+}
+
+/// A workload of hits or misses, on which cache it is run, and how much of it.
 #[derive(Clone, Copy)]
 pub struct Single {
+    target: Target,
     workload: Workload,
     entries: NonZeroU64,
     calls: u32,
 }
 
 impl Single {
-    /// Parses the name of a workload, the number of entries and the number of calls.
+    /// Parses the name of a cache, `lock` or `clock`, the name of a workload, the number of entries
+    /// and the number of calls.
     ///
-    /// Returns `Usage` if there is no workload of this name, or a number is not one from 1 to
-    /// `MOST_ENTRIES`.
-    pub fn of_words(name: &str, entries: &str, calls: &str) -> Result<Single, Failure> {
+    /// Returns `Usage` if there is no cache or no workload of this name, or a number is not one
+    /// from 1 to `MOST_ENTRIES`.
+    pub fn of_words(
+        target: &str,
+        workload: &str,
+        entries: &str,
+        calls: &str,
+    ) -> Result<Single, Failure> {
         let calls = number(calls).ok_or(Failure::Usage)?;
         Ok(Single {
-            workload: Workload::named(name).ok_or(Failure::Usage)?,
+            target: Target::named(target).ok_or(Failure::Usage)?,
+            workload: Workload::named(workload).ok_or(Failure::Usage)?,
             entries: number(entries).ok_or(Failure::Usage)?,
             calls: u32::try_from(calls.get()).unwrap_or(u32::MAX),
         })
@@ -40,15 +69,30 @@ impl Single {
     ///
     /// Returns `Usage` if the workload is not one of hits or misses.
     pub fn run<W: Wait + Drop>(self, alloc: Global, wait: W) -> Result<u64, Failure> {
-        let cache: LruCache<u64, u64, W> = LruCache::new(alloc, wait, self.entries.get());
-        let make = Make { cache: &cache };
+        let capacity = self.entries.get();
+        match self.target {
+            Target::Lock => {
+                let cache: LruCache<u64, u64, W> = LruCache::new(alloc, wait, capacity);
+                self.call(&cache)
+            }
+            Target::Clock => {
+                let hasher: BuildHasherDefault<FoldHasher> = BuildHasherDefault::new();
+                let cache: Cache<u64, u64, W, BuildHasherDefault<FoldHasher>> =
+                    Cache::with_shards_hasher(alloc, wait, capacity, 1, hasher)?;
+                self.call(&cache)
+            }
+        }
+    }
+
+    fn call<C: Cached<u64>>(self, cache: C) -> Result<u64, Failure> {
+        let make = Make { cache };
         let present = WorkloadKeys::Present(self.entries);
         workers::fill(&make, self.entries)?;
         workers::work(&make, present, 1, self.uses_before())?;
         let told = match self.workload {
-            Workload::HitGet => workers::work(&Get { cache: &cache }, present, 0, self.calls)?,
-            Workload::HitRead => workers::work(&Read { cache: &cache }, present, 0, self.calls)?,
-            Workload::HitInit => workers::work(&Init { cache: &cache }, present, 0, self.calls)?,
+            Workload::HitGet => workers::work(&Get { cache }, present, 0, self.calls)?,
+            Workload::HitRead => workers::work(&Read { cache }, present, 0, self.calls)?,
+            Workload::HitInit => workers::work(&Init { cache }, present, 0, self.calls)?,
             Workload::MissEvict => workers::work(&make, WorkloadKeys::Absent, 0, self.calls)?,
             Workload::Stress | Workload::ReadMostly => return Err(Failure::Usage),
         };

@@ -11,7 +11,7 @@ ghost use Rattle.concurrent_lru.specs.ThreadedCalls.{IfInit, IsNotInit};
 pub use crate::desk::Counts;
 pub use crate::handle::CacheHandle;
 use crate::shard::{Shard, Turn};
-use crate::slot::MOST_PINS;
+use crate::store::MOST_PINS;
 pub use concurrent_lru::fit::{Anything, Fit};
 use concurrent_lru::sharded::capacity_per_shard;
 pub use concurrent_lru::sharded::{GetError, Refusal};

@@ -2,7 +2,7 @@
 ghost use Rattle.std.specs.Prelude.{◌≡◌};
 
 use crate::makings::Makings;
-use crate::seats::Seats;
+use crate::store::Seats;
 use std::alloc::Global;
 use std::fmt;
 

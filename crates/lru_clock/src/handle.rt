@@ -5,7 +5,7 @@ ghost use Rattle.std.specs.Prelude.{◌≡◌};
 
 use crate::shard::Shard;
 use crate::shown::Shown;
-use crate::slot::{Pin, Released};
+use crate::store::{Pin, Released};
 use concurrent_lru::fit::{Anything, Fit};
 use std::fmt;
 use std::hash::Hash;

@@ -11,10 +11,9 @@ mod changes;
 mod looks;
 
 use crate::desk::Desk;
-use crate::seats::Seat;
-use crate::slot::{Kept, Leaver, Pin, Slot};
-use crate::store::Store;
+use crate::store::{Kept, Leaver, Pin, Reservation, Seat, Slot, Store, Taken};
 use concurrent_lru::fit::Fit;
+use concurrent_lru::sealed::Sealed;
 use concurrent_lru::sharded::Refusal;
 use crossbeam_utils::CachePadded;
 use std::alloc::{AllocError, Global};
@@ -31,6 +30,8 @@ pub struct Shard<K: Hash + Eq + Clone, V, F: Fit<K, V>> {
     most_pins: u64,
     // Whether the total was above the capacity when the lock was last released.
     is_above: AtomicBool,
+    // Whether a caller that wanted to evict found the lock taken, and left that to whoever has it.
+    is_owed: AtomicBool,
     alloc: Global,
     desk: CachePadded<Mutex<Desk<K>>>,
     // Wakes those who wait for a value that another caller makes.
@@ -59,6 +60,7 @@ impl<K: Hash + Eq + Clone + Drop, V: Drop, F: Fit<K, V>> Shard<K, V, F> {
             store: Store::new(alloc)?,
             most_pins,
             is_above: AtomicBool::new(false),
+            is_owed: AtomicBool::new(false),
             alloc,
             desk: CachePadded::new(Mutex::new(Desk::new(alloc, capacity))),
             made: CachePadded::new(Condvar::new()),
@@ -77,15 +79,51 @@ impl<K: Hash + Eq + Clone + Drop, V: Drop, F: Fit<K, V>> Shard<K, V, F> {
         }
     }
 
-    // Releases the lock, and then drops the entry that left under it.
+    // Releases the lock, drops the entry that left under it, and evicts what others left to this
+    // caller meanwhile.
     fn unlock(&self, guard: MutexGuard<'_, Desk<K>>, leaver: Leaver<K, V, F>) {
+        if self.close(guard, leaver) {
+            self.settle();
+        }
+    }
+
+    // Releases the lock, and then drops the entry that left under it. Returns whether more entries
+    // may have to leave: a handle that was dropped before `is_above` rose evicts nothing, and
+    // neither does one that found the lock taken.
+    fn close(&self, guard: MutexGuard<'_, Desk<K>>, leaver: Leaver<K, V, F>) -> bool {
         let is_above = guard.is_above(0);
-        if self.is_above.load(SeqCst) != is_above {
+        let was_above = self.is_above.load(SeqCst);
+        if was_above != is_above {
             self.is_above.store(is_above, SeqCst);
         }
-        if let Some(sealed) = leaver {
-            drop(sealed.open(guard));
+        match leaver {
+            Some(sealed) => drop(sealed.open(guard)),
+            None => drop(guard),
         }
+        (is_above && !was_above) || self.is_owed.load(SeqCst)
+    }
+
+    /// Evicts down to the capacity. If the lock is taken, leaves it to whoever has it.
+    #[inline(never)]
+    pub fn settle(&self) {
+        for _ in 0..u64::MAX {
+            self.is_owed.store(true, SeqCst);
+            let Some(mut guard) = self.desk.try_lock() else {
+                return;
+            };
+            self.is_owed.store(false, SeqCst);
+            let leaver = self.make_room(&mut guard, 0);
+            let is_done = leaver.is_none() || !guard.is_above(0);
+            if !self.close(guard, leaver) && is_done {
+                return;
+            }
+        }
+    }
+
+    /// Returns whether the total was above the capacity when the lock was last released.
+    #[inline(always)]
+    pub fn is_above(&self) -> bool {
+        self.is_above.load(SeqCst)
     }
 
     // Wakes the callers that wait for a making.
@@ -95,15 +133,16 @@ impl<K: Hash + Eq + Clone + Drop, V: Drop, F: Fit<K, V>> Shard<K, V, F> {
         }
     }
 
-    // An entry has left its slot.
-    fn vacate(&self, desk: &mut Desk<K>, place: u32) {
+    // Gives back the seat of an entry that was taken out, which the index no longer has then.
+    fn vacate(&self, desk: &mut Desk<K>, taken: Taken<K, V, F>) -> Sealed<Kept<K, V, F>> {
+        let place = taken.place();
         if let Some(seat) = desk.seats.get(place) {
             if seat.is_listed {
                 self.unlist(desk, place, seat.tag);
             }
         }
-        desk.seats.vacate(place);
         desk.counts.evictions = desk.counts.evictions.wrapping_add(1);
+        desk.seats.vacate(taken)
     }
 
     fn unlist(&self, desk: &mut Desk<K>, place: u32, tag: u32) {
@@ -127,11 +166,8 @@ impl<K: Hash + Eq + Clone + Drop, V: Drop, F: Fit<K, V>> Shard<K, V, F> {
     fn evict(&self, desk: &mut Desk<K>) -> Leaver<K, V, F> {
         for _ in 0..desk.seats.len().wrapping_mul(4) {
             let place = desk.move_hand();
-            if let Some(slot) = self.slot(place) {
-                if let Some(leaver) = slot.pass() {
-                    self.vacate(desk, place);
-                    return Some(leaver);
-                }
+            if let Some(taken) = self.store.pass(place) {
+                return Some(self.vacate(desk, taken));
             }
         }
         None
@@ -184,20 +220,19 @@ impl<K: Hash + Eq + Clone + Drop, V: Drop, F: Fit<K, V>> Shard<K, V, F> {
             (λ found. (found.1.key ≡ key.now) × F.fits key.now found.1.value) }
         ensures never_stale { IfErr result (λ e. e.0 ≢ Refusal.Stale) }
     {
-        let place = match self.seat(desk, seat) {
-            Ok(place) => place,
+        let reservation = match self.reserve_seat(desk, seat) {
+            Ok(reservation) => reservation,
             Err(refusal) => return Err((refusal, Some(kept))),
         };
-        let Some(slot) = self.slot(place) else {
-            desk.seats.vacate(place);
-            return Err((Refusal::Overflow, Some(kept)));
+        let place = match self.store.fill(reservation, kept, !seat.is_listed) {
+            Ok(place) => place,
+            Err((reservation, kept)) => {
+                desk.seats.cancel(reservation);
+                return Err((Refusal::Overflow, Some(kept)));
+            }
         };
-        if let Err(kept) = slot.fill(kept, !seat.is_listed) {
-            desk.seats.vacate(place);
-            return Err((Refusal::Overflow, Some(kept)));
-        }
         // Nobody else can have pinned it so often, or taken it out under the lock.
-        let Ok(Some(pin)) = self.pin_new(slot, key, seat.is_listed) else {
+        let Ok(Some(pin)) = self.pin_new(place, key, seat.is_listed) else {
             return Err((Refusal::Overflow, None));
         };
         if seat.is_listed {
@@ -210,16 +245,19 @@ impl<K: Hash + Eq + Clone + Drop, V: Drop, F: Fit<K, V>> Shard<K, V, F> {
 
     // Pins an entry that was just stored. A caller with an old word of the index may find its slot,
     // so an entry that is not listed must be hidden from the start.
-    fn pin_new<'a>(
+    fn pin_new(
         &self,
-        slot: &'a Slot<K, V, F>,
+        place: u32,
         key: &K,
         is_listed: bool,
-    ) -> Result<Option<Pin<'a, K, V, F>>, Refusal>
+    ) -> Result<Option<Pin<'_, K, V, F>>, Refusal>
         ensures pin { IfOk result (λ found. IfSome found
             (λ p. (p.key ≡ key.now) × F.fits key.now p.value)) }
         ensures refused { IfErr result (λ e. e ≡ Refusal.Overflow) }
     {
+        let Some(slot) = self.slot(place) else {
+            return Ok(None);
+        };
         if is_listed {
             slot.pin(key, self.most_pins, false)
         } else {
@@ -227,18 +265,11 @@ impl<K: Hash + Eq + Clone + Drop, V: Drop, F: Fit<K, V>> Shard<K, V, F> {
         }
     }
 
-    // Takes a vacant place and counts its entry.
-    fn seat(&self, desk: &mut Desk<K>, seat: Seat) -> Result<u32, Refusal>
+    // Takes a vacant place for an entry, and counts its charge.
+    fn reserve_seat(&self, desk: &mut Desk<K>, seat: Seat) -> Result<Reservation, Refusal>
         ensures { IfErr result (λ e. e ≢ Refusal.Stale) }
     {
         self.admit(desk, seat.charge)?;
-        let Some(place) = desk.seats.take_vacant() else {
-            return Err(Refusal::Overflow);
-        };
-        if !desk.seats.set(place, seat) {
-            desk.seats.give_back(place);
-            return Err(Refusal::Overflow);
-        }
-        Ok(place)
+        desk.seats.reserve(seat).ok_or(Refusal::Overflow)
     }
 }

@@ -3,12 +3,16 @@
 //! Slots lie in pages, each twice as large as the one before it, and never move. A new page comes
 //! with a new index. The old indexes stay as they were: a reader that still has one finds too
 //! little, and asks again under the lock.
-ghost use Rattle.std.specs.Prelude.{◌≢◌, ◌<◌, IfErr};
+ghost use Rattle.std.specs.Prelude.{◌≡◌, ◌≢◌, ◌<◌, IfErr, IfOk, IfSome};
+
+mod seats;
+mod slot;
 
 use crate::index::Index;
-use crate::seats::Seats;
-use crate::slot::Slot;
+pub use crate::store::seats::{Reservation, Seat, Seats};
+pub use crate::store::slot::{Kept, Leaver, MOST_PINS, Pin, Released, Slot};
 use concurrent_lru::fit::Fit;
+use concurrent_lru::sealed::Sealed;
 use concurrent_lru::sharded::Refusal;
 use std::alloc::{AllocError, Global};
 use std::sync::OnceLock;
@@ -28,6 +32,31 @@ pub struct Store<K: Eq, V, F: Fit<K, V>> {
     level: AtomicU64,
     indexes: Vec<OnceLock<Index>>,
     pages: Vec<OnceLock<Vec<Slot<K, V, F>>>>,
+}
+
+/// A debt: an entry that was taken out of its slot, and whose charge still counts. `Seats::vacate`
+/// takes it. So no charge counts whose entry has left.
+pub struct Taken<K: Eq, V, F: Fit<K, V>> {
+    place: u32,
+    entry: Sealed<Kept<K, V, F>>,
+}
+
+impl<K: Eq, V, F: Fit<K, V>> Taken<K, V, F> {
+    fn of(place: u32, leaver: Leaver<K, V, F>) -> Option<Self>
+        ensures { IfSome result (λ taken. taken.place ≡ place) }
+    {
+        match leaver {
+            Some(entry) => Some(Taken { place, entry }),
+            None => None,
+        }
+    }
+
+    /// Returns the place of the slot.
+    pub fn place(&self) -> u32
+        ensures { result ≡ self.now.place }
+    {
+        self.place
+    }
 }
 
 // Returns the page of a place, and where it is in the page.
@@ -91,6 +120,50 @@ impl<K: Eq + Drop, V: Drop, F: Fit<K, V>> Store<K, V, F> {
     pub fn slot(&self, place: u32) -> Option<&Slot<K, V, F>> {
         let (page, at) = page_of(place);
         self.pages.get(page)?.get()?.get(at)
+    }
+
+    /// Stores an entry in the slot whose place was reserved for it, and returns the place. One that
+    /// was invalidated before it came can be pinned by `Slot::pin_invalidated` alone.
+    ///
+    /// Returns both if the slot has an entry.
+    pub fn fill(
+        &self,
+        reservation: Reservation,
+        kept: Kept<K, V, F>,
+        is_invalidated: bool,
+    ) -> Result<u32, (Reservation, Kept<K, V, F>)>
+        requires { F.fits kept.key kept.value }
+        ensures { IfOk result (λ place. place ≡ reservation.place) }
+    {
+        let Some(slot) = self.slot(reservation.place) else {
+            return Err((reservation, kept));
+        };
+        if let Err(kept) = slot.fill(kept, is_invalidated) {
+            return Err((reservation, kept));
+        }
+        let Reservation { place } = reservation;
+        Ok(place)
+    }
+
+    /// The hand of the clock comes to a place, as `Slot::pass` says.
+    pub fn pass(&self, place: u32) -> Option<Taken<K, V, F>>
+        ensures { IfSome result (λ taken. taken.place ≡ place) }
+    {
+        Taken::of(place, self.slot(place)?.pass())
+    }
+
+    /// Takes out the entry of a place if nobody has pinned it, whatever its chances.
+    pub fn take_idle(&self, place: u32) -> Option<Taken<K, V, F>>
+        ensures { IfSome result (λ taken. taken.place ≡ place) }
+    {
+        Taken::of(place, self.slot(place)?.take_idle())
+    }
+
+    /// Takes out the entry of a place if it was invalidated and nobody has pinned it.
+    pub fn take_invalidated(&self, place: u32) -> Option<Taken<K, V, F>>
+        ensures { IfSome result (λ taken. taken.place ≡ place) }
+    {
+        Taken::of(place, self.slot(place)?.take_invalidated())
     }
 
     /// Returns the index. Under the lock it has each entry that its key finds.

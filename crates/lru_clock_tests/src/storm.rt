@@ -1,4 +1,4 @@
-//! Four threads that make, insert, invalidate, fail and prune at once. Each value carries its key
+//! Two, four and eight threads that make, insert, invalidate, fail and prune at once. Each value carries its key
 //! and a version, by which a thread tells a value that it has invalidated.
 ghost use Rattle.std.specs.Prelude.{◌<◌};
 
@@ -12,9 +12,9 @@ use std::sync::atomic::Ordering::SeqCst;
 use std::thread;
 use std::thread::Threads;
 
-const THREADS: u64 = 4;
+const THREADS: [u64; 3] = [2, 4, 8];
 
-const TURNS: u32 = 20_000;
+const TURNS: u32 = 8_000;
 
 // Half of the keys, the even ones, are invalidated, and the others are inserted.
 const KEYS: u64 = 200;
@@ -105,15 +105,15 @@ fn turns<R: Wait>(cache: &Storm<'_, R>, board: &Board, seed: u64) {
     }
 }
 
-// Returns the number of wrong answers.
-fn storm<R: Threads + Wait + Sync>(rt: &R, cache: &Storm<'_, R>) -> u64 {
+// Returns the number of wrong answers to so many threads.
+fn storm<R: Threads + Wait + Sync>(rt: &R, cache: &Storm<'_, R>, threads: u64) -> u64 {
     let board = Board {
         next_version: AtomicU64::new(0),
         wrong: AtomicU64::new(0),
     };
     let shared = &board;
     thread::scope(thread::scope_env(), rt, |scope| {
-        for seed in 0..THREADS {
+        for seed in 0..threads {
             let _started = scope.spawn(move || turns(cache, shared, seed));
         }
     });
@@ -122,11 +122,17 @@ fn storm<R: Threads + Wait + Sync>(rt: &R, cache: &Storm<'_, R>) -> u64 {
 
 #[test]
 fn threads_share_a_cache(rt: HostRuntime) {
-    let hasher = RandomState::new(&rt).expect(&rt, "memory");
-    let cache = Cache::with_shards(rt.alloc(), &rt, CAPACITY, 2, hasher).expect(&rt, "memory");
-    assert_eq!(rt; storm(&rt, &cache), 0);
-    assert!(rt; cache.total_charge() <= u128::from(CAPACITY));
-    assert_eq!(rt; cache.pinned_charge(), 0);
-    cache.prune();
-    assert_eq!(rt; (cache.len(), cache.total_charge()), (0, 0));
+    for threads in THREADS {
+        let hasher = RandomState::new(&rt).expect(&rt, "memory");
+        let cache = Cache::with_shards(rt.alloc(), &rt, CAPACITY, 2, hasher).expect(&rt, "memory");
+        assert_eq!(rt; storm(&rt, &cache, threads), 0, "{threads} threads");
+        // No call is running, so what is above the capacity would be pinned.
+        assert!(rt;
+            cache.total_charge() <= u128::from(CAPACITY),
+            "{threads} threads"
+        );
+        assert_eq!(rt; cache.pinned_charge(), 0);
+        cache.prune();
+        assert_eq!(rt; (cache.len(), cache.total_charge()), (0, 0));
+    }
 }

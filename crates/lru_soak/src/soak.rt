@@ -35,7 +35,8 @@ pub fn soak<R: Threads + Wait + Clock + Clone + Drop + Send + Sync, O: Write>(
     Ok(())
 }
 
-// Runs the round of a seed: each `init` yields, and the total is read while each handle is held.
+// Runs the round of a seed, on each kind of cache: each `init` yields, and the total is read while
+// each handle is held.
 fn round<R: Threads + Wait + Clone + Drop + Send + Sync, O: Write>(
     rt: &R,
     alloc: Global,
@@ -45,6 +46,7 @@ fn round<R: Threads + Wait + Clone + Drop + Send + Sync, O: Write>(
     let mut plan = Plan::new(seed);
     plan.yields = YIELDS;
     plan.looks = true;
+    plan.has_clock = true;
     match run::run(rt, alloc, &plan) {
         Ok(counts) => tell(seed, &counts, out),
         Err(trouble) => Err(Failure::Round(RoundFailure { seed, trouble })),

@@ -1,4 +1,4 @@
-//! Unsharded and sharded caches whose values count themselves, and the checks of them.
+//! Unsharded, sharded and clock caches whose values count themselves, and the checks of them.
 ghost use Rattle.std.specs.Prelude.{◌<◌};
 
 use crate::counted::{Book, CountedValue};
@@ -6,13 +6,14 @@ use crate::outcome::{Check, Counts, Trouble};
 use crate::plan::Plan;
 use crate::workers::{Answer, Notes, StressTarget, Unmade};
 use concurrent_lru::{sharded, unsharded};
+use lru_clock::clock;
 use lru_support::cached::Cached;
 use lru_support::calls::WorkerCall;
 use std::alloc::Global;
 use std::hash::{BuildHasherDefault, FoldHasher};
 use std::sync::Arc;
 
-/// The hasher of the cache with shards.
+/// The hasher of the caches with shards.
 pub type KeyHasher = BuildHasherDefault<FoldHasher>;
 
 /// The cache behind one lock.
@@ -20,6 +21,9 @@ pub type Cache<R> = unsharded::LruCache<u64, CountedValue, R>;
 
 /// The cache with shards.
 pub type Shards<R> = sharded::LruCache<u64, CountedValue, R, KeyHasher>;
+
+/// The clock, with shards.
+pub type Clock<R> = clock::Cache<u64, CountedValue, R, KeyHasher>;
 
 /// A reference to a cache, how it is asked, and the book of its values.
 #[derive(Drop)]

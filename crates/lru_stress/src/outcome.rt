@@ -4,7 +4,7 @@ use concurrent_lru::lru_core::Refusal;
 use std::alloc::{AllocError, AllocFailed};
 use std::fmt;
 
-/// What the three parts of a run counted together.
+/// What the parts of a run counted together.
 #[derive(Clone, Copy)]
 pub struct Counts {
     /// How often a value had to be made: an `init` ran, or the twin returned `Make`.
@@ -44,7 +44,7 @@ impl Counts {
     }
 }
 
-/// The checks of a run. The first four are of the unsharded and of the sharded cache.
+/// The checks of a run. The first four are of the unsharded, the sharded and the clock cache.
 #[derive(Clone, Copy, Debug, PartialEq, Eq)]
 pub enum Check {
     /// A call whose making would not fail returns a value of its key.

@@ -31,12 +31,16 @@ pub struct Plan {
     pub yields: u32,
     /// Whether the total is read while each handle is held.
     pub looks: bool,
+    /// Whether a clock cache takes part, with the capacity and the number of shards of the sharded
+    /// cache.
+    pub has_clock: bool,
     ghost sharded: { 0 < shards },
 }
 
 impl Plan {
     /// Returns a plan of 8 workers with 10,000 calls each, which yield after each 1,000, with the
-    /// capacity 100 under one lock and 128 in 16 shards. No `init` yields, and no total is read.
+    /// capacity 100 under one lock and 128 in 16 shards. No `init` yields, no total is read, and no
+    /// clock cache takes part.
     pub fn new(seed: u64) -> Plan {
         Plan {
             seed,
@@ -48,6 +52,7 @@ impl Plan {
             rests: true,
             yields: 0,
             looks: false,
+            has_clock: false,
         }
     }
 }

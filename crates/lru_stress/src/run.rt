@@ -1,6 +1,7 @@
-//! The three parts of a stress run: a cache behind one lock, a cache with shards, and a twin.
+//! The parts of a stress run: a cache behind one lock, a cache with shards, a twin, and a clock if
+//! the plan has one.
 
-use crate::checked::{Cache, CheckedCache, Shards};
+use crate::checked::{Cache, CheckedCache, Clock, Shards};
 use crate::outcome::{Counts, Trouble};
 use crate::plan::Plan;
 use crate::{twin, workers};
@@ -18,7 +19,13 @@ enum Part {
     OneLock,
     Shards,
     Twin,
+    Clock,
 }
+
+// Those in which no clock cache takes part.
+const EXACT: [Part; 3] = [Part::OneLock, Part::Shards, Part::Twin];
+
+const ALL: [Part; 4] = [Part::OneLock, Part::Shards, Part::Twin, Part::Clock];
 
 impl Part {
     fn run<R: Threads + Wait + Clone + Drop + Send + Sync>(
@@ -31,11 +38,12 @@ impl Part {
             Part::OneLock => on_one_lock(rt, alloc, plan),
             Part::Shards => in_shards(rt, alloc, plan),
             Part::Twin => on_a_twin(rt, alloc, plan),
+            Part::Clock => on_a_clock(rt, alloc, plan),
         }
     }
 }
 
-/// Runs the three parts, each with new workers, and returns the sum of their counts.
+/// Runs the parts, each with new workers, and returns the sum of their counts.
 ///
 /// Returns `Refused` if memory or a thread was refused in any part, whatever was checked, and
 /// otherwise the first check that failed.
@@ -46,7 +54,8 @@ pub fn run<R: Threads + Wait + Clone + Drop + Send + Sync>(
 ) -> Result<Counts, Trouble> {
     let mut counts = Counts::none();
     let mut trouble = None;
-    for part in [Part::OneLock, Part::Shards, Part::Twin] {
+    let parts: &[Part] = if plan.has_clock { &ALL } else { &EXACT };
+    for part in parts {
         match part.run(rt, alloc, plan) {
             Ok(counted) => counts = counts.and(counted),
             Err(Trouble::Refused) => return Err(Trouble::Refused),
@@ -76,6 +85,24 @@ fn in_shards<R: Threads + Wait + Clone + Drop + Send + Sync>(
     plan: &Plan,
 ) -> Result<Counts, Trouble> {
     let made: Result<Shards<R>, _> = Shards::with_shards_hasher(
+        alloc,
+        rt.clone()?,
+        plan.shards_capacity,
+        plan.shards,
+        BuildHasherDefault::new(),
+    );
+    let cache = made?;
+    let checked = CheckedCache::of(alloc, plan, &cache)?;
+    let noted = workers::share(rt, alloc, plan, &checked)?;
+    checked.finish(noted, allowed_in_shards(plan))
+}
+
+fn on_a_clock<R: Threads + Wait + Clone + Drop + Send + Sync>(
+    rt: &R,
+    alloc: Global,
+    plan: &Plan,
+) -> Result<Counts, Trouble> {
+    let made: Result<Clock<R>, _> = Clock::with_shards_hasher(
         alloc,
         rt.clone()?,
         plan.shards_capacity,

@@ -47,6 +47,14 @@ fn each_call_is_a_hit_or_a_making(rt: HostRuntime) {
 }
 
 #[test]
+fn a_clock_takes_part_if_the_plan_says_so(rt: HostRuntime) {
+    let mut plan = plan_of(3, 5, 1_001);
+    plan.has_clock = true;
+    let counts = run(&rt, rt.alloc(), &plan).expect(&rt, "ok");
+    assert_eq!(rt; counts.makings.wrapping_add(counts.hits), 20_020);
+}
+
+#[test]
 fn keys_go_to_several_shards(rt: HostRuntime) {
     let mut plan = plan_of(1, 1, 2_000);
     // So that the greatest total is that of the shards: one of them keeps 8, and 4 while it is

@@ -4,9 +4,8 @@ ghost use Rattle.std.specs.Prelude.{◌≡◌, ◌≢◌, ◌<◌, IfErr, IfOk, 
 ghost use Rattle.concurrent_lru.specs.Cache.{CopiesAreEqual};
 
 use crate::desk::Desk;
-use crate::seats::Seat;
 use crate::shard::Shard;
-use crate::slot::{Kept, Leaver, Pin};
+use crate::store::{Kept, Leaver, Pin, Seat};
 use concurrent_lru::fit::Fit;
 use concurrent_lru::sharded::Refusal;
 use std::hash::Hash;
@@ -83,7 +82,7 @@ impl<K: Hash + Eq + Clone + Drop, V: Drop, F: Fit<K, V>> Shard<K, V, F> {
         let making = guard.makings.end(ticket);
         guard.counts.failures = guard.counts.failures.wrapping_add(1);
         self.wake(&guard);
-        drop(guard);
+        self.unlock(guard, None);
         drop(making);
     }
 
@@ -107,7 +106,7 @@ impl<K: Hash + Eq + Clone + Drop, V: Drop, F: Fit<K, V>> Shard<K, V, F> {
         for _ in rt.forever() {
             let mut guard = self.lock(rt);
             if let Err(refusal) = self.admit(&mut guard, charge) {
-                drop(guard);
+                self.unlock(guard, None);
                 return Err(refusal);
             }
             let leaver = self.replace(&mut guard, tag, key, charge);
@@ -149,14 +148,10 @@ impl<K: Hash + Eq + Clone + Drop, V: Drop, F: Fit<K, V>> Shard<K, V, F> {
     // Invalidates the key's entry, which leaves if nobody has pinned it.
     fn invalidate_entry(&self, desk: &mut Desk<K>, tag: u32, key: &K) -> Leaver<K, V, F> {
         let place = self.place_of(tag, key)?;
-        let slot = self.slot(place)?;
-        slot.mark();
+        self.slot(place)?.mark();
         self.unlist(desk, place, tag);
-        let leaver = slot.take_invalidated();
-        if leaver.is_some() {
-            self.vacate(desk, place);
-        }
-        leaver
+        let taken = self.store.take_invalidated(place)?;
+        Some(self.vacate(desk, taken))
     }
 
     /// Invalidates the key's entry, and the making of its value.
@@ -181,11 +176,8 @@ impl<K: Hash + Eq + Clone + Drop, V: Drop, F: Fit<K, V>> Shard<K, V, F> {
 
     // Evicts the entry of a place if nobody has pinned it.
     fn take_idle(&self, desk: &mut Desk<K>, place: u32) -> Leaver<K, V, F> {
-        let leaver = self.slot(place)?.take_idle();
-        if leaver.is_some() {
-            self.vacate(desk, place);
-        }
-        leaver
+        let taken = self.store.take_idle(place)?;
+        Some(self.vacate(desk, taken))
     }
 
     /// Evicts every entry that nobody has pinned, whatever its chances.
@@ -230,8 +222,16 @@ impl<K: Hash + Eq + Clone + Drop, V: Drop, F: Fit<K, V>> Shard<K, V, F> {
         ensures { IfErr result (λ e. e ≢ Refusal.Stale) }
     {
         let mut guard = self.lock(rt);
-        for _ in guard.seats.len()..entries {
-            self.store.grow(self.alloc, &mut guard.seats)?;
+        let grown = self.grow_to(&mut guard, entries);
+        self.unlock(guard, None);
+        grown
+    }
+
+    fn grow_to(&self, desk: &mut Desk<K>, entries: usize) -> Result<(), Refusal>
+        ensures { IfErr result (λ e. e ≢ Refusal.Stale) }
+    {
+        for _ in desk.seats.len()..entries {
+            self.store.grow(self.alloc, &mut desk.seats)?;
         }
         Ok(())
     }
@@ -240,35 +240,10 @@ impl<K: Hash + Eq + Clone + Drop, V: Drop, F: Fit<K, V>> Shard<K, V, F> {
     #[inline(never)]
     pub fn take_invalidated<R: Wait>(&self, rt: &R, place: u32) {
         let mut guard = self.lock(rt);
-        let leaver = match self.slot(place) {
-            Some(slot) => slot.take_invalidated(),
+        let leaver = match self.store.take_invalidated(place) {
+            Some(taken) => Some(self.vacate(&mut guard, taken)),
             None => None,
         };
-        if leaver.is_some() {
-            self.vacate(&mut guard, place);
-        }
         self.unlock(guard, leaver);
-    }
-
-    /// Returns whether the total was above the capacity when the lock was last released.
-    #[inline(always)]
-    pub fn is_above(&self) -> bool {
-        self.is_above.load(std::sync::atomic::Ordering::SeqCst)
-    }
-
-    /// Evicts down to the capacity, for as long as the lock is free.
-    #[inline(never)]
-    pub fn settle(&self) {
-        for _ in 0..u64::MAX {
-            let Some(mut guard) = self.desk.try_lock() else {
-                return;
-            };
-            let leaver = self.make_room(&mut guard, 0);
-            let is_done = leaver.is_none() || !guard.is_above(0);
-            self.unlock(guard, leaver);
-            if is_done {
-                return;
-            }
-        }
     }
 }

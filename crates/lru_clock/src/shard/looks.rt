@@ -6,7 +6,7 @@ ghost use Rattle.lru_clock.specs.Turns.{IfHit};
 
 use crate::desk::{Counts, Desk};
 use crate::shard::{Shard, Turn};
-use crate::slot::Pin;
+use crate::store::Pin;
 use concurrent_lru::fit::Fit;
 use concurrent_lru::sharded::Refusal;
 use std::hash::Hash;
@@ -40,9 +40,19 @@ impl<K: Hash + Eq + Clone + Drop, V: Drop, F: Fit<K, V>> Shard<K, V, F> {
                 if let Some(pin) = slot.pin(key, self.most_pins, is_use)? {
                     return Ok(Some((place, pin)));
                 }
+                self.settle_compared();
             }
         }
         Ok(None)
+    }
+
+    // Evicts down to the capacity, after another key's entry was compared: the pin that this took
+    // may have kept the entry from leaving.
+    #[inline(always)]
+    fn settle_compared(&self) {
+        if self.is_above() {
+            self.settle();
+        }
     }
 
     /// `find` under the lock, where no entry is missed.
@@ -60,7 +70,7 @@ impl<K: Hash + Eq + Clone + Drop, V: Drop, F: Fit<K, V>> Shard<K, V, F> {
     {
         let guard = self.lock(rt);
         let found = self.find(tag, key, is_use);
-        drop(guard);
+        self.unlock(guard, None);
         found
     }
 
@@ -102,13 +112,36 @@ impl<K: Hash + Eq + Clone + Drop, V: Drop, F: Fit<K, V>> Shard<K, V, F> {
             (λ turn. IfHit turn (λ p. (p.key ≡ key.now) × F.fits key.now p.value)) }
         ensures never_stale { IfErr result (λ e. e ≢ Refusal.Stale) }
     {
+        let (guard, turn) = self.begin_locked(rt, tag, key, charge);
+        self.unlock(guard, None);
+        turn
+    }
+
+    // `begin`, without the release of the lock.
+    fn begin_locked<R: Wait>(
+        &self,
+        rt: &R,
+        tag: u32,
+        key: &K,
+        charge: u64,
+    ) -> (MutexGuard<'_, Desk<K>>, Result<Turn<'_, K, V, F>, Refusal>)
+        ensures pin { IfOk result.1
+            (λ turn. IfHit turn (λ p. (p.key ≡ key.now) × F.fits key.now p.value)) }
+        ensures never_stale { IfErr result.1 (λ e. e ≢ Refusal.Stale) }
+    {
         let mut guard = self.lock(rt);
         for _ in rt.forever() {
-            if let Some((place, pin)) = self.find(tag, key, true)? {
-                return Ok(Turn::Hit(place, pin));
+            match self.find(tag, key, true) {
+                Ok(None) => {}
+                Ok(Some((place, pin))) => return (guard, Ok(Turn::Hit(place, pin))),
+                Err(refusal) => return (guard, Err(refusal)),
             }
             if !guard.makings.contains(key) {
-                return Ok(Turn::Make(self.start(&mut guard, key, charge)?));
+                let turn = match self.start(&mut guard, key, charge) {
+                    Ok(ticket) => Ok(Turn::Make(ticket)),
+                    Err(refusal) => Err(refusal),
+                };
+                return (guard, turn);
             }
             guard = self.wait(rt, guard);
         }
@@ -162,9 +195,13 @@ impl<K: Hash + Eq + Clone + Drop, V: Drop, F: Fit<K, V>> Shard<K, V, F> {
         match slot.pin(key, self.most_pins, false) {
             Ok(Some(pin)) => {
                 pin.release();
+                self.settle_compared();
                 true
             }
-            Ok(None) => false,
+            Ok(None) => {
+                self.settle_compared();
+                false
+            }
             Err(_) => true,
         }
     }
@@ -173,26 +210,38 @@ impl<K: Hash + Eq + Clone + Drop, V: Drop, F: Fit<K, V>> Shard<K, V, F> {
     pub fn contains<R: Wait>(&self, rt: &R, tag: u32, key: &K) -> bool {
         let guard = self.lock(rt);
         let place = self.place_of(tag, key);
-        drop(guard);
+        self.unlock(guard, None);
         place.is_some()
     }
 
     /// Returns the capacity.
     pub fn capacity<R: Wait>(&self, rt: &R) -> u64 {
-        self.lock(rt).capacity
+        let guard = self.lock(rt);
+        let capacity = guard.capacity;
+        self.unlock(guard, None);
+        capacity
     }
 
     /// Returns the sum of the charges.
     pub fn total_charge<R: Wait>(&self, rt: &R) -> u64 {
-        self.lock(rt).seats.total()
+        let guard = self.lock(rt);
+        let total = guard.seats.total();
+        self.unlock(guard, None);
+        total
     }
 
     /// Returns the sum of the charges of the entries that somebody has pinned.
     pub fn pinned_charge<R: Wait>(&self, rt: &R) -> u64 {
         let guard = self.lock(rt);
+        let pinned = self.pinned_among(&guard);
+        self.unlock(guard, None);
+        pinned
+    }
+
+    fn pinned_among(&self, desk: &Desk<K>) -> u64 {
         let mut pinned = 0u64;
-        for place in 0..guard.seats.places() {
-            if let (Some(seat), Some(slot)) = (guard.seats.get(place), self.slot(place)) {
+        for place in 0..desk.seats.places() {
+            if let (Some(seat), Some(slot)) = (desk.seats.get(place), self.slot(place)) {
                 if slot.is_pinned() {
                     pinned = pinned.saturating_add(seat.charge);
                 }
@@ -203,12 +252,18 @@ impl<K: Hash + Eq + Clone + Drop, V: Drop, F: Fit<K, V>> Shard<K, V, F> {
 
     /// Returns the number of entries.
     pub fn len<R: Wait>(&self, rt: &R) -> usize {
-        self.lock(rt).seats.entries()
+        let guard = self.lock(rt);
+        let entries = guard.seats.entries();
+        self.unlock(guard, None);
+        entries
     }
 
     /// Returns the counts.
     pub fn counts<R: Wait>(&self, rt: &R) -> Counts {
-        self.lock(rt).counts
+        let guard = self.lock(rt);
+        let counts = guard.counts;
+        self.unlock(guard, None);
+        counts
     }
 
     /// Resets the counts, and returns what they were.
@@ -216,6 +271,7 @@ impl<K: Hash + Eq + Clone + Drop, V: Drop, F: Fit<K, V>> Shard<K, V, F> {
         let mut guard = self.lock(rt);
         let counts = guard.counts;
         guard.counts = Counts::default();
+        self.unlock(guard, None);
         counts
     }
 }

@@ -1,9 +1,12 @@
 //! What a shard knows under its lock of each of its slots: the charge of the entry there, and where
 //! the index has it.
-ghost use Rattle.std.specs.Prelude.{◌≡◌, ◌<◌, ◌∷◌, ◌++◌, [], List, sum_by};
-ghost use Rattle.std.specs.Prelude.{IsTrue, IsFalse, OnOk, OnErr, length};
+ghost use Rattle.std.specs.Prelude.{◌≡◌, [], sum_by, false};
+ghost use Rattle.std.specs.Prelude.{IsTrue, IsFalse, MatchOption, length};
 ghost use Rattle.std.proofs.Math.ListN.{set};
 
+use crate::store::{Kept, Taken};
+use concurrent_lru::fit::Fit;
+use concurrent_lru::sealed::Sealed;
 use std::alloc::{AllocError, Global};
 use std::marker::Model;
 
@@ -14,6 +17,18 @@ pub struct Seat {
     pub charge: u64,
     pub tag: u32,
     pub is_listed: bool,
+}
+
+const NO_ENTRY: Seat = Seat {
+    charge: 0,
+    tag: 0,
+    is_listed: false,
+};
+
+/// A debt: a place that was taken for an entry whose charge counts already. `Store::fill` takes it
+/// with the entry, or else `Seats::cancel`. So no entry is in a slot that does not count.
+pub struct Reservation {
+    pub(super) place: u32,
 }
 
 /// The seats of a shard in the order of their places, with the sum of their charges, and the places
@@ -27,7 +42,7 @@ pub struct Seats {
 
 impl Model for Seats {
     ghost use Rattle.std.specs.Prelude.{◌≡◌, List, sum_by};
-    ghost use Rattle.lru_clock.specs.declared.seats.Seat.{Seat};
+    ghost use Rattle.lru_clock.specs.declared.store.seats.Seat.{Seat};
 
     ghost Value = { List Seat };
 
@@ -86,27 +101,9 @@ impl Seats {
     {
         // So that each place can be given back without memory.
         self.vacant.reserve(self.seats.len().wrapping_add(1))?;
-        self.seats.push(Seat {
-            charge: 0,
-            tag: 0,
-            is_listed: false,
-        })?;
+        self.seats.push(NO_ENTRY)?;
         self.give_back(place);
         Ok(())
-    }
-
-    /// Takes a place that has no entry.
-    pub fn take_vacant(&mut self) -> Option<u32>
-        ensures { self.new ≡ self.old }
-    {
-        self.vacant.pop()
-    }
-
-    /// Gives back the place of no entry. There is room, which `add` has made.
-    pub fn give_back(&mut self, place: u32)
-        ensures { self.new ≡ self.old }
-    {
-        let _ = self.vacant.push(place);
     }
 
     /// Returns whether there is a place that has no entry.
@@ -114,9 +111,43 @@ impl Seats {
         !self.vacant.is_empty()
     }
 
-    /// Sets the seat of a place, unless there is no such place or the sum of the charges would pass
-    /// the maximum of a `u64`.
-    pub fn set(&mut self, place: u32, seat: Seat) -> bool
+    /// Takes a vacant place for an entry, whose charge counts from now on.
+    ///
+    /// Returns `None` if no place is vacant, or if the sum of the charges would pass the maximum of
+    /// a `u64`.
+    pub fn reserve(&mut self, seat: Seat) -> Option<Reservation>
+        ensures { MatchOption result (self.new ≡ self.old)
+            (λ r. self.new ≡ set self.old r.place seat) }
+    {
+        let place = self.vacant.pop()?;
+        if !self.set(place, seat) {
+            self.give_back(place);
+            return None;
+        }
+        Some(Reservation { place })
+    }
+
+    /// Gives back the place of an entry that could not be stored. Its charge counts no more.
+    pub fn cancel(&mut self, reservation: Reservation)
+        ensures { self.new ≡ set self.old reservation.place NO_ENTRY }
+    {
+        let Reservation { place } = reservation;
+        self.empty(place);
+    }
+
+    /// Gives back the place of an entry that was taken out, and returns the entry. Its charge
+    /// counts no more.
+    pub fn vacate<K: Eq, V, F: Fit<K, V>>(&mut self, taken: Taken<K, V, F>) -> Sealed<Kept<K, V, F>>
+        ensures { self.new ≡ set self.old taken.place NO_ENTRY }
+    {
+        let Taken { place, entry } = taken;
+        self.empty(place);
+        entry
+    }
+
+    // Sets the seat of a place, unless there is no such place or the sum of the charges would pass
+    // the maximum of a `u64`.
+    fn set(&mut self, place: u32, seat: Seat) -> bool
         ensures done { IsTrue result → self.new ≡ set self.old place seat }
         ensures refused { IsFalse result → self.new ≡ self.old }
     {
@@ -135,17 +166,23 @@ impl Seats {
         }
     }
 
-    /// The entry of a place has left: its charge counts no more.
-    pub fn vacate(&mut self, place: u32) {
-        self.set(
-            place,
-            Seat {
-                charge: 0,
-                tag: 0,
-                is_listed: false,
-            },
-        );
+    // Sets the seat of a place to that of no entry, and gives the place back.
+    fn empty(&mut self, place: u32)
+        ensures { self.new ≡ set self.old place NO_ENTRY }
+    {
+        let at = place as usize;
+        if at < self.seats.len() {
+            self.total -= self.seats[at].charge;
+            self.seats[at] = NO_ENTRY;
+        }
         self.give_back(place);
+    }
+
+    // Gives a place back. There is room, which `add` has made.
+    fn give_back(&mut self, place: u32)
+        ensures { self.new ≡ self.old }
+    {
+        let _ = self.vacant.push(place);
     }
 
     /// The index no longer has the entry of a place.

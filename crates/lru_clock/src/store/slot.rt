@@ -102,7 +102,7 @@ fn is_idle(word: u64) -> bool
 
 impl<K: Eq + Drop, V: Drop, F: Fit<K, V>> Slot<K, V, F> {
     /// Creates an empty slot.
-    pub fn new() -> Self {
+    pub(super) fn new() -> Self {
         Slot {
             cell: Counted::new(None, &()),
         }
@@ -188,7 +188,11 @@ impl<K: Eq + Drop, V: Drop, F: Fit<K, V>> Slot<K, V, F> {
 
     /// Stores an entry in a free slot, or returns it. One that was invalidated before it came can
     /// be pinned by `pin_invalidated` alone.
-    pub fn fill(&self, kept: Kept<K, V, F>, is_invalidated: bool) -> Result<(), Kept<K, V, F>>
+    pub(super) fn fill(
+        &self,
+        kept: Kept<K, V, F>,
+        is_invalidated: bool,
+    ) -> Result<(), Kept<K, V, F>>
         requires { F.fits kept.key kept.value }
     {
         let seen = self.cell.load();
@@ -225,7 +229,7 @@ impl<K: Eq + Drop, V: Drop, F: Fit<K, V>> Slot<K, V, F> {
 
     /// The hand of the clock comes by: an entry that nobody has pinned loses a chance, or leaves if
     /// it has none.
-    pub fn pass(&self) -> Leaver<K, V, F> {
+    pub(super) fn pass(&self) -> Leaver<K, V, F> {
         let seen = self.cell.load();
         if !is_idle(seen) {
             return None;
@@ -239,7 +243,7 @@ impl<K: Eq + Drop, V: Drop, F: Fit<K, V>> Slot<K, V, F> {
     }
 
     /// Takes out an entry that nobody has pinned, whatever its chances.
-    pub fn take_idle(&self) -> Leaver<K, V, F> {
+    pub(super) fn take_idle(&self) -> Leaver<K, V, F> {
         let seen = self.cell.load();
         if is_idle(seen) {
             self.take_at(seen)
@@ -249,7 +253,7 @@ impl<K: Eq + Drop, V: Drop, F: Fit<K, V>> Slot<K, V, F> {
     }
 
     /// Takes out an entry that was invalidated, if nobody has pinned it.
-    pub fn take_invalidated(&self) -> Leaver<K, V, F> {
+    pub(super) fn take_invalidated(&self) -> Leaver<K, V, F> {
         let seen = self.cell.load();
         if state_of(seen) == MARKED && pins_of(seen) == 0 {
             self.take_at(seen)
