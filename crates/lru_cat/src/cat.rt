@@ -4,8 +4,7 @@
 use crate::counted::CountedBlocks;
 use crate::failure::Failure;
 use concurrent_lru::unsharded::GetError;
-use lru_files::{Fault, FileBlocks};
-use lru_pages::PageCache;
+use lru_pages::{Fault, FileBlocks, PageCache};
 use std::alloc::Global;
 use std::fs::{File, Files};
 use std::io::Write;

@@ -3,7 +3,7 @@
 //! Each failure has its line on standard error, and its exit status.
 
 use concurrent_lru::unsharded::GetError;
-use lru_files::{Fault, OpenError};
+use lru_pages::{Fault, OpenError};
 use std::alloc::AllocError;
 use std::io::Write;
 use std::{fmt, io};

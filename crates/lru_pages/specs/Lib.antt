@@ -1,1 +1,3 @@
+pub mod Cuts
+pub mod Faults
 pub mod Pages

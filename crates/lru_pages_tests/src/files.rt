@@ -2,8 +2,7 @@
 
 use crate::scratch;
 use concurrent_lru::unsharded::GetError;
-use lru_files::{Fault, FileBlocks, OpenError, ReadAt};
-use lru_pages::PageCache;
+use lru_pages::{Fault, FileBlocks, OpenError, PageCache, ReadAt};
 use std::alloc::{AllocError, Global};
 use std::fs::{File, OpenOptions};
 use std::io::ErrorKind;

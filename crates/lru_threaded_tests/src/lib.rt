@@ -1,5 +1,5 @@
 //! Tests of the two caches that threads share: tables of calls of one thread, and what threads do
-//! together.
+//! together; and tests of the stress workload.
 //!
 //! They are apart from the caches, so that the crate of the caches is proved once.
 #![tactic(auto)]
@@ -10,5 +10,7 @@ mod contents;
 mod copies;
 #[cfg(test)]
 mod sharded;
+#[cfg(test)]
+mod stress;
 #[cfg(test)]
 mod unsharded;

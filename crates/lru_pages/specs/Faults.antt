@@ -1,8 +1,8 @@
 -- Why a block could not be read.
 use Rattle.std.specs.Prelude.{ℕ, ◌<◌, ◌≤◌}
-use Rattle.lru_files.specs.Cuts.{Cut, start_of}
-use Rattle.lru_files.specs.declared.fault.Fault.{Fault}
-use Rattle.lru_files.specs.declared.fault.Fault.TheVariants as fault
+use Rattle.lru_pages.specs.Cuts.{Cut, start_of}
+use Rattle.lru_pages.specs.declared.fault.Fault.{Fault}
+use Rattle.lru_pages.specs.declared.fault.Fault.TheVariants as fault
 
 -- a fault of a block that begins at start, with len bytes cut into blocks: it is `PastEnd` exactly
 -- if the block begins at or past the end

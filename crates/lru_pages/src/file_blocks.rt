@@ -2,12 +2,12 @@
 //!
 //! Its contract states which offset and how many bytes are read for a number.
 ghost use Rattle.std.specs.Prelude.{◌≡◌, ℕ, ◌<◌, ◌≤◌, ◌↔◌, IfOk, IfSome, IfNone, IsTrue};
-ghost use Rattle.lru_files.specs.Cuts.{start_of, count_of};
+ghost use Rattle.lru_pages.specs.Cuts.{start_of, count_of};
 
+use crate::blocks::Blocks;
 use crate::fault::Fault;
 use crate::open_error::OpenError;
 use crate::read_at::ReadAt;
-use lru_pages::Blocks;
 use std::alloc::Global;
 use std::fs;
 use std::fs::{File, Files, Metadata};
@@ -33,7 +33,7 @@ pub struct FileBlocks<S: ReadAt = File> {
 
 impl<S: ReadAt> Model for FileBlocks<S> {
     ghost use Rattle.std.specs.Prelude.{◌<◌};
-    ghost use Rattle.lru_files.specs.Cuts.{Cut};
+    ghost use Rattle.lru_pages.specs.Cuts.{Cut};
 
     ghost Value = { Cut S };
 
@@ -136,8 +136,8 @@ impl<S: ReadAt> FileBlocks<S> {
 }
 
 impl<S: ReadAt> Blocks for FileBlocks<S> {
-    ghost use Rattle.lru_files.specs.Cuts.{IsBlockOf};
-    ghost use Rattle.lru_files.specs.Faults.{IsFaultOf};
+    ghost use Rattle.lru_pages.specs.Cuts.{IsBlockOf};
+    ghost use Rattle.lru_pages.specs.Faults.{IsFaultOf};
 
     type Fault = Fault;
 
