@@ -105,7 +105,7 @@ view keeps all parts receipts = record { keeps = keeps; all = all; parts = parts
 abbrev pub opening : {K : Type 0} → View K
 opening = view true [] all_parts []
 
--- the keeper, without a tally
+-- the pass that knows all records, without a tally
 abbrev pub knower : {K : Type 0} → List (Answered K) → View K
 knower all = view true all 0 []
 
@@ -113,12 +113,12 @@ knower all = view true all 0 []
 abbrev pub nobody : {K : Type 0} → View K
 nobody = view false [] 0 []
 
--- the keeper without its tally; the tally that it gives away
-abbrev pub keeper_of : {K : Type 0} → View K → View K
-keeper_of v = view v.keeps v.all 0 []
+-- a pass without its tally; the tally that it gives away
+abbrev pub without_tally : {K : Type 0} → View K → View K
+without_tally v = view v.keeps v.all 0 []
 
-abbrev pub hand_of : {K : Type 0} → View K → View K
-hand_of v = view false [] v.parts v.receipts
+abbrev pub only_tally : {K : Type 0} → View K → View K
+only_tally v = view false [] v.parts v.receipts
 
 -- a tally that gave away one part; that part
 abbrev pub less_one : {K : Type 0} → View K → View K

@@ -1,5 +1,5 @@
-//! The lock of a twin. Each call acquires it once, for one step of the journal, and releases it.
-//! What the step took out of the cache is dropped after that.
+//! The lock of a twin. Each call acquires it once, for one call of the journal, and releases it.
+//! What this took out of the cache is dropped after that.
 ghost use Rattle.std.specs.Prelude.{◌≡◌, ◌≢◌, IfErr, IfOk, IfSome};
 ghost use Rattle.std.specs.Fn.{FnOnceReturnsAt, FnOnceTakesAt};
 ghost use Rattle.concurrent_lru.specs.Request as ask;
@@ -7,10 +7,10 @@ ghost use Rattle.lru_journal.specs.Records.{record_of};
 ghost use Rattle.lru_journal.specs.Replay.{told_of_found, IsOfCopy};
 ghost use Rattle.lru_journal.specs.Tallies.{all_parts, AreExactly, IsTallied};
 
-use crate::desk::Desk;
-use crate::desk::step::Step;
 use crate::journal::Journal;
 use crate::tally::{Cell, Identity, Tally};
+use crate::twin_state::TwinState;
+use crate::twin_state::calls::JournalCall;
 use concurrent_lru::lru_core::Refusal;
 use std::hash::Hash;
 use std::sync::{Mutex, MutexGuard, Wait};
@@ -19,7 +19,7 @@ use std::sync::{Mutex, MutexGuard, Wait};
 #[derive(Drop)]
 pub struct Door<K: Hash + Eq + Clone, V, R, I: Identity> {
     cell: Cell<K>,
-    desk: Mutex<Desk<K, V, I>>,
+    state: Mutex<TwinState<K, V, I>>,
     rt: R,
     pub ghost own: { cell.table.shared.table_id ≡ I.name.table },
 }
@@ -28,17 +28,17 @@ pub struct Door<K: Hash + Eq + Clone, V, R, I: Identity> {
 /// the lock is acquired.
 pub struct Guard<'a, K: Hash + Eq + Clone, V, R, I: Identity> {
     door: &'a Door<K, V, R, I>,
-    guard: MutexGuard<'a, Desk<K, V, I>>,
+    guard: MutexGuard<'a, TwinState<K, V, I>>,
 }
 
 impl<K: Hash + Eq + Clone, V, R, I: Identity> Door<K, V, R, I> {
-    /// Creates the lock of a desk whose tallies have this cell.
-    pub(crate) fn new(cell: Cell<K>, desk: Desk<K, V, I>, rt: R) -> Self
+    /// Creates the lock of a twin whose tallies have this cell.
+    pub(crate) fn new(cell: Cell<K>, state: TwinState<K, V, I>, rt: R) -> Self
         requires { cell.table.shared.table_id ≡ I.name.table }
     {
         Door {
             cell,
-            desk: Mutex::new(desk),
+            state: Mutex::new(state),
             rt,
         }
     }
@@ -56,39 +56,39 @@ impl<K: Hash + Eq + Clone, V: Drop, R: Wait + Drop, I: Identity> Door<K, V, R, I
     pub(crate) fn lock(&self) -> Guard<'_, K, V, R, I> {
         Guard {
             door: self,
-            guard: self.desk.lock(&self.rt),
+            guard: self.state.lock(&self.rt),
         }
     }
 
-    /// Returns the journal, as `Desk::close` does.
+    /// Returns the journal, as `TwinState::close` does.
     pub(crate) fn close(self, tally: Tally<K, I>) -> Journal<K, V>
         requires { tally.parts ≡ all_parts }
         ensures exactly { AreExactly result.records tally.receipts }
         ensures began { result.began ≡ I.name.capacity }
     {
-        let Door { cell, desk, rt } = self;
-        desk.into_inner().close(&rt, &cell, tally)
+        let Door { cell, state, rt } = self;
+        state.into_inner().close(&rt, &cell, tally)
     }
 }
 
 impl<'a, K: Hash + Eq + Clone, V: Drop, R: Wait + Drop, I: Identity> Guard<'a, K, V, R, I> {
-    /// Takes one step of the journal, as `Desk::call` does. Its answer is unsealed after the lock
-    /// is released.
-    pub(crate) fn call<S: Step<K, V>>(
+    /// Makes one call of the journal, as `TwinState::call` does. Its answer is unsealed after the
+    /// lock is released.
+    pub(crate) fn call<C: JournalCall<K, V>>(
         self,
         tally: &mut Tally<K, I>,
-        step: S,
-    ) -> Result<S::Answer, S::Refused>
-        ensures tallied { IsTallied tally.old (S.is_record step) result tally.new }
+        call: C,
+    ) -> Result<C::Answer, C::Refused>
+        ensures tallied { IsTallied tally.old (C.is_record call) result tally.new }
         ensures parts { tally.new.parts ≡ tally.old.parts }
-        ensures refusal { IfErr result (S.may_refuse step) }
+        ensures refusal { IfErr result (C.may_refuse call) }
     {
         let Self { door, mut guard } = self;
-        let answer = guard.call(&door.rt, &door.cell, tally, step);
+        let answer = guard.call(&door.rt, &door.cell, tally, call);
         answer.open(guard)
     }
 
-    /// Reads from the journal, as `Desk::read` does. `reader` runs under the lock.
+    /// Reads from the journal, as `TwinState::read` does. `reader` runs under the lock.
     pub(crate) fn read<T, G>(
         self,
         tally: &mut Tally<K, I>,

@@ -5,10 +5,10 @@
 //! all receipts of a twin gets its journal, and the records are exactly these receipts.
 #![tactic(auto)]
 
-mod desk;
 mod door;
 pub mod journal;
 mod pin;
 mod record;
 mod tally;
 mod twin;
+mod twin_state;

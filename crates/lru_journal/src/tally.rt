@@ -65,7 +65,8 @@ impl<K> Protocol<[u64; 1], View<K>> for RecordCount {
     ghost first = { opening };
 }
 
-/// Adds a record to all records, and its receipt to the tally that the keeper has taken in.
+/// Adds a record to all records, and its receipt to the tally that the pass under the lock has
+/// taken in.
 pub struct AppendRecord<E> {
     noted: PhantomData<E>,
 }
@@ -76,7 +77,7 @@ impl<K, E: Noted<K>> Outcome<[u64; 1], View<K>> for AppendRecord<E> {
     ghost then = { Appended E.made };
 }
 
-/// Compares the whole tally, which the keeper has taken in, with all records.
+/// Compares the whole tally, which the pass under the lock has taken in, with all records.
 pub struct CheckRecords;
 
 impl<K> Outcome<[u64; 1], View<K>> for CheckRecords {
@@ -85,15 +86,15 @@ impl<K> Outcome<[u64; 1], View<K>> for CheckRecords {
     ghost then = { Checked };
 }
 
-/// Splits off the keeper's tally, with all parts and receipts.
+/// Splits off the tally of a pass, with all its parts and receipts.
 pub struct WholeTally;
 
 impl<K> Split<View<K>> for WholeTally {
-    ghost use Rattle.lru_journal.specs.Tallies.{keeper_of, hand_of};
+    ghost use Rattle.lru_journal.specs.Tallies.{without_tally, only_tally};
 
-    ghost left = { keeper_of };
+    ghost left = { without_tally };
 
-    ghost right = { hand_of };
+    ghost right = { only_tally };
 }
 
 /// Splits off one part of a tally.
@@ -187,29 +188,31 @@ impl<K, I: Identity> Model for Tally<K, I> {
     ghost invariant = { λ t. (t.pass.table_id ≡ I.name.table) × ((cell_view t.pass).keeps ≡ false) × (0 < (cell_view t.pass).parts) };
 }
 
-// Adds a record to all records, and its receipt to the tally. The keeper takes the whole tally in,
-// gains both in one step, and gives the tally back, so that the rule holds between any two moves.
+// Adds a record to all records, and its receipt to the tally. The pass under the lock takes the
+// whole tally in, gains both in one step, and gives the tally back, so that the rule holds between
+// any two moves.
 pub(crate) fn append<K, E: Noted<K>, I: Identity, R: Wait>(
     rt: &R,
     cell: &Cell<K>,
-    keeper: &mut CellPass<K>,
+    records_pass: &mut CellPass<K>,
     tally: &mut Tally<K, I>,
     number: usize,
     noted: &Record<K>,
 )
     requires cell { (cell.now.table.shared.table_id ≡ I.name.table)
-        × (keeper.old.table_id ≡ I.name.table) }
-    requires keeper { (cell_view keeper.old ≡ knower (cell_view keeper.old).all)
-        × (length (cell_view keeper.old).all ≡ number) }
+        × (records_pass.old.table_id ≡ I.name.table) }
+    requires records_pass { (cell_view records_pass.old ≡ knower (cell_view records_pass.old).all)
+        × (length (cell_view records_pass.old).all ≡ number) }
     requires noted { noted.now ≡ E.made }
     requires room { number + 1 < 2 ^ 64 }
-    ensures keeper { (keeper.new.table_id ≡ I.name.table)
-        × (cell_view keeper.new ≡ knower ((cell_view keeper.old).all ++ noted.now ∷ [])) }
+    ensures records_pass { (records_pass.new.table_id ≡ I.name.table)
+        × (cell_view records_pass.new
+        ≡ knower ((cell_view records_pass.old).all ++ noted.now ∷ [])) }
     ensures tally { tally.new ≡ hand_with_receipt tally.old number noted.now }
     ensures past { AllBelow number tally.old.receipts }
 {
     let mine = cell.split_pass::<WholeTally>(&mut tally.pass);
-    cell.join_pass::<Merge>(keeper, mine);
-    cell.swap_as::<AppendRecord<E>, R>(rt, keeper, [number as u64 + 1]);
-    tally.pass = cell.split_pass::<WholeTally>(keeper);
+    cell.join_pass::<Merge>(records_pass, mine);
+    cell.swap_as::<AppendRecord<E>, R>(rt, records_pass, [number as u64 + 1]);
+    tally.pass = cell.split_pass::<WholeTally>(records_pass);
 }

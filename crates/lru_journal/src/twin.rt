@@ -1,6 +1,6 @@
 //! The twin: a journal that threads share, each with a tally of its own calls.
 //!
-//! A call acquires the lock once, for one step of the journal, and drops what it evicted after
+//! A call acquires the lock once, for one call of the journal, and drops what it evicted after
 //! releasing it.
 ghost use Rattle.std.specs.Prelude.{◌≡◌, ◌≢◌, ◌-◌, ◌<◌, [], true, IfErr, IfOk, IfSome};
 ghost use Rattle.std.specs.Arc.{arc_value};
@@ -13,12 +13,12 @@ ghost use Rattle.lru_journal.specs.Replay.{told_of_failed, told_of_found, IsOfCo
 ghost use Rattle.concurrent_lru.specs.Request as ask;
 ghost use Rattle.lru_journal.specs.Tallies.{hand, hand_with_hand, all_parts, AreExactly, IsTallied};
 
-use crate::desk::{Desk, step};
 use crate::door::Door;
 use crate::journal::Journal;
 use crate::pin::{Pin, Started, pin_of};
 use crate::record::Told;
 use crate::tally::{Identity, Merge, OnePart, Opening, Tally, WholeTally};
+use crate::twin_state::{TwinState, calls};
 use concurrent_lru::lru_core::{Failed, Refusal};
 use std::alloc::Global;
 use std::hash::Hash;
@@ -32,21 +32,21 @@ use std::sync::{Arc, Wait};
 /// it was. Any call returns `Memory` if there is no room for its record or for the record's copy of
 /// the key. This check precedes `Overflow` and `Stale`.
 #[derive(Drop)]
-pub struct LruCache<K: Hash + Eq + Clone, V, R, I: Identity> {
+pub struct Twin<K: Hash + Eq + Clone, V, R, I: Identity> {
     door: Door<K, V, R, I>,
 }
 
-impl<
-    K: Hash + Eq + Clone + Send + Sync,
-    V: Drop + Send + Sync,
-    R: Wait + Drop,
-    I: Identity,
-> LruCache<K, V, R, I> {
+impl<K: Hash + Eq + Clone + Send + Sync, V: Drop + Send + Sync, R: Wait + Drop, I: Identity> Twin<
+    K,
+    V,
+    R,
+    I,
+> {
     /// Creates an empty twin with the opening's capacity, and its first tally, which has all parts.
     /// Takes no memory.
     ///
     /// It hashes keys with the seed 0, so whoever picks the keys can make it slow.
-    pub fn new(alloc: Global, rt: R, opening: Opening<K>) -> (LruCache<K, V, R, I>, Tally<K, I>)
+    pub fn new(alloc: Global, rt: R, opening: Opening<K>) -> (Twin<K, V, R, I>, Tally<K, I>)
         requires named { opening ≡ I.name }
         requires copies { CopiesAreEqual K.is_clone K.eq }
         ensures { result.1 ≡ hand all_parts [] }
@@ -57,17 +57,17 @@ impl<
             mut first,
         } = opening;
         let pass = cell.split_pass::<WholeTally>(&mut first);
-        let desk = Desk {
+        let state = TwinState {
             journal: Journal::new(alloc, capacity),
-            keeper: first,
+            records_pass: first,
             twin: PhantomData,
         };
         let tally = Tally {
             pass,
             twin: PhantomData,
         };
-        let twin = LruCache {
-            door: Door::new(cell, desk, rt),
+        let twin = Twin {
+            door: Door::new(cell, state, rt),
         };
         (twin, tally)
     }
@@ -89,7 +89,7 @@ impl<
         ensures parts { tally.new.parts ≡ tally.old.parts }
         ensures never_stale { IfErr result (λ e. e ≢ Refusal.Stale) }
     {
-        let (begun, evicted) = self.door.lock().call(tally, step::Begin { key, charge })?;
+        let (begun, evicted) = self.door.lock().call(tally, calls::Begin { key, charge })?;
         drop(evicted);
         Ok(Started::of(begun))
     }
@@ -104,7 +104,7 @@ impl<
         ensures parts { tally.new.parts ≡ tally.old.parts }
         ensures never_overflow { IfErr result (λ e. e ≢ Refusal.Overflow) }
     {
-        let begun = self.door.lock().call(tally, step::Poll { stamp })?;
+        let begun = self.door.lock().call(tally, calls::Poll { stamp })?;
         Ok(Started::of(begun))
     }
 
@@ -123,7 +123,7 @@ impl<
         ensures never_overflow { IfErr result (λ e. e.0 ≢ Refusal.Overflow) }
         ensures back { IfErr result (λ e. arc_value e.1 ≡ arc_value value) }
     {
-        self.door.lock().call(tally, step::Ready { stamp, value })
+        self.door.lock().call(tally, calls::Ready { stamp, value })
     }
 
     /// Gives up making a value, and releases the maker's pin.
@@ -135,7 +135,7 @@ impl<
         ensures parts { tally.new.parts ≡ tally.old.parts }
         ensures never_overflow { IfErr result (λ e. e ≢ Refusal.Overflow) }
     {
-        self.door.lock().call(tally, step::Fail { stamp })
+        self.door.lock().call(tally, calls::Fail { stamp })
     }
 
     /// Returns a pin of a key's value, or `None` if there is no ready value.
@@ -148,7 +148,7 @@ impl<
         ensures parts { tally.new.parts ≡ tally.old.parts }
         ensures never_stale { IfErr result (λ e. e ≢ Refusal.Stale) }
     {
-        let found = self.door.lock().call(tally, step::Get { key })?;
+        let found = self.door.lock().call(tally, calls::Get { key })?;
         Ok(pin_of(found))
     }
 
@@ -191,7 +191,7 @@ impl<
         ensures back { IfErr result (λ e. e.1 ≡ pin) }
     {
         let stamp = pin.stamp();
-        match self.door.lock().call(tally, step::Release { stamp }) {
+        match self.door.lock().call(tally, calls::Release { stamp }) {
             Ok(evicted) => {
                 drop(evicted);
                 Ok(())
@@ -208,7 +208,7 @@ impl<
         ensures parts { tally.new.parts ≡ tally.old.parts }
         ensures memory { IfErr result (λ e. e ≡ Refusal.Memory) }
     {
-        let evicted = self.door.lock().call(tally, step::AdviceEvict { key })?;
+        let evicted = self.door.lock().call(tally, calls::AdviceEvict { key })?;
         drop(evicted);
         Ok(())
     }
@@ -225,7 +225,7 @@ impl<
         ensures parts { tally.new.parts ≡ tally.old.parts }
         ensures memory { IfErr result (λ e. e ≡ Refusal.Memory) }
     {
-        let evicted = self.door.lock().call(tally, step::Invalidate { key })?;
+        let evicted = self.door.lock().call(tally, calls::Invalidate { key })?;
         drop(evicted);
         Ok(())
     }
@@ -257,8 +257,8 @@ impl<
         let Ok(own) = value.clone() else {
             return Err((Refusal::Memory, value));
         };
-        let step = step::Insert { key, charge, value };
-        let inserted = self.door.lock().call(tally, step)?;
+        let call = calls::Insert { key, charge, value };
+        let inserted = self.door.lock().call(tally, call)?;
         Ok(Pin::new(inserted.stamp, own))
     }
 
@@ -269,7 +269,7 @@ impl<
         ensures parts { tally.new.parts ≡ tally.old.parts }
         ensures memory { IfErr result (λ e. e ≡ Refusal.Memory) }
     {
-        let evicted = self.door.lock().call(tally, step::Prune)?;
+        let evicted = self.door.lock().call(tally, calls::Prune)?;
         drop(evicted);
         Ok(())
     }
@@ -287,7 +287,7 @@ impl<
         let evicted = self
             .door
             .lock()
-            .call(tally, step::SetCapacity { capacity })?;
+            .call(tally, calls::SetCapacity { capacity })?;
         drop(evicted);
         Ok(())
     }
@@ -299,7 +299,7 @@ impl<
         ensures parts { tally.new.parts ≡ tally.old.parts }
         ensures memory { IfErr result (λ e. e ≡ Refusal.Memory) }
     {
-        self.door.lock().call(tally, step::Total)
+        self.door.lock().call(tally, calls::Total)
     }
 
     /// Returns the journal to whoever has the whole tally. Its records are one legal history from
@@ -311,7 +311,7 @@ impl<
         ensures history { IsHistory K.eq result }
         ensures began { result.began ≡ I.name.capacity }
     {
-        let LruCache { door } = self;
+        let Twin { door } = self;
         let journal = door.close(tally);
         // `records` states the journal's invariant as a clause.
         let _records = journal.records();
@@ -322,7 +322,7 @@ impl<
 impl<K: Hash + Eq + Clone, I: Identity> Tally<K, I> {
     /// Splits off one part of a tally that has two or more, without receipts. Acquires no lock and
     /// takes no memory.
-    pub fn split<V, R>(&mut self, cache: &LruCache<K, V, R, I>) -> Tally<K, I>
+    pub fn split<V, R>(&mut self, cache: &Twin<K, V, R, I>) -> Tally<K, I>
         requires { 1 < self.old.parts }
         ensures given { result ≡ hand 1 [] }
         ensures kept { self.new ≡ hand (self.old.parts - 1) self.old.receipts }
@@ -335,7 +335,7 @@ impl<K: Hash + Eq + Clone, I: Identity> Tally<K, I> {
     }
 
     /// Takes in another tally's parts and receipts. Acquires no lock and takes no memory.
-    pub fn join<V, R>(&mut self, cache: &LruCache<K, V, R, I>, other: Tally<K, I>)
+    pub fn join<V, R>(&mut self, cache: &Twin<K, V, R, I>, other: Tally<K, I>)
         ensures { self.new ≡ hand_with_hand self.old other }
     {
         let Tally { mut pass, twin: _ } = other;

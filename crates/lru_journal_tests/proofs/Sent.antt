@@ -15,7 +15,7 @@ use Rattle.std.specs.contracts.alloc.Global as global
 use Rattle.std.proofs.alloc.Global.TheSendSync as global_sent
 use Rattle.lru_journal.specs.declared.tally.Identity as identity
 use Rattle.lru_journal.specs.contracts.tally.Tally as tally
-use Rattle.lru_journal.specs.contracts.twin.LruCache as twin
+use Rattle.lru_journal.specs.contracts.twin.Twin as twin
 use Rattle.lru_journal.proofs.Threads.TwinShared.{twin_sync}
 use Rattle.lru_journal.proofs.tally.Tally.TheSendSync as tally_sent
 

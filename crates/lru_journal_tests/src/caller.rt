@@ -3,14 +3,14 @@ ghost use Rattle.std.specs.Prelude.{◌≡◌, ◌<◌};
 
 use crate::answer::{Answer, PINNED};
 use lru_fixtures::tables::Call;
-use lru_journal::journal::{Identity, LruCache, Pin, Tally, Told};
+use lru_journal::journal::{Identity, Pin, Tally, Told, Twin};
 use std::alloc::{AllocError, Global};
 use std::sync::{Arc, Wait};
 
 /// Makes a call on the twin. Returns `AllocError` if a value's memory is refused.
 pub(crate) fn ask<R: Wait + Drop, I: Identity>(
     alloc: Global,
-    cache: &LruCache<u64, u64, R, I>,
+    cache: &Twin<u64, u64, R, I>,
     tally: &mut Tally<u64, I>,
     call: Call,
 ) -> Result<Answer, AllocError>
@@ -31,7 +31,7 @@ pub(crate) fn ask<R: Wait + Drop, I: Identity>(
 
 // Makes a call whose arguments are plain numbers.
 fn ask_with_numbers<R: Wait + Drop, I: Identity>(
-    cache: &LruCache<u64, u64, R, I>,
+    cache: &Twin<u64, u64, R, I>,
     tally: &mut Tally<u64, I>,
     call: Call,
 ) -> Answer
@@ -52,7 +52,7 @@ fn ask_with_numbers<R: Wait + Drop, I: Identity>(
 }
 
 fn begin<R: Wait + Drop, I: Identity>(
-    cache: &LruCache<u64, u64, R, I>,
+    cache: &Twin<u64, u64, R, I>,
     tally: &mut Tally<u64, I>,
     key: u64,
     charge: u64,
@@ -66,7 +66,7 @@ fn begin<R: Wait + Drop, I: Identity>(
 }
 
 fn ready<R: Wait + Drop, I: Identity>(
-    cache: &LruCache<u64, u64, R, I>,
+    cache: &Twin<u64, u64, R, I>,
     tally: &mut Tally<u64, I>,
     stamp: u64,
     value: Arc<u64>,
@@ -80,7 +80,7 @@ fn ready<R: Wait + Drop, I: Identity>(
 }
 
 fn release<R: Wait + Drop, I: Identity>(
-    cache: &LruCache<u64, u64, R, I>,
+    cache: &Twin<u64, u64, R, I>,
     tally: &mut Tally<u64, I>,
     pin: Pin<u64>,
 ) -> Answer
@@ -93,7 +93,7 @@ fn release<R: Wait + Drop, I: Identity>(
 }
 
 fn insert<R: Wait + Drop, I: Identity>(
-    cache: &LruCache<u64, u64, R, I>,
+    cache: &Twin<u64, u64, R, I>,
     tally: &mut Tally<u64, I>,
     key: u64,
     charge: u64,

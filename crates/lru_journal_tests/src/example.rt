@@ -2,7 +2,7 @@
 //! one line that names it (proofs/example/opens_a_twin/Invariants.antt).
 ghost use Rattle.std.specs.Prelude.{◌≡◌};
 
-use lru_journal::journal::{Identity, LruCache, Opening, Started};
+use lru_journal::journal::{Identity, Opening, Started, Twin};
 use std::alloc::Global;
 use std::marker::Brand;
 use std::process::Abort;
@@ -22,7 +22,7 @@ fn asks_once<I: Identity, R: Wait + Abort>(
 ) -> Result<(), Fail>
     requires { opening ≡ I.name }
 {
-    let (cache, mut tally) = LruCache::<u64, u64, &R, I>::new(alloc, rt, opening);
+    let (cache, mut tally) = Twin::<u64, u64, &R, I>::new(alloc, rt, opening);
     let started = cache.begin(&mut tally, &1, 1)?;
     assert!(rt; matches!(&started, Started::Make(0)));
     let journal = cache.into_journal(tally);

@@ -6,7 +6,7 @@ ghost use Rattle.std.specs.Prelude.{◌≡◌};
 use crate::answer::Answer;
 use crate::{caller, owner};
 use lru_fixtures::tables::Call;
-use lru_journal::journal::{Identity, Journal, LruCache, Opening, Record, Told};
+use lru_journal::journal::{Identity, Journal, Opening, Record, Told, Twin};
 use rand_core::{Rng, SeedableRng};
 use rand_xoshiro::Xoshiro256PlusPlus;
 use std::alloc::Global;
@@ -123,7 +123,7 @@ fn compare<I: Identity, R: Wait + Abort>(
     requires { opening ≡ I.name }
 {
     let mut journal = Journal::new(alloc, CAPACITY);
-    let (cache, mut tally) = LruCache::<u64, u64, &R, I>::new(alloc, rt, opening);
+    let (cache, mut tally) = Twin::<u64, u64, &R, I>::new(alloc, rt, opening);
     let mut draws = Draws::from_seed(seed);
     for number in 0..300u32 {
         let call = draws.next();

@@ -5,7 +5,7 @@ ghost use Rattle.std.specs.Prelude.{◌≡◌};
 use crate::answer::Answer;
 use crate::{caller, owner};
 use lru_fixtures::tables::Call;
-use lru_journal::journal::{Identity, Journal, LruCache, Opening, Record};
+use lru_journal::journal::{Identity, Journal, Opening, Record, Twin};
 use std::alloc::Global;
 use std::marker::Brand;
 use std::process::Abort;
@@ -51,7 +51,7 @@ fn ask_twin<I: Identity, R: Wait + Abort>(
 ) -> Result<(), Fail>
     requires { opening ≡ I.name }
 {
-    let (cache, mut tally) = LruCache::<u64, u64, &R, I>::new(alloc, rt, opening);
+    let (cache, mut tally) = Twin::<u64, u64, &R, I>::new(alloc, rt, opening);
     for (number, (call, wanted, _, _)) in rows.iter().enumerate() {
         let answer = caller::ask(alloc, &cache, &mut tally, *call)?;
         assert_eq!(rt; answer, *wanted, "at row {number} of the twin, {call:?}");

@@ -5,7 +5,7 @@ use crate::answer::Answer;
 use crate::caller::ask;
 use concurrent_lru::lru_core::Refusal;
 use lru_fixtures::tables::Call;
-use lru_journal::journal::{Identity, LruCache, Opening, Record, Recorded, Tally, Told};
+use lru_journal::journal::{Identity, Opening, Record, Recorded, Tally, Told, Twin};
 use std::alloc::Global;
 use std::marker::Brand;
 use std::process::Abort;
@@ -25,7 +25,7 @@ fn two_callers_make_one_history(rt: HostRuntime) -> Result<(), Fail> {
 // pinned, and releases the three pins. The records show the answer to each call.
 fn use_key<I: Identity, R: Wait + Drop>(
     alloc: Global,
-    cache: &LruCache<u64, u64, R, I>,
+    cache: &Twin<u64, u64, R, I>,
     tally: &mut Tally<u64, I>,
     key: u64,
 ) -> Result<(), Refusal>
@@ -49,7 +49,7 @@ fn use_key<I: Identity, R: Wait + Drop>(
 
 // Uses ten keys from this one on, one after another.
 fn use_ten_keys<I: Identity, R: Wait + Drop>(
-    cache: &LruCache<u64, u64, R, I>,
+    cache: &Twin<u64, u64, R, I>,
     alloc: Global,
     mut tally: Tally<u64, I>,
     first: u8,
@@ -65,7 +65,7 @@ fn use_ten_keys<I: Identity, R: Wait + Drop>(
 // Runs the two callers, each on a thread of its own.
 fn use_on_two_threads<I: Identity + Send + Sync, R: Threads + Wait + Sync>(
     rt: &R,
-    cache: &LruCache<u64, u64, &R, I>,
+    cache: &Twin<u64, u64, &R, I>,
     alloc: Global,
     one: Tally<u64, I>,
     two: Tally<u64, I>,
@@ -94,7 +94,7 @@ fn use_twenty_keys<I: Identity + Send + Sync, R: Threads + Wait + Abort + Sync>(
 ) -> Result<(), Fail>
     requires { opening ≡ I.name }
 {
-    let (cache, mut whole) = LruCache::<u64, u64, &R, I>::new(alloc, rt, opening);
+    let (cache, mut whole) = Twin::<u64, u64, &R, I>::new(alloc, rt, opening);
     let one = whole.split(&cache);
     let two = whole.split(&cache);
     let (one, two) = use_on_two_threads(rt, &cache, alloc, one, two);

@@ -5,7 +5,7 @@ use crate::calls::{self, AskedByText, TextCall};
 use crate::report::Report;
 use concurrent_lru::lru_core::Refusal;
 use lru_fixtures::tables::Call;
-use lru_journal::journal::{Identity, LruCache, Opening, Pin, Started, Tally};
+use lru_journal::journal::{Identity, Opening, Pin, Started, Tally, Twin};
 use std::alloc::Global;
 use std::io::Write;
 use std::marker::Brand;
@@ -51,7 +51,7 @@ fn play_twin<I: Identity, R: Wait, O: Write, E: Write>(
 ) -> Result<(), Refusal>
     requires { opening ≡ I.name }
 {
-    let (cache, mut whole) = LruCache::<String, u64, &R, I>::new(alloc, rt, opening);
+    let (cache, mut whole) = Twin::<String, u64, &R, I>::new(alloc, rt, opening);
     let one = whole.split(&cache);
     let two = whole.split(&cache);
     let (one, ended) = play_calls(alloc, &cache, one, Ok(()), first, report);
@@ -69,7 +69,7 @@ fn play_twin<I: Identity, R: Wait, O: Write, E: Write>(
 // by a refusal.
 fn play_calls<R: Wait + Drop, I: Identity, O: Write, E: Write>(
     alloc: Global,
-    cache: &LruCache<String, u64, R, I>,
+    cache: &Twin<String, u64, R, I>,
     tally: Tally<String, I>,
     before: Result<(), Refusal>,
     calls: &[TextCall],
@@ -89,7 +89,7 @@ fn play_calls<R: Wait + Drop, I: Identity, O: Write, E: Write>(
 
 // A caller of a twin, with one part of its tally.
 struct Caller<'c, R: Wait, I: Identity> {
-    cache: &'c LruCache<String, u64, R, I>,
+    cache: &'c Twin<String, u64, R, I>,
     tally: Tally<String, I>,
     ghost one_part: { tally.parts ≡ 1 },
 }

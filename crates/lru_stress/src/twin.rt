@@ -5,7 +5,7 @@ ghost use denote.Param.Send.{IsSync, IsSend};
 use crate::outcome::{Check, Counts, Trouble};
 use crate::plan::{KEYS, Plan};
 use crate::start::Start;
-use lru_journal::journal::{Identity, Journal, LruCache, Opening, Pin, Started, Tally};
+use lru_journal::journal::{Identity, Journal, Opening, Pin, Started, Tally, Twin};
 use lru_support::calls::{Calls, WorkerCall};
 use std::alloc::Global;
 use std::sync::{Arc, Wait};
@@ -65,7 +65,7 @@ pub fn share<I: Identity + Send + Sync, R: Threads + Wait + Clone + Drop + Send 
         plan,
         start: &start,
     };
-    let (cache, whole) = LruCache::<u64, u64, R, I>::new(alloc, rt.clone()?, opening);
+    let (cache, whole) = Twin::<u64, u64, R, I>::new(alloc, rt.clone()?, opening);
     let (whole, accepted) = work_from(rt, &cache, &shift, whole, 0, plan.workers)?;
     let mut journal = cache.into_journal(whole);
     check(&mut journal, plan, accepted.calls)?;
@@ -80,7 +80,7 @@ pub fn share<I: Identity + Send + Sync, R: Threads + Wait + Clone + Drop + Send 
 // thread of their own and one part of the tally.
 fn work_from<I: Identity + Send + Sync, R: Threads + Wait + Drop + Send + Sync>(
     rt: &R,
-    cache: &LruCache<u64, u64, R, I>,
+    cache: &Twin<u64, u64, R, I>,
     shift: &Shift<'_>,
     mut tally: Tally<u64, I>,
     worker: usize,
@@ -112,7 +112,7 @@ fn work_from<I: Identity + Send + Sync, R: Threads + Wait + Drop + Send + Sync>(
 
 // Makes a worker's calls.
 fn work<I: Identity, R: Wait + Drop>(
-    cache: &LruCache<u64, u64, R, I>,
+    cache: &Twin<u64, u64, R, I>,
     shift: &Shift<'_>,
     mut tally: Tally<u64, I>,
     worker: usize,
@@ -138,7 +138,7 @@ fn work<I: Identity, R: Wait + Drop>(
 
 // Begins on a key, and then does what the answer asks for.
 fn use_key<I: Identity, R: Wait + Drop>(
-    cache: &LruCache<u64, u64, R, I>,
+    cache: &Twin<u64, u64, R, I>,
     alloc: Global,
     tally: &mut Tally<u64, I>,
     call: &WorkerCall,
@@ -155,7 +155,7 @@ fn use_key<I: Identity, R: Wait + Drop>(
 
 // Gives up a making.
 fn fail<I: Identity, R: Wait + Drop>(
-    cache: &LruCache<u64, u64, R, I>,
+    cache: &Twin<u64, u64, R, I>,
     tally: &mut Tally<u64, I>,
     stamp: u64,
 ) -> Result<Accepted, Trouble>
@@ -171,7 +171,7 @@ fn fail<I: Identity, R: Wait + Drop>(
 
 // Makes the value, which is the key, and releases its pin.
 fn make<I: Identity, R: Wait + Drop>(
-    cache: &LruCache<u64, u64, R, I>,
+    cache: &Twin<u64, u64, R, I>,
     alloc: Global,
     tally: &mut Tally<u64, I>,
     stamp: u64,
@@ -196,7 +196,7 @@ fn make<I: Identity, R: Wait + Drop>(
 
 // Releases the pin of a hit.
 fn hit<I: Identity, R: Wait + Drop>(
-    cache: &LruCache<u64, u64, R, I>,
+    cache: &Twin<u64, u64, R, I>,
     tally: &mut Tally<u64, I>,
     pin: Pin<u64>,
 ) -> Result<Accepted, Trouble>

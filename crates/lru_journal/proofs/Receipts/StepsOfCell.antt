@@ -7,7 +7,7 @@ use Rattle.crossbeam_utils.specs.Register.{Turns, Forks, Merges}
 use Rattle.atomic_table.proofs.Lists.{at_set, at_snoc, set_again}
 use Rattle.lru_journal.specs.declared.record.Record.{Record}
 use Rattle.lru_journal.specs.declared.tally.View.{View}
-use Rattle.lru_journal.specs.Tallies.{receipt_count_at, once_below, AllBelow, AreExactly, all_parts, view, opening, knower, nobody, keeper_of, hand_of, less_one, one_part, view_with_view, Fits, IsCounted, Appended, Checked}
+use Rattle.lru_journal.specs.Tallies.{receipt_count_at, once_below, AllBelow, AreExactly, all_parts, view, opening, knower, nobody, without_tally, only_tally, less_one, one_part, view_with_view, Fits, IsCounted, Appended, Checked}
 use Rattle.lru_journal.proofs.Receipts.Positions.{sum_over_set, sum_over_snoc, alone, receipt_count_append, stand_append, stand_longer, get_last, stand_below, once_more, exactly}
 
 off : false ≡ true → ⊥
@@ -62,10 +62,10 @@ module _ {K : Type 0} where
       )
 
   -- a tally's parts and receipts are given away
-  pub gives : (by : ℕ) (v : View K) → Forks IsCounted by v (keeper_of v) (hand_of v)
+  pub gives : (by : ℕ) (v : View K) → Forks IsCounted by v (without_tally v) (only_tally v)
   gives by v words views h at =
       let fits = h.fits by v at in
-      let left = keeper_of v in let right = hand_of v in
+      let left = without_tally v in let right = only_tally v in
       record {
         seat = h.seat;
         log = h.log;
@@ -134,49 +134,49 @@ module _ {K : Type 0} where
         (refl, subst (λ (l : List (Record K)). AreExactly l v.receipts) (sym known.1) (exactly h.log v.receipts fits.1 once)),
       )
 
-  -- an accepted call: the keeper has taken in the caller's tally, and adds its record
-  pub appends_as : (by : ℕ) (keeper tally mine now : View K) (number : ℕ) (r : Record K) (new : List ℕ) → keeper ≡ knower keeper.all → length keeper.all ≡ number → mine ≡ hand_of tally → 0 < tally.parts → now ≡ view_with_view keeper mine → new ≡ (number + 1) ∷ [] → Turns IsCounted by now (λ _. new) (Appended r)
-  appends_as by keeper tally mine now number r new knows counts is some_part took word =
-      let all : now.all ≡ keeper.all = ap (λ (v : View K). v.all) took in
-      let parts : now.parts ≡ keeper.parts + mine.parts = ap (λ (v : View K). v.parts) took in
+  -- an accepted call: the pass of all records has taken in the caller's tally, and adds its record
+  pub appends_as : (by : ℕ) (records_pass tally mine now : View K) (number : ℕ) (r : Record K) (new : List ℕ) → records_pass ≡ knower records_pass.all → length records_pass.all ≡ number → mine ≡ only_tally tally → 0 < tally.parts → now ≡ view_with_view records_pass mine → new ≡ (number + 1) ∷ [] → Turns IsCounted by now (λ _. new) (Appended r)
+  appends_as by records_pass tally mine now number r new knows counts is some_part took word =
+      let all : now.all ≡ records_pass.all = ap (λ (v : View K). v.all) took in
+      let parts : now.parts ≡ records_pass.parts + mine.parts = ap (λ (v : View K). v.parts) took in
       let theirs : mine.parts ≡ tally.parts = ap (λ (v : View K). v.parts) is in
       let size : length now.all ≡ number = ap length all ∙ counts in
       let first : slice_index new 0 ≡ number + 1 = ap (λ (ws : List ℕ). slice_index ws 0) word in
       appends by now r new (ap (λ (v : View K). v.keeps) took ∙ ap (λ (v : View K). v.keeps) knows) (omega (arith, parts, theirs, some_part)) (omega (arith, size, first))
 
-  -- what it leaves: the keeper with the tally, which has the receipt besides
-  pub appended_as : (keeper tally mine now after : View K) (number : ℕ) (r : Record K) (old new : List ℕ) → keeper ≡ knower keeper.all → length keeper.all ≡ number → mine ≡ hand_of tally → now ≡ view_with_view keeper mine → Appended r now old new after
-      → (after ≡ view true (keeper.all ++ r ∷ []) tally.parts (tally.receipts ++ (number, r) ∷ [])) × AllBelow number tally.receipts
-  appended_as keeper tally mine now after number r old new knows counts is took told =
-      let all : now.all ≡ keeper.all = ap (λ (v : View K). v.all) took in
+  -- what it leaves: the pass of all records with the tally, which has the receipt besides
+  pub appended_as : (records_pass tally mine now after : View K) (number : ℕ) (r : Record K) (old new : List ℕ) → records_pass ≡ knower records_pass.all → length records_pass.all ≡ number → mine ≡ only_tally tally → now ≡ view_with_view records_pass mine → Appended r now old new after
+      → (after ≡ view true (records_pass.all ++ r ∷ []) tally.parts (tally.receipts ++ (number, r) ∷ [])) × AllBelow number tally.receipts
+  appended_as records_pass tally mine now after number r old new knows counts is took told =
+      let all : now.all ≡ records_pass.all = ap (λ (v : View K). v.all) took in
       let size : length now.all ≡ number = ap length all ∙ counts in
       let keeps : now.keeps ≡ true = ap (λ (v : View K). v.keeps) took ∙ ap (λ (v : View K). v.keeps) knows in
-      let none : keeper.parts ≡ 0 = ap (λ (v : View K). v.parts) knows in
+      let none : records_pass.parts ≡ 0 = ap (λ (v : View K). v.parts) knows in
       let theirs : mine.parts ≡ tally.parts = ap (λ (v : View K). v.parts) is in
-      let sum : now.parts ≡ keeper.parts + mine.parts = ap (λ (v : View K). v.parts) took in
+      let sum : now.parts ≡ records_pass.parts + mine.parts = ap (λ (v : View K). v.parts) took in
       let parts : now.parts ≡ tally.parts = omega (arith, sum, none, theirs) in
       let receipts : now.receipts ≡ tally.receipts = ap (λ (v : View K). v.receipts) took ∙ ap (λ (l : List (ℕ × Record K)). l ++ mine.receipts) (ap (λ (v : View K). v.receipts) knows) ∙ ap (λ (v : View K). v.receipts) is in (
         told.0 ∙ (λ i. view (keeps i) (all i ++ r ∷ []) (parts i) (receipts i ++ (size i, r) ∷ [])),
         subst (λ (y : ℕ × List (ℕ × Record K)). AllBelow y.0 y.1) (λ i. (size i, receipts i)) told.1,
       )
 
-  -- the keeper has taken in the whole tally
-  pub checks_as : (by : ℕ) (all : List (Record K)) (keeper tally mine now : View K) → keeper ≡ knower all → mine ≡ hand_of tally → now ≡ view_with_view keeper mine → tally.parts ≡ all_parts → Turns IsCounted by now (λ x. x) Checked
-  checks_as by all keeper tally mine now knows is took whole =
-      let none : keeper.parts ≡ 0 = ap (λ (v : View K). v.parts) knows in
+  -- the pass of all records has taken in the whole tally
+  pub checks_as : (by : ℕ) (all : List (Record K)) (records_pass tally mine now : View K) → records_pass ≡ knower all → mine ≡ only_tally tally → now ≡ view_with_view records_pass mine → tally.parts ≡ all_parts → Turns IsCounted by now (λ x. x) Checked
+  checks_as by all records_pass tally mine now knows is took whole =
+      let none : records_pass.parts ≡ 0 = ap (λ (v : View K). v.parts) knows in
       let theirs : mine.parts ≡ tally.parts = ap (λ (v : View K). v.parts) is in
-      let sum : now.parts ≡ keeper.parts + mine.parts = ap (λ (v : View K). v.parts) took in
+      let sum : now.parts ≡ records_pass.parts + mine.parts = ap (λ (v : View K). v.parts) took in
       checks by now (ap (λ (v : View K). v.keeps) took ∙ ap (λ (v : View K). v.keeps) knows) (omega (arith, sum, none, theirs) ∙ whole)
 
-  pub checked_as : (all : List (Record K)) (keeper tally mine now after : View K) (old new : List ℕ) → keeper ≡ knower all → mine ≡ hand_of tally → now ≡ view_with_view keeper mine → Checked now old new after → AreExactly all tally.receipts
-  checked_as all keeper tally mine now after old new knows is took told =
+  pub checked_as : (all : List (Record K)) (records_pass tally mine now after : View K) (old new : List ℕ) → records_pass ≡ knower all → mine ≡ only_tally tally → now ≡ view_with_view records_pass mine → Checked now old new after → AreExactly all tally.receipts
+  checked_as all records_pass tally mine now after old new knows is took told =
       let records : now.all ≡ all = ap (λ (v : View K). v.all) took ∙ ap (λ (v : View K). v.all) knows in
       let receipts : now.receipts ≡ tally.receipts = ap (λ (v : View K). v.receipts) took ∙ ap (λ (l : List (ℕ × Record K)). l ++ mine.receipts) (ap (λ (v : View K). v.receipts) knows) ∙ ap (λ (v : View K). v.receipts) is in
       subst (λ (y : List (Record K) × List (ℕ × Record K)). AreExactly y.0 y.1) (λ i. (records i, receipts i)) told.1
 
-  -- what the keeper knows after another record, where it knew all before
-  pub knows_more : (keeper : View K) (before after : List (Record K)) (r : Record K) → keeper ≡ knower before → after ≡ before ++ r ∷ [] → after ≡ keeper.all ++ r ∷ []
-  knows_more keeper before after r knows e = e ∙ ap (λ (l : List (Record K)). l ++ r ∷ []) (sym (ap (λ (v : View K). v.all) knows))
+  -- what the pass of all records knows after another record, where it knew all before
+  pub knows_more : (records_pass : View K) (before after : List (Record K)) (r : Record K) → records_pass ≡ knower before → after ≡ before ++ r ∷ [] → after ≡ records_pass.all ++ r ∷ []
+  knows_more records_pass before after r knows e = e ∙ ap (λ (l : List (Record K)). l ++ r ∷ []) (sym (ap (λ (v : View K). v.all) knows))
 
-  pub knower_of : (keeper : View K) (before : List (Record K)) → keeper ≡ knower before → keeper ≡ knower keeper.all
-  knower_of keeper before knows = knows ∙ sym (ap (λ (v : View K). knower v.all) knows)
+  pub knower_of : (records_pass : View K) (before : List (Record K)) → records_pass ≡ knower before → records_pass ≡ knower records_pass.all
+  knower_of records_pass before knows = knows ∙ sym (ap (λ (v : View K). knower v.all) knows)

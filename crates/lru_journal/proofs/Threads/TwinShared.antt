@@ -15,11 +15,11 @@ use Rattle.crossbeam_utils.proofs.atomic.seq_cell.Wide.TheSendSync as wide_sent
 use Rattle.concurrent_lru.specs.contracts.lru_core.State as state
 use Rattle.concurrent_lru.proofs.Threads.CacheSent.{state_send}
 use Rattle.lru_journal.specs.declared.tally.Identity as identity
-use Rattle.lru_journal.specs.contracts.desk.Desk as desk
-use Rattle.lru_journal.specs.contracts.desk.Desk.TheInside as desk_fields
+use Rattle.lru_journal.specs.contracts.twin_state.TwinState as twin_state
+use Rattle.lru_journal.specs.contracts.twin_state.TwinState.TheInside as twin_state_fields
 use Rattle.lru_journal.specs.contracts.door.Door as door
 use Rattle.lru_journal.specs.contracts.journal.Journal.TheInside as journal
-use Rattle.lru_journal.specs.contracts.twin.LruCache as twin
+use Rattle.lru_journal.specs.contracts.twin.Twin as twin
 use Rattle.lru_journal.proofs.record.Record.TheSendSync as record_sent
 
 module _ (K V : RattleType) (key : IsSend K) (value : IsSend V) (shared : IsSync V) where
@@ -34,8 +34,8 @@ module _ (K V : RattleType) (key : IsSend K) (value : IsSend V) (shared : IsSync
 
     module _ (I : RattleType) (i : identity.Ghosts I.Denot) (named : IsSend I) where
       -- What lies under the twin's lock is Send.
-      desk_send : IsSend (desk.the_row K V I h e c i)
-      desk_send = view_send (desk_fields.the_row K V I h e c i) _ _ _ _ (declared_send (desk_fields.the_type K V I h e c i) (search (sendable, crosses, seat_sent.the_send, journal_send) depth 12))
+      twin_state_send : IsSend (twin_state.the_row K V I h e c i)
+      twin_state_send = view_send (twin_state_fields.the_row K V I h e c i) _ _ _ _ (declared_send (twin_state_fields.the_type K V I h e c i) (search (sendable, crosses, seat_sent.the_send, journal_send) depth 12))
 
       module _ (R : RattleType) (waits : IsSync R) where
         -- The door of the twin is Sync.
@@ -43,7 +43,7 @@ module _ (K V : RattleType) (key : IsSend K) (value : IsSend V) (shared : IsSync
         door_sync = declared_sync (door.the_type K V R I h e c i) (
           search (sendable, crosses, wide_sent.the_sync, global_sent.the_send, global_sent.the_sync),
           (
-            as_row_sync (mutex.the_field (desk.the_row K V I h e c i)) (mutex_sent.the_sync (desk.the_row K V I h e c i) desk_send),
+            as_row_sync (mutex.the_field (twin_state.the_row K V I h e c i)) (mutex_sent.the_sync (twin_state.the_row K V I h e c i) twin_state_send),
             (as_row_sync (row_field R) waits, tt),
           ),
         )

@@ -1,6 +1,6 @@
-//! The steps of a journal as values, each with what is recorded of it and how it may be refused.
+//! The calls of a journal as values, each with what is recorded of it and how it may be refused.
 //!
-//! A step is one call of the journal. Its answer is returned as it is, to be sealed.
+//! A call's answer is returned as it is, to be sealed.
 ghost use Rattle.std.specs.Prelude.{◌<◌, IfErr};
 ghost use Rattle.lru_journal.specs.Journals.{IsRecorded};
 
@@ -9,12 +9,12 @@ use concurrent_lru::lru_core::{Begun, Evicted, Failed, Inserted, Refusal};
 use std::hash::Hash;
 use std::sync::Arc;
 
-/// A step of the journal.
-pub trait Step<K: Hash + Eq + Clone, V> {
-    /// The answer of an accepted step.
+/// A call of the journal.
+pub trait JournalCall<K: Hash + Eq + Clone, V> {
+    /// The answer of an accepted call.
     type Answer;
 
-    /// The answer of a refused step.
+    /// The answer of a refused call.
     type Refused;
 
     ghost use Rattle.lru_journal.specs.declared.record.Record.{Record};
@@ -23,7 +23,7 @@ pub trait Step<K: Hash + Eq + Clone, V> {
 
     ghost may_refuse: { Self → Self.Refused → Type 0 };
 
-    /// Takes the step, as one call of the journal.
+    /// Makes the call.
     fn apply(self, journal: &mut Journal<K, V>) -> Result<Self::Answer, Self::Refused>
         ensures recorded { IsRecorded journal.old (is_record self) result journal.new }
         ensures refusal { IfErr result (may_refuse self) };
@@ -37,7 +37,7 @@ pub struct Begin<'a, K> {
     ghost charged: { 0 < charge },
 }
 
-impl<'a, K: Hash + Eq + Clone, V: Drop> Step<K, V> for Begin<'a, K> {
+impl<'a, K: Hash + Eq + Clone, V: Drop> JournalCall<K, V> for Begin<'a, K> {
     type Answer = (Begun<V>, Evicted<K, V>);
 
     type Refused = Refusal;
@@ -63,7 +63,7 @@ pub struct Poll {
     pub(crate) stamp: u64,
 }
 
-impl<K: Hash + Eq + Clone, V: Drop> Step<K, V> for Poll {
+impl<K: Hash + Eq + Clone, V: Drop> JournalCall<K, V> for Poll {
     type Answer = Begun<V>;
 
     type Refused = Refusal;
@@ -90,7 +90,7 @@ pub struct Ready<V> {
     pub(crate) value: Arc<V>,
 }
 
-impl<K: Hash + Eq + Clone, V: Drop> Step<K, V> for Ready<V> {
+impl<K: Hash + Eq + Clone, V: Drop> JournalCall<K, V> for Ready<V> {
     type Answer = ();
 
     type Refused = (Refusal, Arc<V>);
@@ -117,7 +117,7 @@ pub struct Fail {
     pub(crate) stamp: u64,
 }
 
-impl<K: Hash + Eq + Clone, V: Drop> Step<K, V> for Fail {
+impl<K: Hash + Eq + Clone, V: Drop> JournalCall<K, V> for Fail {
     type Answer = Failed<K>;
 
     type Refused = Refusal;
@@ -143,7 +143,7 @@ pub struct Get<'a, K> {
     pub(crate) key: &'a K,
 }
 
-impl<'a, K: Hash + Eq + Clone, V: Drop> Step<K, V> for Get<'a, K> {
+impl<'a, K: Hash + Eq + Clone, V: Drop> JournalCall<K, V> for Get<'a, K> {
     type Answer = Option<(u64, Arc<V>)>;
 
     type Refused = Refusal;
@@ -169,7 +169,7 @@ pub struct Release {
     pub(crate) stamp: u64,
 }
 
-impl<K: Hash + Eq + Clone, V: Drop> Step<K, V> for Release {
+impl<K: Hash + Eq + Clone, V: Drop> JournalCall<K, V> for Release {
     type Answer = Evicted<K, V>;
 
     type Refused = Refusal;
@@ -195,7 +195,7 @@ pub struct AdviceEvict<'a, K> {
     pub(crate) key: &'a K,
 }
 
-impl<'a, K: Hash + Eq + Clone, V: Drop> Step<K, V> for AdviceEvict<'a, K> {
+impl<'a, K: Hash + Eq + Clone, V: Drop> JournalCall<K, V> for AdviceEvict<'a, K> {
     type Answer = Evicted<K, V>;
 
     type Refused = Refusal;
@@ -222,7 +222,7 @@ pub struct Invalidate<'a, K> {
     pub(crate) key: &'a K,
 }
 
-impl<'a, K: Hash + Eq + Clone, V: Drop> Step<K, V> for Invalidate<'a, K> {
+impl<'a, K: Hash + Eq + Clone, V: Drop> JournalCall<K, V> for Invalidate<'a, K> {
     type Answer = Evicted<K, V>;
 
     type Refused = Refusal;
@@ -252,7 +252,7 @@ pub struct Insert<'a, K, V> {
     ghost charged: { 0 < charge },
 }
 
-impl<'a, K: Hash + Eq + Clone, V: Drop> Step<K, V> for Insert<'a, K, V> {
+impl<'a, K: Hash + Eq + Clone, V: Drop> JournalCall<K, V> for Insert<'a, K, V> {
     type Answer = Inserted<K, V>;
 
     type Refused = (Refusal, Arc<V>);
@@ -277,7 +277,7 @@ impl<'a, K: Hash + Eq + Clone, V: Drop> Step<K, V> for Insert<'a, K, V> {
 #[derive(Drop)]
 pub struct Prune;
 
-impl<K: Hash + Eq + Clone, V: Drop> Step<K, V> for Prune {
+impl<K: Hash + Eq + Clone, V: Drop> JournalCall<K, V> for Prune {
     type Answer = Evicted<K, V>;
 
     type Refused = Refusal;
@@ -303,7 +303,7 @@ pub struct SetCapacity {
     pub(crate) capacity: u64,
 }
 
-impl<K: Hash + Eq + Clone, V: Drop> Step<K, V> for SetCapacity {
+impl<K: Hash + Eq + Clone, V: Drop> JournalCall<K, V> for SetCapacity {
     type Answer = Evicted<K, V>;
 
     type Refused = Refusal;
@@ -327,7 +327,7 @@ impl<K: Hash + Eq + Clone, V: Drop> Step<K, V> for SetCapacity {
 #[derive(Drop)]
 pub struct Total;
 
-impl<K: Hash + Eq + Clone, V: Drop> Step<K, V> for Total {
+impl<K: Hash + Eq + Clone, V: Drop> JournalCall<K, V> for Total {
     type Answer = u64;
 
     type Refused = Refusal;

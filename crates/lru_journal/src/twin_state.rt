@@ -1,6 +1,7 @@
 //! The data under the twin's lock: the journal, and the pass that knows all its records.
 //!
-//! Each call is one step, whose receipt goes to the caller's tally. What it took out is sealed.
+//! Each call makes one call of the journal, whose receipt goes to the caller's tally. What this
+//! took out is sealed.
 ghost use Rattle.std.specs.Prelude.{◌≡◌, ◌≢◌, ◌++◌, ◌∷◌, [], IfErr, IfOk, IfSome};
 ghost use Rattle.std.specs.Fn.{FnOnceReturnsAt, FnOnceTakesAt};
 ghost use Rattle.crossbeam_utils.specs.Seq.{cell_view};
@@ -10,9 +11,9 @@ ghost use Rattle.lru_journal.specs.Records.{record_of};
 ghost use Rattle.lru_journal.specs.Replay.{told_of_found, IsOfCopy};
 ghost use Rattle.lru_journal.specs.Tallies.{knower, all_parts, AreExactly, Receives, IsTallied};
 
-pub mod step;
+pub mod calls;
 
-use self::step::Step;
+use self::calls::JournalCall;
 use crate::journal::Journal;
 use crate::record::Record;
 use crate::tally::{Cell, CellPass, CheckRecords, Identity, Merge, Tally, WholeTally, append};
@@ -22,15 +23,15 @@ use std::hash::Hash;
 use std::marker::{Brand, Model, PhantomData};
 use std::sync::Wait;
 
-/// A journal, and the pass that knows its records.
+/// A journal, and the pass that knows all its records.
 #[derive(Drop)]
-pub struct Desk<K: Hash + Eq + Clone, V, I: Identity> {
+pub struct TwinState<K: Hash + Eq + Clone, V, I: Identity> {
     pub(crate) journal: Journal<K, V>,
-    pub(crate) keeper: CellPass<K>,
+    pub(crate) records_pass: CellPass<K>,
     pub(crate) twin: PhantomData<I>,
 }
 
-impl<K: Hash + Eq + Clone, V, I: Identity> Model for Desk<K, V, I> {
+impl<K: Hash + Eq + Clone, V, I: Identity> Model for TwinState<K, V, I> {
     ghost use Rattle.std.specs.Coded.{codes};
     ghost use Rattle.concurrent_lru.specs.Cache.{cache_code};
     ghost use Rattle.lru_journal.specs.Journals.{Journaled};
@@ -43,53 +44,55 @@ impl<K: Hash + Eq + Clone, V, I: Identity> Model for Desk<K, V, I> {
     ghost use Rattle.crossbeam_utils.specs.Seq.{cell_view};
     ghost use Rattle.lru_journal.specs.Tallies.{knower};
 
-    ghost view = { λ d. d.journal };
+    ghost view = { λ s. s.journal };
 
-    ghost invariant = { λ d. (d.keeper.table_id ≡ I.name.table) × (cell_view d.keeper ≡ knower d.journal.records) × (d.journal.began ≡ I.name.capacity) };
+    ghost invariant = { λ s. (s.records_pass.table_id ≡ I.name.table) × (cell_view s.records_pass ≡ knower s.journal.records) × (s.journal.began ≡ I.name.capacity) };
 }
 
 // Adds the journal's last record to the cell, and its receipt to the tally.
 fn note<K: Hash + Eq + Clone, V: Drop, I: Identity, R: Wait>(
     rt: &R,
     cell: &Cell<K>,
-    keeper: &mut CellPass<K>,
+    records_pass: &mut CellPass<K>,
     tally: &mut Tally<K, I>,
     journal: &Journal<K, V>,
 )
     requires cell { (cell.now.table.shared.table_id ≡ I.name.table)
-        × (keeper.old.table_id ≡ I.name.table) }
-    requires keeper { cell_view keeper.old ≡ knower (cell_view keeper.old).all }
-    requires last { (r : Record K) × (journal.now.records ≡ (cell_view keeper.old).all ++ r ∷ []) }
-    ensures keeper { (keeper.new.table_id ≡ I.name.table)
-        × (cell_view keeper.new ≡ knower journal.now.records) }
+        × (records_pass.old.table_id ≡ I.name.table) }
+    requires records_pass { cell_view records_pass.old ≡ knower (cell_view records_pass.old).all }
+    requires last { (r : Record K)
+        × (journal.now.records ≡ (cell_view records_pass.old).all ++ r ∷ []) }
+    ensures records_pass { (records_pass.new.table_id ≡ I.name.table)
+        × (cell_view records_pass.new ≡ knower journal.now.records) }
     ensures parts { tally.new.parts ≡ tally.old.parts }
-    ensures tally { (r : Record K) → journal.now.records ≡ (cell_view keeper.old).all ++ r ∷ []
+    ensures tally { (r : Record K)
+        → journal.now.records ≡ (cell_view records_pass.old).all ++ r ∷ []
         → Receives tally.old r tally.new }
 {
     let records = journal.records();
     let number = records.len() - 1;
-    append::<K, Brand, I, R>(rt, cell, keeper, tally, number, &records[number]);
+    append::<K, Brand, I, R>(rt, cell, records_pass, tally, number, &records[number]);
 }
 
-impl<K: Hash + Eq + Clone, V: Drop, I: Identity> Desk<K, V, I> {
-    /// Takes one step of the journal. An accepted step adds its record, whose receipt goes to the
+impl<K: Hash + Eq + Clone, V: Drop, I: Identity> TwinState<K, V, I> {
+    /// Makes one call of the journal. An accepted call adds its record, whose receipt goes to the
     /// tally; a refused one leaves journal and tally as they were.
-    pub(crate) fn call<S: Step<K, V>, R: Wait>(
+    pub(crate) fn call<C: JournalCall<K, V>, R: Wait>(
         &mut self,
         rt: &R,
         cell: &Cell<K>,
         tally: &mut Tally<K, I>,
-        step: S,
-    ) -> Sealed<Result<S::Answer, S::Refused>>
+        call: C,
+    ) -> Sealed<Result<C::Answer, C::Refused>>
         requires { cell.now.table.shared.table_id ≡ I.name.table }
-        ensures recorded { IsRecorded self.old (S.is_record step) result self.new }
-        ensures tallied { IsTallied tally.old (S.is_record step) result tally.new }
+        ensures recorded { IsRecorded self.old (C.is_record call) result self.new }
+        ensures tallied { IsTallied tally.old (C.is_record call) result tally.new }
         ensures parts { tally.new.parts ≡ tally.old.parts }
-        ensures refusal { IfErr result (S.may_refuse step) }
+        ensures refusal { IfErr result (C.may_refuse call) }
     {
-        match step.apply(&mut self.journal) {
+        match call.apply(&mut self.journal) {
             Ok(answer) => {
-                note(rt, cell, &mut self.keeper, tally, &self.journal);
+                note(rt, cell, &mut self.records_pass, tally, &self.journal);
                 Sealed::of(Ok(answer))
             }
             Err(refused) => Sealed::of(Err(refused)),
@@ -122,7 +125,7 @@ impl<K: Hash + Eq + Clone, V: Drop, I: Identity> Desk<K, V, I> {
     {
         match self.journal.read(key, reader) {
             Ok(found) => {
-                note(rt, cell, &mut self.keeper, tally, &self.journal);
+                note(rt, cell, &mut self.records_pass, tally, &self.journal);
                 Sealed::of(Ok(found))
             }
             Err(refusal) => Sealed::of(Err(refusal)),
@@ -137,15 +140,15 @@ impl<K: Hash + Eq + Clone, V: Drop, I: Identity> Desk<K, V, I> {
         ensures began { result.began ≡ I.name.capacity }
         ensures exactly { AreExactly result.records tally.receipts }
     {
-        let Desk {
+        let TwinState {
             journal,
-            mut keeper,
+            mut records_pass,
             twin: _,
         } = self;
         let Tally { mut pass, twin: _ } = tally;
         let whole = cell.split_pass::<WholeTally>(&mut pass);
-        cell.join_pass::<Merge>(&mut keeper, whole);
-        cell.load_as::<CheckRecords, R>(rt, &mut keeper);
+        cell.join_pass::<Merge>(&mut records_pass, whole);
+        cell.load_as::<CheckRecords, R>(rt, &mut records_pass);
         journal
     }
 }

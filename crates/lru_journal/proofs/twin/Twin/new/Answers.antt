@@ -2,9 +2,9 @@ use Rattle.std.proofs.Common.{◌≡◌, sym, ◌∙◌, ap, arith, rules}
 use Rattle.crossbeam_utils.specs.Seq.{cell_view}
 use Rattle.lru_journal.specs.declared.tally.View.{View}
 use Rattle.lru_journal.specs.Journals.{Journaled}
-use Rattle.lru_journal.specs.Tallies.{Name, hand, hand_of, keeper_of, knower, all_parts}
+use Rattle.lru_journal.specs.Tallies.{Name, hand, only_tally, without_tally, knower, all_parts}
 use Rattle.lru_journal.proofs.Receipts.StepsOfCell.{gives}
-use Rattle.lru_journal.proofs.twin.LruCache.new.Goals as goal
+use Rattle.lru_journal.proofs.twin.Twin.new.Goals as goal
 
 pub split_pass-pass-requires : goal.split_pass-pass-requires
 split_pass-pass-requires g c = (search rules, (search rules, (c.opening.invariant.0, gives _ _)))
@@ -12,14 +12,14 @@ split_pass-pass-requires g c = (search rules, (search rules, (c.opening.invarian
 pub returns : goal.returns
 returns g c =
     let t = c.split_pass-pass.ensures in
-    ap (λ (v : View g.row.K.Denot). hand v.parts v.receipts) (t.given.1 ∙ ap hand_of c.opening.invariant.1)
+    ap (λ (v : View g.row.K.Denot). hand v.parts v.receipts) (t.given.1 ∙ ap only_tally c.opening.invariant.1)
 
-pub invariant_of-desk : goal.invariant_of-desk
-invariant_of-desk g c =
+pub invariant_of-state : goal.invariant_of-state
+invariant_of-state g c =
     let t = c.split_pass-pass.ensures in
     let named = c.opening.view_is ∙ c.requires.named in (
       t.kept.0.0 ∙ (c.opening.invariant.0 ∙ ap (λ (n : Name). n.table) named),
-      t.kept.1 ∙ (ap keeper_of c.opening.invariant.1 ∙ sym (ap (λ (j : Journaled g.row.K.Denot g.row.V.Denot). knower j.records) c.new.ensures)),
+      t.kept.1 ∙ (ap without_tally c.opening.invariant.1 ∙ sym (ap (λ (j : Journaled g.row.K.Denot g.row.V.Denot). knower j.records) c.new.ensures)),
       ap (λ (j : Journaled g.row.K.Denot g.row.V.Denot). j.began) c.new.ensures ∙ ap (λ (n : Name). n.capacity) named,
     )
 
@@ -27,6 +27,6 @@ pub invariant_of-tally : goal.invariant_of-tally
 invariant_of-tally g c =
     let t = c.split_pass-pass.ensures in
     let named = c.opening.view_is ∙ c.requires.named in
-    let here = t.given.1 ∙ ap hand_of c.opening.invariant.1 in
+    let here = t.given.1 ∙ ap only_tally c.opening.invariant.1 in
     let parts : (cell_view c.split_pass-pass.result).parts ≡ all_parts = ap (λ (v : View g.row.K.Denot). v.parts) here in
     (t.given.0 ∙ (c.opening.invariant.0 ∙ ap (λ (n : Name). n.table) named), ap (λ (v : View g.row.K.Denot). v.keeps) here, omega (arith, parts))
