@@ -8,9 +8,9 @@ ghost use Rattle.std.specs.Fn.{FnOnceReturnsAt, FnOnceTakesAt};
 ghost use Rattle.concurrent_lru.specs.Cache.{CopiesAreEqual};
 ghost use Rattle.concurrent_lru.specs.ThreadedCalls.{IfInit, IsNotInit};
 
-pub use crate::desk::Counts;
 pub use crate::handle::CacheHandle;
 use crate::shard::{Shard, Turn};
+pub use crate::shard_state::Counts;
 use crate::store::MOST_PINS;
 pub use concurrent_lru::fit::{Anything, Fit};
 use concurrent_lru::sharded::capacity_per_shard;

@@ -10,11 +10,11 @@
 #![tactic(auto)]
 
 pub mod clock;
-mod desk;
 mod handle;
 mod index;
 mod makings;
 mod sent;
 mod shard;
+mod shard_state;
 mod shown;
 mod store;

@@ -10,7 +10,7 @@ ghost use Rattle.lru_clock.specs.Turns.{IfHit};
 mod changes;
 mod looks;
 
-use crate::desk::Desk;
+use crate::shard_state::ShardState;
 use crate::store::{Kept, Leaver, Pin, Reservation, Seat, Slot, Store, Taken};
 use concurrent_lru::fit::Fit;
 use concurrent_lru::sealed::Sealed;
@@ -33,7 +33,7 @@ pub struct Shard<K: Hash + Eq + Clone, V, F: Fit<K, V>> {
     // Whether a caller that wanted to evict found the lock taken, and left that to whoever has it.
     is_owed: AtomicBool,
     alloc: Global,
-    desk: CachePadded<Mutex<Desk<K>>>,
+    state: CachePadded<Mutex<ShardState<K>>>,
     // Wakes those who wait for a value that another caller makes.
     made: CachePadded<Condvar>,
     ghost within: { most_pins < 1073741823 },
@@ -62,7 +62,7 @@ impl<K: Hash + Eq + Clone + Drop, V: Drop, F: Fit<K, V>> Shard<K, V, F> {
             is_above: AtomicBool::new(false),
             is_owed: AtomicBool::new(false),
             alloc,
-            desk: CachePadded::new(Mutex::new(Desk::new(alloc, capacity))),
+            state: CachePadded::new(Mutex::new(ShardState::new(alloc, capacity))),
             made: CachePadded::new(Condvar::new()),
         })
     }
@@ -72,16 +72,16 @@ impl<K: Hash + Eq + Clone + Drop, V: Drop, F: Fit<K, V>> Shard<K, V, F> {
         self.store.slot(place)
     }
 
-    fn lock<R: Wait>(&self, rt: &R) -> MutexGuard<'_, Desk<K>> {
-        match self.desk.try_lock() {
+    fn lock<R: Wait>(&self, rt: &R) -> MutexGuard<'_, ShardState<K>> {
+        match self.state.try_lock() {
             Some(guard) => guard,
-            None => self.desk.lock(rt),
+            None => self.state.lock(rt),
         }
     }
 
     // Releases the lock, drops the entry that left under it, and evicts what others left to this
     // caller meanwhile.
-    fn unlock(&self, guard: MutexGuard<'_, Desk<K>>, leaver: Leaver<K, V, F>) {
+    fn unlock(&self, guard: MutexGuard<'_, ShardState<K>>, leaver: Leaver<K, V, F>) {
         if self.close(guard, leaver) {
             self.settle();
         }
@@ -90,7 +90,7 @@ impl<K: Hash + Eq + Clone + Drop, V: Drop, F: Fit<K, V>> Shard<K, V, F> {
     // Releases the lock, and then drops the entry that left under it. Returns whether more entries
     // may have to leave: a handle that was dropped before `is_above` rose evicts nothing, and
     // neither does one that found the lock taken.
-    fn close(&self, guard: MutexGuard<'_, Desk<K>>, leaver: Leaver<K, V, F>) -> bool {
+    fn close(&self, guard: MutexGuard<'_, ShardState<K>>, leaver: Leaver<K, V, F>) -> bool {
         let is_above = guard.is_above(0);
         let was_above = self.is_above.load(SeqCst);
         if was_above != is_above {
@@ -108,7 +108,7 @@ impl<K: Hash + Eq + Clone + Drop, V: Drop, F: Fit<K, V>> Shard<K, V, F> {
     pub fn settle(&self) {
         for _ in 0..u64::MAX {
             self.is_owed.store(true, SeqCst);
-            let Some(mut guard) = self.desk.try_lock() else {
+            let Some(mut guard) = self.state.try_lock() else {
                 return;
             };
             self.is_owed.store(false, SeqCst);
@@ -127,35 +127,35 @@ impl<K: Hash + Eq + Clone + Drop, V: Drop, F: Fit<K, V>> Shard<K, V, F> {
     }
 
     // Wakes the callers that wait for a making.
-    fn wake(&self, desk: &Desk<K>) {
-        if desk.makings.has_waiting() {
+    fn wake(&self, state: &ShardState<K>) {
+        if state.makings.has_waiting() {
             self.made.notify_all();
         }
     }
 
     // Gives back the seat of an entry that was taken out, which the index no longer has then.
-    fn vacate(&self, desk: &mut Desk<K>, taken: Taken<K, V, F>) -> Sealed<Kept<K, V, F>> {
+    fn vacate(&self, state: &mut ShardState<K>, taken: Taken<K, V, F>) -> Sealed<Kept<K, V, F>> {
         let place = taken.place();
-        if let Some(seat) = desk.seats.get(place) {
+        if let Some(seat) = state.seats.get(place) {
             if seat.is_listed {
-                self.unlist(desk, place, seat.tag);
+                self.unlist(state, place, seat.tag);
             }
         }
-        desk.counts.evictions = desk.counts.evictions.wrapping_add(1);
-        desk.seats.vacate(taken)
+        state.counts.evictions = state.counts.evictions.wrapping_add(1);
+        state.seats.vacate(taken)
     }
 
-    fn unlist(&self, desk: &mut Desk<K>, place: u32, tag: u32) {
+    fn unlist(&self, state: &mut ShardState<K>, place: u32, tag: u32) {
         if let Some(index) = self.store.index() {
             index.remove(tag, place);
         }
-        desk.seats.unlist(place);
+        state.seats.unlist(place);
     }
 
     // Evicts one entry if one charge more would take the total above the capacity.
-    fn make_room(&self, desk: &mut Desk<K>, charge: u64) -> Leaver<K, V, F> {
-        if desk.is_above(charge) {
-            self.evict(desk)
+    fn make_room(&self, state: &mut ShardState<K>, charge: u64) -> Leaver<K, V, F> {
+        if state.is_above(charge) {
+            self.evict(state)
         } else {
             None
         }
@@ -163,11 +163,11 @@ impl<K: Hash + Eq + Clone + Drop, V: Drop, F: Fit<K, V>> Shard<K, V, F> {
 
     // Moves the hand of the clock until an entry leaves. After four rounds each entry that nobody
     // has pinned or used has lost its chances and left.
-    fn evict(&self, desk: &mut Desk<K>) -> Leaver<K, V, F> {
-        for _ in 0..desk.seats.len().wrapping_mul(4) {
-            let place = desk.move_hand();
+    fn evict(&self, state: &mut ShardState<K>) -> Leaver<K, V, F> {
+        for _ in 0..state.seats.len().wrapping_mul(4) {
+            let place = state.move_hand();
             if let Some(taken) = self.store.pass(place) {
-                return Some(self.vacate(desk, taken));
+                return Some(self.vacate(state, taken));
             }
         }
         None
@@ -178,7 +178,7 @@ impl<K: Hash + Eq + Clone + Drop, V: Drop, F: Fit<K, V>> Shard<K, V, F> {
         &self,
         rt: &R,
         charge: u64,
-    ) -> (MutexGuard<'_, Desk<K>>, Leaver<K, V, F>) {
+    ) -> (MutexGuard<'_, ShardState<K>>, Leaver<K, V, F>) {
         for _ in rt.forever() {
             let mut guard = self.lock(rt);
             let leaver = self.make_room(&mut guard, charge);
@@ -192,16 +192,16 @@ impl<K: Hash + Eq + Clone + Drop, V: Drop, F: Fit<K, V>> Shard<K, V, F> {
 
     // Sees that an entry of this charge can be stored: that there is a vacant place, and that the
     // sum of the charges stays within a `u64`.
-    fn admit(&self, desk: &mut Desk<K>, charge: u64) -> Result<(), Refusal>
+    fn admit(&self, state: &mut ShardState<K>, charge: u64) -> Result<(), Refusal>
         ensures { IfErr result (λ e. e ≢ Refusal.Stale) }
     {
-        if desk.seats.total().checked_add(charge).is_none() {
+        if state.seats.total().checked_add(charge).is_none() {
             return Err(Refusal::Overflow);
         }
-        if desk.seats.has_vacant() {
+        if state.seats.has_vacant() {
             return Ok(());
         }
-        self.store.grow(self.alloc, &mut desk.seats)
+        self.store.grow(self.alloc, &mut state.seats)
     }
 
     // Stores an entry in a vacant place, and pins it without a chance. If it is not listed, it was
@@ -210,7 +210,7 @@ impl<K: Hash + Eq + Clone + Drop, V: Drop, F: Fit<K, V>> Shard<K, V, F> {
     // Returns the entry with the refusal if it is refused.
     fn put(
         &self,
-        desk: &mut Desk<K>,
+        state: &mut ShardState<K>,
         seat: Seat,
         key: &K,
         kept: Kept<K, V, F>,
@@ -220,14 +220,14 @@ impl<K: Hash + Eq + Clone + Drop, V: Drop, F: Fit<K, V>> Shard<K, V, F> {
             (λ found. (found.1.key ≡ key.now) × F.fits key.now found.1.value) }
         ensures never_stale { IfErr result (λ e. e.0 ≢ Refusal.Stale) }
     {
-        let reservation = match self.reserve_seat(desk, seat) {
+        let reservation = match self.reserve_seat(state, seat) {
             Ok(reservation) => reservation,
             Err(refusal) => return Err((refusal, Some(kept))),
         };
         let place = match self.store.fill(reservation, kept, !seat.is_listed) {
             Ok(place) => place,
             Err((reservation, kept)) => {
-                desk.seats.cancel(reservation);
+                state.seats.cancel(reservation);
                 return Err((Refusal::Overflow, Some(kept)));
             }
         };
@@ -266,10 +266,10 @@ impl<K: Hash + Eq + Clone + Drop, V: Drop, F: Fit<K, V>> Shard<K, V, F> {
     }
 
     // Takes a vacant place for an entry, and counts its charge.
-    fn reserve_seat(&self, desk: &mut Desk<K>, seat: Seat) -> Result<Reservation, Refusal>
+    fn reserve_seat(&self, state: &mut ShardState<K>, seat: Seat) -> Result<Reservation, Refusal>
         ensures { IfErr result (λ e. e ≢ Refusal.Stale) }
     {
-        self.admit(desk, seat.charge)?;
-        desk.seats.reserve(seat).ok_or(Refusal::Overflow)
+        self.admit(state, seat.charge)?;
+        state.seats.reserve(seat).ok_or(Refusal::Overflow)
     }
 }

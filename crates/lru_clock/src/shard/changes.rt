@@ -3,8 +3,8 @@
 ghost use Rattle.std.specs.Prelude.{◌≡◌, ◌≢◌, ◌<◌, IfErr, IfOk, IfSome};
 ghost use Rattle.concurrent_lru.specs.Cache.{CopiesAreEqual};
 
-use crate::desk::Desk;
 use crate::shard::Shard;
+use crate::shard_state::ShardState;
 use crate::store::{Kept, Leaver, Pin, Seat};
 use concurrent_lru::fit::Fit;
 use concurrent_lru::sharded::Refusal;
@@ -138,20 +138,26 @@ impl<K: Hash + Eq + Clone + Drop, V: Drop, F: Fit<K, V>> Shard<K, V, F> {
 
     // Invalidates the key's entry. If that does not make it leave, another one may leave to make
     // room for the charge.
-    fn replace(&self, desk: &mut Desk<K>, tag: u32, key: &K, charge: u64) -> Leaver<K, V, F> {
-        match self.invalidate_entry(desk, tag, key) {
+    fn replace(
+        &self,
+        state: &mut ShardState<K>,
+        tag: u32,
+        key: &K,
+        charge: u64,
+    ) -> Leaver<K, V, F> {
+        match self.invalidate_entry(state, tag, key) {
             Some(leaver) => Some(leaver),
-            None => self.make_room(desk, charge),
+            None => self.make_room(state, charge),
         }
     }
 
     // Invalidates the key's entry, which leaves if nobody has pinned it.
-    fn invalidate_entry(&self, desk: &mut Desk<K>, tag: u32, key: &K) -> Leaver<K, V, F> {
+    fn invalidate_entry(&self, state: &mut ShardState<K>, tag: u32, key: &K) -> Leaver<K, V, F> {
         let place = self.place_of(tag, key)?;
         self.slot(place)?.mark();
-        self.unlist(desk, place, tag);
+        self.unlist(state, place, tag);
         let taken = self.store.take_invalidated(place)?;
-        Some(self.vacate(desk, taken))
+        Some(self.vacate(state, taken))
     }
 
     /// Invalidates the key's entry, and the making of its value.
@@ -175,9 +181,9 @@ impl<K: Hash + Eq + Clone + Drop, V: Drop, F: Fit<K, V>> Shard<K, V, F> {
     }
 
     // Evicts the entry of a place if nobody has pinned it.
-    fn take_idle(&self, desk: &mut Desk<K>, place: u32) -> Leaver<K, V, F> {
+    fn take_idle(&self, state: &mut ShardState<K>, place: u32) -> Leaver<K, V, F> {
         let taken = self.store.take_idle(place)?;
-        Some(self.vacate(desk, taken))
+        Some(self.vacate(state, taken))
     }
 
     /// Evicts every entry that nobody has pinned, whatever its chances.
@@ -196,9 +202,9 @@ impl<K: Hash + Eq + Clone + Drop, V: Drop, F: Fit<K, V>> Shard<K, V, F> {
     }
 
     // Evicts the first entry from a place on that nobody has pinned.
-    fn take_next_idle(&self, desk: &mut Desk<K>, next: &mut u32) -> Leaver<K, V, F> {
-        for place in *next..desk.seats.places() {
-            if let Some(leaver) = self.take_idle(desk, place) {
+    fn take_next_idle(&self, state: &mut ShardState<K>, next: &mut u32) -> Leaver<K, V, F> {
+        for place in *next..state.seats.places() {
+            if let Some(leaver) = self.take_idle(state, place) {
                 *next = place;
                 return Some(leaver);
             }
@@ -227,11 +233,11 @@ impl<K: Hash + Eq + Clone + Drop, V: Drop, F: Fit<K, V>> Shard<K, V, F> {
         grown
     }
 
-    fn grow_to(&self, desk: &mut Desk<K>, entries: usize) -> Result<(), Refusal>
+    fn grow_to(&self, state: &mut ShardState<K>, entries: usize) -> Result<(), Refusal>
         ensures { IfErr result (λ e. e ≢ Refusal.Stale) }
     {
-        for _ in desk.seats.len()..entries {
-            self.store.grow(self.alloc, &mut desk.seats)?;
+        for _ in state.seats.len()..entries {
+            self.store.grow(self.alloc, &mut state.seats)?;
         }
         Ok(())
     }

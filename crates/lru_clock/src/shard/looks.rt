@@ -4,8 +4,8 @@ ghost use Rattle.std.specs.Prelude.{◌≡◌, ◌≢◌, ◌<◌, IfErr, IfOk, 
 ghost use Rattle.concurrent_lru.specs.Cache.{CopiesAreEqual};
 ghost use Rattle.lru_clock.specs.Turns.{IfHit};
 
-use crate::desk::{Counts, Desk};
 use crate::shard::{Shard, Turn};
+use crate::shard_state::{Counts, ShardState};
 use crate::store::Pin;
 use concurrent_lru::fit::Fit;
 use concurrent_lru::sharded::Refusal;
@@ -124,7 +124,10 @@ impl<K: Hash + Eq + Clone + Drop, V: Drop, F: Fit<K, V>> Shard<K, V, F> {
         tag: u32,
         key: &K,
         charge: u64,
-    ) -> (MutexGuard<'_, Desk<K>>, Result<Turn<'_, K, V, F>, Refusal>)
+    ) -> (
+        MutexGuard<'_, ShardState<K>>,
+        Result<Turn<'_, K, V, F>, Refusal>,
+    )
         ensures pin { IfOk result.1
             (λ turn. IfHit turn (λ p. (p.key ≡ key.now) × F.fits key.now p.value)) }
         ensures never_stale { IfErr result.1 (λ e. e ≢ Refusal.Stale) }
@@ -149,22 +152,22 @@ impl<K: Hash + Eq + Clone + Drop, V: Drop, F: Fit<K, V>> Shard<K, V, F> {
     }
 
     // Begins the making of a key's value, and returns its ticket.
-    fn start(&self, desk: &mut Desk<K>, key: &K, charge: u64) -> Result<u64, Refusal>
+    fn start(&self, state: &mut ShardState<K>, key: &K, charge: u64) -> Result<u64, Refusal>
         ensures { IfErr result (λ e. e ≢ Refusal.Stale) }
     {
-        if desk.seats.total().checked_add(charge).is_none() {
+        if state.seats.total().checked_add(charge).is_none() {
             return Err(Refusal::Overflow);
         }
         let own = key.clone()?;
-        Ok(desk.makings.begin(own)?)
+        Ok(state.makings.begin(own)?)
     }
 
     // Waits until a making ends or is invalidated.
     fn wait<'a, R: Wait>(
         &'a self,
         rt: &R,
-        guard: MutexGuard<'a, Desk<K>>,
-    ) -> MutexGuard<'a, Desk<K>> {
+        guard: MutexGuard<'a, ShardState<K>>,
+    ) -> MutexGuard<'a, ShardState<K>> {
         let mut guard = guard;
         guard.counts.waits = guard.counts.waits.wrapping_add(1);
         guard.makings.add_waiting();
@@ -238,10 +241,10 @@ impl<K: Hash + Eq + Clone + Drop, V: Drop, F: Fit<K, V>> Shard<K, V, F> {
         pinned
     }
 
-    fn pinned_among(&self, desk: &Desk<K>) -> u64 {
+    fn pinned_among(&self, state: &ShardState<K>) -> u64 {
         let mut pinned = 0u64;
-        for place in 0..desk.seats.places() {
-            if let (Some(seat), Some(slot)) = (desk.seats.get(place), self.slot(place)) {
+        for place in 0..state.seats.places() {
+            if let (Some(seat), Some(slot)) = (state.seats.get(place), self.slot(place)) {
                 if slot.is_pinned() {
                     pinned = pinned.saturating_add(seat.charge);
                 }

@@ -39,7 +39,7 @@ impl Counts {
 
 /// The state under the lock of a shard.
 #[derive(Drop)]
-pub struct Desk<K> {
+pub struct ShardState<K> {
     pub capacity: u64,
     pub seats: Seats,
     pub makings: Makings<K>,
@@ -48,10 +48,10 @@ pub struct Desk<K> {
     hand: u32,
 }
 
-impl<K: Eq + Drop> Desk<K> {
+impl<K: Eq + Drop> ShardState<K> {
     /// Creates the state of a shard without entries.
     pub fn new(alloc: Global, capacity: u64) -> Self {
-        Desk {
+        ShardState {
             capacity,
             seats: Seats::new(alloc),
             makings: Makings::new(alloc),
