@@ -343,6 +343,12 @@ fn look<C: Cache>(cache: &Arc<C>, n: u64, owned: bool) -> Option<Held<'_, C>> {
     }
 }
 
+/// Each value that was inserted is present, was evicted or was removed.
+fn is_balanced(stats: &Stats) {
+    let left = stats.evictions + stats.removals;
+    assert_eq!(stats.insertions, stats.entries + left);
+}
+
 // ---------------------------------------------------------------- one thread and a plain cache
 
 const STEPS: u64 = 3000;
@@ -355,6 +361,15 @@ struct Entry {
     pins: u64,
     /// Whether its key finds it.
     found: bool,
+}
+
+/// What a plain cache answers a caller that asks for a value.
+#[derive(Debug, PartialEq)]
+enum Told {
+    /// The number of the value, which has one pin more.
+    Found(u64),
+    Make,
+    Refused(Refusal),
 }
 
 /// A shard as a list of entries, those released last at the end.
@@ -381,8 +396,43 @@ impl Plain {
             .find(|entry| entry.n == n && entry.found)
     }
 
-    fn number(&mut self, n: u64) -> Option<u64> {
-        self.find(n).map(|entry| entry.number)
+    fn len(&self) -> u64 {
+        self.entries.len() as u64
+    }
+
+    /// Finds the value of a key and pins it.
+    fn get(&mut self, n: u64) -> Option<u64> {
+        let entry = self.find(n)?;
+        entry.pins += 1;
+        Some(entry.number)
+    }
+
+    fn begin(&mut self, n: u64, number: u64, charge: u64) -> Told {
+        if charge == 0 {
+            return Told::Refused(Refusal::ZeroCharge);
+        }
+        if let Some(number) = self.get(n) {
+            return Told::Found(number);
+        }
+        if charge > u64::MAX - self.total() {
+            return Told::Refused(Refusal::Overflow);
+        }
+        self.add(n, number, charge);
+        Told::Make
+    }
+
+    fn insert(&mut self, n: u64, number: u64, charge: u64) -> Result<(), Refusal> {
+        if charge == 0 {
+            return Err(Refusal::ZeroCharge);
+        }
+        let idle = self.find(n).filter(|entry| entry.pins == 0);
+        let idle = idle.map_or(0, |entry| entry.charge);
+        if charge > u64::MAX - (self.total() - idle) {
+            return Err(Refusal::Overflow);
+        }
+        self.invalidate(n);
+        self.add(n, number, charge);
+        Ok(())
     }
 
     fn evict(&mut self, at: usize) {
@@ -528,19 +578,11 @@ impl<'a, C: Cache> Beside<'a, C> {
         let charge = self.charge();
         let fails = self.random.below(6) == 0;
         let owned = self.random.below(2) == 0;
-        let plain = &mut self.plain[shard];
-        let before = plain.number(n);
-        let overflows = before.is_none() && charge > u64::MAX - plain.total();
-        let number = before.unwrap_or(self.ledger.made());
-        let is_made = before.is_none() && charge > 0 && !overflows;
-        if is_made {
-            plain.add(n, number, charge);
-        } else if charge > 0 && !overflows {
-            plain.find(n).unwrap().pins += 1;
-        }
+        let number = self.ledger.made();
+        let told = self.plain[shard].begin(n, number, charge);
         let (random, ledger) = (&mut self.random, self.ledger);
         let answer = ask(self.cache, n, charge, owned, || {
-            assert!(is_made);
+            assert_eq!(told, Told::Make);
             if fails {
                 fail(random)
             } else {
@@ -549,67 +591,51 @@ impl<'a, C: Cache> Beside<'a, C> {
         });
         match answer {
             Ok(handle) => {
-                assert_eq!(handle.number, number);
-                assert!(charge > 0 && !overflows && !(is_made && fails));
+                assert!(told == Told::Found(handle.number) || told == Told::Make && !fails);
+                assert!(told != Told::Make || handle.number == number);
                 self.hold(shard, handle);
             }
             Err(GetError::Init(Failed)) => {
-                assert!(is_made && fails);
+                assert!(told == Told::Make && fails);
                 self.plain[shard].remove(number);
             }
-            Err(GetError::Refused(Refusal::ZeroCharge)) => assert_eq!(charge, 0),
-            Err(GetError::Refused(refusal)) => {
-                assert!(overflows && refusal == Refusal::Overflow);
-            }
+            Err(GetError::Refused(refusal)) => assert_eq!(told, Told::Refused(refusal)),
         }
     }
 
     fn insert(&mut self, n: u64, shard: usize) {
         let charge = self.charge();
-        let plain = &mut self.plain[shard];
-        let idle = plain.find(n).filter(|entry| entry.pins == 0);
-        let idle = idle.map_or(0, |entry| entry.charge);
-        let overflows = charge > u64::MAX - (plain.total() - idle);
         let object = self.ledger.make(n, By::Insert);
         let number = object.number;
-        if charge > 0 && !overflows {
-            plain.invalidate(n);
-            plain.add(n, number, charge);
-        } else {
-            // A value that is refused is dropped at once.
-            plain.evicted.push(number);
-        }
+        let told = self.plain[shard].insert(n, number, charge);
         match self.cache.insert(n, charge, object) {
             Ok(handle) => {
-                assert!(charge > 0 && !overflows && handle.number == number);
+                assert_eq!((told, handle.number), (Ok(()), number));
                 self.hold(shard, Held::Borrowed(handle));
             }
-            Err(Refusal::ZeroCharge) => assert_eq!(charge, 0),
-            Err(refusal) => assert!(overflows && refusal == Refusal::Overflow),
+            Err(refusal) => {
+                assert_eq!(told, Err(refusal));
+                // A value that is refused is dropped at once.
+                self.plain[shard].evicted.push(number);
+            }
         }
     }
 
     fn get(&mut self, n: u64, shard: usize) {
         let owned = self.random.below(2) == 0;
         let found = look(self.cache, n, owned);
-        let entry = self.plain[shard].find(n);
-        let numbers = (
-            found.as_ref().map(|it| it.number),
-            entry.as_ref().map(|it| it.number),
-        );
-        assert_eq!(numbers.0, numbers.1);
-        if let (Some(entry), Some(handle)) = (entry, found) {
-            entry.pins += 1;
+        let number = found.as_ref().map(|handle| handle.number);
+        assert_eq!(number, self.plain[shard].get(n));
+        if let Some(handle) = found {
             self.hold(shard, handle);
         }
     }
 
     fn read(&mut self, n: u64, shard: usize) {
         let plain = &mut self.plain[shard];
-        assert_eq!(self.cache.read(n, |object| object.number), plain.number(n));
-        if let Some(entry) = plain.find(n) {
-            entry.pins += 1;
-            let number = entry.number;
+        let number = plain.get(n);
+        assert_eq!(self.cache.read(n, |object| object.number), number);
+        if let Some(number) = number {
             plain.release(number);
         }
     }
@@ -629,48 +655,39 @@ impl<'a, C: Cache> Beside<'a, C> {
         }
     }
 
-    /// Compares what was dropped, and all that can be seen without a change.
     fn compare(&mut self) {
-        let mut evicted = self
-            .plain
-            .iter_mut()
-            .map(|shard| mem::take(&mut shard.evicted));
-        let mut dropped = mem::take(&mut *self.ledger.order.lock().unwrap());
-        // The plain caches tell the order within each shard only.
-        if C::SHARDS == 1 {
-            assert_eq!(evicted.next(), Some(dropped));
-        } else {
-            let mut evicted: Vec<u64> = evicted.flatten().collect();
-            evicted.sort_unstable();
-            dropped.sort_unstable();
-            assert_eq!(evicted, dropped);
-        }
-        let sum = |number: fn(&Plain) -> u64| self.plain.iter().map(number).map(u128::from).sum();
-        let len = self
-            .plain
-            .iter()
-            .map(|shard| shard.entries.len() as u64)
-            .sum();
-        let plain = (
-            len,
-            sum(Plain::total),
-            sum(Plain::pinned),
-            sum(|shard| shard.capacity),
-        );
-        assert_eq!(self.cache.numbers(), plain);
-        let stats = self.cache.stats();
-        assert_eq!(
-            (stats.entries, stats.charge, stats.pinned_charge),
-            (plain.0, plain.1, plain.2)
-        );
-        assert_eq!(
-            stats.insertions,
-            stats.entries + stats.evictions + stats.removals
-        );
+        self.compare_drops();
+        self.compare_numbers();
         for n in 0..30 {
             let shard = self.cache.shard_of(n);
             assert_eq!(self.cache.contains(n), self.plain[shard].find(n).is_some());
         }
+    }
+
+    /// Compares what was dropped, and with one shard also in which order.
+    fn compare_drops(&mut self) {
+        let mut evicted = Vec::new();
+        for shard in &mut self.plain {
+            evicted.append(&mut shard.evicted);
+        }
+        let mut dropped = mem::take(&mut *self.ledger.order.lock().unwrap());
+        if C::SHARDS > 1 {
+            evicted.sort_unstable();
+            dropped.sort_unstable();
+        }
+        assert_eq!(evicted, dropped);
+    }
+
+    fn compare_numbers(&self) {
+        let sum = |number: fn(&Plain) -> u64| self.plain.iter().map(number).map(u128::from).sum();
+        let len = self.plain.iter().map(Plain::len).sum();
+        let (total, pinned) = (sum(Plain::total), sum(Plain::pinned));
+        let capacity = sum(|shard| shard.capacity);
+        assert_eq!(self.cache.numbers(), (len, total, pinned, capacity));
+        let stats = self.cache.stats();
+        assert_eq!((stats.entries, stats.charge), (len, total));
+        assert_eq!((stats.pinned_charge, stats.capacity), (pinned, capacity));
+        is_balanced(&stats);
     }
 }
 
@@ -910,10 +927,7 @@ impl<'a, C: Cache> Worker<'a, '_, C> {
 
     fn numbers(&self) {
         let stats = self.cache.stats();
-        assert_eq!(
-            stats.insertions,
-            stats.entries + stats.evictions + stats.removals
-        );
+        is_balanced(&stats);
         // With one lock, the numbers are those of one time, and nothing idle is above the capacity.
         let fits = stats.charge <= stats.capacity || stats.charge == stats.pinned_charge;
         assert!(fits || C::SHARDS > 1);
@@ -945,10 +959,7 @@ fn is_quiet<C: Cache>(cache: &C, ledger: &Ledger, asked: u64) {
     assert_eq!(stats.entries, ledger.alive());
     assert_eq!(stats.charge, ledger.charge.load(SeqCst).into());
     assert_eq!(stats.hits + stats.misses + stats.waits, asked);
-    assert_eq!(
-        stats.insertions,
-        stats.entries + stats.evictions + stats.removals
-    );
+    is_balanced(&stats);
     assert_eq!(
         cache.numbers(),
         (stats.entries, stats.charge, 0, stats.capacity)
