@@ -226,9 +226,10 @@ int main(int argc, char** argv) {
               &times[3]);
       Measure(std::make_unique<Classes<lru::ShardedCache<Nothing, lru::Words>>>(capacity), entries,
               calls, &times[4]);
-      Measure(std::make_unique<LevelDBs>(lru::NewLevelDBBlockCache(capacity)), entries, calls,
+      // As many shards as LevelDB's own has, whatever the capacity.
+      Measure(std::make_unique<LevelDBs>(lru::NewLevelDBBlockCache(capacity, 16)), entries, calls,
               &times[5]);
-      Measure(std::make_unique<LevelDBs>(lru::NewLevelDBCache(capacity)), entries, calls,
+      Measure(std::make_unique<LevelDBs>(lru::NewLevelDBCache(capacity, 16)), entries, calls,
               &times[6]);
     }
     std::printf("%llu entries: nanoseconds, the least of %d rounds (ratio to LevelDB's)\n",

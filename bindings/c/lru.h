@@ -209,7 +209,8 @@ lru_code lru_bytes_free(lru_bytes *cache, lru_bytes_evicted *left);
  * Allocates for a new entry, and if the key is longer than any before. LRU_MAKE with the stamp;
  * LRU_WAIT with the stamp; LRU_HIT with the stamp and the value; LRU_OVERFLOW if the total would
  * exceed 2^64 - 1, if the stamps are used up or if the entry has as many pins as it may have;
- * LRU_MEMORY; LRU_NO_CHARGE; LRU_NULL_KEY; LRU_CLOSED; LRU_NOT_EMPTY. */
+ * LRU_MEMORY; LRU_NO_CHARGE if `charge` is 0, even if the key has an entry; LRU_NULL_KEY;
+ * LRU_CLOSED; LRU_NOT_EMPTY. */
 static inline lru_told lru_bytes_begin(lru_bytes *cache, const void *key, size_t length,
                                        uint64_t charge, lru_bytes_evicted *gone);
 

@@ -11,10 +11,13 @@
 // and none is erased or replaced while it is pinned, both caches hold the same entries. The
 // differences:
 //
+//  - If the capacity is below 256 KiB, there are fewer shards, so that each has a capacity of at
+//    least 16 KiB, which is room for a few blocks of LevelDB's usual size. If charges are not bytes
+//    or blocks are larger, pass the number of shards. LevelDB's cache always has 16.
 //  - Release evicts too. LevelDB's cache evicts only in Insert, so a shard whose pinned entries
 //    exceeded its capacity stays above it until the next Insert. Here a shard is above its capacity
 //    only while all of its entries are pinned. In particular, an entry larger than its shard's
-//    capacity is evicted at its last Release. So a cache with room for fewer than 16 blocks keeps
+//    capacity is evicted at its last Release: 16 shards with room for fewer than 16 blocks keep
 //    almost nothing.
 //  - Erase of a pinned entry, and Insert over one. The key finds the old entry no more, as in
 //    LevelDB, but the old entry keeps its charge until its last Release, as its memory is still in
@@ -39,6 +42,7 @@
 #ifndef LRU_LEVELDB_CACHE_H
 #define LRU_LEVELDB_CACHE_H
 
+#include <algorithm>
 #include <atomic>
 #include <cstddef>
 #include <cstdint>
@@ -59,13 +63,23 @@ namespace lru {
 template <class Key>
 class BasicLevelDBCache : public leveldb::Cache {
  public:
-  // A cache with the given capacity, or null if there is no memory for it. The seed is random
-  // unless a test passes its own.
-  static BasicLevelDBCache* New(std::size_t capacity) noexcept {
-    return New(capacity, Seed::random());
+  // The number of shards unless it is passed: 16, or less if the capacity is below 256 KiB.
+  static std::size_t ShardsFor(std::size_t capacity) noexcept {
+    return std::clamp<std::size_t>(capacity >> 14, 1, kMostShards);
   }
-  static BasicLevelDBCache* New(std::size_t capacity, Seed seed) noexcept {
-    auto* cache = new (std::nothrow) BasicLevelDBCache;
+
+  // A cache with the given capacity, or null if there is no memory for it. `shards` is from 1 to
+  // 16; another number counts as the nearest of these. The seed is random unless a test passes its
+  // own.
+  static BasicLevelDBCache* New(std::size_t capacity) noexcept {
+    return New(capacity, ShardsFor(capacity));
+  }
+  static BasicLevelDBCache* New(std::size_t capacity, std::size_t shards) noexcept {
+    return New(capacity, shards, Seed::random());
+  }
+  static BasicLevelDBCache* New(std::size_t capacity, std::size_t shards, Seed seed) noexcept {
+    auto* cache =
+        new (std::nothrow) BasicLevelDBCache(std::clamp<std::size_t>(shards, 1, kMostShards));
     if (cache == nullptr || cache->Open(capacity, seed)) return cache;
     delete cache;
     return nullptr;
@@ -133,24 +147,24 @@ class BasicLevelDBCache : public leveldb::Cache {
   std::uint64_t NewId() override { return ++last_id_; }
 
   void Prune() override {
-    for (Shard& shard : shards_) {
+    for (std::size_t i = 0; i < count_; i++) {
       Evicted evicted;
-      const std::lock_guard<std::mutex> lock(shard.mutex);
-      shard.core.prune(&evicted);
+      const std::lock_guard<std::mutex> lock(shards_[i].mutex);
+      shards_[i].core.prune(&evicted);
     }
   }
 
   std::size_t TotalCharge() const override {
     std::size_t total = 0;
-    for (const Shard& shard : shards_) {
-      const std::lock_guard<std::mutex> lock(shard.mutex);
-      total += static_cast<std::size_t>(shard.core.total());
+    for (std::size_t i = 0; i < count_; i++) {
+      const std::lock_guard<std::mutex> lock(shards_[i].mutex);
+      total += static_cast<std::size_t>(shards_[i].core.total());
     }
     return total;
   }
 
  private:
-  static constexpr std::size_t kShards = 16;
+  static constexpr std::size_t kMostShards = 16;
 
   struct Shard;
 
@@ -197,13 +211,13 @@ class BasicLevelDBCache : public leveldb::Cache {
     mutable std::mutex mutex;
   };
 
-  BasicLevelDBCache() = default;
+  explicit BasicLevelDBCache(std::size_t count) : count_(count) {}
 
   // False if there is no memory. Each shard gets another seed.
   bool Open(std::size_t capacity, Seed seed) {
-    const std::size_t share = capacity / kShards + (capacity % kShards != 0);
-    for (Shard& shard : shards_) {
-      if (!shard.core.open(share, seed)) return false;
+    const std::size_t share = capacity / count_ + (capacity % count_ != 0);
+    for (std::size_t i = 0; i < count_; i++) {
+      if (!shards_[i].core.open(share, seed)) return false;
       seed.number++;
     }
     return true;
@@ -242,9 +256,13 @@ class BasicLevelDBCache : public leveldb::Cache {
     return hash ^ hash >> 24;
   }
 
-  Shard& ShardOf(const leveldb::Slice& key) { return shards_[Hash(key) >> 28]; }
+  // Of 16 shards, the highest 4 bits of the hash choose one, as in LevelDB's own cache.
+  Shard& ShardOf(const leveldb::Slice& key) {
+    return shards_[std::uint64_t{Hash(key)} * count_ >> 32];
+  }
 
-  Shard shards_[kShards];
+  std::size_t count_;  // of the shards that are used
+  Shard shards_[kMostShards];
   std::atomic<std::uint64_t> last_id_{0};
 };
 
@@ -254,13 +272,20 @@ using LevelDBCache = BasicLevelDBCache<std::string_view>;
 // Caches keys of 16 bytes only. Insert returns entries of other keys, but they are not cached.
 using LevelDBBlockCache = BasicLevelDBCache<Words>;
 
-// A LevelDBCache with the given capacity, or null if there is no memory for it. The caller deletes
-// it after the last database that uses it.
+// A LevelDBCache with the given capacity, or null if there is no memory for it. There are 16
+// shards, or fewer if the capacity is below 256 KiB, unless their number, from 1 to 16, is passed.
+// The caller deletes the cache after the last database that uses it.
 inline leveldb::Cache* NewLevelDBCache(std::size_t capacity) { return LevelDBCache::New(capacity); }
+inline leveldb::Cache* NewLevelDBCache(std::size_t capacity, std::size_t shards) {
+  return LevelDBCache::New(capacity, shards);
+}
 
 // The same, for a LevelDBBlockCache.
 inline leveldb::Cache* NewLevelDBBlockCache(std::size_t capacity) {
   return LevelDBBlockCache::New(capacity);
+}
+inline leveldb::Cache* NewLevelDBBlockCache(std::size_t capacity, std::size_t shards) {
+  return LevelDBBlockCache::New(capacity, shards);
 }
 
 }  // namespace lru

@@ -15,6 +15,7 @@
 #ifndef LRU_HPP
 #define LRU_HPP
 
+#include <algorithm>
 #include <cassert>
 #include <condition_variable>
 #include <cstddef>
@@ -437,23 +438,39 @@ class Cache {
   detail::Core<Node, Key> core_;
 };
 
+// A good number of shards for a cache with this capacity whose values have about this charge: the
+// most, from 1 to 16, that leave each shard room for 32 values. A charge of 0 counts as 1.
+inline std::size_t shards_for(std::uint64_t capacity, std::uint64_t charge) noexcept {
+  const std::uint64_t values = capacity / std::max<std::uint64_t>(charge, 1);
+  return static_cast<std::size_t>(std::clamp<std::uint64_t>(values / 32, 1, 16));
+}
+
 // A cache of several shards, each a Cache with its own lock and an equal share of the capacity,
 // rounded up. `Hash` chooses the shard of a key. Threads contend less, but a value is evicted when
-// its own shard is full. A shard whose share is smaller than a charge does not keep such a value
-// once it is idle: with 16 shards, take a capacity of well over 16 charges, or fewer shards.
+// its own shard is full. A shard whose share is smaller than a value's charge does not keep that
+// value once it is idle. So if charges are larger than 1, pass the number of shards:
+//
+//   lru::ShardedCache<Page> cache(capacity, lru::shards_for(capacity, 4096));
 template <class Value, class Key = std::string_view, class Hash = std::hash<Key>>
 class ShardedCache {
  public:
   using Handle = lru::Handle<Value, Key>;
 
-  // An empty cache, whose seed is random. `capacity` is that of all shards together. Throws
-  // std::bad_alloc, std::invalid_argument if `shards` is 0, and what std::random_device throws.
-  explicit ShardedCache(std::uint64_t capacity, std::size_t shards = 16, Hash hash = Hash())
+  // An empty cache, whose seed is random. `capacity` is that of all shards together. The number of
+  // shards is that of shards_for for charges of 1: 16 from a capacity of 512 on, and less below. It
+  // stays the same if the capacity is set later. Throws std::bad_alloc, and what std::random_device
+  // throws.
+  explicit ShardedCache(std::uint64_t capacity) : ShardedCache(capacity, shards_for(capacity, 1)) {}
+
+  // The same with this number of shards. Throws std::invalid_argument if it is 0.
+  ShardedCache(std::uint64_t capacity, std::size_t shards, Hash hash = Hash())
       : ShardedCache(capacity, Seed::random(), shards, std::move(hash)) {}
 
   // The same with the seed of a test, to which each shard adds its number. The shard of a key does
   // not depend on it.
-  ShardedCache(std::uint64_t capacity, Seed seed, std::size_t shards = 16, Hash hash = Hash())
+  ShardedCache(std::uint64_t capacity, Seed seed)
+      : ShardedCache(capacity, seed, shards_for(capacity, 1)) {}
+  ShardedCache(std::uint64_t capacity, Seed seed, std::size_t shards, Hash hash = Hash())
       : hash_(std::move(hash)) {
     if (shards == 0) throw std::invalid_argument("lru: the number of shards is 0");
     for (std::size_t i = 0; i < shards; i++)

@@ -515,6 +515,24 @@ void shards_have_equal_shares() {
   CHECK(stats.capacity == texts.capacity());
 }
 
+void a_small_cache_has_few_shards() {
+  CHECK(lru::shards_for(0, 1) == 1 && lru::shards_for(63, 1) == 1 && lru::shards_for(64, 1) == 2);
+  CHECK(lru::shards_for(511, 1) == 15 && lru::shards_for(512, 1) == 16);
+  CHECK(lru::shards_for(UINT64_MAX, 0) == 16 && lru::shards_for(UINT64_MAX, UINT64_MAX) == 1);
+  CHECK(lru::shards_for(10000, 4096) == 1 && lru::shards_for(1 << 20, 4096) == 8);
+  // A small cache by default keeps what fits; one of 16 shards, which are smaller than the charge,
+  // keeps nothing.
+  using Sharded = lru::ShardedCache<const int, lru::Words>;
+  const auto kept = [](Sharded&& cache) {
+    for (std::uint64_t n = 0; n < 20; n++) cache.get_or_init(key(n), 3, returns(1));
+    return cache.len();
+  };
+  CHECK(kept(Sharded(30)) == 10 && kept(Sharded(30, lru::Seed(1))) == 10);
+  CHECK(kept(Sharded(30, 1)) == 10 && kept(Sharded(30, 16)) == 0);
+  // 16 shards of 63, and 15 of 34.
+  CHECK(Sharded(1000).capacity() == 1008 && Sharded(500).capacity() == 510);
+}
+
 // Puts ten values into a cache that has room for five, and returns the keys that are left.
 template <class Cache>
 std::set<std::uint64_t> left_in(Cache&& cache) {
@@ -607,10 +625,11 @@ int main() {
   a_cache_deletes_what_is_left_oldest_release_first();
   a_capacity_is_set_at_any_time();
   shards_have_equal_shares();
+  a_small_cache_has_few_shards();
   a_seed_changes_no_answer();
   high_bits_of_a_key_choose_its_shard_too();
   a_handle_that_outlives_its_cache_is_asserted_against();
   values_may_be_move_only_or_neither();
-  std::printf("lru.hpp: 25 tests, %d checks failed\n", failed_checks);
+  std::printf("lru.hpp: 26 tests, %d checks failed\n", failed_checks);
   return failed_checks == 0 ? 0 : 1;
 }

@@ -79,8 +79,11 @@ class Tested {
 using NewCache = Tested (*)(std::size_t);
 
 Tested Own(std::size_t capacity) { return Tested(leveldb::NewLRUCache(capacity), false); }
-Tested Any(std::size_t capacity) { return Tested(lru::NewLevelDBCache(capacity), false); }
-Tested Blocks(std::size_t capacity) { return Tested(lru::NewLevelDBBlockCache(capacity), true); }
+// The charges of these tests are not bytes, so the number of shards is passed.
+Tested Any(std::size_t capacity) { return Tested(lru::NewLevelDBCache(capacity, 16), false); }
+Tested Blocks(std::size_t capacity) {
+  return Tested(lru::NewLevelDBBlockCache(capacity, 16), true);
+}
 
 // Tests that LevelDB's own cache passes too.
 
@@ -231,6 +234,31 @@ void CachesBlocksOnly() {
   cache.Erase("a");
   cache->Release(handle);
   CHECK(cache.Deleted() == "a=1 ");
+}
+
+// The number of blocks, of 30 that were put in, that are found again.
+int Kept(const Tested& cache) {
+  int kept = 0;
+  for (int n = 0; n < 30; n++) cache.Put("block " + std::to_string(n), "x", 4100);
+  for (int n = 0; n < 30; n++) kept += cache.Get("block " + std::to_string(n)) == "x";
+  Tested::Deleted();
+  return kept;
+}
+
+// A small cache has fewer shards, so that each keeps some blocks.
+void KeepsFewBlocks() {
+  const auto blocks = [](auto... words) {
+    return Tested(lru::NewLevelDBBlockCache(words...), true);
+  };
+  CHECK(Kept(blocks(9000)) == 2 && Kept(blocks(9000, 16)) == 0 && Kept(blocks(9000, 1)) == 2);
+  CHECK(Kept(blocks(16 << 10)) == 3 && Kept(blocks(64 << 10)) >= 3);
+  const Tested any(lru::NewLevelDBCache(9000), false);
+  CHECK(Kept(any) == 2);
+  // Numbers of shards that are not possible.
+  CHECK(Kept(blocks(9000, 0)) == 2 && Kept(blocks(9000, 1000)) == 0);
+  using Cache = lru::LevelDBBlockCache;
+  CHECK(Cache::ShardsFor(0) == 1 && Cache::ShardsFor(40 << 10) == 2);
+  CHECK(Cache::ShardsFor((256 << 10) - 1) == 15 && Cache::ShardsFor(SIZE_MAX) == 16);
 }
 
 void Common(NewCache new_cache) {
@@ -417,6 +445,7 @@ int main() {
     Threads(new_cache, kThreads);
   }
   CachesBlocksOnly();
+  KeepsFewBlocks();
   std::printf("leveldb_cache.h: both caches, with 1, 4 and 8 threads: %d checks failed\n",
               failed_checks);
   return failed_checks == 0 ? 0 : 1;

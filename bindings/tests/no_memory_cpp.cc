@@ -15,6 +15,7 @@
 #include <utility>
 
 #include "lru.hpp"
+#include "random_calls.hpp"
 
 namespace {
 
@@ -140,7 +141,7 @@ class Script {
 template <class Keys>
 void run() {
   Script<Keys, lru::Cache<Object, typename Keys::Key>>().run();
-  Script<Keys, lru::ShardedCache<Object, typename Keys::Key>>().run();
+  Script<Keys, SixteenShards<Object, typename Keys::Key>>().run();
   for (std::size_t i = 0; i < made; i++) {
     if (deletions[i] != 1) wrong("an object was not deleted exactly once");
   }

@@ -6,13 +6,12 @@
 #include <cstdlib>
 #include <memory>
 #include <stdexcept>
-#include <string>
-#include <string_view>
 #include <thread>
 #include <utility>
 #include <vector>
 
 #include "lru.hpp"
+#include "random_calls.hpp"
 
 namespace {
 
@@ -58,36 +57,6 @@ class Object {
 };
 
 struct Failed {};
-
-class Random {
- public:
-  explicit Random(std::uint64_t seed) : state_(seed * 0x9e3779b97f4a7c15u + 1) {}
-
-  std::uint64_t below(std::uint64_t end) {
-    state_ ^= state_ << 13;
-    state_ ^= state_ >> 7;
-    state_ ^= state_ << 17;
-    return (state_ >> 11) % end;
-  }
-
- private:
-  std::uint64_t state_;
-};
-
-// Keys of both kinds, by number.
-struct TextKey {
-  using Key = std::string_view;
-  explicit TextKey(std::uint64_t n) : text("key " + std::to_string(n)) {}
-  Key key() const { return text; }
-  std::string text;
-};
-
-struct WordsKey {
-  using Key = lru::Words;
-  explicit WordsKey(std::uint64_t n) : words{n / 7, n} {}
-  Key key() const { return words; }
-  lru::Words words;
-};
 
 // The calls of one thread, which holds up to four handles at a time. Returns how many values were
 // wrong.
@@ -186,9 +155,8 @@ int main() {
     good = stress<TextKey, lru::Cache<Object>>("one lock, bytes", threads) && good;
     good =
         stress<WordsKey, lru::Cache<const Object, lru::Words>>("one lock, words", threads) && good;
-    good = stress<TextKey, lru::ShardedCache<const Object>>("shards, bytes", threads) && good;
-    good =
-        stress<WordsKey, lru::ShardedCache<Object, lru::Words>>("shards, words", threads) && good;
+    good = stress<TextKey, SixteenShards<const Object>>("shards, bytes", threads) && good;
+    good = stress<WordsKey, SixteenShards<Object, lru::Words>>("shards, words", threads) && good;
     runs += 4;
   }
   std::printf("stress: %zu runs of 4 and 8 threads, each object deleted once: %s\n", runs,

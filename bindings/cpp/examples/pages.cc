@@ -43,7 +43,8 @@ std::uint64_t count(Pages& pages, const std::string& path, char wanted) {
 int main(int argc, char** argv) try {
   if (argc != 3) throw std::invalid_argument("usage: pages FILE CAPACITY");
   const std::string path = argv[1];
-  Pages pages(std::strtoull(argv[2], nullptr, 10));
+  const std::uint64_t capacity = std::strtoull(argv[2], nullptr, 10);
+  Pages pages(capacity, lru::shards_for(capacity, kPageSize));
   const auto start = [&](char wanted) {
     return std::async(std::launch::async, [&, wanted] { return count(pages, path, wanted); });
   };

@@ -1,15 +1,18 @@
-//! The two forms of keys, and the functions of the library for each.
+//! The forms of keys, and the functions of the library for each.
+
+use std::borrow::Cow;
 
 use crate::ffi::{Gone, Handle, Stats, Told};
 
-/// The form that a key is written in: [`Bytes`] or [`Words`].
+/// The form that a key is written in: [`Bytes`], [`CowBytes`] or [`Words`].
 ///
-/// This trait is sealed, as the library has functions for these two forms.
+/// This trait is sealed, as the library has functions for bytes and for two words.
 pub trait Form: sealed::Calls {}
 
 impl<F: sealed::Calls> Form for F {}
 
-/// A key as it is written: `&[u8]` for [`Bytes`], `[u64; 2]` for [`Words`].
+/// A key as it is written: `&[u8]` for [`Bytes`], `Cow<[u8]>` for [`CowBytes`], `[u64; 2]` for
+/// [`Words`].
 pub type Written<'a, F> = <F as sealed::Calls>::Written<'a>;
 
 pub(crate) mod sealed {
@@ -18,10 +21,13 @@ pub(crate) mod sealed {
     /// The functions of `lru.h` for one form of keys.
     pub trait Calls: 'static {
         /// A key of this form.
-        type Written<'a>: Copy;
+        type Written<'a>;
 
         /// The functions that take no key.
         const STAMPED: Stamped;
+
+        /// Appends a key to the bytes of a longer one, so that different keys never begin alike.
+        fn append(key: Self::Written<'_>, bytes: &mut Vec<u8>);
 
         /// # Safety
         ///
@@ -155,7 +161,7 @@ macro_rules! stamped {
     }};
 }
 
-/// The form of keys that are written as bytes.
+/// The form of keys that are written as the bytes that they have.
 #[derive(Debug)]
 pub enum Bytes {}
 
@@ -196,6 +202,11 @@ impl sealed::Calls for Bytes {
 
     const STAMPED: sealed::Stamped = stamped!("lru_bytes");
 
+    fn append(key: &[u8], bytes: &mut Vec<u8>) {
+        bytes.extend_from_slice(&(key.len() as u64).to_ne_bytes());
+        bytes.extend_from_slice(key);
+    }
+
     unsafe fn begin(cache: *mut Handle, key: &[u8], charge: u64, gone: *mut Handle) -> Told {
         // SAFETY: the pointer of a slice is not null and points to its bytes, of which there are
         // fewer than 2^63. The caller guarantees the rest.
@@ -234,6 +245,63 @@ impl sealed::Calls for Bytes {
     }
 }
 
+/// The form of keys that are written as bytes, which may have to be put together for each call.
+///
+/// If there is no memory for the bytes, the program ends, as usual.
+#[derive(Debug)]
+pub enum CowBytes {}
+
+impl sealed::Calls for CowBytes {
+    type Written<'a> = Cow<'a, [u8]>;
+
+    const STAMPED: sealed::Stamped = Bytes::STAMPED;
+
+    fn append(key: Cow<'_, [u8]>, bytes: &mut Vec<u8>) {
+        Bytes::append(&key, bytes);
+    }
+
+    unsafe fn begin(
+        cache: *mut Handle,
+        key: Cow<'_, [u8]>,
+        charge: u64,
+        gone: *mut Handle,
+    ) -> Told {
+        // SAFETY: the caller guarantees what the function requires.
+        unsafe { Bytes::begin(cache, &key, charge, gone) }
+    }
+
+    unsafe fn get(cache: *mut Handle, key: Cow<'_, [u8]>) -> Told {
+        // SAFETY: as in `begin`.
+        unsafe { Bytes::get(cache, &key) }
+    }
+
+    unsafe fn contains(cache: *mut Handle, key: Cow<'_, [u8]>) -> u32 {
+        // SAFETY: as in `begin`.
+        unsafe { Bytes::contains(cache, &key) }
+    }
+
+    unsafe fn advice_evict(cache: *mut Handle, key: Cow<'_, [u8]>, gone: *mut Handle) -> u32 {
+        // SAFETY: as in `begin`.
+        unsafe { Bytes::advice_evict(cache, &key, gone) }
+    }
+
+    unsafe fn invalidate(cache: *mut Handle, key: Cow<'_, [u8]>, gone: *mut Handle) -> u32 {
+        // SAFETY: as in `begin`.
+        unsafe { Bytes::invalidate(cache, &key, gone) }
+    }
+
+    unsafe fn insert(
+        cache: *mut Handle,
+        key: Cow<'_, [u8]>,
+        charge: u64,
+        value: u64,
+        gone: *mut Handle,
+    ) -> Told {
+        // SAFETY: as in `begin`.
+        unsafe { Bytes::insert(cache, &key, charge, value, gone) }
+    }
+}
+
 /// The form of keys that are written as two words.
 #[derive(Debug)]
 pub enum Words {}
@@ -269,6 +337,11 @@ impl sealed::Calls for Words {
     type Written<'a> = [u64; 2];
 
     const STAMPED: sealed::Stamped = stamped!("lru_words");
+
+    fn append([first, second]: [u64; 2], bytes: &mut Vec<u8>) {
+        bytes.extend_from_slice(&first.to_ne_bytes());
+        bytes.extend_from_slice(&second.to_ne_bytes());
+    }
 
     unsafe fn begin(
         cache: *mut Handle,

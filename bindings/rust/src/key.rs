@@ -1,11 +1,15 @@
 //! Keys, and how each is written for the library.
 
+use std::borrow::Cow;
 use std::ffi::{OsStr, OsString};
-use std::net::{Ipv4Addr, Ipv6Addr};
+use std::net::{IpAddr, Ipv4Addr, Ipv6Addr};
+use std::path::{Path, PathBuf};
 use std::rc::Rc;
 use std::sync::Arc;
 
-pub use crate::form::{Bytes, Form, Words, Written};
+pub use crate::form::{Bytes, CowBytes, Form, Words, Written};
+
+use crate::form::sealed::Calls;
 
 /// A key that the library can store: it is written as bytes or as two words.
 ///
@@ -14,12 +18,19 @@ pub use crate::form::{Bytes, Form, Words, Written};
 /// from. It is a logic error if they are not: a key may find the value of another key, or none. It
 /// is never undefined behavior.
 ///
-/// Integers, `char`, `bool`, addresses of one IP version and pairs of unsigned integers are written
-/// as words, which are faster to look up. Strings and slices of bytes are written as bytes, which
-/// the cache copies for each entry that it makes. Paths are not keys: equal ones may differ in
-/// their bytes.
+/// These types are keys:
+///
+/// - Integers, `char`, `bool` and addresses of one IP version, and pairs of those that have at most
+///   64 bits. They are written as words, which are faster to look up.
+/// - Strings and slices of bytes. They are written as bytes, which the cache copies for each entry
+///   that it makes.
+/// - Paths, [`IpAddr`], all other pairs of these types, such as `(String, u64)`, and any three or
+///   four keys. Their bytes are put together in each call.
+/// - References to keys, and keys in an [`Arc`] or [`Rc`].
 ///
 /// # Examples
+///
+/// A type of your own takes a few lines:
 ///
 /// ```
 /// use concurrent_lru_proved::key::{Key, Words};
@@ -39,8 +50,39 @@ pub use crate::form::{Bytes, Form, Words, Written};
 ///     }
 /// }
 /// ```
+///
+/// If its parts are keys, they can be written as one key:
+///
+/// ```
+/// use concurrent_lru_proved::key::{CowBytes, Key};
+/// use concurrent_lru_proved::unsharded::LruCache;
+/// use std::borrow::Cow;
+///
+/// /// A statement, as it is planned for a user.
+/// #[derive(PartialEq, Eq)]
+/// struct Statement {
+///     text: String,
+///     user: u32,
+/// }
+///
+/// impl Key for Statement {
+///     type Form = CowBytes;
+///
+///     fn written(&self) -> Cow<'_, [u8]> {
+///         Cow::Owned((self.text.as_str(), self.user).written().into_owned())
+///     }
+/// }
+///
+/// # fn main() -> Result<(), concurrent_lru_proved::Refusal> {
+/// let plans = LruCache::<Statement, &str>::new(10)?;
+/// let statement = Statement { text: "SELECT 1".to_string(), user: 7 };
+/// plans.insert(&statement, 1, "a plan")?;
+/// assert!(plans.contains(&statement)?);
+/// # Ok(())
+/// # }
+/// ```
 pub trait Key {
-    /// [`Bytes`] or [`Words`].
+    /// [`Bytes`], [`CowBytes`] or [`Words`].
     type Form: Form;
 
     /// Returns the bytes or the words of this key.
@@ -103,6 +145,48 @@ impl<const N: usize> Key for [u8; N] {
     }
 }
 
+/// A key of at most 64 bits.
+trait Word: Copy {
+    /// Different keys of one type have different words.
+    fn word(self) -> u64;
+}
+
+macro_rules! written_as_a_word {
+    ($($key:ty: $word:expr;)*) => {$(
+        impl Word for $key {
+            fn word(self) -> u64 {
+                let word: fn($key) -> u64 = $word;
+                word(self)
+            }
+        }
+
+        impl Key for $key {
+            type Form = Words;
+
+            fn written(&self) -> [u64; 2] {
+                [0, self.word()]
+            }
+        }
+    )*};
+}
+
+// Signed integers are extended to 64 bits, so different numbers stay different.
+written_as_a_word! {
+    bool: u64::from;
+    char: u64::from;
+    u8: u64::from;
+    u16: u64::from;
+    u32: u64::from;
+    u64: |key| key;
+    usize: |key| key as u64;
+    i8: |key| key as u64;
+    i16: |key| key as u64;
+    i32: |key| key as u64;
+    i64: |key| key as u64;
+    isize: |key| key as u64;
+    Ipv4Addr: |key| u32::from(key).into();
+}
+
 macro_rules! written_as_words {
     ($($key:ty: $words:expr;)*) => {$(
         impl Key for $key {
@@ -116,28 +200,111 @@ macro_rules! written_as_words {
     )*};
 }
 
-// Signed integers are extended to 64 bits first, so different numbers stay different.
 written_as_words! {
-    bool: |key| [0, u64::from(key)];
-    char: |key| [0, u64::from(u32::from(key))];
-    u8: |key| [0, u64::from(key)];
-    u16: |key| [0, u64::from(key)];
-    u32: |key| [0, u64::from(key)];
-    u64: |key| [0, key];
-    usize: |key| [0, key as u64];
     u128: |key| [(key >> 64) as u64, key as u64];
-    i8: |key| [0, key as u64];
-    i16: |key| [0, key as u64];
-    i32: |key| [0, key as u64];
-    i64: |key| [0, key as u64];
-    isize: |key| [0, key as u64];
     i128: |key| (key as u128).written();
-    Ipv4Addr: |key| u32::from(key).written();
     Ipv6Addr: |key| u128::from(key).written();
-    (u32, u32): |key| [u64::from(key.0), u64::from(key.1)];
-    (u32, u64): |key| [u64::from(key.0), key.1];
-    (u64, u32): |key| [key.0, u64::from(key.1)];
-    (u64, u64): |key| [key.0, key.1];
-    (usize, usize): |key| [key.0 as u64, key.1 as u64];
     [u64; 2]: |key| key;
+}
+
+impl<A: Word, B: Word> Key for (A, B) {
+    type Form = Words;
+
+    fn written(&self) -> [u64; 2] {
+        [self.0.word(), self.1.word()]
+    }
+}
+
+/// Equal paths may differ in their bytes, such as `a/b` and `a//b/`, but not in their components.
+impl Key for Path {
+    type Form = CowBytes;
+
+    fn written(&self) -> Cow<'_, [u8]> {
+        // A root has one slash more, as it is a slash itself.
+        let mut bytes = Vec::with_capacity(self.as_os_str().len() + 2);
+        for component in self.components() {
+            bytes.extend_from_slice(component.as_os_str().as_encoded_bytes());
+            bytes.push(b'/');
+        }
+        bytes.into()
+    }
+}
+
+impl Key for PathBuf {
+    type Form = CowBytes;
+
+    fn written(&self) -> Cow<'_, [u8]> {
+        self.as_path().written()
+    }
+}
+
+impl Key for IpAddr {
+    type Form = CowBytes;
+
+    fn written(&self) -> Cow<'_, [u8]> {
+        match self {
+            IpAddr::V4(address) => address.octets().to_vec().into(),
+            IpAddr::V6(address) => address.octets().to_vec().into(),
+        }
+    }
+}
+
+/// Implements `written` for a tuple with these fields.
+macro_rules! written_one_after_another {
+    ($($field:tt)*) => {
+        type Form = CowBytes;
+
+        fn written(&self) -> Cow<'_, [u8]> {
+            let mut bytes = Vec::new();
+            $(append(&self.$field, &mut bytes);)*
+            bytes.into()
+        }
+    };
+}
+
+fn append<K: Key>(key: &K, bytes: &mut Vec<u8>) {
+    K::Form::append(key.written(), bytes);
+}
+
+/// Pairs with one of these types, each after its generic parameters. They are those that are keys
+/// and have no `Word`: a pair of words has an implementation already.
+macro_rules! pairs_with {
+    ($([$($parameter:tt)*] $long:ty;)*) => {$(
+        impl<$($parameter)* B: Key> Key for ($long, B) {
+            written_one_after_another!(0 1);
+        }
+
+        impl<$($parameter)* A: Key + Word> Key for (A, $long) {
+            written_one_after_another!(0 1);
+        }
+    )*};
+}
+
+pairs_with! {
+    [] Vec<u8>;
+    [] Box<[u8]>;
+    [] &[u8];
+    [] String;
+    [] Box<str>;
+    [] &str;
+    [] OsString;
+    [] &OsStr;
+    [] PathBuf;
+    [] &Path;
+    [] u128;
+    [] i128;
+    [] IpAddr;
+    [] Ipv6Addr;
+    [] [u64; 2];
+    [const N: usize,] [u8; N];
+    [K: Key + ?Sized,] Arc<K>;
+    [K: Key + ?Sized,] Rc<K>;
+}
+
+impl<A: Key, B: Key, C: Key> Key for (A, B, C) {
+    written_one_after_another!(0 1 2);
+}
+
+impl<A: Key, B: Key, C: Key, D: Key> Key for (A, B, C, D) {
+    written_one_after_another!(0 1 2 3);
 }

@@ -12,9 +12,9 @@
 //!
 //! It differs from that crate in these points: a key must be one that can be written as bytes or as
 //! two words ([`key::Key`]), and is passed by reference, so its type has to be named, as in
-//! `LruCache::<String, _>::new(10)`; calls return a [`Refusal`] if the cache
-//! cannot serve them; the capacity can be read and set; there are `insert` and `invalidate`; and
-//! `stats` counts hits and misses.
+//! `LruCache::<String, _>::new(10)`; calls return a [`Refusal`] if the cache cannot serve them; a
+//! charge must be above 0; a sharded cache with a small capacity has few shards; the capacity can
+//! be read and set; there are `insert` and `invalidate`; and `stats` counts hits and misses.
 //!
 //! # Examples
 //!

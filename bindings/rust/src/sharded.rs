@@ -14,15 +14,34 @@ use crate::proved::random_seed;
 use crate::stats::Stats;
 use crate::unsharded;
 
-/// The number of shards that [`LruCache::new`] makes.
-const SHARDS: NonZeroUsize = NonZeroUsize::new(16).unwrap();
+/// Returns a good number of shards for a cache with this capacity whose values have about this
+/// charge: the most, from 1 to 16, that leave each shard room for 32 values.
+///
+/// A charge of 0 counts as 1.
+///
+/// # Examples
+///
+/// ```
+/// use concurrent_lru_proved::sharded::shards_for;
+///
+/// assert_eq!(shards_for(1000, 1).get(), 16);
+/// assert_eq!(shards_for(1 << 20, 4096).get(), 8);
+/// assert_eq!(shards_for(10_000, 4096).get(), 1);
+/// ```
+pub fn shards_for(capacity: u64, charge: u64) -> NonZeroUsize {
+    let values = capacity / charge.max(1);
+    let shards = (values / 32).clamp(1, 16);
+    // It fits, and is not 0.
+    NonZeroUsize::new(shards as usize).unwrap_or(NonZeroUsize::MIN)
+}
 
 /// A cache of heavy values that threads share, in several shards.
 ///
 /// Each shard is an [`unsharded::LruCache`] with its own lock and an equal share of the capacity,
 /// rounded up. The hasher chooses the shard of a key. Threads contend less, but a value is evicted
-/// when its own shard is full. A shard whose share is smaller than a charge does not keep such a
-/// value once it is idle: with 16 shards, take a capacity of well over 16 charges, or fewer shards.
+/// when its own shard is full. A shard whose share is smaller than a value's charge does not keep
+/// that value once it is idle. So if charges are larger than 1, choose the number of shards by
+/// [`shards_for`] and [`LruCache::with_shards`].
 ///
 /// # Examples
 ///
@@ -42,13 +61,41 @@ pub struct LruCache<K: Key + ?Sized, V, S = RandomState> {
 }
 
 impl<K: Key + ?Sized, V> LruCache<K, V> {
-    /// Creates an empty cache of 16 shards.
+    /// Creates an empty cache with the number of shards that [`shards_for`] returns for charges of
+    /// 1: 16 from a capacity of 512 on, and less below. It stays the same if the capacity is set
+    /// later.
+    ///
+    /// The type of the keys must be named, as in [`unsharded::LruCache::new`].
     ///
     /// # Errors
     ///
     /// [`Refusal::Memory`] if there is no memory for the cache.
     pub fn new(capacity: u64) -> Result<Self, Refusal> {
-        LruCache::with_shards_hasher(capacity, SHARDS, RandomState::new())
+        LruCache::with_shards(capacity, shards_for(capacity, 1))
+    }
+
+    /// Creates an empty cache with the given number of shards.
+    ///
+    /// # Errors
+    ///
+    /// [`Refusal::Memory`] if there is no memory for the cache.
+    ///
+    /// # Examples
+    ///
+    /// ```
+    /// use concurrent_lru_proved::sharded::{LruCache, shards_for};
+    ///
+    /// # fn main() -> Result<(), concurrent_lru_proved::Refusal> {
+    /// const PAGE: u64 = 4096;
+    /// let capacity = 100_000; // bytes
+    /// let pages = LruCache::<u64, Vec<u8>>::with_shards(capacity, shards_for(capacity, PAGE))?;
+    /// pages.insert(&7, PAGE, vec![0; 4096])?;
+    /// assert!(pages.contains(&7)?);
+    /// # Ok(())
+    /// # }
+    /// ```
+    pub fn with_shards(capacity: u64, shards: NonZeroUsize) -> Result<Self, Refusal> {
+        LruCache::with_shards_hasher(capacity, shards, RandomState::new())
     }
 }
 

@@ -81,6 +81,9 @@ impl<K: Key + ?Sized, V> LruCache<K, V> {
     /// Creates an empty cache. It evicts idle values while the total of all charges is above
     /// `capacity`. Keys are hashed with a random seed.
     ///
+    /// The type of the keys must be named, as in `LruCache::<String, _>::new(10)`: calls take any
+    /// type that it can be borrowed as, so it cannot be inferred from them.
+    ///
     /// # Errors
     ///
     /// [`Refusal::Memory`] if there is no memory for the cache.
@@ -173,8 +176,9 @@ impl<K: Key + ?Sized, V> LruCache<K, V> {
     /// Only one caller at a time makes a key's value; the others wait for it. If `init` panics and
     /// others are waiting, one of them makes the value, with its own `init`.
     ///
-    /// `charge` is what the value counts for against the capacity, in units of the caller's choice.
-    /// If the value exists already or is being made, its charge does not change.
+    /// `charge` is what the value counts for against the capacity, in units of the caller's choice;
+    /// it must be above 0, even if the key has a value. If the value exists already or is being
+    /// made, its charge does not change.
     ///
     /// # Errors
     ///

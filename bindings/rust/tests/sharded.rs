@@ -2,10 +2,11 @@
 
 use std::hash::{BuildHasher, BuildHasherDefault, DefaultHasher, Hasher};
 use std::num::NonZeroUsize;
+use std::path::PathBuf;
 use std::sync::atomic::{AtomicU64, Ordering};
 use std::thread;
 
-use concurrent_lru_proved::sharded::LruCache;
+use concurrent_lru_proved::sharded::{LruCache, shards_for};
 use concurrent_lru_proved::{GetError, Refusal};
 
 /// The hash of a `u64` is the number itself.
@@ -42,6 +43,51 @@ fn each_shard_has_its_share_rounded_up() -> Result<(), Refusal> {
     assert_eq!(by_itself(u64::MAX, 1)?.capacity(), u128::from(u64::MAX));
     assert_eq!(by_itself(u64::MAX, 2)?.capacity(), 1 << 64);
     assert_eq!(LruCache::<u64, u64>::new(1000)?.capacity(), 16 * 63);
+    Ok(())
+}
+
+#[test]
+fn a_small_cache_has_few_shards() -> Result<(), Refusal> {
+    let numbers = [
+        (0, 1, 1),
+        (63, 1, 1),
+        (64, 1, 2),
+        (511, 1, 15),
+        (512, 1, 16),
+        (u64::MAX, 0, 16),
+        (u64::MAX, u64::MAX, 1),
+        (10_000, 4096, 1),
+        (1 << 20, 4096, 8),
+    ];
+    for (capacity, charge, shards) in numbers {
+        assert_eq!(shards_for(capacity, charge).get(), shards);
+    }
+    let kept = |cache: LruCache<u64, u64>| {
+        for key in 0..20 {
+            cache.insert(&key, 3, key)?;
+        }
+        Ok::<u64, Refusal>(cache.len())
+    };
+    // 16 shards of 2 keep nothing.
+    let sixteen = NonZeroUsize::new(16).unwrap();
+    assert_eq!(kept(LruCache::new(30)?)?, 10);
+    assert_eq!(kept(LruCache::with_shards(30, sixteen)?)?, 0);
+    assert_eq!(kept(LruCache::with_shards(30, NonZeroUsize::MIN)?)?, 10);
+    // 15 shards of 34.
+    assert_eq!(LruCache::<u64, u64>::new(500)?.capacity(), 510);
+    Ok(())
+}
+
+#[test]
+fn keys_of_several_parts_choose_shards() -> Result<(), Refusal> {
+    let cache = LruCache::<(PathBuf, u64), u64>::new(1000)?;
+    for page in 0..100 {
+        cache.insert(&("a//b".into(), page), 1, page)?;
+    }
+    for page in 0..100 {
+        assert_eq!(cache.get(&("a/b/".into(), page))?.as_deref(), Some(&page));
+    }
+    assert_eq!(cache.len(), 100);
     Ok(())
 }
 
@@ -157,7 +203,7 @@ fn stress() -> Result<(), Refusal> {
     const CAPACITY: u64 = 128;
     let made = AtomicU64::new(0);
     let dropped = AtomicU64::new(0);
-    let cache = LruCache::<u64, _>::new(CAPACITY)?;
+    let cache = LruCache::<u64, _>::with_shards(CAPACITY, NonZeroUsize::new(16).unwrap())?;
     thread::scope(|scope| {
         for seed in 1..=8u64 {
             let (cache, made, dropped) = (&cache, &made, &dropped);

@@ -1,13 +1,15 @@
 //! Tests the cache behind one lock.
 
 use std::io;
-use std::net::{Ipv4Addr, Ipv6Addr};
+use std::net::{IpAddr, Ipv4Addr, Ipv6Addr};
 use std::panic::{self, AssertUnwindSafe};
+use std::path::{Path, PathBuf};
 use std::sync::atomic::{AtomicU64, Ordering};
 use std::sync::{Arc, Barrier, Mutex};
 use std::thread;
 use std::time::{Duration, Instant};
 
+use concurrent_lru_proved::key::Key;
 use concurrent_lru_proved::unsharded::LruCache;
 use concurrent_lru_proved::{GetError, Refusal};
 
@@ -651,6 +653,73 @@ fn keys_of_every_form() -> Result<(), Refusal> {
     serves::<Arc<u64>, u64>(&1, &2);
     serves::<Ipv4Addr, Ipv4Addr>(&Ipv4Addr::LOCALHOST, &Ipv4Addr::BROADCAST);
     serves::<Ipv6Addr, Ipv6Addr>(&Ipv6Addr::LOCALHOST, &Ipv6Addr::from(1 << 64));
+    serves::<(i8, u16), (i8, u16)>(&(-1, 0), &(0, u16::MAX));
+    serves::<(char, Ipv4Addr), _>(&('a', Ipv4Addr::LOCALHOST), &('a', Ipv4Addr::BROADCAST));
+    serves::<PathBuf, Path>("a/b".as_ref(), "/a/b".as_ref());
+    serves::<PathBuf, Path>("".as_ref(), ".".as_ref());
+    serves::<Arc<Path>, Path>("/".as_ref(), "..".as_ref());
+    serves::<&Path, Path>("ab".as_ref(), "a/b".as_ref());
+    let mapped = |address: Ipv4Addr| IpAddr::V6(address.to_ipv6_mapped());
+    serves::<IpAddr, _>(&Ipv4Addr::LOCALHOST.into(), &mapped(Ipv4Addr::LOCALHOST));
+    serves::<IpAddr, _>(&Ipv6Addr::LOCALHOST.into(), &Ipv6Addr::UNSPECIFIED.into());
+    Ok(())
+}
+
+/// Keys of several parts differ if one of their parts does, and if the parts meet elsewhere.
+#[test]
+fn keys_of_several_parts() -> Result<(), Refusal> {
+    fn all_differ<K: Key>(keys: &[K]) -> Result<(), Refusal> {
+        let cache = LruCache::<K, usize>::new(100)?;
+        for (number, key) in keys.iter().enumerate() {
+            assert!(!cache.contains(key)?);
+            cache.insert(key, 1, number)?;
+        }
+        for (number, key) in keys.iter().enumerate() {
+            assert_eq!(cache.get(key)?.as_deref(), Some(&number));
+        }
+        Ok(())
+    }
+
+    let texts = || ["", "a", "ab", "b", "a\0", "\0"];
+    let pairs = || {
+        texts()
+            .into_iter()
+            .flat_map(|one| texts().map(|other| (one, other)))
+    };
+    all_differ(&pairs().collect::<Vec<(&str, &str)>>())?;
+    let owned = pairs().map(|(one, other)| (one.to_string(), Arc::<str>::from(other)));
+    all_differ(&owned.collect::<Vec<_>>())?;
+    let threes = pairs().map(|(one, other)| (one, 0_u8, other.as_bytes()));
+    all_differ(&threes.collect::<Vec<_>>())?;
+    all_differ(&[(1_u64, "a"), (1, "b"), (2, "a")])?;
+    all_differ(&[("a", 1_u64), ("b", 1), ("a", 2)])?;
+    all_differ(&[
+        (PathBuf::from("a"), 1_i32),
+        ("a/a".into(), 1),
+        ("a".into(), -1),
+    ])?;
+    all_differ(&[
+        (IpAddr::V4(Ipv4Addr::LOCALHOST), 80_u16),
+        (Ipv6Addr::LOCALHOST.into(), 80),
+    ])?;
+    all_differ(&[(1_u8, 2_u8, 3_u8), (1, 3, 2), (2, 1, 3), (3, 2, 1)])?;
+    all_differ(&[
+        (1_u8, 2_u8, "", 3_u128),
+        (1, 2, "\0", 3),
+        (1, 2, "", 1 << 64),
+    ])?;
+    all_differ(&[(1_u8, [0_u8; 4]), (0, [1, 0, 0, 0])])?;
+    all_differ(&[((1_u8, "a"), "b", 2_u8), ((1, "ab"), "", 2)])
+}
+
+#[test]
+fn equal_paths_find_the_same_value() -> Result<(), Refusal> {
+    let cache = LruCache::<PathBuf, u32>::new(10)?;
+    cache.insert(Path::new("/a/./b//c"), 1, 7)?;
+    for path in ["/a/b/c", "//a/b/c/", "/a/b/c/."] {
+        assert_eq!(cache.get(Path::new(path))?.as_deref(), Some(&7));
+    }
+    assert!(!cache.contains(Path::new("/a/b/../b/c"))?);
     Ok(())
 }
 
