@@ -302,3 +302,9 @@ if [ -z "${PROGRAMS:-}" ]; then
     ends 2 $'1048576 lines read\r2097152 lines read\r'"$keys"$'\r\n' "" \
         "script -qec 'lru_size --sample 1000000 < many > table' /dev/null"
 fi
+
+# The longer trace takes long where the program was not proved.
+[ -n "${PROGRAMS:-}" ] && return
+ends 0 "45391 uses of 7066 keys
+greatest hit ratio 84.43% from capacity 13960490 on
+" "" "lru_size $crate/data/rocksdb | sed -n '1p; 13p'"
