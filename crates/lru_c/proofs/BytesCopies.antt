@@ -1,8 +1,9 @@
 -- Copies of keys are equal.
-use Rattle.std.proofs.Common.{◌≡◌, ℕ, true, Vec, nat_eq}
+use Rattle.std.proofs.Common.{◌≡◌, ℕ, true}
 use Rattle.core.specs.List.{AllZip, each_same}
-use Rattle.std.specs.Global.{Global}
-use lib.Pointwise.{pointwise, bytes_decides}
+use Rattle.lru_c.specs.BytesCalls.{bytes_eq}
+use Rattle.lru_c.specs.declared.bytes.key.Bytes.{Bytes}
+use lib.Pointwise.{bytes_decides}
 
-pub copies : (x y : Vec ℕ Global) → AllZip (λ (a b : ℕ). b ≡ a) x.items y.items → pointwise nat_eq y.items x.items ≡ true
-copies x y same = (bytes_decides y.items x.items).1 (each_same x.items y.items same)
+pub copies : (x y : Bytes) → AllZip (λ (a b : ℕ). b ≡ a) x.bytes.items y.bytes.items → bytes_eq y x ≡ true
+copies x y same = (bytes_decides y.bytes.items x.bytes.items).1 (each_same x.bytes.items y.bytes.items same)

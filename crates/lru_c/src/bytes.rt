@@ -13,9 +13,11 @@ ghost use Rattle.lru_c.specs.BytesCalls.{bytes_eq, AsksByKey, Begins, Contains, 
 
 pub mod cache;
 pub mod handles;
+pub mod key;
 
 use crate::bytes::cache::copy_key;
 use crate::bytes::handles::{LruBytes, LruBytesEvicted};
+use crate::bytes::key::Bytes;
 use crate::cache::make;
 use crate::chain::Chain;
 use crate::chain_calls::{empty_chain, free_into_chain, into_chain};
@@ -38,7 +40,7 @@ pub extern "C" fn lru_bytes_new(alloc: Global, capacity: u64, seed: u64, out: &m
     if out.is_open == 1 {
         return code::OPEN;
     }
-    match make(alloc, capacity, 0, u32::MAX, seed, Vec::new(alloc)) {
+    match make(alloc, capacity, 0, u32::MAX, seed, Bytes::new(alloc)) {
         Ok(cache) => {
             *out = cache;
             code::DONE
@@ -79,7 +81,7 @@ pub extern "C" fn lru_bytes_new_with_limits(
         first_stamp,
         most_pins,
         seed,
-        Vec::new(alloc),
+        Bytes::new(alloc),
     ) {
         Ok(cache) => {
             *out = cache;
@@ -133,7 +135,8 @@ pub extern "C" fn lru_bytes_begin_nonnull(
 
 /// Asks again for a value that was being made. Returns `MAKE` if its maker has failed.
 ///
-/// Returns `STALE` if no held entry has the stamp.
+/// Returns `STALE` if no held entry has the stamp, `MEMORY` if a copy of the value is refused, and
+/// `CLOSED` if the cache is not open; nothing changes then.
 #[unsafe(no_mangle)]
 pub extern "C" fn lru_bytes_poll(cache: &mut LruBytes, stamp: u64) -> LruTold
     ensures { Asks bytes_eq cache.old.cache.held (ask.poll stamp) result [] cache.new.cache.held }
@@ -144,8 +147,10 @@ pub extern "C" fn lru_bytes_poll(cache: &mut LruBytes, stamp: u64) -> LruTold
     }
 }
 
-/// Stores the value of an entry that is being made. Returns `STALE` if no entry is being made under
-/// the stamp, and `MEMORY` if the allocator refuses; the entry is then still being made.
+/// Stores the value of an entry that is being made.
+///
+/// Returns `STALE` if no entry is being made under the stamp, `MEMORY` if the allocator refuses, and
+/// `CLOSED` if the cache is not open. Nothing changes then, and the value is not taken.
 #[unsafe(no_mangle)]
 pub extern "C" fn lru_bytes_ready(cache: &mut LruBytes, stamp: u64, value: u64) -> u32
     ensures { AsksWithMemory bytes_eq cache.old.cache.held (ask.ready stamp value)
@@ -159,7 +164,8 @@ pub extern "C" fn lru_bytes_ready(cache: &mut LruBytes, stamp: u64, value: u64) 
 
 /// Gives up a making and releases its pin. Returns `LEFT` if others wait, otherwise `REMOVED`.
 ///
-/// Returns `STALE` if no entry is being made under the stamp.
+/// Returns `STALE` if no entry is being made under the stamp, and `CLOSED` if the cache is not open;
+/// nothing changes then.
 #[unsafe(no_mangle)]
 pub extern "C" fn lru_bytes_fail(cache: &mut LruBytes, stamp: u64) -> u32
     ensures { Asks bytes_eq cache.old.cache.held (ask.fail stamp)
@@ -185,6 +191,8 @@ pub extern "C" fn lru_bytes_get_nonnull(cache: &mut LruBytes, key: &[u8]) -> Lru
 }
 
 /// Returns `DONE` if a key has a ready value, otherwise `MISSED`. Pins nothing and moves nothing.
+///
+/// Returns `MEMORY` if a copy of the key is refused, and `CLOSED` if the cache is not open.
 #[unsafe(no_mangle)]
 pub extern "C" fn lru_bytes_contains_nonnull(cache: &mut LruBytes, key: &[u8]) -> u32
     ensures { Contains cache.old.cache.held key.now result cache.new.cache.held }
@@ -198,7 +206,8 @@ pub extern "C" fn lru_bytes_contains_nonnull(cache: &mut LruBytes, key: &[u8]) -
 /// Releases a pin of a ready entry. With its last pin the entry becomes the newest idle one, or is
 /// evicted if it is detached. What is evicted is put into a chain, oldest first.
 ///
-/// Returns `STALE` if no held and ready entry has the stamp.
+/// Returns `STALE` if no held and ready entry has the stamp, `CLOSED` if the cache or chain is not
+/// open, and `NOT_EMPTY` if the chain has entries; nothing changes then.
 #[unsafe(no_mangle)]
 pub extern "C" fn lru_bytes_release(
     cache: &mut LruBytes,
@@ -220,6 +229,9 @@ pub extern "C" fn lru_bytes_release(
 }
 
 /// Evicts the entry of a key into a chain if it is idle. Otherwise nothing happens, now or later.
+///
+/// Returns `MEMORY` if a copy of the key is refused, `CLOSED` if the cache or chain is not open, and
+/// `NOT_EMPTY` if the chain has entries; nothing changes then.
 #[unsafe(no_mangle)]
 pub extern "C" fn lru_bytes_advice_evict_nonnull(
     cache: &mut LruBytes,
@@ -247,6 +259,9 @@ pub extern "C" fn lru_bytes_advice_evict_nonnull(
 /// Detaches the entry of a key, so that no call finds it by the key. An idle entry is evicted into
 /// a chain; a held one is still found by its stamp, and is evicted with its last pin. If the key
 /// has no entry, nothing happens.
+///
+/// Returns `MEMORY` if a copy of the key is refused, `CLOSED` if the cache or chain is not open, and
+/// `NOT_EMPTY` if the chain has entries; nothing changes then.
 #[unsafe(no_mangle)]
 pub extern "C" fn lru_bytes_invalidate_nonnull(
     cache: &mut LruBytes,
@@ -305,6 +320,9 @@ pub extern "C" fn lru_bytes_insert_nonnull(
 }
 
 /// Evicts every idle entry into a chain, oldest first.
+///
+/// Returns `CLOSED` if the cache or chain is not open, and `NOT_EMPTY` if the chain has entries;
+/// nothing changes then.
 #[unsafe(no_mangle)]
 pub extern "C" fn lru_bytes_prune(cache: &mut LruBytes, gone: &mut LruBytesEvicted) -> u32
     ensures { Into gone.old gone.new result cache.old cache.new
@@ -322,6 +340,9 @@ pub extern "C" fn lru_bytes_prune(cache: &mut LruBytes, gone: &mut LruBytesEvict
 }
 
 /// Sets the capacity, and evicts idle entries into a chain while the total is above it.
+///
+/// Returns `CLOSED` if the cache or chain is not open, and `NOT_EMPTY` if the chain has entries;
+/// nothing changes then.
 #[unsafe(no_mangle)]
 pub extern "C" fn lru_bytes_set_capacity(
     cache: &mut LruBytes,
@@ -342,7 +363,10 @@ pub extern "C" fn lru_bytes_set_capacity(
     )
 }
 
-/// Reserves room for a total of `entries` entries. No entry changes, even if it returns `MEMORY`.
+/// Reserves room for a total of `entries` entries.
+///
+/// Returns `MEMORY` if the allocator refuses, and `CLOSED` if the cache is not open. No entry
+/// changes in any case.
 #[unsafe(no_mangle)]
 pub extern "C" fn lru_bytes_reserve(cache: &mut LruBytes, entries: usize) -> u32
     ensures { Reserves cache.old.cache.held result cache.new.cache.held }
@@ -353,7 +377,7 @@ pub extern "C" fn lru_bytes_reserve(cache: &mut LruBytes, entries: usize) -> u32
     }
 }
 
-/// Returns the sum of the charges of all entries.
+/// Returns the sum of the charges of all entries, or `CLOSED` if the cache is not open.
 #[unsafe(no_mangle)]
 pub extern "C" fn lru_bytes_total(cache: &mut LruBytes) -> LruTold
     ensures { Numbers cache.old.cache.held sum_of result cache.new.cache.held }
@@ -364,7 +388,7 @@ pub extern "C" fn lru_bytes_total(cache: &mut LruBytes) -> LruTold
     }
 }
 
-/// Returns the sum of the charges of the held entries.
+/// Returns the sum of the charges of the held entries, or `CLOSED` if the cache is not open.
 #[unsafe(no_mangle)]
 pub extern "C" fn lru_bytes_pinned_charge(cache: &mut LruBytes) -> LruTold
     ensures { Numbers cache.old.cache.held pinned_of result cache.new.cache.held }
@@ -375,7 +399,7 @@ pub extern "C" fn lru_bytes_pinned_charge(cache: &mut LruBytes) -> LruTold
     }
 }
 
-/// Returns the capacity.
+/// Returns the capacity, or `CLOSED` if the cache is not open.
 #[unsafe(no_mangle)]
 pub extern "C" fn lru_bytes_capacity(cache: &mut LruBytes) -> LruTold
     ensures { Numbers cache.old.cache.held (λ c. c.capacity) result cache.new.cache.held }
@@ -386,7 +410,7 @@ pub extern "C" fn lru_bytes_capacity(cache: &mut LruBytes) -> LruTold
     }
 }
 
-/// Returns the number of entries, held and idle.
+/// Returns the number of entries, held and idle, or `CLOSED` if the cache is not open.
 #[unsafe(no_mangle)]
 pub extern "C" fn lru_bytes_len(cache: &mut LruBytes) -> LruTold
     ensures { Numbers cache.old.cache.held count_of result cache.new.cache.held }
@@ -414,8 +438,8 @@ pub extern "C" fn lru_bytes_stats(cache: &mut LruBytes, out: &mut LruStats) -> u
 
 /// Copies the key of an entry, held or idle, to the start of a buffer: `NUMBER` with its length.
 ///
-/// Returns `NO_ROOM` with its length if the buffer is too small, and `STALE` if no entry has the
-/// stamp. Nothing is written then.
+/// Returns `NO_ROOM` with its length if the buffer is too small, `STALE` if no entry has the stamp,
+/// and `CLOSED` if the cache is not open. Nothing is written then.
 #[unsafe(no_mangle)]
 pub extern "C" fn lru_bytes_key_of_nonnull(
     cache: &mut LruBytes,
@@ -452,7 +476,8 @@ pub extern "C" fn lru_bytes_evicted_new(alloc: Global, out: &mut LruBytesEvicted
 
 /// Frees an empty chain and closes its handle.
 ///
-/// Returns `NOT_EMPTY` if the chain has entries; nothing changes then.
+/// Returns `NOT_EMPTY` if the chain has entries, and `CLOSED` if it is not open; nothing changes
+/// then.
 #[unsafe(no_mangle)]
 pub extern "C" fn lru_bytes_evicted_free(chain: &mut LruBytesEvicted) -> u32
     ensures code { result ≡ chain_code (entries_of chain.old.chain.held) }

@@ -119,7 +119,8 @@ pub extern "C" fn lru_words_begin(
 
 /// Asks again for a value that was being made. Returns `MAKE` if its maker has failed.
 ///
-/// Returns `STALE` if no held entry has the stamp.
+/// Returns `STALE` if no held entry has the stamp, `MEMORY` if a copy of the value is refused, and
+/// `CLOSED` if the cache is not open; nothing changes then.
 #[unsafe(no_mangle)]
 pub extern "C" fn lru_words_poll(cache: &mut LruWords, stamp: u64) -> LruTold
     ensures { Asks words_eq cache.old.cache.held (ask.poll stamp) result [] cache.new.cache.held }
@@ -130,8 +131,10 @@ pub extern "C" fn lru_words_poll(cache: &mut LruWords, stamp: u64) -> LruTold
     }
 }
 
-/// Stores the value of an entry that is being made. Returns `STALE` if no entry is being made under
-/// the stamp, and `MEMORY` if the allocator refuses; the entry is then still being made.
+/// Stores the value of an entry that is being made.
+///
+/// Returns `STALE` if no entry is being made under the stamp, `MEMORY` if the allocator refuses, and
+/// `CLOSED` if the cache is not open. Nothing changes then, and the value is not taken.
 #[unsafe(no_mangle)]
 pub extern "C" fn lru_words_ready(cache: &mut LruWords, stamp: u64, value: u64) -> u32
     ensures { AsksWithMemory words_eq cache.old.cache.held (ask.ready stamp value)
@@ -145,7 +148,8 @@ pub extern "C" fn lru_words_ready(cache: &mut LruWords, stamp: u64, value: u64) 
 
 /// Gives up a making and releases its pin. Returns `LEFT` if others wait, otherwise `REMOVED`.
 ///
-/// Returns `STALE` if no entry is being made under the stamp.
+/// Returns `STALE` if no entry is being made under the stamp, and `CLOSED` if the cache is not open;
+/// nothing changes then.
 #[unsafe(no_mangle)]
 pub extern "C" fn lru_words_fail(cache: &mut LruWords, stamp: u64) -> u32
     ensures { Asks words_eq cache.old.cache.held (ask.fail stamp)
@@ -172,6 +176,8 @@ pub extern "C" fn lru_words_get(cache: &mut LruWords, first: u64, second: u64) -
 }
 
 /// Returns `DONE` if a key has a ready value, otherwise `MISSED`. Pins nothing and moves nothing.
+///
+/// Returns `CLOSED` if the cache is not open.
 #[unsafe(no_mangle)]
 pub extern "C" fn lru_words_contains(cache: &mut LruWords, first: u64, second: u64) -> u32
     ensures { Contains cache.old.cache.held (words first second) result cache.new.cache.held }
@@ -185,7 +191,8 @@ pub extern "C" fn lru_words_contains(cache: &mut LruWords, first: u64, second: u
 /// Releases a pin of a ready entry. With its last pin the entry becomes the newest idle one, or is
 /// evicted if it is detached. What is evicted is put into a chain, oldest first.
 ///
-/// Returns `STALE` if no held and ready entry has the stamp.
+/// Returns `STALE` if no held and ready entry has the stamp, `CLOSED` if the cache or chain is not
+/// open, and `NOT_EMPTY` if the chain has entries; nothing changes then.
 #[unsafe(no_mangle)]
 pub extern "C" fn lru_words_release(
     cache: &mut LruWords,
@@ -207,6 +214,9 @@ pub extern "C" fn lru_words_release(
 }
 
 /// Evicts the entry of a key into a chain if it is idle. Otherwise nothing happens, now or later.
+///
+/// Returns `CLOSED` if the cache or chain is not open, and `NOT_EMPTY` if the chain has entries;
+/// nothing changes then.
 #[unsafe(no_mangle)]
 pub extern "C" fn lru_words_advice_evict(
     cache: &mut LruWords,
@@ -232,6 +242,9 @@ pub extern "C" fn lru_words_advice_evict(
 /// Detaches the entry of a key, so that no call finds it by the key. An idle entry is evicted into
 /// a chain; a held one is still found by its stamp, and is evicted with its last pin. If the key
 /// has no entry, nothing happens.
+///
+/// Returns `CLOSED` if the cache or chain is not open, and `NOT_EMPTY` if the chain has entries;
+/// nothing changes then.
 #[unsafe(no_mangle)]
 pub extern "C" fn lru_words_invalidate(
     cache: &mut LruWords,
@@ -289,6 +302,9 @@ pub extern "C" fn lru_words_insert(
 }
 
 /// Evicts every idle entry into a chain, oldest first.
+///
+/// Returns `CLOSED` if the cache or chain is not open, and `NOT_EMPTY` if the chain has entries;
+/// nothing changes then.
 #[unsafe(no_mangle)]
 pub extern "C" fn lru_words_prune(cache: &mut LruWords, gone: &mut LruWordsEvicted) -> u32
     ensures { Into gone.old gone.new result cache.old cache.new
@@ -306,6 +322,9 @@ pub extern "C" fn lru_words_prune(cache: &mut LruWords, gone: &mut LruWordsEvict
 }
 
 /// Sets the capacity, and evicts idle entries into a chain while the total is above it.
+///
+/// Returns `CLOSED` if the cache or chain is not open, and `NOT_EMPTY` if the chain has entries;
+/// nothing changes then.
 #[unsafe(no_mangle)]
 pub extern "C" fn lru_words_set_capacity(
     cache: &mut LruWords,
@@ -326,7 +345,10 @@ pub extern "C" fn lru_words_set_capacity(
     )
 }
 
-/// Reserves room for a total of `entries` entries. No entry changes, even if it returns `MEMORY`.
+/// Reserves room for a total of `entries` entries.
+///
+/// Returns `MEMORY` if the allocator refuses, and `CLOSED` if the cache is not open. No entry
+/// changes in any case.
 #[unsafe(no_mangle)]
 pub extern "C" fn lru_words_reserve(cache: &mut LruWords, entries: usize) -> u32
     ensures { Reserves cache.old.cache.held result cache.new.cache.held }
@@ -337,7 +359,7 @@ pub extern "C" fn lru_words_reserve(cache: &mut LruWords, entries: usize) -> u32
     }
 }
 
-/// Returns the sum of the charges of all entries.
+/// Returns the sum of the charges of all entries, or `CLOSED` if the cache is not open.
 #[unsafe(no_mangle)]
 pub extern "C" fn lru_words_total(cache: &mut LruWords) -> LruTold
     ensures { Numbers cache.old.cache.held sum_of result cache.new.cache.held }
@@ -348,7 +370,7 @@ pub extern "C" fn lru_words_total(cache: &mut LruWords) -> LruTold
     }
 }
 
-/// Returns the sum of the charges of the held entries.
+/// Returns the sum of the charges of the held entries, or `CLOSED` if the cache is not open.
 #[unsafe(no_mangle)]
 pub extern "C" fn lru_words_pinned_charge(cache: &mut LruWords) -> LruTold
     ensures { Numbers cache.old.cache.held pinned_of result cache.new.cache.held }
@@ -359,7 +381,7 @@ pub extern "C" fn lru_words_pinned_charge(cache: &mut LruWords) -> LruTold
     }
 }
 
-/// Returns the capacity.
+/// Returns the capacity, or `CLOSED` if the cache is not open.
 #[unsafe(no_mangle)]
 pub extern "C" fn lru_words_capacity(cache: &mut LruWords) -> LruTold
     ensures { Numbers cache.old.cache.held (λ c. c.capacity) result cache.new.cache.held }
@@ -370,7 +392,7 @@ pub extern "C" fn lru_words_capacity(cache: &mut LruWords) -> LruTold
     }
 }
 
-/// Returns the number of entries, held and idle.
+/// Returns the number of entries, held and idle, or `CLOSED` if the cache is not open.
 #[unsafe(no_mangle)]
 pub extern "C" fn lru_words_len(cache: &mut LruWords) -> LruTold
     ensures { Numbers cache.old.cache.held count_of result cache.new.cache.held }
@@ -396,7 +418,10 @@ pub extern "C" fn lru_words_stats(cache: &mut LruWords, out: &mut LruStats) -> u
     code::DONE
 }
 
-/// Writes the two words of an entry's key, held or idle. Returns `STALE` if no entry has the stamp.
+/// Writes the two words of an entry's key, held or idle.
+///
+/// Returns `STALE` if no entry has the stamp, and `CLOSED` if the cache is not open; nothing is
+/// written then.
 #[unsafe(no_mangle)]
 pub extern "C" fn lru_words_key_of(
     cache: &mut LruWords,
@@ -444,7 +469,8 @@ pub extern "C" fn lru_words_evicted_new(alloc: Global, out: &mut LruWordsEvicted
 
 /// Frees an empty chain and closes its handle.
 ///
-/// Returns `NOT_EMPTY` if the chain has entries; nothing changes then.
+/// Returns `NOT_EMPTY` if the chain has entries, and `CLOSED` if it is not open; nothing changes
+/// then.
 #[unsafe(no_mangle)]
 pub extern "C" fn lru_words_evicted_free(chain: &mut LruWordsEvicted) -> u32
     ensures code { result ≡ chain_code (entries_of chain.old.chain.held) }

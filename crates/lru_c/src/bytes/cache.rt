@@ -4,12 +4,13 @@ ghost use Rattle.std.specs.Prelude.{◌≡◌, [], true};
 ghost use Rattle.concurrent_lru.specs.Request as ask;
 ghost use Rattle.lru_c.specs.BytesCalls.{CopiesKey};
 
+use crate::bytes::key::Bytes;
 use crate::cache::Cache;
 use crate::told::LruTold;
 use crate::{code, steps};
 use concurrent_lru::lru_core::{Evicted, State};
 
-impl Cache<Vec<u8>, Vec<u8>> {
+impl Cache<Bytes, Bytes> {
     ghost use Rattle.lru_c.specs.BytesCalls.{bytes_eq, BeginsByKey, ContainsBytes};
     ghost use Rattle.lru_c.specs.Counted.{answered, inserted};
     ghost use Rattle.lru_c.specs.Inserts.{TellsInsertOf};
@@ -17,15 +18,15 @@ impl Cache<Vec<u8>, Vec<u8>> {
 
     // Copies the bytes of a key into the buffer. Returns false if the buffer cannot grow.
     fn keep(&mut self, key: &[u8]) -> bool
-        ensures kept { result ≡ true → self.new.room.items ≡ key.now }
+        ensures kept { result ≡ true → self.new.room.bytes.items ≡ key.now }
         ensures state { self.new.state ≡ self.old.state }
         ensures counts { self.new.counts ≡ self.old.counts }
     {
-        self.room.clear();
-        self.room.extend_from_slice(key).is_ok()
+        self.room.bytes.clear();
+        self.room.bytes.extend_from_slice(key).is_ok()
     }
 
-    pub(crate) fn begin(&mut self, key: &[u8], charge: u64) -> (LruTold, Evicted<Vec<u8>, u64>)
+    pub(crate) fn begin(&mut self, key: &[u8], charge: u64) -> (LruTold, Evicted<Bytes, u64>)
         ensures asks { BeginsByKey self.old.state.cache key.now charge result.0 result.1
             self.new.state.cache }
         ensures counts { self.new.counts ≡ answered result.0 self.old.counts }
@@ -42,7 +43,7 @@ impl Cache<Vec<u8>, Vec<u8>> {
     }
 
     pub(crate) fn get(&mut self, key: &[u8]) -> LruTold
-        ensures asks { AsksOf bytes_eq (λ k. k.items ≡ key.now) self.old.state.cache ask.get result
+        ensures asks { AsksOf bytes_eq (λ k. k.bytes.items ≡ key.now) self.old.state.cache ask.get result
             [] self.new.state.cache }
         ensures counts { self.new.counts ≡ answered result self.old.counts }
     {
@@ -54,8 +55,8 @@ impl Cache<Vec<u8>, Vec<u8>> {
         told
     }
 
-    pub(crate) fn advice_evict(&mut self, key: &[u8]) -> (u32, Evicted<Vec<u8>, u64>)
-        ensures asks { AsksOf bytes_eq (λ k. k.items ≡ key.now) self.old.state.cache
+    pub(crate) fn advice_evict(&mut self, key: &[u8]) -> (u32, Evicted<Bytes, u64>)
+        ensures asks { AsksOf bytes_eq (λ k. k.bytes.items ≡ key.now) self.old.state.cache
             ask.advice_evict (bare result.0) result.1 self.new.state.cache }
         ensures counts { self.new.counts ≡ self.old.counts }
     {
@@ -65,8 +66,8 @@ impl Cache<Vec<u8>, Vec<u8>> {
         steps::advice_evict(&mut self.state, &self.room)
     }
 
-    pub(crate) fn invalidate(&mut self, key: &[u8]) -> (u32, Evicted<Vec<u8>, u64>)
-        ensures asks { AsksOf bytes_eq (λ k. k.items ≡ key.now) self.old.state.cache
+    pub(crate) fn invalidate(&mut self, key: &[u8]) -> (u32, Evicted<Bytes, u64>)
+        ensures asks { AsksOf bytes_eq (λ k. k.bytes.items ≡ key.now) self.old.state.cache
             ask.invalidate (bare result.0) result.1 self.new.state.cache }
         ensures counts { self.new.counts ≡ self.old.counts }
     {
@@ -81,8 +82,8 @@ impl Cache<Vec<u8>, Vec<u8>> {
         key: &[u8],
         charge: u64,
         value: u64,
-    ) -> (LruTold, (Evicted<Vec<u8>, u64>, Evicted<Vec<u8>, u64>))
-        ensures tells { TellsInsertOf bytes_eq (λ k. k.items ≡ key.now) self.old.state.cache charge
+    ) -> (LruTold, (Evicted<Bytes, u64>, Evicted<Bytes, u64>))
+        ensures tells { TellsInsertOf bytes_eq (λ k. k.bytes.items ≡ key.now) self.old.state.cache charge
             value result.0 result.1.0 result.1.1 self.new.state.cache }
         ensures counts { self.new.counts ≡ inserted result.0 self.old.counts }
     {
@@ -110,16 +111,16 @@ impl Cache<Vec<u8>, Vec<u8>> {
 }
 
 // Copies the key of the entry with this stamp to the start of a buffer.
-pub(crate) fn copy_key(state: &State<Vec<u8>, u64>, stamp: u64, buffer: &mut [u8]) -> LruTold
+pub(crate) fn copy_key(state: &State<Bytes, u64>, stamp: u64, buffer: &mut [u8]) -> LruTold
     ensures { CopiesKey state.now.cache stamp result buffer.old buffer.new }
 {
     let Some(key) = state.key_of(stamp) else {
         return LruTold::bare(code::STALE);
     };
-    let length = key.len();
+    let length = key.bytes.len();
     if length > buffer.len() {
         return LruTold::of(code::NO_ROOM, 0, length as u64);
     }
-    buffer[..length].copy_from_slice(key);
+    buffer[..length].copy_from_slice(&key.bytes);
     LruTold::of(code::NUMBER, 0, length as u64)
 }

@@ -4,6 +4,7 @@ ghost use Rattle.std.specs.Prelude.{◌≡◌, ◌==◌, Option, Some, is_some, 
 ghost use Rattle.lru_c.specs.BytesHeld.{BytesCache as HeldCache, BytesChain as HeldChain, bytes_cache_coded, bytes_cache_owns, bytes_chain_coded, bytes_chain_owns};
 
 use crate::at::At;
+use crate::bytes::key::Bytes;
 use crate::cache::Cache;
 use crate::chain::Chain;
 use crate::handle::Handle;
@@ -12,10 +13,10 @@ use std::marker::{Model, Send};
 
 /// A cache whose keys are bytes. A lookup needs a whole key, so the bytes of a call are copied into
 /// a buffer that is kept.
-pub type BytesCache = Cache<Vec<u8>, Vec<u8>>;
+pub type BytesCache = Cache<Bytes, Bytes>;
 
 /// A chain of entries of such caches.
-pub type BytesChain = Chain<Vec<u8>>;
+pub type BytesChain = Chain<Bytes>;
 
 /// A pointer of C. If `held` is some, it owns that cache as a box does; otherwise it owns nothing.
 #[repr(C)]

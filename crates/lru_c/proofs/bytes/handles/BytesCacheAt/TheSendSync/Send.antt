@@ -6,12 +6,15 @@ use Rattle.std.proofs.Crossing as heap
 use Rattle.std_alloc.proofs.SendSync.{quiet}
 use Rattle.std_heap.proofs.Global.TheSendSync as handle
 use Rattle.lru_c.proofs.HandleSent.{held_keyless}
-use Rattle.lru_c.specs.BytesHeld.{cache_row, cloned, compared, hashed, key_row}
+use Rattle.lru_c.specs.BytesHeld.{cache_row, key_row}
+use Rattle.lru_c.specs.contracts.bytes.key.BytesClone.TheImpl as Clone
+use Rattle.lru_c.specs.contracts.bytes.key.BytesHash.TheImpl as Hash
+use Rattle.lru_c.specs.contracts.bytes.key.BytesPartialEq.TheImpl as PartialEq
 use Rattle.lru_c.proofs.cache.Cache.TheSendSync.{the_send}
 use Rattle.lru_c.specs.contracts.bytes.handles.BytesCacheAt.{the_row, the_type}
 
 inner : IsSend cache_row
-inner = the_send key_row key_row hashed compared cloned (search (sendable, heap.crosses) depth 12) (search (sendable, heap.crosses) depth 12)
+inner = the_send key_row key_row Hash.ghosts PartialEq.ghosts Clone.ghosts (search (sendable, heap.crosses) depth 12) (search (sendable, heap.crosses) depth 12)
 
 pub send : IsSend the_row
 send =

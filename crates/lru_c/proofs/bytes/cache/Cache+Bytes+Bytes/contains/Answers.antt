@@ -1,7 +1,7 @@
 use Rattle.std.proofs.Common.{inr, refl, subst}
 use Rattle.lru_c.specs.BytesCalls.{bytes_eq}
 use Rattle.lru_c.specs.Opened.{TellsReady}
-use Rattle.lru_c.proofs.bytes.cache.Cache+Vec+u8+Vec+u8.contains.Goals as goal
+use Rattle.lru_c.proofs.bytes.cache.Cache+Bytes+Bytes.contains.Goals as goal
 
 pub returns-clause-contains : goal.returns-clause-contains
 returns-clause-contains c =
