@@ -1,10 +1,12 @@
 #!/usr/bin/env python3
 """usage: pictures.py FOLDER MEASURED..
-Draws two pictures of measured lines, `SYSTEM WORKLOAD ENTRIES THREADS NANOSECONDS` each, which
+Draws three pictures of measured lines, `SYSTEM WORKLOAD ENTRIES THREADS NANOSECONDS` each, which
 stand in one or more files; of several lines of one kind the least counts. In FOLDER:
 speed-threads.svg  the time of a call of read_mostly by the number of threads
 speed-entries.svg  the time of a hit and of a miss by the number of entries, of one thread
-What was measured at one number of threads or of entries alone has no picture."""
+speed-hits.svg     the time of a call of read_mostly by the hit ratio, of four threads
+What was measured at one number of threads or of entries alone has no picture. Hit ratios are those
+of lines `# hits SYSTEM WORKLOAD ENTRIES THREADS RATIO`; of several of one kind the last counts."""
 import collections
 import math
 import sys
@@ -42,8 +44,20 @@ COLOURS = {
 
 OTHER_COLOURS = ("#5a5a5a", "#b4b4b4")
 
-# What the picture by threads leaves out, since its lines run close to those of others.
-CLOSE = {"port-unsharded-read", "port-sharded-read", "port-sharded-256", "port-sharded-256-read"}
+# What the pictures of read_mostly leave out, since its lines run close to those of others.
+CLOSE = {
+    "port-clock-64",
+    "port-sharded-256",
+    "port-sharded-256-read",
+    "port-sharded-read",
+    "port-unsharded-read",
+}
+
+# What the picture by entries leaves out, since it makes the same calls as another.
+SAME = {"port-clock-1-read"}
+
+# What the name of a system ends with if it is another one, asked by `read` or with room reserved.
+VARIANTS = ("read", "reserved")
 
 # The labels of the parts of a system's name. A number in a name is a number of shards.
 CALLED = {
@@ -57,16 +71,17 @@ CALLED = {
     "parts": "this cache's parts",
     "unsharded": "one lock",
     "sharded": "16 shards",
-    "clock": "clock",
+    "port-clock": "lru_clock",
+    "port-clock-1": "lru_clock, one shard",
     "hyper": "HyperClock",
     "reserved": "room reserved",
 }
 
 
 class Point(NamedTuple):
-    """A measured time: across is the number of threads or of entries."""
+    """A measured time: across is the number of threads or of entries, or the hit ratio."""
 
-    across: int
+    across: float
     ns: float
 
 
@@ -78,11 +93,14 @@ class Chart(NamedTuple):
     lines: dict
     # What labels leave out.
     common: str
+    # What the axis shows, if it is not where something was measured.
+    shown: tuple = ()
 
     @property
     def marks(self):
-        """The numbers of threads or of entries at which something was measured."""
-        return sorted({point.across for line in self.lines.values() for point in line})
+        """What the axis shows."""
+        measured = {point.across for line in self.lines.values() for point in line}
+        return list(self.shown) or sorted(measured)
 
 
 class Frame(NamedTuple):
@@ -117,6 +135,16 @@ def least_of(paths):
     return least
 
 
+def ratios_of(paths):
+    """The last hit ratio of each (system, workload, entries, threads)."""
+    ratios = {}
+    for line in (line for path in paths for line in Path(path).read_text("utf-8").splitlines()):
+        words = line.split()
+        if len(words) == 7 and words[:2] == ["#", "hits"]:
+            ratios[words[2], words[3], int(words[4]), int(words[5])] = float(words[6])
+    return ratios
+
+
 def lines_of(points):
     """The points (system, across, nanoseconds) by system, each in order."""
     lines = collections.defaultdict(list)
@@ -140,24 +168,42 @@ def by_entries(least, title, works):
     points = [
         (system + works[work], entries, ns)
         for (system, work, entries, threads), ns in least.items()
-        if work in works and threads == 1
+        if work in works and threads == 1 and system + works[work] not in SAME
     ]
     return Chart(title, "entries", lines_of(points), "one lock")
 
 
+def by_hits(least, ratios):
+    """The chart of read_mostly, by hit ratios, of four threads."""
+    points = [
+        (kind[0], ratios[kind], ns)
+        for kind, ns in least.items()
+        if kind in ratios and kind[1] == "read_mostly" and kind[3] == 4 and kind[0] not in CLOSE
+    ]
+    across = [ratio for _, ratio, _ in points] or [0.5]
+    first, last = math.floor(min(across) * 100), math.ceil(max(across) * 100)
+    shown = tuple(percent / 100 for percent in range(first, last + 1))
+    return Chart("read_mostly, four threads", "hit ratio", lines_of(points), "", shown)
+
+
 def label(system, common):
     """What a system is called, without what all are."""
-    name, *parts = [system] if system in CALLED else system.split("-")
+    name, variant = system, []
+    for ending in VARIANTS:
+        if name.endswith(f"-{ending}"):
+            name, variant = name.removesuffix(f"-{ending}"), [ending]
+    name, *parts = [name] if name in CALLED else name.split("-")
     if any(part.isdigit() for part in parts):
         parts.remove("sharded")
     words = [CALLED.get(name, name)]
     words += [f"{part} shards" if part.isdigit() else CALLED.get(part, part) for part in parts]
+    words += [CALLED.get(ending, ending) for ending in variant]
     return ", ".join(word for word in words if word != common)
 
 
 def is_variant(system):
     """Whether a system is another one, asked by `read` or with room reserved."""
-    return system.endswith(("-read", "-reserved"))
+    return system.endswith(tuple(f"-{ending}" for ending in VARIANTS))
 
 
 def colours(system):
@@ -278,13 +324,14 @@ def picture(title, charts):
 def main():
     if len(sys.argv) < 3:
         sys.exit(__doc__)
-    folder, least = Path(sys.argv[1]), least_of(sys.argv[2:])
+    folder, least, ratios = Path(sys.argv[1]), least_of(sys.argv[2:]), ratios_of(sys.argv[2:])
     pictures = {
         "speed-threads.svg": ("Time of a call by threads", [by_threads(least)]),
         "speed-entries.svg": ("Time of a call by entries, with one thread and one lock", [
             by_entries(least, "Hit", {"hit_get": "", "hit_read": "-read"}),
             by_entries(least, "Miss that evicts an entry", {"miss_evict": ""}),
         ]),
+        "speed-hits.svg": ("Time of a call and hit ratio", [by_hits(least, ratios)]),
     }
     for name, (title, charts) in pictures.items():
         if all(len(chart.marks) > 1 for chart in charts):
