@@ -11,6 +11,10 @@ use std::sync::Wait;
 use std::thread::Threads;
 use std::time::{Duration, Instant};
 
+// How many calls a worker makes in a round. Where other programs compete for the processors, each
+// yield takes as long as their time slice, so a round of many calls would take minutes.
+const CALLS: u32 = 1_000;
+
 // How often an `init` yields, so that other threads meet it.
 const YIELDS: u32 = 2;
 
@@ -44,6 +48,7 @@ fn round<R: Threads + Wait + Clone + Drop + Send + Sync, O: Write>(
     out: &mut O,
 ) -> Result<(), Failure> {
     let mut plan = Plan::new(seed);
+    plan.calls = CALLS;
     plan.yields = YIELDS;
     plan.looks = true;
     plan.has_clock = true;
