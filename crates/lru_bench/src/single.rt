@@ -1,5 +1,5 @@
-//! One workload on one cache, in one thread, for tools that count what a call does. Two runs with the
-//! same arguments do the same work, since no clock and no random number has a part in it.
+//! One workload on one cache, in one thread, for tools that count what a call does. Two runs with
+//! the same arguments do the same work, since they read no clock and draw no random number.
 
 use crate::failure::Failure;
 use crate::operation::{Get, Init, Make, Read};

@@ -1,1 +1,2 @@
 mod Claims
+mod DistinctKeys

@@ -445,7 +445,7 @@ impl<K: Hash + Eq + Clone + Drop, V: Drop, R: Wait, S: BuildHasher, F: Fit<K, V>
     pub fn capacity(&self) -> u128 {
         let mut capacity = 0;
         for shard in &self.shards {
-            capacity += u128::from(shard.capacity(&self.rt));
+            capacity += u128::from(shard.numbers(&self.rt).capacity);
         }
         capacity
     }
@@ -455,7 +455,7 @@ impl<K: Hash + Eq + Clone + Drop, V: Drop, R: Wait, S: BuildHasher, F: Fit<K, V>
     pub fn total_charge(&self) -> u128 {
         let mut total = 0;
         for shard in &self.shards {
-            total += u128::from(shard.total_charge(&self.rt));
+            total += u128::from(shard.numbers(&self.rt).total);
         }
         total
     }
@@ -477,7 +477,7 @@ impl<K: Hash + Eq + Clone + Drop, V: Drop, R: Wait, S: BuildHasher, F: Fit<K, V>
     pub fn len(&self) -> usize {
         let mut len = 0usize;
         for shard in &self.shards {
-            len = len.saturating_add(shard.len(&self.rt));
+            len = len.saturating_add(shard.numbers(&self.rt).entries);
         }
         len
     }
@@ -499,7 +499,7 @@ impl<K: Hash + Eq + Clone + Drop, V: Drop, R: Wait, S: BuildHasher, F: Fit<K, V>
     pub fn counts(&self) -> Counts {
         let mut counts = Counts::default();
         for shard in &self.shards {
-            counts = counts.wrapping_add(shard.counts(&self.rt));
+            counts = counts.wrapping_add(shard.numbers(&self.rt).counts);
         }
         counts
     }

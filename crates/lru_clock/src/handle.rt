@@ -110,11 +110,7 @@ impl<K: Hash + Eq + Clone + Drop, V: Drop, R: Wait, F: Fit<K, V>> Drop
         } = self;
         match pin.release() {
             Released::Pinned => {}
-            Released::Idle => {
-                if shard.is_above() {
-                    shard.settle();
-                }
-            }
+            Released::Idle => shard.settle_if_above(),
             Released::Invalidated => shard.take_invalidated(rt, place),
         }
     }

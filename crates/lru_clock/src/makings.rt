@@ -1,6 +1,9 @@
 //! The keys whose values are being made, under the lock of a shard.
+ghost use Rattle.std.specs.Prelude.{◌≡◌, ◌++◌, [], ◌∷◌, false, MatchResult};
+ghost use Rattle.std.specs.List.{list_any};
 
 use std::alloc::{AllocError, Global};
+use std::marker::Model;
 
 // A key whose value is being made, under a ticket that no other making has had.
 #[derive(Drop)]
@@ -9,17 +12,31 @@ struct Making<K> {
     ticket: u64,
 }
 
-/// The keys whose values are being made, and how many callers wait for one of them.
+/// The keys whose values are being made, each by one caller, and how many callers wait for one of
+/// them. Clauses see the list of the keys, of which no two are equal.
 #[derive(Drop)]
-pub struct Makings<K> {
+pub struct Makings<K: Eq> {
     makings: Vec<Making<K>>,
     next_ticket: u64,
     waiting: u64,
 }
 
+impl<K: Eq> Model for Makings<K> {
+    ghost use Rattle.std.specs.Prelude.{List, map};
+    ghost use Rattle.std.specs.List.{IsDistinct};
+
+    ghost Value = { List K };
+
+    ghost view = { λ m. map (λ making. making.key) m.makings.items };
+
+    ghost invariant = { λ m. IsDistinct K.eq (map (λ making. making.key) m.makings.items) };
+}
+
 impl<K: Eq + Drop> Makings<K> {
     /// Creates an empty list.
-    pub fn new(alloc: Global) -> Self {
+    pub fn new(alloc: Global) -> Self
+        ensures { result ≡ [] }
+    {
         Makings {
             makings: Vec::new(alloc),
             next_ticket: 0,
@@ -28,14 +45,25 @@ impl<K: Eq + Drop> Makings<K> {
     }
 
     /// Returns whether the key's value is being made.
-    pub fn contains(&self, key: &K) -> bool {
-        self.makings.iter().any(|making| making.key == *key)
+    pub fn contains(&self, key: &K) -> bool
+        ensures { result ≡ list_any (λ made. K.eq made key.now) self.now }
+    {
+        for making in &self.makings {
+            if making.key == *key {
+                return true;
+            }
+        }
+        false
     }
 
-    /// Begins the making of a key's value, and returns its ticket.
+    /// Begins the making of a key's value, which nobody makes yet, and returns its ticket.
     ///
     /// Returns `AllocError` if the allocator refuses.
-    pub fn begin(&mut self, key: K) -> Result<u64, AllocError> {
+    pub fn begin(&mut self, key: K) -> Result<u64, AllocError>
+        requires absent { list_any (λ made. K.eq made key) self.now ≡ false }
+        ensures { MatchResult result (λ _. self.new ≡ self.old ++ (key ∷ []))
+            (λ _. self.new ≡ self.old) }
+    {
         let ticket = self.next_ticket;
         self.makings.push(Making { key, ticket })?;
         self.next_ticket = ticket.wrapping_add(1);
@@ -62,7 +90,7 @@ impl<K: Eq + Drop> Makings<K> {
         if at >= self.makings.len() {
             return None;
         }
-        let Making { key, ticket: _ } = self.makings.swap_remove(at);
+        let Making { key, ticket: _ } = self.makings.remove(at);
         Some(key)
     }
 

@@ -120,10 +120,12 @@ impl<K: Hash + Eq + Clone + Drop, V: Drop, F: Fit<K, V>> Shard<K, V, F> {
         }
     }
 
-    /// Returns whether the total was above the capacity when the lock was last released.
+    /// Evicts down to the capacity, if the total was above it when the lock was last released.
     #[inline(always)]
-    pub fn is_above(&self) -> bool {
-        self.is_above.load(SeqCst)
+    pub fn settle_if_above(&self) {
+        if self.is_above.load(SeqCst) {
+            self.settle();
+        }
     }
 
     // Wakes the callers that wait for a making.

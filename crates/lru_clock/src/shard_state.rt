@@ -1,5 +1,5 @@
 //! What lies under the lock of a shard.
-ghost use Rattle.std.specs.Prelude.{◌≡◌};
+ghost use Rattle.std.specs.Prelude.{◌≡◌, sum_by};
 
 use crate::makings::Makings;
 use crate::store::Seats;
@@ -37,9 +37,22 @@ impl Counts {
     }
 }
 
+/// What a shard holds and has counted, as it was at one moment under its lock.
+#[derive(Clone, Copy)]
+pub struct Numbers {
+    /// The capacity.
+    pub capacity: u64,
+    /// The sum of the charges.
+    pub total: u64,
+    /// The number of entries.
+    pub entries: usize,
+    /// The counts.
+    pub counts: Counts,
+}
+
 /// The state under the lock of a shard.
 #[derive(Drop)]
-pub struct ShardState<K> {
+pub struct ShardState<K: Eq> {
     pub capacity: u64,
     pub seats: Seats,
     pub makings: Makings<K>,
@@ -57,6 +70,20 @@ impl<K: Eq + Drop> ShardState<K> {
             makings: Makings::new(alloc),
             counts: Counts::default(),
             hand: 0,
+        }
+    }
+
+    /// Returns what the shard holds and has counted.
+    pub fn numbers(&self) -> Numbers
+        ensures capacity { result.capacity ≡ self.now.capacity }
+        ensures total { result.total ≡ sum_by (λ seat. seat.charge) self.now.seats }
+        ensures counts { result.counts ≡ self.now.counts }
+    {
+        Numbers {
+            capacity: self.capacity,
+            total: self.seats.total(),
+            entries: self.seats.entries(),
+            counts: self.counts,
         }
     }
 

@@ -70,8 +70,8 @@ fn drops_run_without_the_lock_of_their_shard(rt: HostRuntime) {
     }
 }
 
-// Values 2 and 4 are in one shard, and 1 and 3 in the other. Each entry leaves by itself: the errand
-// of 2 evicts 3, whose errand evicts 4, whose drop ends first.
+// Values 2 and 4 are in one shard, and 1 and 3 in the other. Each entry leaves by itself: the
+// errand of 2 evicts 3, whose errand evicts 4, whose drop ends first.
 const CLEARED: Outcome = Outcome {
     totals: (0, 0),
     places: [1, 4, 3, 2, 0],

@@ -1,5 +1,5 @@
-//! Two, four and eight threads that make, insert, invalidate, fail and prune at once. Each value carries its key
-//! and a version, by which a thread tells a value that it has invalidated.
+//! Two, four and eight threads that make, insert, invalidate, fail and prune at once. Each value
+//! carries its key and a version, by which a thread tells a value that it has invalidated.
 ghost use Rattle.std.specs.Prelude.{◌<◌};
 
 use lru_clock::clock::Cache;

@@ -1,5 +1,5 @@
-//! The README's example of a cache for a single owner: two values are made, and the second leaves
-//! no room for the first.
+//! An example of a cache for a single owner: two values are made, and the second leaves no room for
+//! the first.
 
 use concurrent_lru::lru_core::{Begun, State};
 use std::sync::Arc;

@@ -1,4 +1,4 @@
-//! The second example of the README in full: a pool of open files by path.
+//! An example of a loader that returns the system's errors: a pool of open files by path.
 
 use concurrent_lru::unsharded::{CacheHandle, GetError, LruCache};
 use std::alloc::{AllocError, Global};

@@ -1,5 +1,5 @@
--- What every run promises: what plain runs leave, with and without changes of capacity and removals,
--- and that each stamp stands once.
+-- What every run promises: what plain runs leave, with and without changes of capacity and
+-- removals, and that each stamp stands once.
 use Rattle.std.proofs.Common.{◌≡◌, ℕ, ◌<◌, ◌≤◌, ◌↔◌, inl, inr, Bool, true, false, List, [], ◌∷◌, ◌++◌, length, map, refl, sym, ap, ◌∙◌, subst, arith}
 use Rattle.std.specs.List.{zip, sum_by, list_any, AllByRecursion}
 use Rattle.std.specs.Cmp.{IsEquivalence}
@@ -101,8 +101,8 @@ module _ {K V : Type 0} (E : K → K → Bool) (eq : IsEquivalence E) where
       changing_run E price eq (charge_agrees E eq (begins rs)) old.capacity [] (zip rs os) old new start
       (subst (AllByRecursion (IsPriced price)) (sym (firsts-zip rs os n)) (priced price rs (begins_charged E eq (begins rs) one) charged)) plain (zipped_run E old new rs os run)
 
-  -- where the capacity stays and nothing is removed, the keys that always fitted are the longest end
-  -- that fits
+  -- where the capacity stays and nothing is removed, the keys that always fitted are the longest
+  -- end that fits
   steady_tail : (old new : Cache K V) (rs : List (Request K V)) (os : List (Outcome K V)) → IsPlain (zip rs os) → (i : IsLeft old rs os new) → Fitting (charge_in E (begins rs)) 0 old.capacity (last_uses E (uses (zip rs os))) i.kept
   steady_tail old new rs os plain i =
       let price = charge_in E (begins rs) in

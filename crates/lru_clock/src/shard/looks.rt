@@ -5,7 +5,7 @@ ghost use Rattle.concurrent_lru.specs.Cache.{CopiesAreEqual};
 ghost use Rattle.lru_clock.specs.Turns.{IfHit};
 
 use crate::shard::{Shard, Turn};
-use crate::shard_state::{Counts, ShardState};
+use crate::shard_state::{Counts, Numbers, ShardState};
 use crate::store::Pin;
 use concurrent_lru::fit::Fit;
 use concurrent_lru::sharded::Refusal;
@@ -40,19 +40,11 @@ impl<K: Hash + Eq + Clone + Drop, V: Drop, F: Fit<K, V>> Shard<K, V, F> {
                 if let Some(pin) = slot.pin(key, self.most_pins, is_use)? {
                     return Ok(Some((place, pin)));
                 }
-                self.settle_compared();
+                // The pin that compared another key's entry may have kept it from leaving.
+                self.settle_if_above();
             }
         }
         Ok(None)
-    }
-
-    // Evicts down to the capacity, after another key's entry was compared: the pin that this took
-    // may have kept the entry from leaving.
-    #[inline(always)]
-    fn settle_compared(&self) {
-        if self.is_above() {
-            self.settle();
-        }
     }
 
     /// `find` under the lock, where no entry is missed.
@@ -139,27 +131,28 @@ impl<K: Hash + Eq + Clone + Drop, V: Drop, F: Fit<K, V>> Shard<K, V, F> {
                 Ok(Some((place, pin))) => return (guard, Ok(Turn::Hit(place, pin))),
                 Err(refusal) => return (guard, Err(refusal)),
             }
-            if !guard.makings.contains(key) {
-                let turn = match self.start(&mut guard, key, charge) {
-                    Ok(ticket) => Ok(Turn::Make(ticket)),
-                    Err(refusal) => Err(refusal),
-                };
-                return (guard, turn);
+            match self.start(&mut guard, key, charge) {
+                Ok(Some(ticket)) => return (guard, Ok(Turn::Make(ticket))),
+                Ok(None) => guard = self.wait(rt, guard),
+                Err(refusal) => return (guard, Err(refusal)),
             }
-            guard = self.wait(rt, guard);
         }
         unreachable!()
     }
 
-    // Begins the making of a key's value, and returns its ticket.
-    fn start(&self, state: &mut ShardState<K>, key: &K, charge: u64) -> Result<u64, Refusal>
+    // Begins the making of a key's value, and returns its ticket. Returns `None` if another caller
+    // is making it.
+    fn start(&self, state: &mut ShardState<K>, key: &K, charge: u64) -> Result<Option<u64>, Refusal>
         ensures { IfErr result (λ e. e ≢ Refusal.Stale) }
     {
+        if state.makings.contains(key) {
+            return Ok(None);
+        }
         if state.seats.total().checked_add(charge).is_none() {
             return Err(Refusal::Overflow);
         }
         let own = key.clone()?;
-        Ok(state.makings.begin(own)?)
+        Ok(Some(state.makings.begin(own)?))
     }
 
     // Waits until a making ends or is invalidated.
@@ -198,11 +191,11 @@ impl<K: Hash + Eq + Clone + Drop, V: Drop, F: Fit<K, V>> Shard<K, V, F> {
         match slot.pin(key, self.most_pins, false) {
             Ok(Some(pin)) => {
                 pin.release();
-                self.settle_compared();
+                self.settle_if_above();
                 true
             }
             Ok(None) => {
-                self.settle_compared();
+                self.settle_if_above();
                 false
             }
             Err(_) => true,
@@ -217,20 +210,12 @@ impl<K: Hash + Eq + Clone + Drop, V: Drop, F: Fit<K, V>> Shard<K, V, F> {
         place.is_some()
     }
 
-    /// Returns the capacity.
-    pub fn capacity<R: Wait>(&self, rt: &R) -> u64 {
+    /// Returns what the shard holds and has counted.
+    pub fn numbers<R: Wait>(&self, rt: &R) -> Numbers {
         let guard = self.lock(rt);
-        let capacity = guard.capacity;
+        let numbers = guard.numbers();
         self.unlock(guard, None);
-        capacity
-    }
-
-    /// Returns the sum of the charges.
-    pub fn total_charge<R: Wait>(&self, rt: &R) -> u64 {
-        let guard = self.lock(rt);
-        let total = guard.seats.total();
-        self.unlock(guard, None);
-        total
+        numbers
     }
 
     /// Returns the sum of the charges of the entries that somebody has pinned.
@@ -251,22 +236,6 @@ impl<K: Hash + Eq + Clone + Drop, V: Drop, F: Fit<K, V>> Shard<K, V, F> {
             }
         }
         pinned
-    }
-
-    /// Returns the number of entries.
-    pub fn len<R: Wait>(&self, rt: &R) -> usize {
-        let guard = self.lock(rt);
-        let entries = guard.seats.entries();
-        self.unlock(guard, None);
-        entries
-    }
-
-    /// Returns the counts.
-    pub fn counts<R: Wait>(&self, rt: &R) -> Counts {
-        let guard = self.lock(rt);
-        let counts = guard.counts;
-        self.unlock(guard, None);
-        counts
     }
 
     /// Resets the counts, and returns what they were.

@@ -1,6 +1,6 @@
 //! What a shard knows under its lock of each of its slots: the charge of the entry there, and where
 //! the index has it.
-ghost use Rattle.std.specs.Prelude.{◌≡◌, [], sum_by, false};
+ghost use Rattle.std.specs.Prelude.{◌≡◌, [], sum_by};
 ghost use Rattle.std.specs.Prelude.{IsTrue, IsFalse, MatchOption, length};
 ghost use Rattle.std.proofs.Math.ListN.{set};
 

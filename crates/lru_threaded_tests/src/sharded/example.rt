@@ -1,4 +1,4 @@
-//! The README's example of a sharded cache: the source of its hasher, and its capacity.
+//! An example of a sharded cache: the source of its hasher, and its capacity.
 
 use concurrent_lru::sharded::LruCache;
 use std::hash::RandomState;

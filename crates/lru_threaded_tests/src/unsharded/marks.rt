@@ -1,5 +1,4 @@
-//! The README's example of a mark: each value is twice its key, and the holder of a handle knows
-//! it.
+//! An example of a mark: each value is twice its key, and the holder of a handle knows it.
 ghost use Rattle.std.specs.Prelude.{◌≡◌, ◌*◌};
 ghost use Rattle.std.proofs.Common.{rules};
 

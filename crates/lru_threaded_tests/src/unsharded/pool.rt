@@ -1,4 +1,4 @@
-//! The first example of the README in full: a pool that opens connections on demand, pins two, and
+//! An example of a loader that may fail: a pool that opens connections on demand, pins two, and
 //! closes one to make room.
 
 use concurrent_lru::lru_core::Refusal;
