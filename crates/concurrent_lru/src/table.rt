@@ -321,6 +321,35 @@ impl<K: Hash + Eq + Clone, V: Drop> Table<K, V> {
         Ok(value)
     }
 
+    /// Pins a ready entry once more, as `pin` does, without a copy of its value. Takes no memory.
+    #[inline(always)]
+    pub fn pin_alone(&mut self, place: Place, near: Cursor)
+        requires place { ContainsPlace self.old place }
+        requires room { pins_at self.old place + 1 < 2 ^ 32 }
+        requires ready { IsSome (value_at self.old place) }
+        ensures revived { pins_at self.old place ≡ 0 → RevivesAt self.old place self.new }
+        ensures held { pins_at self.old place ≢ 0
+            → Rewrites (held_with_pins (pins_at self.old place + 1)) self.old place self.new }
+    {
+        let pins = self.node(place, near).pins;
+        if pins > 0 {
+            self.set_pins(place, near, pins + 1);
+        } else {
+            self.pin_idle(place, near);
+        }
+    }
+
+    // Pins an idle entry, which is then held.
+    #[inline(always)]
+    fn pin_idle(&mut self, place: Place, near: Cursor)
+        requires { ContainsIdleAt self.old place }
+        ensures { RevivesAt self.old place self.new }
+    {
+        let own = self.nodes.node_near(place, near).charge;
+        self.nodes.pin_idle(place, near);
+        self.idle_charge -= own;
+    }
+
     /// Sets the number of pins of a held entry, which stays held. Takes no memory.
     pub fn set_pins(&mut self, place: Place, near: Cursor, pins: u32)
         requires held { ContainsHeldAt self.old place }

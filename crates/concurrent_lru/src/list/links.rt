@@ -196,6 +196,24 @@ impl<K: Drop, V: Drop> Order<K, V> {
         Ok(value)
     }
 
+    // Removes the node in a slot from the idle order, with one pin.
+    #[inline(always)]
+    pub(super) fn pin_idle(&mut self, slot: usize, near: Cursor)
+        requires linked { IsWellLinked self.old }
+        requires listed { IsListed self.old.slots }
+        requires idle { Lists self.old slot }
+        ensures linked { IsWellLinked self.new }
+        ensures nodes { nodes_of self.new ≡ pinned_once (nodes_of self.old) slot }
+        ensures idle { idle_of self.new ≡ idle_without self.old slot }
+        ensures rest { OnlyLooksAndWrites self.old.slots self.new.slots }
+        ensures listings { KeepsListings (cells_of self.old.slots) (cells_of self.new.slots) }
+        ensures looks { self.new.slots.looks.count ≡ self.old.slots.looks.count + 1 }
+    {
+        let node = self.slots.look_near(slot, near);
+        self.slots.set_pins_by_link(node, 1);
+        self.cut(node);
+    }
+
     // Frees every node.
     pub(super) fn end(self)
         requires { IsTied self.slots }
