@@ -26,6 +26,10 @@ Key = Bytes
 abbrev pub bytes_eq : Key → Key → Bool
 bytes_eq a b = pointwise nat_eq a.bytes.items b.bytes.items
 
+-- The key has these bytes.
+abbrev pub HasBytes : List ℕ → Key → Type 0
+HasBytes bytes key = key.bytes.items ≡ bytes
+
 abbrev pub Entries : Type 0
 Entries = List (Idle Key ℕ)
 
@@ -39,12 +43,12 @@ Into before after c old new Step =
 -- A begin with a key of these bytes, which refuses a charge of 0.
 abbrev pub BeginsByKey : Cache Key ℕ → List ℕ → ℕ → LruTold → Entries → Cache Key ℕ → Type 0
 BeginsByKey old bytes charge t gone new =
-    MatchBool (charge == 0) ((t ≡ bare code.no_charge) × IsSame old gone new) (tells.AsksOf bytes_eq (λ key. key.bytes.items ≡ bytes) old (λ key. ask.begin key charge) t gone new)
+    MatchBool (charge == 0) ((t ≡ bare code.no_charge) × IsSame old gone new) (tells.AsksOf bytes_eq (HasBytes bytes) old (λ key. ask.begin key charge) t gone new)
 
 -- The call took one step with a key of these bytes, returned its outcome and counted it, with the
 -- same counts for every key; or memory was refused, and nothing changed.
 abbrev pub AsksByKey : Option BytesCache → (Key → Request Key ℕ) → List ℕ → LruTold → Entries → Option BytesCache → Type 0
-AsksByKey old r bytes t gone new = OnCache old (λ o n. tells.AsksOf bytes_eq (λ key. key.bytes.items ≡ bytes) o r t gone n) (λ m n. (key : Key) → n ≡ counted (r key) t m) t gone new
+AsksByKey old r bytes t gone new = OnCache old (λ o n. tells.AsksOf bytes_eq (HasBytes bytes) o r t gone n) (λ m n. (key : Key) → n ≡ counted (r key) t m) t gone new
 
 -- The same for a begin, which refuses a charge of 0.
 abbrev pub Begins : Option BytesCache → List ℕ → ℕ → LruTold → Entries → Option BytesCache → Type 0
@@ -53,7 +57,7 @@ Begins old bytes charge t gone new = OnCache old (λ o n. BeginsByKey o bytes ch
 -- An insert, with the entries that it replaced and those that it evicted.
 abbrev pub Inserts : Option BytesCache → List ℕ → ℕ → ℕ → LruTold → Entries → Entries → Option BytesCache → Type 0
 Inserts old bytes charge v t replaced evicted new =
-    OnOpen old new (λ o n. TellsInsertOf bytes_eq (λ key. key.bytes.items ≡ bytes) o.state.cache charge v t replaced evicted n.state.cache × (n.counts ≡ inserted t o.counts)) ((t ≡ bare code.closed) × (replaced ≡ []) × (evicted ≡ []))
+    OnOpen old new (λ o n. TellsInsertOf bytes_eq (HasBytes bytes) o.state.cache charge v t replaced evicted n.state.cache × (n.counts ≡ inserted t o.counts)) ((t ≡ bare code.closed) × (replaced ≡ []) × (evicted ≡ []))
 
 -- The same, with both in one chain, those that were replaced first.
 abbrev pub InsertsInto : Option BytesCache → List ℕ → ℕ → ℕ → LruTold → Entries → Option BytesCache → Type 0
@@ -61,7 +65,7 @@ InsertsInto old bytes charge v t out new = (replaced : Entries) × (evicted : En
 
 -- The call returned whether a key of these bytes has a value, or that memory was refused.
 abbrev pub ContainsBytes : Cache Key ℕ → List ℕ → ℕ → Type 0
-ContainsBytes cache bytes c = (c ≡ code.memory) ⊎ ((key : Key) × (key.bytes.items ≡ bytes) × TellsReady bytes_eq cache key c)
+ContainsBytes cache bytes c = (c ≡ code.memory) ⊎ ((key : Key) × HasBytes bytes key × TellsReady bytes_eq cache key c)
 
 abbrev pub Contains : Option BytesCache → List ℕ → ℕ → Option BytesCache → Type 0
 Contains old bytes c new = OnOpen old new (λ o n. ContainsBytes o.state.cache bytes c × IsUnchanged o n) (c ≡ code.closed)

@@ -1,7 +1,5 @@
 -- What a call returns to C, as an outcome of the abstract cache. E is the equality of keys.
 use Rattle.std.specs.Prelude.{◌≡◌, ℕ, Bool, cond, ◌==◌, List, [], Option, Some, None, MatchBool, ⊤}
-use Rattle.std.specs.declared.sync.Arc.{Arc}
-use Rattle.std.specs.declared.alloc.Global.{Global}
 use Rattle.concurrent_lru.specs.Cache.{Cache, Idle, IsLawful}
 use Rattle.concurrent_lru.specs.Request.{Request}
 use Rattle.concurrent_lru.specs.Reply as say
@@ -34,9 +32,9 @@ begun_told (begun.Make s) = told code.make s 0
 begun_told (begun.Wait s) = told code.wait s 0
 begun_told (begun.Hit s a) = told code.hit s a.value
 
-abbrev pub found_told : Option (ℕ × Arc ℕ Global) → LruTold
+abbrev pub found_told : Option (ℕ × ℕ) → LruTold
 found_told None = bare code.missed
-found_told (Some r) = told code.hit r.0 r.1.value
+found_told (Some r) = told code.hit r.0 r.1
 
 module _ {K : Type 0} where
   -- the code of a making that failed

@@ -149,8 +149,8 @@ pub extern "C" fn lru_bytes_poll(cache: &mut LruBytes, stamp: u64) -> LruTold
 
 /// Stores the value of an entry that is being made.
 ///
-/// Returns `STALE` if no entry is being made under the stamp, `MEMORY` if the allocator refuses, and
-/// `CLOSED` if the cache is not open. Nothing changes then, and the value is not taken.
+/// Returns `STALE` if no entry is being made under the stamp, `MEMORY` if the allocator refuses,
+/// and `CLOSED` if the cache is not open. Nothing changes then, and the value is not taken.
 #[unsafe(no_mangle)]
 pub extern "C" fn lru_bytes_ready(cache: &mut LruBytes, stamp: u64, value: u64) -> u32
     ensures { AsksWithMemory bytes_eq cache.old.cache.held (ask.ready stamp value)
@@ -164,8 +164,8 @@ pub extern "C" fn lru_bytes_ready(cache: &mut LruBytes, stamp: u64, value: u64) 
 
 /// Gives up a making and releases its pin. Returns `LEFT` if others wait, otherwise `REMOVED`.
 ///
-/// Returns `STALE` if no entry is being made under the stamp, and `CLOSED` if the cache is not open;
-/// nothing changes then.
+/// Returns `STALE` if no entry is being made under the stamp, and `CLOSED` if the cache is not
+/// open; nothing changes then.
 #[unsafe(no_mangle)]
 pub extern "C" fn lru_bytes_fail(cache: &mut LruBytes, stamp: u64) -> u32
     ensures { Asks bytes_eq cache.old.cache.held (ask.fail stamp)
@@ -179,7 +179,7 @@ pub extern "C" fn lru_bytes_fail(cache: &mut LruBytes, stamp: u64) -> u32
 
 /// Pins the entry of a key and returns its value, or returns `MISSED` if the key has no ready
 /// value. Returns `OVERFLOW` if the entry has the maximum number of pins, `MEMORY` if a copy of the
-/// key or value is refused, and `CLOSED` if the cache is not open; nothing changes then.
+/// key is refused, and `CLOSED` if the cache is not open; nothing changes then.
 #[unsafe(no_mangle)]
 pub extern "C" fn lru_bytes_get_nonnull(cache: &mut LruBytes, key: &[u8]) -> LruTold
     ensures { AsksByKey cache.old.cache.held ask.get key.now result [] cache.new.cache.held }
@@ -230,8 +230,8 @@ pub extern "C" fn lru_bytes_release(
 
 /// Evicts the entry of a key into a chain if it is idle. Otherwise nothing happens, now or later.
 ///
-/// Returns `MEMORY` if a copy of the key is refused, `CLOSED` if the cache or chain is not open, and
-/// `NOT_EMPTY` if the chain has entries; nothing changes then.
+/// Returns `MEMORY` if a copy of the key is refused, `CLOSED` if the cache or chain is not open,
+/// and `NOT_EMPTY` if the chain has entries; nothing changes then.
 #[unsafe(no_mangle)]
 pub extern "C" fn lru_bytes_advice_evict_nonnull(
     cache: &mut LruBytes,
@@ -260,8 +260,8 @@ pub extern "C" fn lru_bytes_advice_evict_nonnull(
 /// a chain; a held one is still found by its stamp, and is evicted with its last pin. If the key
 /// has no entry, nothing happens.
 ///
-/// Returns `MEMORY` if a copy of the key is refused, `CLOSED` if the cache or chain is not open, and
-/// `NOT_EMPTY` if the chain has entries; nothing changes then.
+/// Returns `MEMORY` if a copy of the key is refused, `CLOSED` if the cache or chain is not open,
+/// and `NOT_EMPTY` if the chain has entries; nothing changes then.
 #[unsafe(no_mangle)]
 pub extern "C" fn lru_bytes_invalidate_nonnull(
     cache: &mut LruBytes,

@@ -56,8 +56,8 @@ impl<K: Hash + Eq + Clone, R> Cache<K, R> {
     }
 
     pub(crate) fn set_capacity(&mut self, capacity: u64) -> (u32, Evicted<K, u64>)
-        ensures asks { Asks K.eq self.old.state.cache (ask.set_capacity capacity) (bare result.0) result.1
-            self.new.state.cache }
+        ensures asks { Asks K.eq self.old.state.cache (ask.set_capacity capacity) (bare result.0)
+            result.1 self.new.state.cache }
         ensures counts { self.new.counts ≡ self.old.counts }
     {
         steps::set_capacity(&mut self.state, capacity)

@@ -115,17 +115,17 @@ fn code_of_failed<K: Drop>(failed: Failed<K>) -> u32
 pub(crate) fn get<K: Hash + Eq + Clone>(state: &mut State<K, u64>, key: &K) -> LruTold
     ensures { Asks K.eq state.old.cache (ask.get key.now) result [] state.new.cache }
 {
-    match state.get(key) {
+    match state.get_with(key, |value| *value) {
         Ok(found) => told_of_found(found),
         Err(refusal) => LruTold::bare(code_of(refusal)),
     }
 }
 
-fn told_of_found(found: Option<(u64, Arc<u64>)>) -> LruTold
+fn told_of_found(found: Option<(u64, u64)>) -> LruTold
     ensures { result ≡ found_told found }
 {
     match found {
-        Some((stamp, value)) => LruTold::of(code::HIT, stamp, *value),
+        Some((stamp, value)) => LruTold::of(code::HIT, stamp, value),
         None => LruTold::bare(code::MISSED),
     }
 }

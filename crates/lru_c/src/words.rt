@@ -133,8 +133,8 @@ pub extern "C" fn lru_words_poll(cache: &mut LruWords, stamp: u64) -> LruTold
 
 /// Stores the value of an entry that is being made.
 ///
-/// Returns `STALE` if no entry is being made under the stamp, `MEMORY` if the allocator refuses, and
-/// `CLOSED` if the cache is not open. Nothing changes then, and the value is not taken.
+/// Returns `STALE` if no entry is being made under the stamp, `MEMORY` if the allocator refuses,
+/// and `CLOSED` if the cache is not open. Nothing changes then, and the value is not taken.
 #[unsafe(no_mangle)]
 pub extern "C" fn lru_words_ready(cache: &mut LruWords, stamp: u64, value: u64) -> u32
     ensures { AsksWithMemory words_eq cache.old.cache.held (ask.ready stamp value)
@@ -148,8 +148,8 @@ pub extern "C" fn lru_words_ready(cache: &mut LruWords, stamp: u64, value: u64) 
 
 /// Gives up a making and releases its pin. Returns `LEFT` if others wait, otherwise `REMOVED`.
 ///
-/// Returns `STALE` if no entry is being made under the stamp, and `CLOSED` if the cache is not open;
-/// nothing changes then.
+/// Returns `STALE` if no entry is being made under the stamp, and `CLOSED` if the cache is not
+/// open; nothing changes then.
 #[unsafe(no_mangle)]
 pub extern "C" fn lru_words_fail(cache: &mut LruWords, stamp: u64) -> u32
     ensures { Asks words_eq cache.old.cache.held (ask.fail stamp)
@@ -162,8 +162,8 @@ pub extern "C" fn lru_words_fail(cache: &mut LruWords, stamp: u64) -> u32
 }
 
 /// Pins the entry of a key and returns its value, or returns `MISSED` if the key has no ready
-/// value. Returns `OVERFLOW` if the entry has the maximum number of pins, `MEMORY` if a copy of the
-/// value is refused, and `CLOSED` if the cache is not open; nothing changes then.
+/// value. Returns `OVERFLOW` if the entry has the maximum number of pins, and `CLOSED` if the cache
+/// is not open; nothing changes then.
 #[unsafe(no_mangle)]
 pub extern "C" fn lru_words_get(cache: &mut LruWords, first: u64, second: u64) -> LruTold
     ensures { Asks words_eq cache.old.cache.held (ask.get (words first second)) result []

@@ -11,14 +11,14 @@ use crate::{code, steps};
 use concurrent_lru::lru_core::{Evicted, State};
 
 impl Cache<Bytes, Bytes> {
-    ghost use Rattle.lru_c.specs.BytesCalls.{bytes_eq, BeginsByKey, ContainsBytes};
+    ghost use Rattle.lru_c.specs.BytesCalls.{bytes_eq, BeginsByKey, ContainsBytes, HasBytes};
     ghost use Rattle.lru_c.specs.Counted.{answered, inserted};
     ghost use Rattle.lru_c.specs.Inserts.{TellsInsertOf};
     ghost use Rattle.lru_c.specs.Told.{bare, Asks, AsksOf};
 
     // Copies the bytes of a key into the buffer. Returns false if the buffer cannot grow.
     fn keep(&mut self, key: &[u8]) -> bool
-        ensures kept { result ≡ true → self.new.room.bytes.items ≡ key.now }
+        ensures kept { result ≡ true → HasBytes key.now self.new.room }
         ensures state { self.new.state ≡ self.old.state }
         ensures counts { self.new.counts ≡ self.old.counts }
     {
@@ -43,8 +43,8 @@ impl Cache<Bytes, Bytes> {
     }
 
     pub(crate) fn get(&mut self, key: &[u8]) -> LruTold
-        ensures asks { AsksOf bytes_eq (λ k. k.bytes.items ≡ key.now) self.old.state.cache ask.get result
-            [] self.new.state.cache }
+        ensures asks { AsksOf bytes_eq (HasBytes key.now) self.old.state.cache ask.get result []
+            self.new.state.cache }
         ensures counts { self.new.counts ≡ answered result self.old.counts }
     {
         if !self.keep(key) {
@@ -56,7 +56,7 @@ impl Cache<Bytes, Bytes> {
     }
 
     pub(crate) fn advice_evict(&mut self, key: &[u8]) -> (u32, Evicted<Bytes, u64>)
-        ensures asks { AsksOf bytes_eq (λ k. k.bytes.items ≡ key.now) self.old.state.cache
+        ensures asks { AsksOf bytes_eq (HasBytes key.now) self.old.state.cache
             ask.advice_evict (bare result.0) result.1 self.new.state.cache }
         ensures counts { self.new.counts ≡ self.old.counts }
     {
@@ -67,7 +67,7 @@ impl Cache<Bytes, Bytes> {
     }
 
     pub(crate) fn invalidate(&mut self, key: &[u8]) -> (u32, Evicted<Bytes, u64>)
-        ensures asks { AsksOf bytes_eq (λ k. k.bytes.items ≡ key.now) self.old.state.cache
+        ensures asks { AsksOf bytes_eq (HasBytes key.now) self.old.state.cache
             ask.invalidate (bare result.0) result.1 self.new.state.cache }
         ensures counts { self.new.counts ≡ self.old.counts }
     {
@@ -83,8 +83,8 @@ impl Cache<Bytes, Bytes> {
         charge: u64,
         value: u64,
     ) -> (LruTold, (Evicted<Bytes, u64>, Evicted<Bytes, u64>))
-        ensures tells { TellsInsertOf bytes_eq (λ k. k.bytes.items ≡ key.now) self.old.state.cache charge
-            value result.0 result.1.0 result.1.1 self.new.state.cache }
+        ensures tells { TellsInsertOf bytes_eq (HasBytes key.now) self.old.state.cache charge value
+            result.0 result.1.0 result.1.1 self.new.state.cache }
         ensures counts { self.new.counts ≡ inserted result.0 self.old.counts }
     {
         if charge == 0 {

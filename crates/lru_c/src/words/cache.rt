@@ -39,16 +39,16 @@ impl Cache<Words, ()> {
     }
 
     pub(crate) fn advice_evict(&mut self, key: &Words) -> (u32, Evicted<Words, u64>)
-        ensures asks { Asks words_eq self.old.state.cache (ask.advice_evict key.now) (bare result.0) result.1
-            self.new.state.cache }
+        ensures asks { Asks words_eq self.old.state.cache (ask.advice_evict key.now) (bare result.0)
+            result.1 self.new.state.cache }
         ensures counts { self.new.counts ≡ self.old.counts }
     {
         steps::advice_evict(&mut self.state, key)
     }
 
     pub(crate) fn invalidate(&mut self, key: &Words) -> (u32, Evicted<Words, u64>)
-        ensures asks { Asks words_eq self.old.state.cache (ask.invalidate key.now) (bare result.0) result.1
-            self.new.state.cache }
+        ensures asks { Asks words_eq self.old.state.cache (ask.invalidate key.now) (bare result.0)
+            result.1 self.new.state.cache }
         ensures counts { self.new.counts ≡ self.old.counts }
     {
         steps::invalidate(&mut self.state, key)

@@ -1,16 +1,16 @@
-use Rattle.std.proofs.Common.{◌≡◌, ap, refl}
+use Rattle.std.proofs.Common.{ap, refl}
 use Rattle.concurrent_lru.specs.Request as ask
 use Rattle.lru_c.specs.Codes as code
-use Rattle.lru_c.specs.BytesCalls.{bytes_eq}
+use Rattle.lru_c.specs.BytesCalls.{bytes_eq, HasBytes}
 use Rattle.lru_c.specs.Told.{bare}
 use Rattle.lru_c.proofs.ByKey.{by_key, without_key}
 use Rattle.lru_c.proofs.bytes.cache.Cache+Bytes+Bytes.advice_evict.Goals as goal
 
 pub returns-then-not-keep-clause-asks : goal.returns-then-not-keep-clause-asks
 returns-then-not-keep-clause-asks c =
-    without_key bytes_eq (λ k. k.bytes.items ≡ c.args.key.now) c.args.self.now.state.cache c.keep.new.self.state.cache (λ k. ask.advice_evict k) (bare code.memory) c.none.result refl (ap (λ s. s.cache) c.keep.ensures.state) c.none.ensures
+    without_key bytes_eq (HasBytes c.args.key.now) c.args.self.now.state.cache c.keep.new.self.state.cache (λ k. ask.advice_evict k) (bare code.memory) c.none.result refl (ap (λ s. s.cache) c.keep.ensures.state) c.none.ensures
 
 pub returns-clause-asks : goal.returns-clause-asks
 returns-clause-asks c =
-    by_key bytes_eq (λ k. k.bytes.items ≡ c.args.key.now) c.args.self.now.state.cache c.keep.new.self.state.cache c.advice_evict.new.state.cache (λ k. ask.advice_evict k) c.keep.new.self.room (bare c.advice_evict.result.0) c.advice_evict.result.1
+    by_key bytes_eq (HasBytes c.args.key.now) c.args.self.now.state.cache c.keep.new.self.state.cache c.advice_evict.new.state.cache (λ k. ask.advice_evict k) c.keep.new.self.room (bare c.advice_evict.result.0) c.advice_evict.result.1
     (ap (λ s. s.cache) c.keep.ensures.state) (c.if-not-keep.ensures.kept refl) c.advice_evict.ensures

@@ -1,14 +1,14 @@
-use Rattle.std.proofs.Common.{[], ◌≡◌, ap, refl}
+use Rattle.std.proofs.Common.{[], ap, refl}
 use Rattle.concurrent_lru.specs.Request as ask
-use Rattle.lru_c.specs.BytesCalls.{bytes_eq}
+use Rattle.lru_c.specs.BytesCalls.{bytes_eq, HasBytes}
 use Rattle.lru_c.proofs.ByKey.{by_key, without_key}
 use Rattle.lru_c.proofs.bytes.cache.Cache+Bytes+Bytes.get.Goals as goal
 
 pub returns-then-not-keep-clause-asks : goal.returns-then-not-keep-clause-asks
 returns-then-not-keep-clause-asks c =
-    without_key bytes_eq (λ k. k.bytes.items ≡ c.args.key.now) c.args.self.now.state.cache c.keep.new.self.state.cache (λ k. ask.get k) c.bare.result [] c.bare.ensures (ap (λ s. s.cache) c.keep.ensures.state) refl
+    without_key bytes_eq (HasBytes c.args.key.now) c.args.self.now.state.cache c.keep.new.self.state.cache (λ k. ask.get k) c.bare.result [] c.bare.ensures (ap (λ s. s.cache) c.keep.ensures.state) refl
 
 pub returns-clause-asks : goal.returns-clause-asks
 returns-clause-asks c =
-    by_key bytes_eq (λ k. k.bytes.items ≡ c.args.key.now) c.args.self.now.state.cache c.keep.new.self.state.cache c.get-told.new.state.cache (λ k. ask.get k) c.keep.new.self.room c.get-told.result []
+    by_key bytes_eq (HasBytes c.args.key.now) c.args.self.now.state.cache c.keep.new.self.state.cache c.get-told.new.state.cache (λ k. ask.get k) c.keep.new.self.room c.get-told.result []
     (ap (λ s. s.cache) c.keep.ensures.state) (c.if-not-keep.ensures.kept refl) c.get-told.ensures
