@@ -12,17 +12,18 @@
  *
  * If a key has no value, one caller is told LRU_MAKE: it makes the value and passes it to `ready`,
  * or gives up with `fail`. Callers that ask for the same key in the meantime are told LRU_WAIT.
- * They have a pin already, and ask again with `poll`.
+ * They have a pin already, and ask again with `poll` after that `ready` or `fail`. The library does
+ * not wake them: threads that wait need, for example, a condition variable.
  *
  * There are two families of functions, which differ only in their keys:
  *
  *     lru_bytes_*   keys are byte strings; the cache keeps its own copies
  *     lru_words_*   keys are 16 bytes, passed as two words, and faster to look up
  *
- * The library is proved: each call is one step of the cache that docs/DEFINITIONS.md defines, or is
- * refused with a code and changes nothing. The library takes no lock and starts no thread. The
- * archive is for Linux with glibc, and also links into a shared object. Programs that share a cache
- * among threads are compiled and linked with -pthread.
+ * The library is proved: each call is one step of the cache that docs/DEFINITIONS.md in the sources
+ * defines, or is refused with a code and changes nothing. The library takes no lock and starts no
+ * thread. The archive is for Linux with glibc, and also links into a shared object. Programs that
+ * share a cache among threads are compiled and linked with -pthread.
  *
  * WHAT THE CALLER MUST ENSURE. The proofs rely on the following, and it is not checked at run time:
  *
@@ -33,8 +34,8 @@
  *     is copied, only one of the two copies is used from then on.
  *  3. Pointers to handles and to results are not null. They point to whole objects that do not
  *     overlap: the cache, the chain, the key and the result of a call are four different objects.
- *  4. A key is `length` readable bytes, which nobody writes during the call. Its length is below
- *     2^63.
+ *  4. A key is `length` readable bytes, which nobody writes during the call. A buffer is `room`
+ *     writable bytes, which nobody else uses during the call. Both lengths are below 2^63.
  *  5. malloc, realloc and free belong to one allocator, and malloc and realloc align a block to
  *     each power of two up to 16 that divides its size.
  *  6. No call is made from a signal handler, or in the forked child of a process with threads.
@@ -94,7 +95,7 @@ enum {
     LRU_WAIT = 1,    /* pinned; another caller makes the value: ask again with poll */
     LRU_HIT = 2,     /* pinned; the value is told */
     LRU_DONE = 3,    /* done */
-    LRU_LEFT = 4,    /* fail: others wait, and the next of them that polls is told LRU_MAKE */
+    LRU_LEFT = 4,    /* fail: others wait; the next poll or begin for the entry is told LRU_MAKE */
     LRU_REMOVED = 5, /* fail: nobody waits, and the entry is gone */
     LRU_MISSED = 6,  /* get, contains: the key has no entry, or its value is still being made */
 
@@ -202,9 +203,9 @@ lru_code lru_bytes_new_with_limits(uint64_t capacity, uint64_t first_stamp, uint
 lru_code lru_bytes_free(lru_bytes *cache, lru_bytes_evicted *left);
 
 /* Asks for the value of a key and pins its entry, or adds an entry if there is none. `charge`,
- * above 0, is the charge of a new entry; an entry that exists keeps its charge. What the new charge
- * evicts is put into `gone`, oldest first. The pin is given back by `release` after LRU_HIT or
- * `ready`, or by `fail`.
+ * above 0, is the charge of a new entry; an entry that exists keeps its charge, even if its maker
+ * failed and this caller makes the value. What the new charge evicts is put into `gone`, oldest
+ * first. The pin is given back by `release` after LRU_HIT or `ready`, or by `fail`.
  *
  * Allocates for a new entry, and if the key is longer than any before. LRU_MAKE with the stamp;
  * LRU_WAIT with the stamp; LRU_HIT with the stamp and the value; LRU_OVERFLOW if the total would
@@ -278,10 +279,10 @@ static inline lru_code lru_bytes_invalidate(lru_bytes *cache, const void *key, s
  * to be given back by `release`. If the old entry was idle, it is put into `gone`, followed by what
  * the charge evicts, oldest first.
  *
- * Allocates. LRU_DONE with the stamp: the value belongs to the cache; LRU_OVERFLOW if the total
- * would exceed 2^64 - 1, without an idle entry of the key, or if the stamps are used up;
- * LRU_MEMORY; LRU_NO_CHARGE; LRU_NULL_KEY; LRU_CLOSED; LRU_NOT_EMPTY. After a refusal the key keeps
- * its entry, and the value still belongs to the caller. */
+ * Allocates. LRU_DONE with the stamp: the value belongs to the cache; LRU_OVERFLOW if the total,
+ * not counting an idle entry of the key, would exceed 2^64 - 1, or if the stamps are used up;
+ * LRU_MEMORY; LRU_NO_CHARGE if `charge` is 0; LRU_NULL_KEY; LRU_CLOSED; LRU_NOT_EMPTY. After a
+ * refusal the key keeps its entry, and the value still belongs to the caller. */
 static inline lru_told lru_bytes_insert(lru_bytes *cache, const void *key, size_t length,
                                         uint64_t charge, uint64_t value, lru_bytes_evicted *gone);
 
@@ -296,7 +297,8 @@ lru_code lru_bytes_prune(lru_bytes *cache, lru_bytes_evicted *gone);
  * Does not allocate. LRU_DONE; LRU_CLOSED; LRU_NOT_EMPTY. */
 lru_code lru_bytes_set_capacity(lru_bytes *cache, uint64_t capacity, lru_bytes_evicted *gone);
 
-/* Makes room for `entries` entries in all, so that no `begin` grows a map until there are more.
+/* Makes room for `entries` entries in all, so that no `begin` or `insert` grows a table until there
+ * are more.
  *
  * Allocates. LRU_DONE; LRU_MEMORY; LRU_CLOSED. */
 lru_code lru_bytes_reserve(lru_bytes *cache, size_t entries);
@@ -340,9 +342,8 @@ lru_code lru_bytes_evicted_new(lru_bytes_evicted *out);
  * Does not allocate. LRU_DONE; LRU_NOT_EMPTY: the chain is still open; LRU_CLOSED. */
 lru_code lru_bytes_evicted_free(lru_bytes_evicted *chain);
 
-/* Removes the oldest entry of a chain and writes it to `out`; its value is the caller's again.
- * False if no entry is left or the chain is not open, and `out` is not written. Does not
- * allocate. */
+/* Removes the first entry of a chain and writes it to `out`; its value is the caller's again. False
+ * if no entry is left or the chain is not open, and `out` is not written. Does not allocate. */
 bool lru_bytes_evicted_pop(lru_bytes_evicted *chain, lru_gone *out);
 
 /* Whether no entry is left, or the chain is not open. Does not allocate. */

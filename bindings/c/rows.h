@@ -334,6 +334,8 @@ static void FAMILY(row_16)(void) {
     CHECK(told.code, LRU_MAKE);
     CHECK(told.stamp, 0);
     CHECK(FAMILY(finds)(&s, 1, 1), false);
+    /* the one that makes the value would wait for itself */
+    CHECK(FAMILY(poll)(&s.cache, 0).code, LRU_WAIT);
     told = FAMILY(ask)(&s, 1, 7);
     CHECK(told.code, LRU_WAIT);
     CHECK(told.stamp, 0);
@@ -619,9 +621,11 @@ static void FAMILY(misuse)(void) {
     CHECK(FAMILY(new_with_limits)(1, 0, 0, 0, &closed), LRU_NO_PINS);
     CHECK(FAMILY(begin)(&s.cache, KEY(1), 0, &s.gone).code, LRU_NO_CHARGE);
     CHECK(FAMILY(len)(&s.cache).value, 0);
+    FAMILY(make)(&s, 1, 1);
+    CHECK(FAMILY(begin)(&s.cache, KEY(1), 0, &s.gone).code, LRU_NO_CHARGE);
+    CHECK(FAMILY(pinned_of)(&s), 0);
 
     /* a chain that still holds entries */
-    FAMILY(make)(&s, 1, 1);
     stamp = FAMILY(hold)(&s, 2, 1);
     CHECK(FAMILY(advice_evict)(&s.cache, KEY(1), &s.gone), LRU_DONE);
     CHECK(FAMILY(evicted_is_empty)(&s.gone), false);

@@ -12,8 +12,9 @@
 // differences:
 //
 //  - If the capacity is below 256 KiB, there are fewer shards, so that each has a capacity of at
-//    least 16 KiB, which is room for a few blocks of LevelDB's usual size. If charges are not bytes
-//    or blocks are larger, pass the number of shards. LevelDB's cache always has 16.
+//    least 16 KiB, which is room for a few blocks of LevelDB's usual size. If blocks are larger,
+//    pass the number that ShardsFor(capacity, options.block_size) returns, and if charges are not
+//    bytes, a number of your own. LevelDB's cache always has 16.
 //  - Release evicts too. LevelDB's cache evicts only in Insert, so a shard whose pinned entries
 //    exceeded its capacity stays above it until the next Insert. Here a shard is above its capacity
 //    only while all of its entries are pinned. In particular, an entry larger than its shard's
@@ -63,9 +64,12 @@ namespace lru {
 template <class Key>
 class BasicLevelDBCache : public leveldb::Cache {
  public:
-  // The number of shards unless it is passed: 16, or less if the capacity is below 256 KiB.
-  static std::size_t ShardsFor(std::size_t capacity) noexcept {
-    return std::clamp<std::size_t>(capacity >> 14, 1, kMostShards);
+  // A good number of shards for blocks of this size: the most, from 1 to 16, that leave each shard
+  // the capacity of four blocks. Unless a number is passed, a cache has as many as for blocks of
+  // 4 KiB. A size of 0 counts as 1.
+  static std::size_t ShardsFor(std::size_t capacity, std::size_t block_size = 4096) noexcept {
+    const std::size_t blocks = capacity / std::max<std::size_t>(block_size, 1);
+    return std::clamp<std::size_t>(blocks / 4, 1, kMostShards);
   }
 
   // A cache with the given capacity, or null if there is no memory for it. `shards` is from 1 to
@@ -244,7 +248,7 @@ class BasicLevelDBCache : public leveldb::Cache {
     const std::uint8_t* const end = at + key.size();
     std::uint32_t hash = static_cast<std::uint32_t>(key.size()) * kFactor;
     for (; end - at >= 4; at += 4) {
-      std::uint32_t word;  // its lowest byte first, as x86-64 has it
+      std::uint32_t word;  // its lowest byte first, as x86-64 and aarch64 have it
       std::memcpy(&word, at, sizeof word);
       hash = (hash + word) * kFactor;
       hash ^= hash >> 16;

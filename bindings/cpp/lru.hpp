@@ -176,8 +176,9 @@ class Handle {
 // A cache behind one lock.
 //
 // Keys are byte strings (std::string_view; the cache copies the bytes for each entry that it makes)
-// or lru::Words. All members may be called from any thread at any time, except the constructor and
-// the destructor.
+// or lru::Words. Each call hashes its key with the lock held, and copies the bytes first, so long
+// keys make other threads wait. All members may be called from any thread at any time, except the
+// constructor and the destructor.
 //
 // No lock is held while `init` makes a value or a value is deleted. So both may take long, and may
 // call the cache. But `init` must not ask for the key whose value it makes, and must not wait for
@@ -240,7 +241,7 @@ class Cache {
   //
   // `charge` is what the value counts for against the capacity, in units of the caller's choice; it
   // must be above 0, even if the key has a value. If the value exists already or is being made, its
-  // charge does not change.
+  // charge does not change, even if the other caller fails and this one makes the value.
   //
   // Throws ZeroCharge, Overflow and OutOfMemory before `init` runs, and nothing changes. If there
   // is no memory for the value, or to keep it once it is made, std::bad_alloc is thrown as if by
@@ -451,6 +452,10 @@ inline std::size_t shards_for(std::uint64_t capacity, std::uint64_t charge) noex
 // value once it is idle. So if charges are larger than 1, pass the number of shards:
 //
 //   lru::ShardedCache<Page> cache(capacity, lru::shards_for(capacity, 4096));
+//
+// The shard of a key does not depend on the seed. Whoever knows `Hash`, such as std::hash, can
+// choose keys that all have the same shard, and so only its lock and its share of the capacity. If
+// keys come from outside the program, pass a `Hash` that mixes in a random number.
 template <class Value, class Key = std::string_view, class Hash = std::hash<Key>>
 class ShardedCache {
  public:

@@ -133,19 +133,23 @@ void an_init_that_throws_leaves_nothing() {
 void refusals_are_exceptions() {
   Numbers cache(10);
   cache.get_or_init(key(1), 1, returns(1));
-  bool zero = false, overflow = false, ran = false;
+  int zero = 0;
+  bool overflow = false, ran = false;
   const auto runs = [&ran](lru::Words) { return ran = true, 2; };
-  try {
-    cache.get_or_init(key(2), 0, runs);
-  } catch (const lru::ZeroCharge&) {
-    zero = true;
+  // Also if the key has a value.
+  for (const std::uint64_t n : {1, 2}) {
+    try {
+      cache.get_or_init(key(n), 0, runs);
+    } catch (const lru::ZeroCharge&) {
+      zero++;
+    }
   }
   try {
     cache.get_or_init(key(2), UINT64_MAX, runs);
   } catch (const lru::Overflow&) {
     overflow = true;
   }
-  CHECK(zero && overflow && !ran);
+  CHECK(zero == 2 && overflow && !ran);
   CHECK(cache.total_charge() == 1 && cache.get(key(1)));
   bool no_shards = false;
   try {

@@ -237,9 +237,9 @@ void CachesBlocksOnly() {
 }
 
 // The number of blocks, of 30 that were put in, that are found again.
-int Kept(const Tested& cache) {
+int Kept(const Tested& cache, std::size_t charge = 4100) {
   int kept = 0;
-  for (int n = 0; n < 30; n++) cache.Put("block " + std::to_string(n), "x", 4100);
+  for (int n = 0; n < 30; n++) cache.Put("block " + std::to_string(n), "x", charge);
   for (int n = 0; n < 30; n++) kept += cache.Get("block " + std::to_string(n)) == "x";
   Tested::Deleted();
   return kept;
@@ -259,6 +259,12 @@ void KeepsFewBlocks() {
   using Cache = lru::LevelDBBlockCache;
   CHECK(Cache::ShardsFor(0) == 1 && Cache::ShardsFor(40 << 10) == 2);
   CHECK(Cache::ShardsFor((256 << 10) - 1) == 15 && Cache::ShardsFor(SIZE_MAX) == 16);
+  // Large blocks: 16 shards are each smaller than one of them.
+  CHECK(Cache::ShardsFor(1 << 20, 64 << 10) == 4 && Cache::ShardsFor(1 << 20, 1 << 20) == 1);
+  CHECK(Cache::ShardsFor(SIZE_MAX, SIZE_MAX) == 1 && Cache::ShardsFor(63, 0) == 15);
+  const std::size_t charge = (64 << 10) + 4;
+  CHECK(Kept(blocks(1 << 20), charge) == 0);
+  CHECK(Kept(blocks(1 << 20, Cache::ShardsFor(1 << 20, 64 << 10)), charge) == 12);
 }
 
 void Common(NewCache new_cache) {

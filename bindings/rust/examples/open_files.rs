@@ -25,7 +25,7 @@ fn head(files: &LruCache<String, File>, path: &str) -> Result<Vec<u8>, Box<dyn E
 
 fn main() -> Result<(), Box<dyn Error>> {
     let paths: Vec<String> = env::args().skip(1).collect();
-    let files = LruCache::new(32)?;
+    let files = LruCache::<String, File>::new(32)?;
     thread::scope(|scope| {
         for _ in 0..4 {
             scope.spawn(|| {

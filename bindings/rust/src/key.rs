@@ -2,7 +2,11 @@
 
 use std::borrow::Cow;
 use std::ffi::{OsStr, OsString};
-use std::net::{IpAddr, Ipv4Addr, Ipv6Addr};
+use std::net::{IpAddr, Ipv4Addr, Ipv6Addr, SocketAddr, SocketAddrV4, SocketAddrV6};
+use std::num::{
+    NonZeroI8, NonZeroI16, NonZeroI32, NonZeroI64, NonZeroIsize, NonZeroU8, NonZeroU16, NonZeroU32,
+    NonZeroU64, NonZeroUsize,
+};
 use std::path::{Path, PathBuf};
 use std::rc::Rc;
 use std::sync::Arc;
@@ -20,13 +24,14 @@ use crate::form::sealed::Calls;
 ///
 /// These types are keys:
 ///
-/// - Integers, `char`, `bool` and addresses of one IP version, and pairs of those that have at most
-///   64 bits. They are written as words, which are faster to look up.
+/// - Integers, `char`, `bool`, [`Ipv4Addr`], [`Ipv6Addr`] and [`SocketAddrV4`], and pairs of those
+///   that have at most 64 bits. They are written as words, which are faster to look up.
 /// - Strings and slices of bytes. They are written as bytes, which the cache copies for each entry
 ///   that it makes.
-/// - Paths, [`IpAddr`], all other pairs of these types, such as `(String, u64)`, and any three or
-///   four keys. Their bytes are put together in each call.
-/// - References to keys, and keys in an [`Arc`] or [`Rc`].
+/// - Paths, [`IpAddr`], [`SocketAddr`], [`SocketAddrV6`], an [`Option`] of a key, all other pairs
+///   of these types, such as `(String, u64)`, and any three or four keys. Their bytes are put
+///   together in each call.
+/// - References to keys, and keys in a [`Box`], an [`Arc`] or an [`Rc`].
 ///
 /// # Examples
 ///
@@ -97,6 +102,14 @@ impl<K: Key + ?Sized> Key for &K {
     }
 }
 
+impl<K: Key + ?Sized> Key for Box<K> {
+    type Form = K::Form;
+
+    fn written(&self) -> Written<'_, K::Form> {
+        (**self).written()
+    }
+}
+
 impl<K: Key + ?Sized> Key for Arc<K> {
     type Form = K::Form;
 
@@ -129,10 +142,8 @@ macro_rules! written_as_bytes {
 written_as_bytes! {
     [u8]: |key| key;
     Vec<u8>: |key| key;
-    Box<[u8]>: |key| key;
     str: |key| key.as_bytes();
     String: |key| key.as_bytes();
-    Box<str>: |key| key.as_bytes();
     OsStr: |key| key.as_encoded_bytes();
     OsString: |key| key.as_encoded_bytes();
 }
@@ -184,7 +195,18 @@ written_as_a_word! {
     i32: |key| key as u64;
     i64: |key| key as u64;
     isize: |key| key as u64;
+    NonZeroU8: |key| key.get().word();
+    NonZeroU16: |key| key.get().word();
+    NonZeroU32: |key| key.get().word();
+    NonZeroU64: |key| key.get().word();
+    NonZeroUsize: |key| key.get().word();
+    NonZeroI8: |key| key.get().word();
+    NonZeroI16: |key| key.get().word();
+    NonZeroI32: |key| key.get().word();
+    NonZeroI64: |key| key.get().word();
+    NonZeroIsize: |key| key.get().word();
     Ipv4Addr: |key| u32::from(key).into();
+    SocketAddrV4: |key| key.ip().word() << 16 | key.port().word();
 }
 
 macro_rules! written_as_words {
@@ -249,6 +271,41 @@ impl Key for IpAddr {
     }
 }
 
+impl Key for SocketAddrV6 {
+    type Form = CowBytes;
+
+    fn written(&self) -> Cow<'_, [u8]> {
+        let parts = (*self.ip(), self.port(), self.flowinfo(), self.scope_id());
+        Cow::Owned(parts.written().into_owned())
+    }
+}
+
+impl Key for SocketAddr {
+    type Form = CowBytes;
+
+    fn written(&self) -> Cow<'_, [u8]> {
+        let mut bytes = Vec::new();
+        match self {
+            SocketAddr::V4(address) => append(address, &mut bytes),
+            SocketAddr::V6(address) => append(address, &mut bytes),
+        }
+        bytes.into()
+    }
+}
+
+impl<K: Key> Key for Option<K> {
+    type Form = CowBytes;
+
+    fn written(&self) -> Cow<'_, [u8]> {
+        // `None` has no bytes, and `append` adds some for each key.
+        let mut bytes = Vec::new();
+        if let Some(key) = self {
+            append(key, &mut bytes);
+        }
+        bytes.into()
+    }
+}
+
 /// Implements `written` for a tuple with these fields.
 macro_rules! written_one_after_another {
     ($($field:tt)*) => {
@@ -295,8 +352,11 @@ pairs_with! {
     [] i128;
     [] IpAddr;
     [] Ipv6Addr;
+    [] SocketAddr;
+    [] SocketAddrV6;
     [] [u64; 2];
     [const N: usize,] [u8; N];
+    [K: Key,] Option<K>;
     [K: Key + ?Sized,] Arc<K>;
     [K: Key + ?Sized,] Rc<K>;
 }

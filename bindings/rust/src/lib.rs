@@ -10,11 +10,18 @@
 //! - [`unsharded::LruCache`] has one lock,
 //! - [`sharded::LruCache`] has one for each shard.
 //!
-//! It differs from that crate in these points: a key must be one that can be written as bytes or as
-//! two words ([`key::Key`]), and is passed by reference, so its type has to be named, as in
-//! `LruCache::<String, _>::new(10)`; calls return a [`Refusal`] if the cache cannot serve them; a
-//! charge must be above 0; a sharded cache with a small capacity has few shards; the capacity can
-//! be read and set; there are `insert` and `invalidate`; and `stats` counts hits and misses.
+//! It differs from that crate in these points:
+//!
+//! - Keys are passed by reference, so their type has to be named where a cache is created, as in
+//!   `LruCache::<String, _>::new(10)`. It implements [`key::Key`], as many types of std do.
+//! - Calls return a [`Refusal`] if the cache cannot serve them. If `init` returns an
+//!   [`io::Error`](std::io::Error), `?` converts either error to one.
+//! - A charge must be above 0, even if the key has a value.
+//! - A number of shards is a [`NonZeroUsize`](std::num::NonZeroUsize), and a small capacity is
+//!   divided among fewer than 16 shards ([`sharded::shards_for`]).
+//! - It has more calls: `insert`, `invalidate`, `read`, `contains`, `len`, `pinned_charge`,
+//!   `capacity`, `set_capacity`, `stats`, and those that return an [`unsharded::OwnedHandle`], a
+//!   handle that keeps its cache alive.
 //!
 //! # Examples
 //!
@@ -22,7 +29,7 @@
 //! use concurrent_lru_proved::sharded::LruCache;
 //! use std::fs::File;
 //!
-//! # fn main() -> Result<(), Box<dyn std::error::Error>> {
+//! # fn main() -> std::io::Result<()> {
 //! let files = LruCache::<String, File>::new(10)?;
 //! let hosts = files.get_or_try_init("/etc/hosts", 1, |path| File::open(path))?;
 //! println!("{} bytes", hosts.metadata()?.len());

@@ -27,7 +27,8 @@ use crate::stats::Stats;
 /// `Drop` of a value that is evicted for the new one.
 ///
 /// Keys are passed by reference, as in [`HashMap`](std::collections::HashMap): a cache with keys of
-/// type `String` takes a `&str`.
+/// type `String` takes a `&str`. Each call hashes its key with the lock held, after copying it if
+/// it is written as bytes, so long keys make other threads wait.
 ///
 /// # Examples
 ///
@@ -178,16 +179,17 @@ impl<K: Key + ?Sized, V> LruCache<K, V> {
     ///
     /// `charge` is what the value counts for against the capacity, in units of the caller's choice;
     /// it must be above 0, even if the key has a value. If the value exists already or is being
-    /// made, its charge does not change.
+    /// made, its charge does not change, even if the other caller fails and this one makes the
+    /// value.
     ///
     /// # Errors
     ///
     /// [`Refusal::ZeroCharge`] if `charge` is 0, even if the key has a value. [`Refusal::Overflow`]
-    /// if the total of all charges would exceed `u64::MAX` or the value has `u32::MAX` handles.
-    /// [`Refusal::Memory`] if there is no memory for a new entry. In these cases `init` does not
-    /// run and nothing is evicted, with one exception: if there is no memory to store the value
-    /// that `init` has made, the call fails with [`Refusal::Memory`] and the value is dropped, as
-    /// if `init` had failed.
+    /// if the total of all charges would exceed `u64::MAX`, if the value has `u32::MAX` handles, or
+    /// if `u64::MAX` values have been made. [`Refusal::Memory`] if there is no memory for a new
+    /// entry. In these cases `init` does not run and nothing is evicted, with one exception: if
+    /// there is no memory to store the value that `init` has made, the call fails with
+    /// [`Refusal::Memory`] and the value is dropped, as if `init` had failed.
     pub fn get_or_init<Q>(
         &self,
         key: &Q,
@@ -317,9 +319,10 @@ impl<K: Key + ?Sized, V> LruCache<K, V> {
     ///
     /// # Errors
     ///
-    /// [`Refusal::ZeroCharge`] if `charge` is 0, [`Refusal::Overflow`] if the total of all charges
-    /// would exceed `u64::MAX`, and [`Refusal::Memory`]. The key keeps its old value then, and the
-    /// new one is dropped.
+    /// [`Refusal::ZeroCharge`] if `charge` is 0. [`Refusal::Overflow`] if the total of all charges,
+    /// not counting an idle value of the key, would exceed `u64::MAX`, or if `u64::MAX` values have
+    /// been made. [`Refusal::Memory`] if there is no memory for a new entry. The key keeps its old
+    /// value then, and the new one is dropped.
     ///
     /// # Examples
     ///

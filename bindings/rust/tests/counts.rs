@@ -104,9 +104,8 @@ impl Plain {
     }
 
     fn advice_evict(&mut self, key: u64) {
-        if let Some(place) = self.place(key)
-            && self.entries[place].pins == 0
-        {
+        let is_idle = |place: &usize| self.entries[*place].pins == 0;
+        if let Some(place) = self.place(key).filter(is_idle) {
             self.evict(place);
         }
     }

@@ -1,7 +1,10 @@
 //! Tests the cache behind one lock.
 
+use std::fs::File;
 use std::io;
-use std::net::{IpAddr, Ipv4Addr, Ipv6Addr};
+use std::net::{IpAddr, Ipv4Addr, Ipv6Addr, SocketAddr, SocketAddrV4, SocketAddrV6};
+use std::num::{NonZeroI8, NonZeroU64};
+use std::os::unix::fs::FileExt;
 use std::panic::{self, AssertUnwindSafe};
 use std::path::{Path, PathBuf};
 use std::sync::atomic::{AtomicU64, Ordering};
@@ -347,6 +350,9 @@ fn refusals_have_names_and_change_nothing() -> Result<(), Refusal> {
     cache.get_or_init(&1, 1, |_| 1)?;
     let refused = cache.get_or_init(&2, 0, |_| 2).err();
     assert_eq!(refused, Some(Refusal::ZeroCharge));
+    // Also if the key has a value.
+    let refused = cache.get_or_init(&1, 0, |_| 2).err();
+    assert_eq!(refused, Some(Refusal::ZeroCharge));
     let refused = cache.get_or_init(&2, u64::MAX, |_| 2).err();
     assert_eq!(refused, Some(Refusal::Overflow));
     assert_eq!(cache.total_charge(), 1);
@@ -662,6 +668,18 @@ fn keys_of_every_form() -> Result<(), Refusal> {
     let mapped = |address: Ipv4Addr| IpAddr::V6(address.to_ipv6_mapped());
     serves::<IpAddr, _>(&Ipv4Addr::LOCALHOST.into(), &mapped(Ipv4Addr::LOCALHOST));
     serves::<IpAddr, _>(&Ipv6Addr::LOCALHOST.into(), &Ipv6Addr::UNSPECIFIED.into());
+    let v4 = |port| SocketAddrV4::new(Ipv4Addr::LOCALHOST, port);
+    let v6 = |scope| SocketAddrV6::new(Ipv6Addr::LOCALHOST, 80, 0, scope);
+    serves::<SocketAddrV4, _>(&v4(80), &v4(443));
+    serves::<SocketAddrV6, _>(&v6(0), &v6(1));
+    serves::<SocketAddr, _>(&v4(80).into(), &v6(0).into());
+    serves::<NonZeroU64, _>(&NonZeroU64::MIN, &NonZeroU64::MAX);
+    serves::<NonZeroI8, _>(&NonZeroI8::MIN, &NonZeroI8::MAX);
+    serves::<Option<u64>, _>(&None, &Some(0));
+    serves::<Option<&str>, _>(&None, &Some(""));
+    serves::<Box<str>, str>("a", "b");
+    serves::<Box<Path>, Path>("a".as_ref(), "b".as_ref());
+    serves::<Box<u64>, u64>(&1, &2);
     Ok(())
 }
 
@@ -702,6 +720,13 @@ fn keys_of_several_parts() -> Result<(), Refusal> {
         (IpAddr::V4(Ipv4Addr::LOCALHOST), 80_u16),
         (Ipv6Addr::LOCALHOST.into(), 80),
     ])?;
+    let localhost = |port| SocketAddr::from((Ipv4Addr::LOCALHOST, port));
+    all_differ(&[
+        (localhost(80), None),
+        (localhost(80), Some("")),
+        (localhost(81), None),
+    ])?;
+    all_differ(&[(Some(1_u8), None), (None, Some(1_u8)), (None, None)])?;
     all_differ(&[(1_u8, 2_u8, 3_u8), (1, 3, 2), (2, 1, 3), (3, 2, 1)])?;
     all_differ(&[
         (1_u8, 2_u8, "", 3_u128),
@@ -759,4 +784,25 @@ fn errors_say_what_happened() {
     }
     let missing = GetError::Init(io::Error::from(io::ErrorKind::NotFound));
     assert_eq!(io::Error::from(missing).kind(), io::ErrorKind::NotFound);
+}
+
+/// In a function that returns `io::Result`, `?` is enough for an `init` that opens a file.
+#[test]
+fn errors_become_those_of_io() -> io::Result<()> {
+    fn head(files: &LruCache<PathBuf, File>, path: &Path) -> io::Result<[u8; 4]> {
+        let file = files.get_or_try_init(path, 1, |path| File::open(path))?;
+        let mut head = [0; 4];
+        file.read_exact_at(&mut head, 0)?;
+        Ok(head)
+    }
+
+    let files = LruCache::new(10)?;
+    assert_eq!(head(&files, &std::env::current_exe()?)?, *b"\x7fELF");
+    let missing = head(&files, Path::new("/there/is/no/such/file"));
+    assert_eq!(
+        missing.map_err(|error| error.kind()),
+        Err(io::ErrorKind::NotFound)
+    );
+    assert_eq!(files.len(), 1);
+    Ok(())
 }
