@@ -124,11 +124,17 @@ class Frame(NamedTuple):
         return self.bottom - part * (self.bottom - self.top)
 
 
+def lines_in(paths):
+    """The lines of these files, each as its words."""
+    for path in paths:
+        for line in Path(path).read_text("utf-8").splitlines():
+            yield line.split()
+
+
 def least_of(paths):
     """The least nanoseconds of each (system, workload, entries, threads)."""
     least = {}
-    for line in (line for path in paths for line in Path(path).read_text("utf-8").splitlines()):
-        words = line.split()
+    for words in lines_in(paths):
         if len(words) == 5 and words[0] != "#":
             kind = (words[0], words[1], int(words[2]), int(words[3]))
             least[kind] = min(float(words[4]), least.get(kind, math.inf))
@@ -138,8 +144,7 @@ def least_of(paths):
 def ratios_of(paths):
     """The last hit ratio of each (system, workload, entries, threads)."""
     ratios = {}
-    for line in (line for path in paths for line in Path(path).read_text("utf-8").splitlines()):
-        words = line.split()
+    for words in lines_in(paths):
         if len(words) == 7 and words[:2] == ["#", "hits"]:
             ratios[words[2], words[3], int(words[4]), int(words[5])] = float(words[6])
     return ratios
@@ -180,34 +185,42 @@ def by_hits(least, ratios):
         for kind, ns in least.items()
         if kind in ratios and kind[1] == "read_mostly" and kind[3] == 4 and kind[0] not in CLOSE
     ]
-    across = [ratio for _, ratio, _ in points] or [0.5]
-    first, last = math.floor(min(across) * 100), math.ceil(max(across) * 100)
+    across = [ratio for _, ratio, _ in points]
+    first = math.floor(min(across, default=0) * 100)
+    last = math.ceil(max(across, default=0) * 100)
     shown = tuple(percent / 100 for percent in range(first, last + 1))
     return Chart("read_mostly, four threads", "hit ratio", lines_of(points), "", shown)
 
 
-def label(system, common):
-    """What a system is called, without what all are."""
-    name, variant = system, []
+def split(system):
+    """A system's name without the ending of a variant, and that ending, empty if it has none."""
+    name, variant = system, ""
     for ending in VARIANTS:
         if name.endswith(f"-{ending}"):
-            name, variant = name.removesuffix(f"-{ending}"), [ending]
+            name, variant = name.removesuffix(f"-{ending}"), ending
+    return name, variant
+
+
+def label(system, common):
+    """What a system is called, without what all are."""
+    name, variant = split(system)
     name, *parts = [name] if name in CALLED else name.split("-")
     if any(part.isdigit() for part in parts):
         parts.remove("sharded")
     words = [CALLED.get(name, name)]
     words += [f"{part} shards" if part.isdigit() else CALLED.get(part, part) for part in parts]
-    words += [CALLED.get(ending, ending) for ending in variant]
+    if variant:
+        words.append(CALLED.get(variant, variant))
     return ", ".join(word for word in words if word != common)
 
 
 def is_variant(system):
     """Whether a system is another one, asked by `read` or with room reserved."""
-    return system.endswith(tuple(f"-{ending}" for ending in VARIANTS))
+    return split(system)[1] != ""
 
 
 def colours(system):
-    return COLOURS.get(system.removesuffix("-read").removesuffix("-reserved"), OTHER_COLOURS)
+    return COLOURS.get(split(system)[0], OTHER_COLOURS)
 
 
 def apart(wanted, top, bottom):
