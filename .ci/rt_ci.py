@@ -2,8 +2,9 @@
 library, so that `.ci/archive` compiles it without another proof.
 
 By itself `rt ci` gives a check several jobs if processors are idle. They repeat much of each
-other's work: `concurrent_lru`, for which all other crates wait, takes 31 processor minutes with
-four jobs, and 23 with one, and ends only a few minutes earlier.
+other's work: on one busy machine, `concurrent_lru` took 31 processor minutes in 17 minutes with
+several jobs, and 26 in 28 minutes with one. All other crates wait for it, so a first run ends
+later, and takes less in all.
 """
 import os
 import sys
