@@ -3,13 +3,13 @@
 ghost use Rattle.std.specs.Prelude.{◌<◌};
 
 use lru_clock::clock::Cache;
-use lru_fixtures::errands::{Outcome, Sent, causes, outcome_in};
-use lru_fixtures::gates::{CAUSES, Cause, Slow, total_in_drop};
-use lru_fixtures::makings::{value_beside_total, value_found, values_of_two};
-use lru_fixtures::meetings::makers_meet;
-use lru_fixtures::threaded::make_value;
-use lru_fixtures::workers::{CAPACITY, stays_right};
+use lru_support::errands::{Outcome, Sent, causes, outcome_in};
+use lru_support::gates::{CAUSES, Cause, Slow, total_in_drop};
 use lru_support::hashers::ByOwnNumber;
+use lru_support::makings::{value_beside_total, value_found, values_of_two};
+use lru_support::meetings::makers_meet;
+use lru_support::threaded::make_value;
+use lru_support::workers::{CAPACITY, stays_right};
 use std::alloc::Global;
 use std::sync::Wait;
 use std::thread;

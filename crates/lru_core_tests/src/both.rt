@@ -4,7 +4,7 @@ ghost use Rattle.std.specs.Prelude.{◌<◌};
 
 use crate::plain::Plain;
 use concurrent_lru::lru_core::State;
-use lru_fixtures::tables::{Answers, Call, text_of};
+use lru_support::tables::{Answers, Call, text_of};
 use std::alloc::{AllocError, Global};
 use std::fmt::Debug;
 use std::process::Abort;

@@ -1,8 +1,8 @@
 //! A capacity that is set later: what is evicted at once, what stays, and what comes back.
 
 use concurrent_lru::lru_core::{State, Step};
-use lru_fixtures::tables::Call::{Begin, Capacity, Prune, Ready, Release, SetCapacity};
-use lru_fixtures::tables::{Call, answers_as_expected, says};
+use lru_support::tables::Call::{Begin, Capacity, Prune, Ready, Release, SetCapacity};
+use lru_support::tables::{Call, answers_as_expected, says};
 use std::sync::Arc;
 use std::test::Fail;
 

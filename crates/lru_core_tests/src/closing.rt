@@ -1,10 +1,10 @@
 //! A cache that is closed while there are still pins.
 
 use concurrent_lru::lru_core::State;
-use lru_fixtures::tables::Call::{
+use lru_support::tables::Call::{
     Begin, Capacity, Fail, Get, Invalidate, KeyOf, Poll, Ready, Release, Show, Total,
 };
-use lru_fixtures::tables::{Call, answers_as_expected, says};
+use lru_support::tables::{Call, answers_as_expected, says};
 use std::test;
 
 // Idle are 1 and 0. Held are 2, which is ready, 3 and 4, which were invalidated, 3 with a value and

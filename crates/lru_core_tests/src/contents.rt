@@ -2,11 +2,11 @@
 //! of an entry.
 
 use concurrent_lru::lru_core::{Evicted, Refusal, State};
-use lru_fixtures::makes::make;
-use lru_fixtures::tables::Call::{
+use lru_support::makes::make;
+use lru_support::tables::Call::{
     AdviceEvict, Begin, Fail, Get, Invalidate, Poll, Prune, Ready, Release, SetCapacity, Total,
 };
-use lru_fixtures::tables::{Answers, Call};
+use lru_support::tables::{Answers, Call};
 use std::alloc::{AllocError, Global};
 use std::sync::Arc;
 

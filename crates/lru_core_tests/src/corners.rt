@@ -2,8 +2,8 @@
 //! calls, whose answers are compared with those of a plain cache.
 
 use crate::both::Both;
-use lru_fixtures::tables::Call;
-use lru_fixtures::tables::Call::{
+use lru_support::tables::Call;
+use lru_support::tables::Call::{
     AdviceEvict, Begin, Capacity, Fail, Get, KeyOf, Poll, Prune, Ready, Release, SetCapacity, Total,
 };
 

@@ -2,7 +2,7 @@
 //! first, however long it is.
 
 use concurrent_lru::lru_core::State;
-use lru_fixtures::makes::make;
+use lru_support::makes::make;
 use std::cell::Cell;
 use std::sync::Arc;
 

@@ -1,10 +1,10 @@
 //! The limits of numbers, and stamps of no entry.
 
 use concurrent_lru::lru_core::State;
-use lru_fixtures::tables::Call::{
+use lru_support::tables::Call::{
     AdviceEvict, Begin, Fail, Get, Poll, Prune, Ready, Release, Reserve, Total,
 };
-use lru_fixtures::tables::{Call, answers_as_expected};
+use lru_support::tables::{Call, answers_as_expected};
 use std::test;
 
 const LAST_STAMP: u64 = u64::MAX - 1;

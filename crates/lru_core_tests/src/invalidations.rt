@@ -2,11 +2,11 @@
 
 use concurrent_lru::list::Node;
 use concurrent_lru::lru_core::State;
-use lru_fixtures::tables::Call::{
+use lru_support::tables::Call::{
     AdviceEvict, Begin, Fail, Get, Insert, Invalidate, KeyOf, Poll, Prune, Ready, Release,
     SetCapacity, Show, Total,
 };
-use lru_fixtures::tables::{Call, answers_as_expected};
+use lru_support::tables::{Call, answers_as_expected};
 use std::test;
 
 // No entry, an idle one, and again none.

@@ -1,8 +1,8 @@
 //! Keys of other kinds: text, whose copies allocate, and keys that share hashes.
 
 use concurrent_lru::lru_core::{Refusal, State};
-use lru_fixtures::makes::make;
-use lru_fixtures::tables::text_of;
+use lru_support::makes::make;
+use lru_support::tables::text_of;
 use std::alloc::Global;
 use std::sync::Arc;
 

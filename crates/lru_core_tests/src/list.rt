@@ -3,7 +3,7 @@
 
 use concurrent_lru::list::{Node, Nodes, Phase, Refusal};
 use concurrent_lru::lru_core::State;
-use lru_fixtures::makes::{hold, make};
+use lru_support::makes::{hold, make};
 use std::process::Abort;
 use std::sync::Arc;
 use std::test::Fail;

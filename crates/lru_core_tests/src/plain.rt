@@ -3,7 +3,7 @@
 //! Its answers are those expected of the cache.
 
 use concurrent_lru::lru_core::Refusal;
-use lru_fixtures::tables::{Answers, Call, text_of};
+use lru_support::tables::{Answers, Call, text_of};
 use std::alloc::{AllocError, Global};
 use std::fmt;
 

@@ -2,8 +2,8 @@
 //! them.
 
 use concurrent_lru::lru_core::{Begun, Evicted, Refusal, State};
-use lru_fixtures::tables::Call::{Begin, Get, Poll, Prune, Read, Ready, Release, SetCapacity};
-use lru_fixtures::tables::{Call, answers_as_expected};
+use lru_support::tables::Call::{Begin, Get, Poll, Prune, Read, Ready, Release, SetCapacity};
+use lru_support::tables::{Call, answers_as_expected};
 use std::alloc::{AllocError, Global};
 use std::sync::Arc;
 use std::test::Fail;

@@ -1,8 +1,8 @@
 //! The worked row on a making that is handed over, with its steps taken as one list.
 
 use concurrent_lru::lru_core::Step;
-use lru_fixtures::steps::hand_over_after;
-use lru_fixtures::tables::says;
+use lru_support::steps::hand_over_after;
+use lru_support::tables::says;
 use std::test::Fail;
 
 #[test]

@@ -3,7 +3,7 @@ ghost use Rattle.std.specs.Prelude.{◌<◌};
 
 use crate::both::Both;
 use crate::plain::KEYS;
-use lru_fixtures::tables::Call;
+use lru_support::tables::Call;
 use rand_core::{Rng, SeedableRng};
 use rand_xoshiro::Xoshiro256PlusPlus;
 use std::alloc::Global;

@@ -1,10 +1,10 @@
 //! Each public call of the core succeeding, and the text of a cache.
 
 use concurrent_lru::lru_core::{State, Step};
-use lru_fixtures::tables::Call::{
+use lru_support::tables::Call::{
     AdviceEvict, Begin, Capacity, Fail, Get, KeyOf, Poll, Prune, Ready, Release, Show, Total,
 };
-use lru_fixtures::tables::{Call, answers_as_expected, says};
+use lru_support::tables::{Call, answers_as_expected, says};
 use std::sync::Arc;
 use std::test;
 

@@ -3,9 +3,9 @@
 ghost use Rattle.std.specs.Prelude.{◌<◌};
 
 use concurrent_lru::lru_core::{Evicted, State};
-use lru_fixtures::makes::make;
-use lru_fixtures::tables::Call::{Begin, Prune, Ready, Release};
-use lru_fixtures::tables::{Call, answers_as_expected, says};
+use lru_support::makes::make;
+use lru_support::tables::Call::{Begin, Prune, Ready, Release};
+use lru_support::tables::{Call, answers_as_expected, says};
 use std::alloc::Global;
 use std::process::Abort;
 use std::sync::Arc;

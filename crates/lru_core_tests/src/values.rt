@@ -2,7 +2,7 @@
 
 use concurrent_lru::lru_core::{Refusal, State};
 use concurrent_lru::unsharded::GetError;
-use lru_fixtures::makes::make;
+use lru_support::makes::make;
 use std::alloc::{AllocError, Global};
 use std::error::Error;
 use std::sync::Arc;

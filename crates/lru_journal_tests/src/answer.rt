@@ -1,7 +1,7 @@
 //! The answers of a journal and its twin to a call, as plain data, so that they can stand in
 //! tables.
 //!
-//! The calls are those of `lru_fixtures`; the replies are those of the records.
+//! The calls are those of `lru_support`; the replies are those of the records.
 
 use concurrent_lru::lru_core::{Begun, Failed, Refusal};
 use lru_journal::journal::{Pin, Started, Told};

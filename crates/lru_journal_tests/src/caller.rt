@@ -2,8 +2,8 @@
 ghost use Rattle.std.specs.Prelude.{◌≡◌, ◌<◌};
 
 use crate::answer::{Answer, PINNED};
-use lru_fixtures::tables::Call;
 use lru_journal::journal::{Identity, Pin, Tally, Told, Twin};
+use lru_support::tables::Call;
 use std::alloc::{AllocError, Global};
 use std::sync::{Arc, Wait};
 

@@ -8,12 +8,12 @@ use crate::answer::Answer::{Back, Gives, NotInserted, Refused, Says};
 use crate::answer::PINNED;
 use crate::table::{Row, ask_all};
 use concurrent_lru::lru_core::Refusal::{Overflow, Stale};
-use lru_fixtures::tables::Call::{
-    AdviceEvict, Begin, Fail, Get, Insert, Invalidate, Poll, Prune, Read, Ready, Release,
-    SetCapacity, Total,
-};
 use lru_journal::journal::Told::{
     Done, Found, Hit, Inserted, Left, Make, Missed, Removed, Total as Sum, Wait,
+};
+use lru_support::tables::Call::{
+    AdviceEvict, Begin, Fail, Get, Insert, Invalidate, Poll, Prune, Read, Ready, Release,
+    SetCapacity, Total,
 };
 use std::test;
 

@@ -3,8 +3,8 @@ ghost use Rattle.std.specs.Prelude.{◌<◌};
 
 use crate::answer::{Answer, PINNED};
 use concurrent_lru::lru_core::{Evicted, Refusal};
-use lru_fixtures::tables::Call;
 use lru_journal::journal::{Journal, Told};
+use lru_support::tables::Call;
 use std::alloc::{AllocError, Global};
 use std::sync::Arc;
 

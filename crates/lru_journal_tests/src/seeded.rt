@@ -5,8 +5,8 @@ ghost use Rattle.std.specs.Prelude.{◌≡◌};
 
 use crate::answer::Answer;
 use crate::{caller, owner};
-use lru_fixtures::tables::Call;
 use lru_journal::journal::{Identity, Journal, Opening, Record, Told, Twin};
+use lru_support::tables::Call;
 use rand_core::{Rng, SeedableRng};
 use rand_xoshiro::Xoshiro256PlusPlus;
 use std::alloc::Global;

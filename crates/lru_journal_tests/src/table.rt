@@ -4,8 +4,8 @@ ghost use Rattle.std.specs.Prelude.{◌≡◌};
 
 use crate::answer::Answer;
 use crate::{caller, owner};
-use lru_fixtures::tables::Call;
 use lru_journal::journal::{Identity, Journal, Opening, Record, Twin};
+use lru_support::tables::Call;
 use std::alloc::Global;
 use std::marker::Brand;
 use std::process::Abort;

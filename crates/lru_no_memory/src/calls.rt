@@ -4,7 +4,7 @@ ghost use Rattle.std.specs.Prelude.{◌<◌};
 
 use crate::report::Report;
 use concurrent_lru::lru_core::Refusal;
-use lru_fixtures::tables;
+use lru_support::tables;
 use std::alloc::Global;
 use std::io::Write;
 use std::sync::Arc;

@@ -4,8 +4,8 @@
 use crate::report::Report;
 use concurrent_lru::lru_core::{Answer, Refusal, Step};
 use concurrent_lru::sharded::{ShardStep, Shards};
-use lru_fixtures::steps::hand_over_after;
 use lru_support::hashers::ByOwnNumber;
+use lru_support::steps::hand_over_after;
 use std::alloc::Global;
 use std::io::Write;
 

@@ -6,7 +6,7 @@ use crate::shards::ShardCall;
 use crate::state::Limits;
 use crate::{journal, list, meeting, shards, state, threaded, twin};
 use concurrent_lru::lru_core::Refusal;
-use lru_fixtures::threaded::ThreadedCall;
+use lru_support::threaded::ThreadedCall;
 use std::alloc::Global;
 use std::io::Write;
 use std::sync::Wait;

@@ -4,7 +4,7 @@ ghost use Rattle.std.specs.Prelude.{◌<◌};
 use crate::calls::{AskedByText, TextCall};
 use crate::report::Report;
 use concurrent_lru::lru_core::{Refusal, State};
-use lru_fixtures::tables::Call;
+use lru_support::tables::Call;
 use std::alloc::Global;
 use std::io::Write;
 use std::sync::Arc;

@@ -4,8 +4,8 @@ ghost use Rattle.std.specs.Prelude.{◌<◌};
 
 use concurrent_lru::lru_core::Refusal;
 use concurrent_lru::{sharded, unsharded};
-use lru_fixtures::threaded::make_value;
 use lru_support::cached::{Cached, CountingCached};
+use lru_support::threaded::make_value;
 use std::hash::BuildHasher;
 use std::process::Abort;
 use std::sync::Wait;

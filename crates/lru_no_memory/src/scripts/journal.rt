@@ -3,7 +3,7 @@
 //! inserts are the calls of caches without a lock.
 
 use crate::calls::TextCall;
-use lru_fixtures::tables::Call::{
+use lru_support::tables::Call::{
     AdviceEvict, Begin, Fail, Get, Poll, Prune, Ready, Release, SetCapacity, Total,
 };
 

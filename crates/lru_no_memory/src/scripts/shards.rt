@@ -1,7 +1,7 @@
 //! The calls of shards without a lock.
 
 use crate::shards::ShardCall;
-use lru_fixtures::tables::Call::{
+use lru_support::tables::Call::{
     Begin, Fail, Get, Insert, Invalidate, Poll, Prune, Read, Ready, Release, SetCapacity, Total,
 };
 

@@ -3,7 +3,7 @@
 
 use crate::calls::TextCall;
 use crate::state::Limits;
-use lru_fixtures::tables::Call::{
+use lru_support::tables::Call::{
     AdviceEvict, Begin, Fail, Get, Insert, Invalidate, Poll, Prune, Read, Ready, Release,
     SetCapacity, Total,
 };

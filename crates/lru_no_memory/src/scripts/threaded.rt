@@ -1,8 +1,8 @@
 //! The calls of caches that threads share.
 
-use lru_fixtures::threaded::Then::AtOnce;
-use lru_fixtures::threaded::ThreadedCall;
-use lru_fixtures::threaded::ThreadedCall::{
+use lru_support::threaded::Then::AtOnce;
+use lru_support::threaded::ThreadedCall;
+use lru_support::threaded::ThreadedCall::{
     Contains, Fail, Get, Init, Insert, Invalidate, Prune, Read, Reserve, SetCapacity, Total,
     TryInit,
 };

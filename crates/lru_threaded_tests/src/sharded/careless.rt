@@ -2,12 +2,12 @@
 //! stay empty. Handles that are forgotten keep their pins there.
 
 use crate::sharded::threaded::plays_by;
-use lru_fixtures::threaded::Then::{AtOnce, Forget};
-use lru_fixtures::threaded::ThreadedCall;
-use lru_fixtures::threaded::ThreadedCall::{
+use lru_support::hashers::ByThree;
+use lru_support::threaded::Then::{AtOnce, Forget};
+use lru_support::threaded::ThreadedCall;
+use lru_support::threaded::ThreadedCall::{
     AdviceEvict, Get, Init, Prune, SetCapacity, Show, Total,
 };
-use lru_support::hashers::ByThree;
 use std::test::Fail;
 
 // On four shards, which share the capacity 8.

@@ -4,12 +4,12 @@
 use crate::contents::{Contents, NO_USE, charges, looks_for_the_oldest, make};
 use crate::sharded::shares::in_shards;
 use concurrent_lru::sharded::{LruCache, Shards};
-use lru_fixtures::tables::shards::ShardCall;
-use lru_fixtures::tables::shards::ShardCall::{
+use lru_support::hashers::ByOwnNumber;
+use lru_support::tables::shards::ShardCall;
+use lru_support::tables::shards::ShardCall::{
     AdviceEvict, Begin, Fail, Prune, Ready, Release, Use,
 };
-use lru_fixtures::tables::{Answers, text_of};
-use lru_support::hashers::ByOwnNumber;
+use lru_support::tables::{Answers, text_of};
 use std::alloc::{AllocError, Global};
 use std::process::Abort;
 use std::sync::Wait;

@@ -3,8 +3,8 @@
 use crate::contents::{Contents, make};
 use crate::sharded::shares::in_shards;
 use concurrent_lru::sharded::Counts;
-use lru_fixtures::threaded::{make_value, try_make_value};
-use lru_fixtures::workers::{EACH_ONCE, lookups_between_resets};
+use lru_support::threaded::{make_value, try_make_value};
+use lru_support::workers::{EACH_ONCE, lookups_between_resets};
 use std::process::Abort;
 
 // Makes two entries of each of three shards, and a third of the shard 1, which evicts one. Then

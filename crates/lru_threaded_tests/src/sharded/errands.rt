@@ -2,7 +2,7 @@
 //! no lock is held, and the totals are right afterwards.
 
 use concurrent_lru::sharded::LruCache;
-use lru_fixtures::errands::{Outcome, Sent, causes, outcome_in};
+use lru_support::errands::{Outcome, Sent, causes, outcome_in};
 use lru_support::hashers::ByOwnNumber;
 
 // Values 2 and 4 are evicted as one chain, and the errand of 2 evicts 3 and then 1.

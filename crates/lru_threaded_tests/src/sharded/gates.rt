@@ -3,9 +3,9 @@
 
 use crate::sharded::shares::in_shards;
 use concurrent_lru::sharded::LruCache;
-use lru_fixtures::gates::{CAUSES, Slow, total_in_drop};
-use lru_fixtures::meetings::{Shown, makers_meet, text_while_read};
+use lru_support::gates::{CAUSES, Slow, total_in_drop};
 use lru_support::hashers::ByOwnNumber;
+use lru_support::meetings::{Shown, makers_meet, text_while_read};
 
 type Cache<V, R> = LruCache<u64, V, R, ByOwnNumber>;
 

@@ -3,12 +3,12 @@ ghost use Rattle.std.specs.Prelude.{◌<◌};
 
 use crate::sharded::shares::in_shards;
 use crate::sharded::{pure, threaded};
-use lru_fixtures::makings::reads_around;
-use lru_fixtures::tables::shards::ShardCall;
-use lru_fixtures::threaded::Then::{AtOnce, Keep};
-use lru_fixtures::threaded::ThreadedCall;
-use lru_fixtures::threaded::ThreadedCall::{Get, Init, Insert, Invalidate, LetGo, Show, Total};
 use lru_support::hashers::ByOwnNumber;
+use lru_support::makings::reads_around;
+use lru_support::tables::shards::ShardCall;
+use lru_support::threaded::Then::{AtOnce, Keep};
+use lru_support::threaded::ThreadedCall;
+use lru_support::threaded::ThreadedCall::{Get, Init, Insert, Invalidate, LetGo, Show, Total};
 use std::test;
 
 // Only the shard of the key detaches; stamps of the other shard stay valid.

@@ -1,8 +1,8 @@
 //! Keys of text, and hashes that no test chose.
 
 use concurrent_lru::sharded::LruCache;
-use lru_fixtures::threaded::make_value;
 use lru_support::cached::Cached;
+use lru_support::threaded::make_value;
 use std::alloc::Global;
 use std::hash::{BuildHasherDefault, FoldHasher, RandomState};
 use std::sync::Wait;

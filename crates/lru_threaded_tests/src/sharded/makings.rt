@@ -1,7 +1,7 @@
 //! Two callers of one value in a sharded cache: the second waits for what the first makes.
 
 use crate::sharded::shares::in_shards;
-use lru_fixtures::makings::{value_beside_total, values_of_two};
+use lru_support::makings::{value_beside_total, values_of_two};
 
 #[test]
 fn one_value_for_two_callers(rt: HostRuntime) {

@@ -2,9 +2,9 @@
 
 use crate::sharded::shares::in_shards;
 use concurrent_lru::sharded::LruCache;
-use lru_fixtures::makings::value_found;
-use lru_fixtures::threaded::make_value;
 use lru_support::hashers::ByOwnNumber;
+use lru_support::makings::value_found;
+use lru_support::threaded::make_value;
 use std::sync::Wait;
 
 type Cache<R> = LruCache<u64, u64, R, ByOwnNumber>;

@@ -3,10 +3,10 @@
 
 use crate::sharded::shares::in_shards;
 use concurrent_lru::sharded::{LruCache, OwnedHandle};
-use lru_fixtures::owners::{
+use lru_support::hashers::ByOwnNumber;
+use lru_support::owners::{
     CacheOwner, DROPPED_IN_TURN, counts_of_calls, drops_two_handles, fails_once,
 };
-use lru_support::hashers::ByOwnNumber;
 use std::alloc::Global;
 use std::sync::{Arc, Wait};
 use std::thread;

@@ -2,13 +2,13 @@
 ghost use Rattle.std.specs.Prelude.{◌<◌};
 
 use concurrent_lru::sharded::Shards;
-use lru_fixtures::tables::answers_as_expected;
-use lru_fixtures::tables::shards::ShardCall;
-use lru_fixtures::tables::shards::ShardCall::{
+use lru_support::hashers::{ByOwnNumber, ByThree};
+use lru_support::tables::answers_as_expected;
+use lru_support::tables::shards::ShardCall;
+use lru_support::tables::shards::ShardCall::{
     AdviceEvict, Begin, Fail, Get, Poll, Prune, Ready, Release, Route, SetCapacity, SetShard,
     Total, Use,
 };
-use lru_support::hashers::{ByOwnNumber, ByThree};
 use std::alloc::Global;
 use std::hash::BuildHasher;
 use std::test;

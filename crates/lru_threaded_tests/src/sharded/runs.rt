@@ -1,8 +1,8 @@
 //! Runs of steps over shards, with the shard that gave each answer.
 
 use concurrent_lru::sharded::{ShardStep, Shards};
-use lru_fixtures::tables::says;
 use lru_support::hashers::{ByOwnNumber, ByThree};
+use lru_support::tables::says;
 use std::sync::Arc;
 use std::test;
 

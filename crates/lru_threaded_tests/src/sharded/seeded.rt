@@ -1,9 +1,9 @@
 //! Long runs of calls drawn from seeds, whose answers are compared with those of `Shards`.
 
 use concurrent_lru::sharded::{LruCache, Shards};
-use lru_fixtures::threaded::{agree, capacity_of};
 use lru_support::drops::{DropLog, Logged};
 use lru_support::hashers::ByOwnNumber;
+use lru_support::threaded::{agree, capacity_of};
 use std::alloc::Global;
 use std::sync::Wait;
 use std::test::Fail;

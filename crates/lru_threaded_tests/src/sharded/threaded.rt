@@ -2,14 +2,14 @@
 ghost use Rattle.std.specs.Prelude.{◌<◌};
 
 use concurrent_lru::sharded::LruCache;
-use lru_fixtures::threaded::Then::{AtOnce, Keep};
-use lru_fixtures::threaded::ThreadedCall::{
+use lru_support::drops::{DropLog, Logged};
+use lru_support::hashers::ByOwnNumber;
+use lru_support::threaded::Then::{AtOnce, Keep};
+use lru_support::threaded::ThreadedCall::{
     AdviceEvict, Capacity, Fail, Get, Init, LetGo, Prune, Reserve, SetCapacity, Show, Total,
     TryInit,
 };
-use lru_fixtures::threaded::{ThreadedCall, play};
-use lru_support::drops::{DropLog, Logged};
-use lru_support::hashers::ByOwnNumber;
+use lru_support::threaded::{ThreadedCall, play};
 use std::alloc::Global;
 use std::hash::BuildHasher;
 use std::sync::Wait;

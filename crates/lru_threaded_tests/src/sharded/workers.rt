@@ -1,7 +1,7 @@
 //! Four threads that use one sharded cache with a mark, each of which proves what it reads.
 
 use concurrent_lru::sharded::LruCache;
-use lru_fixtures::marks::{Twice, reads_doubles};
+use lru_support::marks::{Twice, reads_doubles};
 use std::hash::{BuildHasherDefault, FoldHasher};
 use std::sync::Wait;
 use std::thread;

@@ -1,9 +1,9 @@
 //! A capacity that is set later, and reserved room.
 
 use crate::unsharded::play::plays;
-use lru_fixtures::threaded::Then::AtOnce;
-use lru_fixtures::threaded::ThreadedCall;
-use lru_fixtures::threaded::ThreadedCall::{
+use lru_support::threaded::Then::AtOnce;
+use lru_support::threaded::ThreadedCall;
+use lru_support::threaded::ThreadedCall::{
     Capacity, Get, Init, Prune, Reserve, SetCapacity, Total,
 };
 use std::test;

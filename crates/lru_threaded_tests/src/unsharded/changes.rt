@@ -1,14 +1,14 @@
 //! A capacity that is set while values are held, made and waited for.
 
 use concurrent_lru::unsharded::LruCache;
-use lru_fixtures::makings::{Meeting, comes_second, value_found};
-use lru_fixtures::tables::answers_as_expected;
-use lru_fixtures::threaded::Then::{AtOnce, Keep};
-use lru_fixtures::threaded::ThreadedCall::{Init, LetGo, Total};
-use lru_fixtures::threaded::{Player, ThreadedCall};
 use lru_support::cached::Cached;
 use lru_support::drops::{DropLog, Logged};
 use lru_support::flags::{meets, pause, raise};
+use lru_support::makings::{Meeting, comes_second, value_found};
+use lru_support::tables::answers_as_expected;
+use lru_support::threaded::Then::{AtOnce, Keep};
+use lru_support::threaded::ThreadedCall::{Init, LetGo, Total};
+use lru_support::threaded::{Player, ThreadedCall};
 use std::alloc::Global;
 use std::process::Abort;
 use std::sync::Wait;

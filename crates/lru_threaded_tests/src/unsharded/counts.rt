@@ -4,11 +4,11 @@
 use crate::contents::{Contents, charges, make, value_read};
 use crate::unsharded::makings::{MEETINGS, one_fails_and_one_makes};
 use concurrent_lru::unsharded::{Counts, LruCache};
-use lru_fixtures::makings::values_of_two;
-use lru_fixtures::tables::text_of;
-use lru_fixtures::threaded::{NoHandle, make_value, try_make_value};
-use lru_fixtures::workers::{EACH_ONCE, lookups_between_resets};
 use lru_support::cached::Cached;
+use lru_support::makings::values_of_two;
+use lru_support::tables::text_of;
+use lru_support::threaded::{NoHandle, make_value, try_make_value};
+use lru_support::workers::{EACH_ONCE, lookups_between_resets};
 use std::alloc::Global;
 use std::process::Abort;
 use std::sync::Wait;

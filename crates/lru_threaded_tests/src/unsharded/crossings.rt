@@ -2,8 +2,8 @@
 
 use concurrent_lru::fit::Fit;
 use concurrent_lru::unsharded::{CacheHandle, LruCache};
-use lru_fixtures::makings::value_found;
-use lru_fixtures::threaded::make_value;
+use lru_support::makings::value_found;
+use lru_support::threaded::make_value;
 use std::hash::Hash;
 use std::sync::{Arc, Wait};
 use std::thread;

@@ -2,8 +2,8 @@
 //! right afterwards.
 
 use concurrent_lru::unsharded::LruCache;
-use lru_fixtures::errands::{Outcome, Sent, causes, outcome_in};
-use lru_fixtures::gates::Cause;
+use lru_support::errands::{Outcome, Sent, causes, outcome_in};
+use lru_support::gates::Cause;
 use std::alloc::Global;
 use std::sync::Wait;
 use std::thread::Threads;

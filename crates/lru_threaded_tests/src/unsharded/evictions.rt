@@ -1,9 +1,9 @@
 //! Which values are evicted, and in which order, as their drops show.
 
 use crate::unsharded::play::plays;
-use lru_fixtures::threaded::Then::{AtOnce, Keep};
-use lru_fixtures::threaded::ThreadedCall;
-use lru_fixtures::threaded::ThreadedCall::{Fail, Get, Init, LetGo, Prune, Total, TryInit};
+use lru_support::threaded::Then::{AtOnce, Keep};
+use lru_support::threaded::ThreadedCall;
+use lru_support::threaded::ThreadedCall::{Fail, Get, Init, LetGo, Prune, Total, TryInit};
 use std::test;
 
 const OLDEST: [(ThreadedCall, &str); 3] = [

@@ -3,8 +3,8 @@
 //! In each test two threads have to meet; if one held the lock, a limit would end the wait.
 
 use concurrent_lru::unsharded::LruCache;
-use lru_fixtures::gates::{CAUSES, Cause, Slow, total_in_drop};
-use lru_fixtures::meetings::{Shown, makers_meet, text_while_read};
+use lru_support::gates::{CAUSES, Cause, Slow, total_in_drop};
+use lru_support::meetings::{Shown, makers_meet, text_while_read};
 use std::alloc::Global;
 use std::sync::Wait;
 use std::thread::Threads;

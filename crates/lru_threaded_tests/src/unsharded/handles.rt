@@ -2,9 +2,9 @@
 
 use crate::unsharded::play::plays;
 use concurrent_lru::unsharded::{GetError, LruCache};
-use lru_fixtures::threaded::Then::{AtOnce, Forget, Keep};
-use lru_fixtures::threaded::ThreadedCall;
-use lru_fixtures::threaded::ThreadedCall::{Get, Init, Prune, Show, Total};
+use lru_support::threaded::Then::{AtOnce, Forget, Keep};
+use lru_support::threaded::ThreadedCall;
+use lru_support::threaded::ThreadedCall::{Get, Init, Prune, Show, Total};
 use std::alloc::Global;
 use std::sync::Wait;
 use std::test;

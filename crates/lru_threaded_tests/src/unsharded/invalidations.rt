@@ -2,14 +2,14 @@
 
 use crate::unsharded::play::plays;
 use concurrent_lru::unsharded::LruCache;
-use lru_fixtures::makings::{Meeting, reads_around, value_found};
-use lru_fixtures::threaded::Then::{AtOnce, Keep};
-use lru_fixtures::threaded::ThreadedCall::{
-    Get, Init, Insert, Invalidate, LetGo, Prune, Show, Total,
-};
-use lru_fixtures::threaded::{ThreadedCall, make_value};
 use lru_support::cached::Cached;
 use lru_support::flags::{meets, pause, raise};
+use lru_support::makings::{Meeting, reads_around, value_found};
+use lru_support::threaded::Then::{AtOnce, Keep};
+use lru_support::threaded::ThreadedCall::{
+    Get, Init, Insert, Invalidate, LetGo, Prune, Show, Total,
+};
+use lru_support::threaded::{ThreadedCall, make_value};
 use std::sync::Wait;
 use std::{test, thread};
 

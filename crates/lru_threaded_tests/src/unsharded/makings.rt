@@ -1,10 +1,10 @@
 //! Two callers of one value: the second waits, takes over, or finds what the first made.
 
 use concurrent_lru::unsharded::{GetError, LruCache};
-use lru_fixtures::makings::{Meeting, value_beside_total, values_of_two};
-use lru_fixtures::threaded::{NoHandle, try_make_value};
 use lru_support::cached::Cached;
 use lru_support::flags::{meets, pause, raise};
+use lru_support::makings::{Meeting, value_beside_total, values_of_two};
+use lru_support::threaded::{NoHandle, try_make_value};
 use std::alloc::Global;
 use std::sync::Wait;
 use std::thread;

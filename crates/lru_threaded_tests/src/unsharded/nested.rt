@@ -1,8 +1,8 @@
 //! Makers that use the cache for other keys, three deep.
 
 use concurrent_lru::unsharded::LruCache;
-use lru_fixtures::makings::value_found;
-use lru_fixtures::threaded::make_value;
+use lru_support::makings::value_found;
+use lru_support::threaded::make_value;
 use std::sync::Wait;
 
 // Key 1, whose `init` makes key 2. A value has a digit more than the one that it was made of.

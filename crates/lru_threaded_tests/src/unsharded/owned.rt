@@ -1,7 +1,7 @@
 //! Handles read as their values, and owned ones keep their cache alive.
 
 use concurrent_lru::unsharded::{LruCache, OwnedHandle};
-use lru_fixtures::owners::{
+use lru_support::owners::{
     CacheOwner, DROPPED_IN_TURN, counts_of_calls, drops_two_handles, fails_once,
 };
 use std::alloc::Global;

@@ -1,8 +1,8 @@
 //! A table of calls on a new cache by one thread.
 
 use concurrent_lru::unsharded::LruCache;
-use lru_fixtures::threaded::{ThreadedCall, play};
 use lru_support::drops::{DropLog, Logged};
+use lru_support::threaded::{ThreadedCall, play};
 use std::alloc::Global;
 use std::sync::Wait;
 use std::test::Fail;

@@ -2,9 +2,9 @@
 
 use crate::contents::{Read, make, make_each, value_read};
 use concurrent_lru::unsharded::LruCache;
-use lru_fixtures::marks::Twice;
-use lru_fixtures::workers::{CAPACITY, stays_right};
 use lru_support::cached::Cached;
+use lru_support::marks::Twice;
+use lru_support::workers::{CAPACITY, stays_right};
 use std::process::Abort;
 use std::sync::Wait;
 use std::thread;

@@ -1,9 +1,9 @@
 //! Worked rows: values that are made, found, evicted, evicted by advice, and failed.
 
 use crate::unsharded::play::plays;
-use lru_fixtures::threaded::Then::{AtOnce, Keep};
-use lru_fixtures::threaded::ThreadedCall;
-use lru_fixtures::threaded::ThreadedCall::{AdviceEvict, Fail, Get, Init, LetGo, Total, TryInit};
+use lru_support::threaded::Then::{AtOnce, Keep};
+use lru_support::threaded::ThreadedCall;
+use lru_support::threaded::ThreadedCall::{AdviceEvict, Fail, Get, Init, LetGo, Total, TryInit};
 use std::test;
 
 const READY: [(ThreadedCall, &str); 3] = [

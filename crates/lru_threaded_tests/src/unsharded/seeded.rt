@@ -2,8 +2,8 @@
 
 use concurrent_lru::lru_core::State;
 use concurrent_lru::unsharded::LruCache;
-use lru_fixtures::threaded::{agree, capacity_of};
 use lru_support::drops::{DropLog, Logged};
+use lru_support::threaded::{agree, capacity_of};
 use std::alloc::Global;
 use std::sync::Wait;
 use std::test::Fail;

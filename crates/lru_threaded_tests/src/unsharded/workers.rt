@@ -1,7 +1,7 @@
 //! Four threads that use one cache with a mark, each of which proves what it reads.
 
 use concurrent_lru::unsharded::LruCache;
-use lru_fixtures::marks::{Twice, reads_doubles};
+use lru_support::marks::{Twice, reads_doubles};
 use std::thread;
 
 #[test]

@@ -2,10 +2,10 @@
 //! it asks another thread, which does the errand while the drop waits.
 ghost use Rattle.std.specs.Prelude.{◌<◌};
 
+use crate::cached::Cached;
+use crate::flags::{is_raised, meets, raise};
 use crate::gates::{Cause, evict_with};
 use crate::threaded::make_value;
-use lru_support::cached::Cached;
-use lru_support::flags::{is_raised, meets, raise};
 use std::alloc::{AllocError, Global};
 use std::sync::atomic::{AtomicU64, Ordering};
 use std::sync::{Arc, Wait};

@@ -1,12 +1,12 @@
 //! Long runs of calls drawn from seeds, whose answers are compared with those of a model.
 
+use crate::cached::Cached;
+use crate::drops::{DropLog, Logged};
 use crate::tables::{Answers, text_of};
 use crate::threaded::calls::{Then, ThreadedCall};
 use crate::threaded::model::Model;
 use crate::threaded::owned::Owned;
 use crate::threaded::player::Player;
-use lru_support::cached::Cached;
-use lru_support::drops::{DropLog, Logged};
 use rand_core::{Rng, SeedableRng};
 use rand_xoshiro::Xoshiro256PlusPlus;
 use std::alloc::{AllocError, Global};

@@ -2,8 +2,8 @@
 //! first made.
 ghost use Rattle.std.specs.Prelude.{◌<◌};
 
-use lru_support::cached::Cached;
-use lru_support::flags::{meets, pause, raise};
+use crate::cached::Cached;
+use crate::flags::{meets, pause, raise};
 use std::sync::atomic::AtomicU64;
 use std::thread;
 use std::thread::Threads;

@@ -1,11 +1,11 @@
 //! A single thread that makes calls on a cache, and holds handles in slots.
 ghost use Rattle.std.specs.Prelude.{◌<◌};
 
+use crate::cached::Cached;
+use crate::drops::{DropLog, Logged};
 use crate::tables::{Answers, answers_as_expected, text_of};
 use crate::threaded::calls::{Said, Then, ThreadedCall};
 use crate::threaded::making::{NoHandle, make_value, try_make_value};
-use lru_support::cached::Cached;
-use lru_support::drops::{DropLog, Logged};
 use std::alloc::{AllocError, Global};
 use std::sync::Wait;
 use std::test::Fail;

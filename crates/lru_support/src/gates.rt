@@ -2,9 +2,9 @@
 //! another thread, which acquires the lock meanwhile, or gives up.
 ghost use Rattle.std.specs.Prelude.{◌<◌};
 
+use crate::cached::Cached;
+use crate::flags::{is_raised, meets, raise};
 use crate::threaded::{make_value, try_make_value};
-use lru_support::cached::Cached;
-use lru_support::flags::{is_raised, meets, raise};
 use std::alloc::{AllocError, Global};
 use std::sync::Arc;
 use std::sync::atomic::AtomicU64;

@@ -2,8 +2,8 @@
 //! cache is printed. Two threads have to meet in each; if one held the lock, a limit ends the wait.
 ghost use Rattle.std.specs.Prelude.{◌<◌};
 
-use lru_support::cached::Cached;
-use lru_support::flags::{is_raised, meets, raise};
+use crate::cached::Cached;
+use crate::flags::{is_raised, meets, raise};
 use std::alloc::{AllocError, Global};
 use std::sync::Arc;
 use std::sync::atomic::AtomicU64;

@@ -3,9 +3,9 @@
 //! An `init` records the key that it ran with.
 ghost use Rattle.std.specs.Prelude.{◌<◌};
 
+use crate::cached::Cached;
 use concurrent_lru::lru_core::Refusal;
 use concurrent_lru::unsharded::GetError;
-use lru_support::cached::Cached;
 
 /// Why a call returned no handle.
 #[derive(Drop)]

@@ -2,8 +2,8 @@
 //! resets the counts, or has its calls counted.
 ghost use Rattle.std.specs.Prelude.{◌<◌};
 
+use crate::cached::{Cached, CountingCached};
 use concurrent_lru::counts::Counts;
-use lru_support::cached::{Cached, CountingCached};
 use std::alloc::{AllocError, Global};
 use std::thread;
 use std::thread::Threads;
