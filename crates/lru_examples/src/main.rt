@@ -1,19 +1,6 @@
 //! Four threads share a cache: each value is made once, by whichever thread asks first.
 #![tactic(auto)]
 
-#[cfg(test)]
-mod blocks;
-#[cfg(test)]
-mod changed;
-#[cfg(test)]
-mod cursor;
-#[cfg(test)]
-mod first;
-#[cfg(test)]
-mod pages;
-#[cfg(test)]
-mod plans;
-
 use concurrent_lru::unsharded::LruCache;
 use std::sync::Wait;
 use std::sync::atomic::{AtomicU64, Ordering};

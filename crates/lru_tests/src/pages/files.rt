@@ -1,0 +1,268 @@
+//! Files as blocks: the last one, the end, files that change or fail, and threads that read one.
+
+use crate::pages::scratch;
+use concurrent_lru::unsharded::GetError;
+use lru_pages::{Fault, FileBlocks, OpenError, PageCache, ReadAt};
+use std::alloc::{AllocError, Global};
+use std::fs::{File, OpenOptions};
+use std::io::ErrorKind;
+use std::num::NonZeroU64;
+use std::sync::Wait;
+use std::sync::atomic::{AtomicU64, Ordering};
+use std::test::Fail;
+use std::{env, fs, io, thread};
+
+// The number of bytes of a block.
+const SIZE: usize = 32;
+
+// How often a thread reads all blocks.
+const ROUNDS: u32 = 20;
+
+// Returns this many bytes; the first 251 blocks all differ.
+fn bytes(alloc: Global, count: u32) -> Result<Vec<u8>, AllocError> {
+    (0..count).map(|at| (at % 251) as u8).collect(alloc)
+}
+
+// Returns whether each page has the bytes of its block of the whole file.
+fn are_right<R: Wait>(pages: &PageCache<'_, FileBlocks, R>, whole: &[u8]) -> bool {
+    for (number, block) in whole.chunks(SIZE).enumerate() {
+        match pages.page(number as u64) {
+            Ok(page) if page.value().bytes() == block => {}
+            _ => return false,
+        }
+    }
+    true
+}
+
+// Returns whether they have, every time.
+fn stay_right<R: Wait>(pages: &PageCache<'_, FileBlocks, R>, whole: &[u8]) -> bool {
+    for _ in 0..ROUNDS {
+        if !are_right(pages, whole) {
+            return false;
+        }
+    }
+    true
+}
+
+#[test]
+fn four_threads_read_a_file(rt: HostRuntime) {
+    let alloc = rt.alloc();
+    let whole = bytes(alloc, 63 * 32 + 5).expect(&rt, "memory");
+    let path = scratch::file(&rt, "lru_tests_four", &whole).expect(&rt, "a file");
+    let reader = FileBlocks::open(alloc, &rt, path.as_path(), 32).expect(&rt, "blocks");
+    let pages = PageCache::new(alloc, &rt, &reader, 3);
+    let right = thread::map_indices(&rt, alloc, 4, &|_| stay_right(&pages, &whole));
+    let right = right.expect(&rt, "four threads");
+    assert_eq!(rt; right.as_slice(), [true; 4].as_slice());
+    assert!(rt; pages.total_charge() <= 3);
+    fs::remove_file(&rt, path.as_path()).expect(&rt, "the file is there");
+}
+
+// The answer to a request for a page.
+#[derive(Clone, Copy, Debug, PartialEq, Eq)]
+enum Told {
+    // This many bytes, the last of which is this one.
+    Bytes(usize, Option<u8>),
+    PastEnd,
+    Short,
+    Failed(ErrorKind),
+    // There is no memory for the bytes.
+    NoMemory,
+    // The cache refuses it.
+    Refused,
+}
+
+impl Told {
+    // Requests a page, whose handle is dropped at once.
+    fn of<S: ReadAt, R: Wait>(pages: &PageCache<'_, FileBlocks<S>, R>, number: u64) -> Told {
+        match pages.page(number) {
+            Ok(page) => Told::bytes(page.value().bytes()),
+            Err(GetError::Init(fault)) => Told::fault(fault),
+            Err(_) => Told::Refused,
+        }
+    }
+
+    fn bytes(bytes: &[u8]) -> Told {
+        Told::Bytes(bytes.len(), bytes.last().copied())
+    }
+
+    fn fault(fault: Fault) -> Told {
+        match fault {
+            Fault::PastEnd => Told::PastEnd,
+            Fault::Memory => Told::NoMemory,
+            Fault::Short => Told::Short,
+            Fault::Read(error) => Told::Failed(error.kind()),
+        }
+    }
+}
+
+// A source whose byte at each position is the position modulo 251.
+#[derive(Drop)]
+struct Places;
+
+impl ReadAt for Places {
+    fn fill(&self, buf: &mut [u8], offset: u64) -> io::Result<()> {
+        for (place, byte) in (offset..).zip(buf) {
+            *byte = (place % 251) as u8;
+        }
+        Ok(())
+    }
+}
+
+// Requests a page of this many bytes in blocks of a size. Returns the answer and the number of
+// pages then.
+fn told_of<R: Wait + Drop>(
+    alloc: Global,
+    rt: R,
+    len: u64,
+    size: NonZeroU64,
+    number: u64,
+) -> (Told, u64) {
+    let reader = FileBlocks::new(alloc, Places, len, size.get());
+    let pages = PageCache::new(alloc, rt, &reader, 3);
+    (Told::of(&pages, number), pages.total_charge())
+}
+
+#[test]
+fn the_last_block_is_short(rt: HostRuntime) {
+    let size = NonZeroU64::new(32).expect(&rt, "a size");
+    let cases = [
+        (0, 0, Told::PastEnd),
+        (1, 0, Told::Bytes(1, Some(0))),
+        (31, 0, Told::Bytes(31, Some(30))),
+        (32, 0, Told::Bytes(32, Some(31))),
+        (32, 1, Told::PastEnd),
+        (33, 0, Told::Bytes(32, Some(31))),
+        (33, 1, Told::Bytes(1, Some(32))),
+        (33, 2, Told::PastEnd),
+        (33, u64::MAX, Told::PastEnd),
+        (64, 1, Told::Bytes(32, Some(63))),
+    ];
+    for (len, number, told) in cases {
+        let total = match told {
+            Told::Bytes(..) => 1,
+            _ => 0,
+        };
+        assert_eq!(rt;
+            told_of(rt.alloc(), &rt, len, size, number),
+            (told, total),
+            "block {number} of {len} bytes"
+        );
+    }
+}
+
+#[test]
+fn a_block_past_all_memory_leaves_nothing(rt: HostRuntime) {
+    assert_eq!(rt;
+        told_of(rt.alloc(), &rt, u64::MAX, NonZeroU64::MAX, 0),
+        (Told::NoMemory, 0)
+    );
+}
+
+// Requests the page of block 1 once the file has this many bytes. Returns the answer and the number
+// of pages then.
+fn told_at<R: Wait>(file: &File, pages: &PageCache<'_, FileBlocks, R>, len: u64) -> (Told, u64) {
+    match file.set_len(len) {
+        Ok(()) => (Told::of(pages, 1), pages.total_charge()),
+        Err(error) => (Told::Failed(error.kind()), 0),
+    }
+}
+
+#[test]
+fn a_file_that_was_cut_short_gives_no_page(rt: HostRuntime) {
+    let alloc = rt.alloc();
+    let zeros = [0u8; 64];
+    let path = scratch::file(&rt, "lru_tests_cut", &zeros).expect(&rt, "a file");
+    let reader = FileBlocks::open(alloc, &rt, path.as_path(), 32).expect(&rt, "blocks");
+    let pages = PageCache::new(alloc, &rt, &reader, 3);
+    let file = OpenOptions::new()
+        .write(true)
+        .open(&rt, path.as_path())
+        .expect(&rt, "the file again");
+    let steps = [
+        (40, Told::Short, 0),
+        (64, Told::Bytes(32, Some(0)), 1),
+        // The page is still in the cache.
+        (40, Told::Bytes(32, Some(0)), 1),
+    ];
+    for (len, told, total) in steps {
+        assert_eq!(rt;
+            told_at(&file, &pages, len),
+            (told, total),
+            "at {len} bytes"
+        );
+    }
+    let _removed = fs::remove_file(&rt, path.as_path());
+}
+
+// A source whose first read fails, and whose second finds that it is short.
+#[derive(Drop)]
+struct Worn {
+    reads: AtomicU64,
+}
+
+impl ReadAt for Worn {
+    fn fill(&self, buf: &mut [u8], _offset: u64) -> io::Result<()> {
+        match self.reads.fetch_add(1, Ordering::SeqCst) {
+            0 => Err(io::Error::from(ErrorKind::TimedOut)),
+            1 => Err(io::Error::from(ErrorKind::UnexpectedEof)),
+            _ => {
+                buf.fill(7);
+                Ok(())
+            }
+        }
+    }
+}
+
+#[test]
+fn a_read_that_fails_leaves_nothing(rt: HostRuntime) {
+    let worn = Worn {
+        reads: AtomicU64::new(0),
+    };
+    let reader = FileBlocks::new(rt.alloc(), worn, 4, 4);
+    let pages = PageCache::new(rt.alloc(), &rt, &reader, 3);
+    let steps = [
+        (Told::Failed(ErrorKind::TimedOut), 0),
+        (Told::Short, 0),
+        (Told::Bytes(4, Some(7)), 1),
+    ];
+    for (told, total) in steps {
+        assert_eq!(rt; Told::of(&pages, 0), told);
+        assert_eq!(rt; pages.total_charge(), total);
+    }
+    assert_eq!(rt; reader.source().reads.load(Ordering::SeqCst), 3);
+}
+
+#[test]
+fn what_is_no_file_is_not_opened(rt: HostRuntime) -> Result<(), Fail> {
+    let alloc = rt.alloc();
+    let folder = env::temp_dir(&rt)?;
+    let opened = FileBlocks::open(alloc, &rt, folder.as_path(), 32);
+    assert!(rt; matches!(&opened, Err(OpenError::Folder)));
+    let opened = FileBlocks::open(alloc, &rt, "/dev/null", 32);
+    assert!(rt; matches!(&opened, Err(OpenError::Special)));
+    let missing = match FileBlocks::open(alloc, &rt, "no_such_file", 32) {
+        Err(OpenError::System(error)) => Some(error.kind()),
+        _ => None,
+    };
+    assert_eq!(rt; missing, Some(ErrorKind::NotFound));
+    Ok(())
+}
+
+#[test]
+fn a_fault_has_a_text(rt: HostRuntime) -> Result<(), Fail> {
+    let faults = [
+        (Fault::PastEnd, "the block is past the end"),
+        (Fault::Memory, "there is no memory for the block"),
+        (Fault::Short, "the file ends before its length"),
+        (
+            Fault::Read(io::Error::from(ErrorKind::TimedOut)),
+            "timed out",
+        ),
+    ];
+    for (fault, text) in faults {
+        let told = format!(in rt.alloc(); "{fault}")?;
+        assert_eq!(rt; told.as_str(), text);
+    }
+    Ok(())
+}

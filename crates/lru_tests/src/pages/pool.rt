@@ -1,0 +1,104 @@
+//! An example of a loader that returns the system's errors: a pool of open files by path.
+
+use concurrent_lru::unsharded::{CacheHandle, GetError, LruCache};
+use std::alloc::{AllocError, Global};
+use std::fs::{File, Files};
+use std::io::ErrorKind;
+use std::os::unix::fs::FileExt;
+use std::path::{Path, PathBuf};
+use std::rt::Env;
+use std::sync::Wait;
+use std::test::Fail;
+use std::{env, fs, io};
+
+/// Open files by path: one that is being read stays open, and an unused one does while at most
+/// `capacity` are open in all.
+#[derive(Drop)]
+struct Pool<'a, F: Files<File = File>, R: Wait> {
+    alloc: Global,
+    files: &'a F,
+    open: LruCache<String, File, R>,
+}
+
+impl<'a, F: Files<File = File>, R: Wait> Pool<'a, F, R> {
+    fn new(alloc: Global, rt: R, files: &'a F, capacity: u64) -> Self {
+        Pool {
+            alloc,
+            files,
+            open: LruCache::new(alloc, rt, capacity),
+        }
+    }
+
+    // Returns a handle of the file at a path, which is opened if it is not open. Returns the
+    // system's error if it cannot be opened; nothing of it stays then.
+    fn file(
+        &self,
+        path: Path<'_>,
+    ) -> Result<CacheHandle<'_, String, File, R>, GetError<io::Error>> {
+        let Ok(key) = String::from_str(self.alloc, path.as_str()) else {
+            return Err(GetError::Memory);
+        };
+        let files = self.files;
+        self.open
+            .get_or_try_init(key, 1, |path| File::open(files, path.as_str()))
+    }
+
+    // Returns the first byte of the file at a path, if it can be opened and read.
+    fn first(&self, path: Path<'_>) -> Option<u8> {
+        match self.file(path) {
+            Ok(file) => first(file.value()),
+            Err(_) => None,
+        }
+    }
+
+    // Another file has this path now: closes the one that had it, unless it is being read.
+    fn forget(&self, path: Path<'_>) -> Result<(), AllocError> {
+        self.open
+            .advice_evict(String::from_str(self.alloc, path.as_str())?);
+        Ok(())
+    }
+}
+
+// Returns the first byte of a file, if it can be read.
+fn first(file: &File) -> Option<u8> {
+    let mut byte = [0];
+    match file.read_exact_at(&mut byte, 0) {
+        Ok(()) => Some(byte[0]),
+        Err(_) => None,
+    }
+}
+
+// Creates two files, and returns their paths.
+fn two_files<F: Files + Env + AllocGlobal>(rt: &F) -> io::Result<(PathBuf, PathBuf)> {
+    let folder = env::temp_dir(rt)?;
+    let fruit = folder.join(rt.alloc(), "lru_tests_fruit")?;
+    let roots = folder.join(rt.alloc(), "lru_tests_roots")?;
+    fs::write(rt, fruit.as_path(), "apples and pears")?;
+    fs::write(rt, roots.as_path(), "carrots")?;
+    Ok((fruit, roots))
+}
+
+#[test]
+fn a_pool_of_open_files(rt: HostRuntime) -> Result<(), Fail> {
+    let (fruit, roots) = two_files(&rt)?;
+    let pool = Pool::new(rt.alloc(), &rt, &rt, 1);
+    let held = pool.file(fruit.as_path())?;
+    assert_eq!(rt; pool.first(roots.as_path()), Some(b'c'));
+    // The other was closed when it was released; the held one is there for the next read.
+    assert_eq!(rt; pool.open.total_charge(), 1);
+    assert_eq!(rt; first(held.value()), Some(b'a'));
+    drop(held);
+
+    // A renamed file: the pool has the one that had the path before, until it is invalidated.
+    fs::rename(&rt, roots.as_path(), fruit.as_path())?;
+    assert_eq!(rt; pool.first(fruit.as_path()), Some(b'a'));
+    pool.forget(fruit.as_path())?;
+    assert_eq!(rt; pool.first(fruit.as_path()), Some(b'c'));
+
+    // Room was made before the open that fails, so nothing is open now.
+    let missing = pool.file(roots.as_path()).err();
+    assert!(rt; matches!(&missing, Some(GetError::Init(e)) if e.kind() == ErrorKind::NotFound));
+    assert_eq!(rt; pool.open.total_charge(), 0);
+    fs::remove_file(&rt, fruit.as_path())?;
+    Ok(())
+}

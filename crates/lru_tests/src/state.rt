@@ -1,0 +1,20 @@
+//! Tests of the core, of its list and of whole runs, at concrete types.
+
+mod both;
+mod capacities;
+mod closing;
+mod contents;
+mod corners;
+mod drops;
+mod ends;
+mod example;
+mod invalidations;
+mod keys;
+mod list;
+mod plain;
+mod reads;
+mod rows;
+mod seeded;
+mod steps;
+mod uses;
+mod values;

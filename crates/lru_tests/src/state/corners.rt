@@ -1,0 +1,121 @@
+//! Capacities, charges and stamps at the limits of their numbers, in all combinations: one list of
+//! calls, whose answers are compared with those of a plain cache.
+
+use crate::state::both::Both;
+use lru_support::tables::Call;
+use lru_support::tables::Call::{
+    AdviceEvict, Begin, Capacity, Fail, Get, KeyOf, Poll, Prune, Ready, Release, SetCapacity, Total,
+};
+
+const ENDS: [u64; 4] = [0, 1, u64::MAX - 1, u64::MAX];
+
+// A charge is above 0.
+const CHARGES: [u64; 3] = [1, u64::MAX - 1, u64::MAX];
+
+// The number of corners: four limits for each of three numbers, and three for each of two charges.
+const CORNERS: u32 = 4 * 4 * 4 * 3 * 3;
+
+// The numbers of a run.
+#[derive(Clone, Copy, Debug)]
+struct Corner {
+    capacity: u64,
+    first_stamp: u64,
+    charges: (u64, u64),
+    // The capacity that is set later.
+    changed: u64,
+}
+
+impl Corner {
+    // Each number below `CORNERS` has a corner of its own; larger ones repeat them.
+    fn of(number: u32) -> Corner {
+        let charge = |which: u32| CHARGES[(which % 3) as usize];
+        let end = |which: u32| ENDS[(which % 4) as usize];
+        Corner {
+            capacity: end(number),
+            first_stamp: end(number / 4),
+            changed: end(number / 16),
+            charges: (charge(number / 64), charge(number / 192)),
+        }
+    }
+
+    // Two keys are asked for, made, released and asked for again, if the numbers allow it; each
+    // stamp is tried in every call, whether or not an entry has it.
+    fn calls(self) -> [Call; 51] {
+        let (one, two) = self.charges;
+        let first = self.first_stamp;
+        let second = first.saturating_add(1);
+        let third = first.saturating_add(2);
+        let fourth = first.saturating_add(3);
+        [
+            Capacity,
+            Begin(1, one),
+            Begin(2, two),
+            Total,
+            Begin(1, two),
+            Poll(first),
+            KeyOf(first),
+            KeyOf(second),
+            KeyOf(third),
+            Ready(first, 10),
+            Get(1),
+            Total,
+            Release(first),
+            Release(first),
+            Release(first),
+            Total,
+            Begin(2, two),
+            Ready(second, 20),
+            Poll(second),
+            Release(second),
+            Release(second),
+            Total,
+            Begin(3, 1),
+            Fail(third),
+            Fail(second),
+            Begin(3, two),
+            Total,
+            Get(1),
+            Get(2),
+            Release(first),
+            Release(second),
+            SetCapacity(self.changed),
+            Capacity,
+            Total,
+            Ready(third, 30),
+            Ready(fourth, 40),
+            Release(third),
+            Release(fourth),
+            Begin(1, one),
+            Release(first),
+            Total,
+            AdviceEvict(2),
+            SetCapacity(self.capacity),
+            Total,
+            Prune,
+            Total,
+            Begin(2, one),
+            AdviceEvict(2),
+            Total,
+            Poll(fourth),
+            Fail(fourth),
+        ]
+    }
+}
+
+#[test]
+fn answers_at_every_corner_as_a_plain_cache_does(rt: HostRuntime) {
+    for number in 0..2 * CORNERS {
+        let corner = Corner::of(number);
+        // An entry takes one or two pins.
+        let most_pins = 1 + number / CORNERS;
+        let mut both = Both::with_limits(
+            rt.alloc(),
+            corner.capacity,
+            corner.first_stamp,
+            most_pins,
+        );
+        for call in corner.calls() {
+            both.take(&rt, &(corner, most_pins), call);
+        }
+    }
+}

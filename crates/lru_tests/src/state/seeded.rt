@@ -1,0 +1,102 @@
+//! Long runs of calls drawn from seeds, whose answers are compared with those of a plain cache.
+ghost use Rattle.std.specs.Prelude.{◌<◌};
+
+use crate::state::both::Both;
+use crate::state::plain::KEYS;
+use lru_support::tables::Call;
+use rand_core::{Rng, SeedableRng};
+use rand_xoshiro::Xoshiro256PlusPlus;
+use std::alloc::Global;
+use std::process::Abort;
+
+// How many kinds of calls are drawn: all of them, or only the first ones, in which no key is
+// invalidated, no value inserted or read without a pin, and the capacity stays.
+const KINDS: u64 = 14;
+
+const FIRST_KINDS: u64 = 9;
+
+// Draws the next call, of one of `kinds` kinds. Its stamp is among the last that were given out;
+// `next` is the one after them.
+fn draw(generator: &mut Xoshiro256PlusPlus, kinds: u64, next: u64) -> Call
+    requires { 0 < kinds }
+{
+    let a = generator.next_u64();
+    let b = generator.next_u64();
+    let c = generator.next_u64();
+    let key = b % KEYS as u64;
+    let stamp = next.saturating_sub(1 + c % 16);
+    match a % kinds {
+        0 => Call::Begin(key, 1 + c % 4),
+        1 => Call::Poll(stamp),
+        2 => Call::Ready(stamp, b),
+        3 => Call::Fail(stamp),
+        4 => Call::Get(key),
+        5 => Call::Release(stamp),
+        6 => Call::AdviceEvict(key),
+        7 => Call::Prune,
+        8 => Call::Total,
+        9 => Call::KeyOf(stamp),
+        10 => Call::Invalidate(key),
+        11 => Call::Insert(key, 1 + c % 4, b),
+        12 => Call::Read(key),
+        _ => Call::SetCapacity(8 + c % 5),
+    }
+}
+
+// Creates two empty caches at capacity 10, whose entries have at most three pins.
+fn both_of_ten(alloc: Global) -> Both {
+    Both::with_limits(alloc, 10, 0, 3)
+}
+
+// Makes 2,000 calls of `kinds` kinds from each seed.
+fn answer_alike(rt: &impl Abort, alloc: Global, kinds: u64)
+    requires { 0 < kinds }
+{
+    for seed in 1..=20u64 {
+        let mut both = both_of_ten(alloc);
+        let mut generator = Xoshiro256PlusPlus::seed_from_u64(seed);
+        for number in 0..2_000u32 {
+            let call = draw(&mut generator, kinds, both.plain.next);
+            both.take(rt, &("seed", seed, "call", number), call);
+        }
+    }
+}
+
+// Few pins are ever released here, so entries reach the maximum number of pins more often than they
+// are idle.
+#[test]
+fn answers_as_a_plain_cache_does(rt: HostRuntime) {
+    answer_alike(&rt, rt.alloc(), KINDS);
+}
+
+#[test]
+fn answers_alike_to_the_first_kinds(rt: HostRuntime) {
+    answer_alike(&rt, rt.alloc(), FIRST_KINDS);
+}
+
+// Once three pins are held, the oldest is released, so that there are idle entries to choose from.
+#[test]
+fn answers_alike_where_pins_are_given_back(rt: HostRuntime) {
+    for seed in 1..=20u64 {
+        let mut both = both_of_ten(rt.alloc());
+        let mut generator = Xoshiro256PlusPlus::seed_from_u64(seed);
+        let mut held = [None, None];
+        for number in 0..2_000u32 {
+            let call = draw(&mut generator, KINDS, both.plain.next);
+            both.take(&rt, &("seed", seed, "call", number), call);
+            let Some(pinned) = both.plain.pinned else {
+                continue;
+            };
+            if let Some(oldest) = held[0] {
+                both.take(&rt, &("seed", seed, "call", number), Call::Poll(oldest));
+                both.take(
+                    &rt,
+                    &("seed", seed, "call", number),
+                    Call::Ready(oldest, oldest),
+                );
+                both.take(&rt, &("seed", seed, "call", number), Call::Release(oldest));
+            }
+            held = [held[1], Some(pinned)];
+        }
+    }
+}
