@@ -1,7 +1,7 @@
 //! Lookup of nodes by stamp: with a map of places, or without one by visiting the nodes.
 //!
 //! Which of the two is chosen when a table is created.
-ghost use Rattle.std.specs.Prelude.{◌≡◌, ℕ, Bool, true, false, Some, None, OnOk, MatchOption, cond, nat_eq};
+ghost use Rattle.std.specs.Prelude.{◌≡◌, ℕ, true, false, Some, None, OnOk, MatchOption, cond, nat_eq};
 ghost use Rattle.concurrent_lru.specs.NodeTable.{HasStampAt, IsNewStamp};
 ghost use Rattle.concurrent_lru.specs.StampIndex.{keeps_map, mapped_place, HasRoomFor};
 
@@ -10,12 +10,21 @@ use std::alloc::AllocError;
 use std::collections::HashMap;
 
 // The places of nodes by their stamps.
-#[derive(Drop)]
 pub(super) enum StampIndex {
     // Finds a node through a map; an insert and a removal write to it.
     Mapped(HashMap<u64, Place>),
     // Finds a node by visiting the nodes; an insert and a removal write nothing.
     Unmapped,
+}
+
+// Written out, so that it is proved once: each crate that drops a cache proves a derived drop again.
+impl Drop for StampIndex {
+    fn drop(self) {
+        match self {
+            StampIndex::Mapped(places) => drop(places),
+            StampIndex::Unmapped => {}
+        }
+    }
 }
 
 impl StampIndex {
