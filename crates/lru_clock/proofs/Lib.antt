@@ -1,2 +1,4 @@
 mod Claims
 mod DistinctKeys
+mod Words
+mod Seating

@@ -1,3 +1,7 @@
 -- The definitions that the contracts of the clock use.
+pub mod Index
 pub mod Pins
 pub mod Turns
+pub mod Seats
+pub mod SeatChanges
+pub mod Searches

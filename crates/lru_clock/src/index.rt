@@ -1,20 +1,32 @@
 //! The index of a shard, from the hashes of keys to the places of their slots: words that are read
 //! without the lock and written under it.
 //!
-//! A word is 0, or has the tag of a hash in its high half and one more than the place in its low
+//! A word is 0, or has one more than a place in its high half and the tag of a hash in its low
 //! half. A tag's words are found by linear probing. Without the lock a word is a hint: the reader
-//! pins the slot and compares the key, and one that finds nothing asks again under the lock.
+//! pins the slot and compares the key, and one that finds nothing asks again under the lock. Whoever
+//! holds the lock has the `Words`, and knows what each of them is.
+ghost use Rattle.std.specs.Prelude.{◌≡◌, ◌+◌, ◌*◌, ◌/◌, ◌%◌, ◌<◌};
+ghost use Rattle.lru_clock.specs.Index.{word_of as word_for};
 
-use std::alloc::{AllocError, Global};
-use std::sync::atomic::AtomicU64;
-use std::sync::atomic::Ordering::SeqCst;
+mod probing;
+mod words;
+
+pub use crate::index::probing::{home_of, next_of};
+pub use crate::index::words::Words;
+use crate::index::words::{Known, Written};
+use atomic_table::Table;
+use std::alloc::Global;
+
+// What one place adds to a word.
+const ONE_PLACE: u64 = 0x1_0000_0000;
 
 /// A table of words.
 #[derive(Drop)]
 pub struct Index {
-    words: Vec<AtomicU64>,
+    table: Table<(), Known, Vec<u64>, Written, Global>,
     // One less than the number of words, which is a power of two.
     mask: usize,
+    ghost size: { mask + 1 ≡ table.shared.table_id.words },
 }
 
 /// Where the words of a tag may be.
@@ -24,40 +36,28 @@ pub struct Probe {
     tag: u32,
 }
 
-fn word_of(tag: u32, place: u32) -> u64 {
-    ((tag as u64) << 32) | (place as u64).wrapping_add(1)
+// Returns the word that leads to a place.
+pub fn word_of(tag: u32, place: u32) -> u64
+    requires { place < 4294967295 }
+    ensures { result ≡ word_for tag place }
+{
+    (place as u64 + 1) * ONE_PLACE + tag as u64
 }
 
-fn tag_of(word: u64) -> u32 {
-    (word >> 32) as u32
+pub fn tag_of(word: u64) -> u32
+    ensures { result ≡ word % 4294967296 }
+{
+    (word % ONE_PLACE) as u32
+}
+
+// Returns one more than the place that a word leads to.
+pub fn past_place(word: u64) -> u32
+    ensures { result ≡ word / 4294967296 }
+{
+    (word / ONE_PLACE) as u32
 }
 
 impl Index {
-    /// Creates an empty index for half as many entries as there are words.
-    ///
-    /// Returns `AllocError` if the allocator refuses.
-    pub fn new(alloc: Global, len: usize) -> Result<Index, AllocError> {
-        let mut words = Vec::with_capacity(alloc, len)?;
-        for _ in 0..len {
-            words.push(AtomicU64::new(0))?;
-        }
-        let mask = len.wrapping_sub(1);
-        Ok(Index { words, mask })
-    }
-
-    fn word(&self, at: usize) -> u64 {
-        match self.words.get(at & self.mask) {
-            Some(word) => word.load(SeqCst),
-            None => 0,
-        }
-    }
-
-    fn write(&self, at: usize, word: u64) {
-        if let Some(place) = self.words.get(at & self.mask) {
-            place.store(word, SeqCst);
-        }
-    }
-
     /// Begins a search for the places of a tag.
     #[inline(always)]
     pub fn probe(&self, tag: u32) -> Probe {
@@ -70,70 +70,16 @@ impl Index {
     /// Returns the next place of the probe's tag.
     #[inline(always)]
     pub fn next(&self, probe: &mut Probe) -> Option<u32> {
-        for _ in 0..self.words.len() {
-            let word = self.word(probe.at);
+        for _ in 0..self.table.word_count() {
+            let word = self.table.shared.peek(probe.at & self.mask);
             if word == 0 {
                 return None;
             }
             probe.at = probe.at.wrapping_add(1);
             if tag_of(word) == probe.tag {
-                return ((word & 0xffff_ffff) as u32).checked_sub(1);
+                return past_place(word).checked_sub(1);
             }
         }
         None
-    }
-
-    /// Adds a place.
-    pub fn add(&self, tag: u32, place: u32) {
-        let mut at = tag as usize;
-        for _ in 0..self.words.len() {
-            if self.word(at) == 0 {
-                self.write(at, word_of(tag, place));
-                return;
-            }
-            at = at.wrapping_add(1);
-        }
-    }
-
-    /// Removes a place.
-    pub fn remove(&self, tag: u32, place: u32) {
-        if let Some(at) = self.find(tag, place) {
-            self.close(at);
-        }
-    }
-
-    fn find(&self, tag: u32, place: u32) -> Option<usize> {
-        let sought = word_of(tag, place);
-        let mut at = tag as usize;
-        for _ in 0..self.words.len() {
-            let word = self.word(at);
-            if word == sought {
-                return Some(at);
-            }
-            if word == 0 {
-                return None;
-            }
-            at = at.wrapping_add(1);
-        }
-        None
-    }
-
-    // Empties a word, after it has moved back each word that was probed past it.
-    fn close(&self, removed: usize) {
-        let mut hole = removed;
-        let mut at = removed;
-        for _ in 0..self.words.len() {
-            at = at.wrapping_add(1);
-            let word = self.word(at);
-            if word == 0 {
-                break;
-            }
-            let home = tag_of(word) as usize;
-            if at.wrapping_sub(home) & self.mask >= at.wrapping_sub(hole) & self.mask {
-                self.write(hole, word);
-                hole = at;
-            }
-        }
-        self.write(hole, 0);
     }
 }

@@ -3,15 +3,16 @@
 //! Each time that the lock is held, one entry leaves at the most, and it is dropped after the lock
 //! is released. So nothing is collected under the lock, and a call that evicts several entries
 //! takes the lock as many times.
-ghost use Rattle.std.specs.Prelude.{◌≡◌, ◌≢◌, ◌<◌, IfErr, IfOk, IfSome, true};
+ghost use Rattle.std.specs.Prelude.{◌≡◌, ◌≢◌, ◌<◌, IfErr, IfOk, IfSome, None, true};
 ghost use Rattle.concurrent_lru.specs.Cache.{CopiesAreEqual};
-ghost use Rattle.lru_clock.specs.Turns.{IfHit};
+ghost use Rattle.lru_clock.specs.Seats.{seat};
+ghost use Rattle.std.proofs.Math.ListN.{set};
 
 mod changes;
 mod looks;
 
 use crate::shard_state::ShardState;
-use crate::store::{Kept, Leaver, Pin, Reservation, Seat, Slot, Store, Taken};
+use crate::store::{Kept, Leaver, Left, Pin, Reservation, Slot, Store, Taken};
 use concurrent_lru::fit::Fit;
 use concurrent_lru::sealed::Sealed;
 use concurrent_lru::sharded::Refusal;
@@ -40,6 +41,28 @@ pub struct Shard<K: Hash + Eq + Clone, V, F: Fit<K, V>> {
     ghost copies: { CopiesAreEqual K.is_clone K.eq },
 }
 
+/// An entry that comes: its charge, the tag of its key's hash, its key and value, and a copy of its
+/// key, unless that was invalidated before it came.
+struct Coming<K: Eq, V, F: Fit<K, V>> {
+    charge: u64,
+    tag: u32,
+    kept: Kept<K, V, F>,
+    own: Option<K>,
+}
+
+/// What is to be dropped after the lock is released.
+#[derive(Drop)]
+struct Leftover<K: Eq, V, F: Fit<K, V>> {
+    kept: Option<Kept<K, V, F>>,
+    own: Option<K>,
+}
+
+impl<K: Eq, V, F: Fit<K, V>> Leftover<K, V, F> {
+    fn of(kept: Option<Kept<K, V, F>>, own: Option<K>) -> Self {
+        Leftover { kept, own }
+    }
+}
+
 /// What a caller that found no entry is to do.
 pub enum Turn<'a, K: Eq, V, F: Fit<K, V>> {
     /// Make the value, under this ticket.
@@ -56,13 +79,15 @@ impl<K: Hash + Eq + Clone + Drop, V: Drop, F: Fit<K, V>> Shard<K, V, F> {
         requires within { most_pins < 1073741823 }
         requires copies { CopiesAreEqual K.is_clone K.eq }
     {
+        let state = ShardState::new(alloc, capacity)?;
+        let index = state.seats.share_index()?;
         Ok(Shard {
-            store: Store::new(alloc)?,
+            store: Store::new(alloc, index)?,
             most_pins,
             is_above: AtomicBool::new(false),
             is_owed: AtomicBool::new(false),
             alloc,
-            state: CachePadded::new(Mutex::new(ShardState::new(alloc, capacity))),
+            state: CachePadded::new(Mutex::new(state)),
             made: CachePadded::new(Condvar::new()),
         })
     }
@@ -135,23 +160,12 @@ impl<K: Hash + Eq + Clone + Drop, V: Drop, F: Fit<K, V>> Shard<K, V, F> {
         }
     }
 
-    // Gives back the seat of an entry that was taken out, which the index no longer has then.
-    fn vacate(&self, state: &mut ShardState<K>, taken: Taken<K, V, F>) -> Sealed<Kept<K, V, F>> {
-        let place = taken.place();
-        if let Some(seat) = state.seats.get(place) {
-            if seat.is_listed {
-                self.unlist(state, place, seat.tag);
-            }
-        }
+    // Gives back the seat of an entry that was taken out.
+    fn vacate(&self, state: &mut ShardState<K>, taken: Taken<K, V, F>) -> Sealed<Left<K, V, F>>
+        ensures { state.new.seats ≡ set state.old.seats taken.place (seat 0 0 None) }
+    {
         state.counts.evictions = state.counts.evictions.wrapping_add(1);
         state.seats.vacate(taken)
-    }
-
-    fn unlist(&self, state: &mut ShardState<K>, place: u32, tag: u32) {
-        if let Some(index) = self.store.index() {
-            index.remove(tag, place);
-        }
-        state.seats.unlist(place);
     }
 
     // Evicts one entry if one charge more would take the total above the capacity.
@@ -206,43 +220,57 @@ impl<K: Hash + Eq + Clone + Drop, V: Drop, F: Fit<K, V>> Shard<K, V, F> {
         self.store.grow(self.alloc, &mut state.seats)
     }
 
-    // Stores an entry in a vacant place, and pins it without a chance. If it is not listed, it was
-    // invalidated before it came, and only this caller gets it.
+    // Stores an entry in a vacant place, and pins it without a chance. Without a copy of its key it
+    // was invalidated before it came, and only this caller gets it.
     //
-    // Returns the entry with the refusal if it is refused.
+    // Returns what is to be dropped without the lock beside it, as the entry if it is refused.
     fn put(
         &self,
         state: &mut ShardState<K>,
-        seat: Seat,
         key: &K,
-        kept: Kept<K, V, F>,
-    ) -> Result<(u32, Pin<'_, K, V, F>), (Refusal, Option<Kept<K, V, F>>)>
-        requires fits { F.fits kept.key kept.value }
-        ensures pin { IfOk result
+        coming: Coming<K, V, F>,
+    ) -> (Result<(u32, Pin<'_, K, V, F>), Refusal>, Leftover<K, V, F>)
+        requires fits { F.fits coming.kept.key coming.kept.value }
+        requires own { IfSome coming.own (λ own. K.eq own coming.kept.key ≡ true) }
+        ensures pin { IfOk result.0
             (λ found. (found.1.key ≡ key.now) × F.fits key.now found.1.value) }
-        ensures never_stale { IfErr result (λ e. e.0 ≢ Refusal.Stale) }
+        ensures never_stale { IfErr result.0 (λ e. e ≢ Refusal.Stale) }
     {
-        let reservation = match self.reserve_seat(state, seat) {
+        let Coming {
+            charge,
+            tag,
+            kept,
+            own,
+        } = coming;
+        let is_listed = own.is_some();
+        let reservation = match self.reserve_seat(state, charge, tag, own) {
             Ok(reservation) => reservation,
-            Err(refusal) => return Err((refusal, Some(kept))),
+            Err((refusal, own)) => return (Err(refusal), Leftover::of(Some(kept), own)),
         };
-        let place = match self.store.fill(reservation, kept, !seat.is_listed) {
+        let place = match self.store.fill(reservation, kept, !is_listed) {
             Ok(place) => place,
             Err((reservation, kept)) => {
-                state.seats.cancel(reservation);
-                return Err((Refusal::Overflow, Some(kept)));
+                let own = state.seats.cancel(reservation);
+                return (Err(Refusal::Overflow), Leftover::of(Some(kept), own));
             }
         };
         // Nobody else can have pinned it so often, or taken it out under the lock.
-        let Ok(Some(pin)) = self.pin_new(place, key, seat.is_listed) else {
-            return Err((Refusal::Overflow, None));
+        let Ok(Some(pin)) = self.pin_new(place, key, is_listed) else {
+            return (Err(Refusal::Overflow), Leftover::of(None, None));
         };
-        if seat.is_listed {
-            if let Some(index) = self.store.index() {
-                index.add(seat.tag, place);
+        if is_listed {
+            self.list(state, place);
+        }
+        (Ok((place, pin)), Leftover::of(None, None))
+    }
+
+    // Adds an entry to the index. If that has one of its key, the new one is invalidated.
+    fn list(&self, state: &mut ShardState<K>, place: u32) {
+        if !state.seats.list(place) {
+            if let Some(slot) = self.slot(place) {
+                slot.mark();
             }
         }
-        Ok((place, pin))
     }
 
     // Pins an entry that was just stored. A caller with an old word of the index may find its slot,
@@ -268,10 +296,24 @@ impl<K: Hash + Eq + Clone + Drop, V: Drop, F: Fit<K, V>> Shard<K, V, F> {
     }
 
     // Takes a vacant place for an entry, and counts its charge.
-    fn reserve_seat(&self, state: &mut ShardState<K>, seat: Seat) -> Result<Reservation, Refusal>
-        ensures { IfErr result (λ e. e ≢ Refusal.Stale) }
+    //
+    // Returns the copy of its key with the refusal if there is none.
+    fn reserve_seat(
+        &self,
+        state: &mut ShardState<K>,
+        charge: u64,
+        tag: u32,
+        own: Option<K>,
+    ) -> Result<Reservation<K>, (Refusal, Option<K>)>
+        ensures done { IfOk result (λ r. r.key.value ≡ own) }
+        ensures refused { IfErr result (λ e. e.0 ≢ Refusal.Stale) }
     {
-        self.admit(state, seat.charge)?;
-        state.seats.reserve(seat).ok_or(Refusal::Overflow)
+        if let Err(refusal) = self.admit(state, charge) {
+            return Err((refusal, own));
+        }
+        match state.seats.reserve(charge, tag, own) {
+            Ok(reservation) => Ok(reservation),
+            Err(own) => Err((Refusal::Overflow, own)),
+        }
     }
 }

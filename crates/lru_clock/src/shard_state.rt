@@ -3,7 +3,7 @@ ghost use Rattle.std.specs.Prelude.{◌≡◌, sum_by};
 
 use crate::makings::Makings;
 use crate::store::Seats;
-use std::alloc::Global;
+use std::alloc::{AllocError, Global};
 use std::fmt;
 
 /// Counts of what calls did under the locks since the cache was created or the counts were last
@@ -54,7 +54,7 @@ pub struct Numbers {
 #[derive(Drop)]
 pub struct ShardState<K: Eq> {
     pub capacity: u64,
-    pub seats: Seats,
+    pub seats: Seats<K>,
     pub makings: Makings<K>,
     pub counts: Counts,
     // The place that the hand of the clock comes to next.
@@ -63,14 +63,16 @@ pub struct ShardState<K: Eq> {
 
 impl<K: Eq + Drop> ShardState<K> {
     /// Creates the state of a shard without entries.
-    pub fn new(alloc: Global, capacity: u64) -> Self {
-        ShardState {
+    ///
+    /// Returns `AllocError` if the allocator refuses.
+    pub fn new(alloc: Global, capacity: u64) -> Result<Self, AllocError> {
+        Ok(ShardState {
             capacity,
-            seats: Seats::new(alloc),
+            seats: Seats::new(alloc)?,
             makings: Makings::new(alloc),
             counts: Counts::default(),
             hand: 0,
-        }
+        })
     }
 
     /// Returns what the shard holds and has counted.

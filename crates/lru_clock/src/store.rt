@@ -1,23 +1,24 @@
 //! The slots of a shard and their index, which grow under the lock and are read without it.
 //!
-//! Slots lie in pages, each twice as large as the one before it, and never move. A new page comes
-//! with a new index. The old indexes stay as they were: a reader that still has one finds too
-//! little, and asks again under the lock.
-ghost use Rattle.std.specs.Prelude.{◌≡◌, ◌≢◌, ◌<◌, IfErr, IfOk, IfSome};
+//! Slots lie in pages, each twice as large as the one before it, and never move. A new index is
+//! twice as large as the one before it. The old ones stay as they were: a reader that still has one
+//! finds too little, and asks again under the lock.
+ghost use Rattle.std.specs.Prelude.{◌≡◌, ◌≢◌, ◌<◌, true, IfErr, IfOk, IfSome};
 
+mod search;
 mod seats;
 mod slot;
 
 use crate::index::Index;
-pub use crate::store::seats::{Reservation, Seat, Seats};
-pub use crate::store::slot::{Kept, Leaver, MOST_PINS, Pin, Released, Slot};
+pub use crate::store::seats::{Reservation, Seats};
+pub use crate::store::slot::{Emptied, Kept, MOST_PINS, Pin, Released, Slot};
 use concurrent_lru::fit::Fit;
 use concurrent_lru::sealed::Sealed;
 use concurrent_lru::sharded::Refusal;
 use std::alloc::{AllocError, Global};
-use std::sync::OnceLock;
 use std::sync::atomic::AtomicU64;
 use std::sync::atomic::Ordering::SeqCst;
+use std::sync::{Arc, OnceLock};
 
 // The number of slots in the first page.
 const FIRST_PAGE: usize = 64;
@@ -30,7 +31,7 @@ const PAGES: usize = 26;
 pub struct Store<K: Eq, V, F: Fit<K, V>> {
     // The number of the index in use.
     level: AtomicU64,
-    indexes: Vec<OnceLock<Index>>,
+    indexes: Vec<OnceLock<Arc<Index>>>,
     pages: Vec<OnceLock<Vec<Slot<K, V, F>>>>,
 }
 
@@ -38,26 +39,36 @@ pub struct Store<K: Eq, V, F: Fit<K, V>> {
 /// takes it. So no charge counts whose entry has left.
 pub struct Taken<K: Eq, V, F: Fit<K, V>> {
     place: u32,
-    entry: Sealed<Kept<K, V, F>>,
+    emptied: Emptied<K, V, F>,
 }
 
 impl<K: Eq, V, F: Fit<K, V>> Taken<K, V, F> {
-    fn of(place: u32, leaver: Leaver<K, V, F>) -> Option<Self>
+    fn of(place: u32, emptied: Option<Emptied<K, V, F>>) -> Option<Self>
         ensures { IfSome result (λ taken. taken.place ≡ place) }
     {
-        match leaver {
-            Some(entry) => Some(Taken { place, entry }),
+        match emptied {
+            Some(emptied) => Some(Taken { place, emptied }),
             None => None,
         }
     }
+}
 
-    /// Returns the place of the slot.
-    pub fn place(&self) -> u32
-        ensures { result ≡ self.now.place }
-    {
-        self.place
+/// What an entry leaves: itself, and the copy of its key that its seat had.
+#[derive(Drop)]
+pub struct Left<K: Eq, V, F: Fit<K, V>> {
+    kept: Kept<K, V, F>,
+    own: Option<K>,
+}
+
+impl<K: Eq, V, F: Fit<K, V>> Left<K, V, F> {
+    fn of(emptied: Emptied<K, V, F>, own: Option<K>) -> Self {
+        let Emptied { kept } = emptied;
+        Left { kept, own }
     }
 }
+
+/// What an entry left, sealed until the lock is released, if one has left.
+pub type Leaver<K, V, F> = Option<Sealed<Left<K, V, F>>>;
 
 // Returns the page of a place, and where it is in the page.
 #[inline(always)]
@@ -82,37 +93,24 @@ fn new_page<K: Eq + Drop, V: Drop, F: Fit<K, V>>(
     Ok(slots)
 }
 
-// All pages up to this one have fewer than twice its slots. At least half of the index stays empty.
-fn new_index(alloc: Global, page: usize, seats: &Seats) -> Result<Index, AllocError>
-    requires { page < 26 }
-{
-    let index = Index::new(alloc, (4 * FIRST_PAGE) << page)?;
-    for place in 0..seats.places() {
-        if let Some(seat) = seats.get(place) {
-            if seat.is_listed {
-                index.add(seat.tag, place);
-            }
-        }
-    }
-    Ok(index)
-}
-
 impl<K: Eq + Drop, V: Drop, F: Fit<K, V>> Store<K, V, F> {
-    /// Creates a store without slots.
+    /// Creates a store without slots, with an index for those who read it without the lock.
     ///
     /// Returns `AllocError` if the allocator refuses.
-    pub fn new(alloc: Global) -> Result<Self, AllocError> {
+    pub fn new(alloc: Global, index: Arc<Index>) -> Result<Self, AllocError> {
         let mut pages = Vec::with_capacity(alloc, PAGES)?;
         let mut indexes = Vec::with_capacity(alloc, PAGES)?;
         for _ in 0..PAGES {
             pages.push(OnceLock::new())?;
             indexes.push(OnceLock::new())?;
         }
-        Ok(Store {
+        let store = Store {
             level: AtomicU64::new(0),
             indexes,
             pages,
-        })
+        };
+        store.publish(index, 0);
+        Ok(store)
     }
 
     /// Returns the slot of a place.
@@ -128,11 +126,12 @@ impl<K: Eq + Drop, V: Drop, F: Fit<K, V>> Store<K, V, F> {
     /// Returns both if the slot has an entry.
     pub fn fill(
         &self,
-        reservation: Reservation,
+        reservation: Reservation<K>,
         kept: Kept<K, V, F>,
         is_invalidated: bool,
-    ) -> Result<u32, (Reservation, Kept<K, V, F>)>
-        requires { F.fits kept.key kept.value }
+    ) -> Result<u32, (Reservation<K>, Kept<K, V, F>)>
+        requires fits { F.fits kept.key kept.value }
+        requires own { IfSome reservation.key.value (λ own. K.eq own kept.key ≡ true) }
         ensures { IfOk result (λ place. place ≡ reservation.place) }
     {
         let Some(slot) = self.slot(reservation.place) else {
@@ -141,7 +140,7 @@ impl<K: Eq + Drop, V: Drop, F: Fit<K, V>> Store<K, V, F> {
         if let Err(kept) = slot.fill(kept, is_invalidated) {
             return Err((reservation, kept));
         }
-        let Reservation { place } = reservation;
+        let Reservation { place, key: _ } = reservation;
         Ok(place)
     }
 
@@ -166,17 +165,26 @@ impl<K: Eq + Drop, V: Drop, F: Fit<K, V>> Store<K, V, F> {
         Taken::of(place, self.slot(place)?.take_invalidated())
     }
 
-    /// Returns the index. Under the lock it has each entry that its key finds.
+    /// Returns the index, for those who read it without the lock.
     #[inline(always)]
     pub fn index(&self) -> Option<&Index> {
-        self.indexes.get(self.level.load(SeqCst) as usize)?.get()
+        let index = self.indexes.get(self.level.load(SeqCst) as usize)?.get()?;
+        Some(&**index)
+    }
+
+    // Has those who read the index without the lock read this one.
+    fn publish(&self, index: Arc<Index>, level: u64) {
+        if let Some(cell) = self.indexes.get(level as usize) {
+            let _ = cell.try_set(index);
+            self.level.store(level, SeqCst);
+        }
     }
 
     /// Adds a slot, and a seat for it.
     ///
     /// Returns `Memory` if the allocator refuses, and `Overflow` if a shard can have no more slots
     /// (4,294,967,232). No entry changes.
-    pub fn grow(&self, alloc: Global, seats: &mut Seats) -> Result<(), Refusal>
+    pub fn grow(&self, alloc: Global, seats: &mut Seats<K>) -> Result<(), Refusal>
         ensures { IfErr result (λ e. e ≢ Refusal.Stale) }
     {
         let place = seats.places();
@@ -187,17 +195,13 @@ impl<K: Eq + Drop, V: Drop, F: Fit<K, V>> Store<K, V, F> {
         let Some(slots) = self.pages.get(page) else {
             return Err(Refusal::Overflow);
         };
-        let Some(index) = self.indexes.get(page) else {
-            return Err(Refusal::Overflow);
-        };
         if slots.get().is_none() {
             let _ = slots.try_set(new_page(alloc, page)?);
         }
-        if index.get().is_none() {
-            let _ = index.try_set(new_index(alloc, page, seats)?);
-            self.level.store(page as u64, SeqCst);
+        if seats.add(place)? {
+            let index = seats.share_index()?;
+            self.publish(index, self.level.load(SeqCst).wrapping_add(1));
         }
-        seats.add(place)?;
         Ok(())
     }
 }

@@ -1,16 +1,27 @@
 //! The calls that change a shard. Each holds the lock once for each entry that leaves, and once
 //! more for what it changes itself.
-ghost use Rattle.std.specs.Prelude.{◌≡◌, ◌≢◌, ◌<◌, IfErr, IfOk, IfSome};
-ghost use Rattle.concurrent_lru.specs.Cache.{CopiesAreEqual};
+ghost use Rattle.std.specs.Prelude.{◌≡◌, ◌≢◌, ◌<◌, true, IfErr, IfOk, IfSome};
+ghost use Rattle.lru_clock.specs.Seats.{LacksKey};
 
-use crate::shard::Shard;
+use crate::shard::{Coming, Shard};
 use crate::shard_state::ShardState;
-use crate::store::{Kept, Leaver, Pin, Seat};
+use crate::store::{Kept, Leaver, Pin};
 use concurrent_lru::fit::Fit;
 use concurrent_lru::sharded::Refusal;
 use std::hash::Hash;
 use std::marker::PhantomData;
 use std::sync::Wait;
+
+// Returns the key of a making that ended, if it is the entry's. A key is made by one caller at a
+// time, so it is, unless the making was invalidated.
+fn own_key<K: Eq + Drop>(making: Option<K>, key: &K) -> Option<K>
+    ensures { IfSome result (λ own. K.eq own key.now ≡ true) }
+{
+    match making {
+        Some(own) => { if own == *key { Some(own) } else { None } }
+        None => None,
+    }
+}
 
 impl<K: Hash + Eq + Clone + Drop, V: Drop, F: Fit<K, V>> Shard<K, V, F> {
     // Copies the key of a new entry.
@@ -54,12 +65,13 @@ impl<K: Hash + Eq + Clone + Drop, V: Drop, F: Fit<K, V>> Shard<K, V, F> {
         };
         let (mut guard, leaver) = self.lock_with_room(rt, charge);
         let making = guard.makings.end(ticket);
-        let seat = Seat {
+        let coming = Coming {
             charge,
             tag,
-            is_listed: making.is_some(),
+            own: own_key(making, &kept.key),
+            kept,
         };
-        let stored = self.put(&mut guard, seat, key, kept);
+        let (stored, leftover) = self.put(&mut guard, key, coming);
         if stored.is_ok() {
             guard.counts.makings = guard.counts.makings.wrapping_add(1);
         } else {
@@ -67,13 +79,8 @@ impl<K: Hash + Eq + Clone + Drop, V: Drop, F: Fit<K, V>> Shard<K, V, F> {
         }
         self.wake(&guard);
         self.unlock(guard, leaver);
-        match stored {
-            Ok(found) => Ok(found),
-            Err((refusal, refused)) => {
-                drop(refused);
-                Err(refusal)
-            }
-        }
+        drop(leftover);
+        stored
     }
 
     /// Ends a making that failed.
@@ -103,6 +110,7 @@ impl<K: Hash + Eq + Clone + Drop, V: Drop, F: Fit<K, V>> Shard<K, V, F> {
         ensures never_stale { IfErr result (λ e. e ≢ Refusal.Stale) }
     {
         let kept = self.new_entry(key, value)?;
+        let own = kept.key.clone()?;
         for _ in rt.forever() {
             let mut guard = self.lock(rt);
             if let Err(refusal) = self.admit(&mut guard, charge) {
@@ -115,23 +123,19 @@ impl<K: Hash + Eq + Clone + Drop, V: Drop, F: Fit<K, V>> Shard<K, V, F> {
                 continue;
             }
             let making = guard.makings.invalidate(key);
-            let seat = Seat {
+            let coming = Coming {
                 charge,
                 tag,
-                is_listed: true,
+                kept,
+                own: Some(own),
             };
-            let stored = self.put(&mut guard, seat, key, kept);
+            let (stored, leftover) = self.put(&mut guard, key, coming);
             guard.counts.insertions = guard.counts.insertions.wrapping_add(1);
             self.wake(&guard);
             self.unlock(guard, leaver);
             drop(making);
-            return match stored {
-                Ok(found) => Ok(found),
-                Err((refusal, refused)) => {
-                    drop(refused);
-                    Err(refusal)
-                }
-            };
+            drop(leftover);
+            return stored;
         }
         unreachable!()
     }
@@ -151,11 +155,14 @@ impl<K: Hash + Eq + Clone + Drop, V: Drop, F: Fit<K, V>> Shard<K, V, F> {
         }
     }
 
-    // Invalidates the key's entry, which leaves if nobody has pinned it.
-    fn invalidate_entry(&self, state: &mut ShardState<K>, tag: u32, key: &K) -> Leaver<K, V, F> {
-        let place = self.place_of(tag, key)?;
+    // Invalidates the key's entry, which leaves if nobody has pinned it. The index has none of the
+    // key then.
+    fn invalidate_entry(&self, state: &mut ShardState<K>, tag: u32, key: &K) -> Leaver<K, V, F>
+        ensures gone { LacksKey K.eq state.new.seats tag key.now }
+    {
+        let place = state.seats.find(tag, key)?;
+        state.seats.unlist(place);
         self.slot(place)?.mark();
-        self.unlist(state, place, tag);
         let taken = self.store.take_invalidated(place)?;
         Some(self.vacate(state, taken))
     }
@@ -173,7 +180,7 @@ impl<K: Hash + Eq + Clone + Drop, V: Drop, F: Fit<K, V>> Shard<K, V, F> {
     /// Evicts the key's entry if nobody has pinned it, whatever its chances.
     pub fn advise<R: Wait>(&self, rt: &R, tag: u32, key: &K) {
         let mut guard = self.lock(rt);
-        let leaver = match self.place_of(tag, key) {
+        let leaver = match guard.seats.find(tag, key) {
             Some(place) => self.take_idle(&mut guard, place),
             None => None,
         };

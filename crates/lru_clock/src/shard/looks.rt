@@ -1,7 +1,6 @@
 //! The calls that look at a shard: hits, without the lock; and under it a second look, the start
 //! of a making, and sums.
 ghost use Rattle.std.specs.Prelude.{◌≡◌, ◌≢◌, ◌<◌, IfErr, IfOk, IfSome};
-ghost use Rattle.concurrent_lru.specs.Cache.{CopiesAreEqual};
 ghost use Rattle.lru_clock.specs.Turns.{IfHit};
 
 use crate::shard::{Shard, Turn};
@@ -60,10 +59,34 @@ impl<K: Hash + Eq + Clone + Drop, V: Drop, F: Fit<K, V>> Shard<K, V, F> {
             (λ f. (f.1.key ≡ key.now) × F.fits key.now f.1.value)) }
         ensures refused { IfErr result (λ e. e ≡ Refusal.Overflow) }
     {
-        let guard = self.lock(rt);
-        let found = self.find(tag, key, is_use);
+        let mut guard = self.lock(rt);
+        let found = self.find_listed(&mut guard, tag, key, is_use);
         self.unlock(guard, None);
         found
+    }
+
+    // Pins the entry that the index has of a key.
+    fn find_listed(
+        &self,
+        state: &mut ShardState<K>,
+        tag: u32,
+        key: &K,
+        is_use: bool,
+    ) -> Result<Option<(u32, Pin<'_, K, V, F>)>, Refusal>
+        ensures pin { IfOk result (λ found. IfSome found
+            (λ f. (f.1.key ≡ key.now) × F.fits key.now f.1.value)) }
+        ensures refused { IfErr result (λ e. e ≡ Refusal.Overflow) }
+    {
+        let Some(place) = state.seats.find(tag, key) else {
+            return Ok(None);
+        };
+        let Some(slot) = self.slot(place) else {
+            return Ok(None);
+        };
+        match slot.pin(key, self.most_pins, is_use)? {
+            Some(pin) => Ok(Some((place, pin))),
+            None => Ok(None),
+        }
     }
 
     /// Pins the key's entry without the lock, or else begins as `begin` does.
@@ -126,7 +149,7 @@ impl<K: Hash + Eq + Clone + Drop, V: Drop, F: Fit<K, V>> Shard<K, V, F> {
     {
         let mut guard = self.lock(rt);
         for _ in rt.forever() {
-            match self.find(tag, key, true) {
+            match self.find_listed(&mut guard, tag, key, true) {
                 Ok(None) => {}
                 Ok(Some((place, pin))) => return (guard, Ok(Turn::Hit(place, pin))),
                 Err(refusal) => return (guard, Err(refusal)),
@@ -169,43 +192,10 @@ impl<K: Hash + Eq + Clone + Drop, V: Drop, F: Fit<K, V>> Shard<K, V, F> {
         guard
     }
 
-    /// Returns the place of the key's entry, which it has pinned for a moment, under the lock.
-    pub fn place_of(&self, tag: u32, key: &K) -> Option<u32> {
-        let index = self.store.index()?;
-        let mut probe = index.probe(tag);
-        for _ in 0..u64::MAX {
-            let place = index.next(&mut probe)?;
-            if self.has_key(place, key) {
-                return Some(place);
-            }
-        }
-        None
-    }
-
-    // Returns whether the entry of a place has a key. One with the maximum of pins is refused only
-    // after its key was compared.
-    fn has_key(&self, place: u32, key: &K) -> bool {
-        let Some(slot) = self.slot(place) else {
-            return false;
-        };
-        match slot.pin(key, self.most_pins, false) {
-            Ok(Some(pin)) => {
-                pin.release();
-                self.settle_if_above();
-                true
-            }
-            Ok(None) => {
-                self.settle_if_above();
-                false
-            }
-            Err(_) => true,
-        }
-    }
-
     /// Returns whether the key has an entry.
     pub fn contains<R: Wait>(&self, rt: &R, tag: u32, key: &K) -> bool {
-        let guard = self.lock(rt);
-        let place = self.place_of(tag, key);
+        let mut guard = self.lock(rt);
+        let place = guard.seats.find(tag, key);
         self.unlock(guard, None);
         place.is_some()
     }
@@ -229,9 +219,9 @@ impl<K: Hash + Eq + Clone + Drop, V: Drop, F: Fit<K, V>> Shard<K, V, F> {
     fn pinned_among(&self, state: &ShardState<K>) -> u64 {
         let mut pinned = 0u64;
         for place in 0..state.seats.places() {
-            if let (Some(seat), Some(slot)) = (state.seats.get(place), self.slot(place)) {
+            if let Some(slot) = self.slot(place) {
                 if slot.is_pinned() {
-                    pinned = pinned.saturating_add(seat.charge);
+                    pinned = pinned.saturating_add(state.seats.charge_at(place));
                 }
             }
         }

@@ -1,66 +1,111 @@
-//! What a shard knows under its lock of each of its slots: the charge of the entry there, and where
-//! the index has it.
-ghost use Rattle.std.specs.Prelude.{◌≡◌, [], sum_by};
-ghost use Rattle.std.specs.Prelude.{IsTrue, IsFalse, MatchOption, length};
+//! What a shard knows under its lock of each of its slots: the charge of the entry there, its key,
+//! and whether the index has it.
+ghost use Rattle.std.specs.Prelude.{◌≡◌, ◌+◌, ◌<◌, ℕ, [], sum_by, true, false};
+ghost use Rattle.std.specs.Prelude.{IfOk, IfSome, IsTrue, MatchBool, MatchOption, MatchResult, None};
+ghost use Rattle.std.specs.Prelude.{length, replicate, List, Some, IfNone};
 ghost use Rattle.std.proofs.Math.ListN.{set};
+ghost use Rattle.lru_clock.specs.Index.{IsSize};
+ghost use Rattle.lru_clock.specs.Seats.{seat as seat_of, HasKeyAt, LacksKey, IsIndex};
+ghost use Rattle.lru_clock.specs.SeatChanges.{IsFree, ListsAt, UnlistsAt};
 
-use crate::store::{Kept, Taken};
+use crate::index::{Index, Words, word_of};
+use crate::shown::Shown;
+use crate::store::search::{Search, find_key};
+use crate::store::{Left, Taken};
 use concurrent_lru::fit::Fit;
 use concurrent_lru::sealed::Sealed;
 use std::alloc::{AllocError, Global};
 use std::marker::Model;
+use std::sync::Arc;
 
-/// A place under the lock: the charge of its entry, 0 if there is none, the tag of its key's hash,
-/// and whether the index has it.
-#[derive(Clone, Copy)]
-pub struct Seat {
+// The number of words of the first index.
+const FIRST_WORDS: usize = 256;
+
+// The greatest number of words: as many as there are tags.
+const MOST_WORDS: usize = 0x1_0000_0000;
+
+/// A place under the lock.
+#[derive(Drop)]
+pub struct Seat<K> {
+    /// The charge of its entry, or 0 if there is none.
     pub charge: u64,
+    /// The tag of the hash of its entry's key.
     pub tag: u32,
+    /// Whether the index has its entry.
     pub is_listed: bool,
+    /// A copy of its entry's key, unless that was invalidated before the entry came.
+    pub key: Option<K>,
 }
 
-const NO_ENTRY: Seat = Seat {
-    charge: 0,
-    tag: 0,
-    is_listed: false,
-};
+impl<K> Seat<K> {
+    // Creates a seat whose entry the index does not have.
+    fn unlisted(charge: u64, tag: u32, key: Option<K>) -> Self
+        ensures { result ≡ seat_of charge tag key }
+    {
+        Seat {
+            charge,
+            tag,
+            is_listed: false,
+            key,
+        }
+    }
+}
 
 /// A debt: a place that was taken for an entry whose charge counts already. `Store::fill` takes it
-/// with the entry, or else `Seats::cancel`. So no entry is in a slot that does not count.
-pub struct Reservation {
+/// with an entry whose key equals the one that the seat has, or else `Seats::cancel`. So no entry is
+/// in a slot that does not count, or whose seat has another key.
+pub struct Reservation<K> {
     pub(super) place: u32,
+    pub(super) key: Shown<Option<K>>,
 }
 
-/// The seats of a shard in the order of their places, with the sum of their charges, and the places
-/// that have no entry. Clauses see the list of the seats.
+/// The seats of a shard in the order of their places, with the sum of their charges, the places
+/// that have no entry, and the words of the index. Clauses see the list of the seats.
 #[derive(Drop)]
-pub struct Seats {
+pub struct Seats<K: Eq> {
     total: u64,
-    seats: Vec<Seat>,
+    seats: Vec<Seat<K>>,
     vacant: Vec<u32>,
+    words: Words,
 }
 
-impl Model for Seats {
+impl<K: Eq> Model for Seats<K> {
     ghost use Rattle.std.specs.Prelude.{◌≡◌, List, sum_by};
-    ghost use Rattle.lru_clock.specs.declared.store.seats.Seat.{Seat};
+    ghost use Rattle.std.specs.Coded.{coded_list};
+    ghost use Rattle.lru_clock.specs.declared.store.seats.Seat.{Seat as Seat_};
+    ghost use Rattle.lru_clock.specs.Seats.{seat_code, IsIndex};
 
-    ghost Value = { List Seat };
+    ghost Value = { List (Seat_ K) };
+
+    ghost coded = { coded_list (seat_code K.code) };
 
     ghost view = { λ s. s.seats.items };
 
-    ghost invariant = { λ s. s.total ≡ sum_by (λ seat. seat.charge) s.seats.items };
+    ghost invariant = { λ s. (s.total ≡ sum_by (λ seat. seat.charge) s.seats.items)
+        × IsIndex K.eq s.seats.items s.words };
 }
 
-impl Seats {
-    /// Creates no seats.
-    pub fn new(alloc: Global) -> Seats
-        ensures { result ≡ [] }
+impl<K: Eq + Drop> Seats<K> {
+    /// Creates no seats, and an index without entries.
+    ///
+    /// Returns `AllocError` if the allocator refuses.
+    pub fn new(alloc: Global) -> Result<Seats<K>, AllocError>
+        ensures { IfOk result (λ seats. seats ≡ []) }
     {
-        Seats {
+        let words = Words::new(alloc, FIRST_WORDS)?;
+        Ok(Seats {
             total: 0,
             seats: Vec::new(alloc),
             vacant: Vec::new(alloc),
-        }
+            words,
+        })
+    }
+
+    /// Returns the index, for those who read it without the lock.
+    ///
+    /// Returns `AllocError` if it has as many owners as can be counted.
+    pub fn share_index(&self) -> Result<Arc<Index>, AllocError> {
+        self.words.share()
     }
 
     /// Returns the sum of all charges.
@@ -79,7 +124,7 @@ impl Seats {
 
     /// Returns the number of seats as a place: the one that a further seat would have.
     pub fn places(&self) -> u32 {
-        (self.seats.len() & 0xffff_ffff) as u32
+        u32::try_from(self.seats.len()).unwrap_or(u32::MAX)
     }
 
     /// Returns the number of seats that have an entry.
@@ -87,23 +132,41 @@ impl Seats {
         self.seats.len().saturating_sub(self.vacant.len())
     }
 
-    /// Returns the seat of a place.
-    pub fn get(&self, place: u32) -> Option<Seat> {
-        self.seats.get(place as usize).copied()
+    /// Returns the charge of the entry at a place, or 0 if there is none.
+    pub fn charge_at(&self, place: u32) -> u64 {
+        match self.seats.get(place as usize) {
+            Some(seat) => seat.charge,
+            None => 0,
+        }
     }
 
-    /// Adds a seat without an entry, and room for its place among the vacant ones.
+    /// Returns the place of a key's entry, if the index has one. It has no other of the key.
+    pub fn find(&mut self, tag: u32, key: &K) -> Option<u32>
+        ensures same { self.new ≡ self.old }
+        ensures found { MatchOption result (LacksKey K.eq self.new tag key.now)
+            (λ place. HasKeyAt K.eq self.new tag key.now place) }
+        ensures one { IfSome result
+            (λ place. (p : ℕ) → HasKeyAt K.eq self.new tag key.now p → p ≡ place) }
+    {
+        match find_key(&mut self.words, &self.seats, tag, key) {
+            Search::Found(place) => Some(place),
+            Search::Empty(_) => None,
+        }
+    }
+
+    /// Adds a seat without an entry, and room for its place among the vacant ones. Returns whether
+    /// that took a new index.
     ///
     /// Returns `AllocError` if the allocator refuses.
-    pub fn add(&mut self, place: u32) -> Result<(), AllocError>
+    pub fn add(&mut self, place: u32) -> Result<bool, AllocError>
         ensures total { sum_by (λ seat. seat.charge) self.new
             ≡ sum_by (λ seat. seat.charge) self.old }
     {
         // So that each place can be given back without memory.
         self.vacant.reserve(self.seats.len().wrapping_add(1))?;
-        self.seats.push(NO_ENTRY)?;
+        let is_new = self.push()?;
         self.give_back(place);
-        Ok(())
+        Ok(is_new)
     }
 
     /// Returns whether there is a place that has no entry.
@@ -111,71 +174,143 @@ impl Seats {
         !self.vacant.is_empty()
     }
 
-    /// Takes a vacant place for an entry, whose charge counts from now on.
+    /// Takes a vacant place for an entry, whose charge counts from now on, and keeps a copy of its
+    /// key. The index does not have it yet.
     ///
-    /// Returns `None` if no place is vacant, or if the sum of the charges would pass the maximum of
-    /// a `u64`.
-    pub fn reserve(&mut self, seat: Seat) -> Option<Reservation>
-        ensures { MatchOption result (self.new ≡ self.old)
-            (λ r. self.new ≡ set self.old r.place seat) }
+    /// Returns the key if no place is vacant, or if the sum of the charges would pass the maximum
+    /// of a `u64`.
+    pub fn reserve(
+        &mut self,
+        charge: u64,
+        tag: u32,
+        key: Option<K>,
+    ) -> Result<Reservation<K>, Option<K>>
+        ensures { MatchResult result
+            (λ r. (self.new ≡ set self.old r.place (seat_of charge tag key)) × (r.key.value ≡ key))
+            (λ back. (self.new ≡ self.old) × (back ≡ key)) }
     {
-        let place = self.vacant.pop()?;
-        if !self.set(place, seat) {
+        let Some(place) = self.vacant.pop() else {
+            return Err(key);
+        };
+        if !self.is_free(place, charge) {
             self.give_back(place);
-            return None;
+            return Err(key);
         }
-        Some(Reservation { place })
+        let shown = Shown::of(&key);
+        drop(self.put(place, Seat::unlisted(charge, tag, key)));
+        Ok(Reservation { place, key: shown })
     }
 
-    /// Gives back the place of an entry that could not be stored. Its charge counts no more.
-    pub fn cancel(&mut self, reservation: Reservation)
-        ensures { self.new ≡ set self.old reservation.place NO_ENTRY }
+    /// Gives back the place of an entry that could not be stored, and returns the copy of its key.
+    /// Its charge counts no more.
+    pub fn cancel(&mut self, reservation: Reservation<K>) -> Option<K>
+        ensures { self.new ≡ set self.old reservation.place (seat_of 0 0 None) }
     {
-        let Reservation { place } = reservation;
-        self.empty(place);
+        let Reservation { place, key: _ } = reservation;
+        self.empty(place)
     }
 
-    /// Gives back the place of an entry that was taken out, and returns the entry. Its charge
-    /// counts no more.
-    pub fn vacate<K: Eq, V, F: Fit<K, V>>(&mut self, taken: Taken<K, V, F>) -> Sealed<Kept<K, V, F>>
-        ensures { self.new ≡ set self.old taken.place NO_ENTRY }
+    /// Gives back the place of an entry that was taken out, and returns the entry with the copy of
+    /// its key. Its charge counts no more, and the index does not have it.
+    pub fn vacate<V, F: Fit<K, V>>(&mut self, taken: Taken<K, V, F>) -> Sealed<Left<K, V, F>>
+        ensures { self.new ≡ set self.old taken.place (seat_of 0 0 None) }
     {
-        let Taken { place, entry } = taken;
-        self.empty(place);
-        entry
+        let Taken { place, emptied } = taken;
+        let own = self.empty(place);
+        Sealed::of(Left::of(emptied, own))
     }
 
-    // Sets the seat of a place, unless there is no such place or the sum of the charges would pass
-    // the maximum of a `u64`.
-    fn set(&mut self, place: u32, seat: Seat) -> bool
-        ensures done { IsTrue result → self.new ≡ set self.old place seat }
-        ensures refused { IsFalse result → self.new ≡ self.old }
+    /// Adds the entry of a place to the index, unless that has an entry of its key. Returns whether
+    /// it did.
+    pub fn list(&mut self, place: u32) -> bool
+        ensures { MatchBool result (ListsAt self.old place self.new) (self.new ≡ self.old) }
     {
         let at = place as usize;
-        if at >= self.seats.len() {
+        if at >= self.seats.len() || self.seats[at].is_listed {
             return false;
         }
-        let others = self.total - self.seats[at].charge;
-        match others.checked_add(seat.charge) {
-            Some(total) => {
-                self.seats[at] = seat;
-                self.total = total;
+        let tag = self.seats[at].tag;
+        let Some(key) = &self.seats[at].key else {
+            return false;
+        };
+        match find_key(&mut self.words, &self.seats, tag, key) {
+            Search::Found(_) => false,
+            Search::Empty(to) => {
+                self.words.put(to, word_of(tag, place));
+                self.seats[at].is_listed = true;
                 true
+            }
+        }
+    }
+
+    /// Removes the entry of a place from the index, if that has it. Its key then has none.
+    pub fn unlist(&mut self, place: u32)
+        ensures seats { UnlistsAt self.old place self.new }
+        ensures gone { (t : ℕ) (k : K) → HasKeyAt K.eq self.old t k place
+            → LacksKey K.eq self.new t k }
+    {
+        let at = place as usize;
+        if at < self.seats.len() && self.seats[at].is_listed {
+            self.words.remove(word_of(self.seats[at].tag, place));
+            self.seats[at].is_listed = false;
+        }
+    }
+
+    // Returns whether an entry of this charge may be put at a place: there is such a place, the
+    // index has no entry there, and the sum of the charges stays within a `u64`.
+    fn is_free(&self, place: u32, charge: u64) -> bool
+        ensures { IsTrue result → IsFree self.now place charge }
+    {
+        match self.seats.get(place as usize) {
+            Some(seat) => {
+                !seat.is_listed && (self.total - seat.charge).checked_add(charge).is_some()
             }
             None => false,
         }
     }
 
-    // Sets the seat of a place to that of no entry, and gives the place back.
-    fn empty(&mut self, place: u32)
-        ensures { self.new ≡ set self.old place NO_ENTRY }
+    // Sets the seat of a place, and returns what it was.
+    fn put(&mut self, place: u32, seat: Seat<K>) -> Seat<K>
+        requires free { IsFree self.old place seat.charge }
+        requires unlisted { seat.is_listed ≡ false }
+        requires tag { seat.tag < 4294967296 }
+        ensures { self.new ≡ set self.old place seat }
     {
         let at = place as usize;
-        if at < self.seats.len() {
-            self.total -= self.seats[at].charge;
-            self.seats[at] = NO_ENTRY;
-        }
+        self.total = self.total - self.seats[at].charge + seat.charge;
+        std::mem::replace(&mut self.seats[at], seat)
+    }
+
+    // Sets the seat of a place to that of no entry, gives the place back, and returns the copy of
+    // the key.
+    fn empty(&mut self, place: u32) -> Option<K>
+        ensures { self.new ≡ set self.old place (seat_of 0 0 None) }
+    {
+        self.unlist(place);
         self.give_back(place);
+        let at = place as usize;
+        if at >= self.seats.len() {
+            return None;
+        }
+        self.total -= self.seats[at].charge;
+        let seat = std::mem::replace(&mut self.seats[at], Seat::unlisted(0, 0, None));
+        seat.key
+    }
+
+    // Adds a seat without an entry. Returns whether that took a new index.
+    fn push(&mut self) -> Result<bool, AllocError>
+        ensures total { sum_by (λ seat. seat.charge) self.new
+            ≡ sum_by (λ seat. seat.charge) self.old }
+    {
+        let wider = widened(&self.seats, self.words.count())?;
+        self.seats.push(Seat::unlisted(0, 0, None))?;
+        match wider {
+            Some(words) => {
+                self.words = words;
+                Ok(true)
+            }
+            None => Ok(false),
+        }
     }
 
     // Gives a place back. There is room, which `add` has made.
@@ -184,17 +319,48 @@ impl Seats {
     {
         let _ = self.vacant.push(place);
     }
+}
 
-    /// The index no longer has the entry of a place.
-    pub fn unlist(&mut self, place: u32) {
-        if let Some(seat) = self.get(place) {
-            self.set(
-                place,
-                Seat {
-                    is_listed: false,
-                    ..seat
-                },
-            );
+// Returns a wider index if one of so many words has no room for one entry more, so that at least
+// half of it is empty. One with the greatest number of words becomes fuller.
+fn widened<K: Eq>(seats: &Vec<Seat<K>>, count: usize) -> Result<Option<Words>, AllocError>
+    requires index { (words : List ℕ) × IsIndex K.eq seats.now.items words }
+    requires size { IsSize count }
+    requires holds { length seats.now.items < count }
+    ensures wider { IfOk result (λ wider. IfSome wider (λ words. IsIndex K.eq seats.now.items words
+        × (length seats.now.items + 1 < length words))) }
+    ensures room { IfOk result (λ wider. IfNone wider (length seats.now.items + 1 < count)) }
+{
+    let places = seats.len();
+    if places < count / 2 && places + 1 < count {
+        return Ok(None);
+    }
+    if count < MOST_WORDS {
+        let mut words = Words::new(*seats.allocator(), count * 2)?;
+        copy_listed(seats, &mut words);
+        return Ok(Some(words));
+    }
+    if places + 1 < count {
+        Ok(None)
+    } else {
+        Err(AllocError)
+    }
+}
+
+// Puts the word of each entry that the index has into the words of another, which are all 0.
+fn copy_listed<K: Eq>(seats: &[Seat<K>], words: &mut Words)
+    requires index { (words : List ℕ) × IsIndex K.eq seats.now words }
+    requires zeros { words.old ≡ replicate (length words.old) 0 }
+    requires room { length seats.now < length words.old }
+    requires size { IsSize (length words.old) }
+    ensures long { length words.new ≡ length words.old }
+    ensures index { IsIndex K.eq seats.now words.new }
+{
+    for at in 0..seats.len() {
+        if seats[at].is_listed {
+            let word = word_of(seats[at].tag, at as u32);
+            let to = words.find_empty(word);
+            words.put(to, word);
         }
     }
 }

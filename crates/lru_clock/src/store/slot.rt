@@ -9,7 +9,6 @@ ghost use Rattle.counted_slot.specs.Counting.{readers, IsTurn};
 use crate::sent::Sent;
 use crate::shown::Shown;
 use concurrent_lru::fit::Fit;
-use concurrent_lru::sealed::Sealed;
 use concurrent_lru::sharded::Refusal;
 use counted_slot::{Claim, Counted, FREE, Fits, MARKED, ONE_READER, PRESENT, TAKEN};
 use std::marker::{Model, PhantomData};
@@ -37,8 +36,10 @@ impl<K: Eq, V, F: Fit<K, V>> Fits for Kept<K, V, F> {
     ghost fits = { λ _ kept. F.fits kept.key kept.value };
 }
 
-/// An entry that has left its slot, sealed until the lock is released, if one has.
-pub type Leaver<K, V, F> = Option<Sealed<Kept<K, V, F>>>;
+/// A debt: an entry that was taken out of its slot. `Seats::vacate` takes it, by way of a `Taken`.
+pub struct Emptied<K: Eq, V, F: Fit<K, V>> {
+    pub(super) kept: Kept<K, V, F>,
+}
 
 /// Room for one entry. A `PRESENT` entry is found by its key; a `MARKED` one was invalidated, and
 /// stays for those who have pinned it.
@@ -229,7 +230,7 @@ impl<K: Eq + Drop, V: Drop, F: Fit<K, V>> Slot<K, V, F> {
 
     /// The hand of the clock comes by: an entry that nobody has pinned loses a chance, or leaves if
     /// it has none.
-    pub(super) fn pass(&self) -> Leaver<K, V, F> {
+    pub(super) fn pass(&self) -> Option<Emptied<K, V, F>> {
         let seen = self.cell.load();
         if !is_idle(seen) {
             return None;
@@ -243,7 +244,7 @@ impl<K: Eq + Drop, V: Drop, F: Fit<K, V>> Slot<K, V, F> {
     }
 
     /// Takes out an entry that nobody has pinned, whatever its chances.
-    pub(super) fn take_idle(&self) -> Leaver<K, V, F> {
+    pub(super) fn take_idle(&self) -> Option<Emptied<K, V, F>> {
         let seen = self.cell.load();
         if is_idle(seen) {
             self.take_at(seen)
@@ -253,7 +254,7 @@ impl<K: Eq + Drop, V: Drop, F: Fit<K, V>> Slot<K, V, F> {
     }
 
     /// Takes out an entry that was invalidated, if nobody has pinned it.
-    pub(super) fn take_invalidated(&self) -> Leaver<K, V, F> {
+    pub(super) fn take_invalidated(&self) -> Option<Emptied<K, V, F>> {
         let seen = self.cell.load();
         if state_of(seen) == MARKED && pins_of(seen) == 0 {
             self.take_at(seen)
@@ -263,7 +264,7 @@ impl<K: Eq + Drop, V: Drop, F: Fit<K, V>> Slot<K, V, F> {
     }
 
     // Takes out the entry and leaves the slot free, unless the word has changed.
-    fn take_at(&self, seen: u64) -> Leaver<K, V, F>
+    fn take_at(&self, seen: u64) -> Option<Emptied<K, V, F>>
         requires { IsTurn seen 3 }
     {
         let (found, claim) = self.cell.turn(seen, TAKEN);
@@ -272,7 +273,7 @@ impl<K: Eq + Drop, V: Drop, F: Fit<K, V>> Slot<K, V, F> {
             return None;
         }
         match claim.put(None, FREE) {
-            Some(kept) => Some(Sealed::of(kept)),
+            Some(kept) => Some(Emptied { kept }),
             None => None,
         }
     }

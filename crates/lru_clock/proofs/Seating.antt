@@ -1,0 +1,6 @@
+-- The seats of a shard and the words of its index: what keeps the words leading to the seats.
+pub mod Places
+pub mod Changes
+pub mod Copies
+pub mod Searches
+pub mod Keys

@@ -1,0 +1,41 @@
+-- The one seat of an index knows all its words, and keeps knowing them as it writes.
+use Rattle.std.proofs.Common.{◌≡◌, ℕ, zero, suc, List, [], ◌∷◌, get_or, set, refl, sym, ap, ◌∙◌, subst}
+use Rattle.std.proofs.lemmas.List.{set-get_or}
+use mathlib.Core.Option.{some, some-injective, some-ne-none}
+use lib.ListN.{get_elem?}
+use Rattle.atomic_table.specs.Table.{State, Me, Allows, keeps}
+use Rattle.concurrent_lru.specs.Probing.Probes.{mark_at}
+use Rattle.lru_clock.specs.declared.index.words.Known.{Known}
+
+abbrev pub Rule : State (Unit {0}) Known → Type 0
+Rule s = s.views ≡ record { words = s.words } ∷ []
+
+sole : (x y : Known) (id : ℕ) → get_elem? (x ∷ []) id ≡ some y → (x ≡ y) × ((z : Known) → set (x ∷ []) id z ≡ z ∷ [])
+sole x y zero e = (some-injective x y e, λ z. refl)
+sole x y (suc id) e = absurd (some-ne-none y (sym e))
+
+module _ (slots id at : ℕ) (me : Me (Unit {0}) Known) where
+  seat_is : (s : State (Unit {0}) Known) → Rule s → get_elem? s.views id ≡ some me.0 → (record { words = s.words } ≡ me.0) × ((z : Known) → set s.views id z ≡ z ∷ [])
+  seat_is s holds here =
+      let one = sole (record { words = s.words }) me.0 id (subst (λ l. get_elem? l id ≡ some me.0) holds here) in
+      (one.0, subst (λ (l : List Known). (z : Known) → set l id z ≡ z ∷ []) (sym holds) one.1)
+
+  pub looks : Allows Rule slots id me at (λ n. n) (λ n after. (n ≡ mark_at me.0.words at) × (after ≡ me))
+  looks s holds homes here fits =
+      let seat = seat_is s holds here in (
+        me.0,
+        keeps,
+        tt,
+        seat.1 me.0 ∙ ap (λ (k : Known). k ∷ []) (sym seat.0) ∙ ap (λ (ws : List ℕ). record { words = ws } ∷ []) (sym (set-get_or s.words at 0)),
+        (ap (λ (k : Known). get_or k.words at 0) seat.0, refl),
+      )
+
+  pub writes : (n : ℕ) → Allows Rule slots id me at (λ _. n) (λ _ after. after ≡ (record { words = set me.0.words at n }, me.1))
+  writes n s holds homes here fits =
+      let seat = seat_is s holds here in (
+        record { words = set me.0.words at n },
+        keeps,
+        tt,
+        seat.1 (record { words = set me.0.words at n }) ∙ ap (λ (k : Known). record { words = set k.words at n } ∷ []) (sym seat.0),
+        refl,
+      )
