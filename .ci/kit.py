@@ -5,6 +5,7 @@ import importlib.util
 import os
 import pathlib
 import shutil
+import sys
 
 # Where a crate keeps what was checked of a static library, from its folder.
 CHECKED = "out/checked"
@@ -37,3 +38,10 @@ def is_left_by_prove(crate):
     that the crate and those below it have now."""
     stamp = stamp_file(crate)
     return stamp.exists() and stamp.read_text(encoding="utf-8") == crate.stamp()
+
+
+def require_proved_below(crates):
+    """Ends the program if a crate below one of these is not as `.ci/prove` left it."""
+    for below in {it.name: it for crate in crates for it in crate.below()}.values():
+        if not is_left_by_prove(below):
+            sys.exit(f"{below.name} is not as .ci/prove leaves it: run .ci/prove first")
