@@ -3,8 +3,8 @@
 //!
 //! A word is 0, or has one more than a place in its high half and the tag of a hash in its low
 //! half. A tag's words are found by linear probing. Without the lock a word is a hint: the reader
-//! pins the slot and compares the key, and one that finds nothing asks again under the lock. Whoever
-//! holds the lock has the `Words`, and knows what each of them is.
+//! pins the slot and compares the key, and a reader that finds nothing asks again under the lock.
+//! Whoever holds the lock has the `Words`, and knows what each of them is.
 ghost use Rattle.std.specs.Prelude.{◌≡◌, ◌+◌, ◌*◌, ◌/◌, ◌%◌, ◌<◌};
 ghost use Rattle.lru_clock.specs.Index.{word_of as word_for};
 

@@ -17,7 +17,8 @@ pub(super) enum StampIndex {
     Unmapped,
 }
 
-// Written out, so that it is proved once: each crate that drops a cache proves a derived drop again.
+// Written out, so that it is proved once. Each crate that drops a cache would prove a derived drop
+// again.
 impl Drop for StampIndex {
     fn drop(self) {
         match self {

@@ -71,7 +71,8 @@ module _ {K : Type 0} where
       let was : (get_or seats p s).charge ≡ s.charge = ap (λ (u : Seat K). u.charge) (get_or_from_slice_get seats p s s is) in
       omega (arith, part, was)
 
-  -- what an unlisting does, where the index has the entry, where it has not, and where there is no seat
+  -- what an unlisting does, where the index has the entry, where it has not, and where there is no
+  -- seat
   pub unlists : (old new : List (Seat K)) (p : ℕ) (s : Seat K) → slice_get old p ≡ Some s → new ≡ set old p (listed_as false s) → UnlistsAt old p new
   unlists old new p s is e = subst (λ o. MatchOption o (new ≡ old) (λ u. new ≡ set old p (listed_as false u))) (sym is) e
 

@@ -52,8 +52,8 @@ impl<K> Seat<K> {
 }
 
 /// A debt: a place that was taken for an entry whose charge counts already. `Store::fill` takes it
-/// with an entry whose key equals the one that the seat has, or else `Seats::cancel`. So no entry is
-/// in a slot that does not count, or whose seat has another key.
+/// with an entry whose key equals the one that the seat has, or else `Seats::cancel`. So no entry
+/// is in a slot that does not count, or whose seat has another key.
 pub struct Reservation<K> {
     pub(super) place: u32,
     pub(super) key: Shown<Option<K>>,
