@@ -3,8 +3,8 @@ use Rattle.std.specs.Borrow.{Fml, RattleType, MutBor, Lends}
 use denote.RawPtr.{Ptr}
 use Rattle.std.specs.declared.alloc.Allocator.{Ghosts}
 use Rattle.concurrent_lru.specs.Cells.{write_to}
-use Rattle.concurrent_lru.specs.declared.list.memory.Memory.{Memory}
-use Rattle.concurrent_lru.specs.contracts.list.memory.Memory.{the_row}
+use Rattle.concurrent_lru.specs.declared.node_table.memory.Memory.{Memory}
+use Rattle.concurrent_lru.specs.contracts.node_table.memory.Memory.{the_row}
 
 -- the memory with the first value at the pointer p replaced by w
 abbrev pub with_value : {T A : Type 0} → Memory T A → Ptr → T → Memory T A

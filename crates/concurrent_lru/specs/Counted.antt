@@ -5,7 +5,7 @@ use Rattle.std.specs.Coded.{Coded, code_by, coded×, coded_ℕ}
 use Rattle.concurrent_lru.specs.Cache.{Cache, cache_code}
 use Rattle.concurrent_lru.specs.Entries.{Entries, cache_with}
 use Rattle.concurrent_lru.specs.Reply as say
-use Rattle.concurrent_lru.specs.Results.{outcome_of}
+use Rattle.concurrent_lru.specs.Results.{outcome_of_by}
 use Rattle.concurrent_lru.specs.Runs.{Outcome, accepted, refused}
 use Rattle.concurrent_lru.specs.declared.step.Answer.{Answer}
 use Rattle.concurrent_lru.specs.declared.step.Answer.TheVariants as answer
@@ -49,8 +49,9 @@ module _ {K V : Type 0} where
   abbrev pub StepsWriteAtMost : Counted K V → List (Outcome K V) → Counted K V → Type 0
   StepsWriteAtMost old outcomes new = new.work ≤ old.work + sum_by most_writes outcomes
 
+module _ {K V S : Type 0} (seen : S → V) where
   -- a step with this answer writes at most once more than it evicts entries, and a read that finds
   -- a value at most twice
-  abbrev pub StepWrites : Counted K V → Answer K V → Counted K V → Type 0
-  StepWrites old (answer.Read found) new = new.work ≤ old.work + most_writes_of_read found
-  StepWrites old a new = WritesAtMostOneMore old (outcome_of a) new
+  abbrev pub StepWritesBy : {M : Type 0} → Counted K V → Answer K V M S → Counted K V → Type 0
+  StepWritesBy old (answer.Read found) new = new.work ≤ old.work + most_writes_of_read found
+  StepWritesBy old a new = WritesAtMostOneMore old (outcome_of_by seen a) new

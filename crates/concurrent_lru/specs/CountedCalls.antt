@@ -3,6 +3,8 @@
 use Rattle.std.specs.Prelude.{◌≡◌, ℕ, ◌+◌, ◌*◌, ◌<◌, ◌≤◌, ◌^◌, Bool, false, cond, List, length, ◌==◌, Option, Some, None, Result, Ok, Err, refl}
 use Rattle.std.specs.Option.{option_map_or}
 use Rattle.std.specs.Coded.{Coded, code_by, coded×}
+use Rattle.std.specs.declared.sync.Arc.{Arc}
+use Rattle.std.specs.declared.alloc.Global.{Global}
 use Rattle.concurrent_lru.specs.Cache.{Cache, Idle, charges, held_at, sum_of, count_of, cache_code, IsLawful}
 use Rattle.concurrent_lru.specs.Counts.{counts_code, end_of_u64, inserted, one_failure, one_hit, one_making, one_miss, one_refusal, one_wait, removed, entries_in, charge_in}
 use Rattle.concurrent_lru.specs.Request as ask
@@ -22,25 +24,32 @@ pub record LockedCache (K V : Type 0) : Type 0 where
 
 module _ {V : Type 0} where
   -- the counts after a begin with this answer, apart from an insertion
-  abbrev counted_begun : Begun V → Counts → Counts
+  abbrev counted_begun : Begun (Arc V Global) → Counts → Counts
   counted_begun (begun.Make s) n = one_making (one_miss n)
   counted_begun (begun.Wait s) n = one_wait n
   counted_begun (begun.Hit s a) n = one_hit n
 
   -- whether the answer is to make the value of the entry with this stamp
-  abbrev has_stamp_to_make : Begun V → ℕ → Bool
+  abbrev has_stamp_to_make : Begun (Arc V Global) → ℕ → Bool
   has_stamp_to_make (begun.Make s) t = s == t
   has_stamp_to_make (begun.Wait s) t = false
   has_stamp_to_make (begun.Hit s a) t = false
 
   -- the counts after a poll with this result
-  abbrev pub counted_poll : Result (Begun V) Refusal → Counts → Counts
+  abbrev pub counted_poll : Result (Begun (Arc V Global)) Refusal → Counts → Counts
   counted_poll (Ok (begun.Make s)) n = one_making n
   counted_poll (Ok (begun.Wait s)) n = n
   counted_poll (Ok (begun.Hit s a)) n = n
   counted_poll (Err Memory) n = one_refusal n
   counted_poll (Err Overflow) n = n
   counted_poll (Err Stale) n = n
+
+  -- the counts after a repin with this result
+  abbrev pub counted_repin : Result (Arc V Global) Refusal → Counts → Counts
+  counted_repin (Ok a) n = n
+  counted_repin (Err Memory) n = one_refusal n
+  counted_repin (Err Overflow) n = one_refusal n
+  counted_repin (Err Stale) n = n
 
 module _ {K V : Type 0} where
   abbrev pub locked_cache_code : Coded K → Coded V → Coded (LockedCache K V)
@@ -75,6 +84,9 @@ module _ {K V : Type 0} where
   counted c (ask.fail s) (accepted say.left out) n = one_failure n
   counted c (ask.fail s) (accepted (say.removed k) out) n = removed (held_charge c s) (one_failure n)
   counted c (ask.release s) (accepted p out) n = evicted out n
+  counted c (ask.release_and_evict s) (accepted p out) n = evicted out n
+  counted c (ask.repin s) (refused Memory) n = one_refusal n
+  counted c (ask.repin s) (refused Overflow) n = one_refusal n
   counted c (ask.advice_evict k) (accepted p out) n = evicted out n
   counted c (ask.invalidate k) (accepted p out) n = evicted out n
   counted c (ask.insert k charge v) (accepted p out) n = evicted out (inserted charge n)
@@ -103,12 +115,12 @@ module _ {K V : Type 0} where
     pub adds_up : AddUp c n
 
   -- the counts after a begin with this result, apart from an insertion
-  abbrev pub counted_begin : Result (Begun V × List (Idle K V)) Refusal → Counts → Counts
+  abbrev pub counted_begin : Result (Begun (Arc V Global) × List (Idle K V)) Refusal → Counts → Counts
   counted_begin (Ok r) n = counted_begun r.0 n
   counted_begin (Err e) n = one_refusal n
 
   -- whether a begin inserted an entry, that is, is to make the value under the next stamp
-  abbrev pub is_insertion : Result (Begun V × List (Idle K V)) Refusal → ℕ → Bool
+  abbrev pub is_insertion : Result (Begun (Arc V Global) × List (Idle K V)) Refusal → ℕ → Bool
   is_insertion (Ok r) next = has_stamp_to_make r.0 next
   is_insertion (Err e) next = false
 

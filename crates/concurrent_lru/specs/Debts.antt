@@ -1,9 +1,12 @@
 -- The results of the calls under the lock: each as an outcome of the abstract cache, and the key
 -- and charge that it is for.
 use Rattle.std.specs.Prelude.{◌≡◌, ℕ, [], Option, Some, None, Result, Ok, Err, ⊤}
+use Rattle.std.specs.declared.sync.Arc.{Arc}
+use Rattle.std.specs.declared.alloc.Global.{Global}
 use Rattle.concurrent_lru.specs.CountedCalls.{LockedCache}
 use Rattle.concurrent_lru.specs.Pins.{PinOf}
 use Rattle.concurrent_lru.specs.Reply as say
+use Rattle.concurrent_lru.specs.Results.{outcome_of_repin}
 use Rattle.concurrent_lru.specs.Runs.{Outcome, accepted, refused}
 use Rattle.concurrent_lru.specs.declared.refusal.Refusal.{Refusal}
 use Rattle.concurrent_lru.specs.declared.refusal.Refusal.TheVariants.{Memory, Stale}
@@ -17,6 +20,11 @@ module _ {K V : Type 0} where
   outcome_of_locked_get (Ok None) = accepted say.missed []
   outcome_of_locked_get (Ok (Some p)) = accepted (say.hit p.stamp p.value) []
   outcome_of_locked_get (Err e) = refused e
+
+  -- a repin for a pin: the share that the core returned is beside the new pin
+  abbrev pub outcome_of_locked_repin : Result (PinOf K V × Result (Arc V Global) Refusal) (Refusal × Arc V Global) → Outcome K V
+  outcome_of_locked_repin (Ok r) = outcome_of_repin r.1
+  outcome_of_locked_repin (Err e) = refused e.0
 
 module _ {K V F : Type 0} where
   abbrev pub outcome_of_entered : Entered K V F → Outcome K V

@@ -6,7 +6,7 @@ use Rattle.std.specs.Ordering.{nat_cmp}
 use Rattle.std.specs.Coded.{Coded, code_by, coded×, coded_ℕ, coded_list}
 use Rattle.std.specs.FinMap as finmap
 use Rattle.concurrent_lru.specs.Cache.{Cache, Idle, Held, IsEntry, IsFound, idle_at, held_at, idle_code, held_code, charges, making, ready}
-use Rattle.concurrent_lru.specs.Steps.{without, held_by_one, held_in_phase, held_detached, idle_again}
+use Rattle.concurrent_lru.specs.Steps.{without, held_by_one, held_detached, idle_again}
 use Rattle.concurrent_lru.specs.NodeTable.{Entry, value_in}
 use Rattle.concurrent_lru.specs.Representation.{as_idle, held_entry, held_charges}
 
@@ -101,19 +101,6 @@ module _ {K V : Type 0} where
 
   abbrev pub held_with_pins : ℕ → Held K V → Held K V
   held_with_pins n e = record e { pins = n }
-
-  -- the value of the entry at the place was being made, and is now v
-  pub record ReadiesAt (v : V) (old : Entries K V) (p : ℕ) (new : Entries K V) : Type 0 where
-    pub entry : Entry K V
-    pub here : GetsAt old p entry
-    pub phase : entry.phase ≡ making
-    pub changed : Rewrites (held_in_phase (ready v)) old p new
-
-  -- the value of the entry at the place is not being made
-  pub record LacksMakingAt (t : Entries K V) (p : ℕ) : Type 0 where
-    pub entry : Entry K V
-    pub here : GetsAt t p entry
-    pub phase : entry.phase ≢ making
 
   -- the idle entry at the place becomes a held one with one pin
   pub record RevivesAt (old : Entries K V) (p : ℕ) (new : Entries K V) : Type 0 where

@@ -1,7 +1,5 @@
 -- An insert is an invalidate, a begin and a ready in one step, or a refusal that changes nothing.
 use Rattle.std.specs.Prelude.{◌≡◌, ℕ, Bool, List, [], ◌∷◌, Result, Ok, Err}
-use Rattle.std.specs.declared.sync.Arc.{Arc}
-use Rattle.std.specs.declared.alloc.Global.{Global}
 use Rattle.concurrent_lru.specs.Cache.{Cache, Idle}
 use Rattle.concurrent_lru.specs.Request as ask
 use Rattle.concurrent_lru.specs.Reply as say
@@ -26,7 +24,7 @@ module _ {K V : Type 0} (E : K → K → Bool) where
     pub same : new ≡ old
 
   -- what an insert with this result does
-  abbrev pub Inserts : Cache K V → K → ℕ → V → Result (Inserted K V) (Refusal × Arc V Global) → Cache K V → Type 0
+  abbrev pub Inserts : {M S : Type 0} → Cache K V → K → ℕ → V → Result (Inserted K V M S) (Refusal × S) → Cache K V → Type 0
   Inserts old k charge v (Ok i) new = Replaces old k charge v i.stamp i.replaced i.evicted new
   Inserts old k charge v (Err e) new = RefusesToReplace old k charge e.0 new
 

@@ -7,10 +7,10 @@ use Rattle.concurrent_lru.specs.Probing.Entries.{count, entry, Has, Holds}
 use Rattle.concurrent_lru.specs.Probing.OpenTable.{mark_of, capacity}
 use Rattle.concurrent_lru.specs.Relinks.{NodeCell, NodeCells}
 use Rattle.concurrent_lru.specs.SlotPointers.{cells_of}
-use Rattle.concurrent_lru.specs.declared.list.Node.{Node}
-use Rattle.concurrent_lru.specs.declared.list.memory.At.{At}
-use Rattle.concurrent_lru.specs.declared.list.probes.Slot.{Slot}
-use Rattle.concurrent_lru.specs.declared.list.slots.Slots.{Slots}
+use Rattle.concurrent_lru.specs.declared.node_table.Node.{Node}
+use Rattle.concurrent_lru.specs.declared.node_table.memory.At.{At}
+use Rattle.concurrent_lru.specs.declared.node_table.probes.Slot.{Slot}
+use Rattle.concurrent_lru.specs.declared.node_table.slots.Slots.{Slots}
 
 -- x, unless the condition holds
 abbrev pub unless : {X : Type 0} → Bool → X → Option X

@@ -25,13 +25,6 @@ module _ {K V : Type 0} (E : K → K → Bool) where
   abbrev pub GetsAndReleases : Cache K V → K → ℕ → V → Cache K V → Type 0
   GetsAndReleases old k s v new = Run E old (ask.get k ∷ ask.release s ∷ []) (accepted (say.hit s v) [] ∷ accepted say.done [] ∷ []) new
 
-  -- What a get does that lends the value: if a value is found, its entry is pinned, and the call
-  -- returns the stamp and a result that `answers` allows for the value.
-  abbrev pub GetsWith : {T : Type 0} → Cache K V → K → (V → T → Type 0) → Result (Option (ℕ × T)) Refusal → Cache K V → Type 0
-  GetsWith old k answers (Ok (Some r)) new = (v : V) × Stands E old (ask.get k) (accepted (say.hit r.0 v) []) new × answers v r.1
-  GetsWith old k answers (Ok None) new = Stands E old (ask.get k) (accepted say.missed []) new
-  GetsWith old k answers (Err e) new = (e ≡ Overflow) × Stands E old (ask.get k) (refused e) new
-
   -- What a read does: if a value is found, it returns the stamp and a result that `answers` allows
   -- for the value; if none is found, or the get is refused, it does what the get does.
   abbrev pub Reads : {T : Type 0} → Cache K V → K → (V → T → Type 0) → Result (Option (ℕ × T)) Refusal → Cache K V → Type 0

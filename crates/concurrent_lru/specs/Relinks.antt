@@ -4,7 +4,7 @@ use Rattle.std.specs.declared.alloc.Global.{Global}
 use denote.RawPtr.{Ptr}
 use Rattle.concurrent_lru.specs.Cells.{Cell, cell_at, slot_at, AtSlot}
 use Rattle.concurrent_lru.specs.NodeTable.{Entry, entry_of, hash_of, chain_of}
-use Rattle.concurrent_lru.specs.declared.list.Node.{Node, out-Node}
+use Rattle.concurrent_lru.specs.declared.node_table.Node.{Node, out-Node}
 
 abbrev pub NodeCell : Type 0 → Type 0 → Type 0
 NodeCell K V = Cell (Node K V) Global

@@ -10,6 +10,7 @@ use Rattle.concurrent_lru.specs.Results.{reply_of_begun, request_of, outcome_of,
 use Rattle.concurrent_lru.specs.declared.refusal.Refusal.{Refusal}
 use Rattle.concurrent_lru.specs.declared.refusal.Refusal.TheVariants.{Stale}
 use Rattle.concurrent_lru.specs.declared.step.Begun.{Begun}
+use Rattle.concurrent_lru.specs.declared.share.ByArc.{ByArc}
 use Rattle.concurrent_lru.specs.declared.step.Inserted.{Inserted}
 use Rattle.concurrent_lru.specs.declared.step.Answer.{Answer}
 use Rattle.concurrent_lru.specs.declared.step.Answer.TheVariants as answer
@@ -31,12 +32,14 @@ module _ {K V : Type 0} where
   shard_of_step route (shard.Ready i s a) = i
   shard_of_step route (shard.Fail i s) = i
   shard_of_step route (shard.Release i s) = i
+  shard_of_step route (shard.ReleaseAndEvict i s) = i
+  shard_of_step route (shard.Repin i s) = i
   shard_of_step route (shard.Prune i) = i
   shard_of_step route (shard.SetCapacity i c) = i
   shard_of_step route (shard.Total i) = i
 
   -- the step that the shard takes
-  abbrev pub step_at_shard : ShardStep K V → RustStep K V
+  abbrev pub step_at_shard : ShardStep K V → RustStep K (Arc V Global)
   step_at_shard (shard.Begin k c) = step.Begin k c
   step_at_shard (shard.Get k) = step.Get k
   step_at_shard (shard.AdviceEvict k) = step.AdviceEvict k
@@ -47,6 +50,8 @@ module _ {K V : Type 0} where
   step_at_shard (shard.Ready i s a) = step.Ready s a
   step_at_shard (shard.Fail i s) = step.Fail s
   step_at_shard (shard.Release i s) = step.Release s
+  step_at_shard (shard.ReleaseAndEvict i s) = step.ReleaseAndEvict s
+  step_at_shard (shard.Repin i s) = step.Repin s
   step_at_shard (shard.Prune i) = step.Prune
   step_at_shard (shard.SetCapacity i c) = step.SetCapacity c
   step_at_shard (shard.Total i) = step.Total
@@ -55,11 +60,11 @@ module _ {K V : Type 0} where
   abbrev pub request_at_shard : (K → ℕ) → ShardStep K V → ℕ × Request K V
   request_at_shard route s = (shard_of_step route s, request_of (step_at_shard s))
 
-  abbrev pub outcome_at_shard : ℕ × Answer K V → ℕ × Outcome K V
+  abbrev pub outcome_at_shard : ℕ × Answer K V ByArc (Arc V Global) → ℕ × Outcome K V
   outcome_at_shard a = (a.0, outcome_of a.1)
 
   -- the answer to a step for a shard that does not exist; a value is returned to the caller
-  abbrev pub TellsNoShard : RustStep K V → Answer K V → Type 0
+  abbrev pub TellsNoShard : RustStep K (Arc V Global) → Answer K V ByArc (Arc V Global) → Type 0
   TellsNoShard (step.Ready s a) (answer.Back b) = b.value ≡ a.value
   TellsNoShard (step.Ready s a) _ = ⊥
   TellsNoShard (step.Insert k c a) (answer.NotInserted e b) = (e ≡ Stale) × (b.value ≡ a.value)
@@ -67,11 +72,11 @@ module _ {K V : Type 0} where
   TellsNoShard _ a = a ≡ answer.Refused Stale
 
   -- the answer is of its step's kind, or says that there is no such shard
-  abbrev pub IsShardAnswerTo : ShardStep K V → ℕ × Answer K V → Type 0
+  abbrev pub IsShardAnswerTo : ShardStep K V → ℕ × Answer K V ByArc (Arc V Global) → Type 0
   IsShardAnswerTo s a = IsAnswerTo (step_at_shard s) a.1 ⊎ TellsNoShard (step_at_shard s) a.1
 
   -- the results of the calls of shards as outcomes
-  abbrev pub outcome_of_shard_begin : Result (ℕ × Begun V × List (Idle K V)) Refusal → Outcome K V
+  abbrev pub outcome_of_shard_begin : Result (ℕ × Begun (Arc V Global) × List (Idle K V)) Refusal → Outcome K V
   outcome_of_shard_begin (Ok r) = accepted (reply_of_begun r.1) r.2
   outcome_of_shard_begin (Err e) = refused e
 
@@ -80,7 +85,7 @@ module _ {K V : Type 0} where
   outcome_of_shard_get (Ok (Some r)) = accepted (say.hit r.1 r.2.value) []
   outcome_of_shard_get (Err e) = refused e
 
-  abbrev pub outcome_of_shard_insert : Result (ℕ × Inserted K V) (Refusal × Arc V Global) → Outcome K V
+  abbrev pub outcome_of_shard_insert : Result (ℕ × Inserted K V ByArc (Arc V Global)) (Refusal × Arc V Global) → Outcome K V
   outcome_of_shard_insert (Ok r) = accepted (say.inserted r.1.stamp) (r.1.replaced ++ r.1.evicted)
   outcome_of_shard_insert (Err e) = refused e.0
 

@@ -6,11 +6,11 @@ use denote.RawPtr.{Ptr}
 use Rattle.concurrent_lru.specs.Cells.{cell_at, ptr_in, slot_at, IsValueAt}
 use Rattle.concurrent_lru.specs.CellLends.{with_value}
 use Rattle.concurrent_lru.specs.Relinks.{NodeCell, NodeCells, place_of}
-use Rattle.concurrent_lru.specs.declared.list.memory.At.{At}
-use Rattle.concurrent_lru.specs.declared.list.Node.{Node}
-use Rattle.concurrent_lru.specs.declared.list.slots.Slots.{Slots}
-use Rattle.concurrent_lru.specs.contracts.list.Node as node
-use Rattle.concurrent_lru.specs.contracts.list.slots.Slots as slots
+use Rattle.concurrent_lru.specs.declared.node_table.memory.At.{At}
+use Rattle.concurrent_lru.specs.declared.node_table.Node.{Node}
+use Rattle.concurrent_lru.specs.declared.node_table.slots.Slots.{Slots}
+use Rattle.concurrent_lru.specs.contracts.node_table.Node as node
+use Rattle.concurrent_lru.specs.contracts.node_table.slots.Slots as slots
 
 -- the pointer in a slot
 abbrev pub ptr_of : {T : Type 0} → Option (At T) → Option Ptr

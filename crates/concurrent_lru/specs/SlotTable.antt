@@ -11,8 +11,8 @@ use Rattle.concurrent_lru.specs.NodeTable.{NodeTable, Entry, entry_of, chain_of}
 use Rattle.concurrent_lru.specs.Relinks.{NodeCell, NodeCells, LeftJoined, RightJoined, before_link, after_link, slot_in, before_at, after_at}
 use Rattle.concurrent_lru.specs.SlotPointers.{IsTied, cells_of}
 use Rattle.concurrent_lru.specs.Listing.{IsListed, hash_in, spare_of}
-use Rattle.concurrent_lru.specs.declared.list.links.Order.{Order}
-use Rattle.concurrent_lru.specs.declared.list.slots.Slots.{Slots}
+use Rattle.concurrent_lru.specs.declared.node_table.links.Order.{Order}
+use Rattle.concurrent_lru.specs.declared.node_table.slots.Slots.{Slots}
 
 module _ {K V : Type 0} where
   abbrev pub link_of : NodeCells K V → Option (NodeCell K V) → Option Link

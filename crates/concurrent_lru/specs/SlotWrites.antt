@@ -5,7 +5,7 @@ use Rattle.concurrent_lru.specs.Cells.{AtSlot, OfSlot}
 use Rattle.concurrent_lru.specs.NodeTable.{Entry}
 use Rattle.concurrent_lru.specs.Relinks.{Relinks, Unlinks, Revalues, before_at, after_at}
 use Rattle.concurrent_lru.specs.SlotPointers.{cells_of}
-use Rattle.concurrent_lru.specs.declared.list.slots.Slots.{Slots}
+use Rattle.concurrent_lru.specs.declared.node_table.slots.Slots.{Slots}
 
 module _ {K V : Type 0} where
   -- nothing changed except the memory of the nodes; except that and the count of lookups

@@ -1,13 +1,15 @@
 -- The results of threaded calls: hits and errors.
 use Rattle.std.specs.Prelude.{⊤}
 use Rattle.std.specs.Arc.{arc_value}
+use Rattle.std.specs.declared.sync.Arc.{Arc}
+use Rattle.std.specs.declared.alloc.Global.{Global}
 use Rattle.concurrent_lru.specs.declared.step.Begun.{Begun}
 use Rattle.concurrent_lru.specs.declared.step.Begun.TheVariants as begun
 use Rattle.concurrent_lru.specs.declared.get_error.GetError.{GetError}
 use Rattle.concurrent_lru.specs.declared.get_error.GetError.TheVariants as error
 
 -- P holds of the value, if the call hit
-abbrev pub IfHit : {V : Type 0} → Begun V → (V → Type 0) → Type 0
+abbrev pub IfHit : {V : Type 0} → Begun (Arc V Global) → (V → Type 0) → Type 0
 IfHit (begun.Make s) P = ⊤
 IfHit (begun.Wait s) P = ⊤
 IfHit (begun.Hit s a) P = P (arc_value a)

@@ -3,13 +3,13 @@ ghost use Rattle.std.specs.Prelude.{◌≡◌, ◌<◌, Some, None, IsFalse, IfE
 ghost use Rattle.std.specs.Arc.{arc_value};
 ghost use Rattle.std.specs.Fn.{FnOnceReturnsAt, FnOnceTakesAt};
 ghost use Rattle.concurrent_lru.specs.Cache.{count_of, empty_cache, most_pins_by_default, sum_of, HasKeyAt, LacksStamp, IsLawful, CopiesAreEqual, HasNoOtherPin};
-ghost use Rattle.concurrent_lru.specs.CountedCalls.{counted, counted_begin, counted_look, counted_poll, is_insertion, replaced, AddUp};
+ghost use Rattle.concurrent_lru.specs.CountedCalls.{counted, counted_begin, counted_look, counted_poll, counted_repin, is_insertion, replaced, AddUp};
 ghost use Rattle.concurrent_lru.specs.Counts.{counts_from, one_refusal};
 ghost use Rattle.concurrent_lru.specs.Inserts.{Inserts};
 ghost use Rattle.concurrent_lru.specs.Reads.{Finds, Reads};
 ghost use Rattle.concurrent_lru.specs.Ready.{HasEqualKeyAt};
 ghost use Rattle.concurrent_lru.specs.Request as ask;
-ghost use Rattle.concurrent_lru.specs.Results.{outcome_of_begin, outcome_of_poll, outcome_of_ready, outcome_of_fail, outcome_of_get, outcome_of_release, outcome_of_evictions, begun_without_hint, found_without_hint, inserted_without_hint};
+ghost use Rattle.concurrent_lru.specs.Results.{outcome_of_begin, outcome_of_poll, outcome_of_ready, outcome_of_fail, outcome_of_get, outcome_of_release, outcome_of_repin, outcome_of_evictions, begun_without_hint, found_without_hint, inserted_without_hint};
 ghost use Rattle.concurrent_lru.specs.Runs.{Stands};
 
 use crate::counts::Counts;
@@ -53,7 +53,7 @@ impl<K: Hash + Eq + Clone, V: Drop> CountedState<K, V> {
         ensures counts { result.counts ≡ counts_from 0 0 }
     {
         CountedState {
-            state: State::without_stamp_map(alloc, capacity, seed),
+            state: State::without_stamp_map(alloc, capacity, 0, u32::MAX, seed),
             counts: Counts::from(0, 0),
         }
     }
@@ -227,6 +227,38 @@ impl<K: Hash + Eq + Clone, V: Drop> CountedState<K, V> {
         Ok(evicted)
     }
 
+    /// The core's `release_and_evict`. Counts what it evicts.
+    pub fn release_and_evict(&mut self, spot: &Spot) -> Result<Evicted<K, V>, Refusal>
+        ensures step { Stands K.eq self.old.cache (ask.release_and_evict spot.now.stamp)
+            (outcome_of_release result) self.new.cache }
+        ensures counted { self.new.counts
+            ≡ counted self.old.cache (ask.release_and_evict spot.now.stamp)
+            (outcome_of_release result) self.old.counts }
+        ensures lawful { IsLawful K.eq self.new.cache }
+    {
+        let evicted = self.state.release_and_evict_at(spot)?;
+        if evicted.is_empty() {
+            return Ok(evicted);
+        }
+        self.counts
+            .evict(self.state.len() as u64, self.state.total());
+        Ok(evicted)
+    }
+
+    /// The core's `repin`: a refusal if it is refused with `Memory` or `Overflow`. Counts no hit,
+    /// since no key is looked up.
+    pub fn repin(&mut self, spot: &Spot) -> Result<Arc<V>, Refusal>
+        ensures step { Stands K.eq self.old.cache (ask.repin spot.now.stamp)
+            (outcome_of_repin result) self.new.cache }
+        ensures counted { self.new.counts ≡ counted self.old.cache (ask.repin spot.now.stamp)
+            (outcome_of_repin result) self.old.counts }
+        ensures lawful { IsLawful K.eq self.new.cache }
+    {
+        let repinned = self.state.repin_at(spot);
+        count_repin(&mut self.counts, &repinned);
+        repinned
+    }
+
     /// The core's `advice_evict`. Counts what it evicts.
     pub fn advice_evict(&mut self, key: &K) -> Evicted<K, V>
         ensures step { Stands K.eq self.old.cache (ask.advice_evict key.now)
@@ -379,6 +411,17 @@ fn count_poll<V>(counts: &mut Counts, polled: &Result<Begun<V>, Refusal>)
     match polled {
         Ok(Begun::Make(_)) => counts.make(),
         Err(Refusal::Memory) => counts.refuse(),
+        Ok(_) => {}
+        Err(_) => {}
+    }
+}
+
+// Counts the result of a repin: a refusal, unless no entry has the stamp.
+fn count_repin<V>(counts: &mut Counts, repinned: &Result<Arc<V>, Refusal>)
+    ensures { counts.new ≡ counted_repin repinned.now counts.old }
+{
+    match repinned {
+        Err(Refusal::Memory | Refusal::Overflow) => counts.refuse(),
         Ok(_) => {}
         Err(_) => {}
     }

@@ -256,6 +256,28 @@ impl<K: Hash + Eq + Clone + Drop, V: Drop, R: Wait, F: Fit<K, V>> Door<K, V, R, 
         drop(released.open(guard));
     }
 
+    /// `Locked::repin`. The pin that it returns holds another `Arc` of the value, which is made
+    /// before the lock is acquired. What else was made is dropped without the lock.
+    ///
+    /// Returns `Memory` if a copy of the `Arc` is refused, and `Overflow` as there.
+    pub fn repin(&self, pin: &HeldPin<K, V, F>) -> Result<HeldPin<K, V, F>, Refusal>
+        ensures pin { IfOk result (λ another. another ≡ pin.now) }
+        ensures never_stale { IfErr result (λ e. e ≢ Refusal.Stale) }
+    {
+        let read = pin.share()?;
+        let mut guard = self.lock();
+        match guard.repin(pin, read) {
+            Ok((another, shared)) => {
+                drop(shared.open(guard));
+                Ok(another)
+            }
+            Err((refusal, read)) => {
+                drop(read.open(guard));
+                Err(refusal)
+            }
+        }
+    }
+
     /// `Locked::advice_evict`. What it evicts is dropped without the lock.
     pub fn advice_evict(&self, key: &K) {
         let mut guard = self.lock();

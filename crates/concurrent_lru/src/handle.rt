@@ -1,11 +1,12 @@
 //! Handles, each of which pins the value that it reads.
 //!
 //! Reading acquires no lock; dropping the handle releases the pin under the lock.
-ghost use Rattle.std.specs.Prelude.{◌≡◌};
+ghost use Rattle.std.specs.Prelude.{◌≡◌, ◌≢◌, IfOk, IfErr};
 
 use crate::door::Door;
 use crate::fit::{Anything, Fit};
 use crate::locked::HeldPin;
+use crate::lru_core::Refusal;
 use std::fmt;
 use std::hash::Hash;
 use std::marker::Model;
@@ -55,6 +56,22 @@ impl<'a, K: Hash + Eq + Clone, V, R: Wait, F: Fit<K, V>> CacheHandle<'a, K, V, R
 }
 
 impl<'a, K: Hash + Eq + Clone + Drop, V: Drop, R: Wait, F: Fit<K, V>> CacheHandle<'a, K, V, R, F> {
+    /// Returns another handle of the same value, which pins its entry once more, even after an
+    /// `invalidate` of its key. No key is looked up, so this counts as no hit.
+    ///
+    /// Returns `Overflow` if the entry has the maximum number of pins, and `Memory` if a copy of
+    /// the `Arc` of the value is refused; then nothing is pinned.
+    pub fn try_clone(&self) -> Result<CacheHandle<'a, K, V, R, F>, Refusal>
+        ensures key { IfOk result (λ h. h.key ≡ self.now.key) }
+        ensures charge { IfOk result (λ h. h.charge ≡ self.now.charge) }
+        ensures value { IfOk result (λ h. h.value ≡ self.now.value) }
+        ensures fits { IfOk result (λ h. F.fits h.key h.value) }
+        ensures never_stale { IfErr result (λ e. e ≢ Refusal.Stale) }
+    {
+        let pin = self.door.repin(&self.pin)?;
+        Ok(CacheHandle::new(self.door, pin))
+    }
+
     // Returns the pin alone, for a handle that keeps the cache alive by other means.
     pub(crate) fn into_pin(self) -> HeldPin<K, V, F>
         ensures key { result.key ≡ self.entry.key }

@@ -5,16 +5,19 @@
 //! nanoseconds each call of a function shows. What is rare (a making, a wait, a growth) is called.
 #![tactic(auto)]
 
+mod asked;
 mod counted;
 pub mod counts;
 mod door;
-mod eviction;
+pub mod eviction;
 pub mod fit;
 mod get_error;
 mod handle;
+pub mod linear_probing;
 pub mod list;
 pub mod locked;
 pub mod lru_core;
+pub mod node_table;
 mod owned;
 mod refusal;
 mod route;
@@ -22,7 +25,8 @@ pub mod sealed;
 pub mod shard_laws;
 pub mod sharded;
 mod shards;
-mod step;
+pub mod share;
+pub mod step;
 pub mod step_laws;
 mod table;
 pub mod unsharded;

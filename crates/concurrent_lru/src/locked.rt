@@ -3,13 +3,13 @@
 //!
 //! Each call is one step of the core. What it leaves to be done is returned as a debt, a type that
 //! is not `Drop`.
-ghost use Rattle.std.specs.Prelude.{◌≡◌, ◌≢◌, ◌<◌, true, [], Err, Some, None, IsTrue, IsFalse, IfOk, IfErr, IfSome, OnErr};
+ghost use Rattle.std.specs.Prelude.{◌≡◌, ◌≢◌, ◌<◌, [], Err, Some, None, IsTrue, IsFalse, IfOk, IfErr, IfSome, OnErr};
 ghost use Rattle.std.specs.Arc.{arc_value};
 ghost use Rattle.std.specs.Fn.{FnOnceReturnsAt, FnOnceTakesAt};
 ghost use Rattle.concurrent_lru.specs.Cache.{count_of, empty_cache, most_pins_by_default, sum_of, IsLawful, CopiesAreEqual, HasNoOtherPin, IsSettled};
 ghost use Rattle.concurrent_lru.specs.CountedCalls.{counted, counted_look, replaced, AddUp};
 ghost use Rattle.concurrent_lru.specs.Counts.{counts_from, one_refusal};
-ghost use Rattle.concurrent_lru.specs.Debts.{outcome_of_locked_begin, outcome_of_locked_poll, outcome_of_locked_get, AsksOnEntry, AsksOnPoll, IfEntered, IfPolled};
+ghost use Rattle.concurrent_lru.specs.Debts.{outcome_of_locked_begin, outcome_of_locked_poll, outcome_of_locked_get, outcome_of_locked_repin, AsksOnEntry, AsksOnPoll, IfEntered, IfPolled};
 ghost use Rattle.concurrent_lru.specs.Inserts.{Replaces, RefusesToReplace};
 ghost use Rattle.concurrent_lru.specs.Reads.{Reads};
 ghost use Rattle.concurrent_lru.specs.Ready.{ValuesFit, HasEqualKeyAt};
@@ -391,6 +391,33 @@ impl<K: Hash + Eq + Clone + Drop, V: Drop, F: Fit<K, V>> Locked<K, V, F> {
             mark: _,
         } = pin;
         Sealed::of((value, self.state.release(&spot)))
+    }
+
+    /// The core's `repin`, for another pin in the entry of `pin`. The new pin holds `read`, another
+    /// `Arc` of the pin's value, and the `Arc` that the core returned is sealed.
+    ///
+    /// Returns `Overflow` and `Memory` as there, with `read` sealed: then no entry changes. If the
+    /// core refuses it as `Stale`, no entry has a pin for `pin`, nor has one for the new pin, whose
+    /// release then changes nothing.
+    pub fn repin(
+        &mut self,
+        pin: &HeldPin<K, V, F>,
+        read: Arc<V>,
+    ) -> Result<(HeldPin<K, V, F>, Sealed<Result<Arc<V>, Refusal>>), (Refusal, Sealed<Arc<V>>)>
+        requires same { arc_value read ≡ pin.now.value }
+        ensures step { Stands K.eq self.old.cache (ask.repin pin.now.stamp)
+            (outcome_of_locked_repin result) self.new.cache }
+        ensures counted { self.new.counts ≡ counted self.old.cache (ask.repin pin.now.stamp)
+            (outcome_of_locked_repin result) self.old.counts }
+        ensures pin { IfOk result (λ r. r.0 ≡ pin.now) }
+        ensures never_stale { IfErr result (λ e. e.0 ≢ Refusal.Stale) }
+    {
+        match self.state.repin(&pin.spot) {
+            Ok(shared) => Ok((pin.again(read), Sealed::of(Ok(shared)))),
+            Err(Refusal::Stale) => Ok((pin.again(read), Sealed::of(Err(Refusal::Stale)))),
+            Err(Refusal::Overflow) => Err((Refusal::Overflow, Sealed::of(read))),
+            Err(Refusal::Memory) => Err((Refusal::Memory, Sealed::of(read))),
+        }
     }
 
     /// The core's `release`, for a pin whose value was not read. Takes no memory.

@@ -53,6 +53,23 @@ impl<K: Hash + Eq + Clone + Drop, V: Drop, R: Wait + Drop, F: Fit<K, V>> OwnedHa
         let _ = pin.value();
         OwnedHandle { cache, pin }
     }
+
+    /// Returns another handle of the same value, as `CacheHandle::try_clone` does, which keeps the
+    /// cache alive too.
+    ///
+    /// Returns `Overflow` and `Memory` as there, and `Memory` also if a copy of the `Arc` of the
+    /// cache is refused; then nothing is pinned.
+    pub fn try_clone(&self) -> Result<OwnedHandle<K, V, R, F>, Refusal>
+        ensures key { IfOk result (λ h. h.key ≡ self.now.key) }
+        ensures charge { IfOk result (λ h. h.charge ≡ self.now.charge) }
+        ensures value { IfOk result (λ h. h.value ≡ self.now.value) }
+        ensures fits { IfOk result (λ h. F.fits h.key h.value) }
+        ensures never_stale { IfErr result (λ e. e ≢ Refusal.Stale) }
+    {
+        let cache = Arc::try_clone(&self.cache)?;
+        let pin = self.cache.repin(&self.pin)?;
+        Ok(OwnedHandle::new(cache, pin))
+    }
 }
 
 impl<K: Hash + Eq + Clone, V, R: Wait, F: Fit<K, V>> Deref for OwnedHandle<K, V, R, F> {

@@ -9,7 +9,7 @@ ghost use Rattle.concurrent_lru.specs.Cache.{count_of, empty_cache, most_pins_by
 ghost use Rattle.concurrent_lru.specs.Parts.{EachTakes, StandsAt, RunsApart};
 ghost use Rattle.concurrent_lru.specs.Reads.{FindsAt, ReadsAt};
 ghost use Rattle.concurrent_lru.specs.Request as ask;
-ghost use Rattle.concurrent_lru.specs.Results.{IsCharged, outcome_of_evictions, outcome_of_fail, outcome_of, outcome_of_poll, outcome_of_ready, outcome_of_release, request_of};
+ghost use Rattle.concurrent_lru.specs.Results.{IsCharged, outcome_of_evictions, outcome_of_fail, outcome_of, outcome_of_poll, outcome_of_ready, outcome_of_release, outcome_of_repin, request_of};
 ghost use Rattle.concurrent_lru.specs.Runs.{refused};
 ghost use Rattle.concurrent_lru.specs.declared.refusal.Refusal.TheVariants.{Stale};
 ghost use Rattle.concurrent_lru.specs.Sharded.{AreLawful, HasReadyKeyAt, IsUnreadyAt, key_number, key_shard};
@@ -82,6 +82,10 @@ pub enum ShardStep<K, V> {
     Fail(usize, u64),
     /// `release` at a shard with a stamp.
     Release(usize, u64),
+    /// `release_and_evict` at a shard with a stamp.
+    ReleaseAndEvict(usize, u64),
+    /// `repin` at a shard with a stamp.
+    Repin(usize, u64),
     /// `prune_shard` with a shard.
     Prune(usize),
     /// `set_capacity_shard` with a shard and a capacity.
@@ -317,6 +321,32 @@ impl<K: Hash + Eq + Clone, V: Drop, S: BuildHasher + Drop> Shards<K, V, S> {
         cache.release(stamp)
     }
 
+    /// `release_and_evict` in a shard. Returns `Stale` also if there is no such shard. Takes no
+    /// memory.
+    pub fn release_and_evict(&mut self, shard: usize, stamp: u64) -> Result<Evicted<K, V>, Refusal>
+        ensures step { StandsAt K.eq self.old shard (ask.release_and_evict stamp)
+            (outcome_of_release result) self.new }
+        ensures lawful { AreLawful K.eq self.new }
+    {
+        let Some(cache) = self.shards.get_mut(shard) else {
+            return Err(Refusal::Stale);
+        };
+        cache.release_and_evict(stamp)
+    }
+
+    /// `repin` in a shard. Returns `Stale` also if there is no such shard, and `Overflow` and
+    /// `Memory` as `State::repin` does.
+    pub fn repin(&mut self, shard: usize, stamp: u64) -> Result<Arc<V>, Refusal>
+        ensures step { StandsAt K.eq self.old shard (ask.repin stamp) (outcome_of_repin result)
+            self.new }
+        ensures lawful { AreLawful K.eq self.new }
+    {
+        let Some(cache) = self.shards.get_mut(shard) else {
+            return Err(Refusal::Stale);
+        };
+        cache.repin(stamp)
+    }
+
     /// `prune` in a shard. Returns `Stale` if there is no such shard. Takes no memory.
     pub fn prune_shard(&mut self, shard: usize) -> Result<Evicted<K, V>, Refusal>
         ensures step { StandsAt K.eq self.old shard ask.prune (outcome_of_shard_evictions result)
@@ -450,6 +480,8 @@ impl<K: Hash + Eq + Clone, V: Drop, S: BuildHasher + Drop> Shards<K, V, S> {
             ShardStep::Ready(shard, stamp, value) => (shard, Step::Ready(stamp, value)),
             ShardStep::Fail(shard, stamp) => (shard, Step::Fail(stamp)),
             ShardStep::Release(shard, stamp) => (shard, Step::Release(stamp)),
+            ShardStep::ReleaseAndEvict(shard, stamp) => (shard, Step::ReleaseAndEvict(stamp)),
+            ShardStep::Repin(shard, stamp) => (shard, Step::Repin(stamp)),
             ShardStep::Prune(shard) => (shard, Step::Prune),
             ShardStep::SetCapacity(shard, capacity) => (shard, Step::SetCapacity(capacity)),
             ShardStep::Total(shard) => (shard, Step::Total),

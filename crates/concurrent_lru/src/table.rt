@@ -5,12 +5,11 @@
 //! A key is hashed by `Table::hash_of`, once in a call of the core, which passes the hash on with
 //! the key.
 ghost use Rattle.std.specs.Prelude.{◌≡◌, ◌≢◌, ℕ, ◌+◌, ◌<◌, ◌≤◌, ◌^◌, Some, None, [], IsSome, OnOk, OnErr, IfOk, IfErr, MatchOption, true, cond, nat_eq};
-ghost use Rattle.std.specs.Arc.{arc_value};
 ghost use Rattle.concurrent_lru.specs.Cache.{count_of, pinned_of, CopiesAreEqual};
 ghost use Rattle.std.specs.FinMap as map;
 ghost use Rattle.concurrent_lru.specs.NodeTable.{Entry, entry_of, hash_of as hash_in, new_entry, chain_of, phase_of, value_of, ContainsNode, LacksIdle, IsNewStamp};
 ghost use Rattle.concurrent_lru.specs.Representation.{as_idle, GetsEntry};
-ghost use Rattle.concurrent_lru.specs.Entries.{cache_of, charges_of, ContainsNoStamp, ContainsNoKey, IsPlaceOfKey, ContainsPlace, ContainsIdleAt, ContainsHeldAt, ContainsFoundAt, GetsAt, LacksMakingAt, IsReadyAt, ReadiesAt, Rewrites, RevivesAt, RestsAt, AddsOverHeld, AddsOverIdle, pins_at, value_at, held_with_pins, new_held};
+ghost use Rattle.concurrent_lru.specs.Entries.{cache_of, charges_of, ContainsNoStamp, ContainsNoKey, IsPlaceOfKey, ContainsPlace, ContainsIdleAt, ContainsHeldAt, ContainsFoundAt, GetsAt, IsReadyAt, Rewrites, RevivesAt, RestsAt, AddsOverHeld, AddsOverIdle, pins_at, value_at, held_with_pins, new_held};
 ghost use Rattle.concurrent_lru.specs.KeyHashes.{IsHashOf};
 ghost use Rattle.concurrent_lru.specs.Reads.{RenewsAt};
 ghost use Rattle.concurrent_lru.specs.StampIndex.{keeps_map, mapped_place, HasRoomFor};
@@ -24,14 +23,14 @@ mod word_hasher;
 
 pub use self::key_hashes::{KeyHash, seed_of_shard};
 pub use self::spot::{Hint, Spot};
-use crate::list::{Cursor, Node, Nodes, Phase, Place, Refusal};
+use crate::node_table::{Cursor, Node, Nodes, Phase, Place, Refusal};
+use crate::share::Stores;
 use crate::table::stamp_index::StampIndex;
 use std::alloc::Global;
 use std::collections::HashMap;
 use std::fmt;
 use std::hash::Hash;
 use std::marker::Model;
-use std::sync::Arc;
 
 /// The entries of a cache: idle ones, oldest first, and held ones, which may be detached from their
 /// keys.
@@ -295,61 +294,6 @@ impl<K: Hash + Eq + Clone, V: Drop> Table<K, V> {
         Ok((old, new))
     }
 
-    /// Pins a ready entry once more and returns its value. An idle one leaves the idle order.
-    ///
-    /// Returns `Memory` if the copy of the value is refused; then nothing changes.
-    #[inline(always)]
-    pub fn pin(&mut self, place: Place, near: Cursor) -> Result<Arc<V>, Refusal>
-        requires place { ContainsPlace self.old place }
-        requires ready { IsSome (value_at self.old place) }
-        requires room { pins_at self.old place + 1 < 2 ^ 32 }
-        ensures value { IfOk result (λ a. value_at self.old place ≡ Some (arc_value a)) }
-        ensures revived { OnOk result (pins_at self.old place ≡ 0
-            → RevivesAt self.old place self.new) }
-        ensures held { OnOk result (pins_at self.old place ≢ 0
-            → Rewrites (held_with_pins (pins_at self.old place + 1)) self.old place self.new) }
-        ensures err { OnErr result (self.new ≡ self.old) }
-        ensures refusal { IfErr result (λ e. e ≡ Refusal.Memory) }
-    {
-        let node = self.node(place, near);
-        let pins = node.pins;
-        if pins == 0 {
-            return self.revive(place, near);
-        }
-        let value = node.share_value()?;
-        self.set_pins(place, near, pins + 1);
-        Ok(value)
-    }
-
-    /// Pins a ready entry once more, as `pin` does, without a copy of its value. Takes no memory.
-    #[inline(always)]
-    pub fn pin_alone(&mut self, place: Place, near: Cursor)
-        requires place { ContainsPlace self.old place }
-        requires room { pins_at self.old place + 1 < 2 ^ 32 }
-        requires ready { IsSome (value_at self.old place) }
-        ensures revived { pins_at self.old place ≡ 0 → RevivesAt self.old place self.new }
-        ensures held { pins_at self.old place ≢ 0
-            → Rewrites (held_with_pins (pins_at self.old place + 1)) self.old place self.new }
-    {
-        let pins = self.node(place, near).pins;
-        if pins > 0 {
-            self.set_pins(place, near, pins + 1);
-        } else {
-            self.pin_idle(place, near);
-        }
-    }
-
-    // Pins an idle entry, which is then held.
-    #[inline(always)]
-    fn pin_idle(&mut self, place: Place, near: Cursor)
-        requires { ContainsIdleAt self.old place }
-        ensures { RevivesAt self.old place self.new }
-    {
-        let own = self.nodes.node_near(place, near).charge;
-        self.nodes.pin_idle(place, near);
-        self.idle_charge -= own;
-    }
-
     /// Sets the number of pins of a held entry, which stays held. Takes no memory.
     pub fn set_pins(&mut self, place: Place, near: Cursor, pins: u32)
         requires held { ContainsHeldAt self.old place }
@@ -376,36 +320,6 @@ impl<K: Hash + Eq + Clone, V: Drop> Table<K, V> {
         self.nodes.set_phase_near(place, near, phase);
     }
 
-    /// Stores the value of an entry that is being made. Returns the value if the entry is not being
-    /// made. Takes no memory.
-    pub fn store(&mut self, place: Place, near: Cursor, value: Arc<V>) -> Result<(), Arc<V>>
-        requires { ContainsPlace self.old place }
-        ensures ok { OnOk result (ReadiesAt (arc_value value) self.old place self.new) }
-        ensures err { OnErr result (LacksMakingAt self.old place × (self.new ≡ self.old)) }
-        ensures back { IfErr result (λ a. a ≡ value) }
-    {
-        let Phase::Making = &self.node(place, near).phase else {
-            return Err(value);
-        };
-        self.set_phase(place, near, Phase::Ready(value));
-        Ok(())
-    }
-
-    // Pins an idle entry, which is then held, and returns its value.
-    #[inline(always)]
-    fn revive(&mut self, place: Place, near: Cursor) -> Result<Arc<V>, Refusal>
-        requires { ContainsIdleAt self.old place }
-        ensures value { IfOk result (λ a. value_at self.old place ≡ Some (arc_value a)) }
-        ensures ok { OnOk result (RevivesAt self.old place self.new) }
-        ensures err { OnErr result (self.new ≡ self.old) }
-        ensures refusal { IfErr result (λ e. e ≡ Refusal.Memory) }
-    {
-        let charge = self.nodes.node_near(place, near).charge;
-        let value = self.nodes.revive(place, near)?;
-        self.idle_charge -= charge;
-        Ok(value)
-    }
-
     /// Removes the pins of a ready entry, which becomes the newest idle one. Takes no memory.
     #[inline(always)]
     pub fn make_idle(&mut self, place: Place, near: Cursor)
@@ -424,6 +338,49 @@ impl<K: Hash + Eq + Clone, V: Drop> Table<K, V> {
         ensures value { value_at self.new place ≡ value_at self.old place }
     {
         self.nodes.renew(place, near);
+    }
+}
+
+impl<K: Hash + Eq + Clone, V: Stores + Drop> Table<K, V> {
+    /// Pins a ready entry once more and returns its value. An idle one leaves the idle order.
+    ///
+    /// Returns `Memory` if the copy of the value is refused; then nothing changes.
+    #[inline(always)]
+    pub fn pin(&mut self, place: Place, near: Cursor) -> Result<V, Refusal>
+        requires place { ContainsPlace self.old place }
+        requires ready { IsSome (value_at self.old place) }
+        requires room { pins_at self.old place + 1 < 2 ^ 32 }
+        ensures value { IfOk result (λ v. value_at self.old place ≡ Some v) }
+        ensures revived { OnOk result (pins_at self.old place ≡ 0
+            → RevivesAt self.old place self.new) }
+        ensures held { OnOk result (pins_at self.old place ≢ 0
+            → Rewrites (held_with_pins (pins_at self.old place + 1)) self.old place self.new) }
+        ensures err { OnErr result (self.new ≡ self.old) }
+        ensures refusal { IfErr result (λ e. e ≡ Refusal.Memory) }
+    {
+        let node = self.node(place, near);
+        let pins = node.pins;
+        if pins == 0 {
+            return self.revive(place, near);
+        }
+        let value = node.share_value()?;
+        self.set_pins(place, near, pins + 1);
+        Ok(value)
+    }
+
+    // Pins an idle entry, which is then held, and returns its value.
+    #[inline(always)]
+    fn revive(&mut self, place: Place, near: Cursor) -> Result<V, Refusal>
+        requires { ContainsIdleAt self.old place }
+        ensures value { IfOk result (λ v. value_at self.old place ≡ Some v) }
+        ensures ok { OnOk result (RevivesAt self.old place self.new) }
+        ensures err { OnErr result (self.new ≡ self.old) }
+        ensures refusal { IfErr result (λ e. e ≡ Refusal.Memory) }
+    {
+        let charge = self.nodes.node_near(place, near).charge;
+        let value = self.nodes.revive(place, near)?;
+        self.idle_charge -= charge;
+        Ok(value)
     }
 }
 
@@ -531,7 +488,7 @@ fn take_away<K: Drop, V: Drop>(
 // Returns the value of a node if it is printed: if it is ready, and the node is not detached.
 fn shown<K: Drop, V: Drop>(node: &Node<K, V>) -> Option<&V> {
     match &node.phase {
-        Phase::Ready(value) if !node.detached => Some(&**value),
+        Phase::Ready(value) if !node.detached => Some(value),
         _ => None,
     }
 }

@@ -392,6 +392,14 @@ impl<K: Hash + Eq + Clone + Drop, V: Drop, R: Wait, F: Fit<K, V>> LruCache<K, V,
         self.door.release(pin);
     }
 
+    // Pins once more the entry of a handle that keeps the cache alive.
+    pub(crate) fn repin(&self, pin: &HeldPin<K, V, F>) -> Result<HeldPin<K, V, F>, Refusal>
+        ensures pin { IfOk result (λ another. another ≡ pin.now) }
+        ensures never_stale { IfErr result (λ e. e ≢ Refusal.Stale) }
+    {
+        self.door.repin(pin)
+    }
+
     // Stores a value that was made and wakes the callers that wait for it. Gives the making up if
     // memory is refused.
     #[inline(always)]

@@ -5,6 +5,7 @@ ghost use Rattle.std.specs.Prelude.{◌<◌};
 pub mod shards;
 
 use concurrent_lru::lru_core::State;
+use concurrent_lru::share::Sharing;
 use std::alloc::{AllocError, Global};
 use std::fmt::Debug;
 use std::sync::Arc;
@@ -27,6 +28,10 @@ pub enum Call<K = u64> {
     Read(K),
     /// `release` with a stamp.
     Release(u64),
+    /// `release_and_evict` with a stamp.
+    ReleaseAndEvict(u64),
+    /// `repin` with a stamp.
+    Repin(u64),
     /// `advice_evict` with a key.
     AdviceEvict(K),
     /// `invalidate` with a key.
@@ -113,7 +118,6 @@ impl Answers<Call> for State<u64, u64> {
                 let value = Arc::new(alloc, value)?;
                 text_of(alloc, &self.insert(&key, charge, value))
             }
-            Call::Begin(..) | Call::Insert(..) => String::from_str(alloc, "a charge is above 0"),
             Call::Poll(stamp) => text_of(alloc, &self.poll(stamp)),
             Call::Ready(stamp, value) => {
                 let value = Arc::new(alloc, value)?;
@@ -121,17 +125,45 @@ impl Answers<Call> for State<u64, u64> {
             }
             Call::Fail(stamp) => text_of(alloc, &self.fail(stamp)),
             Call::Get(key) => text_of(alloc, &self.get(&key)),
-            Call::Read(key) => text_of(alloc, &self.read(&key, |value| *value)),
             Call::Release(stamp) => text_of(alloc, &self.release(stamp)),
-            Call::AdviceEvict(key) => text_of(alloc, &self.advice_evict(&key)),
-            Call::Invalidate(key) => text_of(alloc, &self.invalidate(&key)),
-            Call::Prune => text_of(alloc, &self.prune()),
-            Call::SetCapacity(capacity) => text_of(alloc, &self.set_capacity(capacity)),
-            Call::Total => text_of(alloc, &self.total()),
-            Call::Capacity => text_of(alloc, &self.capacity()),
+            Call::ReleaseAndEvict(stamp) => text_of(alloc, &self.release_and_evict(stamp)),
+            Call::Repin(stamp) => text_of(alloc, &self.repin(stamp)),
             Call::KeyOf(stamp) => text_of(alloc, &self.key_of(stamp)),
-            Call::Reserve(entries) => text_of(alloc, &self.reserve(entries)),
-            Call::Show => text_of(alloc, self),
+            other => answer_without_shares(alloc, self, other),
         }
+    }
+}
+
+/// Makes a call whose result has no share of a value, and that names no entry by its stamp. No
+/// other call is made: the text says so.
+///
+/// Returns `AllocError` if memory for the text is refused.
+pub fn answer_without_shares<M: Sharing<u64>>(
+    alloc: Global,
+    state: &mut State<u64, u64, M>,
+    call: Call,
+) -> Result<String, AllocError>
+where
+    M::Share: Drop,
+{
+    match call {
+        Call::Read(key) => text_of(alloc, &state.read(&key, |value| *value)),
+        Call::AdviceEvict(key) => text_of(alloc, &state.advice_evict(&key)),
+        Call::Invalidate(key) => text_of(alloc, &state.invalidate(&key)),
+        Call::Prune => text_of(alloc, &state.prune()),
+        Call::SetCapacity(capacity) => text_of(alloc, &state.set_capacity(capacity)),
+        Call::Total => text_of(alloc, &state.total()),
+        Call::Capacity => text_of(alloc, &state.capacity()),
+        Call::Reserve(entries) => text_of(alloc, &state.reserve(entries)),
+        Call::Show => text_of(alloc, state),
+        Call::Begin(..) | Call::Insert(..) => String::from_str(alloc, "a charge is above 0"),
+        Call::Poll(_)
+        | Call::Ready(..)
+        | Call::Fail(_)
+        | Call::Get(_)
+        | Call::Release(_)
+        | Call::ReleaseAndEvict(_)
+        | Call::Repin(_)
+        | Call::KeyOf(_) => String::from_str(alloc, "not made"),
     }
 }

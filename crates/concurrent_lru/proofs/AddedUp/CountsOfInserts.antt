@@ -26,7 +26,7 @@ module _ {K V : Type 0} {E : K → K → Bool} where
       let made = r.2.0 in
       let stored = r.2.2.0 in
       let lawful = invalidated_lawful E old new k charge v s gone out laws l last r in
-      let m = begun_new E charge (invalidated_absent E laws old l k mid gone r.1) (begun.Make s) out made r.2.1 in
+      let m = begun_new E charge (invalidated_absent E laws old l k mid gone r.1) {S = V} (λ w. w) (begun.Make s) out made r.2.1 in
       let a = invalidate_evicts {E = E} old mid k gone l r.1 in
       let b = made_size {E = E} mid made k charge mid.next out lawful m in
       let c = phase_size {E = E} made stored s making (ready v) [] r.2.2.1 in

@@ -8,12 +8,12 @@ use Rattle.std.proofs.lemmas.List.{length-append}
 use Rattle.std.proofs.lemmas.List.Sums.{sum_by-append}
 use Rattle.std.specs.declared.sync.Arc.{Arc}
 use Rattle.std.specs.declared.alloc.Global.{Global}
-use Rattle.concurrent_lru.specs.Results.{outcome_of_begin, outcome_of_get, outcome_of_poll, outcome_of_ready, found_without_hint}
+use Rattle.concurrent_lru.specs.Results.{outcome_of_begin, outcome_of_get, outcome_of_poll, outcome_of_ready, outcome_of_repin, found_without_hint}
 use Rattle.concurrent_lru.specs.Ready.{HasEqualKeyAt}
 use Rattle.concurrent_lru.specs.declared.step.Begun.{Begun}
 use Rattle.concurrent_lru.specs.declared.step.Begun.TheVariants as begun
 use Rattle.concurrent_lru.specs.Cache.{Cache, Idle, Held, Settles, IsLawful, charges, count_of, sum_of, empty_cache, most_pins_by_default, ready, making, untaken}
-use Rattle.concurrent_lru.specs.CountedCalls.{AddUp, IsSoundlyCounted, counted, counted_begin, counted_look, counted_poll, evicted, held_charge, is_insertion}
+use Rattle.concurrent_lru.specs.CountedCalls.{AddUp, IsSoundlyCounted, counted, counted_begin, counted_look, counted_poll, counted_repin, evicted, held_charge, is_insertion}
 use Rattle.concurrent_lru.specs.Counts.{counts_from, end_of_u64, inserted, one_failure, one_more, one_making, one_miss, removed}
 use Rattle.concurrent_lru.specs.Reads.{Reads}
 use Rattle.concurrent_lru.specs.Request as ask
@@ -26,7 +26,7 @@ use Rattle.concurrent_lru.specs.declared.counts.Counts.{Counts}
 use Rattle.concurrent_lru.specs.declared.refusal.Refusal.{Refusal}
 use Rattle.concurrent_lru.specs.declared.refusal.Refusal.TheVariants.{Memory, Overflow, Stale}
 use Rattle.concurrent_lru.specs.declared.table.spot.Hint.{Hint}
-use Rattle.concurrent_lru.proofs.AddedUp.SizesOfSteps.{Resizes, KeepsSize, Evicts, same_size, settled_size, joined_size, left_size, phase_size, hit_size, made_size, removed_size, rested_size, ended_size, detached_size, dropped_size, stayed_size, pruned_size, evicts_none}
+use Rattle.concurrent_lru.proofs.AddedUp.SizesOfSteps.{Resizes, KeepsSize, Evicts, same_size, settled_size, joined_size, left_size, phase_size, hit_size, made_size, removed_size, rested_size, ended_size, released_and_evicted_size, repinned_size, detached_size, dropped_size, stayed_size, pruned_size, evicts_none}
 use Rattle.concurrent_lru.proofs.Steps.EmptyCache.{no_entries, empty_sum, empty_lawful}
 use Rattle.concurrent_lru.proofs.Steps.StaysLawful.{invalidates_lawful}
 
@@ -151,6 +151,10 @@ module _ {K V : Type 0} where
   refusal_adds_up old n (ask.ready s v) e a = a
   refusal_adds_up old n (ask.fail s) e a = a
   refusal_adds_up old n (ask.release s) e a = a
+  refusal_adds_up old n (ask.release_and_evict s) e a = a
+  refusal_adds_up old n (ask.repin s) Memory a = with_others old n n.hits n.misses n.waits (one_more n.refusals) n.makings n.failures a
+  refusal_adds_up old n (ask.repin s) Overflow a = with_others old n n.hits n.misses n.waits (one_more n.refusals) n.makings n.failures a
+  refusal_adds_up old n (ask.repin s) Stale a = a
   refusal_adds_up old n (ask.advice_evict k) e a = a
   refusal_adds_up old n (ask.invalidate k) e a = a
   refusal_adds_up old n (ask.insert k charge v) e a = with_others old n n.hits n.misses n.waits (one_more n.refusals) n.makings n.failures a
@@ -255,6 +259,8 @@ module _ {K V : Type 0} where
     step_adds_up old new n (ask.get k) (say.hit s v) out l a h = with_others new n (one_more n.hits) n.misses n.waits n.refusals n.makings n.failures (kept_adds_up old new n a (hit_size old new k s v out l h))
     step_adds_up old new n (ask.get k) say.missed out l a h = with_others new n n.hits (one_more n.misses) n.waits n.refusals n.makings n.failures (kept_adds_up old new n a (same_size old new h.1.same))
     step_adds_up old new n (ask.release s) say.done out l a h = evicting_adds_up old new n out a (release_evicts old new s out h)
+    step_adds_up old new n (ask.release_and_evict s) say.done out l a h = evicting_adds_up old new n out a (released_and_evicted_size old new s out h)
+    step_adds_up old new n (ask.repin s) (say.pinned v) out l a h = kept_adds_up old new n a (repinned_size old new s v out l h)
     step_adds_up old new n (ask.advice_evict k) say.done out l a h = evicting_adds_up old new n out a (advice_evicts old new k out l h)
     step_adds_up old new n (ask.invalidate k) say.done out l a h = evicting_adds_up old new n out a (invalidate_evicts old new k out l h)
     step_adds_up old new n (ask.insert k charge v) (say.inserted s) out l a h =
@@ -336,7 +342,7 @@ module _ {K V : Type 0} where
   get_counted c k (Ok None) n = refl
   get_counted c k (Err e) n = refl
 
-  pub poll_counted : (c : Cache K V) (s : ℕ) (r : Result (Begun V) Refusal) (n : Counts) → counted_poll r n ≡ counted c (ask.poll s) (outcome_of_poll r) n
+  pub poll_counted : (c : Cache K V) (s : ℕ) (r : Result (Begun (Arc V Global)) Refusal) (n : Counts) → counted_poll r n ≡ counted c (ask.poll s) (outcome_of_poll r) n
   poll_counted c s (Ok (begun.Make t)) n = refl
   poll_counted c s (Ok (begun.Wait t)) n = refl
   poll_counted c s (Ok (begun.Hit t a)) n = refl
@@ -344,14 +350,20 @@ module _ {K V : Type 0} where
   poll_counted c s (Err Overflow) n = refl
   poll_counted c s (Err Stale) n = refl
 
-  pub begin_counted : (c : Cache K V) (k : K) (charge : ℕ) (r : Result (Begun V × List (Idle K V)) Refusal) (n : Counts) → is_insertion r c.next ≡ false → counted_begin r n ≡ counted c (ask.begin k charge) (outcome_of_begin r) n
+  pub repin_counted : (c : Cache K V) (s : ℕ) (r : Result (Arc V Global) Refusal) (n : Counts) → counted_repin r n ≡ counted c (ask.repin s) (outcome_of_repin r) n
+  repin_counted c s (Ok a) n = refl
+  repin_counted c s (Err Memory) n = refl
+  repin_counted c s (Err Overflow) n = refl
+  repin_counted c s (Err Stale) n = refl
+
+  pub begin_counted : (c : Cache K V) (k : K) (charge : ℕ) (r : Result (Begun (Arc V Global) × List (Idle K V)) Refusal) (n : Counts) → is_insertion r c.next ≡ false → counted_begin r n ≡ counted c (ask.begin k charge) (outcome_of_begin r) n
   begin_counted c k charge (Ok (begun.Make s, out)) n not = sym (ap (λ b. cond b (evicted out (inserted charge (one_making (one_miss n)))) (one_making (one_miss n))) not)
   begin_counted c k charge (Ok (begun.Wait s, out)) n not = refl
   begin_counted c k charge (Ok (begun.Hit s a, out)) n not = refl
   begin_counted c k charge (Err e) n not = refl
 
   -- a begin that inserts an entry: what it says, and the counts after it
-  pub record Inserted (E : K → K → Bool) (old : Cache K V) (k : K) (charge : ℕ) (r : Result (Begun V × List (Idle K V)) Refusal) (new : Cache K V) (n : Counts) : Type 0 where
+  pub record Inserted (E : K → K → Bool) (old : Cache K V) (k : K) (charge : ℕ) (r : Result (Begun (Arc V Global) × List (Idle K V)) Refusal) (new : Cache K V) (n : Counts) : Type 0 where
     pub out : List (Idle K V)
     pub asked : counted_begin r n ≡ one_making (one_miss n)
     pub counted_is : counted old (ask.begin k charge) (outcome_of_begin r) n ≡ evicted out (inserted charge (one_making (one_miss n)))
@@ -359,7 +371,7 @@ module _ {K V : Type 0} where
     pub charge_fits : n.inserted_charge + charge < 2 ^ 128
     pub owes : Owes new (inserted charge (one_making (one_miss n))) (length out) (charges out)
 
-  pub begin_inserted : (E : K → K → Bool) (old new : Cache K V) (k : K) (charge : ℕ) (r : Result (Begun V × List (Idle K V)) Refusal) (n : Counts) → IsSoundlyCounted E old n → Stands E old (ask.begin k charge) (outcome_of_begin r) new → is_insertion r old.next ≡ true → Inserted E old k charge r new n
+  pub begin_inserted : (E : K → K → Bool) (old new : Cache K V) (k : K) (charge : ℕ) (r : Result (Begun (Arc V Global) × List (Idle K V)) Refusal) (n : Counts) → IsSoundlyCounted E old n → Stands E old (ask.begin k charge) (outcome_of_begin r) new → is_insertion r old.next ≡ true → Inserted E old k charge r new n
   begin_inserted E old new k charge (Ok (begun.Make s, out)) n sound h is =
       let i = inserts old new k charge s out sound.lawful h (eqb-true s old.next is) in
       let a = sound.adds_up in

@@ -7,12 +7,12 @@ use Rattle.std.proofs.lemmas.Bool.{eqb-true}
 use Rattle.std.proofs.lemmas.Option.{none-some}
 use Rattle.std.proofs.lemmas.List.Sums.{sum_by-append}
 use Rattle.concurrent_lru.specs.Cache.{Cache, Idle, Held, Phase, making, IsLawful, Settles, held_at, sum_of, count_of, charges}
-use Rattle.concurrent_lru.specs.Steps.{with_held, without, held_by_one, Makes, Joins, Revives, Hits, ChangesPhase, Leaves, Removes, Rests, Ends, Stays, Drops, Detaches, held_in_phase, held_detached, one_more_pin, one_pin_less, idle_again, without_held}
+use Rattle.concurrent_lru.specs.Steps.{with_held, without, held_by_one, Makes, Joins, Revives, Hits, ChangesPhase, Leaves, Removes, Rests, Ends, Departs, ReleasesAndEvicts, Repins, Stays, Drops, Detaches, held_in_phase, held_detached, one_more_pin, one_pin_less, idle_again, without_held}
 use Rattle.concurrent_lru.specs.Representation.{held_charges}
 use Rattle.concurrent_lru.proofs.Entries.SumsOfHeld.{sum_by-cons, sum-insert, sum-remove, sum-change}
 use Rattle.concurrent_lru.proofs.Steps.BeginOfAbsent.{with_new_entry, next_free, sum-made}
 use Rattle.concurrent_lru.proofs.Steps.LawfulAfterChange.{orderly, sum-with_held}
-use Rattle.concurrent_lru.proofs.Steps.LawfulAfterLeaving.{dropped}
+use Rattle.concurrent_lru.proofs.Steps.LawfulAfterLeaving.{dropped, ends_departs}
 use Rattle.concurrent_lru.proofs.Steps.LawfulAfterRest.{rested, sum-rested}
 use Rattle.concurrent_lru.proofs.Steps.LawfulAfterRevival.{revived, without_none, charges_without}
 
@@ -135,6 +135,10 @@ module _ {K V : Type 0} where
     hit_size old new k s v out l (inl j) = joined_size old new k s _ _ out j
     hit_size old new k s v out l (inr r) = revived_size old new k s v out l r
 
+    pub repinned_size : (old new : Cache K V) (s : ℕ) (v : V) (out : List (Idle K V)) → IsLawful E old → Repins E old s v out new → KeepsSize old new
+    repinned_size old new s v out l (inl j) = written_size old new s j.entry (one_more_pin j.entry) j.holds.at refl j.changed
+    repinned_size old new s v out l (inr r) = revived_size old new r.0 s v out l r.1
+
     -- a begin on an absent key: one entry comes, of the charge that was asked
     pub made_size : (old new : Cache K V) (k : K) (charge s : ℕ) (out : List (Idle K V)) → IsLawful E old → Makes E old k charge s out new → Resizes old new 1 charge (length out) (charges out)
     made_size old new k charge s out l m =
@@ -183,9 +187,9 @@ module _ {K V : Type 0} where
         let m : charges out ≡ d.entry.charge + charges {K = K} {V = V} [] = ap charges d.one ∙ sum_by-cons (λ (x : Idle K V). x.charge) d.entry [] in
         record { entries = omega (arith, a, e, n); charge = omega (arith, b, f, m); next = omega (arith, c) }
 
-    -- the last pin of a detached entry is given back: the entry leaves
-    pub ended_size : (old new : Cache K V) (s : ℕ) (out : List (Idle K V)) → Ends E old s out new → Evicts old out new
-    ended_size old new s out r =
+    -- the last pin of an entry is given back, and the entry leaves
+    departed_size : (old new : Cache K V) (s : ℕ) (out : List (Idle K V)) → Departs E old s out new → Evicts old out new
+    departed_size old new s out r =
         let x = idle_again s r.entry r.value in
         let a : count_of new ≡ count_of (without_held old s) = ap count_of r.changed in
         let b : sum_of new ≡ sum_of (without_held old s) = ap sum_of r.changed in
@@ -195,6 +199,13 @@ module _ {K V : Type 0} where
         let n : length out ≡ 1 = ap length r.one in
         let m : charges out ≡ r.entry.charge + charges {K = K} {V = V} [] = ap charges r.one ∙ sum_by-cons (λ (y : Idle K V). y.charge) x [] in
         record { entries = omega (arith, a, d, n); charge = omega (arith, b, e, m); next = omega (arith, c) }
+
+    pub ended_size : (old new : Cache K V) (s : ℕ) (out : List (Idle K V)) → Ends E old s out new → Evicts old out new
+    ended_size old new s out r = departed_size old new s out (ends_departs r)
+
+    pub released_and_evicted_size : (old new : Cache K V) (s : ℕ) (out : List (Idle K V)) → ReleasesAndEvicts E old s out new → Evicts old out new
+    released_and_evicted_size old new s out (inl h) = evicts_none old new out (left_size old new s _ _ out h.1) h.1.none
+    released_and_evicted_size old new s out (inr h) = departed_size old new s out h
 
     pub detached_size : (old new : Cache K V) (k : K) (out : List (Idle K V)) → Detaches E old k out new → KeepsSize old new
     detached_size old new k out d = written_size old new d.stamp d.entry (held_detached d.entry) d.at refl d.changed

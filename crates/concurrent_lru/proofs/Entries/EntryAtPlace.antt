@@ -9,7 +9,7 @@ use Rattle.std.proofs.lemmas.Option.{none-some, same_Some}
 use Rattle.concurrent_lru.specs.Cache.{Idle, Held, Phase, making, untaken, ready, IsLawful, idle_at}
 use Rattle.concurrent_lru.specs.Steps.{Holds, IsNotIdle, IsUnready}
 use Rattle.concurrent_lru.specs.Request as ask
-use Rattle.concurrent_lru.specs.Runs.{IsFull, Overflows, WouldHit}
+use Rattle.concurrent_lru.specs.Runs.{HasRoomAt, IsFull, Overflows, WouldHit}
 use Rattle.concurrent_lru.specs.NodeTable.{Entry, value_in, value_of}
 use Rattle.concurrent_lru.specs.Representation.{as_idle, held_entry}
 use Rattle.concurrent_lru.specs.Entries.{Entries, cache_of, cache_with, ContainsEntry, FindsEntry, IsPlaceOfKey, GetsAt, ContainsIdleAt, ContainsHeldAt, ContainsFoundAt, IsReadyAt, value_at}
@@ -155,6 +155,16 @@ module _ {K V : Type 0} {t : Entries K V} {p : ℕ} {e : Entry K V} (here : Gets
 
     pub get_overflows : (k : K) (v : V) → (e.pins ≢ 0 → e.detached ≡ false) → 0 < most → E e.key k ≡ true → e.pins ≡ most → e.phase ≡ ready v → Overflows E (cache_with capacity most next t) (ask.get k)
     get_overflows k v found high same full phase = let some : e.pins ≢ 0 = λ none. omega (arith, none, high, full) in (record { stamp = e.stamp; entry = held_entry e; at = here.held some; found = found some; same_key = same; full = full }, v, phase)
+
+    -- a ready entry takes one more pin, or it has the greatest number of them
+    pub has_room_at : (s : ℕ) (v : V) → get t.stamps p ≡ Some s → e.pins < most → e.phase ≡ ready v → HasRoomAt E (cache_with capacity most next t) s
+    has_room_at s v at room phase = elim (e.pins == 0) as (λ b. (e.pins == 0) ≡ b → HasRoomAt E (cache_with capacity most next t) s) [
+      | true ↦ λ b. inr (record { stamp = e.stamp; key = e.key; charge = e.charge; value = v }, ap (idle_at (cache_of t)) (sym (stamp_is s at)) ∙ idle_here v phase (eqb-true e.pins 0 b))
+      | false ↦ λ b. let some : e.pins ≢ 0 = λ none. true≢false (sym (eq-eqb e.pins 0 none) ∙ b) in inl (held_entry e, v, record { at = ap (get t.held) (sym (stamp_is s at)) ∙ here.held some; phase = phase }, room)
+    ] refl
+
+    pub repin_overflows : (s : ℕ) (v : V) → get t.stamps p ≡ Some s → 0 < most → e.pins ≡ most → e.phase ≡ ready v → Overflows E (cache_with capacity most next t) (ask.repin s)
+    repin_overflows s v at high full phase = let some : e.pins ≢ 0 = λ none. omega (arith, none, high, full) in (held_entry e, v, record { at = ap (get t.held) (sym (stamp_is s at)) ∙ here.held some; phase = phase }, full)
 
   module _ (capacity most next : ℕ) where
     pub holds : (s : ℕ) (q : Phase V) → get t.stamps p ≡ Some s → e.pins ≢ 0 → e.phase ≡ q → Holds (cache_with capacity most next t) s (held_entry e) q

@@ -3,12 +3,12 @@ use Rattle.std.proofs.Common.{◌≡◌, ◌≢◌, ℕ, ◌+◌, ◌-◌, ◌<�
 use Rattle.std.specs.Prelude.{IsSome, is_some}
 use Rattle.std.specs.List.{filter_map, cons_option}
 use Rattle.std.specs.Ordering.{nat_cmp}
-use Rattle.std.specs.Cmp.{nat_cmp_total}
+use Rattle.std.specs.Cmp.{IsEquivalence, nat_cmp_total}
 use Rattle.std.specs.FinMap.{FinMap, get, insert, remove, get-insert, same_map, nat_cmp-IsAntisymmetric}
 use Rattle.std.proofs.lemmas.Bool.{true≢false, eqb-true, eq-eqb}
 use Rattle.std.proofs.lemmas.Option.{same_Some}
 use Rattle.concurrent_lru.specs.Cache.{Phase, making, ready, Idle, Held, IsFront, Settles, idle_at}
-use Rattle.concurrent_lru.specs.Steps.{ChangesPhase, held_in_phase, held_detached, Ends, Detaches, IsAbsent, Makes, Joins, Revives, Hits, Leaves, Removes, Rests, Drops, held_by_one, without, with_capacity}
+use Rattle.concurrent_lru.specs.Steps.{ChangesPhase, held_in_phase, held_detached, Departs, Ends, PinsAgain, Repins, Detaches, IsAbsent, Makes, Joins, Revives, Hits, Leaves, Removes, Rests, Drops, held_by_one, without, with_capacity}
 use Rattle.concurrent_lru.specs.NodeTable.{Entry}
 use Rattle.concurrent_lru.specs.Representation.{held_entry, as_idle}
 use Rattle.concurrent_lru.specs.Entries.{Entries, cache_with, cache_of, charges_of, new_held, GetsAt, ContainsHeldAt, Rewrites, RevivesAt, RestsAt, pins_at, held_with_pins}
@@ -111,6 +111,29 @@ module _ {K V : Type 0} (E : K → K → Bool) (capacity most next : ℕ) where
           inl (joins_as_it_is u k (ready v) (found some) equal some room phase (subst (λ n. Rewrites (held_with_pins (n + 1)) t p u) pinned (held (λ none. some (sym pinned ∙ none)))))
     ] refl
 
+    -- repin
+    pins_again : (u : Entries K V) (s : ℕ) (v : V) → get t.stamps p ≡ Some s → e.pins ≢ 0 → e.pins < most → e.phase ≡ ready v → Rewrites (held_with_pins (e.pins + 1)) t p u → PinsAgain E (cache_with capacity most next t) s v [] (cache_with capacity most next u)
+    pins_again u s v at some room phase w =
+        let stamp : e.stamp ≡ s = stamp_is here s at in
+        record {
+          entry = held_entry e;
+          holds = record { at = ap (get t.held) (sym stamp) ∙ here.held some; phase = phase };
+          room = room;
+          changed = ap (cache_with capacity most next) (rewritten here some w) ∙ (λ j. record (cache_with capacity most next t) { held = insert t.held (stamp j) (held_with_pins (e.pins + 1) (held_entry e)) });
+          none = refl;
+        }
+
+    pub repins : IsEquivalence E → (u : Entries K V) (s : ℕ) (v : V) → get t.stamps p ≡ Some s → e.pins < most → e.phase ≡ ready v → pins_at t p ≡ e.pins → (pins_at t p ≡ 0 → RevivesAt t p u) → (pins_at t p ≢ 0 → Rewrites (held_with_pins (pins_at t p + 1)) t p u)
+        → Repins E (cache_with capacity most next t) s v [] (cache_with capacity most next u)
+    repins laws u s v at room phase pinned revived held = elim (e.pins == 0) as (λ b. (e.pins == 0) ≡ b → Repins E (cache_with capacity most next t) s v [] (cache_with capacity most next u)) [
+      | true ↦ λ b.
+          let none = eqb-true e.pins 0 b in
+          inr (e.key, subst (λ q. Revives E (cache_with capacity most next t) e.key q v [] (cache_with capacity most next u)) (stamp_is here s at) (revives u e.key v (laws.refl e.key) none phase (revived (pinned ∙ none))))
+      | false ↦ λ b.
+          let some : e.pins ≢ 0 = λ none. true≢false (sym (eq-eqb e.pins 0 none) ∙ b) in
+          inl (pins_again u s v at some room phase (subst (λ n. Rewrites (held_with_pins (n + 1)) t p u) pinned (held (λ none. some (sym pinned ∙ none)))))
+    ] refl
+
     -- poll and ready
     pub changes_phase : (u : Entries K V) (s : ℕ) (a q : Phase V) → get t.stamps p ≡ Some s → e.pins ≢ 0 → e.phase ≡ a → Rewrites (held_in_phase q) t p u → ChangesPhase E (cache_with capacity most next t) s a q [] (cache_with capacity most next u)
     changes_phase u s a q at some phase w =
@@ -161,10 +184,10 @@ module _ {K V : Type 0} (E : K → K → Bool) (capacity most next : ℕ) where
           };
         }
 
-    -- release of the last pin of a detached one: the node d was taken away
-    pub ends : (u : Entries K V) (s : ℕ) (v : V) (d : Entry K V) (out : List (Idle K V)) → get t.stamps p ≡ Some s → e.phase ≡ ready v → e.detached ≡ true → e.pins ≡ 1 → get t.stamps p ≡ Some d.stamp → get t.held d.stamp ≡ Some (held_entry d) → u.idle ≡ t.idle → u.held ≡ remove t.held d.stamp → out ≡ filter_map as_idle (d ∷ [])
-        → Ends E (cache_with capacity most next t) s out (cache_with capacity most next u)
-    ends u s v d out at phase lost last taken entry idle held one =
+    -- the last pin of an entry that leaves: the node d was taken away
+    pub departs : (u : Entries K V) (s : ℕ) (v : V) (d : Entry K V) (out : List (Idle K V)) → get t.stamps p ≡ Some s → e.phase ≡ ready v → e.pins ≡ 1 → get t.stamps p ≡ Some d.stamp → get t.held d.stamp ≡ Some (held_entry d) → u.idle ≡ t.idle → u.held ≡ remove t.held d.stamp → out ≡ filter_map as_idle (d ∷ [])
+        → Departs E (cache_with capacity most next t) s out (cache_with capacity most next u)
+    departs u s v d out at phase last taken entry idle held one =
         let stamp : d.stamp ≡ s = same_Some _ _ (sym taken ∙ at) in
         let is : held_entry d ≡ held_entry e = same_Some _ _ (sym entry ∙ ap (get t.held) (sym (stamp_is here d.stamp taken)) ∙ here.held (λ none. omega (arith, none, last))) in
         let is_ready : d.phase ≡ ready v = ap (λ h. h.phase) is ∙ phase in
@@ -172,11 +195,18 @@ module _ {K V : Type 0} (E : K → K → Bool) (capacity most next : ℕ) where
           entry = held_entry d;
           value = v;
           holds = record { at = ap (get t.held) (sym stamp) ∙ entry; phase = is_ready };
-          lost = ap (λ h. h.detached) is ∙ lost;
           last = ap (λ h. h.pins) is ∙ last;
           changed = λ j. record { capacity = capacity; most_pins = most; next = next; idle = idle j; held = (held ∙ ap (remove t.held) stamp) j };
           one = one ∙ ap (λ o. cons_option o []) (as_idle-ready d v is_ready) ∙ (λ j. record { stamp = stamp j; key = d.key; charge = d.charge; value = v } ∷ []);
         }
+
+    -- release of the last pin of a detached one
+    pub ends : (u : Entries K V) (s : ℕ) (v : V) (d : Entry K V) (out : List (Idle K V)) → get t.stamps p ≡ Some s → e.phase ≡ ready v → e.detached ≡ true → e.pins ≡ 1 → get t.stamps p ≡ Some d.stamp → get t.held d.stamp ≡ Some (held_entry d) → u.idle ≡ t.idle → u.held ≡ remove t.held d.stamp → out ≡ filter_map as_idle (d ∷ [])
+        → Ends E (cache_with capacity most next t) s out (cache_with capacity most next u)
+    ends u s v d out at phase lost last taken entry idle held one =
+        let r = departs u s v d out at phase last taken entry idle held one in
+        let is : r.entry ≡ held_entry e = same_Some _ _ (sym r.holds.at ∙ ap (get t.held) (sym (stamp_is here s at)) ∙ here.held (λ none. omega (arith, none, last))) in
+        record { entry = r.entry; value = r.value; holds = r.holds; lost = ap (λ h. h.detached) is ∙ lost; last = r.last; changed = r.changed; one = r.one }
 
     -- invalidate on a held key
     pub detaches : (u : Entries K V) (k : K) → e.detached ≡ false → E e.key k ≡ true → e.pins ≢ 0 → Rewrites held_detached t p u → Detaches E (cache_with capacity most next t) k [] (cache_with capacity most next u)

@@ -12,7 +12,7 @@ use Rattle.core.specs.declared.alloc.Allocator.{Ghosts}
 use Rattle.std_alloc.proofs.SendSync.{FreesAnywhere, quiet}
 use Rattle.concurrent_lru.specs.Cells.{Cell}
 use Rattle.concurrent_lru.specs.CellOwnership.{cells_own, cells_lent}
-use Rattle.concurrent_lru.specs.contracts.list.memory.Memory as M-type
+use Rattle.concurrent_lru.specs.contracts.node_table.memory.Memory as M-type
 
 module _ (T A : RattleType) (g : Ghosts A.Denot) where
   lies : IsSend T → (p : Ptr) (x : T.Denot) → Keyless (lies_at T full_share p x)

@@ -22,8 +22,8 @@ use Rattle.std_alloc.proofs.BoxSteps.Form.{Bx, R, P}
 use Rattle.std_alloc.proofs.RcSteps.{word}
 use Rattle.concurrent_lru.specs.Cells.{Cell, cell_at, put_at}
 use Rattle.concurrent_lru.specs.CellOwnership.{cell_owns, cells_own, cell_lent, cells_lent}
-use Rattle.concurrent_lru.specs.contracts.list.memory.Memory as M-type
-use Rattle.concurrent_lru.specs.contracts.list.memory.At as A-type
+use Rattle.concurrent_lru.specs.contracts.node_table.memory.Memory as M-type
+use Rattle.concurrent_lru.specs.contracts.node_table.memory.At as A-type
 
 module _ (E : Bx) where
   abbrev pub Mr : RattleType

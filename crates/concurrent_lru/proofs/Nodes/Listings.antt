@@ -11,10 +11,10 @@ use Rattle.concurrent_lru.specs.Probing.OpenTable.{mark_of}
 use Rattle.concurrent_lru.specs.Relinks.{NodeCell, NodeCells, place_of}
 use Rattle.concurrent_lru.specs.SlotPointers.{IsTied, cells_of, place_in, KeepsOthers}
 use Rattle.concurrent_lru.specs.SlotTable.{entry_in}
-use Rattle.concurrent_lru.specs.declared.list.Node.{Node}
-use Rattle.concurrent_lru.specs.declared.list.memory.At.{At}
-use Rattle.concurrent_lru.specs.declared.list.probes.Slot.{Slot}
-use Rattle.concurrent_lru.specs.declared.list.slots.Slots.{Slots}
+use Rattle.concurrent_lru.specs.declared.node_table.Node.{Node}
+use Rattle.concurrent_lru.specs.declared.node_table.memory.At.{At}
+use Rattle.concurrent_lru.specs.declared.node_table.probes.Slot.{Slot}
+use Rattle.concurrent_lru.specs.declared.node_table.slots.Slots.{Slots}
 use Rattle.concurrent_lru.proofs.Probing.Contents.Slots.{holds_within, holds_one}
 
 module _ {K V : Type 0} where

@@ -5,8 +5,8 @@ use Rattle.concurrent_lru.specs.Cells.{cell, cell_at, put_at, slot_at, write_to,
 use Rattle.concurrent_lru.specs.NodeTable.{Entry, entry_of}
 use Rattle.concurrent_lru.specs.Relinks.{NodeCell, NodeCells, before_link, after_link, before_in, after_in, before_at, after_at, IsRelinked, Relinks, Unlinks, IsRevalued, Revalues}
 use Rattle.concurrent_lru.specs.SlotWrites.{OnlyWrites, OnlyLooksAndWrites}
-use Rattle.concurrent_lru.specs.declared.list.Node.{Node}
-use Rattle.concurrent_lru.specs.declared.list.slots.Slots.{Slots}
+use Rattle.concurrent_lru.specs.declared.node_table.Node.{Node}
+use Rattle.concurrent_lru.specs.declared.node_table.slots.Slots.{Slots}
 use Rattle.concurrent_lru.proofs.Memory.CellSlots.{slot_of_held, value_at_slot, put_same, put_other, write_is_put}
 
 -- ---- one write after another

@@ -6,9 +6,9 @@ use Rattle.slab.specs.Slab.{get, Updates}
 use Rattle.concurrent_lru.specs.Cells.{Cell, cell_at, put_at, ptr_in, slot_at, AtFirst, AreApart}
 use Rattle.concurrent_lru.specs.Relinks.{NodeCell, place_of}
 use Rattle.concurrent_lru.specs.SlotPointers.{IsTied, ptr_of, place_in}
-use Rattle.concurrent_lru.specs.declared.list.memory.At.{At}
-use Rattle.concurrent_lru.specs.declared.list.Node.{Node}
-use Rattle.concurrent_lru.specs.declared.list.slots.Slots.{Slots}
+use Rattle.concurrent_lru.specs.declared.node_table.memory.At.{At}
+use Rattle.concurrent_lru.specs.declared.node_table.Node.{Node}
+use Rattle.concurrent_lru.specs.declared.node_table.slots.Slots.{Slots}
 use Rattle.concurrent_lru.proofs.Memory.CellSlots.{put_same, put_other, first_of_apart, slot_of_held, value_at_slot}
 
 module _ {T A : Type 0} where

@@ -5,8 +5,8 @@ use Rattle.std.proofs.lemmas.Bool.{cases_eq, eq-eqb, ne_eqb, true≢false}
 use Rattle.std.proofs.lemmas.Map.Steps.{length-le_from_distinct_below}
 use denote.RawPtr.{Ptr}
 use Rattle.slab.specs.Slab.{get}
-use Rattle.concurrent_lru.specs.declared.list.links.Order.{Order}
-use Rattle.concurrent_lru.specs.declared.list.slots.Slots.{Slots}
+use Rattle.concurrent_lru.specs.declared.node_table.links.Order.{Order}
+use Rattle.concurrent_lru.specs.declared.node_table.slots.Slots.{Slots}
 use Rattle.concurrent_lru.specs.Cells.{cell_at, ptr_in, slot_at, AtSlot}
 use Rattle.concurrent_lru.specs.SlotPointers.{IsTied, ptr_of, place_in, cells_of, LeadsTo}
 use Rattle.concurrent_lru.specs.Order.{Link, link, last_or, Absent, Distinct, Linked, IsOrder, order}

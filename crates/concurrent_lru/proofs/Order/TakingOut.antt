@@ -2,7 +2,7 @@
 use Rattle.std.proofs.Common.{◌≡◌, ◌≢◌, ◌⊎◌, ℕ, List, [], ◌∷◌, ◌++◌, cond, Option, Some, None, refl, sym, ap, ◌∙◌, subst, inl, inr, eqb, filter, not, IsSome}
 use Rattle.std.proofs.lemmas.Bool.{cases_eq, eq-eqb, ne_eqb}
 use denote.RawPtr.{Ptr}
-use Rattle.concurrent_lru.specs.declared.list.links.Order.{Order}
+use Rattle.concurrent_lru.specs.declared.node_table.links.Order.{Order}
 use Rattle.concurrent_lru.specs.Cells.{cell_at}
 use Rattle.concurrent_lru.specs.Order.{Link, link, first_or, last_or, Absent, Distinct, IsOrder}
 use Rattle.concurrent_lru.specs.Relinks.{NodeCell, NodeCells, Relinks, Unlinks, LeftJoined, RightJoined, slot_in, before_at, after_at}

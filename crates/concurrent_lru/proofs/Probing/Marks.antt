@@ -5,7 +5,7 @@ use Rattle.std.proofs.lemmas.Nat.Bits.{bit_at_or, bit_at-pow_same, bit_at-zero}
 use Rattle.std.proofs.lemmas.List.{length-map, map-set, get_or-map}
 use Rattle.concurrent_lru.specs.Probing.Cycle.{next_of}
 use Rattle.concurrent_lru.specs.Probing.Probes.{marks_of, mark_at, IsFilledAt, HasEmpty, run_at, end_at, walk_at}
-use Rattle.concurrent_lru.specs.declared.list.probes.Slot.{Slot}
+use Rattle.concurrent_lru.specs.declared.node_table.probes.Slot.{Slot}
 use Rattle.concurrent_lru.proofs.Probing.Circle.{next_within}
 use Rattle.concurrent_lru.proofs.Probing.Runs.{run_on, end_on, walk_past}
 

@@ -3,10 +3,10 @@ use Rattle.std.proofs.Common.{◌≡◌, ℕ, ◌+◌, ◌<◌, ◌≤◌, Bool,
 use Rattle.std.proofs.lemmas.List.{length-append}
 use Rattle.std.proofs.lemmas.List.Sums.{sum_by_push}
 use Rattle.concurrent_lru.specs.Cache.{Cache}
-use Rattle.concurrent_lru.specs.Counted.{Counted, StepWrites, StepsWriteAtMost, WritesAtMostOneMore, most_writes}
+use Rattle.concurrent_lru.specs.Counted.{Counted, StepWritesBy, StepsWriteAtMost, WritesAtMostOneMore, most_writes}
 use Rattle.concurrent_lru.specs.Request.{Request}
 use Rattle.concurrent_lru.specs.Reply as say
-use Rattle.concurrent_lru.specs.Results.{outcome_of, IsAnswerTo, AreAnswersTo}
+use Rattle.concurrent_lru.specs.Results.{outcome_of_by, IsAnswerToBy, AreAnswersToBy}
 use Rattle.concurrent_lru.specs.Runs.{Outcome, accepted, refused, Stands, Run}
 use Rattle.concurrent_lru.specs.declared.step.Answer.{Answer}
 use Rattle.concurrent_lru.specs.declared.step.Answer.TheVariants as answer
@@ -45,33 +45,36 @@ module _ {K V : Type 0} where
   outcome_writes old new (accepted say.missed evicted) h = let step : new.work ≤ old.work + 1 + length evicted = h in omega (arith, step)
   outcome_writes old new (accepted (say.sum n) evicted) h = let step : new.work ≤ old.work + 1 + length evicted = h in omega (arith, step)
   outcome_writes old new (accepted (say.inserted s) evicted) h = let step : new.work ≤ old.work + 1 + length evicted = h in omega (arith, step)
+  outcome_writes old new (accepted (say.pinned v) evicted) h = let step : new.work ≤ old.work + 1 + length evicted = h in omega (arith, step)
   outcome_writes old new (refused e) h = let step : new.work ≡ old.work = h in omega (arith, step)
 
-  step_writes : (old new : Counted K V) (a : Answer K V) → StepWrites old a new → new.work ≤ old.work + most_writes (outcome_of a)
+module _ {K V M S : Type 0} (seen : S → V) where
+  step_writes : (old new : Counted K V) (a : Answer K V M S) → StepWritesBy seen old a new → new.work ≤ old.work + most_writes (outcome_of_by seen a)
   step_writes old new (answer.Read None) h = let step : new.work ≤ old.work + 1 = h in omega (arith, step)
   step_writes old new (answer.Read (Some r)) h = let step : new.work ≤ old.work + 2 = h in omega (arith, step)
-  step_writes old new (answer.Begun b out) h = outcome_writes old new (outcome_of (answer.Begun b out)) h
-  step_writes old new (answer.Polled b) h = outcome_writes old new (outcome_of (answer.Polled b)) h
-  step_writes old new answer.Done h = outcome_writes old new (outcome_of answer.Done) h
-  step_writes old new (answer.Back a) h = outcome_writes old new (outcome_of (answer.Back a)) h
-  step_writes old new (answer.Failed f) h = outcome_writes old new (outcome_of (answer.Failed f)) h
-  step_writes old new (answer.Got found) h = outcome_writes old new (outcome_of (answer.Got found)) h
-  step_writes old new (answer.Released out) h = outcome_writes old new (outcome_of (answer.Released out)) h
-  step_writes old new (answer.Gone out) h = outcome_writes old new (outcome_of (answer.Gone out)) h
-  step_writes old new (answer.Inserted i) h = outcome_writes old new (outcome_of (answer.Inserted i)) h
-  step_writes old new (answer.NotInserted e a) h = outcome_writes old new (outcome_of (answer.NotInserted e a)) h
-  step_writes old new (answer.Total n) h = outcome_writes old new (outcome_of (answer.Total n)) h
-  step_writes old new (answer.Refused e) h = outcome_writes old new (outcome_of (answer.Refused e)) h
+  step_writes old new (answer.Begun b out) h = outcome_writes old new (outcome_of_by seen {M = M} (answer.Begun b out)) h
+  step_writes old new (answer.Polled b) h = outcome_writes old new (outcome_of_by seen {M = M} (answer.Polled b)) h
+  step_writes old new answer.Done h = outcome_writes old new (outcome_of_by seen {M = M} answer.Done) h
+  step_writes old new (answer.Back a) h = outcome_writes old new (outcome_of_by seen {M = M} (answer.Back a)) h
+  step_writes old new (answer.Failed f) h = outcome_writes old new (outcome_of_by seen {M = M} (answer.Failed f)) h
+  step_writes old new (answer.Got found) h = outcome_writes old new (outcome_of_by seen {M = M} (answer.Got found)) h
+  step_writes old new (answer.Released out) h = outcome_writes old new (outcome_of_by seen {M = M} (answer.Released out)) h
+  step_writes old new (answer.Repinned a) h = outcome_writes old new (outcome_of_by seen {M = M} (answer.Repinned a)) h
+  step_writes old new (answer.Gone out) h = outcome_writes old new (outcome_of_by seen {M = M} (answer.Gone out)) h
+  step_writes old new (answer.Inserted i) h = outcome_writes old new (outcome_of_by seen {M = M} (answer.Inserted i)) h
+  step_writes old new (answer.NotInserted e a) h = outcome_writes old new (outcome_of_by seen {M = M} (answer.NotInserted e a)) h
+  step_writes old new (answer.Total n) h = outcome_writes old new (outcome_of_by seen {M = M} (answer.Total n)) h
+  step_writes old new (answer.Refused e) h = outcome_writes old new (outcome_of_by seen {M = M} (answer.Refused e)) h
 
   -- what a run writes at most goes on by what its next step does
-  pub StepsWriteAtMost-push : (old mid new : Counted K V) (os : List (Outcome K V)) (a : Answer K V) → StepsWriteAtMost old os mid → StepWrites mid a new → StepsWriteAtMost old (os ++ outcome_of a ∷ []) new
+  pub StepsWriteAtMost-push : (old mid new : Counted K V) (os : List (Outcome K V)) (a : Answer K V M S) → StepsWriteAtMost old os mid → StepWritesBy seen mid a new → StepsWriteAtMost old (os ++ outcome_of_by seen a ∷ []) new
   StepsWriteAtMost-push old mid new os a so_far more =
       let before : mid.work ≤ old.work + sum_by most_writes os = so_far in
-      let step : new.work ≤ mid.work + most_writes (outcome_of a) = step_writes mid new a more in
-      let sum : sum_by most_writes (os ++ outcome_of a ∷ []) ≡ sum_by most_writes os + most_writes (outcome_of a) = sum_by_push most_writes os (outcome_of a) in
+      let step : new.work ≤ mid.work + most_writes (outcome_of_by seen a) = step_writes mid new a more in
+      let sum : sum_by most_writes (os ++ outcome_of_by seen a ∷ []) ≡ sum_by most_writes os + most_writes (outcome_of_by seen a) = sum_by_push most_writes os (outcome_of_by seen a) in
       omega (arith, before, step, sum)
 
-  pub AreAnswersTo-push : (ss : List (RustStep K V)) (others : List (Answer K V)) (s : RustStep K V) (a : Answer K V) → AreAnswersTo ss others → IsAnswerTo s a → AreAnswersTo (ss ++ s ∷ []) (others ++ a ∷ [])
+  pub AreAnswersTo-push : (ss : List (RustStep K S)) (others : List (Answer K V M S)) (s : RustStep K S) (a : Answer K V M S) → AreAnswersToBy seen ss others → IsAnswerToBy seen s a → AreAnswersToBy seen (ss ++ s ∷ []) (others ++ a ∷ [])
   AreAnswersTo-push [] [] s a h k = (k, tt)
   AreAnswersTo-push (t ∷ ss) (b ∷ others) s a h k = (h.0, AreAnswersTo-push ss others s a h.1 k)
   AreAnswersTo-push [] (b ∷ others) s a h k = absurd h

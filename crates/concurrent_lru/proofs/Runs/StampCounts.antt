@@ -8,7 +8,7 @@ use Rattle.std.proofs.lemmas.Bool.{eqb-true, eq-eqb, ne_eqb, cases_lt}
 use Rattle.std.proofs.lemmas.Option.{none-some, same_Some}
 use Rattle.std.proofs.lemmas.List.Sums.{sum_by-append, sum_by-cons}
 use Rattle.concurrent_lru.specs.Cache.{Cache, Idle, Held, making, untaken, ready, Settles, held_at}
-use Rattle.concurrent_lru.specs.Steps.{Step, Makes, Removes, Rests, Stays, Drops, Hits, Releases, Invalidates, Stores, Renews, without, held_in_phase, one_more_pin, one_pin_less, held_by_one, idle_again, Ends, held_detached}
+use Rattle.concurrent_lru.specs.Steps.{Step, Makes, Removes, Rests, Stays, Drops, Hits, Releases, ReleasesAndEvicts, Repins, Invalidates, Stores, Renews, without, held_in_phase, one_more_pin, one_pin_less, held_by_one, idle_again, Departs, held_detached}
 use Rattle.concurrent_lru.specs.Request as ask
 use Rattle.concurrent_lru.specs.Request.{Request}
 use Rattle.concurrent_lru.specs.Reply as say
@@ -17,6 +17,7 @@ use Rattle.concurrent_lru.specs.Runs.{Outcome, accepted, refused, Run}
 use Rattle.concurrent_lru.specs.StampCounts.{one_if, one_if_some, stamp_count_in_list, stamp_count_in_cache, stamp_count_in_outcome, stamp_count}
 use Rattle.concurrent_lru.proofs.Entries.NodesOfSetAndAdd.{inserted_at, inserted_other}
 use Rattle.concurrent_lru.proofs.Lists.Removals.{removed_other}
+use Rattle.concurrent_lru.proofs.Steps.LawfulAfterLeaving.{ends_departs}
 
 module _ {K V : Type 0} where
   -- each stamp stands once at most, and those from the next on nowhere
@@ -209,8 +210,8 @@ module _ {K V : Type 0} (E : K → K → Bool) where
         omega (arith, z, i, h, c),
   )
 
-  ends_moves : (old new : Cache K V) (s : ℕ) (out : List (Idle K V)) → Ends E old s out new → (new.next ≡ old.next) × ((q : ℕ) → stamp_count_in_list q out + stamp_count_in_cache new q ≡ stamp_count_in_cache old q)
-  ends_moves old new s out r =
+  departs_moves : (old new : Cache K V) (s : ℕ) (out : List (Idle K V)) → Departs E old s out new → (new.next ≡ old.next) × ((q : ℕ) → stamp_count_in_list q out + stamp_count_in_cache new q ≡ stamp_count_in_cache old q)
+  departs_moves old new s out r =
       let x : Idle K V = idle_again s r.entry r.value in (
         ap (λ c. c.next) r.changed,
         λ q.
@@ -257,7 +258,15 @@ module _ {K V : Type 0} (E : K → K → Bool) where
   releases_moves : (old new : Cache K V) (s : ℕ) (out : List (Idle K V)) → Releases E old s out new → (new.next ≡ old.next) × ((q : ℕ) → stamp_count_in_list q out + stamp_count_in_cache new q ≡ stamp_count_in_cache old q)
   releases_moves old new s out (inl l) = same_stamp_count old new s l.1.entry (held_in_phase (ready l.0) (one_pin_less l.1.entry)) out l.1.holds.at l.1.changed l.1.none
   releases_moves old new s out (inr (inl r)) = rests_moves old new s out r
-  releases_moves old new s out (inr (inr r)) = ends_moves old new s out r
+  releases_moves old new s out (inr (inr r)) = departs_moves old new s out (ends_departs r)
+
+  releases_and_evicts_moves : (old new : Cache K V) (s : ℕ) (out : List (Idle K V)) → ReleasesAndEvicts E old s out new → (new.next ≡ old.next) × ((q : ℕ) → stamp_count_in_list q out + stamp_count_in_cache new q ≡ stamp_count_in_cache old q)
+  releases_and_evicts_moves old new s out (inl l) = releases_moves old new s out (inl l)
+  releases_and_evicts_moves old new s out (inr r) = departs_moves old new s out r
+
+  repins_moves : (old new : Cache K V) (s : ℕ) (v : V) (out : List (Idle K V)) → IsStamped old → Repins E old s v out new → (new.next ≡ old.next) × ((q : ℕ) → stamp_count_in_list q out + stamp_count_in_cache new q ≡ stamp_count_in_cache old q)
+  repins_moves old new s v out i (inl j) = same_stamp_count old new s j.entry (one_more_pin j.entry) out j.holds.at j.changed j.none
+  repins_moves old new s v out i (inr r) = hits_moves old new r.0 s v out i (inr r.1)
 
   pub invalidates_moves : (old new : Cache K V) (k : K) (out : List (Idle K V)) → IsStamped old → Invalidates E old k out new → (new.next ≡ old.next) × ((q : ℕ) → stamp_count_in_list q out + stamp_count_in_cache new q ≡ stamp_count_in_cache old q)
   invalidates_moves old new k out i (inl d) = drops_moves old new k out i d
@@ -361,6 +370,8 @@ module _ {K V : Type 0} (E : K → K → Bool) where
   step_moves old new (ask.get k) (say.hit s v) out i h = inl (hits_moves old new k s v out i h)
   step_moves old new (ask.get k) say.missed out i h = inl (stays_moves old new out h.1)
   step_moves old new (ask.release s) say.done out i h = inl (releases_moves old new s out h)
+  step_moves old new (ask.release_and_evict s) say.done out i h = inl (releases_and_evicts_moves old new s out h)
+  step_moves old new (ask.repin s) (say.pinned v) out i h = inl (repins_moves old new s v out i h)
   step_moves old new (ask.advice_evict k) say.done out i h = elim h [
     | inl d ↦ inl (drops_moves old new k out i d)
     | inr s ↦ inl (stays_moves old new out s.1)

@@ -5,7 +5,7 @@ use Rattle.std.specs.Prelude.{nat_lt}
 use Rattle.std.proofs.lemmas.Bool.{eqb-true, cases_lt, lt-ltb, le-ltb}
 use Rattle.std.proofs.lemmas.List.Sums.{sum_by-cons}
 use Rattle.concurrent_lru.specs.Cache.{Cache, Idle, Held, IsLawful, held_at, idle_at}
-use Rattle.concurrent_lru.specs.Steps.{Hits, Releases, Renews, Step}
+use Rattle.concurrent_lru.specs.Steps.{Hits, Releases, ReleasesAndEvicts, Repins, Renews, Step}
 use Rattle.concurrent_lru.specs.Request as ask
 use Rattle.concurrent_lru.specs.Request.{Request}
 use Rattle.concurrent_lru.specs.Reply as say
@@ -86,6 +86,14 @@ module _ {K V : Type 0} (E : K → K → Bool) where
   releases_next old new s out (inr (inl r)) = ap (λ z. z.next) r.settles.others
   releases_next old new s out (inr (inr r)) = ap (λ z. z.next) r.changed
 
+  releases_and_evicts_next : (old new : Cache K V) (s : ℕ) (out : List (Idle K V)) → ReleasesAndEvicts E old s out new → new.next ≡ old.next
+  releases_and_evicts_next old new s out (inl l) = ap (λ z. z.next) l.1.changed
+  releases_and_evicts_next old new s out (inr r) = ap (λ z. z.next) r.changed
+
+  repins_next : (old new : Cache K V) (s : ℕ) (v : V) (out : List (Idle K V)) → Repins E old s v out new → new.next ≡ old.next
+  repins_next old new s v out (inl j) = ap (λ z. z.next) j.changed
+  repins_next old new s v out (inr r) = ap (λ z. z.next) r.1.changed
+
   hits_next : (old new : Cache K V) (k : K) (s : ℕ) (v : V) (out : List (Idle K V)) → Hits E old k s v out new → new.next ≡ old.next
   hits_next old new k s v out (inl j) = ap (λ z. z.next) j.changed
   hits_next old new k s v out (inr r) = ap (λ z. z.next) r.changed
@@ -115,6 +123,8 @@ module _ {K V : Type 0} (E : K → K → Bool) where
   step_given old mid (ask.get k) (say.hit s v) out es n i h t = subst (Told es n) (hits_next old mid k s v out h) t
   step_given old mid (ask.get k) say.missed out es n i h t = subst (Told es n) (ap (λ z. z.next) h.1.same) t
   step_given old mid (ask.release s) say.done out es n i h t = subst (Told es n) (releases_next old mid s out h) t
+  step_given old mid (ask.release_and_evict s) say.done out es n i h t = subst (Told es n) (releases_and_evicts_next old mid s out h) t
+  step_given old mid (ask.repin s) (say.pinned v) out es n i h t = subst (Told es n) (repins_next old mid s v out h) t
   step_given old mid (ask.advice_evict k) say.done out es n i h t = elim h [
     | inl d ↦ subst (Told es n) (ap (λ z. z.next) d.changed) t
     | inr s ↦ subst (Told es n) (ap (λ z. z.next) s.1.same) t

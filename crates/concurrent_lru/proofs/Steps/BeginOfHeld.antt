@@ -5,7 +5,7 @@ use Rattle.std.specs.Option.{option_and_then}
 use Rattle.std.proofs.lemmas.Bool.{eq-eqb, true≢false}
 use Rattle.std.proofs.lemmas.List.Elements.{filter_map-append}
 use Rattle.concurrent_lru.specs.Cache.{Cache, Idle, Phase, ready, IsLawful}
-use Rattle.concurrent_lru.specs.Steps.{Holds, Joins, Revives, without}
+use Rattle.concurrent_lru.specs.Steps.{Joins, PinsAgain, without}
 use Rattle.concurrent_lru.specs.Steps as steps
 use Rattle.concurrent_lru.specs.NodeTable.{Entry, NodeTable}
 use Rattle.concurrent_lru.specs.Representation.{IsRepresentation, idle_in, idle_at_place, as_idle}
@@ -53,3 +53,8 @@ module _ {K V : Type 0} where
   joins_lawful E old new k s a b out l j =
       let room = j.room in
       subst (IsLawful E) (sym j.changed) (lawful-with_held E old s j.entry (steps.held_in_phase b (steps.one_more_pin j.entry)) l j.holds.at refl refl (λ h. h) (omega arith) (omega (arith, room)))
+
+  pub pins_again_lawful : (E : K → K → Bool) (old new : Cache K V) (s : ℕ) (v : V) (out : List (Idle K V)) → IsLawful E old → PinsAgain E old s v out new → IsLawful E new
+  pins_again_lawful E old new s v out l j =
+      let room = j.room in
+      subst (IsLawful E) (sym j.changed) (lawful-with_held E old s j.entry (steps.one_more_pin j.entry) l j.holds.at refl refl (λ h. h) (omega arith) (omega (arith, room)))

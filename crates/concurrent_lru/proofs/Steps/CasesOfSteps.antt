@@ -4,7 +4,7 @@ use Rattle.concurrent_lru.specs.Cache.{Cache, Idle, Phase, making, untaken, read
 use Rattle.concurrent_lru.specs.Request as ask
 use Rattle.concurrent_lru.specs.Reply as say
 use Rattle.concurrent_lru.specs.Reply.{Reply}
-use Rattle.concurrent_lru.specs.Steps.{with_capacity, Makes, Joins, Revives, Hits, ChangesPhase, Leaves, Removes, Stays, Drops, IsUnready, IsNotIdle, Releases, Invalidates, Stores, Renews, Step}
+use Rattle.concurrent_lru.specs.Steps.{with_capacity, Makes, Joins, Revives, Hits, ChangesPhase, Leaves, Removes, Stays, Drops, IsUnready, IsNotIdle, Releases, ReleasesAndEvicts, Repins, Invalidates, Stores, Renews, Step}
 
 module _ {K V : Type 0} where
   -- what begin and poll reply at a held entry in a phase
@@ -57,6 +57,16 @@ module _ {K V : Type 0} (E : K → K → Bool) (old : Cache K V) where
       → (p ≡ say.done) × Releases E old s out new
   release_cases s say.done out new h = (refl, h)
   release_cases s p out new h = absurd h
+
+  pub release_and_evict_cases : (s : ℕ) (p : Reply K V) (out : List (Idle K V)) (new : Cache K V) → Step E old (ask.release_and_evict s) p out new
+      → (p ≡ say.done) × ReleasesAndEvicts E old s out new
+  release_and_evict_cases s say.done out new h = (refl, h)
+  release_and_evict_cases s p out new h = absurd h
+
+  pub repin_cases : (s : ℕ) (p : Reply K V) (out : List (Idle K V)) (new : Cache K V) → Step E old (ask.repin s) p out new
+      → (v : V) × (p ≡ say.pinned v) × Repins E old s v out new
+  repin_cases s (say.pinned v) out new h = (v, refl, h)
+  repin_cases s p out new h = absurd h
 
   pub advice_evict_cases : (k : K) (p : Reply K V) (out : List (Idle K V)) (new : Cache K V) → Step E old (ask.advice_evict k) p out new
       → (p ≡ say.done) × (Drops E old k out new ⊎ (IsNotIdle E old k × Stays E old out new))

@@ -2,8 +2,6 @@
 -- request.
 use Rattle.std.proofs.Common.{◌≡◌, ℕ, ◌+◌, ◌<◌, ◌≤◌, inl, inr, Bool, List, [], ◌∷◌, ◌++◌, length, Some, Result, Ok, Err, refl, sym, ap, ◌∙◌, subst, arith}
 use Rattle.std.specs.Cmp.{IsEquivalence}
-use Rattle.std.specs.declared.sync.Arc.{Arc}
-use Rattle.std.specs.declared.alloc.Global.{Global}
 use Rattle.std.proofs.lemmas.Bool.{cases_lt, true≢false}
 use Rattle.std.proofs.lemmas.Option.{none-some}
 use Rattle.concurrent_lru.specs.Cache.{Cache, Idle, Held, ready, sum_of, held_at, idle_at, IsLawful, Settles}
@@ -11,7 +9,7 @@ use Rattle.concurrent_lru.specs.Counted.{Counted, WritesAtMostOneMore}
 use Rattle.concurrent_lru.specs.Inserts.{Inserts, Replaces, RefusesToReplace}
 use Rattle.concurrent_lru.specs.Request as ask
 use Rattle.concurrent_lru.specs.Reply as say
-use Rattle.concurrent_lru.specs.Results.{outcome_of_insert, outcome_of_read, outcome_of_release}
+use Rattle.concurrent_lru.specs.Results.{outcome_of_insert_by, outcome_of_read_by, outcome_of_release}
 use Rattle.concurrent_lru.specs.Runs.{Refuses, Stands}
 use Rattle.concurrent_lru.specs.StepLaws.{InsertIsThree, InsertIsRefused, ReadIsTwo}
 use Rattle.concurrent_lru.specs.Steps.{held_by_one, held_in_phase, one_more_pin, Hits, Holds, IsAbsent, Makes, Releases, Step, Stores}
@@ -61,9 +59,9 @@ module _ {K V : Type 0} (E : K → K → Bool) (laws : IsEquivalence E) (old : C
       ]
   refuses new charge v Stale r = absurd r.refuses.0
 
-  pub insert_stands : (new : Cache K V) (charge : ℕ) (v : V) (r : Result (Inserted K V) (Refusal × Arc V Global)) → Inserts E old k charge v r new → Stands E old (ask.insert k charge v) (outcome_of_insert r) new
-  insert_stands new charge v (Ok i) h = stores new charge v i.stamp i.replaced i.evicted h
-  insert_stands new charge v (Err e) h = (refuses new charge v e.0 h, h.same)
+  pub insert_stands : {M S : Type 0} (seen : S → V) (new : Cache K V) (charge : ℕ) (v : V) (r : Result (Inserted K V M S) (Refusal × S)) → Inserts E old k charge v r new → Stands E old (ask.insert k charge v) (outcome_of_insert_by seen r) new
+  insert_stands seen new charge v (Ok i) h = stores new charge v i.stamp i.replaced i.evicted h
+  insert_stands seen new charge v (Err e) h = (refuses new charge v e.0 h, h.same)
 
   -- and the other way round
   refuses_begin : (charge : ℕ) (v : V) (e : Refusal) → Refuses E old (ask.insert k charge v) e → RefusesToReplace E old k charge e old
@@ -148,9 +146,9 @@ module _ {K V : Type 0} (E : K → K → Bool) (old mid : Cache K V) (l : IsLawf
   released new (Err Memory) hit h = absurd h.0
 
   -- a get that hits, and the release of its stamp
-  pub read_stands : (new : Cache K V) (a : Arc V Global) (r : Result (List (Idle K V)) Refusal) → a.value ≡ v → Hits E old k s v [] mid → Stands E mid (ask.release s) (outcome_of_release r) new
-      → Stands E old (ask.read k) (outcome_of_read {K = K} (Ok (Some (s, a)))) new
-  read_stands new a r is hit h = subst (λ w. Step E old (ask.read k) (say.read s w) [] new) (sym is) (record { mid = mid; found = hit; released = released new r hit h; none = refl })
+  pub read_stands : {S : Type 0} (seen : S → V) (new : Cache K V) (a : S) (r : Result (List (Idle K V)) Refusal) → seen a ≡ v → Hits E old k s v [] mid → Stands E mid (ask.release s) (outcome_of_release r) new
+      → Stands E old (ask.read k) (outcome_of_read_by {K = K} seen (Ok (Some (s, a)))) new
+  read_stands seen new a r is hit h = subst (λ w. Step E old (ask.read k) (say.read s w) [] new) (sym is) (record { mid = mid; found = hit; released = released new r hit h; none = refl })
 
   -- and what both write
   pub read_writes : (a b c : Counted K V) (r : Result (List (Idle K V)) Refusal) → b.work ≤ a.work + 1 → WritesAtMostOneMore b (outcome_of_release r) c → Hits E old k s v [] mid → Stands E mid (ask.release s) (outcome_of_release r) c.cache → c.work ≤ a.work + 2

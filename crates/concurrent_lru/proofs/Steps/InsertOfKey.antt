@@ -3,8 +3,6 @@ use Rattle.std.proofs.Common.{◌≡◌, ℕ, ◌+◌, ◌≤◌, ◌^◌, ◌�
 use Rattle.std.specs.Cmp.{IsEquivalence}
 use Rattle.std.specs.Result.{IsErrAnd}
 use Rattle.std.specs.FinMap as finmap
-use Rattle.std.specs.declared.sync.Arc.{Arc}
-use Rattle.std.specs.declared.alloc.Global.{Global}
 use Rattle.std.proofs.lemmas.Bool.{true≢false, eqb-true, eq-eqb}
 use Rattle.std.proofs.lemmas.Option.{none-some, same_Some}
 use Rattle.concurrent_lru.specs.Cache.{Cache, Idle, Held, making, sum_of, held_at, IsFound, IsLawful}
@@ -12,7 +10,7 @@ use Rattle.concurrent_lru.specs.Steps.{IsAbsent, HasNumbers, Holds, Makes, Drops
 use Rattle.concurrent_lru.specs.Request as ask
 use Rattle.concurrent_lru.specs.Reply as say
 use Rattle.concurrent_lru.specs.Runs.{accepted, refused, Stands}
-use Rattle.concurrent_lru.specs.Results.{outcome_of_ready, reply_of_begun}
+use Rattle.concurrent_lru.specs.Results.{outcome_of_ready_by, reply_of_begun_by}
 use Rattle.concurrent_lru.specs.Inserts.{Remakes, Replaces, RefusesToReplace}
 use Rattle.concurrent_lru.specs.declared.refusal.Refusal.{Refusal}
 use Rattle.concurrent_lru.specs.declared.refusal.Refusal.TheVariants.{Memory, Overflow}
@@ -74,12 +72,12 @@ module _ {K V : Type 0} (E : K → K → Bool) {c : Cache K V} {k : K} (charge :
   lacks_memory numbers = (inl (absent, numbers), refl)
 
   -- it makes a new entry
-  pub begun_new : (b : Begun V) (out : List (Idle K V)) (new : Cache K V) → Step E c (ask.begin k charge) (reply_of_begun b) out new → Makes E c k charge c.next out new
-  begun_new (rust.Make s) out new (inl m) = subst (λ t. Makes E c k charge t out new) m.stamp m
-  begun_new (rust.Make s) out new (inr j) = absurd (true≢false (sym j.same_key ∙ absent s j.entry.key j.entry.charge (inr (j.entry, j.holds.at, refl, refl, j.found))))
-  begun_new (rust.Wait s) out new j = absurd (true≢false (sym j.same_key ∙ absent s j.entry.key j.entry.charge (inr (j.entry, j.holds.at, refl, refl, j.found))))
-  begun_new (rust.Hit s a) out new (inl j) = absurd (true≢false (sym j.same_key ∙ absent s j.entry.key j.entry.charge (inr (j.entry, j.holds.at, refl, refl, j.found))))
-  begun_new (rust.Hit s a) out new (inr r) = absurd (true≢false (sym r.same_key ∙ absent s r.entry.key r.entry.charge (inl (r.entry, r.at, refl, refl))))
+  pub begun_new : {S : Type 0} (seen : S → V) (b : Begun S) (out : List (Idle K V)) (new : Cache K V) → Step E c (ask.begin k charge) (reply_of_begun_by seen b) out new → Makes E c k charge c.next out new
+  begun_new seen (rust.Make s) out new (inl m) = subst (λ t. Makes E c k charge t out new) m.stamp m
+  begun_new seen (rust.Make s) out new (inr j) = absurd (true≢false (sym j.same_key ∙ absent s j.entry.key j.entry.charge (inr (j.entry, j.holds.at, refl, refl, j.found))))
+  begun_new seen (rust.Wait s) out new j = absurd (true≢false (sym j.same_key ∙ absent s j.entry.key j.entry.charge (inr (j.entry, j.holds.at, refl, refl, j.found))))
+  begun_new seen (rust.Hit s a) out new (inl j) = absurd (true≢false (sym j.same_key ∙ absent s j.entry.key j.entry.charge (inr (j.entry, j.holds.at, refl, refl, j.found))))
+  begun_new seen (rust.Hit s a) out new (inr r) = absurd (true≢false (sym r.same_key ∙ absent s r.entry.key r.entry.charge (inl (r.entry, r.at, refl, refl))))
 
 module _ {K V : Type 0} (E : K → K → Bool) {old c : Cache K V} {k : K} {charge s : ℕ} {out : List (Idle K V)} (m : Makes E old k charge s out c) where
   abbrev pub made : Held K V
@@ -98,14 +96,14 @@ module _ {K V : Type 0} (E : K → K → Bool) where
       (own, record { at = ap (λ x. finmap.get x.held s) j.changed ∙ inserted_at old.held s own; phase = refl })
 
   -- so its value is stored
-  pub stored_at_once : (c : Cache K V) (s : ℕ) (v : V) (r : Result (Unit {0}) (Arc V Global)) (new : Cache K V) → (e : Held K V) × Holds c s e making → Stands E c (ask.ready s v) (outcome_of_ready r) new → Stands E c (ask.ready s v) (accepted say.done []) new
-  stored_at_once c s v (Ok x) new holds h = h
-  stored_at_once c s v (Err a) new holds h = absurd (h.0 holds.0 holds.1)
+  pub stored_at_once : {S : Type 0} (seen : S → V) (c : Cache K V) (s : ℕ) (v : V) (r : Result (Unit {0}) S) (new : Cache K V) → (e : Held K V) × Holds c s e making → Stands E c (ask.ready s v) (outcome_of_ready_by seen r) new → Stands E c (ask.ready s v) (accepted say.done []) new
+  stored_at_once seen c s v (Ok x) new holds h = h
+  stored_at_once seen c s v (Err a) new holds h = absurd (h.0 holds.0 holds.1)
 
   -- An insert without its value, and then the value.
-  pub replaces : (old c new : Cache K V) (k : K) (charge : ℕ) (v : V) (m : Spot × List (Idle K V) × List (Idle K V)) (r : Result (Unit {0}) (Arc V Global)) → Remakes E old k charge (Ok m) c → Stands E c (ask.ready m.0.stamp v) (outcome_of_ready r) new
+  pub replaces : {S : Type 0} (seen : S → V) (old c new : Cache K V) (k : K) (charge : ℕ) (v : V) (m : Spot × List (Idle K V) × List (Idle K V)) (r : Result (Unit {0}) S) → Remakes E old k charge (Ok m) c → Stands E c (ask.ready m.0.stamp v) (outcome_of_ready_by seen r) new
       → Replaces E old k charge v m.0.stamp m.1 m.2 new
-  replaces old c new k charge v m r w stores = (w.0, w.1, (c, w.2, (new, stored_at_once c m.0.stamp v r new (begun_holds w.0 c k charge m.0.stamp m.2 w.2) stores, refl)))
+  replaces seen old c new k charge v m r w stores = (w.0, w.1, (c, w.2, (new, stored_at_once seen c m.0.stamp v r new (begun_holds w.0 c k charge m.0.stamp m.2 w.2) stores, refl)))
 
   -- what an answer with `?` tells of a refusal
   pub remade_refused : (old new : Cache K V) (k : K) (charge : ℕ) (r : Result (Spot × List (Idle K V) × List (Idle K V)) Refusal) (x : Refusal) → IsErrAnd r (λ e. e ≡ x) → RefusesToReplace E old k charge x new → Remakes E old k charge r new

@@ -6,7 +6,7 @@ use Rattle.std.specs.Cmp.{nat_cmp_total}
 use Rattle.std.specs.FinMap.{FinMap, get, remove, get-remove}
 use Rattle.std.proofs.lemmas.Option.{none-some}
 use Rattle.concurrent_lru.specs.Cache.{Cache, Idle, IsLawful, sum_of, charges}
-use Rattle.concurrent_lru.specs.Steps.{without_held, without, Removes, Drops, Ends}
+use Rattle.concurrent_lru.specs.Steps.{without_held, without, Removes, Drops, Ends, Departs}
 use Rattle.concurrent_lru.specs.Representation.{held_charges}
 use Rattle.concurrent_lru.proofs.Lists.DistinctEntries.{same}
 use Rattle.concurrent_lru.proofs.Lists.Removals.{removed_some}
@@ -42,11 +42,18 @@ module _ {K V : Type 0} where
       let fits : sum_of old < 2 ^ 64 = l.sum_fits in
       subst (IsLawful E) (sym r.changed) (lawful_from (orderly-removed E old s (orderly l)) (omega (arith, a, fits)) (λ more. l.settled (omega (arith, a, more))))
 
-  pub ends_lawful : (E : K → K → Bool) (old new : Cache K V) (s : ℕ) (out : List (Idle K V)) → IsLawful E old → Ends E old s out new → IsLawful E new
-  ends_lawful E old new s out l r =
+  -- the end of a detached entry is one of a held entry
+  pub ends_departs : {E : K → K → Bool} {old new : Cache K V} {s : ℕ} {out : List (Idle K V)} → Ends E old s out new → Departs E old s out new
+  ends_departs r = record { entry = r.entry; value = r.value; holds = r.holds; last = r.last; changed = r.changed; one = r.one }
+
+  pub departs_lawful : (E : K → K → Bool) (old new : Cache K V) (s : ℕ) (out : List (Idle K V)) → IsLawful E old → Departs E old s out new → IsLawful E new
+  departs_lawful E old new s out l r =
       let a : held_charges (remove old.held s) + r.entry.charge ≡ held_charges old.held = sum-remove (λ x. x.charge) old.held s r.entry r.holds.at in
       let fits : sum_of old < 2 ^ 64 = l.sum_fits in
       subst (IsLawful E) (sym r.changed) (lawful_from (orderly-removed E old s (orderly l)) (omega (arith, a, fits)) (λ more. l.settled (omega (arith, a, more))))
+
+  pub ends_lawful : (E : K → K → Bool) (old new : Cache K V) (s : ℕ) (out : List (Idle K V)) → IsLawful E old → Ends E old s out new → IsLawful E new
+  ends_lawful E old new s out l r = departs_lawful E old new s out l (ends_departs r)
 
   -- an idle entry is dropped
   abbrev pub dropped : Cache K V → ℕ → Cache K V

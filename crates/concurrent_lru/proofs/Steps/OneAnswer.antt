@@ -10,13 +10,13 @@ use Rattle.concurrent_lru.specs.Request as ask
 use Rattle.concurrent_lru.specs.Request.{Request}
 use Rattle.concurrent_lru.specs.Reply as say
 use Rattle.concurrent_lru.specs.Reply.{Reply}
-use Rattle.concurrent_lru.specs.Steps.{with_held, with_capacity, without_held, without, held_in_phase, held_detached, one_more_pin, one_pin_less, held_by_one, idle_again, Makes, Joins, Revives, Hits, ChangesPhase, Leaves, Removes, Rests, Stays, Drops, Ends, Detaches, IsAbsent, IsUnready, IsNotIdle, Releases, Invalidates, Step}
+use Rattle.concurrent_lru.specs.Steps.{with_held, with_capacity, without_held, without, held_in_phase, held_detached, one_more_pin, one_pin_less, held_by_one, idle_again, Makes, Joins, Revives, Hits, ChangesPhase, Leaves, Removes, Rests, Stays, Drops, Ends, Departs, PinsAgain, Detaches, IsAbsent, IsUnready, IsNotIdle, Releases, ReleasesAndEvicts, Repins, Invalidates, Step}
 use Rattle.concurrent_lru.specs.StepLaws.{AreAlike, IsAlike, LeadsToOne, OneAnswer}
 use Rattle.concurrent_lru.proofs.Steps.BeginOfAbsent.{with_new_entry, sum-made}
 use Rattle.concurrent_lru.proofs.Lists.DistinctEntries.{same}
 use Rattle.concurrent_lru.proofs.Steps.OneFront.{one_front}
 use Rattle.concurrent_lru.proofs.Steps.LawfulAfterChange.{orderly}
-use Rattle.concurrent_lru.proofs.Steps.CasesOfSteps.{reply_in_phase, phase_after_asking, begin_cases, poll_cases, ready_cases, fail_cases, get_cases, release_cases, advice_evict_cases, invalidate_cases, insert_cases, read_cases, prune_cases, set_capacity_cases, total_cases}
+use Rattle.concurrent_lru.proofs.Steps.CasesOfSteps.{reply_in_phase, phase_after_asking, begin_cases, poll_cases, ready_cases, fail_cases, get_cases, release_cases, release_and_evict_cases, repin_cases, advice_evict_cases, invalidate_cases, insert_cases, read_cases, prune_cases, set_capacity_cases, total_cases}
 use Rattle.concurrent_lru.proofs.Steps.StaysLawful.{invalidates_lawful}
 
 pub same_value : {V : Type 0} (v w : V) → ready v ≡ ready w → v ≡ w
@@ -74,6 +74,17 @@ module _ {K V : Type 0} (E : K → K → Bool) where
       let v : a.value ≡ b.value = same_value a.value b.value (sym a.holds.phase ∙ ap (λ x. x.phase) e ∙ b.holds.phase) in
       (a.one ∙ (λ i. idle_again s (e i) (v i) ∷ []) ∙ sym b.one, a.changed ∙ sym b.changed)
 
+  departs_once : (old : Cache K V) (s : ℕ) (out away : List (Idle K V)) (new other : Cache K V) → Departs E old s out new → Departs E old s away other → (out ≡ away) × (new ≡ other)
+  departs_once old s out away new other a b =
+      let e = same_entry old s a.entry b.entry a.holds.at b.holds.at in
+      let v : a.value ≡ b.value = same_value a.value b.value (sym a.holds.phase ∙ ap (λ x. x.phase) e ∙ b.holds.phase) in
+      (a.one ∙ (λ i. idle_again s (e i) (v i) ∷ []) ∙ sym b.one, a.changed ∙ sym b.changed)
+
+  pins_again_once : (old : Cache K V) (s : ℕ) (v w : V) (out away : List (Idle K V)) (new other : Cache K V) → PinsAgain E old s v out new → PinsAgain E old s w away other → (v ≡ w) × (out ≡ away) × (new ≡ other)
+  pins_again_once old s v w out away new other a b =
+      let e = same_entry old s a.entry b.entry a.holds.at b.holds.at in
+      (same_value v w (sym a.holds.phase ∙ ap (λ x. x.phase) e ∙ b.holds.phase), a.none ∙ sym b.none, a.changed ∙ ap (λ x. with_held old s (one_more_pin x)) e ∙ sym b.changed)
+
   -- a held entry is detached, or it is not
   pub not_found_and_lost : (old : Cache K V) (s : ℕ) (e f : Held K V) → held_at old s ≡ Some e → held_at old s ≡ Some f → e.detached ≡ false → f.detached ≡ true → ⊥
   not_found_and_lost old s e f a b found lost = true≢false (sym lost ∙ sym (ap (λ x. x.detached) (same_entry old s e f a b)) ∙ found)
@@ -96,6 +107,12 @@ module _ {K V : Type 0} (E : K → K → Bool) where
   releases_once old s out away new other (inr (inl a)) (inr (inr b)) = absurd (not_found_and_lost old s a.entry b.entry a.holds.at b.holds.at a.found b.lost)
   releases_once old s out away new other (inr (inr a)) (inr (inl b)) = absurd (not_found_and_lost old s b.entry a.entry b.holds.at a.holds.at b.found a.lost)
   releases_once old s out away new other (inr (inr a)) (inr (inr b)) = ends_once old s out away new other a b
+
+  releases_and_evicts_once : (old : Cache K V) (s : ℕ) (out away : List (Idle K V)) (new other : Cache K V) → ReleasesAndEvicts E old s out new → ReleasesAndEvicts E old s away other → (out ≡ away) × (new ≡ other)
+  releases_and_evicts_once old s out away new other (inl a) (inl b) = releases_once old s out away new other (inl a) (inl b)
+  releases_and_evicts_once old s out away new other (inl a) (inr b) = absurd (not_last old s a.1.entry b.entry a.1.holds.at b.holds.at a.1.others b.last)
+  releases_and_evicts_once old s out away new other (inr a) (inl b) = absurd (not_last old s b.1.entry a.entry b.1.holds.at a.holds.at b.1.others a.last)
+  releases_and_evicts_once old s out away new other (inr a) (inr b) = departs_once old s out away new other a b
 
   alike_option : IsEquivalence E → (o : Option (Held K V)) → AreAlike E o o
   alike_option laws None = tt
@@ -192,6 +209,18 @@ module _ {K V : Type 0} (E : K → K → Bool) where
     revives_once k s t v w out away new other a b =
         let x = idle_once k s t a.entry b.entry a.at b.at a.same_key b.same_key in
         (x.0, sym a.value ∙ ap (λ y. y.value) x.1 ∙ b.value, a.none ∙ sym b.none, a.changed ∙ (λ i. record (with_held old (x.0 i) (held_by_one (x.1 i))) { idle = without (x.0 i) old.idle }) ∙ sym b.changed)
+
+    -- an entry that is revived under its stamp, whatever key finds it
+    revived_once : (k m : K) (s : ℕ) (v w : V) (out away : List (Idle K V)) (new other : Cache K V) → Revives E old k s v out new → Revives E old m s w away other → (v ≡ w) × (out ≡ away) × (new ≡ other)
+    revived_once k m s v w out away new other a b =
+        let x : a.entry ≡ b.entry = same_Some _ _ (sym a.at ∙ b.at) in
+        (sym a.value ∙ ap (λ y. y.value) x ∙ b.value, a.none ∙ sym b.none, a.changed ∙ ap (λ y. record (with_held old s (held_by_one y)) { idle = without s old.idle }) x ∙ sym b.changed)
+
+    repins_once : (s : ℕ) (v w : V) (out away : List (Idle K V)) (new other : Cache K V) → Repins E old s v out new → Repins E old s w away other → (v ≡ w) × (out ≡ away) × (new ≡ other)
+    repins_once s v w out away new other (inl a) (inl b) = pins_again_once old s v w out away new other a b
+    repins_once s v w out away new other (inl a) (inr b) = absurd (none-some a.entry (sym (l.held_apart s b.1.entry b.1.at) ∙ a.holds.at))
+    repins_once s v w out away new other (inr a) (inl b) = absurd (none-some b.entry (sym (l.held_apart s a.1.entry a.1.at) ∙ b.holds.at))
+    repins_once s v w out away new other (inr a) (inr b) = revived_once a.0 b.0 s v w out away new other a.1 b.1
 
     hits_once : (k : K) (s t : ℕ) (v w : V) (out away : List (Idle K V)) (new other : Cache K V) → Hits E old k s v out new → Hits E old k t w away other → (s ≡ t) × (v ≡ w) × (out ≡ away) × (new ≡ other)
     hits_once k s t v w out away new other (inl a) (inl b) = let j = joins_once k s t (ready v) (ready w) out away new other a b in (j.0, same_value v w j.1, j.2, j.3)
@@ -336,6 +365,16 @@ module _ {K V : Type 0} (E : K → K → Bool) where
         let b = release_cases E old s q away other h in
         let j = releases_once old s out away new other a.1 b.1 in
         (a.0 ∙ sym b.0, j.0, j.1)
+    one_step new other (ask.release_and_evict s) p q out away g h =
+        let a = release_and_evict_cases E old s p out new g in
+        let b = release_and_evict_cases E old s q away other h in
+        let j = releases_and_evicts_once old s out away new other a.1 b.1 in
+        (a.0 ∙ sym b.0, j.0, j.1)
+    one_step new other (ask.repin s) p q out away g h =
+        let a = repin_cases E old s p out new g in
+        let b = repin_cases E old s q away other h in
+        let j = repins_once laws old l s a.0 b.0 out away new other a.2 b.2 in
+        (a.1 ∙ ap say.pinned j.0 ∙ sym b.1, j.1, j.2)
     one_step new other (ask.advice_evict k) p q out away g h =
         let a = advice_evict_cases E old k p out new g in
         let b = advice_evict_cases E old k q away other h in

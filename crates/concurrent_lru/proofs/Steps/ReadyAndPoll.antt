@@ -2,8 +2,8 @@
 use Rattle.std.proofs.Common.{◌≡◌, ℕ, Bool, List, Some, refl, sym, ap, ◌∙◌, subst}
 use Rattle.std.specs.Ordering.{nat_cmp}
 use Rattle.std.specs.FinMap.{FinMap, get, insert}
-use Rattle.concurrent_lru.specs.declared.list.Phase.{Phase as RustPhase}
-use Rattle.concurrent_lru.specs.declared.list.Phase.TheVariants as rust
+use Rattle.concurrent_lru.specs.declared.node_table.Phase.{Phase as RustPhase}
+use Rattle.concurrent_lru.specs.declared.node_table.Phase.TheVariants as rust
 use Rattle.concurrent_lru.specs.Cache.{Cache, Idle, Phase, making, IsLawful}
 use Rattle.concurrent_lru.specs.Steps.{Holds, ChangesPhase}
 use Rattle.concurrent_lru.specs.Steps as steps

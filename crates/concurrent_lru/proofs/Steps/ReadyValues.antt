@@ -14,10 +14,9 @@ use Rattle.concurrent_lru.specs.Cache.{Cache, empty_cache, Idle, Held, Phase, ma
 use Rattle.concurrent_lru.specs.Ready.{IsSoundUnderLock, EqualKeysFit, HasReady, ReadyFor, FewerReady, OneMoreReady, HasEqualKeyAt, ValuesFit}
 use Rattle.concurrent_lru.specs.Reply as say
 use Rattle.concurrent_lru.specs.Request as ask
-use Rattle.concurrent_lru.specs.Request.{Request}
-use Rattle.concurrent_lru.specs.Results.{outcome_of_begin, outcome_of_poll, outcome_of_ready, outcome_of_get, begun_without_hint, found_without_hint}
+use Rattle.concurrent_lru.specs.Results.{outcome_of_begin, outcome_of_poll, outcome_of_ready, outcome_of_get, outcome_of_release, outcome_of_repin, begun_without_hint, found_without_hint}
 use Rattle.concurrent_lru.specs.Runs.{Outcome, accepted, refused, Refuses, Stands}
-use Rattle.concurrent_lru.specs.Steps.{with_capacity, with_held, without_held, without, one_more_pin, one_pin_less, held_in_phase, held_by_one, idle_again, Makes, Joins, Revives, Hits, ChangesPhase, Leaves, Removes, Rests, Drops, held_detached}
+use Rattle.concurrent_lru.specs.Steps.{with_capacity, with_held, without_held, without, one_more_pin, one_pin_less, held_in_phase, held_by_one, idle_again, Makes, Joins, Revives, Hits, ChangesPhase, Leaves, Removes, Rests, Drops, ReleasesAndEvicts, Repins, held_detached}
 use Rattle.concurrent_lru.specs.ThreadedCalls.{IfHit}
 use Rattle.concurrent_lru.specs.declared.refusal.Refusal.{Refusal}
 use Rattle.concurrent_lru.specs.declared.refusal.Refusal.TheVariants.{Stale}
@@ -174,6 +173,7 @@ module _ {K V : Type 0} (E : K → K → Bool) where
   begin_fewer old new k charge (accepted (say.sum n) out) h = absurd h
   begin_fewer old new k charge (accepted (say.inserted n) out) h = absurd h
   begin_fewer old new k charge (accepted (say.read n w) out) h = absurd h
+  begin_fewer old new k charge (accepted (say.pinned w) out) h = absurd h
   begin_fewer old new k charge (refused e) h = fewer_same old new h.1
 
   poll_fewer : (old new : Cache K V) (s : ℕ) (o : Outcome K V) → Stands E old (ask.poll s) o new → FewerReady old new
@@ -187,6 +187,7 @@ module _ {K V : Type 0} (E : K → K → Bool) where
   poll_fewer old new s (accepted (say.sum n) out) h = absurd h
   poll_fewer old new s (accepted (say.inserted n) out) h = absurd h
   poll_fewer old new s (accepted (say.read n w) out) h = absurd h
+  poll_fewer old new s (accepted (say.pinned w) out) h = absurd h
   poll_fewer old new s (refused e) h = fewer_same old new h.1
 
   fail_fewer : (old new : Cache K V) (s : ℕ) (o : Outcome K V) → Stands E old (ask.fail s) o new → FewerReady old new
@@ -200,6 +201,7 @@ module _ {K V : Type 0} (E : K → K → Bool) where
   fail_fewer old new s (accepted (say.sum n) out) h = absurd h
   fail_fewer old new s (accepted (say.inserted n) out) h = absurd h
   fail_fewer old new s (accepted (say.read n w) out) h = absurd h
+  fail_fewer old new s (accepted (say.pinned w) out) h = absurd h
   fail_fewer old new s (refused e) h = fewer_same old new h.1
 
   get_fewer : (old new : Cache K V) (k : K) (o : Outcome K V) → Stands E old (ask.get k) o new → FewerReady old new
@@ -213,6 +215,7 @@ module _ {K V : Type 0} (E : K → K → Bool) where
   get_fewer old new k (accepted (say.sum n) out) h = absurd h
   get_fewer old new k (accepted (say.inserted n) out) h = absurd h
   get_fewer old new k (accepted (say.read n w) out) h = absurd h
+  get_fewer old new k (accepted (say.pinned w) out) h = absurd h
   get_fewer old new k (refused e) h = fewer_same old new h.1
 
   release_fewer : (old new : Cache K V) (s : ℕ) (o : Outcome K V) → Stands E old (ask.release s) o new → FewerReady old new
@@ -228,7 +231,24 @@ module _ {K V : Type 0} (E : K → K → Bool) where
   release_fewer old new s (accepted (say.sum n) out) h = absurd h
   release_fewer old new s (accepted (say.inserted n) out) h = absurd h
   release_fewer old new s (accepted (say.read n w) out) h = absurd h
+  release_fewer old new s (accepted (say.pinned w) out) h = absurd h
   release_fewer old new s (refused e) h = fewer_same old new h.1
+
+  releases_and_evicts_fewer : (old new : Cache K V) (s : ℕ) (out : List (Idle K V)) → ReleasesAndEvicts E old s out new → FewerReady old new
+  releases_and_evicts_fewer old new s out (inl l) = leaves_fewer old new s (ready l.0) (ready l.0) out (λ v e. e) l.1
+  releases_and_evicts_fewer old new s out (inr r) = subst (FewerReady old) (sym r.changed) (fewer_without old s)
+
+  repins_fewer : (old new : Cache K V) (s : ℕ) (v : V) (out : List (Idle K V)) → Repins E old s v out new → FewerReady old new
+  repins_fewer old new s v out (inl j) = subst (FewerReady old) (sym j.changed) (fewer_written old s j.entry (one_more_pin j.entry) j.holds.at refl (λ w h. h))
+  repins_fewer old new s v out (inr r) = revives_fewer old new r.0 s v out r.1
+
+  repin_fewer : (old new : Cache K V) (s : ℕ) (r : Result (Arc V Global) Refusal) → Stands E old (ask.repin s) (outcome_of_repin r) new → FewerReady old new
+  repin_fewer old new s (Ok a) h = repins_fewer old new s a.value [] h
+  repin_fewer old new s (Err e) h = fewer_same old new h.1
+
+  release_and_evict_fewer : (old new : Cache K V) (s : ℕ) (r : Result (List (Idle K V)) Refusal) → Stands E old (ask.release_and_evict s) (outcome_of_release r) new → FewerReady old new
+  release_and_evict_fewer old new s (Ok out) h = releases_and_evicts_fewer old new s out h
+  release_and_evict_fewer old new s (Err e) h = fewer_same old new h.1
 
   advice_evict_fewer : (old new : Cache K V) (k : K) (out : List (Idle K V)) → Stands E old (ask.advice_evict k) (accepted say.done out) new → FewerReady old new
   advice_evict_fewer old new k out (inl d) = drops_fewer old new k out d
@@ -293,7 +313,7 @@ module _ {K V : Type 0} (E : K → K → Bool) where
       (at.0, at.2, inr (s, t.entry, t.holds.at, sym same, t.holds.phase))
 
   -- a refusal of these requests is not that of a stamp
-  pub begin_never_stale : (old new : Cache K V) (k : K) (charge : ℕ) (r : Result (Begun V × List (Idle K V) × Hint) Refusal) → Stands E old (ask.begin k charge) (outcome_of_begin (begun_without_hint r)) new → IfErr r (λ e. e ≢ Stale)
+  pub begin_never_stale : (old new : Cache K V) (k : K) (charge : ℕ) (r : Result (Begun (Arc V Global) × List (Idle K V) × Hint) Refusal) → Stands E old (ask.begin k charge) (outcome_of_begin (begun_without_hint r)) new → IfErr r (λ e. e ≢ Stale)
   begin_never_stale old new k charge (Ok x) h = tt
   begin_never_stale old new k charge (Err e) h = λ is. subst (λ x. Refuses E old (ask.begin k charge) x) is h.0
 
@@ -319,6 +339,12 @@ module _ {K V : Type 0} (E : K → K → Bool) where
 
     pub release_kept : (old new : Cache K V) (s : ℕ) (o : Outcome K V) → Stands E old (ask.release s) o new → ValuesFit fits old → ValuesFit fits new
     release_kept old new s o h = kept_fewer old new (release_fewer old new s o h)
+
+    pub release_and_evict_kept : (old new : Cache K V) (s : ℕ) (r : Result (List (Idle K V)) Refusal) → Stands E old (ask.release_and_evict s) (outcome_of_release r) new → ValuesFit fits old → ValuesFit fits new
+    release_and_evict_kept old new s r h = kept_fewer old new (release_and_evict_fewer old new s r h)
+
+    pub repin_kept : (old new : Cache K V) (s : ℕ) (r : Result (Arc V Global) Refusal) → Stands E old (ask.repin s) (outcome_of_repin r) new → ValuesFit fits old → ValuesFit fits new
+    repin_kept old new s r h = kept_fewer old new (repin_fewer old new s r h)
 
     pub advice_evict_kept : (old new : Cache K V) (k : K) (out : List (Idle K V)) → Stands E old (ask.advice_evict k) (accepted say.done out) new → ValuesFit fits old → ValuesFit fits new
     advice_evict_kept old new k out h = kept_fewer old new (advice_evict_fewer old new k out h)
@@ -348,6 +374,7 @@ module _ {K V : Type 0} (E : K → K → Bool) where
     ready_kept old new s k v (accepted (say.sum n) out) eq law lawful at fit h kept = absurd h
     ready_kept old new s k v (accepted (say.inserted n) out) eq law lawful at fit h kept = absurd h
     ready_kept old new s k v (accepted (say.read n w) out) eq law lawful at fit h kept = absurd h
+    ready_kept old new s k v (accepted (say.pinned w) out) eq law lawful at fit h kept = absurd h
     ready_kept old new s k v (refused e) eq law lawful at fit h kept = kept_fewer old new (fewer_same old new h.1) kept
 
     -- where it is done only under a stamp whose entry has the key, the values fit whether it is
@@ -358,7 +385,7 @@ module _ {K V : Type 0} (E : K → K → Bool) where
     keyed_kept old new s k v (Err a) eq law lawful fit keyed same stands kept = subst (ValuesFit fits) (sym same) kept
 
     -- and a value that a request answers fits the key asked
-    pub begin_hit : (old new : Cache K V) (k : K) (charge : ℕ) (r : Result (Begun V × List (Idle K V) × Hint) Refusal) → EqualKeysFit E fits → ValuesFit fits old → Stands E old (ask.begin k charge) (outcome_of_begin (begun_without_hint r)) new → IfOk r (λ x. IfHit x.0 (fits k))
+    pub begin_hit : (old new : Cache K V) (k : K) (charge : ℕ) (r : Result (Begun (Arc V Global) × List (Idle K V) × Hint) Refusal) → EqualKeysFit E fits → ValuesFit fits old → Stands E old (ask.begin k charge) (outcome_of_begin (begun_without_hint r)) new → IfOk r (λ x. IfHit x.0 (fits k))
     begin_hit old new k charge (Ok (rust.Make s, out, p)) law kept h = tt
     begin_hit old new k charge (Ok (rust.Wait s, out, p)) law kept h = tt
     begin_hit old new k charge (Ok (rust.Hit s a, out, p)) law kept h = kept_for old k a.value law kept (hits_ready old new k s a.value out h)
@@ -369,7 +396,7 @@ module _ {K V : Type 0} (E : K → K → Bool) where
     get_hit old new k (Ok (Some x)) law kept h = kept_for old k x.1.value law kept (hits_ready old new k x.0 x.1.value [] h)
     get_hit old new k (Err e) law kept h = tt
 
-    pub poll_hit : (old new : Cache K V) (s : ℕ) (k : K) (r : Result (Begun V) Refusal) → EqualKeysFit E fits → IsLawful E old → ValuesFit fits old → HasEqualKeyAt E old s k → Stands E old (ask.poll s) (outcome_of_poll r) new → IfOk r (λ x. IfHit x (fits k))
+    pub poll_hit : (old new : Cache K V) (s : ℕ) (k : K) (r : Result (Begun (Arc V Global)) Refusal) → EqualKeysFit E fits → IsLawful E old → ValuesFit fits old → HasEqualKeyAt E old s k → Stands E old (ask.poll s) (outcome_of_poll r) new → IfOk r (λ x. IfHit x (fits k))
     poll_hit old new s k (Ok (rust.Make t)) law lawful kept at h = tt
     poll_hit old new s k (Ok (rust.Wait t)) law lawful kept at h = tt
     poll_hit old new s k (Ok (rust.Hit t a)) law lawful kept at h = kept_for old k a.value law kept (polled_ready old new s k a.value [] lawful at h.1)

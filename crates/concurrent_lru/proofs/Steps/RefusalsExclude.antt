@@ -6,13 +6,13 @@ use Rattle.concurrent_lru.specs.Cache.{Cache, Idle, Held, IsLawful, ready, held_
 use Rattle.concurrent_lru.specs.Request as ask
 use Rattle.concurrent_lru.specs.Request.{Request}
 use Rattle.concurrent_lru.specs.Reply.{Reply}
-use Rattle.concurrent_lru.specs.Runs.{IsFull, WouldHit, Overflows, IsStale, TakesMemory, Refuses}
+use Rattle.concurrent_lru.specs.Runs.{HasRoomAt, IsFull, WouldHit, Overflows, IsStale, TakesMemory, Refuses}
 use Rattle.concurrent_lru.specs.Steps.{HasNumbers, Hits, IsUnready, Step}
 use Rattle.concurrent_lru.specs.StepLaws.{LeavesNoStep, OneRefusal}
 use Rattle.concurrent_lru.specs.declared.refusal.Refusal.{Refusal}
 use Rattle.concurrent_lru.specs.declared.refusal.Refusal.TheVariants.{Memory, Overflow, Stale}
 use Rattle.concurrent_lru.proofs.Steps.OneAnswer.{not_ready_too, same_entry, held_once, invalidates_once, not_both, not_held, not_idle}
-use Rattle.concurrent_lru.proofs.Steps.CasesOfSteps.{begin_cases, poll_cases, ready_cases, fail_cases, get_cases, release_cases, insert_cases, read_cases}
+use Rattle.concurrent_lru.proofs.Steps.CasesOfSteps.{begin_cases, poll_cases, ready_cases, fail_cases, get_cases, release_cases, release_and_evict_cases, repin_cases, insert_cases, read_cases}
 
 module _ {K V : Type 0} (E : K → K → Bool) where
   no_numbers : (c : Cache K V) (charge : ℕ) → HasNumbers E c charge → (2 ^ 64 ≤ sum_of c + charge) ⊎ (2 ^ 64 ≤ c.next + 1) → ⊥
@@ -25,6 +25,7 @@ module _ {K V : Type 0} (E : K → K → Bool) where
   stale_fits c (ask.get k) h o = h
   stale_fits c (ask.insert k charge v) h o = h
   stale_fits c (ask.read k) h o = h
+  stale_fits c (ask.repin s) h o = h.0 o.0 o.1 o.2
   stale_fits c r h o = o
 
   stale_takes_none : (c : Cache K V) (r : Request K V) → IsStale E c r → TakesMemory E c r → ⊥
@@ -33,6 +34,8 @@ module _ {K V : Type 0} (E : K → K → Bool) where
   stale_takes_none c (ask.insert k charge v) h m = h
   stale_takes_none c (ask.read k) h m = h
   stale_takes_none c (ask.poll s) h m = none-some m.0 (sym h ∙ m.2.at)
+  stale_takes_none c (ask.repin s) h (inl m) = h.0 m.0 m.1 m.2
+  stale_takes_none c (ask.repin s) h (inr m) = none-some m.0 (sym h.1 ∙ m.1)
   stale_takes_none c r h m = m
 
   stale_stops : (c new : Cache K V) (r : Request K V) (p : Reply K V) (out : List (Idle K V)) → IsStale E c r → Step E c r p out new → ⊥
@@ -49,6 +52,16 @@ module _ {K V : Type 0} (E : K → K → Bool) where
       | inr a ↦ h a.entry a.value a.holds
     ]
   ]
+  stale_stops c new (ask.release_and_evict s) p out h g = elim (release_and_evict_cases E c s p out new g).1 [
+    | inl a ↦ h a.1.entry a.0 a.1.holds
+    | inr a ↦ h a.entry a.value a.holds
+  ]
+  stale_stops c new (ask.repin s) p out h g =
+      let a = repin_cases E c s p out new g in
+      elim a.2 [
+        | inl b ↦ h.0 b.entry a.0 b.holds
+        | inr b ↦ none-some b.1.entry (sym h.1 ∙ b.1.at)
+      ]
   stale_stops c new r p out h g = absurd h
 
   module _ (laws : IsEquivalence E) (c : Cache K V) (l : IsLawful E c) where
@@ -72,6 +85,14 @@ module _ {K V : Type 0} (E : K → K → Bool) where
     full_is_ready k h unready =
         let u = unready h.0.stamp h.0.entry.key h.0.entry.charge (inr (h.0.entry, h.0.at, refl, refl, h.0.found)) h.0.same_key in
         not_ready_too u.0.phase h.1 (ap (λ x. x.phase) (same_entry E c h.0.stamp u.0 h.0.entry u.1 h.0.at) ∙ h.2) u.2
+
+    -- an entry that has the greatest number of pins takes no more
+    full_at : (s : ℕ) (e : Held K V) → held_at c s ≡ Some e → e.pins ≡ c.most_pins → HasRoomAt E c s → ⊥
+    full_at s e at full (inl m) =
+        let n : e.pins ≡ m.0.pins = ap (λ x. x.pins) (same_entry E c s e m.0 at m.2.at) in
+        let room : m.0.pins < c.most_pins = m.3 in
+        absurd (omega (arith, n, full, room))
+    full_at s e at full (inr m) = none-some e (sym (l.held_apart s m.0 m.1) ∙ at)
 
     overflow_stops : (new : Cache K V) (r : Request K V) (p : Reply K V) (out : List (Idle K V)) → Overflows E c r → Step E c r p out new → ⊥
     overflow_stops new (ask.begin k charge) p out (inl h) g = elim (begin_cases E c k charge p out new g) [
@@ -99,6 +120,12 @@ module _ {K V : Type 0} (E : K → K → Bool) where
       | inl a ↦ hit_not_full k a.0 a.1 [] a.3.mid a.3.found h.0
       | inr a ↦ full_is_ready k h a.1
     ]
+    overflow_stops new (ask.repin s) p out h g =
+        let a = repin_cases E c s p out new g in
+        elim a.2 [
+          | inl b ↦ full_at s h.0 h.2.at h.3 (inl (b.entry, a.0, b.holds, b.room))
+          | inr b ↦ full_at s h.0 h.2.at h.3 (inr (b.1.entry, b.1.at))
+        ]
     overflow_stops new r p out h g = absurd h
 
     overflow_takes_none : (r : Request K V) → Overflows E c r → TakesMemory E c r → ⊥
@@ -110,6 +137,7 @@ module _ {K V : Type 0} (E : K → K → Bool) where
     overflow_takes_none (ask.get k) h m = would_hit_not_full k m h.0
     overflow_takes_none (ask.insert k charge v) h m = no_numbers h.0 charge (subst (λ d. HasNumbers E d charge) (invalidates_once E laws c l k m.1 h.1 m.0 h.0 m.2 h.2).1 m.3) h.3
     overflow_takes_none (ask.read k) h m = would_hit_not_full k m h.0
+    overflow_takes_none (ask.repin s) h m = full_at s h.0 h.2.at h.3 m
     overflow_takes_none r h m = absurd h
 
     one_of : (r : Request K V) (e f : Refusal) → Refuses E c r e → Refuses E c r f → e ≡ f

@@ -1,12 +1,9 @@
 -- The laws of release, a ready phase, and a write of the pins of a node.
 use Rattle.std.proofs.Common.{◌≡◌, ℕ, ◌<◌, ◌^◌, Bool, List, Some, refl, sym, ap, ◌∙◌, subst, arith}
 use Rattle.std.proofs.lemmas.Bool.{true≢false}
-use Rattle.std.specs.Ordering.{nat_cmp}
-use Rattle.std.specs.FinMap.{FinMap, get, insert, remove}
-use Rattle.std.specs.declared.sync.Arc.{Arc}
-use Rattle.std.specs.declared.alloc.Global.{Global}
-use Rattle.concurrent_lru.specs.declared.list.Phase.{Phase as RustPhase}
-use Rattle.concurrent_lru.specs.declared.list.Phase.TheVariants as rust
+use Rattle.std.specs.FinMap.{get, insert}
+use Rattle.concurrent_lru.specs.declared.node_table.Phase.{Phase as RustPhase}
+use Rattle.concurrent_lru.specs.declared.node_table.Phase.TheVariants as rust
 use Rattle.concurrent_lru.specs.Cache.{Cache, Idle, Phase, ready, IsLawful}
 use Rattle.concurrent_lru.specs.Steps.{Leaves, Rests, Detaches, held_in_phase, held_detached, one_pin_less}
 use Rattle.concurrent_lru.specs.NodeTable.{Entry, NodeTable, phase_of, update_at, entry_with_pins, entry_detached}
@@ -14,10 +11,10 @@ use Rattle.concurrent_lru.proofs.Entries.NodesOfSetAndAdd.{WritesNode}
 use Rattle.concurrent_lru.proofs.Steps.LawfulAfterChange.{orderly, settles_lawful, lawful-with_held}
 use Rattle.concurrent_lru.proofs.Steps.LawfulAfterRest.{rested, orderly-rested, sum-rested}
 
-pub phase_ready : {V : Type 0} (p : RustPhase V) (v : V) → phase_of p ≡ ready v → (a : Arc V Global) × (p ≡ rust.Ready a)
+pub phase_ready : {V : Type 0} (p : RustPhase V) (v : V) → phase_of p ≡ ready v → (w : V) × (p ≡ rust.Ready w)
 phase_ready rust.Making v h = absurd (cc)
 phase_ready rust.Untaken v h = absurd (cc)
-phase_ready (rust.Ready a) v h = (a, refl)
+phase_ready (rust.Ready w) v h = (w, refl)
 
 module _ {K V : Type 0} where
   pub pinned_writes : (old new : NodeTable K V) (p n : ℕ) (e : Entry K V) → get old.nodes p ≡ Some e → new.nodes ≡ update_at (entry_with_pins n) old.nodes p → WritesNode old new p e (entry_with_pins n e)

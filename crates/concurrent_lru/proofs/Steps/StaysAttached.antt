@@ -8,11 +8,11 @@ use Rattle.concurrent_lru.specs.Request as ask
 use Rattle.concurrent_lru.specs.Request.{Request}
 use Rattle.concurrent_lru.specs.Reply.{Reply}
 use Rattle.concurrent_lru.specs.Runs.{Outcome, accepted, refused, Stands}
-use Rattle.concurrent_lru.specs.Steps.{held_in_phase, held_by_one, one_more_pin, one_pin_less, Hits, Releases, Step}
+use Rattle.concurrent_lru.specs.Steps.{held_in_phase, held_by_one, one_more_pin, one_pin_less, Hits, Releases, ReleasesAndEvicts, Repins, Step}
 use Rattle.concurrent_lru.specs.StepLaws.{IsAttached, InvalidatesNothing, StaysAttached, OneEntryOfKey}
 use Rattle.concurrent_lru.proofs.Lists.DistinctEntries.{same}
 use Rattle.concurrent_lru.proofs.Lists.Removals.{removed_some}
-use Rattle.concurrent_lru.proofs.Steps.CasesOfSteps.{phase_after_asking, begin_cases, poll_cases, ready_cases, fail_cases, get_cases, release_cases, advice_evict_cases, read_cases, prune_cases, set_capacity_cases, total_cases}
+use Rattle.concurrent_lru.proofs.Steps.CasesOfSteps.{phase_after_asking, begin_cases, poll_cases, ready_cases, fail_cases, get_cases, release_cases, release_and_evict_cases, repin_cases, advice_evict_cases, read_cases, prune_cases, set_capacity_cases, total_cases}
 
 module _ {K V : Type 0} where
   one_of : (b : Bool) (e f : Held K V) (was : Option (Held K V)) → e.detached ≡ false → ((x : Held K V) → was ≡ Some x → x.detached ≡ false) → cond b (Some e) was ≡ Some f → f.detached ≡ false
@@ -39,6 +39,14 @@ module _ {K V : Type 0} (E : K → K → Bool) (old new : Cache K V) (a : IsAtta
   releases_attached s out (inr (inl c)) = without_one s (ap (λ c. c.held) c.settles.others)
   releases_attached s out (inr (inr c)) = without_one s (ap (λ c. c.held) c.changed)
 
+  releases_and_evicts_attached : (s : ℕ) (out : List (Idle K V)) → ReleasesAndEvicts E old s out new → IsAttached new
+  releases_and_evicts_attached s out (inl b) = releases_attached s out (inl b)
+  releases_and_evicts_attached s out (inr c) = without_one s (ap (λ c. c.held) c.changed)
+
+  repins_attached : (s : ℕ) (v : V) (out : List (Idle K V)) → Repins E old s v out new → IsAttached new
+  repins_attached s v out (inl b) = with_one s (one_more_pin b.entry) (a s b.entry b.holds.at) (ap (λ c. c.held) b.changed)
+  repins_attached s v out (inr b) = hits_attached b.0 s v out (inr b.1)
+
 module _ {K V : Type 0} (E : K → K → Bool) (old new : Cache K V) (a : IsAttached old) where
   step_attached : (r : Request K V) (p : Reply K V) (out : List (Idle K V)) → InvalidatesNothing r → Step E old r p out new → IsAttached new
   step_attached (ask.begin k charge) p out none h = elim (begin_cases E old k charge p out new h) [
@@ -63,6 +71,8 @@ module _ {K V : Type 0} (E : K → K → Bool) (old new : Cache K V) (a : IsAtta
     | inr b ↦ with_same E old new a (ap (λ c. c.held) b.2.same)
   ]
   step_attached (ask.release s) p out none h = releases_attached E old new a s out (release_cases E old s p out new h).1
+  step_attached (ask.release_and_evict s) p out none h = releases_and_evicts_attached E old new a s out (release_and_evict_cases E old s p out new h).1
+  step_attached (ask.repin s) p out none h = let b = repin_cases E old s p out new h in repins_attached E old new a s b.0 out b.2
   step_attached (ask.advice_evict k) p out none h = elim (advice_evict_cases E old k p out new h).1 [
     | inl b ↦ with_same E old new a (ap (λ c. c.held) b.changed)
     | inr b ↦ with_same E old new a (ap (λ c. c.held) b.1.same)

@@ -7,17 +7,17 @@ use Rattle.concurrent_lru.specs.Request.{Request}
 use Rattle.concurrent_lru.specs.Reply.{Reply}
 use Rattle.concurrent_lru.specs.Results.{IsCharged}
 use Rattle.concurrent_lru.specs.Runs.{Outcome, accepted, refused, Stands}
-use Rattle.concurrent_lru.specs.Steps.{Makes, Hits, Releases, Invalidates, Stores, Step}
+use Rattle.concurrent_lru.specs.Steps.{Makes, Hits, Releases, ReleasesAndEvicts, Repins, Invalidates, Stores, Step}
 use Rattle.concurrent_lru.specs.declared.refusal.Refusal.{Refusal}
 use Rattle.concurrent_lru.specs.StepLaws.{capacity_by, KeepsLimits, KeepsLawful, RunsKeepLawful}
 use Rattle.concurrent_lru.proofs.Steps.BeginOfAbsent.{makes_lawful}
-use Rattle.concurrent_lru.proofs.Steps.LawfulAfterLeaving.{removes_lawful, ends_lawful, drops_lawful, prunes_lawful}
-use Rattle.concurrent_lru.proofs.Steps.BeginOfHeld.{joins_lawful}
+use Rattle.concurrent_lru.proofs.Steps.LawfulAfterLeaving.{removes_lawful, ends_lawful, departs_lawful, drops_lawful, prunes_lawful}
+use Rattle.concurrent_lru.proofs.Steps.BeginOfHeld.{joins_lawful, pins_again_lawful}
 use Rattle.concurrent_lru.proofs.Steps.LawfulAfterChange.{sets_lawful}
 use Rattle.concurrent_lru.proofs.Steps.ReadyAndPoll.{changes_phase_lawful}
 use Rattle.concurrent_lru.proofs.Steps.Release.{rests_lawful, leaves_lawful, detaches_lawful}
 use Rattle.concurrent_lru.proofs.Steps.LawfulAfterRevival.{revives_lawful}
-use Rattle.concurrent_lru.proofs.Steps.CasesOfSteps.{phase_after_asking, begin_cases, poll_cases, ready_cases, fail_cases, get_cases, release_cases, advice_evict_cases, invalidate_cases, insert_cases, read_cases, prune_cases, set_capacity_cases, total_cases}
+use Rattle.concurrent_lru.proofs.Steps.CasesOfSteps.{phase_after_asking, begin_cases, poll_cases, ready_cases, fail_cases, get_cases, release_cases, release_and_evict_cases, repin_cases, advice_evict_cases, invalidate_cases, insert_cases, read_cases, prune_cases, set_capacity_cases, total_cases}
 
 module _ {K V : Type 0} where
   -- the capacity is c, and the greatest number of pins is as it was
@@ -43,6 +43,14 @@ module _ {K V : Type 0} (E : K → K → Bool) where
   releases_limits old s out new (inl a) = same_limits old _ new old.capacity (refl, refl) a.1.changed
   releases_limits old s out new (inr (inl a)) = same_limits old _ new old.capacity (refl, refl) a.settles.others
   releases_limits old s out new (inr (inr a)) = same_limits old _ new old.capacity (refl, refl) a.changed
+
+  releases_and_evicts_limits : (old : Cache K V) (s : ℕ) (out : List (Idle K V)) (new : Cache K V) → ReleasesAndEvicts E old s out new → HasLimits old old.capacity new
+  releases_and_evicts_limits old s out new (inl a) = same_limits old _ new old.capacity (refl, refl) a.1.changed
+  releases_and_evicts_limits old s out new (inr a) = same_limits old _ new old.capacity (refl, refl) a.changed
+
+  repins_limits : (old : Cache K V) (s : ℕ) (v : V) (out : List (Idle K V)) (new : Cache K V) → Repins E old s v out new → HasLimits old old.capacity new
+  repins_limits old s v out new (inl a) = same_limits old _ new old.capacity (refl, refl) a.changed
+  repins_limits old s v out new (inr a) = same_limits old _ new old.capacity (refl, refl) a.1.changed
 
   invalidates_limits : (old : Cache K V) (k : K) (out : List (Idle K V)) (new : Cache K V) → Invalidates E old k out new → HasLimits old old.capacity new
   invalidates_limits old k out new (inl a) = same_limits old _ new old.capacity (refl, refl) a.changed
@@ -72,6 +80,8 @@ module _ {K V : Type 0} (E : K → K → Bool) (old : Cache K V) where
     | inr a ↦ same_limits old _ new old.capacity (refl, refl) a.2.same
   ]
   step_limits new (ask.release s) p out h = releases_limits E old s out new (release_cases E old s p out new h).1
+  step_limits new (ask.release_and_evict s) p out h = releases_and_evicts_limits E old s out new (release_and_evict_cases E old s p out new h).1
+  step_limits new (ask.repin s) p out h = let a = repin_cases E old s p out new h in repins_limits E old s a.0 out new a.2
   step_limits new (ask.advice_evict k) p out h = elim (advice_evict_cases E old k p out new h).1 [
     | inl a ↦ same_limits old _ new old.capacity (refl, refl) a.changed
     | inr a ↦ same_limits old _ new old.capacity (refl, refl) a.1.same
@@ -102,6 +112,10 @@ module _ {K V : Type 0} (E : K → K → Bool) where
   releases_lawful old s out new l (inr (inl a)) = rests_lawful E old new s out l a
   releases_lawful old s out new l (inr (inr a)) = ends_lawful E old new s out l a
 
+  pub releases_and_evicts_lawful : (old : Cache K V) (s : ℕ) (out : List (Idle K V)) (new : Cache K V) → IsLawful E old → ReleasesAndEvicts E old s out new → IsLawful E new
+  releases_and_evicts_lawful old s out new l (inl a) = leaves_lawful E old new s (ready a.0) (ready a.0) out l a.1
+  releases_and_evicts_lawful old s out new l (inr a) = departs_lawful E old new s out l a
+
   pub invalidates_lawful : (old : Cache K V) (k : K) (out : List (Idle K V)) (new : Cache K V) → IsLawful E old → Invalidates E old k out new → IsLawful E new
   invalidates_lawful old k out new l (inl a) = drops_lawful E old new k out l a
   invalidates_lawful old k out new l (inr (inl a)) = detaches_lawful E old new k out l a
@@ -119,6 +133,10 @@ module _ {K V : Type 0} (E : K → K → Bool) (laws : IsEquivalence E) (old : C
   pub hits_lawful : (k : K) (s : ℕ) (v : V) (out : List (Idle K V)) (new : Cache K V) → Hits E old k s v out new → IsLawful E new
   hits_lawful k s v out new (inl h) = joins_lawful E old new k s (ready v) (ready v) out l h
   hits_lawful k s v out new (inr h) = revives_lawful E old new k s v out l pins h
+
+  pub repins_lawful : (s : ℕ) (v : V) (out : List (Idle K V)) (new : Cache K V) → Repins E old s v out new → IsLawful E new
+  repins_lawful s v out new (inl h) = pins_again_lawful E old new s v out l h
+  repins_lawful s v out new (inr h) = revives_lawful E old new h.0 s v out l pins h.1
 
   step_lawful : (new : Cache K V) (r : Request K V) (p : Reply K V) (out : List (Idle K V)) → IsCharged r → Step E old r p out new → IsLawful E new
   step_lawful new (ask.begin k charge) p out above h = elim (begin_cases E old k charge p out new h) [
@@ -139,6 +157,8 @@ module _ {K V : Type 0} (E : K → K → Bool) (laws : IsEquivalence E) (old : C
     | inr a ↦ subst (IsLawful E) (sym a.2.same) l
   ]
   step_lawful new (ask.release s) p out above h = releases_lawful E old s out new l (release_cases E old s p out new h).1
+  step_lawful new (ask.release_and_evict s) p out above h = releases_and_evicts_lawful E old s out new l (release_and_evict_cases E old s p out new h).1
+  step_lawful new (ask.repin s) p out above h = let a = repin_cases E old s p out new h in repins_lawful s a.0 out new a.2
   step_lawful new (ask.advice_evict k) p out above h = elim (advice_evict_cases E old k p out new h).1 [
     | inl a ↦ drops_lawful E old new k out l a
     | inr a ↦ subst (IsLawful E) (sym a.1.same) l

@@ -15,23 +15,26 @@ use Rattle.std.specs.contracts.alloc.Global as global
 use Rattle.std.specs.contracts.impls.GlobalAllocator.TheImpl as allocator
 use Rattle.slab.specs.contracts.Slab as slab
 use Rattle.slab.specs.contracts.Slab.TheInside as slab_inside
-use Rattle.concurrent_lru.specs.contracts.list.Node as node
-use Rattle.concurrent_lru.specs.contracts.list.Nodes as nodes
-use Rattle.concurrent_lru.specs.contracts.list.Nodes.TheInside as nodes_inside
-use Rattle.concurrent_lru.specs.contracts.list.links.Order as order
-use Rattle.concurrent_lru.specs.contracts.list.memory.At as at
-use Rattle.concurrent_lru.specs.contracts.list.memory.Memory as memory
-use Rattle.concurrent_lru.specs.contracts.list.open_table.OpenTable as open_table
-use Rattle.concurrent_lru.specs.contracts.list.open_table.OpenTable.TheInside as open_table_inside
-use Rattle.concurrent_lru.specs.contracts.list.probes.Slot as entry
-use Rattle.concurrent_lru.specs.contracts.list.slots.Slots as slots
+use Rattle.concurrent_lru.specs.declared.share.Sharing as sharing
+use Rattle.concurrent_lru.specs.contracts.node_table.Node as node
+use Rattle.concurrent_lru.specs.contracts.node_table.Nodes as nodes
+use Rattle.concurrent_lru.specs.contracts.node_table.Nodes.TheInside as nodes_inside
+use Rattle.concurrent_lru.specs.contracts.node_table.links.Order as order
+use Rattle.concurrent_lru.specs.contracts.node_table.memory.At as at
+use Rattle.concurrent_lru.specs.contracts.node_table.memory.Memory as memory
+use Rattle.concurrent_lru.specs.contracts.node_table.open_table.OpenTable as open_table
+use Rattle.concurrent_lru.specs.contracts.node_table.open_table.OpenTable.TheInside as open_table_inside
+use Rattle.concurrent_lru.specs.contracts.node_table.probes.Slot as entry
+use Rattle.concurrent_lru.specs.contracts.node_table.slots.Slots as slots
 use Rattle.concurrent_lru.specs.contracts.lru_core.State as state
 use Rattle.concurrent_lru.specs.contracts.lru_core.State.TheInside as state_inside
+use Rattle.concurrent_lru.specs.contracts.share.Stored as stored
+use Rattle.concurrent_lru.specs.contracts.share.Stored.TheInside as stored_inside
 use Rattle.concurrent_lru.specs.contracts.table.Table.TheInside as table
 use Rattle.concurrent_lru.specs.contracts.work.Work as work
 use Rattle.concurrent_lru.proofs.Memory.CellsSent.{Memory-send, Memory-sync}
-use Rattle.concurrent_lru.proofs.list.Phase.TheSendSync as phase_sent
-use Rattle.concurrent_lru.proofs.list.memory.At.TheSendSync as at_sent
+use Rattle.concurrent_lru.proofs.node_table.Phase.TheSendSync as phase_sent
+use Rattle.concurrent_lru.proofs.node_table.memory.At.TheSendSync as at_sent
 
 -- The count of the writes of an order owns nothing, so it is Send.
 work_send : IsSend work.the_row
@@ -50,7 +53,7 @@ module _ (K V : RattleType) (key : IsSend K) (value : IsSend V) (shared : IsSync
       (node.the_member K V)
 
   -- A node is Send.
-  node_send : IsSend (node.the_row K V)
+  pub node_send : IsSend (node.the_row K V)
   node_send = declared_send (node.the_type K V) (search (sendable, crosses, phase_sent.the_send, hole_send) depth 24)
 
   -- The pointers in a slab are Send.
@@ -87,11 +90,6 @@ module _ (K V : RattleType) (key : IsSend K) (value : IsSend V) (shared : IsSync
     -- The entries of a cache are Send.
     table_send : IsSend (table.the_row K V h e c)
     table_send = declared_send (table.the_type K V h e c) (search (sendable, crosses, HashMap-send, nodes_send) depth 12)
-
-    -- The cache for one owner is Send.
-    pub state_send : IsSend (state.the_row K V h e c)
-    state_send = view_send (state_inside.the_row K V h e c) _ _ _ _
-        (declared_send (state_inside.the_type K V h e c) (search (sendable, crosses, global_sent.the_send, table_send) depth 12))
 
 module _ (K V : RattleType) (key : IsSync K) (value : IsSend V) (shared : IsSync V) where
   -- What stands for a node where its type names itself is Sync, as its layer is over any such.
@@ -133,3 +131,20 @@ module _ (K V : RattleType) (key : IsSync K) (value : IsSend V) (shared : IsSync
   pub nodes_sync : IsSync (nodes.the_row K V)
   nodes_sync = view_sync (nodes_inside.the_row K V) _ _ _ _
       record { shared = λ d b o κ. (struct_sync_at (shape (nodes_inside.the_type K V)) (to (nodes_inside.the_type K V) d) (order_sync.shared d.order, (work_sync.shared d.work, tt)) b o κ, tt) }
+
+module _ (V M S : RattleType) (v : sharing.Ghosts M.Denot V.Denot S.Denot) where
+  -- What a node stores is Send, as a share is.
+  pub stored_send : IsSend S → IsSend (stored.the_row V M S v)
+  stored_send own = view_send (stored_inside.the_row V M S v) _ _ _ _ (declared_send (stored_inside.the_type V M S v) (search (sendable, crosses) depth 12))
+
+  -- What a node stores is Sync, as a share is.
+  pub stored_sync : IsSync S → IsSync (stored.the_row V M S v)
+  stored_sync own = view_sync (stored_inside.the_row V M S v) _ _ _ _ (declared_sync (stored_inside.the_type V M S v) (search (sendable, crosses) depth 12))
+
+module _ (K V M S : RattleType) (key : IsSend K) (own : IsSend S) (shared : IsSync S) (v : sharing.Ghosts M.Denot V.Denot S.Denot) (h : hash.Ghosts K.Denot) (e : partial_eq.Ghosts K.Denot) (c : clone.Ghosts K.Denot) where
+  -- The cache for one owner is Send.
+  pub state_send : IsSend (state.the_row K V M S h e c v)
+  state_send =
+      let entries : IsSend (table.the_row K (stored.the_row V M S v) h e c) = table_send K (stored.the_row V M S v) key (stored_send V M S v own) (stored_sync V M S v shared) h e c in
+      view_send (state_inside.the_row K V M S h e c v) _ _ _ _
+      (declared_send (state_inside.the_type K V M S h e c v) (search (sendable, crosses, global_sent.the_send, entries) depth 12))

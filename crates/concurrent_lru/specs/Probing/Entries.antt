@@ -1,6 +1,6 @@
 -- The entries of a list of slots, whichever slots they are in.
 use Rattle.std.specs.Prelude.{◌≡◌, ◌≢◌, ℕ, ◌==◌, List, Some, not, count_by, slice_get, ◌⊎◌}
-use Rattle.concurrent_lru.specs.declared.list.probes.Slot.{Slot}
+use Rattle.concurrent_lru.specs.declared.node_table.probes.Slot.{Slot}
 
 module _ {T : Type 0} where
   -- the slot k is filled, with s

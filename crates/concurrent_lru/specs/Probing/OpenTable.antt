@@ -3,12 +3,12 @@ use Rattle.std.specs.Prelude.{◌≡◌, ℕ, ◌/◌, ◌≤◌, List, [], leng
 use Rattle.std.specs.Coded.{Coded, code_by, coded×, coded_ℕ}
 use Rattle.concurrent_lru.specs.Probing.Probes.{marks_of, mark_at, IsFilledAt, walk_at, IsReached}
 use Rattle.concurrent_lru.specs.Probing.Entries.{AreApart, count}
-use Rattle.concurrent_lru.specs.declared.list.probes.Slot.{Slot}
-use Rattle.concurrent_lru.specs.declared.list.probes.Probe.{Probe}
-use Rattle.concurrent_lru.specs.declared.list.probes.Probe.TheVariants.{Filled, Empty}
-use Rattle.concurrent_lru.specs.declared.list.probes.TheConstants.{FILLED}
-use Rattle.concurrent_lru.specs.declared.list.open_table.Step.{Step}
-use Rattle.concurrent_lru.specs.declared.list.open_table.Step.TheVariants.{Item, End}
+use Rattle.concurrent_lru.specs.declared.node_table.probes.Slot.{Slot}
+use Rattle.concurrent_lru.specs.declared.node_table.probes.Probe.{Probe}
+use Rattle.concurrent_lru.specs.declared.node_table.probes.Probe.TheVariants.{Filled, Empty}
+use Rattle.concurrent_lru.specs.declared.node_table.probes.TheConstants.{FILLED}
+use Rattle.concurrent_lru.specs.declared.node_table.open_table.Step.{Step}
+use Rattle.concurrent_lru.specs.declared.node_table.open_table.Step.TheVariants.{Item, End}
 
 -- the mark of a hash
 abbrev pub mark_of : ℕ → ℕ

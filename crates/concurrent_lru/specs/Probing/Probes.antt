@@ -1,9 +1,9 @@
 -- The marks of slots, and the walks along them; the mark of an empty slot is 0.
 use Rattle.std.specs.Prelude.{◌≡◌, ◌≢◌, ℕ, zero, suc, ◌<◌, ◌≤◌, ◌==◌, List, [], ◌∷◌, map, filter, length, slice_index_or, if◌then◌else◌}
 use Rattle.concurrent_lru.specs.Probing.Cycle.{next_of, steps, home_of}
-use Rattle.concurrent_lru.specs.declared.list.probes.Slot.{Slot}
-use Rattle.concurrent_lru.specs.declared.list.probes.Probe.{Probe}
-use Rattle.concurrent_lru.specs.declared.list.probes.Probe.TheVariants.{Filled, Empty}
+use Rattle.concurrent_lru.specs.declared.node_table.probes.Slot.{Slot}
+use Rattle.concurrent_lru.specs.declared.node_table.probes.Probe.{Probe}
+use Rattle.concurrent_lru.specs.declared.node_table.probes.Probe.TheVariants.{Filled, Empty}
 
 abbrev pub marks_of : {T : Type 0} → List (Slot T) → List ℕ
 marks_of slots = map (λ s. s.mark) slots

@@ -1,12 +1,13 @@
 //! What a caller has in an entry, as debts: types that are not `Drop`, so that the checker refuses
 //! a path that forgets one. Each is taken only by the call that settles it.
-ghost use Rattle.std.specs.Prelude.{◌≡◌};
+ghost use Rattle.std.specs.Prelude.{◌≡◌, IfOk, IfErr};
 ghost use Rattle.std.specs.Arc.{arc_value};
 ghost use Rattle.std.specs.Sync.Mutex.{mutex_guard_value};
 
+use crate::asked::Asked;
 use crate::fit::Fit;
 use crate::locked::Locked;
-use crate::lru_core::Evicted;
+use crate::lru_core::{Evicted, Refusal};
 use crate::sealed::Sealed;
 use crate::table::Spot;
 use std::hash::Hash;
@@ -176,8 +177,8 @@ impl Model for Unread {
 /// which fits that key by the mark `F`.
 pub struct HeldPin<K: Hash + Eq + Clone, V, F: Fit<K, V>> {
     pub(super) spot: Spot,
-    pub(super) asked: Snapshot<K>,
-    pub(super) charge: Snapshot<Option<u64>>,
+    pub(super) asked: Asked<K>,
+    pub(super) charge: Asked<Option<u64>>,
     pub(super) value: Arc<V>,
     pub(super) mark: PhantomData<F>,
 }
@@ -211,11 +212,35 @@ impl<K: Hash + Eq + Clone, V, F: Fit<K, V>> HeldPin<K, V, F> {
     {
         HeldPin {
             spot,
-            asked: Snapshot::of(key),
-            charge: Snapshot::of(&charge),
+            asked: Asked::of(key),
+            charge: Asked::of(&charge),
             value,
             mark: PhantomData,
         }
+    }
+
+    // Creates another pin in the same entry, which holds another `Arc` of the value.
+    pub(super) fn again(&self, value: Arc<V>) -> Self
+        requires { arc_value value ≡ self.now.value }
+        ensures { result ≡ self.now }
+    {
+        HeldPin {
+            spot: self.spot,
+            asked: self.asked.again(),
+            charge: self.charge.again(),
+            value,
+            mark: PhantomData,
+        }
+    }
+
+    /// Returns another `Arc` of the value. Acquires no lock.
+    ///
+    /// Returns `Memory` if it is refused.
+    pub fn share(&self) -> Result<Arc<V>, Refusal>
+        ensures value { IfOk result (λ a. arc_value a ≡ self.now.value) }
+        ensures refusal { IfErr result (λ e. e ≡ Refusal.Memory) }
+    {
+        Ok(Arc::try_clone(&self.value)?)
     }
 
     /// Returns the value. Acquires no lock.

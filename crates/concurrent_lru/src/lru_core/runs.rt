@@ -1,22 +1,26 @@
 //! Steps as data, and runs of them.
-ghost use Rattle.std.specs.Prelude.{◌≡◌, ◌+◌, ◌≤◌, None, OnErr, IfErr, IfOk, map};
+ghost use Rattle.std.specs.Prelude.{◌≡◌, ◌+◌, ◌<◌, ◌≤◌, [], ◌∷◌, ◌++◌, None, OnErr, IfErr, IfOk, map, vec_len, vec_capacity};
 ghost use Rattle.std.specs.List.{AllByRecursion};
 ghost use Rattle.concurrent_lru.specs.Cache.{IsLawful};
-ghost use Rattle.concurrent_lru.specs.Counted.{most_writes_of_read, StepWrites, StepsWriteAtMost};
+ghost use Rattle.concurrent_lru.specs.Counted.{most_writes_of_read, StepWritesBy, StepsWriteAtMost};
 ghost use Rattle.concurrent_lru.specs.Request as ask;
-ghost use Rattle.concurrent_lru.specs.Results.{outcome_of_read, request_of, outcome_of, IsCharged, IsAnswerTo, AreAnswersTo};
+ghost use Rattle.concurrent_lru.specs.Results.{outcome_of_read_by, request_of_by, outcome_of_by, IsCharged, IsAnswerToBy, AreAnswersToBy};
 ghost use Rattle.concurrent_lru.specs.Runs.{Stands, Run};
 ghost use Rattle.concurrent_lru.specs.WholeRuns.{KeepsStamps, LeavesFitted, LeavesTail};
 
-use crate::lru_core::{Answer, Refusal, State, Step};
+use crate::lru_core::{Refusal, State};
+use crate::share::Sharing;
+use crate::step::{Answer, Step};
 use std::hash::Hash;
-use std::sync::Arc;
 
-impl<K: Hash + Eq + Clone, V: Drop> State<K, V> {
+impl<K: Hash + Eq + Clone, V: Drop, M: Sharing<V>> State<K, V, M>
+where
+    M::Share: Drop,
+{
     // `read` that shares the value, as `get` does: a `get`, and the release of its pin.
-    fn read_shared(&mut self, key: &K) -> Result<Option<(u64, Arc<V>)>, Refusal>
-        ensures step { Stands K.eq self.old.cache (ask.read key.now) (outcome_of_read result)
-            self.new.cache }
+    fn read_shared(&mut self, key: &K) -> Result<Option<(u64, M::Share)>, Refusal>
+        ensures step { Stands K.eq self.old.cache (ask.read key.now)
+            (outcome_of_read_by M.seen result) self.new.cache }
         ensures work { IfOk result (λ found. self.new.work ≤ self.old.work + most_writes_of_read
             found) }
         ensures same { OnErr result (self.new.work ≡ self.old.work) }
@@ -32,12 +36,12 @@ impl<K: Hash + Eq + Clone, V: Drop> State<K, V> {
     }
 
     // Takes one step.
-    pub(crate) fn step(&mut self, step: Step<K, V>) -> Answer<K, V>
-        requires { IsCharged (request_of step) }
-        ensures step { Stands K.eq self.old.cache (request_of step) (outcome_of result)
-            self.new.cache }
-        ensures work { StepWrites self.old result self.new }
-        ensures kind { IsAnswerTo step result }
+    pub(crate) fn step(&mut self, step: Step<K, M::Share>) -> Answer<K, V, M>
+        requires { IsCharged (request_of_by M.seen step) }
+        ensures step { Stands K.eq self.old.cache (request_of_by M.seen step)
+            (outcome_of_by M.seen result) self.new.cache }
+        ensures work { StepWritesBy M.seen self.old result self.new }
+        ensures kind { IsAnswerToBy M.seen step result }
         ensures lawful { IsLawful K.eq self.new.cache }
     {
         match step {
@@ -63,6 +67,14 @@ impl<K: Hash + Eq + Clone, V: Drop> State<K, V> {
             },
             Step::Release(stamp) => match self.release(stamp) {
                 Ok(evicted) => Answer::Released(evicted),
+                Err(refusal) => Answer::Refused(refusal),
+            },
+            Step::ReleaseAndEvict(stamp) => match self.release_and_evict(stamp) {
+                Ok(evicted) => Answer::Released(evicted),
+                Err(refusal) => Answer::Refused(refusal),
+            },
+            Step::Repin(stamp) => match self.repin(stamp) {
+                Ok(value) => Answer::Repinned(value),
                 Err(refusal) => Answer::Refused(refusal),
             },
             Step::AdviceEvict(key) => Answer::Gone(self.advice_evict(&key)),
@@ -96,19 +108,23 @@ impl<K: Hash + Eq + Clone, V: Drop> State<K, V> {
     /// or was given out is in exactly one place: in the cache, in the answer of `fail`, or in an
     /// evicted list (`stamps`). The idle order is written at most once for each step that is not
     /// refused, twice for a `Read`, and once for each evicted entry (`work`).
-    pub fn run(&mut self, steps: Vec<Step<K, V>>) -> Result<Vec<Answer<K, V>>, Refusal>
-        requires { AllByRecursion IsCharged (map request_of steps.items) }
-        ensures run { IfOk result (λ answers. Run K.eq self.old.cache (map request_of steps.items)
-            (map outcome_of answers.items) self.new.cache) }
-        ensures kinds { IfOk result (λ answers. AreAnswersTo steps.items answers.items) }
+    pub fn run(&mut self, steps: Vec<Step<K, M::Share>>) -> Result<Vec<Answer<K, V, M>>, Refusal>
+        requires { AllByRecursion IsCharged (map (request_of_by M.seen) steps.items) }
+        ensures run { IfOk result (λ answers. Run K.eq self.old.cache
+            (map (request_of_by M.seen) steps.items) (map (outcome_of_by M.seen) answers.items)
+            self.new.cache) }
+        ensures kinds { IfOk result (λ answers. AreAnswersToBy M.seen steps.items answers.items) }
         ensures tail { IfOk result (λ answers. LeavesTail K.eq self.old.cache
-            (map request_of steps.items) (map outcome_of answers.items) self.new.cache) }
+            (map (request_of_by M.seen) steps.items) (map (outcome_of_by M.seen) answers.items)
+            self.new.cache) }
         ensures fitted { IfOk result (λ answers. LeavesFitted K.eq self.old.cache
-            (map request_of steps.items) (map outcome_of answers.items) self.new.cache) }
+            (map (request_of_by M.seen) steps.items) (map (outcome_of_by M.seen) answers.items)
+            self.new.cache) }
         ensures stamps { IfOk result (λ answers. KeepsStamps self.old.cache
-            (map request_of steps.items) (map outcome_of answers.items) self.new.cache) }
+            (map (request_of_by M.seen) steps.items) (map (outcome_of_by M.seen) answers.items)
+            self.new.cache) }
         ensures work { IfOk result (λ answers. StepsWriteAtMost self.old
-            (map outcome_of answers.items) self.new) }
+            (map (outcome_of_by M.seen) answers.items) self.new) }
         ensures err { IfErr result (λ e. e ≡ Refusal.Memory) }
         ensures same { OnErr result (self.new ≡ self.old) }
         ensures lawful { IsLawful K.eq self.new.cache }
@@ -117,9 +133,18 @@ impl<K: Hash + Eq + Clone, V: Drop> State<K, V> {
         answers.reserve(steps.len())?;
         for step in steps {
             let answer = self.step(step);
-            // Never refused: the room was reserved before the first step.
-            let _kept = answers.push(answer);
+            push_within(&mut answers, answer);
         }
         Ok(answers)
     }
+}
+
+// Pushes an item, for which there is room, so that the push is never refused.
+fn push_within<T: Drop>(items: &mut Vec<T>, item: T)
+    requires { vec_len items.old < vec_capacity items.old }
+    ensures items { items.new.items ≡ items.old.items ++ item ∷ [] }
+    ensures len { vec_len items.new ≡ vec_len items.old + 1 }
+    ensures capacity { vec_capacity items.old ≤ vec_capacity items.new }
+{
+    let _pushed = items.push(item);
 }

@@ -1,36 +1,40 @@
-//! The calls of the crate's own modules: each finds the entry of a stamp by its spot, and returns a
-//! hint of the entry that it pins.
+//! The calls for a caller that keeps a spot of each entry that it pins: those that pin an entry
+//! return a hint of it, and those by stamp take a spot. They hash no stamp, so they suit a cache
+//! without a map by stamp.
 ghost use Rattle.std.specs.Prelude.{◌≡◌, ◌+◌, ◌<◌, ◌≤◌, None, OnOk, OnErr, IfErr, IfOk, IsFalse, MatchOption, length};
-ghost use Rattle.std.specs.Arc.{arc_value};
 ghost use Rattle.concurrent_lru.specs.Cache.{IsLawful, HasKeyAt, LacksStamp, HasNoOtherPin};
 ghost use Rattle.concurrent_lru.specs.Counted.{WritesAtMostOneMore};
 ghost use Rattle.concurrent_lru.specs.Inserts.{Inserts, Remakes};
 ghost use Rattle.concurrent_lru.specs.KeyHashes.{IsHashOf};
 ghost use Rattle.concurrent_lru.specs.Ready.{HasEqualKeyAt};
 ghost use Rattle.concurrent_lru.specs.Request as ask;
-ghost use Rattle.concurrent_lru.specs.Results.{outcome_of_begin, outcome_of_poll, outcome_of_ready, outcome_of_fail, outcome_of_get, outcome_of_release, outcome_of_insert, begun_without_hint, found_without_hint, inserted_without_hint};
+ghost use Rattle.concurrent_lru.specs.Results.{outcome_of_begin_by, outcome_of_poll_by, outcome_of_ready_by, outcome_of_fail, outcome_of_get_by, outcome_of_release, outcome_of_repin_by, outcome_of_insert_by, begun_without_hint, found_without_hint, inserted_without_hint};
 ghost use Rattle.concurrent_lru.specs.Runs.{Stands};
 ghost use Rattle.concurrent_lru.specs.Steps.{IsAbsent};
 
-use crate::list::{Node, Phase};
-use crate::lru_core::{Begun, Evicted, Failed, Inserted, Refusal, State};
+use crate::lru_core::{Evicted, Failed, Inserted, Refusal, State};
+use crate::node_table::{Node, Phase};
+use crate::share::{Sharing, Stored, Stores};
+use crate::step::Begun;
 use crate::table::{Hint, KeyHash, Spot};
 use std::hash::Hash;
-use std::sync::Arc;
 
-impl<K: Hash + Eq + Clone, V: Drop> State<K, V> {
-    // `begin`, which also returns a hint of the entry, for a caller that keeps a spot.
+impl<K: Hash + Eq + Clone, V: Drop, M: Sharing<V>> State<K, V, M>
+where
+    M::Share: Drop,
+{
+    /// Does what `begin` does, with the same refusals, and also returns a hint of the entry.
     #[inline(always)]
-    pub(crate) fn begin_at(
+    pub fn begin_at(
         &mut self,
         key: &K,
         charge: u64,
-    ) -> Result<(Begun<V>, Evicted<K, V>, Hint), Refusal>
+    ) -> Result<(Begun<M::Share>, Evicted<K, V, M>, Hint), Refusal>
         requires { 0 < charge }
         ensures step { Stands K.eq self.old.cache (ask.begin key.now charge)
-            (outcome_of_begin (begun_without_hint result)) self.new.cache }
-        ensures work { WritesAtMostOneMore self.old (outcome_of_begin (begun_without_hint result))
-            self.new }
+            (outcome_of_begin_by M.seen (begun_without_hint result)) self.new.cache }
+        ensures work { WritesAtMostOneMore self.old
+            (outcome_of_begin_by M.seen (begun_without_hint result)) self.new }
         ensures lawful { IsLawful K.eq self.new.cache }
     {
         // A proved program does not run this. One that `rt try` runs stops here at a charge of 0.
@@ -57,7 +61,8 @@ impl<K: Hash + Eq + Clone, V: Drop> State<K, V> {
             }
             Phase::Ready(_) => {
                 let value = self.table.pin(place, near)?;
-                Ok((Begun::Hit(stamp, value), Evicted::none(), hint))
+                let share = value.into_share();
+                Ok((Begun::Hit(stamp, share), Evicted::none(), hint))
             }
         }
     }
@@ -69,14 +74,14 @@ impl<K: Hash + Eq + Clone, V: Drop> State<K, V> {
         hash: KeyHash,
         key: &K,
         charge: u64,
-    ) -> Result<(Begun<V>, Evicted<K, V>, Hint), Refusal>
+    ) -> Result<(Begun<M::Share>, Evicted<K, V, M>, Hint), Refusal>
         requires charged { 0 < charge }
         requires hash { IsHashOf K.hash_input hash key.now }
         requires absent { IsAbsent K.eq self.old.cache key.now }
         ensures step { Stands K.eq self.old.cache (ask.begin key.now charge)
-            (outcome_of_begin (begun_without_hint result)) self.new.cache }
-        ensures work { WritesAtMostOneMore self.old (outcome_of_begin (begun_without_hint result))
-            self.new }
+            (outcome_of_begin_by M.seen (begun_without_hint result)) self.new.cache }
+        ensures work { WritesAtMostOneMore self.old
+            (outcome_of_begin_by M.seen (begun_without_hint result)) self.new }
         ensures same { OnErr result (self.new ≡ self.old) }
         ensures lawful { IsLawful K.eq self.new.cache }
     {
@@ -90,10 +95,10 @@ impl<K: Hash + Eq + Clone, V: Drop> State<K, V> {
         Ok((Begun::Make(stamp), evicted, Hint::to(hash, place)))
     }
 
-    // `poll` by spot.
-    pub(crate) fn poll_at(&mut self, spot: &Spot) -> Result<Begun<V>, Refusal>
-        ensures step { Stands K.eq self.old.cache (ask.poll spot.now.stamp) (outcome_of_poll result)
-            self.new.cache }
+    /// Does what `poll` does, by spot.
+    pub fn poll_at(&mut self, spot: &Spot) -> Result<Begun<M::Share>, Refusal>
+        ensures step { Stands K.eq self.old.cache (ask.poll spot.now.stamp)
+            (outcome_of_poll_by M.seen result) self.new.cache }
         ensures work { self.new.work ≡ self.old.work }
         ensures lawful { IsLawful K.eq self.new.cache }
     {
@@ -110,22 +115,28 @@ impl<K: Hash + Eq + Clone, V: Drop> State<K, V> {
                 self.table.set_phase(place, near, Phase::Making);
                 Ok(Begun::Make(spot.stamp))
             }
-            Phase::Ready(value) => Ok(Begun::Hit(spot.stamp, value.clone()?)),
+            Phase::Ready(value) => Ok(Begun::Hit(spot.stamp, value.another()?.into_share())),
         }
     }
 
-    // `ready` by spot.
-    pub(super) fn ready_at(&mut self, spot: &Spot, value: Arc<V>) -> Result<(), Arc<V>>
-        ensures step { Stands K.eq self.old.cache (ask.ready spot.now.stamp (arc_value value))
-            (outcome_of_ready result) self.new.cache }
+    /// Does what `ready` does, by spot.
+    pub fn ready_at(&mut self, spot: &Spot, value: M::Share) -> Result<(), M::Share>
+        ensures step { Stands K.eq self.old.cache (ask.ready spot.now.stamp (M.seen value))
+            (outcome_of_ready_by M.seen result) self.new.cache }
         ensures work { self.new.work ≡ self.old.work }
-        ensures back { IfErr result (λ a. arc_value a ≡ arc_value value) }
+        ensures back { IfErr result (λ a. M.seen a ≡ M.seen value) }
         ensures lawful { IsLawful K.eq self.new.cache }
     {
-        match self.table.find_stamp(spot) {
-            Some((place, near)) => self.table.store(place, near, value),
-            None => Err(value),
-        }
+        let Some((place, near)) = self.table.find_stamp(spot) else {
+            return Err(value);
+        };
+        let node = self.table.node(place, near);
+        let Phase::Making = &node.phase else {
+            return Err(value);
+        };
+        self.table
+            .set_phase(place, near, Phase::Ready(Stored::new(value)));
+        Ok(())
     }
 
     // `ready`, if the spot's entry has this key. Also returns whether the entry has a pin besides
@@ -135,11 +146,11 @@ impl<K: Hash + Eq + Clone, V: Drop> State<K, V> {
         &mut self,
         spot: &Spot,
         key: &K,
-        value: Arc<V>,
-    ) -> (Result<(), Arc<V>>, bool)
+        value: M::Share,
+    ) -> (Result<(), M::Share>, bool)
         ensures step { HasEqualKeyAt K.eq self.old.cache spot.now.stamp key.now
-            → Stands K.eq self.old.cache (ask.ready spot.now.stamp (arc_value value))
-            (outcome_of_ready result.0) self.new.cache }
+            → Stands K.eq self.old.cache (ask.ready spot.now.stamp (M.seen value))
+            (outcome_of_ready_by M.seen result.0) self.new.cache }
         ensures keyed { OnOk result.0 (HasEqualKeyAt K.eq self.old.cache spot.now.stamp key.now) }
         ensures same { OnErr result.0 (self.new.cache ≡ self.old.cache) }
         ensures back { IfErr result.0 (λ a. a ≡ value) }
@@ -154,11 +165,16 @@ impl<K: Hash + Eq + Clone, V: Drop> State<K, V> {
         if node.key != *key {
             return (Err(value), shared);
         }
-        (self.table.store(place, near, value), shared)
+        let Phase::Making = &node.phase else {
+            return (Err(value), shared);
+        };
+        let stored = Stored::new(value);
+        self.table.set_phase(place, near, Phase::Ready(stored));
+        (Ok(()), shared)
     }
 
-    // `fail` by spot.
-    pub(crate) fn fail_at(&mut self, spot: &Spot) -> Result<Failed<K>, Refusal>
+    /// Does what `fail` does, by spot.
+    pub fn fail_at(&mut self, spot: &Spot) -> Result<Failed<K>, Refusal>
         ensures step { Stands K.eq self.old.cache (ask.fail spot.now.stamp) (outcome_of_fail result)
             self.new.cache }
         ensures work { self.new.work ≡ self.old.work }
@@ -191,13 +207,13 @@ impl<K: Hash + Eq + Clone, V: Drop> State<K, V> {
         Ok(Failed::Removed(key))
     }
 
-    // `get`, which also returns a hint of the entry, for a caller that keeps a spot.
+    /// Does what `get` does, with the same refusals, and also returns a hint of the entry.
     #[inline(always)]
-    pub(crate) fn get_at(&mut self, key: &K) -> Result<Option<(u64, Arc<V>, Hint)>, Refusal>
+    pub fn get_at(&mut self, key: &K) -> Result<Option<(u64, M::Share, Hint)>, Refusal>
         ensures step { Stands K.eq self.old.cache (ask.get key.now)
-            (outcome_of_get (found_without_hint result)) self.new.cache }
-        ensures work { WritesAtMostOneMore self.old (outcome_of_get (found_without_hint result))
-            self.new }
+            (outcome_of_get_by M.seen (found_without_hint result)) self.new.cache }
+        ensures work { WritesAtMostOneMore self.old
+            (outcome_of_get_by M.seen (found_without_hint result)) self.new }
         ensures lawful { IsLawful K.eq self.new.cache }
     {
         let hash = self.table.hash_of(key);
@@ -213,12 +229,13 @@ impl<K: Hash + Eq + Clone, V: Drop> State<K, V> {
             return Err(Refusal::Overflow);
         }
         let value = self.table.pin(place, near)?;
-        Ok(Some((stamp, value, Hint::to(hash, place))))
+        let share = value.into_share();
+        Ok(Some((stamp, share, Hint::to(hash, place))))
     }
 
-    // `release` by spot.
+    /// Does what `release` does, by spot.
     #[inline(always)]
-    pub(crate) fn release_at(&mut self, spot: &Spot) -> Result<Evicted<K, V>, Refusal>
+    pub fn release_at(&mut self, spot: &Spot) -> Result<Evicted<K, V, M>, Refusal>
         ensures step { Stands K.eq self.old.cache (ask.release spot.now.stamp)
             (outcome_of_release result) self.new.cache }
         ensures work { WritesAtMostOneMore self.old (outcome_of_release result) self.new }
@@ -246,18 +263,67 @@ impl<K: Hash + Eq + Clone, V: Drop> State<K, V> {
         Ok(self.table.settle(self.capacity))
     }
 
-    // `insert`, which also returns a hint of the new entry, for a caller that keeps a spot.
-    pub(crate) fn insert_at(
+    /// Does what `release_and_evict` does, by spot.
+    pub fn release_and_evict_at(&mut self, spot: &Spot) -> Result<Evicted<K, V, M>, Refusal>
+        ensures step { Stands K.eq self.old.cache (ask.release_and_evict spot.now.stamp)
+            (outcome_of_release result) self.new.cache }
+        ensures work { self.new.work ≡ self.old.work }
+        ensures lawful { IsLawful K.eq self.new.cache }
+    {
+        let Some((place, near)) = self.table.find_stamp(spot) else {
+            return Err(Refusal::Stale);
+        };
+        let node = self.table.node(place, near);
+        let holders = node.pins;
+        let Phase::Ready(_) = &node.phase else {
+            return Err(Refusal::Stale);
+        };
+        if holders == 0 {
+            return Err(Refusal::Stale);
+        }
+        if holders > 1 {
+            self.table.set_pins(place, near, holders - 1);
+            return Ok(Evicted::none());
+        }
+        // The total only falls, so nothing else has to leave.
+        let last = Evicted::one(self.table.take_held(place));
+        Ok(last)
+    }
+
+    /// Does what `repin` does, by spot.
+    pub fn repin_at(&mut self, spot: &Spot) -> Result<M::Share, Refusal>
+        ensures step { Stands K.eq self.old.cache (ask.repin spot.now.stamp)
+            (outcome_of_repin_by M.seen result) self.new.cache }
+        ensures work { WritesAtMostOneMore self.old (outcome_of_repin_by M.seen result) self.new }
+        ensures lawful { IsLawful K.eq self.new.cache }
+    {
+        let Some((place, near)) = self.table.find_stamp(spot) else {
+            return Err(Refusal::Stale);
+        };
+        let node = self.table.node(place, near);
+        let holders = node.pins;
+        let Phase::Ready(_) = &node.phase else {
+            return Err(Refusal::Stale);
+        };
+        if holders == self.most_pins {
+            return Err(Refusal::Overflow);
+        }
+        let stored = self.table.pin(place, near)?;
+        Ok(stored.into_share())
+    }
+
+    /// Does what `insert` does, with the same refusals, and also returns a hint of the new entry.
+    pub fn insert_at(
         &mut self,
         key: &K,
         charge: u64,
-        value: Arc<V>,
-    ) -> Result<(Inserted<K, V>, Hint), (Refusal, Arc<V>)>
+        value: M::Share,
+    ) -> Result<(Inserted<K, V, M>, Hint), (Refusal, M::Share)>
         requires { 0 < charge }
-        ensures step { Inserts K.eq self.old.cache key.now charge (arc_value value)
+        ensures step { Inserts K.eq self.old.cache key.now charge (M.seen value)
             (inserted_without_hint result) self.new.cache }
-        ensures request { Stands K.eq self.old.cache (ask.insert key.now charge (arc_value value))
-            (outcome_of_insert (inserted_without_hint result)) self.new.cache }
+        ensures request { Stands K.eq self.old.cache (ask.insert key.now charge (M.seen value))
+            (outcome_of_insert_by M.seen (inserted_without_hint result)) self.new.cache }
         ensures work { IfOk result (λ r. self.new.work ≤ self.old.work + length
             r.0.replaced + length r.0.evicted + 1) }
         ensures same { OnErr result (self.new ≡ self.old) }
@@ -285,7 +351,7 @@ impl<K: Hash + Eq + Clone, V: Drop> State<K, V> {
         &mut self,
         key: &K,
         charge: u64,
-    ) -> Result<(Spot, Evicted<K, V>, Evicted<K, V>), Refusal>
+    ) -> Result<(Spot, Evicted<K, V, M>, Evicted<K, V, M>), Refusal>
         requires { 0 < charge }
         ensures step { Remakes K.eq self.old.cache key.now charge result self.new.cache }
         ensures work { IfOk result (λ r. self.new.work ≤ self.old.work + length r.1 + length
@@ -328,8 +394,8 @@ impl<K: Hash + Eq + Clone, V: Drop> State<K, V> {
         Ok((Spot { stamp, hint }, Evicted::one(old), evicted))
     }
 
-    // `key_of` by spot.
-    pub(crate) fn key_at(&self, spot: &Spot) -> Option<&K>
+    /// Does what `key_of` does, by spot.
+    pub fn key_at(&self, spot: &Spot) -> Option<&K>
         ensures { MatchOption result (LacksStamp self.now.cache spot.now.stamp)
             (λ key. HasKeyAt self.now.cache spot.now.stamp key.now) }
     {

@@ -72,6 +72,23 @@ impl<
         let _ = pin.value();
         OwnedHandle { shard, pin }
     }
+
+    /// Returns another handle of the same value, as `CacheHandle::try_clone` does, which keeps the
+    /// cache alive too.
+    ///
+    /// Returns `Overflow` and `Memory` as there, and `Memory` also if a copy of the `Arc` of the
+    /// cache is refused; then nothing is pinned.
+    pub fn try_clone(&self) -> Result<OwnedHandle<K, V, R, S, F>, Refusal>
+        ensures key { IfOk result (λ h. h.key ≡ self.now.key) }
+        ensures charge { IfOk result (λ h. h.charge ≡ self.now.charge) }
+        ensures value { IfOk result (λ h. h.value ≡ self.now.value) }
+        ensures fits { IfOk result (λ h. F.fits h.key h.value) }
+        ensures never_stale { IfErr result (λ e. e ≢ Refusal.Stale) }
+    {
+        let shard = self.shard.again()?;
+        let pin = self.shard.get().repin(&self.pin)?;
+        Ok(OwnedHandle::new(shard, pin))
+    }
 }
 
 impl<K: Hash + Eq + Clone, V, R: Wait, S: BuildHasher, F: Fit<K, V>> Deref
@@ -138,6 +155,19 @@ impl<
         let route = cache.routes.route_of(key);
         let cache = Arc::try_clone(cache)?;
         Ok(OwnedShard { cache, route })
+    }
+
+    // Returns the same shard, with another `Arc` of the cache.
+    //
+    // Returns `Memory` if the copy of the `Arc` is refused.
+    fn again(&self) -> Result<Self, Refusal>
+        ensures { IfErr result (λ e. e ≡ Refusal.Memory) }
+    {
+        let cache = Arc::try_clone(&self.cache)?;
+        Ok(OwnedShard {
+            cache,
+            route: self.route,
+        })
     }
 
     // Returns the shard, a cache of one lock.

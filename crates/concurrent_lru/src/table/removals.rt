@@ -9,7 +9,7 @@ ghost use Rattle.concurrent_lru.specs.Steps.{without};
 ghost use Rattle.concurrent_lru.specs.TakeAll.{TakesHeld, TakesHeldAt};
 
 use crate::eviction::{Evicted, reverse};
-use crate::list::{Node, Place};
+use crate::node_table::{Node, Place};
 use crate::table::{Table, take_away};
 use std::hash::Hash;
 

@@ -1,5 +1,5 @@
 //! An entry's stamp with a hint of where it is.
-use crate::list::Place;
+use crate::node_table::Place;
 use crate::table::key_hashes::KeyHash;
 
 /// Where a lookup of an entry begins: among the entries with this hash, and then at this place.

@@ -5,7 +5,7 @@ ghost use Rattle.std.specs.Prelude.{◌≡◌, ℕ, true, false, Some, None, OnO
 ghost use Rattle.concurrent_lru.specs.NodeTable.{HasStampAt, IsNewStamp};
 ghost use Rattle.concurrent_lru.specs.StampIndex.{keeps_map, mapped_place, HasRoomFor};
 
-use crate::list::{Nodes, Place};
+use crate::node_table::{Nodes, Place};
 use std::alloc::AllocError;
 use std::collections::HashMap;
 

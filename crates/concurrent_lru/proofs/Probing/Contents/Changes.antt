@@ -4,7 +4,7 @@ use Rattle.std.proofs.lemmas.Bool.{cases_eq}
 use Rattle.std.proofs.lemmas.List.{length-set}
 use Rattle.concurrent_lru.specs.Probing.Probes.{marks_of, IsEmptyAt}
 use Rattle.concurrent_lru.specs.Probing.Entries.{Holds, Has, AreApart, IsSame, Adds, Removes, count}
-use Rattle.concurrent_lru.specs.declared.list.probes.Slot.{Slot}
+use Rattle.concurrent_lru.specs.declared.node_table.probes.Slot.{Slot}
 use Rattle.concurrent_lru.proofs.Probing.Contents.Slots.{holds_filled, holds_one, holds_within, holds_set, holds_other, held_other, held_same, not_emptied, count_filled, count_emptied}
 
 module _ {T : Type 0} where

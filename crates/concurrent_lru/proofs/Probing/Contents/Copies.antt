@@ -6,7 +6,7 @@ use Rattle.std.proofs.lemmas.Option.{slice_get-get_or}
 use Rattle.std.proofs.lemmas.List.Sums.{count_by_more_yes, count_by_more_no}
 use Rattle.concurrent_lru.specs.Probing.Probes.{marks_of, IsEmptyAt}
 use Rattle.concurrent_lru.specs.Probing.Entries.{Holds, Has, AreApart, IsSame, Adds, count, entry}
-use Rattle.concurrent_lru.specs.declared.list.probes.Slot.{Slot}
+use Rattle.concurrent_lru.specs.declared.node_table.probes.Slot.{Slot}
 use Rattle.concurrent_lru.proofs.Probing.Contents.Slots.{holds_within, holds_read, holds_one, holds_filled, count-cons}
 
 module _ {T : Type 0} where

@@ -8,7 +8,7 @@ use Rattle.std.proofs.lemmas.List.Sums.{sum_by-append}
 use Rattle.std.proofs.lemmas.Option.{slice_get_past, slice_get_within, slice_get-get_or, get_or_from_slice_get}
 use Rattle.concurrent_lru.specs.Probing.Probes.{marks_of, mark_at, IsEmptyAt, IsFilledAt, HasEmpty}
 use Rattle.concurrent_lru.specs.Probing.Entries.{Holds, count}
-use Rattle.concurrent_lru.specs.declared.list.probes.Slot.{Slot}
+use Rattle.concurrent_lru.specs.declared.node_table.probes.Slot.{Slot}
 use Rattle.concurrent_lru.proofs.Probing.Marks.{mark_read}
 
 module _ {T : Type 0} where

@@ -3,7 +3,7 @@ use Rattle.std.proofs.Common.{◌≡◌, ℕ, ◌+◌, ◌-◌, ◌<◌, ◌≤�
 use Rattle.concurrent_lru.specs.Probing.Probes.{marks_of, IsReached}
 use Rattle.concurrent_lru.specs.Probing.Entries.{AreApart, count}
 use Rattle.concurrent_lru.specs.Probing.OpenTable.{IsTable, capacity}
-use Rattle.concurrent_lru.specs.declared.list.probes.Slot.{Slot}
+use Rattle.concurrent_lru.specs.declared.node_table.probes.Slot.{Slot}
 
 module _ {T : Type 0} where
   -- what is seen has room for one more

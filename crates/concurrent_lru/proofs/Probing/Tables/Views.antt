@@ -3,10 +3,10 @@ use Rattle.std.proofs.Common.{◌≡◌, ◌≢◌, ℕ, ◌<◌, List, ◌∷�
 use Rattle.concurrent_lru.specs.Probing.Cycle.{next_of, home_of}
 use Rattle.concurrent_lru.specs.Probing.Probes.{marks_of, mark_at, IsFilledAt, HasEmpty, Finds}
 use Rattle.concurrent_lru.specs.Probing.OpenTable.{mark_of, IsTable, IsFilled, HasMark, walk, step_for}
-use Rattle.concurrent_lru.specs.declared.list.probes.Slot.{Slot}
-use Rattle.concurrent_lru.specs.declared.list.probes.Probe.{Probe}
-use Rattle.concurrent_lru.specs.declared.list.open_table.Step.{Step}
-use Rattle.concurrent_lru.specs.declared.list.open_table.Step.TheVariants.{Item}
+use Rattle.concurrent_lru.specs.declared.node_table.probes.Slot.{Slot}
+use Rattle.concurrent_lru.specs.declared.node_table.probes.Probe.{Probe}
+use Rattle.concurrent_lru.specs.declared.node_table.open_table.Step.{Step}
+use Rattle.concurrent_lru.specs.declared.node_table.open_table.Step.TheVariants.{Item}
 use Rattle.concurrent_lru.proofs.Probing.Marks.{length-marks}
 use Rattle.concurrent_lru.proofs.Probing.Gaps.{filled_within}
 use Rattle.concurrent_lru.proofs.Probing.Tables.Walks.{has_empty, first_mark, first_all, next_rest}

@@ -5,9 +5,9 @@ use Rattle.std.proofs.lemmas.Bool.{cases_eq, eq-eqb, ne_eqb}
 use Rattle.concurrent_lru.specs.Probing.Cycle.{next_of, steps, home_of}
 use Rattle.concurrent_lru.specs.Probing.Probes.{marks_of, mark_at, IsFilledAt, HasEmpty, run_at, walk_at, Finds}
 use Rattle.concurrent_lru.specs.Probing.OpenTable.{IsTable, HasMark, walk, step_for}
-use Rattle.concurrent_lru.specs.declared.list.probes.Slot.{Slot}
-use Rattle.concurrent_lru.specs.declared.list.probes.Probe.{Probe}
-use Rattle.concurrent_lru.specs.declared.list.probes.Probe.TheVariants.{Filled, Empty}
+use Rattle.concurrent_lru.specs.declared.node_table.probes.Slot.{Slot}
+use Rattle.concurrent_lru.specs.declared.node_table.probes.Probe.{Probe}
+use Rattle.concurrent_lru.specs.declared.node_table.probes.Probe.TheVariants.{Filled, Empty}
 use Rattle.concurrent_lru.proofs.Probing.Circle.{home_within}
 use Rattle.concurrent_lru.proofs.Probing.Runs.{member_along, walk_here}
 use Rattle.concurrent_lru.proofs.Probing.Marks.{length-marks}

@@ -1,13 +1,12 @@
 use Rattle.std.proofs.Common.{[], refl, sym, ap, ◌∙◌, subst, arith, inl, inr}
 use Rattle.std.specs.Prelude.{is_some}
-use Rattle.std.specs.Arc.{arc_value}
 use Rattle.concurrent_lru.specs.Cache.{making, untaken, IsSound}
 use Rattle.concurrent_lru.specs.Steps.{IsAbsent, Joins, Hits}
 use Rattle.concurrent_lru.specs.NodeTable.{entry_of, phase_of, value_in}
 use Rattle.concurrent_lru.specs.Entries.{cache_with}
 use Rattle.concurrent_lru.specs.Request as ask
 use Rattle.concurrent_lru.specs.Runs.{Stands, Overflows, TakesMemory}
-use Rattle.concurrent_lru.specs.Results.{outcome_of_begin, begun_without_hint}
+use Rattle.concurrent_lru.specs.Results.{outcome_of_begin_by, begun_without_hint}
 use Rattle.concurrent_lru.proofs.Entries.EntryAtPlace.{key_is, found_is, has_room, held_place, unready_pinned, would_hit, is_full, value_here}
 use Rattle.concurrent_lru.proofs.Steps.NotReady.{unready_not_ready}
 use Rattle.concurrent_lru.proofs.Steps.BeginOfHeld.{joins_lawful}
@@ -96,11 +95,11 @@ invariant_of-self-in_err-value-in-Ready g c = subst (λ t. IsSound g.K.PartialEq
 pub returns-in_err-value-in-Ready-clause-step : goal.returns-in_err-value-in-Ready-clause-step
 returns-in_err-value-in-Ready-clause-step g c =
     let here = c.node-node.ensures.entry in
-    subst (λ t. Stands g.K.PartialEq.eq c.args.self.now.cache (ask.begin c.args.key.now c.args.charge) (outcome_of_begin (begun_without_hint c.from_residual.result)) (cache_with c.self.inside.capacity c.self.inside.most_pins c.self.inside.next t)) (sym c.in_err-value-in-Ready.ensures.err)
-    (subst (λ old. Stands g.K.PartialEq.eq c.args.self.now.cache (ask.begin c.args.key.now c.args.charge) (outcome_of_begin (begun_without_hint c.from_residual.result)) old) (sym (ap (λ x. x.cache) c.self.view_is))
-    (begun_memory g.K.PartialEq.eq c.args.self.now.cache (ask.begin c.args.key.now c.args.charge) c.from_residual.result _ c.from_residual.ensures.1 c.in_err-value-in-Ready.ensures.refusal
+    subst (λ t. Stands g.K.PartialEq.eq c.args.self.now.cache (ask.begin c.args.key.now c.args.charge) (outcome_of_begin_by g.M.Sharing.seen (begun_without_hint c.from_residual.result)) (cache_with c.self.inside.capacity c.self.inside.most_pins c.self.inside.next t)) (sym c.in_err-value-in-Ready.ensures.err)
+    (subst (λ old. Stands g.K.PartialEq.eq c.args.self.now.cache (ask.begin c.args.key.now c.args.charge) (outcome_of_begin_by g.M.Sharing.seen (begun_without_hint c.from_residual.result)) old) (sym (ap (λ x. x.cache) c.self.view_is))
+    (begun_memory g.M.Sharing.seen g.K.PartialEq.eq c.args.self.now.cache (ask.begin c.args.key.now c.args.charge) c.from_residual.result _ c.from_residual.ensures.1 c.in_err-value-in-Ready.ensures.refusal
     (subst (λ old. TakesMemory g.K.PartialEq.eq old (ask.begin c.args.key.now c.args.charge)) (ap (λ x. x.cache) c.self.view_is)
-    (inr (would_hit here g.K.PartialEq.eq c.self.inside.capacity c.self.inside.most_pins c.self.inside.next c.args.key.now c.in-Ready.field-0.value (found_is here c.self.invariant.lawful c.args.key.now c.in-Some.ensures)
+    (inr (would_hit here g.K.PartialEq.eq c.self.inside.capacity c.self.inside.most_pins c.self.inside.next c.args.key.now c.in-Ready.field-0 (found_is here c.self.invariant.lawful c.args.key.now c.in-Some.ensures)
     (has_room here c.self.invariant.lawful c.self.invariant.pins_above c.if-pins-self.false)
     (key_is here c.self.invariant.lawful c.args.key.now c.in-Some.ensures) (ap phase_of c.in-Ready.is))))))
 
@@ -113,12 +112,12 @@ pin-requires-clause-room g c =
     let same = c.node-node.ensures.pins in
     omega (arith, room, same)
 
-found : (g : _) (c : After-none-in-Ready g) → Hits g.K.PartialEq.eq (cache_with c.self.inside.capacity c.self.inside.most_pins c.self.inside.next c.self.inside.table) c.args.key.now (entry_of c.node-node.result.now).stamp (arc_value c.in_ok-value-in-Ready.value) [] (cache_with c.self.inside.capacity c.self.inside.most_pins c.self.inside.next c.pin.new.self)
+found : (g : _) (c : After-none-in-Ready g) → Hits g.K.PartialEq.eq (cache_with c.self.inside.capacity c.self.inside.most_pins c.self.inside.next c.self.inside.table) c.args.key.now (entry_of c.node-node.result.now).stamp c.in_ok-value-in-Ready.value [] (cache_with c.self.inside.capacity c.self.inside.most_pins c.self.inside.next c.pin.new.self)
 found g c =
     let here = c.node-node.ensures.entry in
-    hits g.K.PartialEq.eq c.self.inside.capacity c.self.inside.most_pins c.self.inside.next here c.pin.new.self c.args.key.now (arc_value c.in_ok-value-in-Ready.value)
+    hits g.K.PartialEq.eq c.self.inside.capacity c.self.inside.most_pins c.self.inside.next here c.pin.new.self c.args.key.now c.in_ok-value-in-Ready.value
     (found_is here c.self.invariant.lawful c.args.key.now c.in-Some.ensures) (key_is here c.self.invariant.lawful c.args.key.now c.in-Some.ensures) (has_room here c.self.invariant.lawful c.self.invariant.pins_above c.if-pins-self.false)
-    (value_here here (arc_value c.in_ok-value-in-Ready.value) c.node-node.ensures.value c.in_ok-value-in-Ready.ensures.value) c.node-node.ensures.pins c.in_ok-value-in-Ready.ensures.revived c.in_ok-value-in-Ready.ensures.held
+    (value_here here c.in_ok-value-in-Ready.value c.node-node.ensures.value c.in_ok-value-in-Ready.ensures.value) c.node-node.ensures.pins c.in_ok-value-in-Ready.ensures.revived c.in_ok-value-in-Ready.ensures.held
 
 pub invariant_of-self-in-Ready : goal.invariant_of-self-in-Ready
 invariant_of-self-in-Ready g c = record { lawful = hits_lawful _ g.met.K.Eq.laws _ c.self.invariant.lawful c.self.invariant.pins_above _ _ _ _ _ (found g c); pins_above = c.self.invariant.pins_above }
@@ -129,7 +128,9 @@ returns-in_ok-value-in-Ready-clause-lawful g c = hits_lawful _ g.met.K.Eq.laws _
 pub returns-in_ok-value-in-Ready-clause-step : goal.returns-in_ok-value-in-Ready-clause-step
 returns-in_ok-value-in-Ready-clause-step g c =
     let s = (entry_of c.node-node.result.now).stamp in
-    let v = (arc_value c.in_ok-value-in-Ready.value) in
+    let v = g.M.Sharing.seen c.into_share-share.result in
     let new = cache_with c.self.inside.capacity c.self.inside.most_pins c.self.inside.next c.pin.new.self in
-    let step : Hits g.K.PartialEq.eq c.args.self.now.cache c.args.key.now s v [] new = subst (λ old. Hits g.K.PartialEq.eq old c.args.key.now s v [] new) (ap (λ x. x.cache) c.self.view_is) (found g c) in
+    let same : Hits g.K.PartialEq.eq (cache_with c.self.inside.capacity c.self.inside.most_pins c.self.inside.next c.self.inside.table) c.args.key.now s v [] new =
+    subst (λ w. Hits g.K.PartialEq.eq (cache_with c.self.inside.capacity c.self.inside.most_pins c.self.inside.next c.self.inside.table) c.args.key.now s w [] new) (sym c.into_share-share.ensures) (found g c) in
+    let step : Hits g.K.PartialEq.eq c.args.self.now.cache c.args.key.now s v [] new = subst (λ old. Hits g.K.PartialEq.eq old c.args.key.now s v [] new) (ap (λ x. x.cache) c.self.view_is) same in
     subst (λ out. Hits g.K.PartialEq.eq c.args.self.now.cache c.args.key.now s v out new) (sym c.none-in-Ready.ensures) step

@@ -23,6 +23,6 @@ returns-in_default-phase-clause-no g c = λ _.
 pub returns-clause-yes : goal.returns-clause-yes
 returns-clause-yes g c = λ _.
     let here = c.node-node.ensures.entry in
-    let found = has_ready_key g.K.PartialEq.eq c.self.inside.capacity c.self.inside.most_pins c.self.inside.next here c.args.key.now c.in-Ready.field-0.value (found_is here c.self.invariant.lawful c.args.key.now c.in-Some.ensures)
+    let found = has_ready_key g.K.PartialEq.eq c.self.inside.capacity c.self.inside.most_pins c.self.inside.next here c.args.key.now c.in-Ready.field-0 (found_is here c.self.invariant.lawful c.args.key.now c.in-Some.ensures)
     (key_is here c.self.invariant.lawful c.args.key.now c.in-Some.ensures) (ap phase_of c.in-Ready.is) in
     subst (λ k. HasReadyKey g.K.PartialEq.eq k c.args.key.now) (ap (λ x. x.cache) c.self.view_is) found

@@ -1,13 +1,12 @@
 use Rattle.std.proofs.Common.{[], refl, sym, ap, ◌∙◌, subst, arith}
 use Rattle.std.specs.Prelude.{is_some}
-use Rattle.std.specs.Arc.{arc_value}
 use Rattle.concurrent_lru.specs.Cache.{IsLawful, IsSound}
 use Rattle.concurrent_lru.specs.Steps.{Hits, IsUnready}
 use Rattle.concurrent_lru.specs.NodeTable.{entry_of, phase_of, value_in}
 use Rattle.concurrent_lru.specs.Entries.{cache_with}
 use Rattle.concurrent_lru.specs.Request as ask
 use Rattle.concurrent_lru.specs.Runs.{Stands, Overflows, TakesMemory}
-use Rattle.concurrent_lru.specs.Results.{outcome_of_get, found_without_hint}
+use Rattle.concurrent_lru.specs.Results.{outcome_of_get_by, found_without_hint}
 use Rattle.concurrent_lru.proofs.Entries.EntryAtPlace.{key_is, found_is, has_room, unready_pinned, is_unready, would_hit, get_overflows, value_here}
 use Rattle.concurrent_lru.proofs.Steps.NotReady.{absent_unready, unready_phase, unready_not_ready}
 use Rattle.concurrent_lru.proofs.Steps.StaysLawful.{hits_lawful}
@@ -37,7 +36,7 @@ returns-then-pins-self-clause-step g c =
     let here = c.node-node.ensures.entry in
     let equal = key_is here c.self.invariant.lawful c.args.key.now c.in-Some.ensures in (
       subst (λ old. Overflows g.K.PartialEq.eq old (ask.get c.args.key.now)) (ap (λ x. x.cache) c.self.view_is)
-          (get_overflows here g.K.PartialEq.eq c.self.inside.capacity c.self.inside.most_pins c.self.inside.next c.args.key.now c.in-Ready.field-0.value (found_is here c.self.invariant.lawful c.args.key.now c.in-Some.ensures) c.self.invariant.pins_above equal c.if-pins-self.true (ap phase_of c.in-Ready.is)),
+          (get_overflows here g.K.PartialEq.eq c.self.inside.capacity c.self.inside.most_pins c.self.inside.next c.args.key.now c.in-Ready.field-0 (found_is here c.self.invariant.lawful c.args.key.now c.in-Some.ensures) c.self.invariant.pins_above equal c.if-pins-self.true (ap phase_of c.in-Ready.is)),
       refl,
     )
 
@@ -50,11 +49,11 @@ invariant_of-self g c = subst (λ t. IsSound g.K.PartialEq.eq (cache_with c.self
 pub returns-in_err-value-clause-step : goal.returns-in_err-value-clause-step
 returns-in_err-value-clause-step g c =
     let here = c.node-node.ensures.entry in
-    subst (λ t. Stands g.K.PartialEq.eq c.args.self.now.cache (ask.get c.args.key.now) (outcome_of_get (found_without_hint c.from_residual.result)) (cache_with c.self.inside.capacity c.self.inside.most_pins c.self.inside.next t)) (sym c.in_err-value.ensures.err)
-    (subst (λ old. Stands g.K.PartialEq.eq c.args.self.now.cache (ask.get c.args.key.now) (outcome_of_get (found_without_hint c.from_residual.result)) old) (sym (ap (λ x. x.cache) c.self.view_is))
-    (got_memory g.K.PartialEq.eq c.args.self.now.cache (ask.get c.args.key.now) c.from_residual.result _ c.from_residual.ensures.1 c.in_err-value.ensures.refusal
+    subst (λ t. Stands g.K.PartialEq.eq c.args.self.now.cache (ask.get c.args.key.now) (outcome_of_get_by g.M.Sharing.seen (found_without_hint c.from_residual.result)) (cache_with c.self.inside.capacity c.self.inside.most_pins c.self.inside.next t)) (sym c.in_err-value.ensures.err)
+    (subst (λ old. Stands g.K.PartialEq.eq c.args.self.now.cache (ask.get c.args.key.now) (outcome_of_get_by g.M.Sharing.seen (found_without_hint c.from_residual.result)) old) (sym (ap (λ x. x.cache) c.self.view_is))
+    (got_memory g.M.Sharing.seen g.K.PartialEq.eq c.args.self.now.cache (ask.get c.args.key.now) c.from_residual.result _ c.from_residual.ensures.1 c.in_err-value.ensures.refusal
     (subst (λ old. TakesMemory g.K.PartialEq.eq old (ask.get c.args.key.now)) (ap (λ x. x.cache) c.self.view_is)
-    (would_hit here g.K.PartialEq.eq c.self.inside.capacity c.self.inside.most_pins c.self.inside.next c.args.key.now c.in-Ready.field-0.value (found_is here c.self.invariant.lawful c.args.key.now c.in-Some.ensures)
+    (would_hit here g.K.PartialEq.eq c.self.inside.capacity c.self.inside.most_pins c.self.inside.next c.args.key.now c.in-Ready.field-0 (found_is here c.self.invariant.lawful c.args.key.now c.in-Some.ensures)
     (has_room here c.self.invariant.lawful c.self.invariant.pins_above c.if-pins-self.false)
     (key_is here c.self.invariant.lawful c.args.key.now c.in-Some.ensures) (ap phase_of c.in-Ready.is)))))
 
@@ -67,18 +66,21 @@ pin-requires-clause-room g c =
     let same = c.node-node.ensures.pins in
     omega (arith, room, same)
 
-found : (g : _) (c : After-to g) → Hits g.K.PartialEq.eq (cache_with c.self.inside.capacity c.self.inside.most_pins c.self.inside.next c.self.inside.table) c.args.key.now (entry_of c.node-node.result.now).stamp (arc_value c.in_ok-value.value) [] (cache_with c.self.inside.capacity c.self.inside.most_pins c.self.inside.next c.pin.new.self)
+found : (g : _) (c : After-to g) → Hits g.K.PartialEq.eq (cache_with c.self.inside.capacity c.self.inside.most_pins c.self.inside.next c.self.inside.table) c.args.key.now (entry_of c.node-node.result.now).stamp c.in_ok-value.value [] (cache_with c.self.inside.capacity c.self.inside.most_pins c.self.inside.next c.pin.new.self)
 found g c =
     let here = c.node-node.ensures.entry in
-    hits g.K.PartialEq.eq c.self.inside.capacity c.self.inside.most_pins c.self.inside.next here c.pin.new.self c.args.key.now (arc_value c.in_ok-value.value)
+    hits g.K.PartialEq.eq c.self.inside.capacity c.self.inside.most_pins c.self.inside.next here c.pin.new.self c.args.key.now c.in_ok-value.value
     (found_is here c.self.invariant.lawful c.args.key.now c.in-Some.ensures) (key_is here c.self.invariant.lawful c.args.key.now c.in-Some.ensures) (has_room here c.self.invariant.lawful c.self.invariant.pins_above c.if-pins-self.false)
-    (value_here here (arc_value c.in_ok-value.value) c.node-node.ensures.value c.in_ok-value.ensures.value) c.node-node.ensures.pins c.in_ok-value.ensures.revived c.in_ok-value.ensures.held
+    (value_here here c.in_ok-value.value c.node-node.ensures.value c.in_ok-value.ensures.value) c.node-node.ensures.pins c.in_ok-value.ensures.revived c.in_ok-value.ensures.held
 
 pub invariant_of-self-2 : goal.invariant_of-self-2
 invariant_of-self-2 g c = record { lawful = hits_lawful _ g.met.K.Eq.laws _ c.self.invariant.lawful c.self.invariant.pins_above _ _ _ _ _ (found g c); pins_above = c.self.invariant.pins_above }
 
 pub returns-clause-step : goal.returns-clause-step
-returns-clause-step g c = subst (λ old. Hits g.K.PartialEq.eq old c.args.key.now (entry_of c.node-node.result.now).stamp (arc_value c.in_ok-value.value) [] (cache_with c.self.inside.capacity c.self.inside.most_pins c.self.inside.next c.pin.new.self)) (ap (λ x. x.cache) c.self.view_is) (found g c)
+returns-clause-step g c =
+    let new = cache_with c.self.inside.capacity c.self.inside.most_pins c.self.inside.next c.pin.new.self in
+    subst (λ w. Hits g.K.PartialEq.eq c.args.self.now.cache c.args.key.now (entry_of c.node-node.result.now).stamp w [] new) (sym c.into_share-share.ensures)
+    (subst (λ old. Hits g.K.PartialEq.eq old c.args.key.now (entry_of c.node-node.result.now).stamp c.in_ok-value.value [] new) (ap (λ x. x.cache) c.self.view_is) (found g c))
 
 pub returns-clause-lawful : goal.returns-clause-lawful
 returns-clause-lawful g c = hits_lawful _ g.met.K.Eq.laws _ c.self.invariant.lawful c.self.invariant.pins_above _ _ _ _ _ (found g c)

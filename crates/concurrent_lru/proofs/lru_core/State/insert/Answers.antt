@@ -1,15 +1,14 @@
 use Rattle.std.proofs.Common.{Ok, sym, subst}
-use Rattle.std.specs.Arc.{arc_value}
 use Rattle.concurrent_lru.specs.Inserts.{Inserts}
 use Rattle.concurrent_lru.specs.Request as ask
-use Rattle.concurrent_lru.specs.Results.{outcome_of_insert}
+use Rattle.concurrent_lru.specs.Results.{outcome_of_insert_by}
 use Rattle.concurrent_lru.specs.Runs.{Stands}
 use Rattle.concurrent_lru.proofs.lru_core.State.insert.Goals as goal
 
 pub returns-in-Ok-clause-step : goal.returns-in-Ok-clause-step
 returns-in-Ok-clause-step g c =
-    subst (λ new. Inserts g.K.PartialEq.eq c.args.self.now.cache c.args.key.now c.args.charge (arc_value c.args.value) (Ok c.in-Ok.inserted) new.cache) (sym c.self.view_is) c.in-Ok.ensures.step
+    subst (λ new. Inserts g.K.PartialEq.eq c.args.self.now.cache c.args.key.now c.args.charge (g.M.Sharing.seen c.args.value) (Ok c.in-Ok.inserted) new.cache) (sym c.self.view_is) c.in-Ok.ensures.step
 
 pub returns-in-Ok-clause-request : goal.returns-in-Ok-clause-request
 returns-in-Ok-clause-request g c =
-    subst (λ new. Stands g.K.PartialEq.eq c.args.self.now.cache (ask.insert c.args.key.now c.args.charge (arc_value c.args.value)) (outcome_of_insert (Ok c.in-Ok.inserted)) new.cache) (sym c.self.view_is) c.in-Ok.ensures.request
+    subst (λ new. Stands g.K.PartialEq.eq c.args.self.now.cache (ask.insert c.args.key.now c.args.charge (g.M.Sharing.seen c.args.value)) (outcome_of_insert_by g.M.Sharing.seen (Ok c.in-Ok.inserted)) new.cache) (sym c.self.view_is) c.in-Ok.ensures.request

@@ -34,19 +34,19 @@ returns-in-Making-clause-step g c =
     let here = holds c.node-node.ensures.entry c.self.inside.capacity c.self.inside.most_pins c.self.inside.next c.args.spot.now.stamp making c.in-Some.ensures c.if-node-eq0.false (ap phase_of c.in-Making.is) in
     (refl, changes_phase_same g.K.PartialEq.eq c.args.self.now.cache c.args.spot.now.stamp h making (subst (λ k. Holds k c.args.spot.now.stamp h making) (ap (λ x. x.cache) c.self.view_is) here))
 
-pub returns-in_ok-clone-in-Ready-clause-step : goal.returns-in_ok-clone-in-Ready-clause-step
-returns-in_ok-clone-in-Ready-clause-step g c =
-    let v = c.in_ok-clone-in-Ready.field-0.value in
+pub returns-in_ok-another-in-Ready-clause-step : goal.returns-in_ok-another-in-Ready-clause-step
+returns-in_ok-another-in-Ready-clause-step g c =
+    let v = g.M.Sharing.seen c.into_share.result in
     let h = held_entry (entry_of c.node-node.result.now) in
-    let here = holds c.node-node.ensures.entry c.self.inside.capacity c.self.inside.most_pins c.self.inside.next c.args.spot.now.stamp (ready v) c.in-Some.ensures c.if-node-eq0.false (ap phase_of c.in-Ready.is ∙ ap ready (sym c.in_ok-clone-in-Ready.ensures.cases)) in
+    let here = holds c.node-node.ensures.entry c.self.inside.capacity c.self.inside.most_pins c.self.inside.next c.args.spot.now.stamp (ready v) c.in-Some.ensures c.if-node-eq0.false (ap phase_of c.in-Ready.is ∙ ap ready (sym (c.into_share.ensures ∙ c.in_ok-another-in-Ready.ensures))) in
     (refl, changes_phase_same g.K.PartialEq.eq c.args.self.now.cache c.args.spot.now.stamp h (ready v) (subst (λ k. Holds k c.args.spot.now.stamp h (ready v)) (ap (λ x. x.cache) c.self.view_is) here))
 
-pub returns-in_err-clone-in-Ready-clause-step : goal.returns-in_err-clone-in-Ready-clause-step
-returns-in_err-clone-in-Ready-clause-step g c =
-    let v = c.in-Ready.value.value in
+pub returns-in_err-another-in-Ready-clause-step : goal.returns-in_err-another-in-Ready-clause-step
+returns-in_err-another-in-Ready-clause-step g c =
+    let v = c.in-Ready.value in
     let h = held_entry (entry_of c.node-node.result.now) in
     let here = holds c.node-node.ensures.entry c.self.inside.capacity c.self.inside.most_pins c.self.inside.next c.args.spot.now.stamp (ready v) c.in-Some.ensures c.if-node-eq0.false (ap phase_of c.in-Ready.is) in
-    polled_memory g.K.PartialEq.eq c.args.self.now.cache (ask.poll c.args.spot.now.stamp) c.from_residual.result _ c.from_residual.ensures.1 refl
+    polled_memory g.M.Sharing.seen g.K.PartialEq.eq c.args.self.now.cache (ask.poll c.args.spot.now.stamp) c.from_residual.result _ c.from_residual.ensures.1 refl
     (h, v, subst (λ k. Holds k c.args.spot.now.stamp h (ready v)) (ap (λ x. x.cache) c.self.view_is) here)
 
 pub set_phase-requires : goal.set_phase-requires

@@ -37,7 +37,7 @@ returns-then-pins-self-clause-step g c =
       refl,
       (
         subst (λ old. Overflows g.K.PartialEq.eq old (ask.get c.args.key.now)) (ap (λ x. x.cache) c.self.view_is)
-            (get_overflows here g.K.PartialEq.eq c.self.inside.capacity c.self.inside.most_pins c.self.inside.next c.args.key.now c.in-Ready.value.value (found_is here c.self.invariant.lawful c.args.key.now c.in-Some.ensures) c.self.invariant.pins_above equal c.if-pins-self.true (ap phase_of c.in-Ready.is)),
+            (get_overflows here g.K.PartialEq.eq c.self.inside.capacity c.self.inside.most_pins c.self.inside.next c.args.key.now c.in-Ready.value (found_is here c.self.invariant.lawful c.args.key.now c.in-Some.ensures) c.self.invariant.pins_above equal c.if-pins-self.true (ap phase_of c.in-Ready.is)),
         refl,
       ),
     )
@@ -45,14 +45,14 @@ returns-then-pins-self-clause-step g c =
 pub reader-answer-requires : goal.reader-answer-requires
 reader-answer-requires g c =
     let here = c.node-node.ensures.entry in
-    let found = finds g.K.PartialEq.eq c.self.inside.capacity c.self.inside.most_pins c.self.inside.next here c.args.key.now c.in-Ready.value.value (key_is here c.self.invariant.lawful c.args.key.now c.in-Some.ensures)
+    let found = finds g.K.PartialEq.eq c.self.inside.capacity c.self.inside.most_pins c.self.inside.next here c.args.key.now c.in-Ready.value (key_is here c.self.invariant.lawful c.args.key.now c.in-Some.ensures)
     (has_room here c.self.invariant.lawful c.self.invariant.pins_above c.if-pins-self.false) (ap phase_of c.in-Ready.is) (found_is here c.self.invariant.lawful c.args.key.now c.in-Some.ensures) c.node-node.ensures.pins in
-    c.requires.callable c.in-Ready.value.value (subst (λ old. Finds g.K.PartialEq.eq old c.args.key.now c.in-Ready.value.value) (ap (λ x. x.cache) c.self.view_is) found) c.deref.result c.deref.ensures
+    c.requires.callable c.in-Ready.value (subst (λ old. Finds g.K.PartialEq.eq old c.args.key.now c.in-Ready.value) (ap (λ x. x.cache) c.self.view_is) found) c.value.result c.value.ensures
 
 pub returns-then-pins-gt0-clause-step : goal.returns-then-pins-gt0-clause-step
 returns-then-pins-gt0-clause-step g c =
     let here = c.node-node.ensures.entry in
-    let v = c.in-Ready.value.value in
+    let v = c.in-Ready.value in
     let pinned = c.if-pins-gt0.true in
     let read = read_held g.K.PartialEq.eq c.self.inside.capacity c.self.inside.most_pins c.self.inside.next here c.args.key.now v (key_is here c.self.invariant.lawful c.args.key.now c.in-Some.ensures)
     (has_room here c.self.invariant.lawful c.self.invariant.pins_above c.if-pins-self.false) (ap phase_of c.in-Ready.is) (found_is here c.self.invariant.lawful c.args.key.now c.in-Some.ensures) (λ none. omega (arith, none, pinned)) in
@@ -64,7 +64,7 @@ unpinned g c = let few = c.if-pins-gt0.false in omega (arith, few)
 lawful : (g : _) (c : After-renew g) → IsLawful g.K.PartialEq.eq (cache_with c.self.inside.capacity c.self.inside.most_pins c.self.inside.next c.renew.new.self)
 lawful g c =
     let here = c.node-node.ensures.entry in
-    read_lawful g.K.PartialEq.eq c.self.inside.capacity c.self.inside.most_pins c.self.inside.next here c.args.key.now c.in-Ready.value.value (key_is here c.self.invariant.lawful c.args.key.now c.in-Some.ensures)
+    read_lawful g.K.PartialEq.eq c.self.inside.capacity c.self.inside.most_pins c.self.inside.next here c.args.key.now c.in-Ready.value (key_is here c.self.invariant.lawful c.args.key.now c.in-Some.ensures)
     (has_room here c.self.invariant.lawful c.self.invariant.pins_above c.if-pins-self.false) (ap phase_of c.in-Ready.is) (found_is here c.self.invariant.lawful c.args.key.now c.in-Some.ensures) c.self.invariant.lawful c.renew.new.self g.met.K.Eq.laws c.node-node.ensures.pins (unpinned g c) c.renew.ensures.entry
 
 pub invariant_of-self : goal.invariant_of-self
@@ -73,7 +73,7 @@ invariant_of-self g c = record { lawful = lawful g c; pins_above = c.self.invari
 pub returns-clause-step : goal.returns-clause-step
 returns-clause-step g c =
     let here = c.node-node.ensures.entry in
-    let v = c.in-Ready.value.value in
+    let v = c.in-Ready.value in
     let read = read_idle g.K.PartialEq.eq c.self.inside.capacity c.self.inside.most_pins c.self.inside.next here c.args.key.now v (key_is here c.self.invariant.lawful c.args.key.now c.in-Some.ensures)
     (has_room here c.self.invariant.lawful c.self.invariant.pins_above c.if-pins-self.false) (ap phase_of c.in-Ready.is) (found_is here c.self.invariant.lawful c.args.key.now c.in-Some.ensures) c.self.invariant.lawful c.renew.new.self c.node-node.ensures.pins (unpinned g c) c.renew.ensures.entry in
     let new = cache_with c.self.inside.capacity c.self.inside.most_pins c.self.inside.next c.renew.new.self in

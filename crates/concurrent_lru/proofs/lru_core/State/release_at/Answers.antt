@@ -35,15 +35,15 @@ returns-then-pins-eq0-clause-step g c = (
 pub set_pins-requires-clause-held : goal.set_pins-requires-clause-held
 set_pins-requires-clause-held g c = held_place c.node-node.ensures.entry c.if-pins-eq0.false
 
-unpinned : (g : _) (c : After-none g) → Leaves g.K.PartialEq.eq (cache_with c.self.inside.capacity c.self.inside.most_pins c.self.inside.next c.self.inside.table) c.args.spot.now.stamp (ready c.in-Ready.field-0.value) (ready c.in-Ready.field-0.value) [] (cache_with c.self.inside.capacity c.self.inside.most_pins c.self.inside.next c.set_pins.new.self)
-unpinned g c = leaves_as_it_is g.K.PartialEq.eq c.self.inside.capacity c.self.inside.most_pins c.self.inside.next c.node-node.ensures.entry c.set_pins.new.self c.args.spot.now.stamp (ready c.in-Ready.field-0.value) c.in-Some.ensures c.if-pins-gt1.true (ap phase_of c.in-Ready.is) c.set_pins.ensures
+unpinned : (g : _) (c : After-none g) → Leaves g.K.PartialEq.eq (cache_with c.self.inside.capacity c.self.inside.most_pins c.self.inside.next c.self.inside.table) c.args.spot.now.stamp (ready c.in-Ready.field-0) (ready c.in-Ready.field-0) [] (cache_with c.self.inside.capacity c.self.inside.most_pins c.self.inside.next c.set_pins.new.self)
+unpinned g c = leaves_as_it_is g.K.PartialEq.eq c.self.inside.capacity c.self.inside.most_pins c.self.inside.next c.node-node.ensures.entry c.set_pins.new.self c.args.spot.now.stamp (ready c.in-Ready.field-0) c.in-Some.ensures c.if-pins-gt1.true (ap phase_of c.in-Ready.is) c.set_pins.ensures
 
 pub invariant_of-self : goal.invariant_of-self
 invariant_of-self g c = record { lawful = leaves_lawful _ _ _ _ _ _ _ c.self.invariant.lawful (unpinned g c); pins_above = c.self.invariant.pins_above }
 
 pub returns-then-pins-gt1-clause-step : goal.returns-then-pins-gt1-clause-step
 returns-then-pins-gt1-clause-step g c =
-    let v = c.in-Ready.field-0.value in
+    let v = c.in-Ready.field-0 in
     let new = cache_with c.self.inside.capacity c.self.inside.most_pins c.self.inside.next c.set_pins.new.self in
     let step : Leaves g.K.PartialEq.eq c.args.self.now.cache c.args.spot.now.stamp (ready v) (ready v) [] new = subst (λ old. Leaves g.K.PartialEq.eq old c.args.spot.now.stamp (ready v) (ready v) [] new) (ap (λ x. x.cache) c.self.view_is) (unpinned g c) in
     inl (v, subst (λ out. Leaves g.K.PartialEq.eq c.args.self.now.cache c.args.spot.now.stamp (ready v) (ready v) out new) (sym c.none.ensures) step)
@@ -52,7 +52,7 @@ pub returns-then-pins-gt1-clause-lawful : goal.returns-then-pins-gt1-clause-lawf
 returns-then-pins-gt1-clause-lawful g c = leaves_lawful _ _ _ _ _ _ _ c.self.invariant.lawful (unpinned g c)
 
 pub make_idle-requires : goal.make_idle-requires
-make_idle-requires g c = ready_place c.node-node.ensures.entry c.in-Ready.field-0.value (ap phase_of c.in-Ready.is) c.if-pins-eq0.false c.if-detached.false
+make_idle-requires g c = ready_place c.node-node.ensures.entry c.in-Ready.field-0 (ap phase_of c.in-Ready.is) c.if-pins-eq0.false c.if-detached.false
 
 one : (n : ℕ) → (n ≡ 0 → ⊥) → (1 < n → ⊥) → n ≡ 1
 one n some few = omega arith
@@ -60,7 +60,7 @@ one n some few = omega arith
 ended : (g : _) (c : After-one g) → Ends g.K.PartialEq.eq (cache_with c.self.inside.capacity c.self.inside.most_pins c.self.inside.next c.self.inside.table) c.args.spot.now.stamp c.one.result (cache_with c.self.inside.capacity c.self.inside.most_pins c.self.inside.next c.take_held.new.self)
 ended g c =
     let few = c.if-pins-gt1.false in
-    ends g.K.PartialEq.eq c.self.inside.capacity c.self.inside.most_pins c.self.inside.next c.node-node.ensures.entry c.take_held.new.self c.args.spot.now.stamp c.in-Ready.field-0.value (entry_of c.take_held.result.value) c.one.result c.in-Some.ensures
+    ends g.K.PartialEq.eq c.self.inside.capacity c.self.inside.most_pins c.self.inside.next c.node-node.ensures.entry c.take_held.new.self c.args.spot.now.stamp c.in-Ready.field-0 (entry_of c.take_held.result.value) c.one.result c.in-Some.ensures
     (ap phase_of c.in-Ready.is) c.if-detached.true (one (entry_of c.node-node.result.now).pins c.if-pins-eq0.false (λ many. omega (arith, many, few))) c.take_held.ensures.at c.take_held.ensures.entry c.take_held.ensures.idle c.take_held.ensures.held c.one.ensures
 
 pub invariant_of-self-then-detached : goal.invariant_of-self-then-detached

@@ -54,7 +54,7 @@ pub returns-in_default-clause-step : goal.returns-in_default-clause-step
 returns-in_default-clause-step g c =
     let old = c.args.self.now.cache in
     let absent : IsAbsent g.K.PartialEq.eq old c.args.key.now = (subst (λ old. IsAbsent g.K.PartialEq.eq old c.args.key.now) (ap (λ x. x.cache) c.self.view_is) c.in_default.ensures) in
-    let made = begun_new g.K.PartialEq.eq c.args.charge absent c.in_ok-_begun._begun c.in_ok-_begun.evicted c.make.new.self.cache c.in_ok-_begun.ensures.step in
+    let made = begun_new g.K.PartialEq.eq c.args.charge absent g.M.Sharing.seen c.in_ok-_begun._begun c.in_ok-_begun.evicted c.make.new.self.cache c.in_ok-_begun.ensures.step in
     let next = sym (ap (λ x. x.cache.next) c.self.view_is) in
     (old, inr (inr (absent, record { same = refl; none = c.none.ensures })), inl (subst (λ n. Makes g.K.PartialEq.eq old c.args.key.now c.args.charge n c.in_ok-_begun.evicted c.make.new.self.cache) next made))
 

@@ -1,6 +1,5 @@
 use Rattle.std.proofs.Common.{◌≡◌, Some, refl, sym, ap, ◌∙◌, subst}
 use Rattle.std.specs.Prelude.{is_some}
-use Rattle.std.specs.Arc.{arc_value}
 use Rattle.concurrent_lru.specs.Cache.{charges}
 use Rattle.concurrent_lru.specs.NodeTable.{value_in}
 use Rattle.concurrent_lru.specs.Entries.{ContainsIdleAt, RevivesAt, charges_of, value_at}
@@ -55,7 +54,7 @@ pub returns-clause-value : goal.returns-clause-value
 returns-clause-value g c =
     let h = subst (λ t. ContainsIdleAt t c.args.place) (sym c.self.view_is) c.requires in
     let n = some_node c.self.invariant.stored c.args.place (h.0, h.1) in
-    subst (λ t. value_at t c.args.place ≡ Some (arc_value c.in_ok-value.value)) c.self.view_is (node_value c.self.invariant.stored c.args.place n.0 n.1 ∙ c.in_ok-value.ensures.value n.0 n.1)
+    subst (λ t. value_at t c.args.place ≡ Some c.in_ok-value.value) c.self.view_is (node_value c.self.invariant.stored c.args.place n.0 n.1 ∙ c.in_ok-value.ensures.value n.0 n.1)
 
 pub returns-clause-ok : goal.returns-clause-ok
 returns-clause-ok g c =

@@ -1,0 +1,11 @@
+use Rattle.std.proofs.Common.{◌∙◌}
+use Rattle.concurrent_lru.specs.Request as ask
+use Rattle.concurrent_lru.specs.Results.{outcome_of_repin}
+use Rattle.concurrent_lru.proofs.AddedUp.CountsOfSteps.{repin_counted, soundly_counted}
+use Rattle.concurrent_lru.proofs.counted.CountedState.repin.Goals as goal
+
+pub invariant_of-self : goal.invariant_of-self
+invariant_of-self g c =
+    let old = c.self.inside.state.cache in
+    soundly_counted {E = g.K.PartialEq.eq} old c.repin_at-repinned.new.self.cache c.self.inside.counts c.count_repin.new.counts (ask.repin c.args.spot.now.stamp) (outcome_of_repin c.repin_at-repinned.result)
+    c.self.invariant c.repin_at-repinned.ensures.step c.repin_at-repinned.ensures.lawful (c.count_repin.ensures ∙ repin_counted old c.args.spot.now.stamp c.repin_at-repinned.result c.self.inside.counts)

@@ -1,6 +1,0 @@
-use Rattle.std.proofs.Common.{sym}
-use Rattle.concurrent_lru.proofs.Probing.Marks.{mark_read}
-use Rattle.concurrent_lru.proofs.list.probes.mark_in.Goals as goal
-
-pub returns : goal.returns
-returns g c = sym (mark_read c.args.slots.now c.args.at c.index-slots-at.result c.requires)

@@ -1,0 +1,28 @@
+use Rattle.std.proofs.Common.{◌≡◌, sym, ap, ◌∙◌, subst}
+use Rattle.concurrent_lru.specs.NodeTable.{entry_of}
+use Rattle.concurrent_lru.specs.Probing.OpenTable.{mark_of, HasMark}
+use Rattle.concurrent_lru.specs.Probing.Probes.{marks_of, mark_at}
+use Rattle.concurrent_lru.proofs.Nodes.Listings.{candidate_there}
+use Rattle.concurrent_lru.proofs.Probing.Marks.{mark_filled}
+use Rattle.concurrent_lru.proofs.Probing.Tables.Lookups.{item_mark, item_filled, fewer}
+use Rattle.concurrent_lru.proofs.node_table.slots.Slots.find_stamp.Goals as goal
+
+pub candidate-node-requires-clause-filled : goal.candidate-node-requires-clause-filled
+candidate-node-requires-clause-filled g c = item_filled c.args.self.now.by_hash (mark_of c.args.hash) (mark_filled c.args.hash) c.walk.at c.in-Item.cursor c.in-Item.is c.walk.invariant
+
+pub next-at-requires : goal.next-at-requires
+next-at-requires g c = item_filled c.args.self.now.by_hash (mark_of c.args.hash) (mark_filled c.args.hash) c.walk.at c.in-Item.cursor c.in-Item.is c.walk.invariant
+
+pub walk-smaller : goal.walk-smaller
+walk-smaller g c = fewer c.args.self.now.by_hash (mark_of c.args.hash) (mark_filled c.args.hash) c.walk.at c.next-at.result c.in-Item.cursor c.in-Item.is c.next-at.ensures.rest
+
+pub walk-preserved : goal.walk-preserved
+walk-preserved g c =
+    let s = c.args.self.now in
+    let mark : mark_at (marks_of s.by_hash) c.in-Item.cursor ≡ mark_of c.args.hash = item_mark s.by_hash (mark_of c.args.hash) (mark_filled c.args.hash) c.walk.at c.in-Item.cursor c.in-Item.is c.walk.invariant in
+    subst (λ m. HasMark s.by_hash m c.next-at.result) mark c.next-at.ensures.mark
+
+pub returns-then-node-stamp : goal.returns-then-node-stamp
+returns-then-node-stamp g c =
+    let to = c.candidate-node.ensures in
+    (to.cell, candidate_there c.args.self.now c.in-Item.cursor c.candidate-node.result.now c.requires.tied to, ap (λ x. (entry_of x).stamp) (sym to.is) ∙ c.if-node-stamp.true)

@@ -1,0 +1,14 @@
+use Rattle.std.proofs.Common.{ap, ◌∙◌, subst}
+use Rattle.concurrent_lru.specs.Cells.{slot_at, write_to}
+use Rattle.concurrent_lru.specs.NodeTable.{entry_with_phase}
+use Rattle.concurrent_lru.specs.Relinks.{Revalues}
+use Rattle.concurrent_lru.specs.SlotPointers.{cells_of}
+use Rattle.concurrent_lru.proofs.Nodes.NodeWrites.{revalued}
+use Rattle.concurrent_lru.proofs.node_table.slots.Slots.set_phase.Goals as goal
+
+pub returns-clause-entry : goal.returns-clause-entry
+returns-clause-entry g c =
+    let looked = cells_of c.look_near-link.new.self in let p = c.look_near-link.result in let new = c.set_phase.new.self in
+    let same = ap cells_of c.look_near-link.ensures.rest in
+    subst (λ l. Revalues l (write_to p new looked) c.args.slot (entry_with_phase c.args.phase)) same
+    (revalued looked p c.follow_mut.result.now new c.follow_mut.ensures.value (entry_with_phase c.args.phase) c.set_phase.ensures c.args.slot (ap (λ l. slot_at l p) same ∙ c.look_near-link.ensures.link))

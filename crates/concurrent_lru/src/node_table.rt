@@ -1,0 +1,593 @@
+//! Nodes by place and by hash, and the order of the idle ones: an intrusive list of raw nodes, with
+//! a slab of pointers to them and a table from the hashes of their keys. No key is hashed and no
+//! charge added here. What a node stores as its value is a parameter.
+// What a hit calls is inlined, so that results stay in registers; rare paths are left as calls.
+ghost use Rattle.std.specs.Prelude.{◌≡◌, ℕ, ◌+◌, ◌<◌, ◌≤◌, ◌==◌, Some, None, [], ◌∷◌, ◌++◌, filter, not, IsSome, OnOk, OnErr, IfOk, IfErr, IfSome, IsTrue, IsFalse, slice_get, nat_eq};
+ghost use Rattle.std.specs.List.{IsDistinct};
+ghost use Rattle.std.specs.FinMap as map;
+ghost use Rattle.concurrent_lru.specs.NodeTable.{entry_of, hash_of, chain_of, value_of, update_at, entry_with_pins, entry_detached, entry_with_phase, pinned_once, new_entry, HasValue, GivesValue, ContainsNode, ContainsIdle, LacksIdle, HasStampAt, IsNewStamp, FindsStamp, FindsKey, KeepsNodes};
+
+mod links;
+mod memory;
+mod open_table;
+mod probes;
+mod slots;
+mod writes;
+
+use crate::node_table::links::Order;
+pub(crate) use crate::node_table::open_table::Cursor;
+pub use crate::refusal::Refusal;
+use crate::share::Stores;
+use crate::work::Work;
+use std::alloc::Global;
+use std::marker::{Model, Send, Sync};
+use std::ptr;
+
+/// The state of an entry's value.
+#[derive(Drop)]
+pub enum Phase<V> {
+    /// A caller is making it.
+    Making,
+    /// Its maker failed, and no caller has taken over the making.
+    Untaken,
+    /// It is ready.
+    Ready(V),
+}
+
+/// An entry of the cache as it is laid out in memory.
+// What a hit reads and writes is adjacent, from the charge on, so that it touches as few cache
+// lines as possible.
+#[derive(Drop)]
+pub struct Node<K, V> {
+    /// The next node of a chain of evicted ones; `None` while the node is in a `Nodes`.
+    pub next: Option<Box<Node<K, V>>>,
+    /// The hash of the key, under which the entry is found while it is not detached.
+    pub hash: u64,
+    /// What the entry adds to the total.
+    pub charge: u64,
+    /// The number that identifies the entry; no two entries of a cache ever share one.
+    pub stamp: u64,
+    /// A copy of the key that the entry was inserted for.
+    pub key: K,
+    /// How many handles hold the entry.
+    pub pins: u32,
+    /// Whether the entry is found by its stamp only, and no longer by its key.
+    pub detached: bool,
+    // Whether there is a node before it in the idle order, and one after it. The two links without
+    // these marks lead nowhere. An `Option` of a pointer would take 16 bytes.
+    has_before: bool,
+    has_after: bool,
+    /// The state of its value.
+    pub phase: Phase<V>,
+    // The nodes before and after it in the idle order, and its own slot.
+    before: *mut Node<K, V>,
+    after: *mut Node<K, V>,
+    slot: usize,
+}
+
+// A node owns its key and shares its value, as an `Arc` does; its links give no access to others.
+unsafe impl<K: Send, V: Send + Sync> Send for Node<K, V> {}
+
+unsafe impl<K: Sync, V: Send + Sync> Sync for Node<K, V> {}
+
+impl<K, V> Node<K, V> {
+    /// Creates a node with one pin, whose value is being made.
+    pub fn new(stamp: u64, hash: u64, key: K, charge: u64) -> Node<K, V>
+        ensures entry { entry_of result ≡ new_entry stamp key charge }
+        ensures hash { hash_of result ≡ hash }
+        ensures alone { chain_of result ≡ [] }
+    {
+        Node {
+            next: None,
+            hash,
+            charge,
+            stamp,
+            key,
+            pins: 1,
+            detached: false,
+            has_before: false,
+            has_after: false,
+            phase: Phase::Making,
+            before: ptr::null_mut(),
+            after: ptr::null_mut(),
+            slot: 0,
+        }
+    }
+}
+
+impl<K: Drop, V: Stores + Drop> Node<K, V> {
+    // Returns another share of the value.
+    pub(crate) fn share_value(&self) -> Result<V, Refusal>
+        requires { IsSome (value_of (entry_of self.now)) }
+        ensures value { IfOk result (λ v. value_of (entry_of self.now) ≡ Some v) }
+        ensures refusal { IfErr result (λ e. e ≡ Refusal.Memory) }
+    {
+        match &self.phase {
+            Phase::Ready(value) => Ok(value.another()?),
+            _ => unreachable!(),
+        }
+    }
+}
+
+impl<K: Drop, V: Drop> Node<K, V> {
+    ghost use Rattle.concurrent_lru.specs.Relinks.{IsPlaced, IsRelinked, IsRevalued, before_link, after_link};
+
+    // Sets the node's own slot.
+    fn set_slot(&mut self, slot: usize)
+        ensures { IsPlaced self.old self.new slot }
+    {
+        self.slot = slot;
+    }
+
+    // Returns the node before it in the idle order.
+    fn before_link(&self) -> Option<*mut Node<K, V>>
+        ensures { result ≡ before_link self.now }
+    {
+        if self.has_before {
+            return Some(self.before);
+        }
+        None
+    }
+
+    // Returns the node after it in the idle order.
+    fn after_link(&self) -> Option<*mut Node<K, V>>
+        ensures { result ≡ after_link self.now }
+    {
+        if self.has_after {
+            return Some(self.after);
+        }
+        None
+    }
+
+    // Sets one link. The other is not read: a neighbour was often written last by another
+    // processor, and reading it before the write moves its cache line twice.
+    fn set_before(&mut self, before: Option<*mut Node<K, V>>)
+        ensures { IsRelinked self.old self.new before (after_link self.old) }
+    {
+        match before {
+            Some(link) => {
+                self.before = link;
+                self.has_before = true;
+            }
+            None => self.has_before = false,
+        }
+    }
+
+    fn set_after(&mut self, after: Option<*mut Node<K, V>>)
+        ensures { IsRelinked self.old self.new (before_link self.old) after }
+    {
+        match after {
+            Some(link) => {
+                self.after = link;
+                self.has_after = true;
+            }
+            None => self.has_after = false,
+        }
+    }
+
+    // Sets the neighbours in the idle order.
+    fn set_links(&mut self, before: Option<*mut Node<K, V>>, after: Option<*mut Node<K, V>>)
+        ensures { IsRelinked self.old self.new before after }
+    {
+        self.set_before(before);
+        self.set_after(after);
+    }
+
+    // The node states itself what a write leaves of the chain and the links.
+    fn set_pins(&mut self, pins: u32)
+        ensures { IsRevalued self.old self.new (entry_with_pins pins (entry_of self.old)) }
+    {
+        self.pins = pins;
+    }
+
+    fn set_detached(&mut self)
+        ensures { IsRevalued self.old self.new (entry_detached (entry_of self.old)) }
+    {
+        self.detached = true;
+    }
+
+    fn set_phase(&mut self, phase: Phase<V>)
+        ensures { IsRevalued self.old self.new (entry_with_phase phase (entry_of self.old)) }
+    {
+        self.phase = phase;
+    }
+}
+
+/// Where a node is. It becomes stale when the node is taken, and may then be given out again.
+#[derive(Clone, Copy, PartialEq, Eq)]
+pub struct Place {
+    slot: usize,
+}
+
+impl Place {
+    // Returns some place, which may have no node.
+    pub(crate) fn first() -> Place {
+        Place { slot: 0 }
+    }
+
+    /// Returns the place with this number, which may have no node.
+    pub fn at(number: usize) -> Place
+        ensures { result ≡ number }
+    {
+        Place { slot: number }
+    }
+
+    /// Returns the number of this place.
+    pub fn number(self) -> usize
+        ensures { result ≡ self }
+    {
+        self.slot
+    }
+}
+
+impl Model for Place {
+    ghost use Rattle.std.specs.Prelude.{ℕ};
+
+    ghost Value = { ℕ };
+
+    ghost view = { λ a. a.slot };
+
+    ghost inverse = { λ n. record { slot = n } };
+}
+
+/// Nodes by place, and the places of the idle ones, oldest first.
+///
+/// Clauses see a map from places to entries, the list of idle places, `spare`, the number of
+/// inserts that need no memory, `work`, how often the order was written, and `looks`, how often a
+/// node was looked up in the slab to be written or taken. An append or a removal looks up at most
+/// one node.
+pub struct Nodes<K, V> {
+    order: Order<K, V>,
+    work: Work,
+}
+
+impl<K, V> Model for Nodes<K, V> {
+    ghost use Rattle.concurrent_lru.specs.NodeTable.{NodeTable, node_table_code};
+
+    ghost Value = { NodeTable K V };
+
+    ghost coded = { node_table_code K.code V.code };
+
+    ghost use base.Fml.{ftrue};
+    ghost use Rattle.concurrent_lru.specs.SlotTable.{node_table_of, IsWhole};
+
+    ghost view = { λ a. node_table_of a.order a.work.count };
+
+    ghost invariant = { λ a. IsWhole a.order };
+
+    // Nothing else is owned. With this, a user's proof that a cache may cross threads ends at the
+    // `Send` and `Sync` below, and need not unfold a node, which refers to itself.
+    ghost also_owns = { λ _. ftrue };
+
+    ghost also_shares = { λ _ _ _. ftrue };
+}
+
+// The nodes own their keys, and share their values with handles, as an `Arc` does.
+unsafe impl<K: Send, V: Send + Sync> Send for Nodes<K, V> {}
+
+unsafe impl<K: Sync, V: Send + Sync> Sync for Nodes<K, V> {}
+
+impl<K, V> Nodes<K, V> {
+    ghost use Rattle.std.specs.Prelude.{◌≡◌};
+    ghost use Rattle.concurrent_lru.specs.SlotTable.{node_table_of, IsWhole};
+
+    // Builds a table from an order that is whole.
+    fn of(order: Order<K, V>, work: Work) -> Nodes<K, V>
+        requires { IsWhole order }
+        ensures { result ≡ node_table_of order work.count }
+    {
+        Nodes { order, work }
+    }
+}
+
+impl<K: Drop, V: Drop> Drop for Nodes<K, V> {
+    fn drop(self) {
+        let Nodes { order, work: _ } = self;
+        order.end();
+    }
+}
+
+impl<K: Drop, V: Drop> Nodes<K, V> {
+    /// Creates a table with no nodes. Takes no memory.
+    pub fn new(alloc: Global) -> Nodes<K, V>
+        ensures nodes { result.nodes ≡ map.empty }
+        ensures hashes { result.hashes ≡ map.empty }
+        ensures idle { result.idle ≡ [] }
+        ensures work { result.work ≡ 0 }
+    {
+        Nodes::of(Order::new(alloc), Work::new())
+    }
+
+    /// Reserves room for `more` inserts and for all later calls on what they insert.
+    ///
+    /// Returns `Memory` if the allocator refuses; the nodes and their order stay as they were.
+    pub fn reserve(&mut self, more: usize) -> Result<(), Refusal>
+        ensures ok { OnOk result (more ≤ self.new.spare) }
+        ensures err { IfErr result (λ e. e ≡ Refusal.Memory) }
+        ensures nodes { self.new.nodes ≡ self.old.nodes }
+        ensures hashes { self.new.hashes ≡ self.old.hashes }
+        ensures idle { self.new.idle ≡ self.old.idle }
+        ensures work { self.new.work ≡ self.old.work }
+    {
+        self.order.slots.reserve(more)?;
+        Ok(())
+    }
+
+    /// Inserts a node, for which there is room, outside the idle order, at a place that was free.
+    pub fn insert_reserved(&mut self, node: Box<Node<K, V>>) -> Place
+        requires spare { 0 < self.old.spare }
+        requires alone { chain_of node.value ≡ [] }
+        requires fresh { IsNewStamp self.old (entry_of node.value).stamp }
+        ensures free { map.get self.old.nodes result ≡ None }
+        ensures nodes { self.new.nodes ≡ map.insert self.old.nodes result (entry_of node.value) }
+        ensures hashes { self.new.hashes ≡ map.insert self.old.hashes result (hash_of node.value) }
+        ensures idle { self.new.idle ≡ self.old.idle }
+        ensures spare { self.old.spare ≤ self.new.spare + 1 }
+        ensures work { self.new.work ≡ self.old.work }
+    {
+        Place {
+            slot: self.order.slots.insert(node),
+        }
+    }
+
+    /// Returns the number of nodes.
+    pub fn len(&self) -> usize
+        ensures { result ≡ map.len self.now.nodes }
+    {
+        self.order.slots.len()
+    }
+
+    // Returns whether there is a node at the place, which may be any place.
+    pub(crate) fn contains(&self, place: Place) -> bool
+        ensures yes { IsTrue result → ContainsNode self.now place }
+        ensures no { IsFalse result → map.get self.now.nodes place ≡ None }
+    {
+        self.order.slots.contains(place.slot)
+    }
+
+    // Returns a number above those of all places that have a node.
+    pub(crate) fn end_of_places(&self) -> usize
+        ensures { (place : ℕ) → result ≤ place → map.get self.now.nodes place ≡ None }
+    {
+        self.order.slots.end_of_slots()
+    }
+
+    // Returns whether a node with this stamp is at the place, which may be any place.
+    pub(crate) fn has_stamp(&self, place: Place, stamp: u64) -> bool
+        ensures yes { IsTrue result → HasStampAt self.now place stamp }
+        ensures no { IsFalse result → HasStampAt self.now place stamp → ⊥ }
+    {
+        self.order.slots.contains(place.slot) && self.order.slots.node(place.slot).stamp == stamp
+    }
+
+    // Returns the place of the node with an equal key, among those with this hash that are not
+    // detached, and the cursor with which the next calls find it again.
+    #[inline(always)]
+    pub(crate) fn find_key(&self, hash: u64, key: &K) -> Option<(Place, Cursor)>
+    where
+        K: Eq,
+        ensures { FindsKey K.eq self.now hash key.now result }
+    {
+        match self.order.slots.find_key(hash, key) {
+            Some((slot, near)) => Some((Place { slot }, near)),
+            None => None,
+        }
+    }
+
+    // Returns the place of a node with this stamp, if it is among those with this hash that are not
+    // detached, and the cursor with which the next calls find it again.
+    #[inline(always)]
+    pub(crate) fn find_stamp_by_hash(&self, hash: u64, stamp: u64) -> Option<(Place, Cursor)>
+        ensures { IfSome result (λ r. HasStampAt self.now r.0 stamp) }
+    {
+        match self.order.slots.find_stamp(hash, stamp) {
+            Some((slot, near)) => Some((Place { slot }, near)),
+            None => None,
+        }
+    }
+
+    // Returns the place of a node with this stamp, visiting the nodes one by one.
+    pub(crate) fn find_stamp(&self, stamp: u64) -> Option<Place>
+        ensures { FindsStamp self.now stamp result }
+    {
+        for slot in 0..self.order.slots.end_of_slots() {
+            let place = Place { slot };
+            if self.has_stamp(place, stamp) {
+                return Some(place);
+            }
+        }
+        None
+    }
+
+    /// Returns the node at a place.
+    pub fn node(&self, place: Place) -> &Node<K, V>
+        requires { ContainsNode self.now place }
+        ensures entry { map.get self.now.nodes place ≡ Some (entry_of result.now) }
+        ensures alone { chain_of result.now ≡ [] }
+    {
+        self.order.slots.node(place.slot)
+    }
+
+    // The calls named `.._near` do what the others do. Their lookup begins at a cursor, which may
+    // be any: one that leads to the node saves them a read of the slab.
+
+    #[inline(always)]
+    pub(crate) fn node_near(&self, place: Place, near: Cursor) -> &Node<K, V>
+        requires { ContainsNode self.now place }
+        ensures entry { map.get self.now.nodes place ≡ Some (entry_of result.now) }
+        ensures alone { chain_of result.now ≡ [] }
+    {
+        self.order.slots.node_near(place.slot, near)
+    }
+
+    /// Sets the number of pins of a node. Takes no memory.
+    pub fn set_pins(&mut self, place: Place, pins: u32)
+        requires { ContainsNode self.old place }
+        ensures nodes { self.new.nodes ≡ update_at (entry_with_pins pins) self.old.nodes place }
+        ensures hashes { self.new.hashes ≡ self.old.hashes }
+        ensures idle { self.new.idle ≡ self.old.idle }
+        ensures spare { self.old.spare ≤ self.new.spare }
+        ensures work { self.new.work ≡ self.old.work }
+    {
+        self.set_pins_near(place, Cursor::nowhere(), pins);
+    }
+
+    pub(crate) fn set_pins_near(&mut self, place: Place, near: Cursor, pins: u32)
+        requires { ContainsNode self.old place }
+        ensures nodes { self.new.nodes ≡ update_at (entry_with_pins pins) self.old.nodes place }
+        ensures hashes { self.new.hashes ≡ self.old.hashes }
+        ensures idle { self.new.idle ≡ self.old.idle }
+        ensures spare { self.old.spare ≤ self.new.spare }
+        ensures work { self.new.work ≡ self.old.work }
+    {
+        self.order.slots.set_pins(place.slot, near, pins);
+    }
+
+    /// Marks a node as detached from its key. Takes no memory.
+    pub fn set_detached(&mut self, place: Place)
+        requires { ContainsNode self.old place }
+        ensures nodes { self.new.nodes ≡ update_at entry_detached self.old.nodes place }
+        ensures hashes { self.new.hashes ≡ self.old.hashes }
+        ensures idle { self.new.idle ≡ self.old.idle }
+        ensures spare { self.old.spare ≤ self.new.spare }
+        ensures work { self.new.work ≡ self.old.work }
+    {
+        self.order.slots.set_detached(place.slot);
+    }
+
+    /// Sets the phase of a node. Takes no memory.
+    pub fn set_phase(&mut self, place: Place, phase: Phase<V>)
+        requires { ContainsNode self.old place }
+        ensures nodes { self.new.nodes ≡ update_at (entry_with_phase phase) self.old.nodes place }
+        ensures hashes { self.new.hashes ≡ self.old.hashes }
+        ensures idle { self.new.idle ≡ self.old.idle }
+        ensures spare { self.old.spare ≤ self.new.spare }
+        ensures work { self.new.work ≡ self.old.work }
+    {
+        self.set_phase_near(place, Cursor::nowhere(), phase);
+    }
+
+    pub(crate) fn set_phase_near(&mut self, place: Place, near: Cursor, phase: Phase<V>)
+        requires { ContainsNode self.old place }
+        ensures nodes { self.new.nodes ≡ update_at (entry_with_phase phase) self.old.nodes place }
+        ensures hashes { self.new.hashes ≡ self.old.hashes }
+        ensures idle { self.new.idle ≡ self.old.idle }
+        ensures spare { self.old.spare ≤ self.new.spare }
+        ensures work { self.new.work ≡ self.old.work }
+    {
+        self.order.slots.set_phase(place.slot, near, phase);
+    }
+
+    /// Makes a node the newest idle one. Takes no memory.
+    pub fn append(&mut self, place: Place)
+        requires within { ContainsNode self.old place }
+        requires held { LacksIdle self.old place }
+        ensures nodes { self.new.nodes ≡ self.old.nodes }
+        ensures hashes { self.new.hashes ≡ self.old.hashes }
+        ensures idle { self.new.idle ≡ self.old.idle ++ place ∷ [] }
+        ensures spare { self.old.spare ≤ self.new.spare }
+        ensures work { self.new.work ≡ self.old.work + 1 }
+        ensures looks { self.new.looks ≤ self.old.looks + 1 }
+    {
+        self.order.append(place.slot);
+        self.work.tick();
+    }
+
+    // Removes the pins of a node and makes it the newest idle one. Takes no memory.
+    #[inline(always)]
+    pub(crate) fn make_idle(&mut self, place: Place, near: Cursor)
+        requires within { ContainsNode self.old place }
+        requires held { LacksIdle self.old place }
+        ensures nodes { self.new.nodes ≡ update_at (entry_with_pins 0) self.old.nodes place }
+        ensures hashes { self.new.hashes ≡ self.old.hashes }
+        ensures idle { self.new.idle ≡ self.old.idle ++ place ∷ [] }
+        ensures spare { self.old.spare ≤ self.new.spare }
+        ensures work { self.new.work ≡ self.old.work + 1 }
+        ensures looks { self.new.looks ≤ self.old.looks + 1 }
+    {
+        self.order.make_idle(place.slot, near);
+        self.work.tick();
+    }
+
+    /// Removes a node from the idle order; it stays among the nodes. Takes no memory.
+    pub fn remove(&mut self, place: Place)
+        requires { ContainsIdle self.old place }
+        ensures nodes { self.new.nodes ≡ self.old.nodes }
+        ensures hashes { self.new.hashes ≡ self.old.hashes }
+        ensures idle { self.new.idle ≡ filter (λ p. not (p == place)) self.old.idle }
+        ensures spare { self.old.spare ≤ self.new.spare }
+        ensures work { self.new.work ≡ self.old.work + 1 }
+        ensures looks { self.new.looks ≤ self.old.looks + 1 }
+    {
+        self.order.remove(place.slot);
+        self.work.tick();
+    }
+
+    // Makes an idle node the newest idle one. Takes no memory.
+    pub(crate) fn renew(&mut self, place: Place, near: Cursor)
+        requires { ContainsIdle self.old place }
+        ensures nodes { self.new.nodes ≡ self.old.nodes }
+        ensures hashes { self.new.hashes ≡ self.old.hashes }
+        ensures idle { self.new.idle ≡ filter (λ p. not (p == place)) self.old.idle ++ place ∷ [] }
+        ensures spare { self.old.spare ≤ self.new.spare }
+        ensures work { self.new.work ≡ self.old.work + 2 }
+        ensures looks { self.new.looks ≤ self.old.looks + 1 }
+    {
+        self.order.renew(place.slot, near);
+        self.work.tick();
+        self.work.tick();
+    }
+
+    /// Returns the place of the oldest idle node, or `None` if nothing is idle.
+    pub fn oldest(&self) -> Option<Place>
+        ensures first { result ≡ slice_get self.now.idle 0 }
+
+        // Facts of the invariant, for callers, which cannot see it.
+        ensures within { (p : ℕ) → ContainsIdle self.now p → ContainsNode self.now p }
+        ensures apart { IsDistinct nat_eq self.now.idle }
+    {
+        match self.order.oldest {
+            Some(slot) => Some(Place { slot }),
+            None => None,
+        }
+    }
+
+    /// Takes a node out. Takes no memory; its place is free afterwards.
+    pub fn take(&mut self, place: Place) -> Box<Node<K, V>>
+        requires within { ContainsNode self.old place }
+        requires held { LacksIdle self.old place }
+        ensures entry { map.get self.old.nodes place ≡ Some (entry_of result.value) }
+        ensures alone { chain_of result.value ≡ [] }
+        ensures nodes { self.new.nodes ≡ map.remove self.old.nodes place }
+        ensures hashes { self.new.hashes ≡ map.remove self.old.hashes place }
+        ensures idle { self.new.idle ≡ self.old.idle }
+        ensures spare { self.old.spare ≤ self.new.spare }
+        ensures work { self.new.work ≡ self.old.work }
+    {
+        self.order.slots.take(place.slot)
+    }
+}
+
+impl<K: Drop, V: Stores + Drop> Nodes<K, V> {
+    // Removes a ready node from the idle order, gives it one pin, and returns its value. Takes no
+    // memory except for the copy of the value. Returns `Memory` if that is refused, and then
+    // nothing changed.
+    #[inline(always)]
+    pub(crate) fn revive(&mut self, place: Place, near: Cursor) -> Result<V, Refusal>
+        requires idle { ContainsIdle self.old place }
+        requires ready { HasValue (map.get self.old.nodes place) }
+        ensures value { GivesValue (map.get self.old.nodes place) result }
+        ensures nodes { OnOk result (self.new.nodes ≡ pinned_once self.old.nodes place) }
+        ensures idle { OnOk result (self.new.idle ≡ filter (λ p. not (p == place)) self.old.idle) }
+        ensures hashes { self.new.hashes ≡ self.old.hashes }
+        ensures work { OnOk result (self.new.work ≡ self.old.work + 1) }
+        ensures same { OnErr result (KeepsNodes self.old self.new) }
+        ensures refusal { IfErr result (λ e. e ≡ Refusal.Memory) }
+        ensures spare { self.old.spare ≤ self.new.spare }
+        ensures looks { self.new.looks ≤ self.old.looks + 1 }
+    {
+        let value = self.order.revive(place.slot, near)?;
+        self.work.tick();
+        Ok(value)
+    }
+}

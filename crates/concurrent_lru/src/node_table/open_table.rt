@@ -1,0 +1,210 @@
+//! Items by hash in one array of slots, with linear probing.
+//!
+//! The table compares no keys: a walk yields the items of one hash, and the caller compares what
+//! they lead to. A removal moves back what follows it, so no slot is ever marked as deleted, and
+//! removals take no memory.
+//!
+//! A slot is a hash and an item, 16 bytes where an item has 8. At most half of the slots are
+//! filled: among random hashes a lookup then reads at most 1.5 slots on average if it finds its
+//! item, and 2.5 if it does not, which mostly lie in one cache line. With seven slots in eight
+//! filled they would be 4.5 and 32.5.
+//!
+//! The lowest bits of a hash choose the slot at which its walk begins. A caller that has already
+//! divided items by some bits of their hashes, as among shards, must have used others.
+ghost use Rattle.std.specs.Prelude.{◌≡◌, ◌≢◌, ℕ, ◌+◌, ◌<◌, ◌≤◌, [], ◌∷◌, Contains, OnOk, OnErr, IsTrue};
+ghost use Rattle.concurrent_lru.specs.Probing.Probes.{mark_at, marks_of};
+ghost use Rattle.concurrent_lru.specs.Probing.Entries.{count, entry, Has, Holds, IsSame, Adds, Removes};
+ghost use Rattle.concurrent_lru.specs.Probing.OpenTable.{mark_of as mark_for, capacity, IsFilled, HasMark, walk, step_for};
+
+use crate::linear_probing::home_of;
+use crate::node_table::probes::{
+    Probe, Slot, copy_all, empty_slots, find_mark, find_next, item_in, mark_in, mark_of, put,
+    take_out,
+};
+use std::alloc::{AllocError, Global};
+use std::marker::Model;
+
+/// Where an item lies. It becomes stale with the next insertion, removal or growth.
+#[derive(Clone, Copy)]
+pub(crate) struct Cursor {
+    slot: usize,
+}
+
+impl Cursor {
+    /// Returns a cursor at which no item lies.
+    #[inline(always)]
+    pub(crate) fn nowhere() -> Cursor {
+        Cursor { slot: usize::MAX }
+    }
+}
+
+impl Model for Cursor {
+    ghost use Rattle.std.specs.Prelude.{ℕ};
+
+    ghost Value = { ℕ };
+
+    ghost view = { λ a. a.slot };
+
+    ghost inverse = { λ n. record { slot = n } };
+}
+
+/// One step of a walk along the items of a hash.
+#[derive(Clone, Copy)]
+pub(super) enum Step {
+    /// An item with the hash.
+    Item(Cursor),
+    /// The end of the walk.
+    End,
+}
+
+/// Items by hash. No item may be in it twice.
+#[derive(Drop)]
+pub(super) struct OpenTable<T: Copy> {
+    slots: Vec<Slot<T>>,
+    len: usize,
+    // What empty slots hold.
+    filler: T,
+}
+
+impl<T: Copy> Model for OpenTable<T> {
+    ghost use Rattle.std.specs.Prelude.{List};
+    ghost use Rattle.std.specs.Coded.{coded_list};
+    ghost use Rattle.concurrent_lru.specs.declared.node_table.probes.Slot.{Slot as Slot_};
+    ghost use Rattle.concurrent_lru.specs.Probing.OpenTable.{slot_code, IsTable};
+
+    ghost Value = { List (Slot_ T) };
+
+    ghost coded = { coded_list (slot_code T.code) };
+
+    ghost view = { λ a. a.slots.items };
+
+    ghost invariant = { λ a. IsTable a.slots.items a.len };
+}
+
+impl<T: Copy> OpenTable<T> {
+    /// Creates a table with no items and no room. Takes no memory.
+    ///
+    /// `filler` is what empty slots hold; it is never returned.
+    pub(super) fn new(alloc: Global, filler: T) -> OpenTable<T>
+        ensures { result ≡ [] }
+    {
+        OpenTable {
+            slots: Vec::new(alloc),
+            len: 0,
+            filler,
+        }
+    }
+
+    /// Returns the number of items.
+    pub(super) fn len(&self) -> usize
+        ensures { result ≡ count self.now }
+    {
+        self.len
+    }
+
+    /// Makes room for a total of `entries` items: the smallest power of two that is at least twice
+    /// as many slots, 16 bytes each where an item has 8. Nothing else takes memory.
+    ///
+    /// Returns an error if there is no memory, or no such number; then nothing changes.
+    pub(super) fn reserve(&mut self, entries: usize) -> Result<(), AllocError>
+        ensures room { OnOk result (entries ≤ capacity self.new) }
+        ensures stays { capacity self.old ≤ capacity self.new }
+        ensures same { IsSame self.old self.new }
+        ensures count { count self.new ≡ count self.old }
+        ensures err { OnErr result (self.new ≡ self.old) }
+    {
+        if entries <= self.slots.len() / 2 {
+            return Ok(());
+        }
+        let Some(half) = entries.checked_next_power_of_two() else {
+            return Err(AllocError);
+        };
+        let Some(count) = half.checked_mul(2) else {
+            return Err(AllocError);
+        };
+        let mut slots = empty_slots(*self.slots.allocator(), count, self.filler)?;
+        copy_all(&self.slots, &mut slots);
+        self.slots = slots;
+        Ok(())
+    }
+
+    /// Begins a walk along the items with this hash: returns the first, if there is one.
+    #[inline(always)]
+    pub(super) fn first(&self, hash: u64) -> Step
+        ensures mark { HasMark self.now (mark_for hash) result }
+        ensures all { (k : ℕ) → mark_at (marks_of self.now) k ≡ mark_for hash
+            → Contains (walk self.now result) k }
+    {
+        let count = self.slots.len();
+        if count == 0 {
+            return Step::End;
+        }
+        let mark = mark_of(hash);
+        let home = home_of(count, mark);
+        step_of(find_mark(&self.slots, mark, home))
+    }
+
+    /// Goes on with a walk: returns the next item with the hash of this one, if there is one.
+    #[inline(always)]
+    pub(super) fn next(&self, cursor: Cursor) -> Step
+        requires { IsFilled self.now cursor }
+        ensures mark { HasMark self.now (mark_at (marks_of self.now) cursor) result }
+        ensures rest { walk self.now (Step.Item cursor) ≡ cursor ∷ walk self.now result }
+    {
+        step_of(find_next(&self.slots, cursor.slot))
+    }
+
+    /// Returns whether an item lies at a cursor, which may be stale.
+    #[inline(always)]
+    pub(super) fn is_filled(&self, cursor: Cursor) -> bool
+        ensures { IsTrue result → IsFilled self.now cursor }
+    {
+        cursor.slot < self.slots.len() && mark_in(&self.slots, cursor.slot) != 0
+    }
+
+    /// Returns the item at a cursor.
+    #[inline(always)]
+    pub(super) fn item(&self, cursor: Cursor) -> T
+        requires { IsFilled self.now cursor }
+        ensures { Holds self.now cursor (entry (mark_at (marks_of self.now) cursor) result) }
+    {
+        item_in(&self.slots, cursor.slot)
+    }
+
+    /// Adds an item, for which there is room. Takes no memory.
+    pub(super) fn insert(&mut self, hash: u64, item: T)
+        requires room { count self.old < capacity self.old }
+        requires absent { (s : _) → Has self.old s → s.item ≢ item }
+        ensures adds { Adds self.old self.new (entry (mark_for hash) item) }
+        ensures count { count self.new ≡ count self.old + 1 }
+        ensures capacity { capacity self.new ≡ capacity self.old }
+    {
+        let mark = mark_of(hash);
+        put(&mut self.slots, mark, item);
+        self.len += 1;
+    }
+
+    /// Removes the item at a cursor. Takes no memory.
+    pub(super) fn remove(&mut self, cursor: Cursor) -> T
+        requires { IsFilled self.old cursor }
+        ensures item { (s : _) → Holds self.old cursor s → result ≡ s.item }
+        ensures removes { Removes self.old self.new result }
+        ensures count { count self.new + 1 ≡ count self.old }
+        ensures capacity { capacity self.new ≡ capacity self.old }
+    {
+        let item = take_out(&mut self.slots, cursor.slot);
+        self.len -= 1;
+        item
+    }
+}
+
+// Returns the step of a walk that a search found.
+#[inline(always)]
+fn step_of(probe: Probe) -> Step
+    ensures { result ≡ step_for probe }
+{
+    match probe {
+        Probe::Filled(slot) => Step::Item(Cursor { slot }),
+        Probe::Empty(_) => Step::End,
+    }
+}

@@ -1,0 +1,404 @@
+//! The nodes in their slots: a slab of pointers, the memory that they point to, and a table that
+//! leads to the nodes from the hashes of their keys.
+//!
+//! A node is reached for writing by a lookup, which is counted, or by a link in another node; what
+//! is then written stands in `node_table::writes`.
+ghost use Rattle.std.specs.Prelude.{◌≡◌, ℕ, ◌+◌, ◌<◌, ◌≤◌, [], Some, None, IsTrue, IsFalse, OnOk, IfSome, MatchOption};
+ghost use Rattle.std.specs.Borrow.{sem};
+ghost use Rattle.slab.specs.Slab.{HasRoomFor, slab_len};
+ghost use Rattle.concurrent_lru.specs.Cells.{cell_at, ptr_in, AtFirst};
+ghost use Rattle.concurrent_lru.specs.NodeTable.{entry_of, hash_of, chain_of};
+ghost use Rattle.concurrent_lru.specs.Relinks.{slot_in};
+ghost use Rattle.concurrent_lru.specs.SlotPointers.{IsTied, cells_of, HasNode, LeadsToNode, LeadsTo, IsNodeAt, KeepsOthers};
+ghost use Rattle.concurrent_lru.specs.SlotTable.{entry_in, IsEnd, IsGood};
+ghost use Rattle.concurrent_lru.specs.Listing.{IsListed, IsListedBut, LeadsToCandidate, HoldsSlot, LacksSlot, LacksKey, HasKeyIn, HasStampIn, listing_at, hash_in, spare_of};
+ghost use Rattle.concurrent_lru.specs.Probing.OpenTable.{IsFilled};
+
+use crate::node_table::Node;
+use crate::node_table::memory::{At, Memory};
+use crate::node_table::open_table::{Cursor, OpenTable, Step};
+use crate::work::Work;
+use slab::Slab;
+use std::alloc::{AllocError, Global};
+
+// The nodes of a `Nodes`, and how often one was looked up to be written or taken.
+pub(super) struct Slots<K, V> {
+    pointers: Slab<At<Node<K, V>>>,
+    // The nodes that are not detached.
+    by_hash: OpenTable<At<Node<K, V>>>,
+    memory: Memory<Node<K, V>, Global>,
+    looks: Work,
+    alloc: Global,
+}
+
+impl<K: Drop, V: Drop> Slots<K, V> {
+    ghost use Rattle.concurrent_lru.specs.SlotPointers.{lends_node};
+
+    pub(super) fn new(alloc: Global) -> Slots<K, V>
+        ensures tied { IsTied result }
+        ensures listed { IsListed result }
+        ensures empty { cells_of result ≡ [] }
+        ensures looks { result.looks.count ≡ 0 }
+    {
+        Slots {
+            pointers: Slab::new(alloc),
+            by_hash: OpenTable::new(alloc, At::nowhere()),
+            memory: Memory::new(),
+            looks: Work::new(),
+            alloc,
+        }
+    }
+
+    // Makes room for `more` more nodes.
+    pub(super) fn reserve(&mut self, more: usize) -> Result<(), AllocError>
+        requires tied { IsTied self.old }
+        requires listed { IsListed self.old }
+        ensures tied { IsTied self.new }
+        ensures listed { IsListed self.new }
+        ensures room { OnOk result (more ≤ spare_of self.new) }
+        ensures memory { self.new.memory ≡ self.old.memory }
+        ensures looks { self.new.looks ≡ self.old.looks }
+    {
+        self.pointers.reserve(more)?;
+        let Some(entries) = self.by_hash.len().checked_add(more) else {
+            return Err(AllocError);
+        };
+        self.by_hash.reserve(entries)
+    }
+
+    // Inserts a node in a slot that was free, and returns the slot.
+    pub(super) fn insert(&mut self, node: Box<Node<K, V>>) -> usize
+        requires tied { IsTied self.old }
+        requires listed { IsListed self.old }
+        requires room { 0 < spare_of self.old }
+        ensures tied { IsTied self.new }
+        ensures listed { IsListed self.new }
+        ensures vacant { cell_at (cells_of self.old) result ≡ None }
+        ensures entry { entry_in (cell_at (cells_of self.new) result) ≡ Some (entry_of node.value) }
+        ensures hash { hash_in (cell_at (cells_of self.new) result) ≡ Some (hash_of node.value) }
+        ensures end { chain_of node.value ≡ [] → IsEnd (cell_at (cells_of self.new) result) }
+        ensures others { KeepsOthers self.old self.new result }
+        ensures looks { self.new.looks ≡ self.old.looks }
+        ensures spare { spare_of self.old ≤ spare_of self.new + 1 }
+    {
+        let hash = node.hash;
+        let is_detached = node.detached;
+        let (slot, at) = self.put(node);
+        if is_detached {
+            return slot;
+        }
+        self.by_hash.insert(hash, at);
+        slot
+    }
+
+    // Inserts a node in a slot that was free, and leaves the table by hash as it is. Returns the
+    // slot and the address of the node.
+    fn put(&mut self, mut node: Box<Node<K, V>>) -> (usize, At<Node<K, V>>)
+        requires tied { IsTied self.old }
+        requires room { HasRoomFor self.old.pointers 1 }
+        ensures tied { IsTied self.new }
+        ensures vacant { cell_at (cells_of self.old) result.0 ≡ None }
+        ensures at { ptr_in (cell_at (cells_of self.new) result.0) ≡ Some result.1.ptr }
+        ensures entry { entry_in (cell_at (cells_of self.new) result.0)
+            ≡ Some (entry_of node.value) }
+        ensures hash { hash_in (cell_at (cells_of self.new) result.0) ≡ Some (hash_of node.value) }
+        ensures end { chain_of node.value ≡ [] → IsEnd (cell_at (cells_of self.new) result.0) }
+        ensures others { KeepsOthers self.old self.new result.0 }
+        ensures by_hash { self.new.by_hash ≡ self.old.by_hash }
+        ensures looks { self.new.looks ≡ self.old.looks }
+        ensures len { slab_len self.new.pointers ≡ slab_len self.old.pointers + 1 }
+        ensures capacity { self.new.pointers.capacity ≡ self.old.pointers.capacity }
+    {
+        let slot = self.pointers.vacant_key();
+        node.set_slot(slot);
+        let (at, _) = self.memory.put(node, slot);
+        self.memory.apart();
+        (self.pointers.insert_reserved(at), at)
+    }
+
+    // Takes out the node in a slot. This counts as a lookup, as a write does.
+    pub(super) fn take(&mut self, slot: usize) -> Box<Node<K, V>>
+        requires tied { IsTied self.old }
+        requires listed { IsListed self.old }
+        requires present { HasNode self.old slot }
+        ensures tied { IsTied self.new }
+        ensures listed { IsListed self.new }
+        ensures value { IsNodeAt self.old slot result.value }
+        ensures vacant { cell_at (cells_of self.new) slot ≡ None }
+        ensures others { KeepsOthers self.old self.new slot }
+        ensures spare { spare_of self.old ≤ spare_of self.new }
+        ensures looks { self.new.looks.count ≡ self.old.looks.count + 1 }
+    {
+        self.unlist(slot);
+        self.take_out(slot)
+    }
+
+    // Takes out the node in a slot, and leaves the table by hash as it is.
+    fn take_out(&mut self, slot: usize) -> Box<Node<K, V>>
+        requires tied { IsTied self.old }
+        requires present { HasNode self.old slot }
+        ensures tied { IsTied self.new }
+        ensures value { IsNodeAt self.old slot result.value }
+        ensures vacant { cell_at (cells_of self.new) slot ≡ None }
+        ensures others { KeepsOthers self.old self.new slot }
+        ensures by_hash { self.new.by_hash ≡ self.old.by_hash }
+        ensures len { slab_len self.new.pointers + 1 ≡ slab_len self.old.pointers }
+        ensures capacity { self.new.pointers.capacity ≡ self.old.pointers.capacity }
+        ensures looks { self.new.looks.count ≡ self.old.looks.count + 1 }
+    {
+        let at = self.pointers.remove(slot);
+        self.looks.tick();
+        let node = self.memory.take(at, slot, self.alloc);
+        self.memory.apart();
+        node
+    }
+
+    // Removes the node in a slot from the table by hash, unless it is detached.
+    pub(super) fn unlist(&mut self, slot: usize)
+        requires tied { IsTied self.old }
+        requires listed { IsListed self.old }
+        requires present { HasNode self.old slot }
+        ensures rest { self.new ≡ record self.old { by_hash = self.new.by_hash } }
+        ensures others { IsListedBut self.new slot }
+        ensures spare { spare_of self.old ≤ spare_of self.new }
+    {
+        match self.cursor_of(slot) {
+            Some(cursor) => {
+                let _at = self.by_hash.remove(cursor);
+            }
+            None => {}
+        }
+    }
+
+    // Returns where the node in a slot lies in the table by hash, or `None` if it is detached.
+    fn cursor_of(&self, slot: usize) -> Option<Cursor>
+        requires tied { IsTied self.now }
+        requires listed { IsListed self.now }
+        requires present { HasNode self.now slot }
+        ensures { MatchOption result (listing_at self.now slot ≡ None)
+            (λ cursor. HoldsSlot self.now cursor slot) }
+    {
+        let node = self.node(slot);
+        if node.detached {
+            return None;
+        }
+        self.find_slot(node.hash, slot)
+    }
+
+    // Returns the node that the table by hash leads to.
+    #[inline(always)]
+    fn candidate(&self, cursor: Cursor) -> &Node<K, V>
+        requires tied { IsTied self.now }
+        requires listed { IsListed self.now }
+        requires filled { IsFilled self.now.by_hash cursor }
+        ensures { LeadsToCandidate self.now cursor result.now }
+    {
+        self.memory.get(self.by_hash.item(cursor))
+    }
+
+    // Returns where the node in a slot lies in the table, if it has this hash and is not detached.
+    fn find_slot(&self, hash: u64, slot: usize) -> Option<Cursor>
+        requires tied { IsTied self.now }
+        requires listed { IsListed self.now }
+        ensures { MatchOption result (LacksSlot self.now hash slot)
+            (λ cursor. HoldsSlot self.now cursor slot) }
+    {
+        let mut at = self.by_hash.first(hash);
+        'walk: while let Step::Item(cursor) = at {
+            if self.candidate(cursor).slot == slot {
+                return Some(cursor);
+            }
+            at = self.by_hash.next(cursor);
+        }
+        None
+    }
+
+    // Returns the slot of the node with an equal key, among those with this hash that are not
+    // detached, and where it lies in the table.
+    #[inline(always)]
+    pub(super) fn find_key(&self, hash: u64, key: &K) -> Option<(usize, Cursor)>
+    where
+        K: Eq,
+        requires tied { IsTied self.now }
+        requires listed { IsListed self.now }
+        ensures { MatchOption result (LacksKey K.eq self.now hash key.now)
+            (λ r. HasKeyIn K.eq self.now r.0 key.now) }
+    {
+        let mut at = self.by_hash.first(hash);
+        'walk: while let Step::Item(cursor) = at {
+            let node = self.candidate(cursor);
+            if node.key == *key {
+                return Some((node.slot, cursor));
+            }
+            at = self.by_hash.next(cursor);
+        }
+        None
+    }
+
+    // Returns the slot of a node with this stamp, if it is among those with this hash that are not
+    // detached, and where it lies in the table.
+    #[inline(always)]
+    pub(super) fn find_stamp(&self, hash: u64, stamp: u64) -> Option<(usize, Cursor)>
+        requires tied { IsTied self.now }
+        requires listed { IsListed self.now }
+        ensures { IfSome result (λ r. HasStampIn self.now r.0 stamp) }
+    {
+        let mut at = self.by_hash.first(hash);
+        'walk: while let Step::Item(cursor) = at {
+            let node = self.candidate(cursor);
+            if node.stamp == stamp {
+                return Some((node.slot, cursor));
+            }
+            at = self.by_hash.next(cursor);
+        }
+        None
+    }
+
+    // Returns the node in a slot for reading.
+    pub(super) fn node(&self, slot: usize) -> &Node<K, V>
+        requires tied { IsTied self.now }
+        requires present { HasNode self.now slot }
+        ensures { IsNodeAt self.now slot result.now }
+    {
+        self.memory.get(self.pointers[slot])
+    }
+
+    // Returns the address of the node in a slot. If `near`, which may be any cursor, leads to the
+    // node, the slab is not read.
+    #[inline(always)]
+    fn address(&self, slot: usize, near: Cursor) -> At<Node<K, V>>
+        requires tied { IsTied self.now }
+        requires listed { IsListed self.now }
+        requires present { HasNode self.now slot }
+        ensures { LeadsTo self.now result.ptr slot }
+    {
+        if self.by_hash.is_filled(near) && self.candidate(near).slot == slot {
+            return self.by_hash.item(near);
+        }
+        self.pointers[slot]
+    }
+
+    // Returns the node in a slot for reading, as `node` does; the lookup begins at a cursor, which
+    // may be any.
+    #[inline(always)]
+    pub(super) fn node_near(&self, slot: usize, near: Cursor) -> &Node<K, V>
+        requires tied { IsTied self.now }
+        requires listed { IsListed self.now }
+        requires present { HasNode self.now slot }
+        ensures { IsNodeAt self.now slot result.now }
+    {
+        self.memory.get(self.address(slot, near))
+    }
+
+    // Returns the number of nodes.
+    pub(super) fn len(&self) -> usize
+        ensures { result ≡ slab_len self.now.pointers }
+    {
+        self.pointers.len()
+    }
+
+    // Returns whether there is a node in a slot, which may be any.
+    pub(super) fn contains(&self, slot: usize) -> bool
+        requires { IsTied self.now }
+        ensures yes { IsTrue result → HasNode self.now slot }
+        ensures no { IsFalse result → cell_at (cells_of self.now) slot ≡ None }
+    {
+        self.pointers.contains(slot)
+    }
+
+    // Returns a slot above those of all nodes.
+    pub(super) fn end_of_slots(&self) -> usize
+        requires { IsTied self.now }
+        ensures { (slot : ℕ) → result ≤ slot → cell_at (cells_of self.now) slot ≡ None }
+    {
+        self.pointers.capacity()
+    }
+
+    // Returns a pointer to the node in a slot, for writing.
+    pub(super) fn look(&mut self, slot: usize) -> *mut Node<K, V>
+        requires tied { IsTied self.old }
+        requires present { HasNode self.old slot }
+        ensures tied { IsTied self.new }
+        ensures link { LeadsTo self.old result slot }
+        ensures rest { self.new ≡ record self.old { looks = self.new.looks } }
+        ensures looks { self.new.looks.count ≡ self.old.looks.count + 1 }
+    {
+        self.looks.tick();
+        self.pointers[slot].ptr
+    }
+
+    // Returns a pointer to the node in a slot, as `look` does; the lookup begins at a cursor, which
+    // may be any.
+    #[inline(always)]
+    pub(super) fn look_near(&mut self, slot: usize, near: Cursor) -> *mut Node<K, V>
+        requires tied { IsTied self.old }
+        requires listed { IsListed self.old }
+        requires present { HasNode self.old slot }
+        ensures tied { IsTied self.new }
+        ensures link { LeadsTo self.old result slot }
+        ensures rest { self.new ≡ record self.old { looks = self.new.looks } }
+        ensures looks { self.new.looks.count ≡ self.old.looks.count + 1 }
+    {
+        let at = self.address(slot, near);
+        self.looks.tick();
+        at.ptr
+    }
+
+    // Returns the node at the end of a link for reading.
+    pub(super) fn follow(&self, link: *mut Node<K, V>) -> &Node<K, V>
+        requires { LeadsToNode self.now link }
+        ensures { AtFirst (cells_of self.now) link (λ _ c. result.now ≡ c.value) }
+    {
+        self.memory.get(At { ptr: link })
+    }
+
+    // Returns the node at the end of a link for writing.
+    pub(super) fn follow_mut(&mut self, link: *mut Node<K, V>) -> &mut Node<K, V>
+        requires { LeadsToNode self.old link }
+        ensures* writes_back { sem 𝓛 (lends_node K.row V.row self.entry link result) }
+        ensures value { AtFirst (cells_of self.old) link (λ _ c. result.now ≡ c.value) }
+    {
+        self.memory.lend(At { ptr: link })
+    }
+
+    // Returns the slot of the node at the end of a link. The node stores it.
+    pub(super) fn slot_of(&self, link: Option<*mut Node<K, V>>) -> Option<usize>
+        requires tied { IsTied self.now }
+        requires good { IsGood (cells_of self.now) link }
+        ensures { result ≡ slot_in (cells_of self.now) link }
+    {
+        match link {
+            Some(link) => Some(self.follow(link).slot),
+            None => None,
+        }
+    }
+
+    // Frees the node in a slot, if there is one.
+    fn free(&mut self, slot: usize)
+        requires { IsTied self.old }
+        ensures tied { IsTied self.new }
+        ensures vacant { cell_at (cells_of self.new) slot ≡ None }
+        ensures others { KeepsOthers self.old self.new slot }
+    {
+        if self.contains(slot) {
+            let _node = self.take_out(slot);
+        }
+    }
+
+    // Frees every node, whatever links point to it.
+    pub(super) fn end(mut self)
+        requires { IsTied self }
+    {
+        for slot in 0..self.end_of_slots() {
+            self.free(slot);
+        }
+        let Slots {
+            pointers: _,
+            by_hash: _,
+            memory,
+            looks: _,
+            alloc: _,
+        } = self;
+        memory.end();
+    }
+}
