@@ -11,7 +11,6 @@ ghost use Rattle.lru_clock.specs.Index.{word_of as word_for};
 mod probing;
 mod words;
 
-pub use crate::index::probing::{home_of, next_of};
 pub use crate::index::words::Words;
 use crate::index::words::{Known, Written};
 use atomic_table::Table;

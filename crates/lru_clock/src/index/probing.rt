@@ -1,48 +1,14 @@
 //! Linear probing under the lock: a word lies at its home or after it, and no word between the two
 //! is 0.
-ghost use Rattle.std.specs.Prelude.{◌≡◌, ◌≢◌, ℕ, ◌+◌, ◌<◌, length, MatchOption};
-ghost use Rattle.concurrent_lru.specs.Probing.Cycle.{next_of as next_in, steps, home_of as home_in};
+ghost use Rattle.std.specs.Prelude.{◌≡◌, ◌≢◌, ℕ, ◌<◌, length, MatchOption};
+ghost use Rattle.concurrent_lru.specs.Probing.Cycle.{next_of as next_in};
 ghost use Rattle.concurrent_lru.specs.Probing.Probes.{mark_at, HasEmpty, IsFilledAt, IsReached};
 ghost use Rattle.concurrent_lru.specs.Probing.Gaps.{IsGap};
 ghost use Rattle.concurrent_lru.proofs.Probing.Fills.{Ends};
 ghost use Rattle.lru_clock.specs.Index.{AreOnce, Rearranges, HasWord, LacksWord, PutsIn, TakesOut};
 
 use crate::index::Words;
-
-/// Returns the position at which a search for a word begins.
-#[inline(always)]
-pub fn home_of(count: usize, word: u64) -> usize
-    requires { 0 < count }
-    ensures home { result ≡ home_in count word }
-    ensures within { result < count }
-{
-    word as usize & (count - 1)
-}
-
-/// Returns the position after this one.
-#[inline(always)]
-pub fn next_of(count: usize, at: usize) -> usize
-    requires { at < count }
-    ensures next { result ≡ next_in count at }
-    ensures within { result < count }
-{
-    let next = at + 1;
-    if next < count { next } else { 0 }
-}
-
-// Returns how many steps it is from one position on to another.
-#[inline(always)]
-fn steps_between(count: usize, from: usize, to: usize) -> usize
-    requires from { from < count }
-    requires to { to < count }
-    ensures { result ≡ steps count from to }
-{
-    if to < from {
-        count - from + to
-    } else {
-        to - from
-    }
-}
+use concurrent_lru::linear_probing::{home_of, next_of, steps_between};
 
 impl Words {
     // Moves the word at a position back to the hole, unless it would then lie before its home.

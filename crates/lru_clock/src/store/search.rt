@@ -3,8 +3,9 @@ ghost use Rattle.std.specs.Prelude.{◌≡◌, ◌<◌, false, IsTrue, IsFalse};
 ghost use Rattle.lru_clock.specs.Seats.{IsIndex};
 ghost use Rattle.lru_clock.specs.Searches.{Searches, SeatHas, SeatLacks};
 
-use crate::index::{Words, home_of, next_of, past_place, tag_of};
+use crate::index::{Words, past_place, tag_of};
 use crate::store::seats::Seat;
+use concurrent_lru::linear_probing::{home_of, next_of};
 
 /// What a search ends with.
 pub enum Search {
