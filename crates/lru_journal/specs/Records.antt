@@ -19,6 +19,8 @@ module _ {K : Type 0} where
   request_of_recorded (step.Fail s) = ask.fail s
   request_of_recorded (step.Get k) = ask.get k
   request_of_recorded (step.Release s) = ask.release s
+  request_of_recorded (step.ReleaseAndEvict s) = ask.release_and_evict s
+  request_of_recorded (step.Repin s) = ask.repin s
   request_of_recorded (step.AdviceEvict k) = ask.advice_evict k
   request_of_recorded (step.Invalidate k) = ask.invalidate k
   request_of_recorded (step.Insert k c) = ask.insert k c tt

@@ -2,8 +2,8 @@
 //!
 //! Passes of that cell have no bytes; its single word counts the records.
 ghost use Rattle.std.specs.Prelude.{◌≡◌, ◌+◌, ◌^◌, ◌<◌, ◌++◌, ◌∷◌, [], length, IfOk, IfErr};
-ghost use Rattle.crossbeam_utils.specs.Seq.{cell_view};
-ghost use Rattle.lru_journal.specs.Tallies.{knower, hand_with_receipt, AllBelow};
+ghost use Rattle.crossbeam_utils.specs.Seq.{cell_view, IsSamePass};
+ghost use Rattle.lru_journal.specs.Tallies.{knower, hand_with_receipt, without_tally, only_tally, view_with_view, AllBelow};
 
 use crate::record::Record;
 use atomic_table::{Join, Split};
@@ -188,6 +188,29 @@ impl<K, I: Identity> Model for Tally<K, I> {
     ghost invariant = { λ t. (t.pass.table_id ≡ I.name.table) × ((cell_view t.pass).keeps ≡ false) × (0 < (cell_view t.pass).parts) };
 }
 
+// Takes the whole tally out of a pass.
+//
+// A call of a cell takes long to prove, so each split and join is proved once, here and below.
+pub(crate) fn take_tally<K>(cell: &Cell<K>, pass: &mut CellPass<K>) -> CellPass<K>
+    requires { pass.old.table_id ≡ cell.now.table.shared.table_id }
+    ensures kept { IsSamePass pass.old pass.new
+        × (cell_view pass.new ≡ without_tally (cell_view pass.old)) }
+    ensures given { (result.table_id ≡ pass.old.table_id)
+        × (cell_view result ≡ only_tally (cell_view pass.old)) × (result.me.1 ≡ []) }
+{
+    cell.split_pass::<WholeTally>(pass)
+}
+
+// Adds the parts and the receipts of another pass to those of a pass.
+pub(crate) fn add_tally<K>(cell: &Cell<K>, pass: &mut CellPass<K>, other: CellPass<K>)
+    requires { (pass.old.table_id ≡ cell.now.table.shared.table_id)
+        × (other.table_id ≡ pass.old.table_id) × (other.me.1 ≡ []) }
+    ensures { IsSamePass pass.old pass.new
+        × (cell_view pass.new ≡ view_with_view (cell_view pass.old) (cell_view other)) }
+{
+    cell.join_pass::<Merge>(pass, other);
+}
+
 // Adds a record to all records, and its receipt to the tally. The pass under the lock takes the
 // whole tally in, gains both in one step, and gives the tally back, so that the rule holds between
 // any two moves.
@@ -211,8 +234,8 @@ pub(crate) fn append<K, E: Noted<K>, I: Identity, R: Wait>(
     ensures tally { tally.new ≡ hand_with_receipt tally.old number noted.now }
     ensures past { AllBelow number tally.old.receipts }
 {
-    let mine = cell.split_pass::<WholeTally>(&mut tally.pass);
-    cell.join_pass::<Merge>(records_pass, mine);
+    let mine = take_tally(cell, &mut tally.pass);
+    add_tally(cell, records_pass, mine);
     cell.swap_as::<AppendRecord<E>, R>(rt, records_pass, [number as u64 + 1]);
-    tally.pass = cell.split_pass::<WholeTally>(records_pass);
+    tally.pass = take_tally(cell, records_pass);
 }

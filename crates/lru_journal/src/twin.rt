@@ -17,7 +17,7 @@ use crate::door::Door;
 use crate::journal::Journal;
 use crate::pin::{Pin, Started, pin_of};
 use crate::record::Told;
-use crate::tally::{Identity, Merge, OnePart, Opening, Tally, WholeTally};
+use crate::tally::{Identity, OnePart, Opening, Tally, add_tally, take_tally};
 use crate::twin_state::{TwinState, calls};
 use concurrent_lru::lru_core::{Failed, Refusal};
 use std::alloc::Global;
@@ -56,7 +56,7 @@ impl<K: Hash + Eq + Clone + Send + Sync, V: Drop + Send + Sync, R: Wait + Drop, 
             cell,
             mut first,
         } = opening;
-        let pass = cell.split_pass::<WholeTally>(&mut first);
+        let pass = take_tally(&cell, &mut first);
         let state = TwinState {
             journal: Journal::new(alloc, capacity),
             records_pass: first,
@@ -200,6 +200,47 @@ impl<K: Hash + Eq + Clone + Send + Sync, V: Drop + Send + Sync, R: Wait + Drop, 
         }
     }
 
+    /// Releases a pin as `release` does, and evicts the entry if that was its last pin. A refusal
+    /// returns the pin.
+    ///
+    /// Returns `Stale` if no held and ready entry has its stamp.
+    pub fn release_and_evict(
+        &self,
+        tally: &mut Tally<K, I>,
+        pin: Pin<V>,
+    ) -> Result<(), (Refusal, Pin<V>)>
+        ensures tallied { IsTallied tally.old
+            (λ _ r. r ≡ record_of (ask.release_and_evict pin.stamp) Told.Done) result tally.new }
+        ensures parts { tally.new.parts ≡ tally.old.parts }
+        ensures never_overflow { IfErr result (λ e. e.0 ≢ Refusal.Overflow) }
+        ensures back { IfErr result (λ e. e.1 ≡ pin) }
+    {
+        let stamp = pin.stamp();
+        let call = calls::ReleaseAndEvict { stamp };
+        match self.door.lock().call(tally, call) {
+            Ok(evicted) => {
+                drop(evicted);
+                Ok(())
+            }
+            Err(refusal) => Err((refusal, pin)),
+        }
+    }
+
+    /// Returns another pin of the entry with this stamp, which has a ready value. Such an entry may
+    /// be held, even if its key was invalidated since, or idle.
+    ///
+    /// Returns `Stale` if no ready entry has the stamp, `Overflow` if the entry has the maximum
+    /// number of pins, and `Memory` also if a second owner of the value is refused.
+    pub fn repin(&self, tally: &mut Tally<K, I>, stamp: u64) -> Result<Pin<V>, Refusal>
+        ensures tallied { IsTallied tally.old
+            (λ _ r. r ≡ record_of (ask.repin stamp) Told.Done) result tally.new }
+        ensures parts { tally.new.parts ≡ tally.old.parts }
+        ensures pin { IfOk result (λ pin. pin.stamp ≡ stamp) }
+    {
+        let value = self.door.lock().call(tally, calls::Repin { stamp })?;
+        Ok(Pin::new(stamp, value))
+    }
+
     /// Evicts the entry of a key if it is idle. Otherwise nothing happens.
     pub fn advice_evict(&self, tally: &mut Tally<K, I>, key: &K) -> Result<(), Refusal>
         ensures tallied { IsTallied tally.old
@@ -340,7 +381,7 @@ impl<K: Hash + Eq + Clone, I: Identity> Tally<K, I> {
     {
         let Tally { mut pass, twin: _ } = other;
         let cell = cache.door.cell();
-        let given = cell.split_pass::<WholeTally>(&mut pass);
-        cell.join_pass::<Merge>(&mut self.pass, given);
+        let given = take_tally(cell, &mut pass);
+        add_tally(cell, &mut self.pass, given);
     }
 }

@@ -16,7 +16,7 @@ pub mod calls;
 use self::calls::JournalCall;
 use crate::journal::Journal;
 use crate::record::Record;
-use crate::tally::{Cell, CellPass, CheckRecords, Identity, Merge, Tally, WholeTally, append};
+use crate::tally::{Cell, CellPass, CheckRecords, Identity, Tally, add_tally, append, take_tally};
 use concurrent_lru::lru_core::Refusal;
 use concurrent_lru::sealed::Sealed;
 use std::hash::Hash;
@@ -146,8 +146,8 @@ impl<K: Hash + Eq + Clone, V: Drop, I: Identity> TwinState<K, V, I> {
             twin: _,
         } = self;
         let Tally { mut pass, twin: _ } = tally;
-        let whole = cell.split_pass::<WholeTally>(&mut pass);
-        cell.join_pass::<Merge>(&mut records_pass, whole);
+        let whole = take_tally(cell, &mut pass);
+        add_tally(cell, &mut records_pass, whole);
         cell.load_as::<CheckRecords, R>(rt, &mut records_pass);
         journal
     }

@@ -28,12 +28,12 @@ use Rattle.lru_journal.proofs.Replays.WithOtherValues.{empty_by}
 
 -- what a call is told, as a record tells it
 module _ {V : Type 0} (K : Type 0) where
-  pub begun_told : (k : K) (c : ℕ) (b : Begun V) → told_of_begun b ≡ told_of (ask.begin k c) (reply_of_begun {K = K} b)
+  pub begun_told : (k : K) (c : ℕ) (b : Begun (Arc V Global)) → told_of_begun b ≡ told_of (ask.begin k c) (reply_of_begun {K = K} b)
   begun_told k c (begun.Make s) = refl
   begun_told k c (begun.Wait s) = refl
   begun_told k c (begun.Hit s a) = refl
 
-  pub polled_told : (s : ℕ) (b : Begun V) → told_of_begun b ≡ told_of (ask.poll s) (reply_of_begun {K = K} b)
+  pub polled_told : (s : ℕ) (b : Begun (Arc V Global)) → told_of_begun b ≡ told_of (ask.poll s) (reply_of_begun {K = K} b)
   polled_told s (begun.Make t) = refl
   polled_told s (begun.Wait t) = refl
   polled_told s (begun.Hit t a) = refl

@@ -25,6 +25,8 @@ module _ {K V : Type 0} where
   hit_by (ask.fail s) t = refl
   hit_by (ask.get k) t = refl
   hit_by (ask.release s) t = refl
+  hit_by (ask.release_and_evict s) t = refl
+  hit_by (ask.repin s) t = refl
   hit_by (ask.advice_evict k) t = refl
   hit_by (ask.invalidate k) t = refl
   hit_by (ask.insert k c v) t = refl
@@ -44,6 +46,7 @@ module _ {K V : Type 0} where
   told_by r (say.sum n) = refl
   told_by r (say.inserted t) = refl
   told_by r (say.read t w) = refl
+  told_by r (say.pinned w) = refl
 
   follows : (E : K → K → Bool) (old : Cache K V) (r : Request K V) (p : Reply K V) (out : List (Idle K V)) (new : Cache K V)
       → Step E old r p out new → Follows E (without_values old) (record_of (request_by no_value r) (told_of r p)) (without_values new)

@@ -10,7 +10,7 @@ use Rattle.std.specs.FinMap.Entries.{is_sorted, below_all}
 use Rattle.std.specs.FinMap.Entries.{find as find_entry}
 use Rattle.std.proofs.lemmas.Option.{same_Some, none-some}
 use Rattle.concurrent_lru.specs.Cache.{Cache, Idle, Held, Phase, making, untaken, ready, charges, sum_of, IsFront, Suffices, Settles, held_at, idle_at, IsFound}
-use Rattle.concurrent_lru.specs.Steps.{IsAbsent, Holds, Makes, Joins, Revives, Hits, ChangesPhase, Leaves, Removes, Rests, Stays, Drops, Ends, Detaches, IsUnready, IsNotIdle, Releases, Invalidates, Stores, Renews, Step, with_held, without}
+use Rattle.concurrent_lru.specs.Steps.{IsAbsent, Holds, Makes, Joins, Revives, Hits, ChangesPhase, Leaves, Removes, Rests, Stays, Drops, Ends, Departs, PinsAgain, ReleasesAndEvicts, Repins, Detaches, IsUnready, IsNotIdle, Releases, Invalidates, Stores, Renews, Step, with_held, without}
 use Rattle.concurrent_lru.specs.Request as ask
 use Rattle.concurrent_lru.specs.Request.{Request}
 use Rattle.concurrent_lru.specs.Reply as say
@@ -243,6 +243,25 @@ module _ {K V W : Type 0} (f : V → W) where
       one = ap (map (idle_by f)) h.one;
     }
 
+    departs_by : (old : Cache K V) (s : ℕ) (out : List (Idle K V)) (new : Cache K V) → Departs E old s out new → Departs E (cache_by f old) s (map (idle_by f) out) (cache_by f new)
+    departs_by old s out new h = record {
+      entry = held_by f h.entry;
+      value = f h.value;
+      holds = holds_by old s h.entry (ready h.value) h.holds;
+      last = h.last;
+      changed = ap (cache_by f) h.changed ∙ ap (λ m. record (cache_by f old) { held = m }) (remove_by old.held s);
+      one = ap (map (idle_by f)) h.one;
+    }
+
+    pins_again_by : (old : Cache K V) (s : ℕ) (v : V) (out : List (Idle K V)) (new : Cache K V) → PinsAgain E old s v out new → PinsAgain E (cache_by f old) s (f v) (map (idle_by f) out) (cache_by f new)
+    pins_again_by old s v out new h = record {
+      entry = held_by f h.entry;
+      holds = holds_by old s h.entry (ready v) h.holds;
+      room = h.room;
+      changed = ap (cache_by f) h.changed ∙ held_on old s _;
+      none = ap (map (idle_by f)) h.none;
+    }
+
     detaches_by : (old : Cache K V) (k : K) (out : List (Idle K V)) (new : Cache K V) → Detaches E old k out new → Detaches E (cache_by f old) k (map (idle_by f) out) (cache_by f new)
     detaches_by old k out new h = record {
       stamp = h.stamp;
@@ -290,6 +309,14 @@ module _ {K V W : Type 0} (f : V → W) where
     releases_by old s out new (inr (inl h)) = inr (inl (rests_by old s out new h))
     releases_by old s out new (inr (inr h)) = inr (inr (ends_by old s out new h))
 
+    releases_and_evicts_by : (old : Cache K V) (s : ℕ) (out : List (Idle K V)) (new : Cache K V) → ReleasesAndEvicts E old s out new → ReleasesAndEvicts E (cache_by f old) s (map (idle_by f) out) (cache_by f new)
+    releases_and_evicts_by old s out new (inl h) = inl (f h.0, leaves_by old s (ready h.0) (ready h.0) out new h.1)
+    releases_and_evicts_by old s out new (inr h) = inr (departs_by old s out new h)
+
+    repins_by : (old : Cache K V) (s : ℕ) (v : V) (out : List (Idle K V)) (new : Cache K V) → Repins E old s v out new → Repins E (cache_by f old) s (f v) (map (idle_by f) out) (cache_by f new)
+    repins_by old s v out new (inl h) = inl (pins_again_by old s v out new h)
+    repins_by old s v out new (inr h) = inr (h.0, revives_by old h.0 s v out new h.1)
+
     invalidates_by : (old : Cache K V) (k : K) (out : List (Idle K V)) (new : Cache K V) → Invalidates E old k out new → Invalidates E (cache_by f old) k (map (idle_by f) out) (cache_by f new)
     invalidates_by old k out new (inl h) = inl (drops_by old k out new h)
     invalidates_by old k out new (inr (inl h)) = inr (inl (detaches_by old k out new h))
@@ -329,6 +356,8 @@ module _ {K V W : Type 0} (f : V → W) where
     step_by old (ask.get k) (say.hit s v) out new h = hits_by old k s v out new h
     step_by old (ask.get k) say.missed out new h = (unready_by old k h.0, stays_by old out new h.1)
     step_by old (ask.release s) say.done out new h = releases_by old s out new h
+    step_by old (ask.release_and_evict s) say.done out new h = releases_and_evicts_by old s out new h
+    step_by old (ask.repin s) (say.pinned v) out new h = repins_by old s v out new h
     step_by old (ask.advice_evict k) say.done out new (inl h) = inl (drops_by old k out new h)
     step_by old (ask.advice_evict k) say.done out new (inr h) = inr (not_idle_by old k h.0, stays_by old out new h.1)
     step_by old (ask.invalidate k) say.done out new h = invalidates_by old k out new h

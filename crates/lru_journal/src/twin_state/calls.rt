@@ -189,6 +189,57 @@ impl<K: Hash + Eq + Clone, V: Drop> JournalCall<K, V> for Release {
     }
 }
 
+/// `Journal::release_and_evict`.
+#[derive(Drop)]
+pub struct ReleaseAndEvict {
+    pub(crate) stamp: u64,
+}
+
+impl<K: Hash + Eq + Clone, V: Drop> JournalCall<K, V> for ReleaseAndEvict {
+    type Answer = Evicted<K, V>;
+
+    type Refused = Refusal;
+
+    ghost use Rattle.std.specs.Prelude.{◌≡◌, ◌≢◌};
+    ghost use Rattle.concurrent_lru.specs.declared.refusal.Refusal.TheVariants.{Overflow};
+    ghost use Rattle.lru_journal.specs.Records.{record_of};
+    ghost use Rattle.concurrent_lru.specs.Request as ask;
+    ghost use Rattle.lru_journal.specs.declared.record.Told.TheVariants.{Done};
+
+    ghost is_record = { λ s _ r. r ≡ record_of (ask.release_and_evict s.stamp) Done };
+
+    ghost may_refuse = { λ s e. e ≢ Overflow };
+
+    fn apply(self, journal: &mut Journal<K, V>) -> Result<Evicted<K, V>, Refusal> {
+        journal.release_and_evict(self.stamp)
+    }
+}
+
+/// `Journal::repin`.
+#[derive(Drop)]
+pub struct Repin {
+    pub(crate) stamp: u64,
+}
+
+impl<K: Hash + Eq + Clone, V: Drop> JournalCall<K, V> for Repin {
+    type Answer = Arc<V>;
+
+    type Refused = Refusal;
+
+    ghost use Rattle.std.specs.Prelude.{◌≡◌, ⊤};
+    ghost use Rattle.lru_journal.specs.Records.{record_of};
+    ghost use Rattle.concurrent_lru.specs.Request as ask;
+    ghost use Rattle.lru_journal.specs.declared.record.Told.TheVariants.{Done};
+
+    ghost is_record = { λ s _ r. r ≡ record_of (ask.repin s.stamp) Done };
+
+    ghost may_refuse = { λ s e. ⊤ };
+
+    fn apply(self, journal: &mut Journal<K, V>) -> Result<Arc<V>, Refusal> {
+        journal.repin(self.stamp)
+    }
+}
+
 /// `Journal::advice_evict`.
 #[derive(Drop)]
 pub struct AdviceEvict<'a, K> {
