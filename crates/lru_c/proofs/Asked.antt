@@ -2,10 +2,9 @@
 use Rattle.std.proofs.Common.{◌≡◌, ℕ, Bool, List, [], refl, sym, ◌∙◌, ap, subst}
 use Rattle.std.specs.Prelude.{Option, Some, None, Ok}
 use Rattle.concurrent_lru.specs.Cache.{Cache, Idle, IsLawful}
-use Rattle.concurrent_lru.specs.Request as ask
+use Rattle.concurrent_lru.specs.Reply as say
 use Rattle.concurrent_lru.specs.Request.{Request}
-use Rattle.concurrent_lru.specs.Reads.{GetsWith}
-use Rattle.concurrent_lru.specs.Results.{reply_of_begun, reply_of_failed}
+use Rattle.concurrent_lru.specs.Results.{found_without_hint, outcome_of_get_by, reply_of_begun_by, reply_of_failed}
 use Rattle.concurrent_lru.specs.Runs.{accepted, refused, Stands}
 use Rattle.concurrent_lru.specs.declared.refusal.Refusal.{Refusal}
 use Rattle.concurrent_lru.specs.declared.refusal.Refusal.TheVariants.{Memory, Overflow, Stale}
@@ -13,15 +12,21 @@ use Rattle.concurrent_lru.specs.declared.step.Begun.{Begun}
 use Rattle.concurrent_lru.specs.declared.step.Begun.TheVariants as begun
 use Rattle.concurrent_lru.specs.declared.step.Failed.{Failed}
 use Rattle.concurrent_lru.specs.declared.step.Failed.TheVariants as failed
+use Rattle.concurrent_lru.specs.declared.table.spot.Hint.{Hint}
 use Rattle.lru_c.specs.Codes as code
-use Rattle.lru_c.specs.Told.{bare, begun_told, failed_code, found_told, refusal_code, told, Asks, AsksWithMemory}
+use Rattle.lru_c.specs.Told.{bare, begun_told, failed_code, found_told, refusal_code, told, Asks}
+use Rattle.lru_c.specs.declared.told.LruPin.{LruPin}
 use Rattle.lru_c.specs.declared.told.LruTold.{LruTold}
 
+-- the value of a share, which is itself
+abbrev pub word : ℕ → ℕ
+word value = value
+
 module _ {K : Type 0} (E : K → K → Bool) (old new : Cache K ℕ) (r : Request K ℕ) where
-  begun_as_told : (b : Begun ℕ) (gone : List (Idle K ℕ)) → Stands E old r (accepted (reply_of_begun b) gone) new → IsLawful E new → Asks E old r (begun_told b) gone new
-  begun_as_told (begun.Make s) gone h l = (h, tt, l)
-  begun_as_told (begun.Wait s) gone h l = (h, tt, l)
-  begun_as_told (begun.Hit s a) gone h l = (h, tt, l)
+  begun_as_told : (hint : Hint) (b : Begun ℕ) (gone : List (Idle K ℕ)) → Stands E old r (accepted (reply_of_begun_by word b) gone) new → IsLawful E new → Asks E old r (begun_told hint b) gone new
+  begun_as_told hint (begun.Make s) gone h l = (h, tt, l)
+  begun_as_told hint (begun.Wait s) gone h l = (h, tt, l)
+  begun_as_told hint (begun.Hit s a) gone h l = (h, tt, l)
 
   failed_as_told : (f : Failed K) → Stands E old r (accepted (reply_of_failed f) []) new → IsLawful E new → Asks E old r (bare (failed_code f)) [] new
   failed_as_told failed.Left h l = (h, tt, l)
@@ -32,8 +37,8 @@ module _ {K : Type 0} (E : K → K → Bool) (old new : Cache K ℕ) (r : Reques
   refused_as_told Stale h l = (h, refl, l)
   refused_as_told Memory h l = (h, refl, l)
 
-  pub asks_begun : (b : Begun ℕ) (t : LruTold) (gone : List (Idle K ℕ)) → t ≡ begun_told b → Stands E old r (accepted (reply_of_begun b) gone) new → IsLawful E new → Asks E old r t gone new
-  asks_begun b t gone e h l = subst (λ (u : LruTold). Asks E old r u gone new) (sym e) (begun_as_told b gone h l)
+  pub asks_begun : (hint : Hint) (b : Begun ℕ) (t : LruTold) (gone : List (Idle K ℕ)) → t ≡ begun_told hint b → Stands E old r (accepted (reply_of_begun_by word b) gone) new → IsLawful E new → Asks E old r t gone new
+  asks_begun hint b t gone e h l = subst (λ (u : LruTold). Asks E old r u gone new) (sym e) (begun_as_told hint b gone h l)
 
   pub asks_failed : (f : Failed K) (c : ℕ) → c ≡ failed_code f → Stands E old r (accepted (reply_of_failed f) []) new → IsLawful E new → Asks E old r (bare c) [] new
   asks_failed f c e h l = subst (λ (n : ℕ). Asks E old r (bare n) [] new) (sym e) (failed_as_told f h l)
@@ -43,14 +48,12 @@ module _ {K : Type 0} (E : K → K → Bool) (old new : Cache K ℕ) (r : Reques
   asks_refused e c t gone is bared none h l =
       subst (λ (u : LruTold). Asks E old r u gone new) (sym (bared ∙ ap bare is)) (subst (λ (out : List (Idle K ℕ)). Asks E old r (bare (refusal_code e)) out new) (sym none) (refused_as_told e h l))
 
-  pub of_shared : (s v w : ℕ) (t : LruTold) (gone : List (Idle K ℕ)) → w ≡ v → AsksWithMemory E old (ask.ready s w) t gone new → AsksWithMemory E old (ask.ready s v) t gone new
-  of_shared s v w t gone e h = subst (λ (x : ℕ). AsksWithMemory E old (ask.ready s x) t gone new) e h
+  pub asks_pinned : (p : LruPin) (value : ℕ) (t : LruTold) → t ≡ told code.pinned p value → Stands E old r (accepted (say.pinned value) []) new → IsLawful E new → Asks E old r t [] new
+  asks_pinned p value t e h l = subst (λ (u : LruTold). Asks E old r u [] new) (sym e) (h, tt, l)
 
-module _ {K : Type 0} (E : K → K → Bool) (old new : Cache K ℕ) (k : K) (answers : ℕ → ℕ → Type 0) (same : (v a : ℕ) → answers v a → a ≡ v) where
-  found_as_told : (f : Option (ℕ × ℕ)) → GetsWith E old k answers (Ok f) new → IsLawful E new → Asks E old (ask.get k) (found_told f) [] new
+  found_as_told : (f : Option (ℕ × ℕ × Hint)) → Stands E old r (outcome_of_get_by word (found_without_hint (Ok f))) new → IsLawful E new → Asks E old r (found_told f) [] new
   found_as_told None h l = (h, tt, l)
-  found_as_told (Some x) (v, h, a) l = subst (λ (n : ℕ). Asks E old (ask.get k) (told code.hit x.0 n) [] new) (sym (same v x.1 a)) (h, tt, l)
+  found_as_told (Some x) h l = (h, tt, l)
 
-  -- A get by a reader that returns the value.
-  pub asks_found : (f : Option (ℕ × ℕ)) (t : LruTold) → t ≡ found_told f → GetsWith E old k answers (Ok f) new → IsLawful E new → Asks E old (ask.get k) t [] new
-  asks_found f t e h l = subst (λ (u : LruTold). Asks E old (ask.get k) u [] new) (sym e) (found_as_told f h l)
+  pub asks_found : (f : Option (ℕ × ℕ × Hint)) (t : LruTold) → t ≡ found_told f → Stands E old r (outcome_of_get_by word (found_without_hint (Ok f))) new → IsLawful E new → Asks E old r t [] new
+  asks_found f t e h l = subst (λ (u : LruTold). Asks E old r u [] new) (sym e) (found_as_told f h l)

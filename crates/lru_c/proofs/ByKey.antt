@@ -12,7 +12,7 @@ module _ {K : Type 0} (E : K → K → Bool) where
   -- where the core refused memory, nothing changed
   same_without_memory : (old new : Cache K ℕ) (r : Request K ℕ) (t : LruTold) (gone : List (Idle K ℕ)) → (t.code == code.memory) ≡ true → Asks E old r t gone new → IsSame old gone new
   same_without_memory old new r t gone is asked =
-      subst (λ c. Asks E old r (told c t.stamp t.value) gone new → IsSame old gone new) (sym (eqb-true t.code code.memory is)) (λ a. (a.0.1, a.1)) asked
+      subst (λ c. Asks E old r (told c t.pin t.value) gone new → IsSame old gone new) (sym (eqb-true t.code code.memory is)) (λ a. (a.0.1, a.1)) asked
 
   either : (IsKey : K → Type 0) (old new : Cache K ℕ) (r : K → Request K ℕ) (key : K) (t : LruTold) (gone : List (Idle K ℕ)) → IsKey key → Asks E old (r key) t gone new
       → (b : Bool) → (t.code == code.memory) ≡ b → MatchBool b (IsSame old gone new) ((k : K) × IsKey k × Asks E old (r k) t gone new)

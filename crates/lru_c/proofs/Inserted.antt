@@ -7,23 +7,17 @@ use Rattle.concurrent_lru.specs.declared.refusal.Refusal.{Refusal}
 use Rattle.lru_c.specs.Codes as code
 use Rattle.lru_c.specs.Inserts.{TellsInsert, TellsInsertOf}
 use Rattle.lru_c.specs.Told.{bare, refusal_code, told}
+use Rattle.lru_c.specs.declared.told.LruPin.{LruPin}
 use Rattle.lru_c.specs.declared.told.LruTold.{LruTold}
 use Rattle.lru_c.proofs.Cases.{where_is, where_is_not}
 
 module _ {K : Type 0} (E : K → K → Bool) where
   module _ (old new : Cache K ℕ) (key : K) (charge v : ℕ) (t : LruTold) (replaced evicted : List (Idle K ℕ)) where
-    pub tells_stamp : (s : ℕ) → t ≡ told code.done s 0 → Replaces E old key charge v s replaced evicted new → IsLawful E new → TellsInsert E old key charge v t replaced evicted new
-    tells_stamp s e h l = subst (λ (u : LruTold). TellsInsert E old key charge v u replaced evicted new) (sym e) (inl (refl, h, l))
+    pub tells_stamp : (p : LruPin) → t ≡ told code.done p 0 → Replaces E old key charge v p.stamp replaced evicted new → IsLawful E new → TellsInsert E old key charge v t replaced evicted new
+    tells_stamp p e h l = subst (λ (u : LruTold). TellsInsert E old key charge v u replaced evicted new) (sym e) (inl (refl, h, l))
 
     pub tells_refusal : (e : Refusal) (c : ℕ) → c ≡ refusal_code e → (t ≡ bare c) × (replaced ≡ []) × (evicted ≡ []) → RefusesToReplace E old key charge e new → new ≡ old → TellsInsert E old key charge v t replaced evicted new
-    tells_refusal e c is refused h same = inr (inl (e, refused.0 ∙ ap bare is, h, (same, refused.1, refused.2)))
-
-    pub tells_no_memory : (t ≡ bare code.memory) × (replaced ≡ []) × (evicted ≡ []) → new ≡ old → TellsInsert E old key charge v t replaced evicted new
-    tells_no_memory refused same = inr (inr (refused.0, (same, refused.1, refused.2)))
-
-    -- the value that was shared is the value that was given
-    pub insert_shared : (w : ℕ) → w ≡ v → TellsInsert E old key charge w t replaced evicted new → TellsInsert E old key charge v t replaced evicted new
-    insert_shared w e h = subst (λ (x : ℕ). TellsInsert E old key charge x t replaced evicted new) e h
+    tells_refusal e c is refused h same = inr (e, refused.0 ∙ ap bare is, h, (same, refused.1, refused.2))
 
   module _ (IsKey : K → Type 0) (old new : Cache K ℕ) (charge v : ℕ) (t : LruTold) (replaced evicted : List (Idle K ℕ)) where
     pub insert_of : (mid : Cache K ℕ) (key : K) → (charge ≡ 0 → ⊥) → mid ≡ old → IsKey key → TellsInsert E mid key charge v t replaced evicted new → TellsInsertOf E IsKey old charge v t replaced evicted new

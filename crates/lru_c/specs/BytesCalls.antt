@@ -5,7 +5,7 @@ use Rattle.concurrent_lru.specs.Request.{Request}
 use Rattle.concurrent_lru.specs.Request as ask
 use Rattle.lru_c.specs.Codes as code
 use Rattle.lru_c.specs.Told as tells
-use Rattle.lru_c.specs.Told.{bare, told, IsSame}
+use Rattle.lru_c.specs.Told.{bare, numbered, IsSame}
 use Rattle.lru_c.specs.Opened.{TellsReady}
 use Rattle.lru_c.specs.Calls.{entries_of, IsUnchanged, OnCache}
 use Rattle.lru_c.specs.Counted.{answered, counted, inserted}
@@ -75,8 +75,8 @@ Contains old bytes c new = OnOpen old new (λ o n. ContainsBytes o.state.cache b
 -- buffer is unchanged.
 abbrev pub CopiesKey : Cache Key ℕ → ℕ → LruTold → List ℕ → List ℕ → Type 0
 CopiesKey cache stamp t before after =
-    ((key : Key) × HasKeyAt cache stamp key × (t ≡ told code.number 0 (length key.bytes.items)) × (after ≡ key.bytes.items ++ drop (length key.bytes.items) before))
-    ⊎ (((key : Key) × HasKeyAt cache stamp key × (t ≡ told code.no_room 0 (length key.bytes.items)) × (length before < length key.bytes.items) × (after ≡ before))
+    ((key : Key) × HasKeyAt cache stamp key × (t ≡ numbered code.number (length key.bytes.items)) × (after ≡ key.bytes.items ++ drop (length key.bytes.items) before))
+    ⊎ (((key : Key) × HasKeyAt cache stamp key × (t ≡ numbered code.no_room (length key.bytes.items)) × (length before < length key.bytes.items) × (after ≡ before))
     ⊎ ((t ≡ bare code.stale) × LacksStamp cache stamp × (after ≡ before)))
 
 abbrev pub KeyOf : Option BytesCache → ℕ → LruTold → List ℕ → List ℕ → Option BytesCache → Type 0

@@ -6,7 +6,7 @@ use Rattle.concurrent_lru.specs.TakeAll.{TakesAll}
 use Rattle.lru_c.specs.Codes as code
 use Rattle.lru_c.specs.Counted.{counted, stats_of}
 use Rattle.lru_c.specs.Told as tells
-use Rattle.lru_c.specs.Told.{bare, told}
+use Rattle.lru_c.specs.Told.{bare, numbered}
 use Rattle.lru_c.specs.Handles.{OnOpen}
 use Rattle.lru_c.specs.declared.counts.Counts.{Counts}
 use Rattle.lru_c.specs.declared.told.LruStats.{LruStats}
@@ -35,13 +35,9 @@ module _ {K R : Type 0} where
     abbrev pub Asks : Option (Inner K R) → Request K ℕ → LruTold → List (Idle K ℕ) → Option (Inner K R) → Type 0
     Asks old r t gone new = OnCache old (λ o n. tells.Asks E o r t gone n) (λ m n. n ≡ counted r t m) t gone new
 
-    -- The same for a call that first allocates memory of its own.
-    abbrev pub AsksWithMemory : Option (Inner K R) → Request K ℕ → LruTold → List (Idle K ℕ) → Option (Inner K R) → Type 0
-    AsksWithMemory old r t gone new = OnCache old (λ o n. tells.AsksWithMemory E o r t gone n) (λ m n. n ≡ counted r t m) t gone new
-
   -- The call returned this number of the cache, and changed nothing.
   abbrev pub Numbers : Option (Inner K R) → (Cache K ℕ → ℕ) → LruTold → Option (Inner K R) → Type 0
-  Numbers old number t new = OnOpen old new (λ o n. (t ≡ told code.number 0 (number o.state.cache)) × IsUnchanged o n) (t ≡ bare code.closed)
+  Numbers old number t new = OnOpen old new (λ o n. (t ≡ numbered code.number (number o.state.cache)) × IsUnchanged o n) (t ≡ bare code.closed)
 
   -- The call returned the numbers of the cache and its counts, and changed nothing.
   abbrev pub TellsStats : Option (Inner K R) → ℕ → LruStats → Option (Inner K R) → Type 0

@@ -51,3 +51,6 @@ not_empty = 16
 
 abbrev pub no_room : ℕ
 no_room = 17
+
+abbrev pub pinned : ℕ
+pinned = 18

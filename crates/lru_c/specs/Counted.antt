@@ -29,7 +29,7 @@ one_making stamp n = cond (stamp == n.next_stamp) (one_insertion (record n { mis
 -- the counts after a begin, a get or a fail with this answer
 abbrev pub answered : LruTold → Counts → Counts
 answered t n =
-    cond (t.code == code.hit) (record n { hits = one_more n.hits }) (cond (t.code == code.make) (one_making t.stamp n) (
+    cond (t.code == code.hit) (record n { hits = one_more n.hits }) (cond (t.code == code.make) (one_making t.pin.stamp n) (
     cond (t.code == code.missed) (record n { misses = one_more n.misses }) (cond (t.code == code.wait) (record n { waits = one_more n.waits }) (
     cond (t.code == code.removed) (record n { removals = one_more n.removals }) n))))
 

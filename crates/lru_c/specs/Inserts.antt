@@ -14,21 +14,21 @@ module _ {K : Type 0} where
   IsUntouched old replaced evicted new = (new ≡ old) × (replaced ≡ []) × (evicted ≡ [])
 
   module _ (E : K → K → Bool) where
-    -- The value was inserted under a new stamp, which the call returned.
+    -- The value was inserted under a new stamp, with which the call returned a pin.
     abbrev pub TellsNewStamp : Cache K ℕ → K → ℕ → ℕ → LruTold → List (Idle K ℕ) → List (Idle K ℕ) → Cache K ℕ → Type 0
-    TellsNewStamp old k charge v t replaced evicted new = (t ≡ told code.done t.stamp 0) × Replaces E old k charge v t.stamp replaced evicted new × IsLawful E new
+    TellsNewStamp old k charge v t replaced evicted new = (t ≡ told code.done t.pin 0) × Replaces E old k charge v t.pin.stamp replaced evicted new × IsLawful E new
 
     -- The core refused, and the call returned the code of its refusal.
     abbrev pub TellsRefusal : Cache K ℕ → K → ℕ → LruTold → List (Idle K ℕ) → List (Idle K ℕ) → Cache K ℕ → Type 0
     TellsRefusal old k charge t replaced evicted new = (e : Refusal) × (t ≡ bare (refusal_code e)) × RefusesToReplace E old k charge e new × IsUntouched old replaced evicted new
 
-    -- One of these; or memory was refused before the core was called.
+    -- One of these.
     abbrev pub TellsInsert : Cache K ℕ → K → ℕ → ℕ → LruTold → List (Idle K ℕ) → List (Idle K ℕ) → Cache K ℕ → Type 0
     TellsInsert old k charge v t replaced evicted new =
-        TellsNewStamp old k charge v t replaced evicted new ⊎ (TellsRefusal old k charge t replaced evicted new ⊎ ((t ≡ bare code.memory) × IsUntouched old replaced evicted new))
+        TellsNewStamp old k charge v t replaced evicted new ⊎ TellsRefusal old k charge t replaced evicted new
 
-    -- The same for a call that refuses a charge of 0 and first makes a key, from bytes for example:
-    -- IsKey holds of that key.
+    -- The same for a call that refuses a charge of 0 and first makes a key, from bytes for example,
+    -- of which IsKey holds; if memory for it is refused, nothing changed.
     abbrev pub TellsInsertOf : (K → Type 0) → Cache K ℕ → ℕ → ℕ → LruTold → List (Idle K ℕ) → List (Idle K ℕ) → Cache K ℕ → Type 0
     TellsInsertOf IsKey old charge v t replaced evicted new =
         MatchBool (charge == 0) ((t ≡ bare code.no_charge) × IsUntouched old replaced evicted new)

@@ -10,15 +10,28 @@ use Rattle.concurrent_lru.specs.declared.step.Begun.{Begun}
 use Rattle.concurrent_lru.specs.declared.step.Begun.TheVariants as begun
 use Rattle.concurrent_lru.specs.declared.step.Failed.{Failed}
 use Rattle.concurrent_lru.specs.declared.step.Failed.TheVariants as failed
+use Rattle.concurrent_lru.specs.declared.table.spot.Hint.{Hint}
 use Rattle.lru_c.specs.Codes as code
+use Rattle.lru_c.specs.declared.told.LruPin.{LruPin}
 use Rattle.lru_c.specs.declared.told.LruTold.{LruTold}
 
--- an answer of three numbers; an answer that is a code alone
-abbrev pub told : ℕ → ℕ → ℕ → LruTold
-told c stamp value = record { stamp = stamp; value = value; code = c }
+-- how an answer names the entry that the caller has pinned
+abbrev pub pin_of : ℕ → Hint → LruPin
+pin_of stamp h = record { stamp = stamp; hash = h.hash; place = h.place }
+
+-- where a lookup of a pin's entry begins
+abbrev pub hint_of : LruPin → Hint
+hint_of p = record { hash = p.hash; place = p.place }
+
+-- an answer of a code, a pin and a number; one that names no entry; one that is a code alone
+abbrev pub told : ℕ → LruPin → ℕ → LruTold
+told c p value = record { pin = p; value = value; code = c }
+
+abbrev pub numbered : ℕ → ℕ → LruTold
+numbered c value = told c (record { stamp = 0; hash = 0; place = 0 }) value
 
 abbrev pub bare : ℕ → LruTold
-bare c = told c 0 0
+bare c = numbered c 0
 
 -- the code of a refusal of the core
 abbrev pub refusal_code : Refusal → ℕ
@@ -26,15 +39,16 @@ refusal_code Overflow = code.overflow
 refusal_code Stale = code.stale
 refusal_code Memory = code.memory
 
--- what a begin or a poll returns; what a get returns
-abbrev pub begun_told : Begun ℕ → LruTold
-begun_told (begun.Make s) = told code.make s 0
-begun_told (begun.Wait s) = told code.wait s 0
-begun_told (begun.Hit s a) = told code.hit s a.value
+-- What a begin or a poll returns, with a hint of the entry; what a get returns. Nothing is said of
+-- the hint, as any will do.
+abbrev pub begun_told : Hint → Begun ℕ → LruTold
+begun_told hint (begun.Make s) = told code.make (pin_of s hint) 0
+begun_told hint (begun.Wait s) = told code.wait (pin_of s hint) 0
+begun_told hint (begun.Hit s value) = told code.hit (pin_of s hint) value
 
-abbrev pub found_told : Option (ℕ × ℕ) → LruTold
+abbrev pub found_told : Option (ℕ × ℕ × Hint) → LruTold
 found_told None = bare code.missed
-found_told (Some r) = told code.hit r.0 r.1
+found_told (Some r) = told code.hit (pin_of r.0 r.2) r.1
 
 module _ {K : Type 0} where
   -- the code of a making that failed
@@ -46,11 +60,11 @@ module _ {K : Type 0} where
   -- belongs to it. Any other code reads as a sum, and no step with such an answer has that outcome.
   abbrev pub outcome_told : LruTold → List (Idle K ℕ) → Outcome K ℕ
   outcome_told t gone =
-      cond (t.code == code.make) (accepted (say.make t.stamp) gone) (cond (t.code == code.wait) (accepted (say.wait t.stamp) gone) (
-      cond (t.code == code.hit) (accepted (say.hit t.stamp t.value) gone) (cond (t.code == code.done) (accepted say.done gone) (
+      cond (t.code == code.make) (accepted (say.make t.pin.stamp) gone) (cond (t.code == code.wait) (accepted (say.wait t.pin.stamp) gone) (
+      cond (t.code == code.hit) (accepted (say.hit t.pin.stamp t.value) gone) (cond (t.code == code.done) (accepted say.done gone) (
       cond (t.code == code.left) (accepted say.left gone) (cond (t.code == code.missed) (accepted say.missed gone) (
       cond (t.code == code.overflow) (refused Overflow) (cond (t.code == code.stale) (refused Stale) (
-      cond (t.code == code.memory) (refused Memory) (accepted (say.sum t.value) gone)))))))))
+      cond (t.code == code.memory) (refused Memory) (cond (t.code == code.pinned) (accepted (say.pinned t.value) gone) (accepted (say.sum t.value) gone))))))))))
 
   -- a refusal puts nothing into a chain
   abbrev pub IsQuiet : Outcome K ℕ → List (Idle K ℕ) → Type 0
@@ -72,11 +86,7 @@ module _ {K : Type 0} where
     abbrev pub Asks : Cache K ℕ → Request K ℕ → LruTold → List (Idle K ℕ) → Cache K ℕ → Type 0
     Asks old r t gone new = Tells old r t gone new × IsQuiet (outcome_told t gone) gone × IsLawful E new
 
-    -- The same for a call that first allocates memory of its own; if that is refused, nothing
-    -- changed.
-    abbrev pub AsksWithMemory : Cache K ℕ → Request K ℕ → LruTold → List (Idle K ℕ) → Cache K ℕ → Type 0
-    AsksWithMemory old r t gone new = MatchBool (t.code == code.memory) (IsSame old gone new) (Asks old r t gone new)
-
-    -- The same for a call that first makes a key, from bytes for example: IsKey holds of that key.
+    -- The same for a call that first makes a key, from bytes for example, of which IsKey holds; if
+    -- memory for it is refused, nothing changed.
     abbrev pub AsksOf : (K → Type 0) → Cache K ℕ → (K → Request K ℕ) → LruTold → List (Idle K ℕ) → Cache K ℕ → Type 0
     AsksOf IsKey old r t gone new = MatchBool (t.code == code.memory) (IsSame old gone new) ((key : K) × IsKey key × Asks old (r key) t gone new)

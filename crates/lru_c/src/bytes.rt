@@ -1,8 +1,8 @@
 //! Caches whose keys are bytes, for C.
-ghost use Rattle.std.specs.Prelude.{◌≡◌, ◌==◌, ⊤, [], false, is_some, true, None, Some, MatchBool, MatchOption};
+ghost use Rattle.std.specs.Prelude.{◌≡◌, ◌==◌, ⊤, [], false, is_some, true, None, Some, MatchBool};
 ghost use Rattle.concurrent_lru.specs.Cache.{count_of, empty_cache, most_pins_by_default, pinned_of, sum_of};
 ghost use Rattle.concurrent_lru.specs.Request as ask;
-ghost use Rattle.lru_c.specs.Calls.{entries_of, Asks, AsksWithMemory, Frees, Numbers, Reserves, TellsStats};
+ghost use Rattle.lru_c.specs.Calls.{entries_of, Asks, Frees, Numbers, Reserves, TellsStats};
 ghost use Rattle.lru_c.specs.Chains.{chain_code, entries_in, TellsFirst};
 ghost use Rattle.lru_c.specs.Codes as codes;
 ghost use Rattle.lru_c.specs.Counted.{no_calls};
@@ -22,13 +22,13 @@ use crate::cache::make;
 use crate::chain::Chain;
 use crate::chain_calls::{empty_chain, free_into_chain, into_chain};
 use crate::handle::Handle;
-use crate::told::{LruGone, LruStats, LruTold};
+use crate::told::{LruGone, LruPin, LruStats, LruTold};
+use crate::values::Evicted;
 use crate::{chain_calls, code, steps};
-use concurrent_lru::lru_core::Evicted;
 use std::alloc::Global;
 
 /// Opens an empty cache. An entry may have up to `u32::MAX` pins, and the first entry gets the
-/// stamp 0. Keys are hashed with `seed`; no answer depends on it.
+/// stamp 0. Keys are hashed with `seed`; only the hashes of pins depend on it.
 ///
 /// Returns `OPEN` if the handle is already open, or `MEMORY`; the handle is unchanged then.
 #[unsafe(no_mangle)]
@@ -50,7 +50,7 @@ pub extern "C" fn lru_bytes_new(alloc: Global, capacity: u64, seed: u64, out: &m
 }
 
 /// Opens an empty cache whose first entry gets the stamp `first_stamp`, and whose entries have at
-/// most `most_pins` pins each. Keys are hashed with `seed`; no answer depends on it.
+/// most `most_pins` pins each. Keys are hashed with `seed`; only the hashes of pins depend on it.
 ///
 /// Returns `NO_PINS` if `most_pins` is 0, `OPEN` if the handle is already open, and `MEMORY` if the
 /// allocator refuses. The handle is unchanged then.
@@ -135,29 +135,30 @@ pub extern "C" fn lru_bytes_begin_nonnull(
 
 /// Asks again for a value that was being made. Returns `MAKE` if its maker has failed.
 ///
-/// Returns `STALE` if no held entry has the stamp, `MEMORY` if a copy of the value is refused, and
-/// `CLOSED` if the cache is not open; nothing changes then.
+/// Returns `STALE` if no held entry has the stamp of the pin, and `CLOSED` if the cache is not
+/// open; nothing changes then.
 #[unsafe(no_mangle)]
-pub extern "C" fn lru_bytes_poll(cache: &mut LruBytes, stamp: u64) -> LruTold
-    ensures { Asks bytes_eq cache.old.cache.held (ask.poll stamp) result [] cache.new.cache.held }
+pub extern "C" fn lru_bytes_poll(cache: &mut LruBytes, pin: LruPin) -> LruTold
+    ensures { Asks bytes_eq cache.old.cache.held (ask.poll pin.stamp) result []
+        cache.new.cache.held }
 {
     match cache.get_mut() {
-        Some(cache) => steps::poll(&mut cache.state, stamp),
+        Some(cache) => steps::poll(&mut cache.state, pin),
         None => LruTold::bare(code::CLOSED),
     }
 }
 
 /// Stores the value of an entry that is being made.
 ///
-/// Returns `STALE` if no entry is being made under the stamp, `MEMORY` if the allocator refuses,
-/// and `CLOSED` if the cache is not open. Nothing changes then, and the value is not taken.
+/// Returns `STALE` if no entry is being made under the stamp, and `CLOSED` if the cache is not
+/// open. Nothing changes then, and the value is not taken.
 #[unsafe(no_mangle)]
-pub extern "C" fn lru_bytes_ready(cache: &mut LruBytes, stamp: u64, value: u64) -> u32
-    ensures { AsksWithMemory bytes_eq cache.old.cache.held (ask.ready stamp value)
+pub extern "C" fn lru_bytes_ready(cache: &mut LruBytes, pin: LruPin, value: u64) -> u32
+    ensures { Asks bytes_eq cache.old.cache.held (ask.ready pin.stamp value)
         (bare result) [] cache.new.cache.held }
 {
     match cache.get_mut() {
-        Some(cache) => steps::ready(&mut cache.state, cache.alloc, stamp, value),
+        Some(cache) => steps::ready(&mut cache.state, pin, value),
         None => code::CLOSED,
     }
 }
@@ -167,12 +168,12 @@ pub extern "C" fn lru_bytes_ready(cache: &mut LruBytes, stamp: u64, value: u64) 
 /// Returns `STALE` if no entry is being made under the stamp, and `CLOSED` if the cache is not
 /// open; nothing changes then.
 #[unsafe(no_mangle)]
-pub extern "C" fn lru_bytes_fail(cache: &mut LruBytes, stamp: u64) -> u32
-    ensures { Asks bytes_eq cache.old.cache.held (ask.fail stamp)
+pub extern "C" fn lru_bytes_fail(cache: &mut LruBytes, pin: LruPin) -> u32
+    ensures { Asks bytes_eq cache.old.cache.held (ask.fail pin.stamp)
         (bare result) [] cache.new.cache.held }
 {
     match cache.get_mut() {
-        Some(cache) => cache.fail(stamp),
+        Some(cache) => cache.fail(pin),
         None => code::CLOSED,
     }
 }
@@ -211,21 +212,63 @@ pub extern "C" fn lru_bytes_contains_nonnull(cache: &mut LruBytes, key: &[u8]) -
 #[unsafe(no_mangle)]
 pub extern "C" fn lru_bytes_release(
     cache: &mut LruBytes,
-    stamp: u64,
+    pin: LruPin,
     gone: &mut LruBytesEvicted,
 ) -> u32
     ensures { Into gone.old gone.new result cache.old cache.new
-        (λ o out n. Asks bytes_eq o (ask.release stamp) (bare result) out n) }
+        (λ o out n. Asks bytes_eq o (ask.release pin.stamp) (bare result) out n) }
 {
     into_chain(
         cache,
         gone,
         |cache|
-            ensures asks { tells.Asks bytes_eq cache.old.state.cache (ask.release stamp)
+            ensures asks { tells.Asks bytes_eq cache.old.state.cache (ask.release pin.stamp)
                 (bare result.0) result.1 cache.new.state.cache }
             ensures counts { cache.new.counts ≡ cache.old.counts }
-        { cache.release(stamp) },
+        { cache.release(pin) },
     )
+}
+
+/// Releases a pin of a ready entry as `release` does, but with its last pin the entry is evicted
+/// into the chain.
+///
+/// Returns `STALE` if no held and ready entry has the stamp, `CLOSED` if the cache or chain is not
+/// open, and `NOT_EMPTY` if the chain has entries; nothing changes then.
+#[unsafe(no_mangle)]
+pub extern "C" fn lru_bytes_release_and_evict(
+    cache: &mut LruBytes,
+    pin: LruPin,
+    gone: &mut LruBytesEvicted,
+) -> u32
+    ensures { Into gone.old gone.new result cache.old cache.new
+        (λ o out n. Asks bytes_eq o (ask.release_and_evict pin.stamp) (bare result) out n) }
+{
+    into_chain(
+        cache,
+        gone,
+        |cache|
+            ensures asks { tells.Asks bytes_eq cache.old.state.cache
+                (ask.release_and_evict pin.stamp) (bare result.0) result.1
+                cache.new.state.cache }
+            ensures counts { cache.new.counts ≡ cache.old.counts }
+        { cache.release_and_evict(pin) },
+    )
+}
+
+/// Pins a ready entry once more, and returns `PINNED` with its pin and its value. The entry may be
+/// held, detached or not, or idle.
+///
+/// Returns `STALE` if no ready entry has the stamp, `OVERFLOW` if the entry has the maximum number
+/// of pins, and `CLOSED` if the cache is not open; nothing changes then.
+#[unsafe(no_mangle)]
+pub extern "C" fn lru_bytes_repin(cache: &mut LruBytes, pin: LruPin) -> LruTold
+    ensures { Asks bytes_eq cache.old.cache.held (ask.repin pin.stamp) result []
+        cache.new.cache.held }
+{
+    match cache.get_mut() {
+        Some(cache) => steps::repin(&mut cache.state, pin),
+        None => LruTold::bare(code::CLOSED),
+    }
 }
 
 /// Evicts the entry of a key into a chain if it is idle. Otherwise nothing happens, now or later.
@@ -287,7 +330,7 @@ pub extern "C" fn lru_bytes_invalidate_nonnull(
 }
 
 /// Inserts a value, replacing what the key has: detaches the entry of the key as `invalidate` does,
-/// and inserts a new one with a pin for the caller. Returns `DONE` with its stamp. The idle entry
+/// and inserts a new one with a pin for the caller. Returns `DONE` with that pin. The idle entry
 /// that was replaced, and then what the charge evicted, oldest first, are put into a chain.
 ///
 /// Returns `NO_CHARGE` if the charge is 0, `CLOSED` if the cache or chain is not open, `NOT_EMPTY`
@@ -443,13 +486,14 @@ pub extern "C" fn lru_bytes_stats(cache: &mut LruBytes, out: &mut LruStats) -> u
 #[unsafe(no_mangle)]
 pub extern "C" fn lru_bytes_key_of_nonnull(
     cache: &mut LruBytes,
-    stamp: u64,
+    pin: LruPin,
     buffer: &mut [u8],
 ) -> LruTold
-    ensures { KeyOf cache.old.cache.held stamp result buffer.old buffer.new cache.new.cache.held }
+    ensures { KeyOf cache.old.cache.held pin.stamp result buffer.old buffer.new
+        cache.new.cache.held }
 {
     match cache.get_mut() {
-        Some(cache) => copy_key(&cache.state, stamp, buffer),
+        Some(cache) => copy_key(&cache.state, pin, buffer),
         None => LruTold::bare(code::CLOSED),
     }
 }

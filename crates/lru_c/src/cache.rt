@@ -7,18 +7,16 @@ ghost use Rattle.lru_c.specs.Counted.{no_calls};
 use crate::counts::Counts;
 use crate::handle::{Handle, open};
 use crate::steps;
-use crate::told::{LruStats, LruTold};
-use concurrent_lru::lru_core::{Evicted, State};
+use crate::told::{LruPin, LruStats, LruTold};
+use crate::values::{Evicted, State};
 use std::alloc::{AllocError, Global};
 use std::hash::Hash;
 
 /// A cache with its counts and a key buffer, `R`, which depends on how C passes a key.
 #[derive(Drop)]
 pub struct Cache<K: Hash + Eq + Clone, R> {
-    /// The allocator of the values.
-    pub alloc: Global,
     /// The cache.
-    pub state: State<K, u64>,
+    pub state: State<K>,
     /// The counts of what its calls have returned.
     pub counts: Counts,
     /// A buffer for the key of the current call, unless C passes whole keys.
@@ -29,25 +27,33 @@ impl<K: Hash + Eq + Clone, R> Cache<K, R> {
     ghost use Rattle.lru_c.specs.Counted.{answered, stats_of};
     ghost use Rattle.lru_c.specs.Told.{bare, Asks};
 
-    pub(crate) fn fail(&mut self, stamp: u64) -> u32
-        ensures asks { Asks K.eq self.old.state.cache (ask.fail stamp) (bare result) []
+    pub(crate) fn fail(&mut self, pin: LruPin) -> u32
+        ensures asks { Asks K.eq self.old.state.cache (ask.fail pin.stamp) (bare result) []
             self.new.state.cache }
         ensures counts { self.new.counts ≡ answered (bare result) self.old.counts }
     {
-        let code = steps::fail(&mut self.state, stamp);
+        let code = steps::fail(&mut self.state, pin);
         self.counts.answer(LruTold::bare(code));
         code
     }
 
-    pub(crate) fn release(&mut self, stamp: u64) -> (u32, Evicted<K, u64>)
-        ensures asks { Asks K.eq self.old.state.cache (ask.release stamp) (bare result.0) result.1
-            self.new.state.cache }
+    pub(crate) fn release(&mut self, pin: LruPin) -> (u32, Evicted<K>)
+        ensures asks { Asks K.eq self.old.state.cache (ask.release pin.stamp) (bare result.0)
+            result.1 self.new.state.cache }
         ensures counts { self.new.counts ≡ self.old.counts }
     {
-        steps::release(&mut self.state, stamp)
+        steps::release(&mut self.state, pin)
     }
 
-    pub(crate) fn prune(&mut self) -> (u32, Evicted<K, u64>)
+    pub(crate) fn release_and_evict(&mut self, pin: LruPin) -> (u32, Evicted<K>)
+        ensures asks { Asks K.eq self.old.state.cache (ask.release_and_evict pin.stamp)
+            (bare result.0) result.1 self.new.state.cache }
+        ensures counts { self.new.counts ≡ self.old.counts }
+    {
+        steps::release_and_evict(&mut self.state, pin)
+    }
+
+    pub(crate) fn prune(&mut self) -> (u32, Evicted<K>)
         ensures asks { Asks K.eq self.old.state.cache ask.prune (bare result.0) result.1
             self.new.state.cache }
         ensures counts { self.new.counts ≡ self.old.counts }
@@ -55,7 +61,7 @@ impl<K: Hash + Eq + Clone, R> Cache<K, R> {
         steps::prune(&mut self.state)
     }
 
-    pub(crate) fn set_capacity(&mut self, capacity: u64) -> (u32, Evicted<K, u64>)
+    pub(crate) fn set_capacity(&mut self, capacity: u64) -> (u32, Evicted<K>)
         ensures asks { Asks K.eq self.old.state.cache (ask.set_capacity capacity) (bare result.0)
             result.1 self.new.state.cache }
         ensures counts { self.new.counts ≡ self.old.counts }
@@ -102,8 +108,7 @@ pub(crate) fn make<K: Hash + Eq + Clone, R: Drop, H: Handle<To = Cache<K, R>>>(
         (c.counts ≡ no_calls first_stamp))) }
 {
     let cache = Cache {
-        alloc,
-        state: State::with_limits_and_seed(alloc, capacity, first_stamp, most_pins, seed),
+        state: State::without_stamp_map(alloc, capacity, first_stamp, most_pins, seed),
         counts: Counts::from(first_stamp),
         room,
     };

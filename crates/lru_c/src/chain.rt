@@ -4,15 +4,15 @@ ghost use Rattle.lru_c.specs.Chains.{chain_code, Pops};
 
 use crate::code;
 use crate::told::LruGone;
-use concurrent_lru::lru_core::{Evicted, Gone};
+use crate::values::{Evicted, Gone};
 
 /// The entries that a call took out of a cache, in order: `first`, and then `rest`.
 #[derive(Drop)]
 pub struct Chain<K> {
     /// The entries that are popped first.
-    pub first: Evicted<K, u64>,
+    pub first: Evicted<K>,
     /// The entries that are popped after those.
-    pub rest: Evicted<K, u64>,
+    pub rest: Evicted<K>,
 }
 
 impl<K: Drop> Chain<K> {
@@ -43,13 +43,13 @@ impl<K: Drop> Chain<K> {
     }
 }
 
-fn told<K>(gone: &Gone<K, u64>) -> LruGone
+fn told<K>(gone: &Gone<K>) -> LruGone
     ensures { (result.stamp ≡ gone.now.stamp) × (result.charge ≡ gone.now.charge) ×
-        (result.value ≡ gone.now.value.value) }
+        (result.value ≡ gone.now.value) }
 {
     LruGone {
         stamp: gone.stamp,
         charge: gone.charge,
-        value: *gone.value,
+        value: gone.value,
     }
 }

@@ -14,7 +14,7 @@ use crate::chain::Chain;
 use crate::code;
 use crate::handle::{Handle, open, take};
 use crate::told::{Answer, LruGone};
-use concurrent_lru::lru_core::Evicted;
+use crate::values::Evicted;
 use std::alloc::{AllocError, Global};
 use std::hash::Hash;
 
@@ -97,7 +97,7 @@ where
     G: Handle<To = Chain<K>>,
     H: Handle<To = C>,
     B: Answer,
-    F: FnOnce(&mut C) -> (B, Evicted<K, u64>) + Drop,
+    F: FnOnce(&mut C) -> (B, Evicted<K>) + Drop,
     requires { F.IsAlwaysCallable call }
     ensures { IntoChain (entries_of (G.held gone.old)) (entries_of (G.held gone.new))
         (B.code result) cache.old cache.new (λ out. OnOpen (H.held cache.old) (H.held cache.new)

@@ -34,3 +34,5 @@ pub const OPEN: u32 = 15;
 pub const NOT_EMPTY: u32 = 16;
 /// Refused: a buffer that is too small.
 pub const NO_ROOM: u32 = 17;
+/// Pinned once more; the value is returned.
+pub const PINNED: u32 = 18;

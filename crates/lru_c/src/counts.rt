@@ -48,7 +48,7 @@ impl Counts {
         if told.code == code::HIT {
             self.hits = self.hits.saturating_add(1);
         } else if told.code == code::MAKE {
-            self.make(told.stamp);
+            self.make(told.pin.stamp);
         } else if told.code == code::MISSED {
             self.misses = self.misses.saturating_add(1);
         } else if told.code == code::WAIT {

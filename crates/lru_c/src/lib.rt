@@ -13,4 +13,5 @@ pub mod counts;
 pub mod handle;
 mod steps;
 pub mod told;
+pub mod values;
 pub mod words;

@@ -6,15 +6,15 @@ ghost use Rattle.lru_c.specs.BytesCalls.{CopiesKey};
 
 use crate::bytes::key::Bytes;
 use crate::cache::Cache;
-use crate::told::LruTold;
+use crate::told::{LruPin, LruTold};
+use crate::values::{Evicted, State};
 use crate::{code, steps};
-use concurrent_lru::lru_core::{Evicted, State};
 
 impl Cache<Bytes, Bytes> {
     ghost use Rattle.lru_c.specs.BytesCalls.{bytes_eq, BeginsByKey, ContainsBytes, HasBytes};
     ghost use Rattle.lru_c.specs.Counted.{answered, inserted};
     ghost use Rattle.lru_c.specs.Inserts.{TellsInsertOf};
-    ghost use Rattle.lru_c.specs.Told.{bare, Asks, AsksOf};
+    ghost use Rattle.lru_c.specs.Told.{bare, AsksOf};
 
     // Copies the bytes of a key into the buffer. Returns false if the buffer cannot grow.
     fn keep(&mut self, key: &[u8]) -> bool
@@ -26,7 +26,7 @@ impl Cache<Bytes, Bytes> {
         self.room.bytes.extend_from_slice(key).is_ok()
     }
 
-    pub(crate) fn begin(&mut self, key: &[u8], charge: u64) -> (LruTold, Evicted<Bytes, u64>)
+    pub(crate) fn begin(&mut self, key: &[u8], charge: u64) -> (LruTold, Evicted<Bytes>)
         ensures asks { BeginsByKey self.old.state.cache key.now charge result.0 result.1
             self.new.state.cache }
         ensures counts { self.new.counts ≡ answered result.0 self.old.counts }
@@ -55,7 +55,7 @@ impl Cache<Bytes, Bytes> {
         told
     }
 
-    pub(crate) fn advice_evict(&mut self, key: &[u8]) -> (u32, Evicted<Bytes, u64>)
+    pub(crate) fn advice_evict(&mut self, key: &[u8]) -> (u32, Evicted<Bytes>)
         ensures asks { AsksOf bytes_eq (HasBytes key.now) self.old.state.cache
             ask.advice_evict (bare result.0) result.1 self.new.state.cache }
         ensures counts { self.new.counts ≡ self.old.counts }
@@ -66,7 +66,7 @@ impl Cache<Bytes, Bytes> {
         steps::advice_evict(&mut self.state, &self.room)
     }
 
-    pub(crate) fn invalidate(&mut self, key: &[u8]) -> (u32, Evicted<Bytes, u64>)
+    pub(crate) fn invalidate(&mut self, key: &[u8]) -> (u32, Evicted<Bytes>)
         ensures asks { AsksOf bytes_eq (HasBytes key.now) self.old.state.cache
             ask.invalidate (bare result.0) result.1 self.new.state.cache }
         ensures counts { self.new.counts ≡ self.old.counts }
@@ -82,7 +82,7 @@ impl Cache<Bytes, Bytes> {
         key: &[u8],
         charge: u64,
         value: u64,
-    ) -> (LruTold, (Evicted<Bytes, u64>, Evicted<Bytes, u64>))
+    ) -> (LruTold, (Evicted<Bytes>, Evicted<Bytes>))
         ensures tells { TellsInsertOf bytes_eq (HasBytes key.now) self.old.state.cache charge value
             result.0 result.1.0 result.1.1 self.new.state.cache }
         ensures counts { self.new.counts ≡ inserted result.0 self.old.counts }
@@ -93,7 +93,7 @@ impl Cache<Bytes, Bytes> {
         if !self.keep(key) {
             return steps::refused(code::MEMORY);
         }
-        let answer = steps::insert(&mut self.state, self.alloc, &self.room, charge, value);
+        let answer = steps::insert(&mut self.state, &self.room, charge, value);
         self.counts.answer_insert(answer.0);
         answer
     }
@@ -111,16 +111,16 @@ impl Cache<Bytes, Bytes> {
 }
 
 // Copies the key of the entry with this stamp to the start of a buffer.
-pub(crate) fn copy_key(state: &State<Bytes, u64>, stamp: u64, buffer: &mut [u8]) -> LruTold
-    ensures { CopiesKey state.now.cache stamp result buffer.old buffer.new }
+pub(crate) fn copy_key(state: &State<Bytes>, pin: LruPin, buffer: &mut [u8]) -> LruTold
+    ensures { CopiesKey state.now.cache pin.stamp result buffer.old buffer.new }
 {
-    let Some(key) = state.key_of(stamp) else {
+    let Some(key) = state.key_at(&pin.spot()) else {
         return LruTold::bare(code::STALE);
     };
     let length = key.bytes.len();
     if length > buffer.len() {
-        return LruTold::of(code::NO_ROOM, 0, length as u64);
+        return LruTold::number(code::NO_ROOM, length as u64);
     }
     buffer[..length].copy_from_slice(&key.bytes);
-    LruTold::of(code::NUMBER, 0, length as u64)
+    LruTold::number(code::NUMBER, length as u64)
 }

@@ -5,9 +5,9 @@ ghost use Rattle.lru_c.specs.Codes as codes;
 
 use crate::cache::Cache;
 use crate::told::LruTold;
+use crate::values::Evicted;
 use crate::words::key::Words;
 use crate::{code, steps};
-use concurrent_lru::lru_core::Evicted;
 
 impl Cache<Words, ()> {
     ghost use Rattle.lru_c.specs.Counted.{answered, inserted};
@@ -15,7 +15,7 @@ impl Cache<Words, ()> {
     ghost use Rattle.lru_c.specs.Inserts.{TellsInsertOf};
     ghost use Rattle.lru_c.specs.Told.{bare, Asks, IsSame};
 
-    pub(crate) fn begin(&mut self, key: &Words, charge: u64) -> (LruTold, Evicted<Words, u64>)
+    pub(crate) fn begin(&mut self, key: &Words, charge: u64) -> (LruTold, Evicted<Words>)
         ensures asks { MatchBool (charge == 0)
             ((result.0 ≡ bare codes.no_charge) ×
             IsSame self.old.state.cache result.1 self.new.state.cache)
@@ -38,7 +38,7 @@ impl Cache<Words, ()> {
         told
     }
 
-    pub(crate) fn advice_evict(&mut self, key: &Words) -> (u32, Evicted<Words, u64>)
+    pub(crate) fn advice_evict(&mut self, key: &Words) -> (u32, Evicted<Words>)
         ensures asks { Asks words_eq self.old.state.cache (ask.advice_evict key.now) (bare result.0)
             result.1 self.new.state.cache }
         ensures counts { self.new.counts ≡ self.old.counts }
@@ -46,7 +46,7 @@ impl Cache<Words, ()> {
         steps::advice_evict(&mut self.state, key)
     }
 
-    pub(crate) fn invalidate(&mut self, key: &Words) -> (u32, Evicted<Words, u64>)
+    pub(crate) fn invalidate(&mut self, key: &Words) -> (u32, Evicted<Words>)
         ensures asks { Asks words_eq self.old.state.cache (ask.invalidate key.now) (bare result.0)
             result.1 self.new.state.cache }
         ensures counts { self.new.counts ≡ self.old.counts }
@@ -59,7 +59,7 @@ impl Cache<Words, ()> {
         key: &Words,
         charge: u64,
         value: u64,
-    ) -> (LruTold, (Evicted<Words, u64>, Evicted<Words, u64>))
+    ) -> (LruTold, (Evicted<Words>, Evicted<Words>))
         ensures tells { TellsInsertOf words_eq (λ k. k ≡ key.now) self.old.state.cache charge value
             result.0 result.1.0 result.1.1 self.new.state.cache }
         ensures counts { self.new.counts ≡ inserted result.0 self.old.counts }
@@ -67,7 +67,7 @@ impl Cache<Words, ()> {
         if charge == 0 {
             return steps::refused(code::NO_CHARGE);
         }
-        let answer = steps::insert(&mut self.state, self.alloc, key, charge, value);
+        let answer = steps::insert(&mut self.state, key, charge, value);
         self.counts.answer_insert(answer.0);
         answer
     }

@@ -1,12 +1,15 @@
-use Rattle.std.proofs.Common.{refl}
-use Rattle.std.specs.Arc.{arc_value}
-use Rattle.lru_c.proofs.Inserted.{insert_shared, tells_no_memory}
+use Rattle.std.proofs.Common.{◌∙◌, ap}
+use Rattle.lru_c.proofs.Inserted.{tells_stamp, tells_refusal}
 use Rattle.lru_c.proofs.steps.insert.Goals as goal
+use Rattle.lru_c.specs.Codes as code
+use Rattle.lru_c.specs.Told.{pin_of, told}
 
 pub returns-in-Ok : goal.returns-in-Ok
 returns-in-Ok g c =
-    insert_shared g.K.PartialEq.eq c.args.state.now.cache c.insert_shared.new.state.cache c.args.key.now c.args.charge c.args.value c.insert_shared.result.0 c.insert_shared.result.1.0 c.insert_shared.result.1.1 (arc_value c.in-Ok.shared) c.in-Ok.ensures.ok
-    c.insert_shared.ensures
+    tells_stamp g.K.PartialEq.eq c.args.state.now.cache c.insert_at.new.self.cache c.args.key.now c.args.charge c.args.value c.of-told.result c.in-Ok.inserted.replaced c.in-Ok.inserted.evicted (pin_of c.in-Ok.inserted.stamp c.in-Ok.hint) (c.of-told.ensures ∙ ap (λ p. told code.done p 0) c.of-pin.ensures) c.in-Ok.ensures.step
+    c.in-Ok.ensures.lawful
 
 pub returns-in-Err : goal.returns-in-Err
-returns-in-Err g c = tells_no_memory g.K.PartialEq.eq c.args.state.now.cache c.args.state.now.cache c.args.key.now c.args.charge c.args.value c.refused.result.0 c.refused.result.1.0 c.refused.result.1.1 c.refused.ensures refl
+returns-in-Err g c =
+    tells_refusal g.K.PartialEq.eq c.args.state.now.cache c.insert_at.new.self.cache c.args.key.now c.args.charge c.args.value c.refused.result.0 c.refused.result.1.0 c.refused.result.1.1 c.in-Err.refusal c.code_of.result c.code_of.ensures c.refused.ensures
+    c.in-Err.ensures.step (ap (λ s. s.cache) c.in-Err.ensures.same)

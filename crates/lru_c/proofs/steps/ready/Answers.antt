@@ -1,10 +1,14 @@
-use Rattle.std.proofs.Common.{[]}
-use Rattle.std.specs.Arc.{arc_value}
-use Rattle.lru_c.specs.Told.{bare}
-use Rattle.lru_c.proofs.Asked.{of_shared}
+use Rattle.std.proofs.Common.{[], refl, subst}
 use Rattle.concurrent_lru.specs.Request as ask
+use Rattle.concurrent_lru.specs.Reply as say
+use Rattle.concurrent_lru.specs.Runs.{accepted, refused, Stands}
+use Rattle.concurrent_lru.specs.declared.refusal.Refusal.TheVariants.{Stale}
 use Rattle.lru_c.proofs.steps.ready.Goals as goal
 
 pub returns-in-Ok : goal.returns-in-Ok
 returns-in-Ok g c =
-    of_shared g.K.PartialEq.eq c.args.state.now.cache c.ready_shared.new.state.cache (ask.ready c.args.stamp c.args.value) c.args.stamp c.args.value (arc_value c.in-Ok.shared) (bare c.ready_shared.result) [] c.in-Ok.ensures.ok c.ready_shared.ensures
+    (subst (λ s. Stands g.K.PartialEq.eq c.args.state.now.cache (ask.ready s c.args.value) (accepted say.done []) c.ready_at.new.self.cache) c.spot.ensures c.in-Ok.ensures.step, tt, c.in-Ok.ensures.lawful)
+
+pub returns-in-Err : goal.returns-in-Err
+returns-in-Err g c =
+    (subst (λ s. Stands g.K.PartialEq.eq c.args.state.now.cache (ask.ready s c.args.value) (refused Stale) c.ready_at.new.self.cache) c.spot.ensures c.in-Err.ensures.step, refl, c.in-Err.ensures.lawful)

@@ -6,6 +6,7 @@ use denote.Param.SendFields.{declared_send}
 use Rattle.std.proofs.Crossing as heap
 use Rattle.std_alloc.proofs.SendSync.{quiet}
 use Rattle.std_heap.proofs.Global.TheSendSync as handle
+use Rattle.concurrent_lru.proofs.Threads.CacheSent.{stored_send, stored_sync}
 use Rattle.lru_c.proofs.EvictedSent.{evicted_send}
 use Rattle.lru_c.proofs.HandleSent.{held_keyless}
 use Rattle.lru_c.specs.BytesHeld.{chain_row, key_row}
@@ -14,7 +15,7 @@ use Rattle.lru_c.specs.contracts.bytes.handles.BytesChainAt.{the_row, the_type}
 
 -- the chain has no more than two chains of evicted entries
 inner : IsSend chain_row
-inner = declared_send (Chain.the_type key_row) (search (sendable, heap.crosses, evicted_send) depth 12)
+inner = declared_send (Chain.the_type key_row) (search (sendable, heap.crosses, evicted_send, stored_send, stored_sync) depth 16)
 
 pub send : IsSend the_row
 send =
