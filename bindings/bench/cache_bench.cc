@@ -93,7 +93,7 @@ class Calls {
     const lru_told told = C::get(&cache_, KeyOf(&block));
     mutex_.unlock();
     if (told.code != LRU_HIT) return false;
-    Release(told.stamp);
+    Release(told.pin);
     return true;
   }
 
@@ -104,9 +104,9 @@ class Calls {
     Pop();
     if (told.code != LRU_MAKE) return false;
     mutex_.lock();
-    C::ready(&cache_, told.stamp, 0);
+    C::ready(&cache_, told.pin, 0);
     mutex_.unlock();
-    Release(told.stamp);
+    Release(told.pin);
     return true;
   }
 
@@ -119,9 +119,9 @@ class Calls {
     }
   }
 
-  void Release(std::uint64_t stamp) {
+  void Release(lru_pin pin) {
     mutex_.lock();
-    C::release(&cache_, stamp, &gone_);
+    C::release(&cache_, pin, &gone_);
     mutex_.unlock();
     Pop();
   }

@@ -42,15 +42,16 @@
  *
  * TWO RULES FOR PINS. Without them the calls still do what is proved, but not what is meant:
  *
- *  7. Each pin is given back once. A stamp names an entry and not a pin, so if one of two holders
- *     releases twice, the second call takes the other holder's pin, and its value may be evicted.
- *  8. A stamp is passed only to the cache that told it. Another cache may have an entry with the
+ *  7. Each pin is given back once. An lru_pin names an entry and not its holder, so if one of two
+ *     holders releases twice, the second call takes the other holder's pin, and its value may be
+ *     evicted.
+ *  8. An lru_pin is passed only to the cache that told it. Another cache may have an entry with the
  *     same stamp, and would release that.
  *
  * What is cheap to check is checked, and answered with a code: a charge of 0, a limit of 0 pins, a
  * null key with a length, a handle that is not open (it was never opened, its opening was refused,
  * or it was freed), a handle that is open already, a chain that still holds entries, a buffer that
- * is too small, and a stamp that names no entry in the right state.
+ * is too small, and a pin of no entry in the right state.
  *
  * SEEDS. A cache hashes its keys with the `seed` that it is opened with. Whoever knows the seed can
  * choose keys whose hashes are all equal. Each look-up of such a key then visits all of them, while
@@ -62,15 +63,17 @@
  *         return false;
  *     lru_code code = lru_bytes_new(capacity, seed, &cache);
  *
- * Otherwise the seed may be 0. No answer depends on the seed, nor what is evicted, nor its order.
+ * Otherwise the seed may be 0. No answer depends on the seed, except for the hash of a pin, nor
+ * does what is evicted, or its order.
  *
  * COMING FROM ANOTHER CACHE. Entries are evicted by `begin`, by the `release` of a last pin and by
  * `set_capacity`; many caches evict only when an entry is inserted. `begin` does not change the
  * charge of an entry that exists. `advice_evict` does nothing to a held entry: it can still be
  * found, and becomes idle with its last release. `invalidate` detaches a held entry from its key:
  * the key no longer finds it, and it is evicted with its last release. `insert` does the same to
- * the entry that it replaces. An entry counts towards the total while its value is being made, and
- * when it is detached but still held.
+ * the entry that it replaces. `release_and_evict` is a release that also evicts the entry if nobody
+ * else holds it. An entry counts towards the total while its value is being made, and when it is
+ * detached but still held.
  */
 #ifndef LRU_H
 #define LRU_H
@@ -85,8 +88,8 @@
 extern "C" {
 #endif
 
-/* The result of a call. After a code of 7 or more, except LRU_NUMBER, nothing has changed: no entry
- * was added, moved, pinned or evicted, and nothing was put into a chain. */
+/* The result of a call. After a code of 7 or more, except LRU_NUMBER and LRU_PINNED, nothing has
+ * changed: no entry was added, moved, pinned or evicted, and nothing was put into a chain. */
 typedef uint32_t lru_code;
 
 enum {
@@ -98,10 +101,11 @@ enum {
     LRU_LEFT = 4,    /* fail: others wait; the next poll or begin for the entry is told LRU_MAKE */
     LRU_REMOVED = 5, /* fail: nobody waits, and the entry is gone */
     LRU_MISSED = 6,  /* get, contains: the key has no entry, or its value is still being made */
+    LRU_PINNED = 18, /* repin: pinned once more; the value is told */
 
     /* Refusals of the cache. */
     LRU_OVERFLOW = 7, /* a number would overflow: the total of charges, the stamps or the pins */
-    LRU_STALE = 8,    /* the stamp names no entry that the call is for */
+    LRU_STALE = 8,    /* the pin names no entry that the call is for */
     LRU_MEMORY = 9,   /* malloc or realloc returned null */
 
     LRU_NUMBER = 10, /* no refusal: the number that was asked for is told as the value */
@@ -116,13 +120,29 @@ enum {
     LRU_NO_ROOM = 17    /* key_of: the buffer is too small; the key's length is told as the value */
 };
 
+/* Names an entry that the caller has pinned. `begin`, `get`, `poll`, `repin` and `insert` tell it,
+ * and `poll`, `ready`, `fail`, `repin`, `release`, `release_and_evict` and `key_of` take it. It may
+ * be copied, and is passed on as it was told.
+ *
+ * It is good until the pin is given back, and then for as long as the entry stays in the cache. An
+ * old one, or one of another cache, is answered with LRU_STALE, unless the cache has an entry with
+ * the same stamp (rules 7 and 8).
+ *
+ * The hash and the place tell where to look. They change no answer, but a call visits every entry
+ * if neither leads to the entry, or if no entry has the stamp. */
+typedef struct lru_pin {
+    uint64_t stamp; /* the number of the entry; a cache never gives the same one to two entries */
+    uint64_t hash;  /* of the entry's key, as this cache hashes it */
+    size_t place;   /* where this cache stores the entry */
+} lru_pin;
+
 /* The result of a call that tells more than a code. A member is 0 if it is not described for the
  * code. */
 typedef struct lru_told {
-    uint64_t stamp; /* LRU_MAKE, LRU_WAIT, LRU_HIT, and LRU_DONE of insert: the number that names
-                       the entry in poll, ready, fail, release and key_of. A cache never gives the
-                       same stamp to two entries. */
-    uint64_t value; /* LRU_HIT: the value. LRU_NUMBER: the number. LRU_NO_ROOM: the length. */
+    lru_pin pin;    /* LRU_MAKE, LRU_WAIT, LRU_HIT, LRU_PINNED, and LRU_DONE of insert: names the
+                       entry. */
+    uint64_t value; /* LRU_HIT, LRU_PINNED: the value. LRU_NUMBER: the number. LRU_NO_ROOM: the
+                       length. */
     lru_code code;
 } lru_told;
 
@@ -194,7 +214,7 @@ lru_code lru_bytes_new_with_limits(uint64_t capacity, uint64_t first_stamp, uint
                                    uint64_t seed, lru_bytes *out);
 
 /* Frees a cache and puts all entries that have a value into `left`, including those that are held:
- * their values are the caller's to delete, and their stamps are no longer valid. Entries whose
+ * their values are the caller's to delete, and their pins are no longer valid. Entries whose
  * value is still being made are not put there. `cache` is closed, and can be opened again.
  *
  * The idle entries come first, oldest first; held entries follow, in no particular order.
@@ -207,9 +227,9 @@ lru_code lru_bytes_free(lru_bytes *cache, lru_bytes_evicted *left);
  * failed and this caller makes the value. What the new charge evicts is put into `gone`, oldest
  * first. The pin is given back by `release` after LRU_HIT or `ready`, or by `fail`.
  *
- * Allocates for a new entry, and if the key is longer than any before. LRU_MAKE with the stamp;
- * LRU_WAIT with the stamp; LRU_HIT with the stamp and the value; LRU_OVERFLOW if the total would
- * exceed 2^64 - 1, if the stamps are used up or if the entry has as many pins as it may have;
+ * Allocates for a new entry, and if the key is longer than any before. LRU_MAKE with the pin;
+ * LRU_WAIT with the pin; LRU_HIT with the pin and the value; LRU_OVERFLOW if the total would exceed
+ * 2^64 - 1, if the stamps are used up or if the entry has as many pins as it may have;
  * LRU_MEMORY; LRU_NO_CHARGE if `charge` is 0, even if the key has an entry; LRU_NULL_KEY;
  * LRU_CLOSED; LRU_NOT_EMPTY. */
 static inline lru_told lru_bytes_begin(lru_bytes *cache, const void *key, size_t length,
@@ -218,27 +238,27 @@ static inline lru_told lru_bytes_begin(lru_bytes *cache, const void *key, size_t
 /* Asks again after LRU_WAIT. No pin is added or taken. The caller that makes the value must not
  * ask: it would be told LRU_WAIT, to wait for itself.
  *
- * Does not allocate. LRU_WAIT with the stamp; LRU_MAKE with the stamp if the other caller failed:
- * this one makes the value now; LRU_HIT with the stamp and the value; LRU_STALE if no held entry
- * has the stamp; LRU_CLOSED. */
-lru_told lru_bytes_poll(lru_bytes *cache, uint64_t stamp);
+ * Does not allocate. LRU_WAIT with the pin; LRU_MAKE with the pin if the other caller failed: this
+ * one makes the value now; LRU_HIT with the pin and the value; LRU_STALE if no held entry has the
+ * stamp; LRU_CLOSED. */
+lru_told lru_bytes_poll(lru_bytes *cache, lru_pin pin);
 
 /* Stores the value of an entry whose value is being made. The value belongs to the cache until it
  * is handed out in a chain; after a refusal it still belongs to the caller.
  *
- * Allocates. LRU_DONE; LRU_STALE if no entry with the stamp has its value being made; LRU_MEMORY:
- * the value is still being made, so try again or call `fail`; LRU_CLOSED. */
-lru_code lru_bytes_ready(lru_bytes *cache, uint64_t stamp, uint64_t value);
+ * Does not allocate. LRU_DONE; LRU_STALE if no entry with the stamp has its value being made;
+ * LRU_CLOSED. */
+lru_code lru_bytes_ready(lru_bytes *cache, lru_pin pin, uint64_t value);
 
 /* Gives up making a value, and gives back the pin.
  *
  * Does not allocate. LRU_LEFT; LRU_REMOVED; LRU_STALE if no entry with the stamp has its value
  * being made; LRU_CLOSED. */
-lru_code lru_bytes_fail(lru_bytes *cache, uint64_t stamp);
+lru_code lru_bytes_fail(lru_bytes *cache, lru_pin pin);
 
 /* Finds the value of a key and pins its entry. Adds no entry if there is none.
  *
- * Allocates if the key is longer than any before. LRU_HIT with the stamp and the value; LRU_MISSED;
+ * Allocates if the key is longer than any before. LRU_HIT with the pin and the value; LRU_MISSED;
  * LRU_OVERFLOW if the entry has as many pins as it may have; LRU_MEMORY; LRU_NULL_KEY;
  * LRU_CLOSED. */
 static inline lru_told lru_bytes_get(lru_bytes *cache, const void *key, size_t length);
@@ -249,13 +269,30 @@ static inline lru_told lru_bytes_get(lru_bytes *cache, const void *key, size_t l
  * LRU_NULL_KEY; LRU_CLOSED. */
 static inline lru_code lru_bytes_contains(lru_bytes *cache, const void *key, size_t length);
 
+/* Pins an entry once more by its pin, for another holder. The entry may be held, detached or not,
+ * or idle; an idle one is held then, as after a `get` of its key. No key is looked up, so this is
+ * counted neither as a hit nor as a miss. The pin that is told is equal to the one that was passed,
+ * and both are given back.
+ *
+ * Does not allocate. LRU_PINNED with the pin and the value; LRU_STALE if no entry with a value has
+ * the stamp; LRU_OVERFLOW if the entry has as many pins as it may have; LRU_CLOSED. */
+lru_told lru_bytes_repin(lru_bytes *cache, lru_pin pin);
+
 /* Gives back one pin of an entry. If it was the last, the entry becomes the newest idle one, or is
  * evicted if it is detached. What is evicted, perhaps this entry itself, is put into `gone`, oldest
  * first.
  *
  * Does not allocate. LRU_DONE; LRU_STALE if no held entry with a value has the stamp; LRU_CLOSED;
  * LRU_NOT_EMPTY. */
-lru_code lru_bytes_release(lru_bytes *cache, uint64_t stamp, lru_bytes_evicted *gone);
+lru_code lru_bytes_release(lru_bytes *cache, lru_pin pin, lru_bytes_evicted *gone);
+
+/* Gives back one pin of an entry, as `release` does. But if it was the last, the entry is evicted
+ * into `gone` at once, in place of becoming idle; no other entry is evicted. If the entry has more
+ * pins, this is the same as `release`.
+ *
+ * Does not allocate. LRU_DONE in either case; LRU_STALE if no held entry with a value has the
+ * stamp; LRU_CLOSED; LRU_NOT_EMPTY. */
+lru_code lru_bytes_release_and_evict(lru_bytes *cache, lru_pin pin, lru_bytes_evicted *gone);
 
 /* Evicts the entry of a key into `gone` if it is idle. Otherwise nothing happens, now or later.
  *
@@ -266,7 +303,7 @@ static inline lru_code lru_bytes_advice_evict(lru_bytes *cache, const void *key,
 
 /* Detaches the entry of a key, so that no call finds it by the key: the next `begin` adds a new
  * one. An idle entry is evicted into `gone`. A held one, with or without a value, is still found by
- * its stamp, so its holders poll, call `ready` or `fail`, and release as before; it is evicted with
+ * its pin, so its holders poll, call `ready` or `fail`, and release as before; it is evicted with
  * its last release. If the key has no entry, nothing happens.
  *
  * Allocates if the key is longer than any before. LRU_DONE in each case; LRU_MEMORY; LRU_NULL_KEY;
@@ -279,7 +316,7 @@ static inline lru_code lru_bytes_invalidate(lru_bytes *cache, const void *key, s
  * to be given back by `release`. If the old entry was idle, it is put into `gone`, followed by what
  * the charge evicts, oldest first.
  *
- * Allocates. LRU_DONE with the stamp: the value belongs to the cache; LRU_OVERFLOW if the total,
+ * Allocates. LRU_DONE with the pin: the value belongs to the cache; LRU_OVERFLOW if the total,
  * not counting an idle entry of the key, would exceed 2^64 - 1, or if the stamps are used up;
  * LRU_MEMORY; LRU_NO_CHARGE if `charge` is 0; LRU_NULL_KEY; LRU_CLOSED; LRU_NOT_EMPTY. After a
  * refusal the key keeps its entry, and the value still belongs to the caller. */
@@ -325,8 +362,7 @@ lru_code lru_bytes_stats(lru_bytes *cache, lru_stats *out);
  * Does not allocate. LRU_NUMBER with the length of the key as the value; LRU_NO_ROOM with the
  * length of the key as the value if it is more than `room`; LRU_STALE if no entry has the stamp;
  * LRU_CLOSED. Nothing is written unless the code is LRU_NUMBER. */
-static inline lru_told lru_bytes_key_of(lru_bytes *cache, uint64_t stamp, void *buffer,
-                                        size_t room);
+static inline lru_told lru_bytes_key_of(lru_bytes *cache, lru_pin pin, void *buffer, size_t room);
 
 /* ------------------------------------------------------------------ keys of bytes: the chains */
 
@@ -352,19 +388,21 @@ bool lru_bytes_evicted_is_empty(lru_bytes_evicted *chain);
 /* --------------------------------------------------------------------- keys of two words */
 
 /* As the calls above. The key is (first, second); two keys are equal if both words are. Only new,
- * new_with_limits, begin for a new entry, ready, insert, reserve and evicted_new allocate. */
+ * new_with_limits, begin for a new entry, insert, reserve and evicted_new allocate. */
 lru_code lru_words_new(uint64_t capacity, uint64_t seed, lru_words *out);
 lru_code lru_words_new_with_limits(uint64_t capacity, uint64_t first_stamp, uint32_t most_pins,
                                    uint64_t seed, lru_words *out);
 lru_code lru_words_free(lru_words *cache, lru_words_evicted *left);
 lru_told lru_words_begin(lru_words *cache, uint64_t first, uint64_t second, uint64_t charge,
                          lru_words_evicted *gone);
-lru_told lru_words_poll(lru_words *cache, uint64_t stamp);
-lru_code lru_words_ready(lru_words *cache, uint64_t stamp, uint64_t value);
-lru_code lru_words_fail(lru_words *cache, uint64_t stamp);
+lru_told lru_words_poll(lru_words *cache, lru_pin pin);
+lru_code lru_words_ready(lru_words *cache, lru_pin pin, uint64_t value);
+lru_code lru_words_fail(lru_words *cache, lru_pin pin);
 lru_told lru_words_get(lru_words *cache, uint64_t first, uint64_t second);
 lru_code lru_words_contains(lru_words *cache, uint64_t first, uint64_t second);
-lru_code lru_words_release(lru_words *cache, uint64_t stamp, lru_words_evicted *gone);
+lru_told lru_words_repin(lru_words *cache, lru_pin pin);
+lru_code lru_words_release(lru_words *cache, lru_pin pin, lru_words_evicted *gone);
+lru_code lru_words_release_and_evict(lru_words *cache, lru_pin pin, lru_words_evicted *gone);
 lru_code lru_words_advice_evict(lru_words *cache, uint64_t first, uint64_t second,
                                 lru_words_evicted *gone);
 lru_code lru_words_invalidate(lru_words *cache, uint64_t first, uint64_t second,
@@ -382,7 +420,7 @@ lru_code lru_words_stats(lru_words *cache, lru_stats *out);
 
 /* Writes the key of an entry, held or idle. LRU_DONE; LRU_STALE if no entry has the stamp;
  * LRU_CLOSED. Nothing is written unless the code is LRU_DONE. */
-lru_code lru_words_key_of(lru_words *cache, uint64_t stamp, uint64_t *first, uint64_t *second);
+lru_code lru_words_key_of(lru_words *cache, lru_pin pin, uint64_t *first, uint64_t *second);
 
 lru_code lru_words_evicted_new(lru_words_evicted *out);
 lru_code lru_words_evicted_free(lru_words_evicted *chain);
@@ -404,7 +442,7 @@ lru_code lru_bytes_invalidate_nonnull(lru_bytes *cache, const uint8_t *key, size
                                       lru_bytes_evicted *gone);
 lru_told lru_bytes_insert_nonnull(lru_bytes *cache, const uint8_t *key, size_t length,
                                   uint64_t charge, uint64_t value, lru_bytes_evicted *gone);
-lru_told lru_bytes_key_of_nonnull(lru_bytes *cache, uint64_t stamp, uint8_t *buffer, size_t room);
+lru_told lru_bytes_key_of_nonnull(lru_bytes *cache, lru_pin pin, uint8_t *buffer, size_t room);
 
 /* The calls that also take a null pointer. These first three names are internal. */
 static const uint8_t lru_empty_key[1] = {0};
@@ -414,7 +452,7 @@ static inline const uint8_t *lru_key_or_empty(const void *key) {
 }
 
 static inline lru_told lru_told_null_key(void) {
-    lru_told told = {0, 0, LRU_NULL_KEY};
+    lru_told told = {{0, 0, 0}, 0, LRU_NULL_KEY};
     return told;
 }
 
@@ -459,12 +497,11 @@ static inline lru_told lru_bytes_insert(lru_bytes *cache, const void *key, size_
 }
 
 /* A null buffer has no room. */
-static inline lru_told lru_bytes_key_of(lru_bytes *cache, uint64_t stamp, void *buffer,
-                                        size_t room) {
+static inline lru_told lru_bytes_key_of(lru_bytes *cache, lru_pin pin, void *buffer, size_t room) {
     uint8_t none[1];
     if (buffer == NULL)
-        return lru_bytes_key_of_nonnull(cache, stamp, none, 0);
-    return lru_bytes_key_of_nonnull(cache, stamp, (uint8_t *)buffer, room);
+        return lru_bytes_key_of_nonnull(cache, pin, none, 0);
+    return lru_bytes_key_of_nonnull(cache, pin, (uint8_t *)buffer, room);
 }
 
 #ifdef __cplusplus

@@ -45,20 +45,36 @@ static lru_told FAMILY(ask)(FAMILY(stage) *s, uint64_t k, uint64_t charge) {
     return told;
 }
 
-/* Pins the entry of a key, makes its value if there is none, and returns its stamp. */
-static uint64_t FAMILY(hold)(FAMILY(stage) *s, uint64_t k, uint64_t charge) {
+/* Pins the entry of a key, and makes its value if there is none. */
+static lru_pin FAMILY(hold)(FAMILY(stage) *s, uint64_t k, uint64_t charge) {
     lru_told told = FAMILY(ask)(s, k, charge);
     if (told.code == LRU_MAKE)
-        CHECK(FAMILY(ready)(&s->cache, told.stamp, k), LRU_DONE);
+        CHECK(FAMILY(ready)(&s->cache, told.pin, k), LRU_DONE);
     else
         CHECK(told.code, LRU_HIT);
-    return told.stamp;
+    return told.pin;
 }
 
 /* Gives a pin back, and returns the number of entries that this evicts. */
-static size_t FAMILY(let_go)(FAMILY(stage) *s, uint64_t stamp) {
-    CHECK(FAMILY(release)(&s->cache, stamp, &s->gone), LRU_DONE);
+static size_t FAMILY(let_go)(FAMILY(stage) *s, lru_pin pin) {
+    CHECK(FAMILY(release)(&s->cache, pin, &s->gone), LRU_DONE);
     return FAMILY(note)(s);
+}
+
+/* The same, but the entry is evicted if the pin was its last. */
+static size_t FAMILY(let_go_and_evict)(FAMILY(stage) *s, lru_pin pin) {
+    CHECK(FAMILY(release_and_evict)(&s->cache, pin, &s->gone), LRU_DONE);
+    return FAMILY(note)(s);
+}
+
+/* Pins an entry once more, and returns its value. */
+static uint64_t FAMILY(hold_again)(FAMILY(stage) *s, lru_pin pin) {
+    lru_told told = FAMILY(repin)(&s->cache, pin);
+    CHECK(told.code, LRU_PINNED);
+    CHECK(told.pin.stamp, pin.stamp);
+    CHECK(told.pin.hash, pin.hash);
+    CHECK(told.pin.place, pin.place);
+    return told.value;
 }
 
 static void FAMILY(make)(FAMILY(stage) *s, uint64_t k, uint64_t charge) {
@@ -75,7 +91,7 @@ static bool FAMILY(finds)(FAMILY(stage) *s, uint64_t k, uint64_t value) {
     }
     CHECK(told.value, value);
     CHECK(FAMILY(contains)(&s->cache, KEY(k)), LRU_DONE);
-    FAMILY(let_go)(s, told.stamp);
+    FAMILY(let_go)(s, told.pin);
     return true;
 }
 
@@ -128,8 +144,8 @@ static void FAMILY(row_1_2)(void) {
     EVICTED(&s, 1);
     told = FAMILY(ask)(&s, 1, 3);
     CHECK(told.code, LRU_MAKE);
-    CHECK(FAMILY(ready)(&s.cache, told.stamp, 3), LRU_DONE);
-    FAMILY(let_go)(&s, told.stamp);
+    CHECK(FAMILY(ready)(&s.cache, told.pin, 3), LRU_DONE);
+    FAMILY(let_go)(&s, told.pin);
     CHECK(FAMILY(finds)(&s, 1, 3), true);
     FAMILY(close)(&s);
 }
@@ -137,14 +153,14 @@ static void FAMILY(row_1_2)(void) {
 /* Row 3: advice_evict evicts an idle entry, and does nothing to one that is pinned. */
 static void FAMILY(row_3)(void) {
     FAMILY(stage) s;
-    uint64_t stamp;
+    lru_pin pin;
 
     FAMILY(open)(&s, 5);
-    stamp = FAMILY(hold)(&s, 1, 3);
+    pin = FAMILY(hold)(&s, 1, 3);
     CHECK(FAMILY(advice_evict)(&s.cache, KEY(1), &s.gone), LRU_DONE);
     CHECK(FAMILY(note)(&s), 0);
     CHECK(FAMILY(finds)(&s, 1, 1), true);
-    FAMILY(let_go)(&s, stamp);
+    FAMILY(let_go)(&s, pin);
     CHECK(FAMILY(advice_evict)(&s.cache, KEY(1), &s.gone), LRU_DONE);
     CHECK(FAMILY(note)(&s), 1);
     EVICTED(&s, 1);
@@ -169,7 +185,7 @@ static void FAMILY(row_4)(void) {
 /* Row 5: a pinned entry stays, whatever happens, and is the newest once it is released. */
 static void FAMILY(row_5)(void) {
     FAMILY(stage) s;
-    uint64_t four;
+    lru_pin four;
 
     FAMILY(open)(&s, 2);
     FAMILY(make)(&s, 1, 1);
@@ -201,7 +217,7 @@ static void FAMILY(row_6)(void) {
     CHECK(FAMILY(finds)(&s, 2, 2), true);
     told = FAMILY(ask)(&s, 3, 1);
     CHECK(told.code, LRU_MAKE);
-    CHECK(FAMILY(fail)(&s.cache, told.stamp), LRU_REMOVED);
+    CHECK(FAMILY(fail)(&s.cache, told.pin), LRU_REMOVED);
     CHECK(FAMILY(finds)(&s, 3, 3), false);
     FAMILY(make)(&s, 3, 1);
     CHECK(FAMILY(finds)(&s, 3, 3), true);
@@ -218,7 +234,7 @@ static void FAMILY(row_8)(void) {
     FAMILY(make)(&s, 2, 1);
     told = FAMILY(ask)(&s, 3, 2);
     EVICTED(&s, 1, 2);
-    CHECK(FAMILY(fail)(&s.cache, told.stamp), LRU_REMOVED);
+    CHECK(FAMILY(fail)(&s.cache, told.pin), LRU_REMOVED);
     CHECK(FAMILY(finds)(&s, 1, 1), false);
     CHECK(FAMILY(finds)(&s, 2, 2), false);
     CHECK(FAMILY(total_of)(&s), 0);
@@ -228,13 +244,13 @@ static void FAMILY(row_8)(void) {
 /* Row 9: an entry larger than the capacity lives while it is pinned. */
 static void FAMILY(row_9)(void) {
     FAMILY(stage) s;
-    uint64_t stamp;
+    lru_pin pin;
 
     FAMILY(open)(&s, 5);
-    stamp = FAMILY(hold)(&s, 1, 9);
+    pin = FAMILY(hold)(&s, 1, 9);
     CHECK(FAMILY(total_of)(&s), 9);
     CHECK(FAMILY(pinned_of)(&s), 9);
-    CHECK(FAMILY(let_go)(&s, stamp), 1);
+    CHECK(FAMILY(let_go)(&s, pin), 1);
     CHECK(FAMILY(pinned_of)(&s), 0);
     CHECK(FAMILY(finds)(&s, 1, 1), false);
     CHECK(FAMILY(total_of)(&s), 0);
@@ -255,7 +271,7 @@ static void FAMILY(row_10)(void) {
 /* Row 11: of two entries that were pinned at once, the one released first leaves first. */
 static void FAMILY(row_11)(void) {
     FAMILY(stage) s;
-    uint64_t one, two;
+    lru_pin one, two;
 
     FAMILY(open)(&s, 2);
     one = FAMILY(hold)(&s, 1, 1);
@@ -332,30 +348,30 @@ static void FAMILY(row_16)(void) {
     FAMILY(open)(&s, 10);
     told = FAMILY(ask)(&s, 1, 3);
     CHECK(told.code, LRU_MAKE);
-    CHECK(told.stamp, 0);
+    CHECK(told.pin.stamp, 0);
     CHECK(FAMILY(finds)(&s, 1, 1), false);
     /* the one that makes the value would wait for itself */
-    CHECK(FAMILY(poll)(&s.cache, 0).code, LRU_WAIT);
+    CHECK(FAMILY(poll)(&s.cache, pin_of(0)).code, LRU_WAIT);
     told = FAMILY(ask)(&s, 1, 7);
     CHECK(told.code, LRU_WAIT);
-    CHECK(told.stamp, 0);
-    told = FAMILY(poll)(&s.cache, 0);
+    CHECK(told.pin.stamp, 0);
+    told = FAMILY(poll)(&s.cache, pin_of(0));
     CHECK(told.code, LRU_WAIT);
-    CHECK(FAMILY(fail)(&s.cache, 0), LRU_LEFT);
-    told = FAMILY(poll)(&s.cache, 0);
+    CHECK(FAMILY(fail)(&s.cache, pin_of(0)), LRU_LEFT);
+    told = FAMILY(poll)(&s.cache, pin_of(0));
     CHECK(told.code, LRU_MAKE);
-    CHECK(told.stamp, 0);
-    CHECK(FAMILY(ready)(&s.cache, 0, 77), LRU_DONE);
-    CHECK(FAMILY(ready)(&s.cache, 0, 78), LRU_STALE);
-    told = FAMILY(poll)(&s.cache, 0);
+    CHECK(told.pin.stamp, 0);
+    CHECK(FAMILY(ready)(&s.cache, pin_of(0), 77), LRU_DONE);
+    CHECK(FAMILY(ready)(&s.cache, pin_of(0), 78), LRU_STALE);
+    told = FAMILY(poll)(&s.cache, pin_of(0));
     CHECK(told.code, LRU_HIT);
     CHECK(told.value, 77);
     CHECK(FAMILY(total_of)(&s), 3);
-    CHECK(FAMILY(let_go)(&s, 0), 0);
-    CHECK(FAMILY(release)(&s.cache, 0, &s.gone), LRU_STALE);
+    CHECK(FAMILY(let_go)(&s, pin_of(0)), 0);
+    CHECK(FAMILY(release)(&s.cache, pin_of(0), &s.gone), LRU_STALE);
     CHECK(FAMILY(note)(&s), 0);
-    CHECK(FAMILY(fail)(&s.cache, 0), LRU_STALE);
-    CHECK(FAMILY(poll)(&s.cache, 0).code, LRU_STALE);
+    CHECK(FAMILY(fail)(&s.cache, pin_of(0)), LRU_STALE);
+    CHECK(FAMILY(poll)(&s.cache, pin_of(0)).code, LRU_STALE);
     CHECK(FAMILY(finds)(&s, 1, 77), true);
     FAMILY(close)(&s);
 }
@@ -383,7 +399,7 @@ static void FAMILY(row_18)(void) {
     FAMILY(hold)(&s, 1, 1);
     CHECK(FAMILY(get)(&s.cache, KEY(1)).code, LRU_OVERFLOW);
     CHECK(FAMILY(ask)(&s, 1, 1).code, LRU_OVERFLOW);
-    CHECK(FAMILY(let_go)(&s, 0), 0);
+    CHECK(FAMILY(let_go)(&s, pin_of(0)), 0);
     CHECK(FAMILY(finds)(&s, 1, 1), true);
     FAMILY(close)(&s);
 }
@@ -411,7 +427,7 @@ static void FAMILY(row_19)(void) {
 /* invalidate: the key no longer finds its entry, and whoever holds the entry still has it. */
 static void FAMILY(invalidates)(void) {
     FAMILY(stage) s;
-    uint64_t first, second;
+    lru_pin first, second;
 
     /* an idle entry is evicted at once */
     FAMILY(open)(&s, 10);
@@ -425,13 +441,13 @@ static void FAMILY(invalidates)(void) {
 
     /* a held one is evicted with its last release, and counts until then */
     first = FAMILY(hold)(&s, 2, 3);
-    CHECK(FAMILY(hold)(&s, 2, 3), first);
+    CHECK(FAMILY(hold)(&s, 2, 3).stamp, first.stamp);
     CHECK(FAMILY(invalidate)(&s.cache, KEY(2), &s.gone), LRU_DONE);
     CHECK(FAMILY(note)(&s), 0);
     CHECK(FAMILY(finds)(&s, 2, 2), false);
     CHECK(FAMILY(poll)(&s.cache, first).value, 2);
     second = FAMILY(hold)(&s, 2, 4);
-    CHECK(second != first, true);
+    CHECK(second.stamp != first.stamp, true);
     CHECK(FAMILY(total_of)(&s), 7);
     CHECK(FAMILY(pinned_of)(&s), 7);
     CHECK(FAMILY(len)(&s.cache).value, 2);
@@ -452,17 +468,17 @@ static void FAMILY(invalidates)(void) {
  * new entry. */
 static void FAMILY(invalidates_a_making)(void) {
     FAMILY(stage) s;
-    uint64_t first, second;
+    lru_pin first, second;
     lru_told told;
 
     FAMILY(open)(&s, 10);
-    first = FAMILY(ask)(&s, 1, 3).stamp;
+    first = FAMILY(ask)(&s, 1, 3).pin;
     CHECK(FAMILY(ask)(&s, 1, 3).code, LRU_WAIT);
     CHECK(FAMILY(invalidate)(&s.cache, KEY(1), &s.gone), LRU_DONE);
     told = FAMILY(ask)(&s, 1, 3);
     CHECK(told.code, LRU_MAKE);
-    second = told.stamp;
-    CHECK(second != first, true);
+    second = told.pin;
+    CHECK(second.stamp != first.stamp, true);
     CHECK(FAMILY(ready)(&s.cache, first, 10), LRU_DONE);
     CHECK(FAMILY(poll)(&s.cache, first).value, 10);
     CHECK(FAMILY(ready)(&s.cache, second, 20), LRU_DONE);
@@ -475,24 +491,24 @@ static void FAMILY(invalidates_a_making)(void) {
     /* making the value fails */
     told = FAMILY(ask)(&s, 2, 3);
     CHECK(FAMILY(invalidate)(&s.cache, KEY(2), &s.gone), LRU_DONE);
-    CHECK(FAMILY(fail)(&s.cache, told.stamp), LRU_REMOVED);
+    CHECK(FAMILY(fail)(&s.cache, told.pin), LRU_REMOVED);
     CHECK(FAMILY(total_of)(&s), 3);
     FAMILY(close)(&s);
 }
 
-/* Inserts a value, and returns the stamp of its entry. */
-static uint64_t FAMILY(put)(FAMILY(stage) *s, uint64_t k, uint64_t charge, uint64_t value) {
+/* Inserts a value, and returns the pin of its entry. */
+static lru_pin FAMILY(put)(FAMILY(stage) *s, uint64_t k, uint64_t charge, uint64_t value) {
     lru_told told = FAMILY(insert)(&s->cache, KEY(k), charge, value, &s->gone);
     CHECK(told.code, LRU_DONE);
     CHECK(told.value, 0);
     FAMILY(note)(s);
-    return told.stamp;
+    return told.pin;
 }
 
 /* insert: replaces the entry of the key, whoever holds it, and then evicts. */
 static void FAMILY(inserts)(void) {
     FAMILY(stage) s;
-    uint64_t first, second;
+    lru_pin first, second;
 
     FAMILY(open)(&s, 4);
     first = FAMILY(put)(&s, 1, 1, 10);
@@ -533,6 +549,184 @@ static void FAMILY(inserts)(void) {
     FAMILY(close)(&s);
 }
 
+/* The calls that pin an entry tell the same pin. Another hash or place changes no answer. */
+static void FAMILY(pins)(void) {
+    FAMILY(stage) s;
+    lru_pin first, second;
+    lru_told told;
+
+    FAMILY(open)(&s, 10);
+    first = FAMILY(put)(&s, 1, 1, 10);
+    told = FAMILY(get)(&s.cache, KEY(1));
+    CHECK(told.pin.stamp, first.stamp);
+    CHECK(told.pin.hash, first.hash);
+    CHECK(told.pin.place, first.place);
+    told = FAMILY(ask)(&s, 1, 1);
+    CHECK(told.pin.stamp, first.stamp);
+    CHECK(told.pin.hash, first.hash);
+    CHECK(told.pin.place, first.place);
+    told = FAMILY(poll)(&s.cache, first);
+    CHECK(told.pin.stamp, first.stamp);
+    CHECK(told.pin.hash, first.hash);
+    CHECK(told.pin.place, first.place);
+
+    second = FAMILY(put)(&s, 2, 1, 20);
+    second.hash = first.hash;
+    CHECK(FAMILY(poll)(&s.cache, second).value, 20);
+    second.place = SIZE_MAX;
+    CHECK(FAMILY(poll)(&s.cache, second).value, 20);
+    CHECK(FAMILY(let_go)(&s, second), 0);
+    told = FAMILY(poll)(&s.cache, second); /* nobody holds it */
+    CHECK(told.code, LRU_STALE);
+    CHECK(told.pin.stamp, 0);
+    CHECK(told.pin.hash, 0);
+    CHECK(told.pin.place, 0);
+    CHECK(FAMILY(finds)(&s, 1, 10), true);
+    CHECK(FAMILY(finds)(&s, 2, 20), true);
+    FAMILY(close)(&s);
+}
+
+/* repin: one more pin of an entry that has a value, whether it is held, detached or idle. */
+static void FAMILY(repins)(void) {
+    FAMILY(stage) s;
+    lru_pin first, second;
+    lru_told told;
+
+    /* a held entry: two releases are needed */
+    FAMILY(open)(&s, 10);
+    first = FAMILY(hold)(&s, 1, 3);
+    CHECK(FAMILY(hold_again)(&s, first), 1);
+    CHECK(FAMILY(let_go)(&s, first), 0);
+    CHECK(FAMILY(pinned_of)(&s), 3);
+    CHECK(FAMILY(let_go)(&s, first), 0);
+    CHECK(FAMILY(pinned_of)(&s), 0);
+    CHECK(FAMILY(release)(&s.cache, first, &s.gone), LRU_STALE);
+
+    /* an idle entry: it is held, and is the newest once it is released */
+    FAMILY(make)(&s, 2, 3);
+    CHECK(FAMILY(hold_again)(&s, first), 1);
+    CHECK(FAMILY(pinned_of)(&s), 3);
+    CHECK(FAMILY(prune_all)(&s), 1);
+    EVICTED(&s, 2);
+    FAMILY(make)(&s, 2, 3);
+    CHECK(FAMILY(let_go)(&s, first), 0);
+    CHECK(FAMILY(prune_all)(&s), 2);
+    EVICTED(&s, 2, 1);
+
+    /* an entry that was evicted */
+    told = FAMILY(repin)(&s.cache, first);
+    CHECK(told.code, LRU_STALE);
+    CHECK(told.pin.hash, 0);
+    CHECK(told.value, 0);
+
+    /* a detached entry: the second holder still has it when the first has given its pin back */
+    s.length = 0;
+    first = FAMILY(hold)(&s, 1, 3);
+    CHECK(FAMILY(invalidate)(&s.cache, KEY(1), &s.gone), LRU_DONE);
+    second = FAMILY(put)(&s, 1, 3, 11);
+    CHECK(FAMILY(hold_again)(&s, first), 1);
+    CHECK(FAMILY(let_go)(&s, first), 0);
+    CHECK(FAMILY(poll)(&s.cache, first).value, 1);
+    CHECK(FAMILY(finds)(&s, 1, 11), true);
+    CHECK(FAMILY(total_of)(&s), 6);
+    CHECK(FAMILY(let_go)(&s, first), 1);
+    EVICTED(&s, 1);
+    CHECK(FAMILY(repin)(&s.cache, first).code, LRU_STALE);
+    CHECK(FAMILY(let_go)(&s, second), 0);
+
+    /* another hash or place changes no answer */
+    CHECK(FAMILY(hold_again)(&s, pin_of(second.stamp)), 11);
+    CHECK(FAMILY(let_go)(&s, second), 0);
+
+    /* an entry whose value is being made, or was given up while another caller waits */
+    told = FAMILY(ask)(&s, 2, 1);
+    CHECK(told.code, LRU_MAKE);
+    CHECK(FAMILY(repin)(&s.cache, told.pin).code, LRU_STALE);
+    CHECK(FAMILY(ask)(&s, 2, 1).code, LRU_WAIT);
+    CHECK(FAMILY(fail)(&s.cache, told.pin), LRU_LEFT);
+    CHECK(FAMILY(repin)(&s.cache, told.pin).code, LRU_STALE);
+    CHECK(FAMILY(poll)(&s.cache, told.pin).code, LRU_MAKE);
+    CHECK(FAMILY(fail)(&s.cache, told.pin), LRU_REMOVED);
+    FAMILY(close)(&s);
+
+    /* an entry that has as many pins as it may have */
+    FAMILY(open_with_limits)(&s, 10, 5, 2);
+    first = FAMILY(hold)(&s, 1, 1);
+    CHECK(FAMILY(hold_again)(&s, first), 1);
+    told = FAMILY(repin)(&s.cache, first);
+    CHECK(told.code, LRU_OVERFLOW);
+    CHECK(told.pin.stamp, 0);
+    CHECK(told.value, 0);
+    CHECK(FAMILY(let_go)(&s, first), 0);
+    CHECK(FAMILY(hold_again)(&s, first), 1);
+    CHECK(FAMILY(let_go)(&s, first), 0);
+    CHECK(FAMILY(let_go)(&s, first), 0);
+    CHECK(FAMILY(pinned_of)(&s), 0);
+    FAMILY(close)(&s);
+}
+
+/* release_and_evict: with its last pin an entry is evicted, and no other entry is. */
+static void FAMILY(releases_and_evicts)(void) {
+    FAMILY(stage) s;
+    lru_pin pin;
+    lru_told told;
+
+    /* one pin: idle entries stay, even if they are older */
+    FAMILY(open)(&s, 10);
+    FAMILY(make)(&s, 1, 3);
+    pin = FAMILY(hold)(&s, 2, 3);
+    FAMILY(make)(&s, 3, 3);
+    CHECK(FAMILY(let_go_and_evict)(&s, pin), 1);
+    EVICTED(&s, 2);
+    CHECK(FAMILY(finds)(&s, 1, 1), true);
+    CHECK(FAMILY(finds)(&s, 2, 2), false);
+    CHECK(FAMILY(finds)(&s, 3, 3), true);
+    CHECK(FAMILY(total_of)(&s), 6);
+    CHECK(FAMILY(pinned_of)(&s), 0);
+    CHECK(FAMILY(release_and_evict)(&s.cache, pin, &s.gone), LRU_STALE);
+    CHECK(FAMILY(note)(&s), 0);
+
+    /* two pins: nothing leaves, now or with the other holder's release */
+    pin = FAMILY(hold)(&s, 1, 3);
+    CHECK(FAMILY(hold)(&s, 1, 3).stamp, pin.stamp);
+    CHECK(FAMILY(let_go_and_evict)(&s, pin), 0);
+    CHECK(FAMILY(pinned_of)(&s), 3);
+    CHECK(FAMILY(finds)(&s, 1, 1), true);
+    CHECK(FAMILY(let_go)(&s, pin), 0);
+    CHECK(FAMILY(pinned_of)(&s), 0);
+
+    /* an idle entry has no pin to give back */
+    CHECK(FAMILY(release_and_evict)(&s.cache, pin, &s.gone), LRU_STALE);
+    CHECK(FAMILY(finds)(&s, 1, 1), true);
+
+    /* a pin that repin told counts as any other */
+    CHECK(FAMILY(hold_again)(&s, pin), 1);
+    CHECK(FAMILY(hold_again)(&s, pin), 1);
+    CHECK(FAMILY(let_go)(&s, pin), 0);
+    CHECK(FAMILY(let_go_and_evict)(&s, pin), 1);
+    EVICTED(&s, 2, 1);
+
+    /* a detached entry, beside the new one of its key */
+    pin = FAMILY(put)(&s, 3, 3, 30);
+    EVICTED(&s, 2, 1, 3);
+    FAMILY(let_go)(&s, FAMILY(put)(&s, 3, 3, 31));
+    CHECK(FAMILY(hold_again)(&s, pin), 30);
+    CHECK(FAMILY(let_go_and_evict)(&s, pin), 0);
+    CHECK(FAMILY(let_go_and_evict)(&s, pin), 1);
+    EVICTED(&s, 2, 1, 3, 30);
+    CHECK(FAMILY(finds)(&s, 3, 31), true);
+    CHECK(FAMILY(total_of)(&s), 3);
+
+    /* a value that is being made is given up by fail only */
+    told = FAMILY(ask)(&s, 4, 1);
+    CHECK(told.code, LRU_MAKE);
+    CHECK(FAMILY(release_and_evict)(&s.cache, told.pin, &s.gone), LRU_STALE);
+    CHECK(FAMILY(ready)(&s.cache, told.pin, 4), LRU_DONE);
+    CHECK(FAMILY(let_go)(&s, told.pin), 0);
+    CHECK(FAMILY(finds)(&s, 4, 4), true);
+    FAMILY(close)(&s);
+}
+
 /* What free hands out: idle entries, oldest first, then those that are held, each once. */
 static void FAMILY(frees)(void) {
     FAMILY(stage) s;
@@ -549,7 +743,7 @@ static void FAMILY(frees)(void) {
     CHECK(FAMILY(ask)(&s, 7, 1).code, LRU_WAIT);
     CHECK(FAMILY(ask)(&s, 8, 1).code, LRU_MAKE); /* given up, while another caller waits */
     CHECK(FAMILY(ask)(&s, 8, 1).code, LRU_WAIT);
-    CHECK(FAMILY(fail)(&s.cache, 1000007), LRU_LEFT);
+    CHECK(FAMILY(fail)(&s.cache, pin_of(1000007)), LRU_LEFT);
     CHECK(FAMILY(ask)(&s, 9, 1).code, LRU_MAKE); /* detached, with a value and without */
     CHECK(FAMILY(invalidate)(&s.cache, KEY(9), &s.gone), LRU_DONE);
     FAMILY(hold)(&s, 9, 1);
@@ -574,18 +768,20 @@ static void FAMILY(misuse)(void) {
     TYPE closed = {0};
     FAMILY(evicted) shut = {0};
     lru_gone gone = {0, 0, 0};
-    uint64_t stamp;
+    lru_pin pin;
 
     FAMILY(open)(&s, 2);
 
     /* a cache that is not open */
     CHECK(FAMILY(begin)(&closed, KEY(1), 1, &s.gone).code, LRU_CLOSED);
-    CHECK(FAMILY(poll)(&closed, 0).code, LRU_CLOSED);
-    CHECK(FAMILY(ready)(&closed, 0, 1), LRU_CLOSED);
-    CHECK(FAMILY(fail)(&closed, 0), LRU_CLOSED);
+    CHECK(FAMILY(poll)(&closed, pin_of(0)).code, LRU_CLOSED);
+    CHECK(FAMILY(ready)(&closed, pin_of(0), 1), LRU_CLOSED);
+    CHECK(FAMILY(fail)(&closed, pin_of(0)), LRU_CLOSED);
     CHECK(FAMILY(get)(&closed, KEY(1)).code, LRU_CLOSED);
     CHECK(FAMILY(contains)(&closed, KEY(1)), LRU_CLOSED);
-    CHECK(FAMILY(release)(&closed, 0, &s.gone), LRU_CLOSED);
+    CHECK(FAMILY(repin)(&closed, pin_of(0)).code, LRU_CLOSED);
+    CHECK(FAMILY(release)(&closed, pin_of(0), &s.gone), LRU_CLOSED);
+    CHECK(FAMILY(release_and_evict)(&closed, pin_of(0), &s.gone), LRU_CLOSED);
     CHECK(FAMILY(advice_evict)(&closed, KEY(1), &s.gone), LRU_CLOSED);
     CHECK(FAMILY(invalidate)(&closed, KEY(1), &s.gone), LRU_CLOSED);
     CHECK(FAMILY(insert)(&closed, KEY(1), 1, 1, &s.gone).code, LRU_CLOSED);
@@ -601,7 +797,8 @@ static void FAMILY(misuse)(void) {
 
     /* a chain that is not open */
     CHECK(FAMILY(begin)(&s.cache, KEY(1), 1, &shut).code, LRU_CLOSED);
-    CHECK(FAMILY(release)(&s.cache, 0, &shut), LRU_CLOSED);
+    CHECK(FAMILY(release)(&s.cache, pin_of(0), &shut), LRU_CLOSED);
+    CHECK(FAMILY(release_and_evict)(&s.cache, pin_of(0), &shut), LRU_CLOSED);
     CHECK(FAMILY(advice_evict)(&s.cache, KEY(1), &shut), LRU_CLOSED);
     CHECK(FAMILY(invalidate)(&s.cache, KEY(1), &shut), LRU_CLOSED);
     CHECK(FAMILY(insert)(&s.cache, KEY(1), 1, 1, &shut).code, LRU_CLOSED);
@@ -626,11 +823,12 @@ static void FAMILY(misuse)(void) {
     CHECK(FAMILY(pinned_of)(&s), 0);
 
     /* a chain that still holds entries */
-    stamp = FAMILY(hold)(&s, 2, 1);
+    pin = FAMILY(hold)(&s, 2, 1);
     CHECK(FAMILY(advice_evict)(&s.cache, KEY(1), &s.gone), LRU_DONE);
     CHECK(FAMILY(evicted_is_empty)(&s.gone), false);
     CHECK(FAMILY(begin)(&s.cache, KEY(3), 1, &s.gone).code, LRU_NOT_EMPTY);
-    CHECK(FAMILY(release)(&s.cache, stamp, &s.gone), LRU_NOT_EMPTY);
+    CHECK(FAMILY(release)(&s.cache, pin, &s.gone), LRU_NOT_EMPTY);
+    CHECK(FAMILY(release_and_evict)(&s.cache, pin, &s.gone), LRU_NOT_EMPTY);
     CHECK(FAMILY(advice_evict)(&s.cache, KEY(2), &s.gone), LRU_NOT_EMPTY);
     CHECK(FAMILY(invalidate)(&s.cache, KEY(2), &s.gone), LRU_NOT_EMPTY);
     CHECK(FAMILY(insert)(&s.cache, KEY(2), 1, 1, &s.gone).code, LRU_NOT_EMPTY);
@@ -646,7 +844,7 @@ static void FAMILY(misuse)(void) {
     CHECK(gone.value, 1);
     CHECK(FAMILY(evicted_pop)(&s.gone, &gone), false);
     CHECK(gone.value, 1);
-    FAMILY(let_go)(&s, stamp);
+    FAMILY(let_go)(&s, pin);
 
     /* twice */
     FAMILY(close)(&s);
@@ -674,6 +872,9 @@ static void FAMILY(rows)(void) {
     FAMILY(invalidates)();
     FAMILY(invalidates_a_making)();
     FAMILY(inserts)();
+    FAMILY(pins)();
+    FAMILY(repins)();
+    FAMILY(releases_and_evicts)();
     FAMILY(frees)();
     FAMILY(misuse)();
 }

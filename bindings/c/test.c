@@ -37,6 +37,13 @@ static void sort(uint64_t *numbers, size_t length) {
     qsort(numbers, length, sizeof *numbers, by_value);
 }
 
+/* The pin of a stamp, with a hash and a place that most likely do not lead to its entry. */
+static lru_pin pin_of(uint64_t stamp) {
+    lru_pin pin = {stamp, 0, 0};
+
+    return pin;
+}
+
 /* A number as a key of its eight bytes. */
 static const void *bytes_of(uint64_t k) {
     static uint64_t kept[2]; /* two keys may be passed in one expression */
@@ -84,7 +91,7 @@ static void keys_of_bytes(void) {
 
     told = lru_bytes_begin(&cache, NULL, 0, 1, &gone);
     CHECK(told.code, LRU_MAKE);
-    CHECK(lru_bytes_ready(&cache, told.stamp, 100), LRU_DONE);
+    CHECK(lru_bytes_ready(&cache, told.pin, 100), LRU_DONE);
     CHECK(lru_bytes_get(&cache, "", 0).value, 100);
 
     /* the key is copied: its bytes may change */
@@ -92,25 +99,25 @@ static void keys_of_bytes(void) {
     told = lru_bytes_begin(&cache, key, 3, 1, &gone);
     CHECK(told.code, LRU_MAKE);
     memcpy(key, "xyz", 4);
-    CHECK(lru_bytes_ready(&cache, told.stamp, 200), LRU_DONE);
+    CHECK(lru_bytes_ready(&cache, told.pin, 200), LRU_DONE);
     CHECK(lru_bytes_get(&cache, "abc", 3).value, 200);
     CHECK(lru_bytes_get(&cache, "abc\0", 4).code, LRU_MISSED);
     CHECK(lru_bytes_get(&cache, "ab", 2).code, LRU_MISSED);
 
-    told = lru_bytes_key_of(&cache, told.stamp, key, sizeof key);
+    told = lru_bytes_key_of(&cache, told.pin, key, sizeof key);
     CHECK(told.code, LRU_NUMBER);
     CHECK(told.value, 3);
     CHECK(memcmp(key, "abc", 3), 0);
     memcpy(key, "xyz", 4);
-    told = lru_bytes_key_of(&cache, 1, key, 2);
+    told = lru_bytes_key_of(&cache, pin_of(1), key, 2);
     CHECK(told.code, LRU_NO_ROOM);
     CHECK(told.value, 3);
     CHECK(memcmp(key, "xyz", 3), 0);
-    CHECK(lru_bytes_key_of(&cache, 1, NULL, 0).code, LRU_NO_ROOM);
-    told = lru_bytes_key_of(&cache, 0, NULL, 0);
+    CHECK(lru_bytes_key_of(&cache, pin_of(1), NULL, 0).code, LRU_NO_ROOM);
+    told = lru_bytes_key_of(&cache, pin_of(0), NULL, 0);
     CHECK(told.code, LRU_NUMBER);
     CHECK(told.value, 0);
-    CHECK(lru_bytes_key_of(&cache, 2, key, sizeof key).code, LRU_STALE);
+    CHECK(lru_bytes_key_of(&cache, pin_of(2), key, sizeof key).code, LRU_STALE);
 
     CHECK(lru_bytes_reserve(&cache, 1000), LRU_DONE);
     CHECK(lru_bytes_free(&cache, &gone), LRU_DONE);
@@ -121,7 +128,7 @@ static void keys_of_bytes(void) {
     CHECK(first == 100 || first == 200, true);
     CHECK(left.value, 300 - first);
     CHECK(lru_bytes_evicted_free(&gone), LRU_DONE);
-    CHECK(lru_bytes_key_of(&cache, 0, key, sizeof key).code, LRU_CLOSED);
+    CHECK(lru_bytes_key_of(&cache, pin_of(0), key, sizeof key).code, LRU_CLOSED);
 }
 
 /* Both words of a key count. */
@@ -135,15 +142,15 @@ static void keys_of_words(void) {
     CHECK(lru_words_evicted_new(&gone), LRU_DONE);
     told = lru_words_begin(&cache, 1, 2, 1, &gone);
     CHECK(told.code, LRU_MAKE);
-    CHECK(lru_words_ready(&cache, told.stamp, 100), LRU_DONE);
+    CHECK(lru_words_ready(&cache, told.pin, 100), LRU_DONE);
     CHECK(lru_words_get(&cache, 2, 1).code, LRU_MISSED);
     CHECK(lru_words_get(&cache, 1, 1).code, LRU_MISSED);
     CHECK(lru_words_get(&cache, 2, 2).code, LRU_MISSED);
     CHECK(lru_words_get(&cache, 1, 2).value, 100);
-    CHECK(lru_words_key_of(&cache, 1, &first, &second), LRU_STALE);
+    CHECK(lru_words_key_of(&cache, pin_of(1), &first, &second), LRU_STALE);
     CHECK(first, 7);
     CHECK(second, 8);
-    CHECK(lru_words_key_of(&cache, told.stamp, &first, &second), LRU_DONE);
+    CHECK(lru_words_key_of(&cache, told.pin, &first, &second), LRU_DONE);
     CHECK(first, 1);
     CHECK(second, 2);
     CHECK(lru_words_reserve(&cache, 1000), LRU_DONE);
@@ -157,7 +164,7 @@ static void keys_of_words(void) {
         CHECK(left.value, 100);
     }
     CHECK(lru_words_evicted_free(&gone), LRU_DONE);
-    CHECK(lru_words_key_of(&cache, 0, &first, &second), LRU_CLOSED);
+    CHECK(lru_words_key_of(&cache, pin_of(0), &first, &second), LRU_CLOSED);
 }
 
 static void check_stats(const char *file, int line, lru_code code, const lru_stats *got,
@@ -209,12 +216,12 @@ static void counts(void) {
     CHECK_STATS(lru_words, cache, 0, 2, 1, 1, 0, 0, 1, 2, 2, 2);
 
     /* a making that is taken over inserts nothing, whether by `poll` or by `begin` */
-    CHECK(lru_words_fail(&cache, told.stamp), LRU_LEFT);
+    CHECK(lru_words_fail(&cache, told.pin), LRU_LEFT);
     CHECK(lru_words_begin(&cache, 1, 1, 2, &gone).code, LRU_MAKE);
     CHECK_STATS(lru_words, cache, 0, 3, 1, 1, 0, 0, 1, 2, 2, 2);
-    CHECK(lru_words_fail(&cache, told.stamp), LRU_LEFT);
-    CHECK(lru_words_poll(&cache, told.stamp).code, LRU_MAKE);
-    CHECK(lru_words_fail(&cache, told.stamp), LRU_REMOVED);
+    CHECK(lru_words_fail(&cache, told.pin), LRU_LEFT);
+    CHECK(lru_words_poll(&cache, told.pin).code, LRU_MAKE);
+    CHECK(lru_words_fail(&cache, told.pin), LRU_REMOVED);
     CHECK_STATS(lru_words, cache, 0, 3, 1, 1, 0, 1, 0, 0, 0, 2);
 
     /* an insert is neither a hit nor a miss; a refusal counts nothing */
@@ -224,18 +231,32 @@ static void counts(void) {
     CHECK(lru_words_begin(&cache, 1, 1, 1, &gone).code, LRU_HIT);
     CHECK(lru_words_get(&cache, 1, 1).code, LRU_HIT);
     CHECK(lru_words_get(&cache, 1, 1).code, LRU_OVERFLOW);
+    CHECK(lru_words_repin(&cache, told.pin).code, LRU_OVERFLOW);
     CHECK(lru_words_contains(&cache, 1, 1), LRU_DONE);
     CHECK_STATS(lru_words, cache, 2, 3, 1, 2, 0, 1, 1, 1, 1, 2);
-    CHECK(lru_words_release(&cache, told.stamp, &gone), LRU_DONE);
-    CHECK(lru_words_release(&cache, told.stamp, &gone), LRU_DONE);
-    CHECK(lru_words_release(&cache, told.stamp, &gone), LRU_DONE);
+
+    /* nor is a repin */
+    CHECK(lru_words_release(&cache, told.pin, &gone), LRU_DONE);
+    CHECK(lru_words_repin(&cache, told.pin).code, LRU_PINNED);
+    CHECK_STATS(lru_words, cache, 2, 3, 1, 2, 0, 1, 1, 1, 1, 2);
+    CHECK(lru_words_release(&cache, told.pin, &gone), LRU_DONE);
+    CHECK(lru_words_release(&cache, told.pin, &gone), LRU_DONE);
+    CHECK(lru_words_release(&cache, told.pin, &gone), LRU_DONE);
     CHECK_STATS(lru_words, cache, 2, 3, 1, 2, 0, 1, 1, 1, 0, 2);
 
     /* the new entry evicts the idle one */
-    CHECK(lru_words_begin(&cache, 2, 2, 2, &gone).code, LRU_MAKE);
+    told = lru_words_begin(&cache, 2, 2, 2, &gone);
+    CHECK(told.code, LRU_MAKE);
     CHECK_STATS(lru_words, cache, 2, 4, 1, 3, 1, 1, 1, 2, 2, 2);
     CHECK(lru_words_evicted_pop(&gone, &entry), true);
     CHECK(entry.value, 10);
+
+    /* an eviction, whichever call evicts */
+    CHECK(lru_words_ready(&cache, told.pin, 20), LRU_DONE);
+    CHECK(lru_words_release_and_evict(&cache, told.pin, &gone), LRU_DONE);
+    CHECK_STATS(lru_words, cache, 2, 4, 1, 3, 2, 1, 0, 0, 0, 2);
+    CHECK(lru_words_evicted_pop(&gone, &entry), true);
+    CHECK(entry.value, 20);
 
     CHECK(lru_words_free(&cache, &gone), LRU_DONE);
     CHECK(lru_words_stats(&cache, &kept), LRU_CLOSED);

@@ -105,7 +105,7 @@ class BasicLevelDBCache : public leveldb::Cache {
     Evicted evicted;
     const std::lock_guard<std::mutex> lock(shard.mutex);
     const lru_told told = shard.core.insert(Stored(key), weight, entry, &evicted);
-    entry->stamp = told.stamp;
+    entry->pin = told.pin;
     if (told.code != LRU_DONE) {
       entry->shard = nullptr;
       // The old entry must not be found either.
@@ -134,7 +134,7 @@ class BasicLevelDBCache : public leveldb::Cache {
     Shard& shard = *entry->shard;
     Evicted evicted;
     const std::lock_guard<std::mutex> lock(shard.mutex);
-    shard.core.release(entry->stamp, &evicted);
+    shard.core.release(entry->pin, &evicted);
   }
 
   void* Value(Handle* handle) override { return reinterpret_cast<Entry*>(handle)->value; }
@@ -177,7 +177,7 @@ class BasicLevelDBCache : public leveldb::Cache {
     void* value;
     void (*deleter)(const leveldb::Slice&, void*);
     Entry* next = nullptr;
-    std::uint64_t stamp = 0;
+    lru_pin pin = {};
     std::size_t length;
     Shard* shard = nullptr;  // null if the entry is not in the cache
 

@@ -118,8 +118,8 @@ struct Node {
 }  // namespace detail
 
 // A pinned value: it is neither evicted nor deleted while the handle lives. A handle is moved, not
-// copied. It is empty once it has been moved from or reset, and Cache::get returns an empty one if
-// the key has no value.
+// copied; `clone` returns another one, or throws. A handle is empty once it has been moved from or
+// reset, and Cache::get returns an empty one if the key has no value.
 //
 // A handle may be used and destroyed on any thread, by one thread at a time. All handles of a value
 // refer to the same object, on whatever threads they are: a value that is changed needs a lock of
@@ -132,7 +132,7 @@ class Handle {
   ~Handle() { reset(); }
 
   Handle(Handle&& other) noexcept
-      : cache_(std::exchange(other.cache_, nullptr)), stamp_(other.stamp_), value_(other.value_) {}
+      : cache_(std::exchange(other.cache_, nullptr)), pin_(other.pin_), value_(other.value_) {}
   Handle& operator=(Handle&& other) noexcept {
     Handle(std::move(other)).swap(*this);
     return *this;
@@ -148,16 +148,27 @@ class Handle {
   Value* operator->() const noexcept { return get(); }
   Value* get() const noexcept { return cache_ == nullptr ? nullptr : value_; }
 
+  // Another handle of the same value, even if the key has another value by now, or none. No key is
+  // looked up, so this is counted neither as a hit nor as a miss. Returns an empty handle if this
+  // one is empty. Throws Overflow if the value has 2^32 - 1 handles; nothing changes then.
+  Handle clone() const { return cache_ == nullptr ? Handle() : cache_->repin(pin_); }
+
   // Releases the value; the handle is empty then. Without its last handle the value is idle, and
   // evicted at once if the total is above the capacity.
   void reset() noexcept {
-    if (cache_ != nullptr) std::exchange(cache_, nullptr)->release(stamp_);
+    if (cache_ != nullptr) std::exchange(cache_, nullptr)->release(pin_);
+  }
+
+  // Releases the value as `reset` does, but if this was its last handle, the value is evicted at
+  // once, in place of being idle. If the value has another handle, this is the same as `reset`.
+  void release_and_evict() noexcept {
+    if (cache_ != nullptr) std::exchange(cache_, nullptr)->release_and_evict(pin_);
   }
 
   // Exchanges the values of two handles.
   void swap(Handle& other) noexcept {
     std::swap(cache_, other.cache_);
-    std::swap(stamp_, other.stamp_);
+    std::swap(pin_, other.pin_);
     std::swap(value_, other.value_);
   }
   friend void swap(Handle& one, Handle& other) noexcept { one.swap(other); }
@@ -165,11 +176,11 @@ class Handle {
  private:
   friend class Cache<Value, Key>;
 
-  Handle(Cache<Value, Key>* cache, std::uint64_t stamp, Value* value)
-      : cache_(cache), stamp_(stamp), value_(value) {}
+  Handle(Cache<Value, Key>* cache, lru_pin pin, Value* value)
+      : cache_(cache), pin_(pin), value_(value) {}
 
   Cache<Value, Key>* cache_ = nullptr;
-  std::uint64_t stamp_ = 0;
+  lru_pin pin_ = {};
   Value* value_ = nullptr;
 };
 
@@ -244,13 +255,12 @@ class Cache {
   // charge does not change, even if the other caller fails and this one makes the value.
   //
   // Throws ZeroCharge, Overflow and OutOfMemory before `init` runs, and nothing changes. If there
-  // is no memory for the value, or to keep it once it is made, std::bad_alloc is thrown as if by
-  // `init`, and a value that was made is deleted.
+  // is no memory for the value, std::bad_alloc is thrown as if by `init`.
   template <class Init>
   Handle get_or_init(Key key, std::uint64_t charge, Init&& init) {
     const lru_told told = begin(key, charge);
     if (told.code == LRU_HIT) return handle(told);
-    Making making(this, told.stamp);
+    Making making(this, told.pin);
     return making.end(std::make_unique<Node>(std::forward<Init>(init), key));
   }
 
@@ -268,7 +278,7 @@ class Cache {
     const lru_told told = core_.insert(key, charge, node.get(), &evicted);
     lock.unlock();
     if (told.code != LRU_DONE) detail::throw_refusal(told.code);
-    return Handle(this, told.stamp, std::addressof(node.release()->value));
+    return Handle(this, told.pin, std::addressof(node.release()->value));
   }
 
   // Takes the key's value away: the next caller that asks for the key makes a new one. Handles of
@@ -337,7 +347,7 @@ class Cache {
 
   // How often calls hit and missed since the cache was constructed, what was inserted and evicted,
   // and what the cache holds, all at one time. `get`, `read` and `get_or_init` are counted as hits,
-  // misses and waits; `contains` and `insert` are not.
+  // misses and waits; `contains`, `insert` and `Handle::clone` are not.
   Stats stats() const {
     std::unique_lock<std::mutex> lock(mutex_);
     const lru_stats told = core_.stats();
@@ -373,26 +383,27 @@ class Cache {
   // The duty to make a value. If it is destroyed before `end`, making the value has failed.
   class Making {
    public:
-    Making(Cache* cache, std::uint64_t stamp) : cache_(cache), stamp_(stamp) {}
+    Making(Cache* cache, lru_pin pin) : cache_(cache), pin_(pin) {}
     ~Making() {
-      if (cache_ != nullptr) cache_->fail(stamp_);
+      if (cache_ != nullptr) cache_->fail(pin_);
     }
 
     Making(const Making&) = delete;
     Making& operator=(const Making&) = delete;
 
-    Handle end(std::unique_ptr<Node> node) {
-      cache_->ready(stamp_, node.get());
-      return Handle(std::exchange(cache_, nullptr), stamp_, std::addressof(node.release()->value));
+    Handle end(std::unique_ptr<Node> node) noexcept {
+      Value* const value = std::addressof(node->value);
+      cache_->ready(pin_, node.release());
+      return Handle(std::exchange(cache_, nullptr), pin_, value);
     }
 
    private:
     Cache* cache_;
-    std::uint64_t stamp_;
+    lru_pin pin_;
   };
 
   Handle handle(const lru_told& told) {
-    return Handle(this, told.stamp, std::addressof(core_.node_of(told.value)->value));
+    return Handle(this, told.pin, std::addressof(core_.node_of(told.value)->value));
   }
 
   // Finds the key's value, or waits until another caller has made it: LRU_HIT. Or begins to make
@@ -403,34 +414,50 @@ class Cache {
     lru_told told = core_.begin(key, charge, &evicted);
     while (told.code == LRU_WAIT) {
       ended_.wait(lock);
-      told = core_.poll(told.stamp);
+      told = core_.poll(told.pin);
     }
     lock.unlock();
     if (told.code != LRU_HIT && told.code != LRU_MAKE) detail::throw_refusal(told.code);
     return told;
   }
 
-  // Gives the node to the core. Throws OutOfMemory, and then the node is still the caller's.
-  void ready(std::uint64_t stamp, Node* node) {
+  // Gives the node to the core. It is never refused: its caller is the one that makes the value.
+  void ready(lru_pin pin, Node* node) noexcept {
     std::unique_lock<std::mutex> lock(mutex_);
-    const lru_code code = core_.ready(stamp, node);
+    [[maybe_unused]] const lru_code code = core_.ready(pin, node);
     lock.unlock();
-    if (code != LRU_DONE) detail::throw_refusal(code);
+    assert(code == LRU_DONE);
     ended_.notify_all();
   }
 
-  void fail(std::uint64_t stamp) noexcept {
+  void fail(lru_pin pin) noexcept {
     std::unique_lock<std::mutex> lock(mutex_);
-    [[maybe_unused]] const lru_code code = core_.fail(stamp);
+    [[maybe_unused]] const lru_code code = core_.fail(pin);
     lock.unlock();
     assert(code == LRU_LEFT || code == LRU_REMOVED);
     ended_.notify_all();
   }
 
-  void release(std::uint64_t stamp) noexcept {
+  // Another handle of the value that a handle of the caller pins.
+  Handle repin(lru_pin pin) {
+    std::unique_lock<std::mutex> lock(mutex_);
+    const lru_told told = core_.repin(pin);
+    lock.unlock();
+    if (told.code != LRU_PINNED) detail::throw_refusal(told.code);
+    return handle(told);
+  }
+
+  void release(lru_pin pin) noexcept {
     Evicted evicted;
     const std::lock_guard<std::mutex> lock(mutex_);
-    [[maybe_unused]] const lru_code code = core_.release(stamp, &evicted);
+    [[maybe_unused]] const lru_code code = core_.release(pin, &evicted);
+    assert(code == LRU_DONE);
+  }
+
+  void release_and_evict(lru_pin pin) noexcept {
+    Evicted evicted;
+    const std::lock_guard<std::mutex> lock(mutex_);
+    [[maybe_unused]] const lru_code code = core_.release_and_evict(pin, &evicted);
     assert(code == LRU_DONE);
   }
 

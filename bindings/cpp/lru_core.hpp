@@ -70,7 +70,9 @@ struct Calls<std::string_view> {
   static constexpr auto poll = lru_bytes_poll;
   static constexpr auto ready = lru_bytes_ready;
   static constexpr auto fail = lru_bytes_fail;
+  static constexpr auto repin = lru_bytes_repin;
   static constexpr auto release = lru_bytes_release;
+  static constexpr auto release_and_evict = lru_bytes_release_and_evict;
   static constexpr auto prune = lru_bytes_prune;
   static constexpr auto set_capacity = lru_bytes_set_capacity;
   static constexpr auto total = lru_bytes_total;
@@ -114,7 +116,9 @@ struct Calls<Words> {
   static constexpr auto poll = lru_words_poll;
   static constexpr auto ready = lru_words_ready;
   static constexpr auto fail = lru_words_fail;
+  static constexpr auto repin = lru_words_repin;
   static constexpr auto release = lru_words_release;
+  static constexpr auto release_and_evict = lru_words_release_and_evict;
   static constexpr auto prune = lru_words_prune;
   static constexpr auto set_capacity = lru_words_set_capacity;
   static constexpr auto total = lru_words_total;
@@ -207,16 +211,22 @@ class Core {
     if (told.code == LRU_MAKE) take_evicted(evicted);
     return told;
   }
-  lru_told poll(std::uint64_t stamp) noexcept { return Calls::poll(&cache_, stamp); }
+  lru_told poll(lru_pin pin) noexcept { return Calls::poll(&cache_, pin); }
   // After LRU_DONE the node is the core's; else it is still the caller's.
-  lru_code ready(std::uint64_t stamp, Node* node) noexcept {
-    return Calls::ready(&cache_, stamp, word_of(node));
+  lru_code ready(lru_pin pin, Node* node) noexcept {
+    return Calls::ready(&cache_, pin, word_of(node));
   }
-  lru_code fail(std::uint64_t stamp) noexcept { return Calls::fail(&cache_, stamp); }
+  lru_code fail(lru_pin pin) noexcept { return Calls::fail(&cache_, pin); }
   lru_told get(Key key) noexcept { return Calls::get(&cache_, key); }
   lru_code contains(Key key) const noexcept { return Calls::contains(&cache_, key); }
-  lru_code release(std::uint64_t stamp, Evicted<Node>* evicted) noexcept {
-    const lru_code code = Calls::release(&cache_, stamp, &chain_);
+  lru_told repin(lru_pin pin) noexcept { return Calls::repin(&cache_, pin); }
+  lru_code release(lru_pin pin, Evicted<Node>* evicted) noexcept {
+    const lru_code code = Calls::release(&cache_, pin, &chain_);
+    take_evicted(evicted);
+    return code;
+  }
+  lru_code release_and_evict(lru_pin pin, Evicted<Node>* evicted) noexcept {
+    const lru_code code = Calls::release_and_evict(&cache_, pin, &chain_);
     take_evicted(evicted);
     return code;
   }

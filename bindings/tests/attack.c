@@ -24,8 +24,8 @@ static uint64_t random_seed(void) {
     return seed;
 }
 
-static void release(uint64_t stamp) {
-    check(lru_words_release(&cache, stamp, &gone) == LRU_DONE);
+static void release(lru_pin pin) {
+    check(lru_words_release(&cache, pin, &gone) == LRU_DONE);
 }
 
 int main(int argc, char **argv) {
@@ -37,12 +37,12 @@ int main(int argc, char **argv) {
     for (size_t i = 0; i < count; i++) {
         lru_told told = lru_words_insert(&cache, keys[i][0], keys[i][1], 1, i, &gone);
         check(told.code == LRU_DONE);
-        release(told.stamp);
+        release(told.pin);
     }
     for (size_t i = 0; i < count; i++) {
         lru_told told = lru_words_get(&cache, keys[i][0], keys[i][1]);
         check(told.code == LRU_HIT && told.value == i);
-        release(told.stamp);
+        release(told.pin);
     }
     printf("%llu\n", (unsigned long long)lru_words_len(&cache).value);
     return 0;

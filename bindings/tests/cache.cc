@@ -114,6 +114,83 @@ void handles_move() {
   CHECK(cache.total_charge() == 0);
 }
 
+void a_clone_pins_its_value_too() {
+  Numbers cache(10);
+  CHECK(!Numbers::Handle().clone());
+  auto one = cache.get_or_init(key(1), 3, returns(1));
+  const lru::Stats before = cache.stats();
+  auto again = one.clone();
+  CHECK(one && again && *again == 1 && again.get() == one.get());
+  one.reset();
+  CHECK(!one && cache.pinned_charge() == 3);
+  // The value is no longer the key's, and the clone of a clone has it all the same.
+  cache.invalidate(key(1));
+  cache.insert(key(1), 4, 2);
+  const auto third = again.clone();
+  again.reset();
+  CHECK(*third == 1 && *cache.get(key(1)) == 2 && cache.total_charge() == 7);
+  // Only the get is counted.
+  const lru::Stats after = cache.stats();
+  CHECK(after.hits == before.hits + 1 && after.misses == before.misses);
+}
+
+template <class Cache>
+void clones_on_threads(Cache& cache) {
+  auto first = cache.get_or_init(key(1), 1, returns(1));
+  std::vector<typename Cache::Handle> clones;
+  for (int i = 0; i < 8; i++) clones.push_back(first.clone());
+  cache.invalidate(key(1));
+  first.reset();
+  std::atomic<int> sum{0};
+  std::vector<std::thread> threads;
+  for (auto& clone : clones) {
+    threads.emplace_back([&sum, handle = std::move(clone)] { sum += *handle.clone(); });
+  }
+  for (std::thread& thread : threads) thread.join();
+  // The closures held the handles, and are gone.
+  CHECK(sum == 8 && cache.pinned_charge() == 0 && cache.len() == 0);
+}
+
+void clones_go_to_other_threads() {
+  Numbers cache(10);
+  clones_on_threads(cache);
+  lru::ShardedCache<const int, lru::Words> sharded(100, 4);
+  clones_on_threads(sharded);
+}
+
+void a_last_release_may_evict() {
+  static_assert(noexcept(std::declval<Numbers::Handle>().release_and_evict()));
+  Numbers cache(10);
+  cache.get_or_init(key(1), 2, returns(1));
+  auto held = cache.get_or_init(key(2), 2, returns(2));
+  auto again = held.clone();
+  held.release_and_evict();
+  CHECK(!held && held.get() == nullptr && *again == 2 && cache.contains(key(2)));
+  // Of an empty handle, nothing.
+  held.release_and_evict();
+  again.release_and_evict();
+  // The other value is older, and stays.
+  CHECK(!again && !cache.contains(key(2)) && cache.contains(key(1)) && cache.total_charge() == 2);
+  CHECK(cache.stats().evictions == 1);
+
+  // Whoever is last decides.
+  held = cache.get(key(1));
+  again = held.clone();
+  held.release_and_evict();
+  again.reset();
+  CHECK(cache.contains(key(1)) && cache.pinned_charge() == 0);
+
+  // A value that is no longer its key's.
+  held = cache.get(key(1));
+  cache.insert(key(1), 3, 3);
+  held.release_and_evict();
+  CHECK(*cache.get(key(1)) == 3 && cache.total_charge() == 3);
+
+  lru::ShardedCache<std::string> texts(100, 4);
+  texts.insert("one", 1, "1").release_and_evict();
+  CHECK(!texts.contains("one") && texts.len() == 0 && texts.stats().evictions == 1);
+}
+
 void an_init_that_throws_leaves_nothing() {
   Numbers cache(10);
   cache.get_or_init(key(1), 6, returns(1));
@@ -445,6 +522,10 @@ void a_destructor_may_call_the_cache() {
   CHECK((deleted == std::vector<int>{1, 2}));
   cache.prune();
   CHECK((deleted == std::vector<int>{1, 2, 3}));
+  make(4);
+  auto last = cache.insert(key(5), 1, Calling(&cache, &deleted, 5));
+  last.release_and_evict();
+  CHECK((deleted == std::vector<int>{1, 2, 3, 5, 4}) && cache.len() == 0);
 }
 
 void a_cache_deletes_what_is_left_oldest_release_first() {
@@ -591,6 +672,7 @@ void a_handle_that_outlives_its_cache_is_asserted_against() {
     });
   };
   CHECK(outlives([](Numbers& cache) { return cache.get(key(1)); }));
+  CHECK(outlives([](Numbers& cache) { return cache.get(key(1)).clone(); }));
   CHECK(outlives([](Numbers& cache) { return cache.insert(key(1), 1, 2); }));
   CHECK(outlives([](Numbers& cache) { return cache.get_or_init(key(1), 1, returns(2)); }));
   CHECK(outlives([](Numbers& cache) { return cache.get_or_init(key(2), 1, returns(2)); }));
@@ -613,6 +695,9 @@ int main() {
   get_finds_what_is_ready();
   a_pinned_value_stays();
   handles_move();
+  a_clone_pins_its_value_too();
+  clones_go_to_other_threads();
+  a_last_release_may_evict();
   an_init_that_throws_leaves_nothing();
   refusals_are_exceptions();
   an_insert_replaces_whatever_is_there();
@@ -634,6 +719,6 @@ int main() {
   high_bits_of_a_key_choose_its_shard_too();
   a_handle_that_outlives_its_cache_is_asserted_against();
   values_may_be_move_only_or_neither();
-  std::printf("lru.hpp: 26 tests, %d checks failed\n", failed_checks);
+  std::printf("lru.hpp: 29 tests, %d checks failed\n", failed_checks);
   return failed_checks == 0 ? 0 : 1;
 }

@@ -51,10 +51,10 @@ static int refused(lru_code code, const char *call) {
 static void say_code(const char *call, lru_code code) { printf("%s -> %d\n", call, (int)code); }
 
 static void say(const char *call, lru_told told) {
-    /* The value of a hit is an address. The number of its object is the same in each run. */
-    long value = told.code == LRU_HIT ? (struct object *)(uintptr_t)told.value - objects
-                                      : (long)told.value;
-    printf("%s -> %d %d %ld\n", call, (int)told.code, (int)told.stamp, value);
+    /* A value is an address. The number of its object is the same in each run. */
+    int is_value = told.code == LRU_HIT || told.code == LRU_PINNED;
+    long value = is_value ? (struct object *)(uintptr_t)told.value - objects : (long)told.value;
+    printf("%s -> %d %d %ld\n", call, (int)told.code, (int)told.pin.stamp, value);
 }
 
 /* Keys of bytes have different lengths, so that some are longer than all before. */

@@ -43,26 +43,25 @@ static lru_told NAME(find)(FAMILY *cache, unsigned n) {
     return told;
 }
 
-static void NAME(give)(FAMILY *cache, uint64_t stamp) {
-    uint64_t before = NAME(weighed)(cache), value = new_object();
-    lru_code code = NAME(ready)(cache, stamp, value);
-    if (refused(code, CALL("ready"))) {
-        if (NAME(weighed)(cache) != before) wrong("a refused ready changed something");
-        code = NAME(ready)(cache, stamp, value);
-    }
-    say_code("ready", code);
+static void NAME(give)(FAMILY *cache, lru_pin pin) {
+    say_code("ready", NAME(ready)(cache, pin, new_object()));
 }
 
-static void NAME(let_go)(FAMILY *cache, NAME(evicted) * gone, uint64_t stamp) {
-    say_code("release", NAME(release)(cache, stamp, gone));
+static void NAME(let_go)(FAMILY *cache, NAME(evicted) * gone, lru_pin pin) {
+    say_code("release", NAME(release)(cache, pin, gone));
+    NAME(take)(gone);
+}
+
+static void NAME(let_go_and_evict)(FAMILY *cache, NAME(evicted) * gone, lru_pin pin) {
+    say_code("release_and_evict", NAME(release_and_evict)(cache, pin, gone));
     NAME(take)(gone);
 }
 
 /* Makes the entry of a key if there is none, and releases it. */
 static void NAME(use)(FAMILY *cache, NAME(evicted) * gone, unsigned n, uint64_t charge) {
     lru_told told = NAME(ask)(cache, gone, n, charge);
-    if (told.code == LRU_MAKE) NAME(give)(cache, told.stamp);
-    NAME(let_go)(cache, gone, told.stamp);
+    if (told.code == LRU_MAKE) NAME(give)(cache, told.pin);
+    NAME(let_go)(cache, gone, told.pin);
 }
 
 static void NAME(evict)(FAMILY *cache, NAME(evicted) * gone, unsigned n) {
@@ -90,8 +89,8 @@ static void NAME(look)(FAMILY *cache, unsigned n) {
     say_code("contains", code);
 }
 
-/* Puts a value in, and answers the stamp of its entry. */
-static uint64_t NAME(put)(FAMILY *cache, NAME(evicted) * gone, unsigned n, uint64_t charge) {
+/* Puts a value in, and answers the pin of its entry. */
+static lru_pin NAME(put)(FAMILY *cache, NAME(evicted) * gone, unsigned n, uint64_t charge) {
     uint64_t before = NAME(weighed)(cache), value = new_object();
     lru_told told = NAME(insert)(cache, KEY(n), charge, value, gone);
     if (refused(told.code, CALL("insert"))) {
@@ -101,7 +100,7 @@ static uint64_t NAME(put)(FAMILY *cache, NAME(evicted) * gone, unsigned n, uint6
     }
     say("insert", told);
     NAME(take)(gone);
-    return told.stamp;
+    return told.pin;
 }
 
 static void NAME(open)(FAMILY *cache) {
@@ -121,40 +120,47 @@ static void RUN(void) {
 
     /* Entries are made and evicted while one is held. */
     held = NAME(ask)(&cache, &gone, 0, 3);
-    NAME(give)(&cache, held.stamp);
+    NAME(give)(&cache, held.pin);
     for (unsigned n = 1; n < 40; n++) NAME(use)(&cache, &gone, n, 1 + n % 3);
     for (unsigned n = 30; n < 40; n++) NAME(use)(&cache, &gone, n, 1);
 
     /* Making a value fails, once while nobody waits and once while somebody does. */
     waited = NAME(ask)(&cache, &gone, 50, 2);
-    say_code("fail", NAME(fail)(&cache, waited.stamp));
+    say_code("fail", NAME(fail)(&cache, waited.pin));
     waited = NAME(ask)(&cache, &gone, 50, 2);
     NAME(ask)(&cache, &gone, 50, 9);
-    say_code("fail", NAME(fail)(&cache, waited.stamp));
-    say("poll", NAME(poll)(&cache, waited.stamp));
-    NAME(give)(&cache, waited.stamp);
-    say("poll", NAME(poll)(&cache, waited.stamp));
-    NAME(let_go)(&cache, &gone, waited.stamp);
+    say_code("fail", NAME(fail)(&cache, waited.pin));
+    say("poll", NAME(poll)(&cache, waited.pin));
+    NAME(give)(&cache, waited.pin);
+    say("poll", NAME(poll)(&cache, waited.pin));
+    NAME(let_go)(&cache, &gone, waited.pin);
 
     /* Hits, misses and advice_evict. */
     waited = NAME(find)(&cache, 50);
     NAME(evict)(&cache, &gone, 50);
-    NAME(let_go)(&cache, &gone, waited.stamp);
+    NAME(let_go)(&cache, &gone, waited.pin);
     NAME(evict)(&cache, &gone, 50);
     NAME(find)(&cache, 50);
     NAME(find)(&cache, 80);
+
+    /* Another pin of an entry, which is evicted with its last one. */
+    waited = NAME(ask)(&cache, &gone, 51, 2);
+    NAME(give)(&cache, waited.pin);
+    say("repin", NAME(repin)(&cache, waited.pin));
+    NAME(let_go_and_evict)(&cache, &gone, waited.pin);
+    NAME(let_go_and_evict)(&cache, &gone, waited.pin);
 
     /* Inserts over nothing, over an entry that is held and over one that is idle; an invalidate of
      * one that is held. Some keys are longer than all before. */
     held = NAME(find)(&cache, 0);
     for (unsigned n = 130; n < 150; n++) {
-        uint64_t first = NAME(put)(&cache, &gone, n, 2), second = NAME(put)(&cache, &gone, n, 3);
+        lru_pin first = NAME(put)(&cache, &gone, n, 2), second = NAME(put)(&cache, &gone, n, 3);
         NAME(let_go)(&cache, &gone, first);
         NAME(let_go)(&cache, &gone, second);
         NAME(let_go)(&cache, &gone, NAME(put)(&cache, &gone, n, 1 + n % 4));
     }
     NAME(take_away)(&cache, &gone, 0);
-    NAME(let_go)(&cache, &gone, held.stamp);
+    NAME(let_go)(&cache, &gone, held.pin);
     NAME(take_away)(&cache, &gone, 149);
     NAME(look)(&cache, 149);
     NAME(look)(&cache, 148);

@@ -1,5 +1,5 @@
 // The same cache written as plainly as possible, with two maps and a list of the idle entries. It
-// is slow. Each call must answer what the library answers.
+// is slow. Each call must answer what the library answers, except for the hash of a pin.
 #ifndef LRU_TESTS_PLAIN_CACHE_HPP
 #define LRU_TESTS_PLAIN_CACHE_HPP
 
@@ -102,18 +102,29 @@ class PlainCache {
     return LRU_DONE;
   }
 
-  lru_code release(std::uint64_t stamp, std::vector<lru_gone>* gone) {
+  lru_told repin(std::uint64_t stamp) {
     const auto found = entries_.find(stamp);
-    if (found == entries_.end()) return LRU_STALE;
-    Entry& entry = found->second;
-    if (entry.pins == 0 || entry.phase != Phase::kReady) return LRU_STALE;
-    if (--entry.pins > 0) return LRU_DONE;
+    if (found == entries_.end() || found->second.phase != Phase::kReady) return told(LRU_STALE);
+    if (found->second.pins == most_pins_) return told(LRU_OVERFLOW);
+    pin(stamp);
+    return told(LRU_PINNED, stamp, found->second.value);
+  }
+
+  lru_code release(std::uint64_t stamp, std::vector<lru_gone>* gone) {
+    if (!is_held(stamp)) return LRU_STALE;
+    if (--entries_.at(stamp).pins > 0) return LRU_DONE;
     if (is_found(stamp)) {
       idle_.push_back(stamp);
       settle(capacity_, gone);
     } else {
       evict(stamp, gone);
     }
+    return LRU_DONE;
+  }
+
+  lru_code release_and_evict(std::uint64_t stamp, std::vector<lru_gone>* gone) {
+    if (!is_held(stamp)) return LRU_STALE;
+    if (--entries_.at(stamp).pins == 0) evict(stamp, gone);
     return LRU_DONE;
   }
 
@@ -145,7 +156,7 @@ class PlainCache {
       others -= entries_.at(found->second).charge;
     if (charge > UINT64_MAX - others || next_ == UINT64_MAX) return told(LRU_OVERFLOW);
     invalidate(key, gone);
-    const std::uint64_t stamp = make(key, charge, gone).stamp;
+    const std::uint64_t stamp = make(key, charge, gone).pin.stamp;
     ready(stamp, value);
     return told(LRU_DONE, stamp);
   }
@@ -229,7 +240,7 @@ class PlainCache {
   static lru_told told(lru_code code, std::uint64_t stamp = 0, std::uint64_t value = 0) {
     lru_told answer = {};
     answer.code = code;
-    answer.stamp = stamp;
+    answer.pin.stamp = stamp;
     answer.value = value;
     return answer;
   }
@@ -257,6 +268,13 @@ class PlainCache {
     gone->push_back(gone_of(stamp, entries_.at(stamp)));
     idle_.remove(stamp);
     remove(stamp);
+  }
+
+  // Whether an entry has the stamp, and has a value and a pin.
+  bool is_held(std::uint64_t stamp) const {
+    const auto found = entries_.find(stamp);
+    return found != entries_.end() && found->second.pins > 0 &&
+           found->second.phase == Phase::kReady;
   }
 
   // Whether the key of an entry finds it. It does not after an invalidate.

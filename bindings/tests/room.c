@@ -1,6 +1,6 @@
 /* Whether `reserve` makes the room that it was asked for. Each new entry requests memory for its
- * node and its value. If there is room, none requests more than that; without room, a table grows
- * at some of them.
+ * node and, if it is of bytes, its key. If there is room, none requests more than that; without
+ * room, a table grows at some of them.
  *
  * The linker puts the functions below before those of the C library (--wrap). Exits with 1 if
  * something is wrong.
@@ -57,7 +57,7 @@ static struct range of_words(size_t room) {
         unsigned before = requests;
         lru_told told = lru_words_begin(&cache, key, 0, 1, &gone);
         if (told.code != LRU_MAKE) wrong("no making");
-        if (lru_words_ready(&cache, told.stamp, key) != LRU_DONE) wrong("not stored");
+        if (lru_words_ready(&cache, told.pin, key) != LRU_DONE) wrong("not stored");
         note(&range, before);
     }
     if (lru_words_free(&cache, &gone) != LRU_DONE) wrong("not freed");

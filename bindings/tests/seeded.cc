@@ -15,9 +15,10 @@
 #include "lru_core.hpp"
 #include "plain_cache.hpp"
 
-// In the namespace of their types, so that std's algorithms find them.
+// In the namespace of their types, so that std's algorithms find them. The plain cache hashes
+// nothing.
 static bool operator==(const lru_told& one, const lru_told& other) {
-  return one.code == other.code && one.stamp == other.stamp && one.value == other.value;
+  return one.code == other.code && one.pin.stamp == other.pin.stamp && one.value == other.value;
 }
 static bool operator==(const lru_gone& one, const lru_gone& other) {
   return one.stamp == other.stamp && one.charge == other.charge && one.value == other.value;
@@ -49,9 +50,9 @@ struct Bytes : lru::detail::Calls<std::string_view> {
   static lru_code contains(Cache* cache, const Key& key) {
     return lru_bytes_contains(cache, key.data(), key.size());
   }
-  static std::optional<Key> key_of(Cache* cache, std::uint64_t stamp) {
+  static std::optional<Key> key_of(Cache* cache, lru_pin pin) {
     char buffer[64];
-    const lru_told told = lru_bytes_key_of(cache, stamp, buffer, sizeof buffer);
+    const lru_told told = lru_bytes_key_of(cache, pin, buffer, sizeof buffer);
     if (told.code == LRU_STALE) return std::nullopt;
     if (told.code != LRU_NUMBER) return "no key of this test";
     return std::string(buffer, static_cast<std::size_t>(told.value));
@@ -85,9 +86,9 @@ struct Pairs : lru::detail::Calls<lru::Words> {
   static lru_code contains(Cache* cache, const Key& key) {
     return lru_words_contains(cache, key.first, key.second);
   }
-  static std::optional<Key> key_of(Cache* cache, std::uint64_t stamp) {
+  static std::optional<Key> key_of(Cache* cache, lru_pin pin) {
     Key key;
-    if (lru_words_key_of(cache, stamp, &key.first, &key.second) != LRU_DONE) return std::nullopt;
+    if (lru_words_key_of(cache, pin, &key.first, &key.second) != LRU_DONE) return std::nullopt;
     return key;
   }
 };
@@ -139,38 +140,57 @@ class Run {
 
   Key any_key() { return Family::key(random_.below(12)); }
 
-  // Mostly a stamp that has a pin, sometimes any other, or one that was never given.
-  std::uint64_t any_stamp() {
-    if (pins_.empty() || random_.below(8) == 0) return random_.below(latest_ + 2);
-    return pins_[static_cast<std::size_t>(random_.below(pins_.size()))];
+  // Mostly a pin that was told, sometimes with another hash or place; or any other stamp, which may
+  // be one that was never given.
+  lru_pin any_pin() {
+    if (pins_.empty() || random_.below(8) == 0)
+      return {random_.below(latest_ + 2), any_hash(), any_place()};
+    lru_pin pin = pins_[static_cast<std::size_t>(random_.below(pins_.size()))];
+    if (random_.below(8) == 0) pin.hash = any_hash();
+    if (random_.below(8) == 0) pin.place = any_place();
+    return pin;
   }
 
+  // 0, or the hash of a key that was pinned, so that entries are sought among those of others.
+  std::uint64_t any_hash() {
+    if (pins_.empty() || random_.below(2) == 0) return 0;
+    return pins_[static_cast<std::size_t>(random_.below(pins_.size()))].hash;
+  }
+
+  // A place of another entry, or of none.
+  std::size_t any_place() { return static_cast<std::size_t>(random_.below(20)); }
+
   void pinned(const lru_told& told) {
-    pins_.push_back(told.stamp);
-    latest_ = std::max(latest_, told.stamp);
+    pins_.push_back(told.pin);
+    latest_ = std::max(latest_, told.pin.stamp);
   }
 
   void given_back(std::uint64_t stamp) {
-    const auto pin = std::find(pins_.begin(), pins_.end(), stamp);
-    if (pin != pins_.end()) pins_.erase(pin);
+    const auto pin = std::find_if(pins_.begin(), pins_.end(),
+                                  [stamp](const lru_pin& it) { return it.stamp == stamp; });
+    if (pin == pins_.end()) return;
+    latest_released_ = *pin;
+    pins_.erase(pin);
   }
 
   // Makes one random call on both caches. False if the answers differ. There are so many releases
   // that about half of the time some entries are idle.
   bool call() {
-    const std::uint64_t kind = random_.below(48);
+    const std::uint64_t kind = random_.below(58);
     if (kind < 7) return begin();
     if (kind < 10) return insert();
     if (kind < 11) return poll();
     if (kind < 17) return ready();
     if (kind < 18) return fail();
-    if (kind < 20) return get();
-    if (kind < 43) return release();
-    if (kind < 44) return advice_evict();
-    if (kind < 45) return invalidate();
-    if (kind < 46) return set_capacity();
+    if (kind < 22) return get();
+    if (kind < 24) return repin();
+    if (kind < 50) return release();
+    if (kind < 53) return release_and_evict();
+    if (kind < 54) return advice_evict();
+    if (kind < 55) return invalidate();
+    if (kind < 56) return set_capacity();
     // Rarely, as a prune leaves little for other calls to evict.
-    if (kind < 47) return random_.below(4) != 0 || prune();
+    if (kind < 57) return random_.below(4) != 0 || prune();
     return reserve();
   }
 
@@ -197,23 +217,23 @@ class Run {
 
   bool poll() {
     call_ = "poll";
-    const std::uint64_t stamp = any_stamp();
-    return Family::poll(&cache_, stamp) == plain_.poll(stamp);
+    const lru_pin pin = any_pin();
+    return Family::poll(&cache_, pin) == plain_.poll(pin.stamp);
   }
 
   bool ready() {
     call_ = "ready";
-    const std::uint64_t stamp = any_stamp();
+    const lru_pin pin = any_pin();
     const std::uint64_t value = random_.below(UINT64_MAX);
-    return Family::ready(&cache_, stamp, value) == plain_.ready(stamp, value);
+    return Family::ready(&cache_, pin, value) == plain_.ready(pin.stamp, value);
   }
 
   bool fail() {
     call_ = "fail";
-    const std::uint64_t stamp = any_stamp();
-    const lru_code code = Family::fail(&cache_, stamp);
-    if (code != LRU_STALE) given_back(stamp);
-    return code == plain_.fail(stamp);
+    const lru_pin pin = any_pin();
+    const lru_code code = Family::fail(&cache_, pin);
+    if (code != LRU_STALE) given_back(pin.stamp);
+    return code == plain_.fail(pin.stamp);
   }
 
   bool get() {
@@ -224,12 +244,34 @@ class Run {
     return told == plain_.get(key);
   }
 
+  // Half of the time by the pin that was given back last, whose entry may be idle or gone.
+  bool repin() {
+    call_ = "repin";
+    const lru_pin pin = random_.below(2) == 0 ? latest_released_ : any_pin();
+    const lru_told told = Family::repin(&cache_, pin);
+    if (told.code == LRU_PINNED) {
+      pinned(told);
+      repins_++;
+    }
+    return told == plain_.repin(pin.stamp);
+  }
+
   bool release() {
     call_ = "release";
-    const std::uint64_t stamp = any_stamp();
-    const lru_code code = Family::release(&cache_, stamp, &chain_);
-    if (code == LRU_DONE) given_back(stamp);
-    return code == plain_.release(stamp, &gone_) && evicted();
+    const lru_pin pin = any_pin();
+    const lru_code code = Family::release(&cache_, pin, &chain_);
+    if (code == LRU_DONE) given_back(pin.stamp);
+    return code == plain_.release(pin.stamp, &gone_) && evicted();
+  }
+
+  bool release_and_evict() {
+    call_ = "release_and_evict";
+    const lru_pin pin = any_pin();
+    const lru_code code = Family::release_and_evict(&cache_, pin, &chain_);
+    if (code == LRU_DONE) given_back(pin.stamp);
+    const bool same = code == plain_.release_and_evict(pin.stamp, &gone_);
+    departures_ += gone_.size();
+    return same && evicted();
   }
 
   bool advice_evict() {
@@ -283,7 +325,7 @@ class Run {
       return told.code == LRU_NUMBER ? std::optional<std::uint64_t>(told.value) : std::nullopt;
     };
     const Key key = any_key();
-    const std::uint64_t stamp = any_stamp();
+    const lru_pin pin = any_pin();
     lru_stats stats = {};
     return number(Family::total(&cache_)) == plain_.total() &&
            number(Family::pinned_charge(&cache_)) == plain_.pinned_charge() &&
@@ -291,7 +333,7 @@ class Run {
            number(Family::len(&cache_)) == plain_.len() &&
            Family::stats(&cache_, &stats) == LRU_DONE && stats == plain_.stats() &&
            Family::contains(&cache_, key) == plain_.contains(key) &&
-           Family::key_of(&cache_, stamp) == plain_.key_of(stamp);
+           Family::key_of(&cache_, pin) == plain_.key_of(pin.stamp);
   }
 
   // Whether free hands out the same entries, in any order, and the run evicted enough to mean
@@ -313,7 +355,8 @@ class Run {
     const lru_stats counted = plain_.stats();
     const bool enough = evictions_ >= kSteps / 50 && counted.hits >= kSteps / 50 &&
                         counted.misses >= kSteps / 50 && counted.waits > 0 &&
-                        counted.removals > 0 && counted.evictions == evictions_;
+                        counted.removals > 0 && counted.evictions == evictions_ &&
+                        repins_ >= kSteps / 200 && departures_ >= kSteps / 200;
     if (!enough) std::printf("seeded: %s, seed %" PRIu64 ": too few\n", Family::name, seed_);
     return same && enough;
   }
@@ -323,10 +366,13 @@ class Run {
   PlainCache<Key> plain_;
   typename Family::Cache cache_ = {};
   typename Family::Chain chain_ = {};
-  std::vector<lru_gone> gone_;       // what the plain cache has just evicted
-  std::vector<std::uint64_t> pins_;  // a stamp for each pin
+  std::vector<lru_gone> gone_;  // what the plain cache has just evicted
+  std::vector<lru_pin> pins_;   // as they were told
+  lru_pin latest_released_ = {};
   std::uint64_t latest_ = kFirstStamp;
   std::size_t evictions_ = 0;
+  std::size_t repins_ = 0;      // that were not refused
+  std::size_t departures_ = 0;  // entries that a release_and_evict evicted
   const char* call_ = "";
 };
 

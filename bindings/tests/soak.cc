@@ -168,8 +168,8 @@ class Beside {
     const bool fails = random_.below(6) == 0;
     const lru_told told = plain_[shard].begin(n, weight, &gone_);
     const std::uint64_t number = told.code == LRU_MAKE ? ++made_ : told.value;
-    if (told.code == LRU_MAKE && fails) plain_[shard].fail(told.stamp);
-    if (told.code == LRU_MAKE && !fails) plain_[shard].ready(told.stamp, number);
+    if (told.code == LRU_MAKE && fails) plain_[shard].fail(told.pin.stamp);
+    if (told.code == LRU_MAKE && !fails) plain_[shard].ready(told.pin.stamp, number);
     try {
       auto handle = cache_->get_or_init(key, weight, [&](Key asked) {
         MUST(told.code == LRU_MAKE && asked == key && deleted_ == values_of(gone_));
@@ -178,7 +178,7 @@ class Beside {
       });
       MUST(told.code == LRU_HIT || (told.code == LRU_MAKE && !fails));
       MUST(handle->number() == number);
-      hold(held, std::move(handle), shard, told.stamp);
+      hold(held, std::move(handle), shard, told.pin.stamp);
     } catch (const Failed&) {
       MUST(told.code == LRU_MAKE && fails);
     } catch (const lru::ZeroCharge&) {
@@ -197,7 +197,7 @@ class Beside {
     try {
       const auto handle = cache_->insert(key, weight, Numbered(number, &deleted_));
       MUST(told.code == LRU_DONE && handle->number() == number);
-      plain_[shard].release(told.stamp, &gone_);
+      plain_[shard].release(told.pin.stamp, &gone_);
     } catch (const lru::ZeroCharge&) {
       MUST(told.code == LRU_NO_CHARGE);
     } catch (const lru::Overflow&) {
@@ -211,7 +211,7 @@ class Beside {
     MUST(static_cast<bool>(handle) == (told.code == LRU_HIT));
     if (!handle) return;
     MUST(handle->number() == told.value);
-    hold(held, std::move(handle), shard, told.stamp);
+    hold(held, std::move(handle), shard, told.pin.stamp);
   }
 
   void read(std::uint64_t n, Key key, std::size_t shard) {
@@ -220,7 +220,7 @@ class Beside {
     MUST(number.has_value() == (told.code == LRU_HIT));
     if (!number) return;
     MUST(*number == told.value);
-    plain_[shard].release(told.stamp, &gone_);
+    plain_[shard].release(told.pin.stamp, &gone_);
   }
 
   // Evicts all idle values, or sets the capacity.

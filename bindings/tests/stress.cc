@@ -108,7 +108,13 @@ std::uint64_t calls(Cache& cache, std::uint64_t seed, Deletions* deletions) {
         }
     }
     for (std::size_t i = 0; i < 4; i++) wrong += held[i] && !held[i]->fits(keys[i]);
+    if (random.below(16) == 0) {
+      const std::uint64_t other = random.below(4);
+      held[other] = held[slot].clone();
+      keys[other] = keys[slot];
+    }
     if (random.below(3) == 0) held[random.below(4)].reset();
+    if (random.below(16) == 0) held[random.below(4)].release_and_evict();
   }
   return wrong;
 }

@@ -19,29 +19,28 @@ static void close_evicted(lru_bytes_evicted *gone) {
         fclose((FILE *)(uintptr_t)entry.value);
 }
 
-/* Finds or opens a file and pins it: the pin is released by its stamp. Null if that fails. */
-static FILE *pin(const char *path, lru_bytes_evicted *gone, uint64_t *stamp) {
+/* Finds or opens a file and pins it: the caller gives the pin back. Null if that fails. */
+static FILE *find_or_open(const char *path, lru_bytes_evicted *gone, lru_pin *pin) {
     pthread_mutex_lock(&lock);
     lru_told told = lru_bytes_begin(&cache, path, strlen(path), 1, gone);
     while (told.code == LRU_WAIT) {
         pthread_cond_wait(&ended, &lock);
-        told = lru_bytes_poll(&cache, told.stamp);
+        told = lru_bytes_poll(&cache, told.pin);
     }
     pthread_mutex_unlock(&lock);
     close_evicted(gone);
-    *stamp = told.stamp;
+    *pin = told.pin;
     if (told.code != LRU_MAKE) /* LRU_HIT, or an error, which has the value 0 */
         return (FILE *)(uintptr_t)told.value;
     FILE *file = fopen(path, "rb");
     pthread_mutex_lock(&lock);
-    bool kept = file != NULL && lru_bytes_ready(&cache, *stamp, (uintptr_t)file) == LRU_DONE;
-    if (!kept)
-        lru_bytes_fail(&cache, *stamp); /* gives the pin back */
+    if (file != NULL)
+        lru_bytes_ready(&cache, *pin, (uintptr_t)file); /* no other caller makes this value */
+    else
+        lru_bytes_fail(&cache, *pin); /* gives the pin back */
     pthread_mutex_unlock(&lock);
     pthread_cond_broadcast(&ended);
-    if (file != NULL && !kept)
-        fclose(file);
-    return kept ? file : NULL;
+    return file;
 }
 
 /* Returns null if the size cannot be found. */
@@ -49,8 +48,8 @@ static void *print_size(void *path) {
     lru_bytes_evicted gone = {0}; /* each thread has its own */
     if (lru_bytes_evicted_new(&gone) != LRU_DONE)
         return NULL;
-    uint64_t stamp;
-    FILE *file = pin(path, &gone, &stamp);
+    lru_pin pin;
+    FILE *file = find_or_open(path, &gone, &pin);
     struct stat about;
     bool found = file != NULL && fstat(fileno(file), &about) == 0;
     if (found)
@@ -59,7 +58,7 @@ static void *print_size(void *path) {
         fprintf(stderr, "sizes: cannot read %s\n", (const char *)path);
     pthread_mutex_lock(&lock);
     if (file != NULL)
-        lru_bytes_release(&cache, stamp, &gone);
+        lru_bytes_release(&cache, pin, &gone);
     pthread_mutex_unlock(&lock);
     close_evicted(&gone);
     lru_bytes_evicted_free(&gone);

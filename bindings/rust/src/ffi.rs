@@ -19,11 +19,20 @@ impl Handle {
     };
 }
 
+/// `lru_pin`: names an entry that the caller has pinned.
+#[repr(C)]
+#[derive(Debug, Clone, Copy)]
+pub struct Pin {
+    pub stamp: u64,
+    pub hash: u64,
+    pub place: usize,
+}
+
 /// `lru_told`: the answer of a function.
 #[repr(C)]
 #[derive(Debug, Clone, Copy)]
 pub struct Told {
-    pub stamp: u64,
+    pub pin: Pin,
     pub value: u64,
     pub code: u32,
 }
@@ -63,3 +72,4 @@ pub const MISSED: u32 = 6;
 pub const OVERFLOW: u32 = 7;
 pub const MEMORY: u32 = 9;
 pub const NO_CHARGE: u32 = 11;
+pub const PINNED: u32 = 18;

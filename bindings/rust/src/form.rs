@@ -2,7 +2,7 @@
 
 use std::borrow::Cow;
 
-use crate::ffi::{Gone, Handle, Stats, Told};
+use crate::ffi::{Gone, Handle, Pin, Stats, Told};
 
 /// The form that a key is written in: [`Bytes`], [`CowBytes`] or [`Words`].
 ///
@@ -16,7 +16,7 @@ impl<F: sealed::Calls> Form for F {}
 pub type Written<'a, F> = <F as sealed::Calls>::Written<'a>;
 
 pub(crate) mod sealed {
-    use super::{Gone, Handle, Stats, Told};
+    use super::{Gone, Handle, Pin, Stats, Told};
 
     /// The functions of `lru.h` for one form of keys.
     pub trait Calls: 'static {
@@ -85,10 +85,13 @@ pub(crate) mod sealed {
     pub struct Stamped {
         pub new: unsafe extern "C" fn(capacity: u64, seed: u64, out: *mut Handle) -> u32,
         pub free: unsafe extern "C" fn(cache: *mut Handle, left: *mut Handle) -> u32,
-        pub poll: unsafe extern "C" fn(cache: *mut Handle, stamp: u64) -> Told,
-        pub ready: unsafe extern "C" fn(cache: *mut Handle, stamp: u64, value: u64) -> u32,
-        pub fail: unsafe extern "C" fn(cache: *mut Handle, stamp: u64) -> u32,
-        pub release: unsafe extern "C" fn(cache: *mut Handle, stamp: u64, gone: *mut Handle) -> u32,
+        pub poll: unsafe extern "C" fn(cache: *mut Handle, pin: Pin) -> Told,
+        pub ready: unsafe extern "C" fn(cache: *mut Handle, pin: Pin, value: u64) -> u32,
+        pub fail: unsafe extern "C" fn(cache: *mut Handle, pin: Pin) -> u32,
+        pub repin: unsafe extern "C" fn(cache: *mut Handle, pin: Pin) -> Told,
+        pub release: unsafe extern "C" fn(cache: *mut Handle, pin: Pin, gone: *mut Handle) -> u32,
+        pub release_and_evict:
+            unsafe extern "C" fn(cache: *mut Handle, pin: Pin, gone: *mut Handle) -> u32,
         pub prune: unsafe extern "C" fn(cache: *mut Handle, gone: *mut Handle) -> u32,
         pub set_capacity:
             unsafe extern "C" fn(cache: *mut Handle, capacity: u64, gone: *mut Handle) -> u32,
@@ -112,13 +115,17 @@ macro_rules! stamped {
             #[link_name = concat!($prefix, "_free")]
             fn free(cache: *mut Handle, left: *mut Handle) -> u32;
             #[link_name = concat!($prefix, "_poll")]
-            fn poll(cache: *mut Handle, stamp: u64) -> Told;
+            fn poll(cache: *mut Handle, pin: Pin) -> Told;
             #[link_name = concat!($prefix, "_ready")]
-            fn ready(cache: *mut Handle, stamp: u64, value: u64) -> u32;
+            fn ready(cache: *mut Handle, pin: Pin, value: u64) -> u32;
             #[link_name = concat!($prefix, "_fail")]
-            fn fail(cache: *mut Handle, stamp: u64) -> u32;
+            fn fail(cache: *mut Handle, pin: Pin) -> u32;
+            #[link_name = concat!($prefix, "_repin")]
+            fn repin(cache: *mut Handle, pin: Pin) -> Told;
             #[link_name = concat!($prefix, "_release")]
-            fn release(cache: *mut Handle, stamp: u64, gone: *mut Handle) -> u32;
+            fn release(cache: *mut Handle, pin: Pin, gone: *mut Handle) -> u32;
+            #[link_name = concat!($prefix, "_release_and_evict")]
+            fn release_and_evict(cache: *mut Handle, pin: Pin, gone: *mut Handle) -> u32;
             #[link_name = concat!($prefix, "_prune")]
             fn prune(cache: *mut Handle, gone: *mut Handle) -> u32;
             #[link_name = concat!($prefix, "_set_capacity")]
@@ -146,7 +153,9 @@ macro_rules! stamped {
             poll,
             ready,
             fail,
+            repin,
             release,
+            release_and_evict,
             prune,
             set_capacity,
             total,

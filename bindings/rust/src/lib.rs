@@ -21,7 +21,7 @@
 //!   divided among fewer than 16 shards ([`sharded::shards_for`]).
 //! - It has more calls: `insert`, `invalidate`, `read`, `contains`, `len`, `pinned_charge`,
 //!   `capacity`, `set_capacity`, `stats`, and those that return an [`unsharded::OwnedHandle`], a
-//!   handle that keeps its cache alive.
+//!   handle that keeps its cache alive. Handles have `try_clone` and `release_and_evict`.
 //!
 //! # Examples
 //!

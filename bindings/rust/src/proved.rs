@@ -5,7 +5,7 @@ use std::marker::PhantomData;
 use std::ptr::{self, NonNull};
 
 use crate::error::Refusal;
-use crate::ffi::{self, Gone, Handle, Told};
+use crate::ffi::{self, Gone, Handle, Pin, Told};
 use crate::form::Form;
 use crate::form::sealed::Stamped;
 
@@ -14,19 +14,18 @@ pub(crate) type Evicted<V> = Vec<Box<V>>;
 
 /// The answer to a caller that asks for a key. The caller has a pin of the entry.
 pub(crate) enum Begun<V> {
-    /// The caller makes the value, and then calls `ready` or `fail` with this stamp.
-    Make(u64),
-    /// Another caller makes the value. Ask again by `poll` with this stamp.
-    Wait(u64),
-    /// The value, and the stamp of its entry.
-    Hit(u64, NonNull<V>),
+    /// The caller makes the value, and then calls `ready` or `fail` with this pin.
+    Make(Pin),
+    /// Another caller makes the value. Ask again by `poll` with this pin.
+    Wait(Pin),
+    /// The pin, and the value.
+    Hit(Pin, NonNull<V>),
 }
 
 /// A cache of the library for keys of one form, with values in boxes. The library stores the
 /// address of a box, which the core owns from `ready` or `insert` until the entry is evicted.
 ///
-/// A stamp names an entry that the caller has a pin of. The value stays until the pin is given back
-/// by `release` or `fail`.
+/// A pin names its entry. The value stays until the pin is given back by `release` or `fail`.
 pub(crate) struct Core<F: Form, V> {
     cache: Handle,
     /// Where the library puts evicted entries. Empty between calls.
@@ -72,30 +71,26 @@ impl<F: Form, V> Core<F, V> {
     }
 
     /// Asks again for a value that another caller makes.
-    pub(crate) fn poll(&mut self, stamp: u64) -> Result<Begun<V>, Refusal> {
+    pub(crate) fn poll(&mut self, pin: Pin) -> Result<Begun<V>, Refusal> {
         // SAFETY: the cache was opened for this form, and this core has the only copy.
-        let told = unsafe { (Self::CALLS.poll)(&mut self.cache, stamp) };
+        let told = unsafe { (Self::CALLS.poll)(&mut self.cache, pin) };
         Self::begun(told)
     }
 
-    /// Stores the value that the caller was asked to make. If there is no memory for that, returns
-    /// the value, and the caller is still the one to make it.
-    pub(crate) fn ready(&mut self, stamp: u64, value: Box<V>) -> Result<NonNull<V>, Box<V>> {
+    /// Stores the value that the caller was asked to make.
+    pub(crate) fn ready(&mut self, pin: Pin, value: Box<V>) -> NonNull<V> {
         // Every handle of this value gets the same pointer, made from this word.
         let word = word_of(Box::into_raw(value));
         // SAFETY: the cache was opened for this form, and this core has the only copy.
-        let code = unsafe { (Self::CALLS.ready)(&mut self.cache, stamp, word) };
-        if code == ffi::DONE {
-            return Ok(value_of(word));
-        }
-        // SAFETY: the pointer is that of the box above, and the library has not stored it.
-        Err(unsafe { Box::from_raw(value_of(word).as_ptr()) })
+        let code = unsafe { (Self::CALLS.ready)(&mut self.cache, pin, word) };
+        debug_assert_eq!(code, ffi::DONE);
+        value_of(word)
     }
 
     /// Tells that the caller could not make the value, and gives its pin back.
-    pub(crate) fn fail(&mut self, stamp: u64) {
+    pub(crate) fn fail(&mut self, pin: Pin) {
         // SAFETY: the cache was opened for this form, and this core has the only copy.
-        let code = unsafe { (Self::CALLS.fail)(&mut self.cache, stamp) };
+        let code = unsafe { (Self::CALLS.fail)(&mut self.cache, pin) };
         debug_assert!(matches!(code, ffi::LEFT | ffi::REMOVED));
     }
 
@@ -103,11 +98,11 @@ impl<F: Form, V> Core<F, V> {
     pub(crate) fn get(
         &mut self,
         key: F::Written<'_>,
-    ) -> Result<Option<(u64, NonNull<V>)>, Refusal> {
+    ) -> Result<Option<(Pin, NonNull<V>)>, Refusal> {
         // SAFETY: the cache was opened for this form, and this core has the only copy.
         let told = unsafe { F::get(&mut self.cache, key) };
         match told.code {
-            ffi::HIT => Ok(Some((told.stamp, value_of(told.value)))),
+            ffi::HIT => Ok(Some((told.pin, value_of(told.value)))),
             ffi::MISSED => Ok(None),
             code => Err(refusal(code)),
         }
@@ -123,10 +118,29 @@ impl<F: Form, V> Core<F, V> {
         }
     }
 
+    /// Pins an entry that has a value once more, by a pin that the caller has.
+    pub(crate) fn repin(&mut self, pin: Pin) -> Result<(Pin, NonNull<V>), Refusal> {
+        // SAFETY: the cache was opened for this form, and this core has the only copy.
+        let told = unsafe { (Self::CALLS.repin)(&mut self.cache, pin) };
+        match told.code {
+            ffi::PINNED => Ok((told.pin, value_of(told.value))),
+            code => Err(refusal(code)),
+        }
+    }
+
     /// Gives back a pin of an entry that has a value.
-    pub(crate) fn release(&mut self, stamp: u64, evicted: &mut Evicted<V>) {
+    pub(crate) fn release(&mut self, pin: Pin, evicted: &mut Evicted<V>) {
         // SAFETY: both handles were opened for this form, and this core has the only copies.
-        let code = unsafe { (Self::CALLS.release)(&mut self.cache, stamp, &mut self.chain) };
+        let code = unsafe { (Self::CALLS.release)(&mut self.cache, pin, &mut self.chain) };
+        debug_assert_eq!(code, ffi::DONE);
+        self.take_evicted(evicted);
+    }
+
+    /// Gives back a pin of an entry that has a value, and evicts the entry if it was its last.
+    pub(crate) fn release_and_evict(&mut self, pin: Pin, evicted: &mut Evicted<V>) {
+        // SAFETY: both handles were opened for this form, and this core has the only copies.
+        let code =
+            unsafe { (Self::CALLS.release_and_evict)(&mut self.cache, pin, &mut self.chain) };
         debug_assert_eq!(code, ffi::DONE);
         self.take_evicted(evicted);
     }
@@ -164,13 +178,13 @@ impl<F: Form, V> Core<F, V> {
         charge: u64,
         value: Box<V>,
         evicted: &mut Evicted<V>,
-    ) -> Result<(u64, NonNull<V>), (Refusal, Box<V>)> {
+    ) -> Result<(Pin, NonNull<V>), (Refusal, Box<V>)> {
         let word = word_of(Box::into_raw(value));
         // SAFETY: both handles were opened for this form, and this core has the only copies.
         let told = unsafe { F::insert(&mut self.cache, key, charge, word, &mut self.chain) };
         self.take_evicted(evicted);
         if told.code == ffi::DONE {
-            return Ok((told.stamp, value_of(word)));
+            return Ok((told.pin, value_of(word)));
         }
         // SAFETY: the pointer is that of the box above, and the library has not stored it.
         let value = unsafe { Box::from_raw(value_of(word).as_ptr()) };
@@ -230,9 +244,9 @@ impl<F: Form, V> Core<F, V> {
 
     fn begun(told: Told) -> Result<Begun<V>, Refusal> {
         match told.code {
-            ffi::MAKE => Ok(Begun::Make(told.stamp)),
-            ffi::WAIT => Ok(Begun::Wait(told.stamp)),
-            ffi::HIT => Ok(Begun::Hit(told.stamp, value_of(told.value))),
+            ffi::MAKE => Ok(Begun::Make(told.pin)),
+            ffi::WAIT => Ok(Begun::Wait(told.pin)),
+            ffi::HIT => Ok(Begun::Hit(told.pin, value_of(told.value))),
             code => Err(refusal(code)),
         }
     }
@@ -298,8 +312,8 @@ fn refusal(code: u32) -> Refusal {
         ffi::OVERFLOW => Refusal::Overflow,
         ffi::MEMORY => Refusal::Memory,
         ffi::NO_CHARGE => Refusal::ZeroCharge,
-        // No other code is possible: both handles are open, the chain is empty, and the stamps are
-        // those of pinned entries.
+        // No other code is possible: both handles are open, the chain is empty, and the pins are
+        // those that the library told.
         _ => unreachable!("the library answered code {code}"),
     }
 }

@@ -3,12 +3,14 @@
 use std::borrow::Borrow;
 use std::fmt;
 use std::hash::{BuildHasher, Hash, RandomState};
+use std::mem::ManuallyDrop;
 use std::num::NonZeroUsize;
 use std::ops::Deref;
-use std::ptr::NonNull;
+use std::ptr::{self, NonNull};
 use std::sync::Arc;
 
 use crate::error::{GetError, Refusal};
+use crate::ffi::Pin;
 use crate::key::Key;
 use crate::proved::random_seed;
 use crate::stats::Stats;
@@ -412,6 +414,21 @@ impl<K: Key + ?Sized, V> CacheHandle<'_, K, V> {
     pub fn value(&self) -> &V {
         self.0.value()
     }
+
+    /// Returns another handle of the same value, as [`unsharded::CacheHandle::try_clone`] does.
+    ///
+    /// # Errors
+    ///
+    /// As [`unsharded::CacheHandle::try_clone`].
+    pub fn try_clone(&self) -> Result<Self, Refusal> {
+        Ok(CacheHandle(self.0.try_clone()?))
+    }
+
+    /// Drops the handle, and evicts the value at once if this was its last handle, as
+    /// [`unsharded::CacheHandle::release_and_evict`] does.
+    pub fn release_and_evict(self) {
+        self.0.release_and_evict();
+    }
 }
 
 impl<K: Key + ?Sized, V> Deref for CacheHandle<'_, K, V> {
@@ -433,8 +450,8 @@ pub struct OwnedHandle<K: Key + ?Sized, V, S = RandomState> {
     cache: Arc<LruCache<K, V, S>>,
     /// The number of the shard that has the entry.
     shard: usize,
-    stamp: u64,
-    /// The value of the entry with this stamp. The handle has a pin of it.
+    pin: Pin,
+    /// The value of the entry that is pinned.
     value: NonNull<V>,
 }
 
@@ -452,11 +469,11 @@ impl<K: Key + ?Sized, V, S> OwnedHandle<K, V, S> {
         handle: unsharded::CacheHandle<'_, K, V>,
     ) -> OwnedHandle<K, V, S> {
         let cache = Arc::clone(cache);
-        let (stamp, value) = handle.into_pin();
+        let (pin, value) = handle.into_pin();
         OwnedHandle {
             cache,
             shard,
-            stamp,
+            pin,
             value,
         }
     }
@@ -466,6 +483,26 @@ impl<K: Key + ?Sized, V, S> OwnedHandle<K, V, S> {
         // SAFETY: the handle has a pin of the entry and keeps the cache alive, so the value is not
         // dropped before the handle is. Nothing has mutable access to a value in the cache.
         unsafe { self.value.as_ref() }
+    }
+
+    /// Returns another handle of the same value, as [`unsharded::OwnedHandle::try_clone`] does.
+    ///
+    /// # Errors
+    ///
+    /// As [`unsharded::CacheHandle::try_clone`].
+    pub fn try_clone(&self) -> Result<Self, Refusal> {
+        let handle = self.cache.shards[self.shard].repin(self.pin)?;
+        Ok(OwnedHandle::of(&self.cache, self.shard, handle))
+    }
+
+    /// Drops the handle, and evicts the value at once if this was its last handle, as
+    /// [`unsharded::CacheHandle::release_and_evict`] does.
+    pub fn release_and_evict(self) {
+        let this = ManuallyDrop::new(self);
+        // SAFETY: `this` is not dropped, so only the copy drops the `Arc`. No other field of a
+        // handle has to be dropped.
+        let cache = unsafe { ptr::read(&this.cache) };
+        cache.shards[this.shard].release_and_evict(this.pin);
     }
 }
 
@@ -485,6 +522,6 @@ impl<K: Key + ?Sized, V: fmt::Debug, S> fmt::Debug for OwnedHandle<K, V, S> {
 
 impl<K: Key + ?Sized, V, S> Drop for OwnedHandle<K, V, S> {
     fn drop(&mut self) {
-        self.cache.shards[self.shard].release(self.stamp);
+        self.cache.shards[self.shard].release(self.pin);
     }
 }

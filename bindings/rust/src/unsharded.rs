@@ -4,12 +4,13 @@ use std::borrow::Borrow;
 use std::convert::Infallible;
 use std::fmt;
 use std::marker::PhantomData;
-use std::mem;
+use std::mem::{self, ManuallyDrop};
 use std::ops::Deref;
-use std::ptr::NonNull;
+use std::ptr::{self, NonNull};
 use std::sync::{Arc, Condvar, Mutex, MutexGuard, PoisonError};
 
 use crate::error::{GetError, Refusal};
+use crate::ffi::Pin;
 use crate::form::{Form, Written};
 use crate::key::Key;
 use crate::proved::{Begun, Core, Evicted, random_seed};
@@ -140,7 +141,7 @@ impl<K: Key + ?Sized, V> LruCache<K, V> {
     {
         let written = key.written();
         let found = self.lock().core.get(written)?;
-        Ok(found.map(|(stamp, value)| self.handle(stamp, value)))
+        Ok(found.map(|(pin, value)| self.handle(pin, value)))
     }
 
     /// Calls `reader` with the key's value, and returns its result, or `None` if there is no value
@@ -187,9 +188,7 @@ impl<K: Key + ?Sized, V> LruCache<K, V> {
     /// [`Refusal::ZeroCharge`] if `charge` is 0, even if the key has a value. [`Refusal::Overflow`]
     /// if the total of all charges would exceed `u64::MAX`, if the value has `u32::MAX` handles, or
     /// if `u64::MAX` values have been made. [`Refusal::Memory`] if there is no memory for a new
-    /// entry. In these cases `init` does not run and nothing is evicted, with one exception: if
-    /// there is no memory to store the value that `init` has made, the call fails with
-    /// [`Refusal::Memory`] and the value is dropped, as if `init` had failed.
+    /// entry. In these cases `init` does not run and nothing is evicted.
     pub fn get_or_init<Q>(
         &self,
         key: &Q,
@@ -235,7 +234,7 @@ impl<K: Key + ?Sized, V> LruCache<K, V> {
             Asked::Found(handle) => Ok(handle),
             Asked::Making(making) => {
                 let value = init(key).map_err(GetError::Init)?;
-                Ok(making.end(Box::new(value))?)
+                Ok(making.end(Box::new(value)))
             }
         }
     }
@@ -357,8 +356,8 @@ impl<K: Key + ?Sized, V> LruCache<K, V> {
             .core
             .insert(written, charge, value, &mut evicted);
         match inserted {
-            Ok((stamp, value)) => {
-                let handle = self.handle(stamp, value);
+            Ok((pin, value)) => {
+                let handle = self.handle(pin, value);
                 // If the drop of a value panics, the handle is dropped too. It would be leaked if
                 // it were the return value already.
                 drop(evicted);
@@ -451,7 +450,7 @@ impl<K: Key + ?Sized, V> LruCache<K, V> {
     /// evicted, and what the cache holds, all at one time. [`get`](Self::get),
     /// [`read`](Self::read), [`get_or_init`](Self::get_or_init) and
     /// [`get_or_try_init`](Self::get_or_try_init) are counted as hits, misses and waits;
-    /// [`contains`](Self::contains) and [`insert`](Self::insert) are not.
+    /// [`contains`](Self::contains), [`insert`](Self::insert) and clones of handles are not.
     pub fn stats(&self) -> Stats {
         self.lock().core.stats().into()
     }
@@ -473,32 +472,43 @@ impl<K: Key + ?Sized, V> LruCache<K, V> {
         let mut begun = shared.core.begin(written, charge, evicted)?;
         loop {
             match begun {
-                Begun::Hit(stamp, value) => return Ok(Asked::Found(self.handle(stamp, value))),
-                Begun::Make(stamp) => {
-                    return Ok(Asked::Making(Making { cache: self, stamp }));
-                }
-                Begun::Wait(stamp) => {
+                Begun::Hit(pin, value) => return Ok(Asked::Found(self.handle(pin, value))),
+                Begun::Make(pin) => return Ok(Asked::Making(Making { cache: self, pin })),
+                Begun::Wait(pin) => {
                     shared.waiting += 1;
                     shared = unpoisoned(self.ended.wait(shared));
                     shared.waiting -= 1;
-                    begun = shared.core.poll(stamp)?;
+                    begun = shared.core.poll(pin)?;
                 }
             }
         }
     }
 
-    fn handle(&self, stamp: u64, value: NonNull<V>) -> CacheHandle<'_, K, V> {
+    fn handle(&self, pin: Pin, value: NonNull<V>) -> CacheHandle<'_, K, V> {
         CacheHandle {
             cache: self,
-            stamp,
+            pin,
             value,
         }
     }
 
+    /// Returns another handle of the value that the pin of a handle pins.
+    pub(crate) fn repin(&self, pin: Pin) -> Result<CacheHandle<'_, K, V>, Refusal> {
+        let (pin, value) = self.lock().core.repin(pin)?;
+        Ok(self.handle(pin, value))
+    }
+
     /// Gives back the pin of a handle, which is not used again.
-    pub(crate) fn release(&self, stamp: u64) {
+    pub(crate) fn release(&self, pin: Pin) {
         let mut evicted = Evicted::new();
-        self.lock().core.release(stamp, &mut evicted);
+        self.lock().core.release(pin, &mut evicted);
+    }
+
+    /// Gives back the pin of a handle, which is not used again, and evicts the value if the handle
+    /// was its last.
+    pub(crate) fn release_and_evict(&self, pin: Pin) {
+        let mut evicted = Evicted::new();
+        self.lock().core.release_and_evict(pin, &mut evicted);
     }
 
     fn lock(&self) -> MutexGuard<'_, Shared<K::Form, V>> {
@@ -538,33 +548,25 @@ enum Asked<'a, K: Key + ?Sized, V> {
 /// The duty to make a value. If it is dropped before `end`, making the value has failed.
 struct Making<'a, K: Key + ?Sized, V> {
     cache: &'a LruCache<K, V>,
-    stamp: u64,
+    pin: Pin,
 }
 
 impl<'a, K: Key + ?Sized, V> Making<'a, K, V> {
-    /// Stores the value. If there is no memory for that, making the value has failed.
-    fn end(self, value: Box<V>) -> Result<CacheHandle<'a, K, V>, Refusal> {
+    /// Stores the value.
+    fn end(self, value: Box<V>) -> CacheHandle<'a, K, V> {
         let mut shared = self.cache.lock();
-        match shared.core.ready(self.stamp, value) {
-            Ok(value) => {
-                let handle = self.cache.handle(self.stamp, value);
-                self.cache.wake(shared);
-                mem::forget(self);
-                Ok(handle)
-            }
-            Err(value) => {
-                drop(shared);
-                drop(value);
-                Err(Refusal::Memory)
-            }
-        }
+        let value = shared.core.ready(self.pin, value);
+        let handle = self.cache.handle(self.pin, value);
+        self.cache.wake(shared);
+        mem::forget(self);
+        handle
     }
 }
 
 impl<K: Key + ?Sized, V> Drop for Making<'_, K, V> {
     fn drop(&mut self) {
         let mut shared = self.cache.lock();
-        shared.core.fail(self.stamp);
+        shared.core.fail(self.pin);
         self.cache.wake(shared);
     }
 }
@@ -575,8 +577,8 @@ impl<K: Key + ?Sized, V> Drop for Making<'_, K, V> {
 /// above the capacity. If a handle is forgotten, its value stays until the cache is dropped.
 pub struct CacheHandle<'a, K: Key + ?Sized, V> {
     cache: &'a LruCache<K, V>,
-    stamp: u64,
-    /// The value of the entry with this stamp. The handle has a pin of it.
+    pin: Pin,
+    /// The value of the entry that is pinned.
     value: NonNull<V>,
 }
 
@@ -595,11 +597,69 @@ impl<K: Key + ?Sized, V> CacheHandle<'_, K, V> {
         unsafe { self.value.as_ref() }
     }
 
-    /// The stamp and the value of the entry, without giving the pin back.
-    pub(crate) fn into_pin(self) -> (u64, NonNull<V>) {
-        let pin = (self.stamp, self.value);
+    /// Returns another handle of the same value, even if the key has another value by now, or none.
+    /// No key is looked up, so this is counted neither as a hit nor as a miss.
+    ///
+    /// Handles do not implement [`Clone`], as `clone` could only panic if the cache refuses. If the
+    /// type of the value has a `try_clone` too, as [`File`](std::fs::File) has, call that one by
+    /// `handle.value().try_clone()`.
+    ///
+    /// # Errors
+    ///
+    /// [`Refusal::Overflow`] if the value has `u32::MAX` handles: in practice, only if handles are
+    /// forgotten, as by [`mem::forget`].
+    ///
+    /// # Examples
+    ///
+    /// ```
+    /// use concurrent_lru_proved::unsharded::LruCache;
+    ///
+    /// # fn main() -> Result<(), concurrent_lru_proved::Refusal> {
+    /// let cache = LruCache::<u64, String>::new(10)?;
+    /// let handle = cache.insert(&7, 1, "seven".to_string())?;
+    /// cache.invalidate(&7)?;
+    /// let clone = handle.try_clone()?;
+    /// drop(handle);
+    /// assert_eq!(*clone, "seven");
+    /// # Ok(())
+    /// # }
+    /// ```
+    pub fn try_clone(&self) -> Result<Self, Refusal> {
+        self.cache.repin(self.pin)
+    }
+
+    /// Drops the handle, and evicts the value at once if this was its last handle, in place of
+    /// leaving it idle.
+    ///
+    /// If the value has another handle, this is the same as [`drop`].
+    ///
+    /// # Examples
+    ///
+    /// ```
+    /// use concurrent_lru_proved::unsharded::LruCache;
+    ///
+    /// # fn main() -> Result<(), concurrent_lru_proved::Refusal> {
+    /// let cache = LruCache::<u64, String>::new(10)?;
+    /// let first = cache.insert(&7, 1, "seven".to_string())?;
+    /// let second = first.try_clone()?;
+    /// first.release_and_evict();
+    /// assert!(cache.contains(&7)?);
+    /// second.release_and_evict();
+    /// assert!(!cache.contains(&7)?);
+    /// # Ok(())
+    /// # }
+    /// ```
+    pub fn release_and_evict(self) {
+        let cache = self.cache;
+        let (pin, _value) = self.into_pin();
+        cache.release_and_evict(pin);
+    }
+
+    /// The pin and the value of the entry, without giving the pin back.
+    pub(crate) fn into_pin(self) -> (Pin, NonNull<V>) {
+        let pinned = (self.pin, self.value);
         mem::forget(self);
-        pin
+        pinned
     }
 }
 
@@ -619,7 +679,7 @@ impl<K: Key + ?Sized, V: fmt::Debug> fmt::Debug for CacheHandle<'_, K, V> {
 
 impl<K: Key + ?Sized, V> Drop for CacheHandle<'_, K, V> {
     fn drop(&mut self) {
-        self.cache.release(self.stamp);
+        self.cache.release(self.pin);
     }
 }
 
@@ -630,8 +690,8 @@ impl<K: Key + ?Sized, V> Drop for CacheHandle<'_, K, V> {
 /// cache has such a handle of the same cache, neither is ever dropped.
 pub struct OwnedHandle<K: Key + ?Sized, V> {
     cache: Arc<LruCache<K, V>>,
-    stamp: u64,
-    /// The value of the entry with this stamp. The handle has a pin of it.
+    pin: Pin,
+    /// The value of the entry that is pinned.
     value: NonNull<V>,
 }
 
@@ -646,12 +706,8 @@ impl<K: Key + ?Sized, V> OwnedHandle<K, V> {
     /// Takes over the pin of a handle of this cache.
     fn of(cache: &Arc<LruCache<K, V>>, handle: CacheHandle<'_, K, V>) -> OwnedHandle<K, V> {
         let cache = Arc::clone(cache);
-        let (stamp, value) = handle.into_pin();
-        OwnedHandle {
-            cache,
-            stamp,
-            value,
-        }
+        let (pin, value) = handle.into_pin();
+        OwnedHandle { cache, pin, value }
     }
 
     /// Returns the value.
@@ -659,6 +715,44 @@ impl<K: Key + ?Sized, V> OwnedHandle<K, V> {
         // SAFETY: the handle has a pin of the entry and keeps the cache alive, so the value is not
         // dropped before the handle is. Nothing has mutable access to a value in the cache.
         unsafe { self.value.as_ref() }
+    }
+
+    /// Returns another handle of the same value, as [`CacheHandle::try_clone`] does, which keeps
+    /// the cache alive too.
+    ///
+    /// # Errors
+    ///
+    /// As [`CacheHandle::try_clone`].
+    ///
+    /// # Examples
+    ///
+    /// ```
+    /// use concurrent_lru_proved::unsharded::LruCache;
+    /// use std::sync::Arc;
+    /// use std::thread;
+    ///
+    /// # fn main() -> Result<(), concurrent_lru_proved::Refusal> {
+    /// let cache = Arc::new(LruCache::<u64, String>::new(10)?);
+    /// let handle = LruCache::get_or_init_owned(&cache, &7, 1, |key| key.to_string())?;
+    /// let clone = handle.try_clone()?;
+    /// let length = thread::spawn(move || clone.len());
+    /// assert_eq!(length.join().ok(), Some(handle.len()));
+    /// # Ok(())
+    /// # }
+    /// ```
+    pub fn try_clone(&self) -> Result<Self, Refusal> {
+        let handle = self.cache.repin(self.pin)?;
+        Ok(OwnedHandle::of(&self.cache, handle))
+    }
+
+    /// Drops the handle, and evicts the value at once if this was its last handle, as
+    /// [`CacheHandle::release_and_evict`] does.
+    pub fn release_and_evict(self) {
+        let this = ManuallyDrop::new(self);
+        // SAFETY: `this` is not dropped, so only the copy drops the `Arc`. No other field of a
+        // handle has to be dropped.
+        let cache = unsafe { ptr::read(&this.cache) };
+        cache.release_and_evict(this.pin);
     }
 }
 
@@ -678,6 +772,6 @@ impl<K: Key + ?Sized, V: fmt::Debug> fmt::Debug for OwnedHandle<K, V> {
 
 impl<K: Key + ?Sized, V> Drop for OwnedHandle<K, V> {
     fn drop(&mut self) {
-        self.cache.release(self.stamp);
+        self.cache.release(self.pin);
     }
 }

@@ -80,13 +80,33 @@ impl Plain {
         self.removals += 1;
     }
 
-    fn release(&mut self, stamp: usize) {
+    fn pinned(&self, stamp: usize) -> usize {
         let place = self.entries.iter().position(|entry| entry.stamp == stamp);
-        let place = place.expect("a pinned entry stays");
+        place.expect("a pinned entry stays")
+    }
+
+    fn pin_again(&mut self, stamp: usize) {
+        let place = self.pinned(stamp);
+        self.entries[place].pins += 1;
+    }
+
+    /// Takes a pin of an entry, and returns the place of the entry if it was the last.
+    fn unpin(&mut self, stamp: usize) -> Option<usize> {
+        let place = self.pinned(stamp);
         self.entries[place].pins -= 1;
-        if self.entries[place].pins > 0 {
-            return;
+        (self.entries[place].pins == 0).then_some(place)
+    }
+
+    fn release_and_evict(&mut self, stamp: usize) {
+        if let Some(place) = self.unpin(stamp) {
+            self.evict(place);
         }
+    }
+
+    fn release(&mut self, stamp: usize) {
+        let Some(place) = self.unpin(stamp) else {
+            return;
+        };
         if self.entries[place].key.is_none() {
             return self.evict(place);
         }
@@ -147,7 +167,7 @@ fn counts_are_those_of_a_plain_cache() -> Result<(), Refusal> {
         let mut held: Vec<(CacheHandle<'_, u64, u64>, usize)> = Vec::new();
         for _ in 0..2000 {
             let (key, charge) = (draw(8), 1 + draw(4));
-            match draw(12) {
+            match draw(13) {
                 0..=3 => {
                     let fails = draw(4) == 0;
                     let found = plain.get(key);
@@ -187,6 +207,13 @@ fn counts_are_those_of_a_plain_cache() -> Result<(), Refusal> {
                     cache.set_capacity(plain.capacity);
                 }
                 10 => assert_eq!(cache.contains(&key)?, plain.place(key).is_some()),
+                11 => {
+                    if let Some((handle, stamp)) = held.last() {
+                        let clone = (handle.try_clone()?, *stamp);
+                        plain.pin_again(clone.1);
+                        held.push(clone);
+                    }
+                }
                 _ => {
                     if draw(8) == 0 {
                         let idle = plain.entries.iter().filter(|entry| entry.pins == 0);
@@ -198,8 +225,13 @@ fn counts_are_those_of_a_plain_cache() -> Result<(), Refusal> {
             }
             while held.len() > draw(4) as usize {
                 let (handle, stamp) = held.swap_remove(draw(held.len() as u64) as usize);
-                drop(handle);
-                plain.release(stamp);
+                if draw(8) == 0 {
+                    handle.release_and_evict();
+                    plain.release_and_evict(stamp);
+                } else {
+                    drop(handle);
+                    plain.release(stamp);
+                }
             }
             plain.check(cache.stats());
         }

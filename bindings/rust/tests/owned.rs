@@ -52,6 +52,65 @@ fn a_handle_outlives_every_other_use_of_its_cache() -> Result<(), Refusal> {
 }
 
 #[test]
+fn a_clone_keeps_the_cache_alive() -> Result<(), Refusal> {
+    let dropped = Arc::new(AtomicU64::new(0));
+    let count = || dropped.load(Ordering::SeqCst);
+    let make = |key: &u64| Counted(Arc::clone(&dropped), *key);
+    let cache = Arc::new(unsharded::LruCache::<u64, Counted>::new(10)?);
+    let first = unsharded::LruCache::get_or_init_owned(&cache, &1, 1, make)?;
+    cache.invalidate(&1)?;
+    let second = first.try_clone()?;
+    drop((cache, first));
+    assert_eq!((second.1, count()), (1, 0));
+    let third = thread::spawn(move || second.try_clone()).join();
+    let third = third.expect("it does not panic")?;
+    assert_eq!((third.1, count()), (1, 0));
+    drop(third);
+    assert_eq!(count(), 1);
+
+    let cache = Arc::new(sharded::LruCache::<u64, Counted>::new(1000)?);
+    let clones: Result<Vec<_>, Refusal> = (0..20)
+        .map(|key| sharded::LruCache::get_or_init_owned(&cache, &key, 1, make)?.try_clone())
+        .collect();
+    assert_eq!((cache.pinned_charge(), cache.stats().hits), (20, 0));
+    drop(cache);
+    assert_eq!(count(), 1);
+    let sum: u64 = clones?.iter().map(|handle| handle.1).sum();
+    assert_eq!((sum, count()), (190, 21));
+    Ok(())
+}
+
+#[test]
+fn a_last_release_may_evict() -> Result<(), Refusal> {
+    let dropped = Arc::new(AtomicU64::new(0));
+    let count = || dropped.load(Ordering::SeqCst);
+    let make = |key: &u64| Counted(Arc::clone(&dropped), *key);
+    let cache = Arc::new(unsharded::LruCache::<u64, Counted>::new(10)?);
+    let first = unsharded::LruCache::get_or_init_owned(&cache, &1, 1, make)?;
+    let second = first.try_clone()?;
+    first.release_and_evict();
+    assert_eq!((count(), cache.pinned_charge()), (0, 1));
+    second.release_and_evict();
+    assert_eq!((count(), cache.len()), (1, 0));
+    // Handles give back their part of the cache too.
+    assert_eq!(Arc::strong_count(&cache), 1);
+    let last = unsharded::LruCache::get_or_init_owned(&cache, &2, 1, make)?;
+    drop(cache);
+    last.release_and_evict();
+    assert_eq!((count(), Arc::strong_count(&dropped)), (2, 1));
+
+    let cache = Arc::new(sharded::LruCache::<u64, Counted>::new(1000)?);
+    for key in 0..20 {
+        sharded::LruCache::get_or_init_owned(&cache, &key, 1, make)?.release_and_evict();
+    }
+    assert_eq!(
+        (count(), cache.len(), Arc::strong_count(&cache)),
+        (22, 0, 1)
+    );
+    Ok(())
+}
+
+#[test]
 fn a_failed_making_gives_no_handle() -> Result<(), Refusal> {
     let cache = Arc::new(unsharded::LruCache::<u64, u64>::new(1)?);
     let failed = unsharded::LruCache::get_or_try_init_owned(&cache, &1, 1, |_| Err(7));

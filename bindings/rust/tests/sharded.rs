@@ -153,6 +153,30 @@ fn calls_reach_the_shard_of_their_key() -> Result<(), GetError<()>> {
 }
 
 #[test]
+fn clones_and_releases_reach_the_shard_of_their_value() -> Result<(), Refusal> {
+    let cache = by_itself(100, 4)?;
+    let mut handles = Vec::new();
+    for key in 0..20 {
+        let handle = cache.insert(&key, 1, key)?;
+        handles.push(handle.try_clone()?);
+        cache.invalidate(&key)?;
+        cache.insert(&key, 2, key + 100)?;
+        handle.release_and_evict();
+    }
+    assert_eq!((cache.pinned_charge(), cache.total_charge()), (20, 60));
+    for (key, handle) in handles.into_iter().enumerate() {
+        assert_eq!(*handle, key as u64);
+        handle.release_and_evict();
+    }
+    assert_eq!((cache.pinned_charge(), cache.total_charge()), (0, 40));
+    assert_eq!(cache.stats().evictions, 20);
+    let held = cache.get(&7)?.expect("it was inserted");
+    held.release_and_evict();
+    assert!(!cache.contains(&7)? && cache.contains(&3)?);
+    Ok(())
+}
+
+#[test]
 fn prune_and_set_capacity_reach_every_shard() -> Result<(), Refusal> {
     let cache = by_itself(100, 4)?;
     let held = cache.get_or_init(&7, 1, |_| 0)?;

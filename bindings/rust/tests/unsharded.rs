@@ -7,6 +7,7 @@ use std::num::{NonZeroI8, NonZeroU64};
 use std::os::unix::fs::FileExt;
 use std::panic::{self, AssertUnwindSafe};
 use std::path::{Path, PathBuf};
+use std::ptr;
 use std::sync::atomic::{AtomicU64, Ordering};
 use std::sync::{Arc, Barrier, Mutex};
 use std::thread;
@@ -412,6 +413,81 @@ fn an_invalidate_takes_a_value_away() -> Result<(), Refusal> {
 }
 
 #[test]
+fn a_clone_pins_its_value_too() -> Result<(), Refusal> {
+    let recording = Recording::new()?;
+    let cache = &recording.cache;
+    let first = recording.make(1)?;
+    let before = cache.stats();
+    let second = first.try_clone()?;
+    assert!(ptr::eq(first.value(), second.value()));
+    assert_eq!(cache.stats(), before);
+    drop(first);
+    cache.prune();
+    assert_eq!((second.number, cache.pinned_charge()), (1, 1));
+    // The value is no longer the key's, and the clone of a clone has it all the same.
+    cache.invalidate(&1)?;
+    let dropped = recording.dropped.clone();
+    cache.insert(&1, 1, Recorded { number: 2, dropped })?;
+    let third = second.try_clone()?;
+    drop(second);
+    assert_eq!(recording.dropped(), []);
+    assert_eq!(
+        (third.number, cache.get(&1)?.map(|value| value.number)),
+        (1, Some(2))
+    );
+    drop(third);
+    assert_eq!((recording.dropped(), cache.total_charge()), (vec![1], 1));
+    Ok(())
+}
+
+#[test]
+fn clones_go_to_other_threads() -> Result<(), Refusal> {
+    let cache = LruCache::<u32, u32>::new(10)?;
+    let handle = cache.insert(&1, 1, 7)?;
+    cache.invalidate(&1)?;
+    thread::scope(|scope| {
+        for _ in 0..8 {
+            let clone = handle.try_clone()?;
+            scope.spawn(move || assert_eq!(clone.try_clone().as_deref(), Ok(&*clone)));
+        }
+        Ok::<(), Refusal>(())
+    })?;
+    assert_eq!((*handle, cache.pinned_charge()), (7, 1));
+    drop(handle);
+    assert!(cache.is_empty());
+    Ok(())
+}
+
+#[test]
+fn a_last_release_may_evict() -> Result<(), Refusal> {
+    let recording = Recording::new()?;
+    let cache = &recording.cache;
+    recording.make(1)?;
+    let first = recording.make(2)?;
+    let second = first.try_clone()?;
+    first.release_and_evict();
+    assert_eq!((recording.dropped(), second.number), (vec![], 2));
+    // The other value is older, and stays.
+    second.release_and_evict();
+    assert_eq!((recording.dropped(), cache.total_charge()), (vec![2], 1));
+    assert!(cache.contains(&1)? && !cache.contains(&2)?);
+    assert_eq!(cache.stats().evictions, 1);
+    // Whoever is last decides.
+    let first = recording.make(1)?;
+    let second = first.try_clone()?;
+    first.release_and_evict();
+    drop(second);
+    assert_eq!((recording.dropped(), cache.pinned_charge()), (vec![2], 0));
+    // A value that is no longer its key's.
+    let held = recording.make(1)?;
+    cache.invalidate(&1)?;
+    held.release_and_evict();
+    assert_eq!(recording.dropped(), [2, 1]);
+    assert!(cache.is_empty());
+    Ok(())
+}
+
+#[test]
 fn a_making_that_is_invalidated_is_not_waited_for() -> Result<(), Refusal> {
     let cache = LruCache::<u32, u32>::new(10)?;
     let making = Barrier::new(2);
@@ -553,6 +629,10 @@ fn a_panicking_drop_leaves_no_pin() -> Result<(), Refusal> {
     assert!(cache.get(&3)?.is_some());
     cache.prune();
     assert_eq!(cache.total_charge(), 0);
+    let held = cache.insert(&4, 1, Panics(true))?;
+    let caught = thread::scope(|scope| scope.spawn(|| held.release_and_evict()).join());
+    assert!(caught.is_err());
+    assert_eq!((cache.pinned_charge(), cache.total_charge()), (0, 0));
     Ok(())
 }
 
