@@ -4,6 +4,7 @@ mod both;
 mod capacities;
 mod closing;
 mod contents;
+mod copies;
 mod corners;
 mod drops;
 mod ends;

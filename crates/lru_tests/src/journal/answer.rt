@@ -19,7 +19,8 @@ pub(crate) enum Answer {
     Gives(Told, u64),
     /// A refusal.
     Refused(Refusal),
-    /// To `Ready` and `Release`: a refusal, and the stamp and the value that were returned with it.
+    /// To `Ready`, `Release` and `ReleaseAndEvict`: a refusal, and the stamp and the value that were
+    /// returned with it.
     Back(Refusal, u64, u64),
     /// To `Insert`: a refusal, and the value that was returned with it.
     NotInserted(Refusal, u64),
@@ -94,6 +95,19 @@ impl From<Option<Pin<u64>>> for Answer {
             Some(pin) => Answer::Gives(Told::Found(pin.stamp()), *pin.value()),
             None => Answer::Says(Told::Missed),
         }
+    }
+}
+
+// The answer to a repin by a journal, which returns the value, and by a twin.
+impl From<Arc<u64>> for Answer {
+    fn from(value: Arc<u64>) -> Answer {
+        Answer::Gives(Told::Done, *value)
+    }
+}
+
+impl From<Pin<u64>> for Answer {
+    fn from(pin: Pin<u64>) -> Answer {
+        Answer::Gives(Told::Done, *pin.value())
     }
 }
 

@@ -2,6 +2,7 @@
 ghost use Rattle.std.specs.Prelude.{◌≡◌, ◌<◌};
 
 use crate::journal::answer::{Answer, PINNED};
+use concurrent_lru::lru_core::Refusal;
 use lru_journal::journal::{Identity, Pin, Tally, Told, Twin};
 use lru_support::tables::Call;
 use std::alloc::{AllocError, Global};
@@ -20,7 +21,12 @@ pub(crate) fn ask<R: Wait + Drop, I: Identity>(
         Call::Begin(key, charge) => Ok(begin(cache, tally, key, charge)),
         Call::Ready(stamp, value) => Ok(ready(cache, tally, stamp, Arc::new(alloc, value)?)),
         Call::Release(stamp) => {
-            Ok(release(cache, tally, Pin::new(stamp, Arc::new(alloc, PINNED)?)))
+            let pin = Pin::new(stamp, Arc::new(alloc, PINNED)?);
+            Ok(released(cache.release(tally, pin)))
+        }
+        Call::ReleaseAndEvict(stamp) => {
+            let pin = Pin::new(stamp, Arc::new(alloc, PINNED)?);
+            Ok(released(cache.release_and_evict(tally, pin)))
         }
         Call::Insert(key, charge, value) => {
             Ok(insert(cache, tally, key, charge, Arc::new(alloc, value)?))
@@ -42,6 +48,7 @@ fn ask_with_numbers<R: Wait + Drop, I: Identity>(
         Call::Fail(stamp) => Answer::of(cache.fail(tally, stamp)),
         Call::Get(key) => Answer::of(cache.get(tally, &key)),
         Call::Read(key) => Answer::of(cache.read(tally, &key, |value| *value)),
+        Call::Repin(stamp) => Answer::of(cache.repin(tally, stamp)),
         Call::AdviceEvict(key) => Answer::of(cache.advice_evict(tally, &key)),
         Call::Invalidate(key) => Answer::of(cache.invalidate(tally, &key)),
         Call::Prune => Answer::of(cache.prune(tally)),
@@ -79,14 +86,8 @@ fn ready<R: Wait + Drop, I: Identity>(
     }
 }
 
-fn release<R: Wait + Drop, I: Identity>(
-    cache: &Twin<u64, u64, R, I>,
-    tally: &mut Tally<u64, I>,
-    pin: Pin<u64>,
-) -> Answer
-    ensures { tally.new.parts ≡ tally.old.parts }
-{
-    match cache.release(tally, pin) {
+fn released(told: Result<(), (Refusal, Pin<u64>)>) -> Answer {
+    match told {
         Ok(()) => Answer::Says(Told::Done),
         Err((refusal, pin)) => Answer::Back(refusal, pin.stamp(), *pin.value()),
     }

@@ -13,7 +13,7 @@ use lru_journal::journal::Told::{
 };
 use lru_support::tables::Call::{
     AdviceEvict, Begin, Fail, Get, Insert, Invalidate, Poll, Prune, Read, Ready, Release,
-    SetCapacity, Total,
+    ReleaseAndEvict, Repin, SetCapacity, Total,
 };
 use std::test;
 
@@ -298,4 +298,40 @@ static INSERTS: [Row; 20] = [
 #[test]
 fn an_insert_is_one_record(rt: HostRuntime) -> Result<(), test::Fail> {
     ask_all(&rt, rt.alloc(), 10, &INSERTS)
+}
+
+// A repin of an entry that is being made, held, idle, detached and gone. A release that evicts
+// leaves the entry to its other holders.
+static REPINS: [Row; 14] = [
+    (Begin(1, 1), Says(Make(0)), &[], "begin 1 1 -> make 0"),
+    (Repin(0), Refused(Stale), &[], ""),
+    (Ready(0, 10), Says(Done), &[], "ready 0 -> done"),
+    (Repin(0), Gives(Done, 10), &[], "repin 0 -> done"),
+    (
+        ReleaseAndEvict(0),
+        Says(Done),
+        &[],
+        "release_and_evict 0 -> done",
+    ),
+    (Release(0), Says(Done), &[], "release 0 -> done"),
+    (ReleaseAndEvict(0), Back(Stale, 0, PINNED), &[], ""),
+    (Repin(0), Gives(Done, 10), &[], "repin 0 -> done"),
+    (Invalidate(1), Says(Done), &[], "invalidate 1 -> done"),
+    (Repin(0), Gives(Done, 10), &[], "repin 0 -> done"),
+    (Release(0), Says(Done), &[], "release 0 -> done"),
+    (
+        ReleaseAndEvict(0),
+        Says(Done),
+        &[(0, 1)],
+        "release_and_evict 0 -> done",
+    ),
+    (Repin(0), Refused(Stale), &[], ""),
+    (Total, Says(Sum(0)), &[], "total -> total 0"),
+];
+
+#[test]
+fn a_repin_and_a_release_that_evicts_are_one_record_each(
+    rt: HostRuntime,
+) -> Result<(), test::Fail> {
+    ask_all(&rt, rt.alloc(), 10, &REPINS)
 }

@@ -76,7 +76,8 @@ pub(crate) fn ask(
         ))),
         Call::Insert(key, charge, value) => insert(alloc, journal, key, charge, value),
         Call::Begin(key, charge) => Ok(begin(journal, key, charge)),
-        Call::Release(stamp) => Ok(release(journal, stamp)),
+        Call::Release(stamp) => Ok(released(journal.release(stamp), stamp)),
+        Call::ReleaseAndEvict(stamp) => Ok(released(journal.release_and_evict(stamp), stamp)),
         Call::AdviceEvict(key) => Ok(Heard::evicts(journal.advice_evict(&key))),
         Call::Invalidate(key) => Ok(Heard::evicts(journal.invalidate(&key))),
         Call::Prune => Ok(Heard::evicts(journal.prune())),
@@ -92,6 +93,7 @@ fn ask_in_place(journal: &mut Journal<u64, u64>, call: Call) -> Answer {
         Call::Fail(stamp) => Answer::of(journal.fail(stamp)),
         Call::Get(key) => Answer::of(journal.get(&key)),
         Call::Read(key) => Answer::of(journal.read(&key, |value| *value)),
+        Call::Repin(stamp) => Answer::of(journal.repin(stamp)),
         Call::Total => Answer::of(journal.total()),
         _ => Answer::Unmade,
     }
@@ -115,8 +117,8 @@ fn ready(journal: &mut Journal<u64, u64>, stamp: u64, value: Arc<u64>) -> Answer
 }
 
 // A journal is passed only the stamp: the value stays with the holder of the pin.
-fn release(journal: &mut Journal<u64, u64>, stamp: u64) -> Heard {
-    match journal.release(stamp) {
+fn released(told: Result<Evicted<u64, u64>, Refusal>, stamp: u64) -> Heard {
+    match told {
         Ok(evicted) => Heard::of(Answer::Says(Told::Done), evicted),
         Err(refusal) => Heard::from(Answer::Back(refusal, stamp, PINNED)),
     }

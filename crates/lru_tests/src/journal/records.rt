@@ -17,6 +17,8 @@ fn each_kind_of_record_has_its_text(rt: HostRuntime) -> Result<(), Fail> {
         (Recorded::Get(8), Told::Found(5)),
         (Recorded::Get(9), Told::Missed),
         (Recorded::Release(6), Told::Done),
+        (Recorded::ReleaseAndEvict(6), Told::Done),
+        (Recorded::Repin(6), Told::Done),
         (Recorded::AdviceEvict(8), Told::Done),
         (Recorded::Invalidate(8), Told::Done),
         (Recorded::Insert(8, 18446744073709551615), Told::Inserted(7)),
@@ -39,6 +41,8 @@ fn each_kind_of_record_has_its_text(rt: HostRuntime) -> Result<(), Fail> {
         get 8 -> some 5\n\
         get 9 -> none\n\
         release 6 -> done\n\
+        release_and_evict 6 -> done\n\
+        repin 6 -> done\n\
         advice 8 -> done\n\
         invalidate 8 -> done\n\
         insert 8 18446744073709551615 -> inserted 7\n\

@@ -1,11 +1,12 @@
 //! The cache beside the plain one: each call is made on both, whose answers are compared. It is
-//! also made on a second cache, where each get lends the value.
+//! also made on a second cache, which copies its values.
 ghost use Rattle.std.specs.Prelude.{◌<◌};
 
+use crate::state::copies::Copies;
 use crate::state::plain::Plain;
 use concurrent_lru::lru_core::State;
-use lru_support::tables::{Answers, Call, text_of};
-use std::alloc::{AllocError, Global};
+use lru_support::tables::{Answers, Call};
+use std::alloc::Global;
 use std::fmt::Debug;
 use std::process::Abort;
 
@@ -17,8 +18,7 @@ const SEED: u64 = 0x0123_4567_89ab_cdef;
 pub(crate) struct Both {
     alloc: Global,
     state: State<u64, u64>,
-    // Its gets are made by `get_with`.
-    lending: State<u64, u64>,
+    copies: Copies,
     /// The plain one, which also has its next stamp and its last pin.
     pub(crate) plain: Plain,
 }
@@ -36,7 +36,7 @@ impl Both {
         Both {
             alloc,
             state: State::with_limits_and_seed(alloc, capacity, first_stamp, most_pins, SEED),
-            lending: State::with_limits_and_seed(alloc, capacity, first_stamp, most_pins, SEED),
+            copies: Copies::with_limits(alloc, capacity, first_stamp, most_pins, SEED),
             plain: Plain::with_limits(alloc, capacity, first_stamp, most_pins),
         }
     }
@@ -47,15 +47,11 @@ impl Both {
         let answer = self.state.answer(self.alloc, call).expect(rt, "memory");
         let wanted = self.plain.answer(self.alloc, call).expect(rt, "memory");
         assert_eq!(rt; answer, wanted, "at {place:?}, {call:?}");
-        let lent = self.answer_lending(call).expect(rt, "memory");
-        assert_eq!(rt; lent, wanted, "with values lent, at {place:?}, {call:?}");
-    }
-
-    // Makes the call on the cache where a get lends the value, and returns the text of its result.
-    fn answer_lending(&mut self, call: Call) -> Result<String, AllocError> {
-        match call {
-            Call::Get(key) => text_of(self.alloc, &self.lending.get_with(&key, |value| *value)),
-            _ => self.lending.answer(self.alloc, call),
-        }
+        let copied = self.copies.answer(self.alloc, call).expect(rt, "memory");
+        assert_eq!(rt;
+            copied,
+            wanted,
+            "with copied values, at {place:?}, {call:?}"
+        );
     }
 }

@@ -323,7 +323,8 @@ impl Plain {
         Ok(Some((stamp, value)))
     }
 
-    fn release(&mut self, stamp: u64) -> Result<Evicted, Refusal> {
+    // Removes a pin from a ready entry, and returns the entry.
+    fn unpin(&mut self, stamp: u64) -> Result<Entry, Refusal> {
         let mut entry = self.of_stamp(stamp).ok_or(Refusal::Stale)?;
         if entry.pins == 0 || !matches!(entry.phase, Phase::Ready(_)) {
             return Err(Refusal::Stale);
@@ -331,16 +332,41 @@ impl Plain {
         entry.pins -= 1;
         entry.rested = self.releases;
         self.releases = self.releases.saturating_add(1);
+        self.put(entry);
+        Ok(entry)
+    }
+
+    fn release(&mut self, stamp: u64) -> Result<Evicted, Refusal> {
+        let entry = self.unpin(stamp)?;
         if entry.pins == 0 && entry.detached {
             return Ok(self.evict_alone(entry));
         }
-        self.put(entry);
         let capacity = if entry.pins == 0 {
             self.capacity
         } else {
             u64::MAX
         };
         Ok(self.settle(capacity))
+    }
+
+    fn release_and_evict(&mut self, stamp: u64) -> Result<Evicted, Refusal> {
+        let entry = self.unpin(stamp)?;
+        if entry.pins > 0 {
+            return Ok(self.settle(u64::MAX));
+        }
+        Ok(self.evict_alone(entry))
+    }
+
+    fn repin(&mut self, stamp: u64) -> Result<u64, Refusal> {
+        let entry = self.of_stamp(stamp).ok_or(Refusal::Stale)?;
+        let Phase::Ready(value) = entry.phase else {
+            return Err(Refusal::Stale);
+        };
+        if entry.pins == self.most_pins {
+            return Err(Refusal::Overflow);
+        }
+        self.pin(entry);
+        Ok(value)
     }
 
     fn advice_evict(&mut self, key: u64) -> Evicted {
@@ -408,6 +434,8 @@ impl Answers<Call> for Plain {
             Call::Get(key) => text_of(alloc, &self.get(key)),
             Call::Read(key) => text_of(alloc, &self.read(key)),
             Call::Release(stamp) => text_of(alloc, &self.release(stamp)),
+            Call::ReleaseAndEvict(stamp) => text_of(alloc, &self.release_and_evict(stamp)),
+            Call::Repin(stamp) => text_of(alloc, &self.repin(stamp)),
             Call::AdviceEvict(key) => text_of(alloc, &self.advice_evict(key)),
             Call::Invalidate(key) => text_of(alloc, &self.invalidate(key)),
             Call::Insert(key, charge, value) => text_of(alloc, &self.insert(key, charge, value)),

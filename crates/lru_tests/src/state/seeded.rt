@@ -10,8 +10,9 @@ use std::alloc::Global;
 use std::process::Abort;
 
 // How many kinds of calls are drawn: all of them, or only the first ones, in which no key is
-// invalidated, no value inserted or read without a pin, and the capacity stays.
-const KINDS: u64 = 14;
+// invalidated, no value inserted or read without a pin, no entry pinned again by its stamp or evicted
+// with its last pin, and the capacity stays.
+const KINDS: u64 = 16;
 
 const FIRST_KINDS: u64 = 9;
 
@@ -39,7 +40,9 @@ fn draw(generator: &mut Xoshiro256PlusPlus, kinds: u64, next: u64) -> Call
         10 => Call::Invalidate(key),
         11 => Call::Insert(key, 1 + c % 4, b),
         12 => Call::Read(key),
-        _ => Call::SetCapacity(8 + c % 5),
+        13 => Call::SetCapacity(8 + c % 5),
+        14 => Call::ReleaseAndEvict(stamp),
+        _ => Call::Repin(stamp),
     }
 }
 

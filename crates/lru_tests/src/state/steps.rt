@@ -179,3 +179,55 @@ fn runs_inserts_and_reads(rt: HostRuntime) -> Result<(), test::Fail> {
          NotInserted(Overflow, 30), Released([]), Read(Some((4, 20))), Total(1)])",
     )
 }
+
+// An entry is repinned while it is being made, held, idle and detached, and once it has left.
+#[test]
+fn runs_repins_and_releases_that_evict(rt: HostRuntime) -> Result<(), test::Fail> {
+    let alloc = rt.alloc();
+    let steps = vec![in alloc;
+        Step::Begin(1, 1),
+        Step::Repin(0),
+        Step::Ready(0, Arc::new(alloc, 10)?),
+        Step::Repin(0),
+        Step::ReleaseAndEvict(0),
+        Step::Release(0),
+        Step::ReleaseAndEvict(0),
+        Step::Repin(0),
+        Step::Invalidate(1),
+        Step::Repin(0),
+        Step::Release(0),
+        Step::ReleaseAndEvict(0),
+        Step::Repin(0),
+        Step::Insert(2, 1, Arc::new(alloc, 20)?),
+        Step::ReleaseAndEvict(1),
+        Step::Total,
+    ]?;
+    let mut state: State<u64, u64> = State::new(alloc, 4);
+    says(
+        alloc,
+        &state.run(steps),
+        "Ok([Begun(Make(0), []), Refused(Stale), Done, Repinned(10), Released([]), Released([]), \
+         Refused(Stale), Repinned(10), Gone([]), Repinned(10), Released([]), \
+         Released([Gone { stamp: 0, key: 1, charge: 1, value: 10 }]), Refused(Stale), \
+         Inserted(Inserted { stamp: 1, replaced: [], evicted: [] }), \
+         Released([Gone { stamp: 1, key: 2, charge: 1, value: 20 }]), Total(0)])",
+    )
+}
+
+#[test]
+fn a_full_entry_is_not_repinned(rt: HostRuntime) -> Result<(), test::Fail> {
+    let alloc = rt.alloc();
+    let steps = vec![in alloc;
+        Step::Insert(1, 1, Arc::new(alloc, 10)?),
+        Step::Repin(0),
+        Step::Release(0),
+        Step::Repin(0),
+    ]?;
+    let mut state: State<u64, u64> = State::with_limits(alloc, 4, 0, 1);
+    says(
+        alloc,
+        &state.run(steps),
+        "Ok([Inserted(Inserted { stamp: 0, replaced: [], evicted: [] }), Refused(Overflow), \
+         Released([]), Repinned(10)])",
+    )
+}

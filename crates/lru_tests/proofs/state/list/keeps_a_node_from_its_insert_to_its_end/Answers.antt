@@ -7,16 +7,17 @@ use Rattle.concurrent_lru.specs.NodeTable.{Entry, update_at}
 use Rattle.concurrent_lru.proofs.Entries.NodesOfSetAndAdd.{inserted_at}
 use Rattle.lru_tests.proofs.state.list.keeps_a_node_from_its_insert_to_its_end.Goals as goal
 
--- what was inserted is there
-inserted : (m n : FinMap nat_cmp (Entry ℕ ℕ)) (p : ℕ) (e : Entry ℕ ℕ) → n ≡ insert m p e → IsSome (get n p)
-inserted m n p e is = ap is_some (ap (λ k. get k p) is ∙ inserted_at m p e)
+module _ {V : Type 0} where
+  -- what was inserted is there
+  inserted : (m n : FinMap nat_cmp (Entry ℕ V)) (p : ℕ) (e : Entry ℕ V) → n ≡ insert m p e → IsSome (get n p)
+  inserted m n p e is = ap is_some (ap (λ k. get k p) is ∙ inserted_at m p e)
 
--- a node whose entry is changed stays
-changed : (m n : FinMap nat_cmp (Entry ℕ ℕ)) (f : Entry ℕ ℕ → Entry ℕ ℕ) (p : ℕ) → n ≡ update_at f m p → IsSome (get m p) → IsSome (get n p)
-changed m n f p is here = subst (λ k. IsSome (get k p)) (sym is) (elim (get m p) as (λ o. get m p ≡ o → IsSome (get (option_map_or (λ e. insert m p (f e)) o m) p)) [
-  | None ↦ λ _. here
-  | Some e ↦ λ _. ap is_some (inserted_at m p (f e))
-] refl)
+  -- a node whose entry is changed stays
+  changed : (m n : FinMap nat_cmp (Entry ℕ V)) (f : Entry ℕ V → Entry ℕ V) (p : ℕ) → n ≡ update_at f m p → IsSome (get m p) → IsSome (get n p)
+  changed m n f p is here = subst (λ k. IsSome (get k p)) (sym is) (elim (get m p) as (λ o. get m p ≡ o → IsSome (get (option_map_or (λ e. insert m p (f e)) o m) p)) [
+    | None ↦ λ _. here
+    | Some e ↦ λ _. ap is_some (inserted_at m p (f e))
+  ] refl)
 
 pub insert_reserved-place-requires-clause-fresh : goal.insert_reserved-place-requires-clause-fresh
 insert_reserved-place-requires-clause-fresh g c p e at _ =
