@@ -47,6 +47,17 @@ fn each_owned_handle_gives_its_pin_back_at_its_own_shard(rt: HostRuntime) {
 }
 
 #[test]
+fn a_clone_of_an_owned_handle_has_a_pin_of_its_own(rt: HostRuntime) {
+    let shared = keeps_nothing(rt.alloc(), &rt).expect(&rt, "memory");
+    let first = CacheOwner::get_or_init_owned(&shared, 1, 3, 5).expect(&rt, "memory");
+    let second = first.try_clone().expect(&rt, "memory");
+    drop(first);
+    assert_eq!(rt; (*second, shared.contains(&1)), (5, true));
+    drop(second);
+    assert!(rt; shared.is_empty());
+}
+
+#[test]
 fn an_owned_init_may_fail(rt: HostRuntime) {
     let shared = keeps_nothing(rt.alloc(), &rt).expect(&rt, "memory");
     assert_eq!(rt; fails_once(&shared), (Some(9), 0, Some(4)));

@@ -23,6 +23,21 @@ fn a_forgotten_handle_keeps_its_pin(rt: HostRuntime) -> Result<(), test::Fail> {
     plays(&rt, rt.alloc(), 1, &FORGOTTEN)
 }
 
+// Each clone has a pin of its own, even one that is made once the key was invalidated.
+#[test]
+fn a_handle_is_cloned(rt: HostRuntime) {
+    let cache: LruCache<u64, u64, &HostRuntime> = LruCache::new(rt.alloc(), &rt, 0);
+    let first = cache.get_or_init(1, 3, |_| 5).expect(&rt, "memory");
+    let second = first.try_clone().expect(&rt, "memory");
+    cache.invalidate(&1);
+    drop(first);
+    let third = second.try_clone().expect(&rt, "memory");
+    drop(second);
+    assert_eq!(rt; (*third, cache.total_charge()), (5, 3));
+    drop(third);
+    assert_eq!(rt; cache.total_charge(), 0);
+}
+
 const PRINTED: [(ThreadedCall, &str); 5] = [
     (Show, "{}"),
     (Init(1, 1, 2, AtOnce), "Made(1, 2)"),

@@ -27,6 +27,17 @@ fn an_entry_stays_until_its_owned_handles_are_dropped(rt: HostRuntime) {
 }
 
 #[test]
+fn a_clone_of_an_owned_handle_has_a_pin_of_its_own(rt: HostRuntime) {
+    let shared = keeps_nothing(rt.alloc(), &rt).expect(&rt, "memory");
+    let first = CacheOwner::get_or_init_owned(&shared, 1, 3, 5).expect(&rt, "memory");
+    let second = first.try_clone().expect(&rt, "memory");
+    drop(first);
+    assert_eq!(rt; (*second, shared.contains(&1)), (5, true));
+    drop(second);
+    assert!(rt; shared.is_empty());
+}
+
+#[test]
 fn an_owned_init_may_fail(rt: HostRuntime) {
     let cache: LruCache<u64, u64, &HostRuntime> = LruCache::new(rt.alloc(), &rt, 10);
     let shared = Arc::new(rt.alloc(), cache).expect(&rt, "memory");
