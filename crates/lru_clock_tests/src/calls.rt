@@ -6,6 +6,7 @@ use lru_clock::clock::{Cache, Counts, Fit, GetError, Refusal};
 use lru_support::hashers::ByOwnNumber;
 use std::alloc::Global;
 use std::hash::RandomState;
+use std::process::Abort;
 use std::sync::Wait;
 
 type Numbers<R> = Cache<u64, u64, R, ByOwnNumber>;
@@ -34,19 +35,35 @@ fn found<R: Wait>(cache: &Numbers<R>, key: u64) -> Result<Option<u64>, Refusal> 
     }
 }
 
+// The bodies of the larger tests have a cache by reference, and hold few handles. Where a check
+// fails, all that a function owns is dropped, and that is proved for each check.
 #[test]
 fn a_value_is_made_and_found(rt: HostRuntime) {
     let cache = small(&rt, rt.alloc(), 10).expect(&rt, "memory");
+    makes_and_finds(&rt, &cache);
+    counts_what_it_made(&rt, &cache);
+    assert_eq!(rt;
+        format!(in rt.alloc(); "{cache:?}")
+            .expect(&rt, "memory")
+            .as_str(),
+        "Cache { capacity: 10, total_charge: 3, len: 1 }"
+    );
+}
+
+fn makes_and_finds<R: Wait>(rt: &impl Abort, cache: &Numbers<R>) {
     assert_eq!(rt; (cache.is_empty(), cache.capacity()), (true, 10));
-    assert_eq!(rt; found(&cache, 7), Ok(None));
-    assert_eq!(rt; made(&cache, 7, 3), Ok(70));
-    assert_eq!(rt; found(&cache, 7), Ok(Some(70)));
+    assert_eq!(rt; found(cache, 7), Ok(None));
+    assert_eq!(rt; made(cache, 7, 3), Ok(70));
+    assert_eq!(rt; found(cache, 7), Ok(Some(70)));
     assert_eq!(rt; cache.read(&7, |value| value.wrapping_add(1)), Ok(Some(71)));
     assert_eq!(rt; (cache.contains(&7), cache.contains(&8)), (true, false));
     assert_eq!(rt;
         (cache.len(), cache.is_empty(), cache.total_charge()),
         (1, false, 3)
     );
+}
+
+fn counts_what_it_made<R: Wait>(rt: &impl Abort, cache: &Numbers<R>) {
     let failed = cache.get_or_try_init(8, 1, |_| -> Result<u64, u8> { Err(9) });
     assert!(rt; matches!(&failed, Err(GetError::Init(9))));
     drop(failed);
@@ -58,12 +75,6 @@ fn a_value_is_made_and_found(rt: HostRuntime) {
     };
     assert_eq!(rt; (cache.counts(), cache.reset_counts()), (counts, counts));
     assert_eq!(rt; cache.counts(), Counts::default());
-    assert_eq!(rt;
-        format!(in rt.alloc(); "{cache:?}")
-            .expect(&rt, "memory")
-            .as_str(),
-        "Cache { capacity: 10, total_charge: 3, len: 1 }"
-    );
 }
 
 #[test]
@@ -73,24 +84,31 @@ fn entries_leave(rt: HostRuntime) {
     for key in 0..4u64 {
         assert_eq!(rt; made(&cache, key, 2), Ok(key.wrapping_mul(10)));
     }
-    let old = cache.insert(&1, 2, 11).expect(&rt, "memory");
+    held_entries_leave(&rt, &cache);
+    idle_entries_leave(&rt, &cache);
+}
+
+// The held value stays for its holder, and its charge with it.
+fn held_entries_leave<R: Wait>(rt: &impl Abort, cache: &Numbers<R>) {
+    let old = cache.insert(&1, 2, 11).expect(rt, "memory");
     assert_eq!(rt; (*old, cache.len(), cache.pinned_charge()), (11, 4, 2));
-    // The held value stays for its holder, and its charge with it.
-    let new = cache.insert(&1, 1, 12).expect(&rt, "memory");
+    let new = cache.insert(&1, 1, 12).expect(rt, "memory");
     assert_eq!(rt;
         (*old, *new, cache.len(), cache.total_charge()),
         (11, 12, 5, 9)
     );
     drop(old);
     assert_eq!(rt;
-        (cache.len(), cache.total_charge(), found(&cache, 1)),
+        (cache.len(), cache.total_charge(), found(cache, 1)),
         (4, 7, Ok(Some(12)))
     );
     cache.invalidate(&1);
-    assert_eq!(rt; (found(&cache, 1), cache.len(), *new), (Ok(None), 4, 12));
-    drop(new);
+    assert_eq!(rt; (found(cache, 1), cache.len(), *new), (Ok(None), 4, 12));
+}
+
+fn idle_entries_leave<R: Wait>(rt: &impl Abort, cache: &Numbers<R>) {
     cache.advice_evict(0);
-    assert_eq!(rt; (found(&cache, 0), cache.len()), (Ok(None), 2));
+    assert_eq!(rt; (found(cache, 0), cache.len()), (Ok(None), 2));
     cache.set_capacity(2);
     assert_eq!(rt; (cache.len(), cache.capacity()), (1, 2));
     cache.prune();
@@ -112,21 +130,29 @@ fn a_release_settles_what_was_pinned(rt: HostRuntime) {
 #[test]
 fn numbers_at_their_maximum_are_refused(rt: HostRuntime) {
     let cache = small(&rt, rt.alloc(), u64::MAX).expect(&rt, "memory");
-    let first = cache.insert(&1, 2, 11).expect(&rt, "memory");
-    let second = cache.find(&1).expect(&rt, "memory");
-    let third = cache.find(&1).expect(&rt, "memory");
+    hold_three_times(&rt, &cache);
+    assert_eq!(rt; (cache.len(), cache.total_charge()), (2, 2));
+}
+
+fn hold_three_times<R: Wait>(rt: &impl Abort, cache: &Numbers<R>) {
+    let first = cache.insert(&1, 2, 11).expect(rt, "memory");
+    let second = cache.find(&1).expect(rt, "memory");
+    let third = cache.find(&1).expect(rt, "memory");
+    refuses_more(rt, cache);
+    drop((first, second, third));
+}
+
+fn refuses_more<R: Wait>(rt: &impl Abort, cache: &Numbers<R>) {
     // No fourth pin, and no second entry.
-    assert_eq!(rt; found(&cache, 1), Err(Refusal::Overflow));
-    assert_eq!(rt; made(&cache, 1, 1), Err(Refusal::Overflow));
+    assert_eq!(rt; found(cache, 1), Err(Refusal::Overflow));
+    assert_eq!(rt; made(cache, 1, 1), Err(Refusal::Overflow));
     assert_eq!(rt; (cache.contains(&1), cache.len()), (true, 1));
     // Another key with the same tag is found.
-    assert_eq!(rt; made(&cache, 2, 1), Ok(20));
-    assert_eq!(rt; made(&cache, 3, u64::MAX), Err(Refusal::Overflow));
+    assert_eq!(rt; made(cache, 2, 1), Ok(20));
+    assert_eq!(rt; made(cache, 3, u64::MAX), Err(Refusal::Overflow));
     assert_eq!(rt; (cache.len(), cache.total_charge()), (2, 3));
     cache.invalidate(&1);
-    assert_eq!(rt; made(&cache, 1, 1), Ok(10));
-    drop((first, second, third));
-    assert_eq!(rt; (cache.len(), cache.total_charge()), (2, 2));
+    assert_eq!(rt; made(cache, 1, 1), Ok(10));
 }
 
 #[test]
