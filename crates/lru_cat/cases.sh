@@ -66,6 +66,20 @@ ends 1 "" "" "lru_cat 2> /dev/full"
 ends 2 "" "lru_cat: an argument is not valid UTF-8"$'\n' "lru_cat \$'\xff'"
 ends 2 "" "lru_cat: an argument is not valid UTF-8"$'\n' "lru_cat some \$'\xff'"
 usage="usage: lru_cat FILE [PAGES]"$'\n'
+help="$usage
+Prints a file through a cache of its pages. The file is read in blocks of 512 bytes, and printed
+in pieces of 128 bytes, each of which asks the cache for its block. Standard error tells how many
+blocks were read and how many pieces were answered from memory.
+
+  FILE    a file; one whose name is --help is given as ./--help
+  PAGES   how many blocks the cache holds, in digits: 16 unless it is given
+"
+ends 0 "$help" "" "lru_cat --help"
+ends 2 "" "$usage" "lru_cat --help 2 3"
+ends_at_failed_writes 1 "lru_cat: $too_large" "lru_cat --help"
+printf 'a file' > --help
+ends 0 "a file" "1 blocks read, 0 answers from memory"$'\n' "lru_cat ./--help"
+ends 0 "a file" "1 blocks read, 0 answers from memory"$'\n' "lru_cat --help 2"
 ends 2 "" "$usage" "lru_cat"
 for pages in "''" +3 -1 "' 3'" x many 18446744073709551616 "2 3"; do
     ends 2 "" "$usage" "lru_cat some $pages"

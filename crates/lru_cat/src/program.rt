@@ -10,13 +10,25 @@ use std::sync::Wait;
 // The default number of pages.
 const PAGES: u64 = 16;
 
+// What `--help` writes.
+const HELP: &str = "usage: lru_cat FILE [PAGES]
+
+Prints a file through a cache of its pages. The file is read in blocks of 512 bytes, and printed
+in pieces of 128 bytes, each of which asks the cache for its block. Standard error tells how many
+blocks were read and how many pieces were answered from memory.
+
+  FILE    a file; one whose name is --help is given as ./--help
+  PAGES   how many blocks the cache holds, in digits: 16 unless it is given
+";
+
 /// Runs the program on its arguments and returns the exit status.
 ///
 /// A path writes the file to `out`, through a cache of 16 pages, or of the number given after the
 /// path in digits. How many blocks were read and how many pages came from the cache is then written
-/// to `err`. The status is 0. Any other arguments write the usage line to `err`, with status 2. A
-/// file that cannot be opened or read, whose path is written to `err`, a write that fails, and a
-/// lack of memory end with status 1; what was read before has then been written.
+/// to `err`. `--help` alone writes to `out` what the arguments mean. The status is 0 for both. Any
+/// other arguments write the usage line to `err`, with status 2. A file that cannot be opened or
+/// read, whose path is written to `err`, a write that fails, and a lack of memory end with status
+/// 1; what was read before has then been written.
 pub fn program<R: Wait, F: Files<File = File>, O: Write, E: Write>(
     rt: &R,
     files: &F,
@@ -40,6 +52,10 @@ fn run<'a, R: Wait, F: Files<File = File>, O: Write, E: Write>(
     err: &mut E,
 ) -> Result<(), Failure<'a>> {
     let (path, pages) = match words {
+        [word] if word.as_str() == "--help" => {
+            out.write_all(HELP.as_bytes())?;
+            return Ok(());
+        }
         [path] => (path, PAGES),
         [path, pages] => (path, number(pages.as_str())?),
         _ => return Err(Failure::Usage),
