@@ -95,7 +95,9 @@ void Fill(const std::string& path) {
     const std::uint64_t n = i * 7919 % kKeys;
     Check(db->Put(leveldb::WriteOptions(), KeyOf(n), ValueOf(n)));
   }
-  db->CompactRange(nullptr, nullptr);
+  // The first call compacts the levels that have files when it begins. The last writes may be
+  // flushed to one below these only then, and LevelDB would compact that while it is read.
+  for (int turn = 0; turn < 2; turn++) db->CompactRange(nullptr, nullptr);
 }
 
 // The key that a read asks for. Nine of ten are from a tenth of the keys, and one in fifty does not
