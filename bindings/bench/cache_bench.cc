@@ -78,14 +78,14 @@ class Calls {
 
  public:
   explicit Calls(std::uint64_t capacity) {
-    if (C::make_chain(&gone_) != LRU_DONE || C::make(capacity, 0, &cache_) != LRU_DONE)
+    if (lru_chain_new(&gone_) != LRU_DONE || C::make(capacity, 0, &cache_) != LRU_DONE)
       std::exit(2);
   }
 
   ~Calls() {
-    C::free(&cache_, &gone_);
+    lru_cache_free(&cache_, &gone_);
     Pop();
-    C::free_chain(&gone_);
+    lru_chain_free(&gone_);
   }
 
   bool Hit(lru::Words block) {
@@ -104,7 +104,7 @@ class Calls {
     Pop();
     if (told.code != LRU_MAKE) return false;
     mutex_.lock();
-    C::ready(&cache_, told.pin, 0);
+    lru_cache_ready(&cache_, told.pin, 0);
     mutex_.unlock();
     Release(told.pin);
     return true;
@@ -121,7 +121,7 @@ class Calls {
 
   void Release(lru_pin pin) {
     mutex_.lock();
-    C::release(&cache_, pin, &gone_);
+    lru_cache_release(&cache_, pin, &gone_);
     mutex_.unlock();
     Pop();
   }
@@ -129,13 +129,13 @@ class Calls {
   // Without the mutex, as the chain is this caller's own.
   void Pop() {
     lru_gone entry;
-    while (C::pop(&gone_, &entry)) {
+    while (lru_chain_pop(&gone_, &entry)) {
     }
   }
 
   std::mutex mutex_;
-  typename C::Cache cache_ = {};
-  typename C::Chain gone_ = {};
+  lru_cache cache_ = {};
+  lru_chain gone_ = {};
 };
 
 // The classes of lru.hpp, whose values are objects on the heap.

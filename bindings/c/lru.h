@@ -15,10 +15,13 @@
  * They have a pin already, and ask again with `poll` after that `ready` or `fail`. The library does
  * not wake them: threads that wait need, for example, a condition variable.
  *
- * There are two families of functions, which differ only in their keys:
+ * The keys of a cache are of one of two kinds, which it is opened with. The calls that take a key
+ * are there for each kind; all others are the same:
  *
  *     lru_bytes_*   keys are byte strings; the cache keeps its own copies
  *     lru_words_*   keys are 16 bytes, passed as two words, and faster to look up
+ *     lru_cache_*   calls on a cache that take no key
+ *     lru_chain_*   calls on a chain, which takes entries of any cache
  *
  * The library is proved: each call is one step of the cache that docs/DEFINITIONS.md in the sources
  * defines, or is refused with a code and changes nothing. The library takes no lock and starts no
@@ -29,9 +32,9 @@
  *
  *  1. There is one call at a time on each handle, from whatever thread. If threads share a cache, a
  *     mutex around each call is enough. Caches and chains may move between threads.
- *  2. A handle (lru_bytes, lru_words, lru_bytes_evicted, lru_words_evicted) is all zeros before its
- *     `new`, for example by `= {0}`. Its members are never read, written or compared. If a handle
- *     is copied, only one of the two copies is used from then on.
+ *  2. A handle (lru_cache, lru_chain) is all zeros before its `new`, for example by `= {0}`. Its
+ *     members are never read, written or compared. If a handle is copied, only one of the two
+ *     copies is used from then on.
  *  3. Pointers to handles and to results are not null. They point to whole objects that do not
  *     overlap: the cache, the chain, the key and the result of a call are four different objects.
  *  4. A key is `length` readable bytes, which nobody writes during the call. A buffer is `room`
@@ -50,8 +53,8 @@
  *
  * What is cheap to check is checked, and answered with a code: a charge of 0, a limit of 0 pins, a
  * null key with a length, a handle that is not open (it was never opened, its opening was refused,
- * or it was freed), a handle that is open already, a chain that still holds entries, a buffer that
- * is too small, and a pin of no entry in the right state.
+ * or it was freed), a handle that is open already, a key of the other kind, a chain that still
+ * holds entries, a buffer that is too small, and a pin of no entry in the right state.
  *
  * SEEDS. A cache hashes its keys with the `seed` that it is opened with. Whoever knows the seed can
  * choose keys whose hashes are all equal. Each look-up of such a key then visits all of them, while
@@ -117,7 +120,8 @@ enum {
     LRU_CLOSED = 14,    /* the cache or the chain is not open */
     LRU_OPEN = 15,      /* new: the handle is open already */
     LRU_NOT_EMPTY = 16, /* the chain still holds entries: pop them first */
-    LRU_NO_ROOM = 17    /* key_of: the buffer is too small; the key's length is told as the value */
+    LRU_NO_ROOM = 17,   /* key_of: the buffer is too small; the key's length is told as the value */
+    LRU_OTHER_KEYS = 19 /* lru_bytes_* or lru_words_*: the cache has keys of the other kind */
 };
 
 /* Names an entry that the caller has pinned. `begin`, `get`, `poll`, `repin` and `insert` tell it,
@@ -169,58 +173,42 @@ typedef struct lru_stats {
     uint64_t insertions;    /* entries that were added, by begin or insert */
     uint64_t evictions;     /* entries that were put into a chain, by any call except free */
     uint64_t removals;      /* entries that were removed because their maker failed: LRU_REMOVED */
-    uint64_t entries;       /* as lru_.._len tells it */
-    uint64_t charge;        /* as lru_.._total tells it */
-    uint64_t pinned_charge; /* as lru_.._pinned_charge tells it */
-    uint64_t capacity;      /* as lru_.._capacity tells it */
+    uint64_t entries;       /* as lru_cache_len tells it */
+    uint64_t charge;        /* as lru_cache_total tells it */
+    uint64_t pinned_charge; /* as lru_cache_pinned_charge tells it */
+    uint64_t capacity;      /* as lru_cache_capacity tells it */
 } lru_stats;
 
 /* Handles: a cache, and a chain of entries that left one. A handle of all zeros is not open. Only
  * the library uses the members. */
-typedef struct lru_bytes {
+typedef struct lru_cache {
     void *at;
     uint64_t open;
-} lru_bytes;
+} lru_cache;
 
-typedef struct lru_bytes_evicted {
+typedef struct lru_chain {
     void *at;
     uint64_t open;
-} lru_bytes_evicted;
+} lru_chain;
 
-typedef struct lru_words {
-    void *at;
-    uint64_t open;
-} lru_words;
+/* -------------------------------------------------------------------------------- keys of bytes */
 
-typedef struct lru_words_evicted {
-    void *at;
-    uint64_t open;
-} lru_words_evicted;
-
-/* ------------------------------------------------------------------ keys of bytes: the cache */
+/* A key is `length` bytes. On a cache whose keys are two words, each of these calls but new and
+ * new_with_limits answers LRU_OTHER_KEYS. */
 
 /* Opens an empty cache that evicts idle entries while the total of charges is above `capacity`. Its
  * first entry gets the stamp 0, and an entry may have up to 2^32 - 1 pins. Keys are hashed with
- * `seed` (SEEDS, above). The caller frees the cache with lru_bytes_free.
+ * `seed` (SEEDS, above). The caller frees the cache with lru_cache_free.
  *
  * Allocates. LRU_DONE; LRU_MEMORY; LRU_OPEN. */
-lru_code lru_bytes_new(uint64_t capacity, uint64_t seed, lru_bytes *out);
+lru_code lru_bytes_new(uint64_t capacity, uint64_t seed, lru_cache *out);
 
 /* The same, but the first entry gets the stamp `first_stamp`, and an entry may have up to
  * `most_pins` pins.
  *
  * Allocates. LRU_DONE; LRU_NO_PINS if `most_pins` is 0; LRU_MEMORY; LRU_OPEN. */
 lru_code lru_bytes_new_with_limits(uint64_t capacity, uint64_t first_stamp, uint32_t most_pins,
-                                   uint64_t seed, lru_bytes *out);
-
-/* Frees a cache and puts all entries that have a value into `left`, including those that are held:
- * their values are the caller's to delete, and their pins are no longer valid. Entries whose
- * value is still being made are not put there. `cache` is closed, and can be opened again.
- *
- * The idle entries come first, oldest first; held entries follow, in no particular order.
- *
- * Does not allocate. LRU_DONE; LRU_CLOSED; LRU_NOT_EMPTY. */
-lru_code lru_bytes_free(lru_bytes *cache, lru_bytes_evicted *left);
+                                   uint64_t seed, lru_cache *out);
 
 /* Asks for the value of a key and pins its entry, or adds an entry if there is none. `charge`,
  * above 0, is the charge of a new entry; an entry that exists keeps its charge, even if its maker
@@ -232,74 +220,28 @@ lru_code lru_bytes_free(lru_bytes *cache, lru_bytes_evicted *left);
  * 2^64 - 1, if the stamps are used up or if the entry has as many pins as it may have;
  * LRU_MEMORY; LRU_NO_CHARGE if `charge` is 0, even if the key has an entry; LRU_NULL_KEY;
  * LRU_CLOSED; LRU_NOT_EMPTY. */
-static inline lru_told lru_bytes_begin(lru_bytes *cache, const void *key, size_t length,
-                                       uint64_t charge, lru_bytes_evicted *gone);
-
-/* Asks again after LRU_WAIT. No pin is added or taken. The caller that makes the value must not
- * ask: it would be told LRU_WAIT, to wait for itself.
- *
- * Does not allocate. LRU_WAIT with the pin; LRU_MAKE with the pin if the other caller failed: this
- * one makes the value now; LRU_HIT with the pin and the value; LRU_STALE if no held entry has the
- * stamp; LRU_CLOSED. */
-lru_told lru_bytes_poll(lru_bytes *cache, lru_pin pin);
-
-/* Stores the value of an entry whose value is being made. The value belongs to the cache until it
- * is handed out in a chain; after a refusal it still belongs to the caller.
- *
- * Does not allocate. LRU_DONE; LRU_STALE if no entry with the stamp has its value being made;
- * LRU_CLOSED. */
-lru_code lru_bytes_ready(lru_bytes *cache, lru_pin pin, uint64_t value);
-
-/* Gives up making a value, and gives back the pin.
- *
- * Does not allocate. LRU_LEFT; LRU_REMOVED; LRU_STALE if no entry with the stamp has its value
- * being made; LRU_CLOSED. */
-lru_code lru_bytes_fail(lru_bytes *cache, lru_pin pin);
+static inline lru_told lru_bytes_begin(lru_cache *cache, const void *key, size_t length,
+                                       uint64_t charge, lru_chain *gone);
 
 /* Finds the value of a key and pins its entry. Adds no entry if there is none.
  *
  * Allocates if the key is longer than any before. LRU_HIT with the pin and the value; LRU_MISSED;
  * LRU_OVERFLOW if the entry has as many pins as it may have; LRU_MEMORY; LRU_NULL_KEY;
  * LRU_CLOSED. */
-static inline lru_told lru_bytes_get(lru_bytes *cache, const void *key, size_t length);
+static inline lru_told lru_bytes_get(lru_cache *cache, const void *key, size_t length);
 
 /* Whether a key has a value that `get` would find. Pins nothing and does not change the order.
  *
  * Allocates if the key is longer than any before. LRU_DONE if it has one; LRU_MISSED; LRU_MEMORY;
  * LRU_NULL_KEY; LRU_CLOSED. */
-static inline lru_code lru_bytes_contains(lru_bytes *cache, const void *key, size_t length);
-
-/* Pins an entry once more by its pin, for another holder. The entry may be held, detached or not,
- * or idle; an idle one is held then, as after a `get` of its key. No key is looked up, so this is
- * counted neither as a hit nor as a miss. The pin that is told is equal to the one that was passed,
- * and both are given back.
- *
- * Does not allocate. LRU_PINNED with the pin and the value; LRU_STALE if no entry with a value has
- * the stamp; LRU_OVERFLOW if the entry has as many pins as it may have; LRU_CLOSED. */
-lru_told lru_bytes_repin(lru_bytes *cache, lru_pin pin);
-
-/* Gives back one pin of an entry. If it was the last, the entry becomes the newest idle one, or is
- * evicted if it is detached. What is evicted, perhaps this entry itself, is put into `gone`, oldest
- * first.
- *
- * Does not allocate. LRU_DONE; LRU_STALE if no held entry with a value has the stamp; LRU_CLOSED;
- * LRU_NOT_EMPTY. */
-lru_code lru_bytes_release(lru_bytes *cache, lru_pin pin, lru_bytes_evicted *gone);
-
-/* Gives back one pin of an entry, as `release` does. But if it was the last, the entry is evicted
- * into `gone` at once, in place of becoming idle; no other entry is evicted. If the entry has more
- * pins, this is the same as `release`.
- *
- * Does not allocate. LRU_DONE in either case; LRU_STALE if no held entry with a value has the
- * stamp; LRU_CLOSED; LRU_NOT_EMPTY. */
-lru_code lru_bytes_release_and_evict(lru_bytes *cache, lru_pin pin, lru_bytes_evicted *gone);
+static inline lru_code lru_bytes_contains(lru_cache *cache, const void *key, size_t length);
 
 /* Evicts the entry of a key into `gone` if it is idle. Otherwise nothing happens, now or later.
  *
  * Allocates if the key is longer than any before. LRU_DONE in either case; LRU_MEMORY;
  * LRU_NULL_KEY; LRU_CLOSED; LRU_NOT_EMPTY. */
-static inline lru_code lru_bytes_advice_evict(lru_bytes *cache, const void *key, size_t length,
-                                              lru_bytes_evicted *gone);
+static inline lru_code lru_bytes_advice_evict(lru_cache *cache, const void *key, size_t length,
+                                              lru_chain *gone);
 
 /* Detaches the entry of a key, so that no call finds it by the key: the next `begin` adds a new
  * one. An idle entry is evicted into `gone`. A held one, with or without a value, is still found by
@@ -308,8 +250,8 @@ static inline lru_code lru_bytes_advice_evict(lru_bytes *cache, const void *key,
  *
  * Allocates if the key is longer than any before. LRU_DONE in each case; LRU_MEMORY; LRU_NULL_KEY;
  * LRU_CLOSED; LRU_NOT_EMPTY. */
-static inline lru_code lru_bytes_invalidate(lru_bytes *cache, const void *key, size_t length,
-                                            lru_bytes_evicted *gone);
+static inline lru_code lru_bytes_invalidate(lru_cache *cache, const void *key, size_t length,
+                                            lru_chain *gone);
 
 /* Gives a key a value, whatever it had before: detaches the entry of the key as `invalidate` does,
  * and adds a new one with this value and this charge, which is above 0. The caller has a pin of it,
@@ -320,25 +262,110 @@ static inline lru_code lru_bytes_invalidate(lru_bytes *cache, const void *key, s
  * not counting an idle entry of the key, would exceed 2^64 - 1, or if the stamps are used up;
  * LRU_MEMORY; LRU_NO_CHARGE if `charge` is 0; LRU_NULL_KEY; LRU_CLOSED; LRU_NOT_EMPTY. After a
  * refusal the key keeps its entry, and the value still belongs to the caller. */
-static inline lru_told lru_bytes_insert(lru_bytes *cache, const void *key, size_t length,
-                                        uint64_t charge, uint64_t value, lru_bytes_evicted *gone);
+static inline lru_told lru_bytes_insert(lru_cache *cache, const void *key, size_t length,
+                                        uint64_t charge, uint64_t value, lru_chain *gone);
+
+/* Copies the key of an entry, held or idle, to the start of a buffer of `room` bytes.
+ *
+ * Does not allocate. LRU_NUMBER with the length of the key as the value; LRU_NO_ROOM with the
+ * length of the key as the value if it is more than `room`; LRU_STALE if no entry has the stamp;
+ * LRU_CLOSED. Nothing is written unless the code is LRU_NUMBER. */
+static inline lru_told lru_bytes_key_of(lru_cache *cache, lru_pin pin, void *buffer, size_t room);
+
+/* ---------------------------------------------------------------------------- keys of two words */
+
+/* As the calls above, for keys of two words: the key is (first, second), and two keys are equal if
+ * both words are. Only new, new_with_limits, begin for a new entry and insert allocate. On a cache
+ * whose keys are bytes, each answers LRU_OTHER_KEYS. */
+lru_code lru_words_new(uint64_t capacity, uint64_t seed, lru_cache *out);
+lru_code lru_words_new_with_limits(uint64_t capacity, uint64_t first_stamp, uint32_t most_pins,
+                                   uint64_t seed, lru_cache *out);
+lru_told lru_words_begin(lru_cache *cache, uint64_t first, uint64_t second, uint64_t charge,
+                         lru_chain *gone);
+lru_told lru_words_get(lru_cache *cache, uint64_t first, uint64_t second);
+lru_code lru_words_contains(lru_cache *cache, uint64_t first, uint64_t second);
+lru_code lru_words_advice_evict(lru_cache *cache, uint64_t first, uint64_t second, lru_chain *gone);
+lru_code lru_words_invalidate(lru_cache *cache, uint64_t first, uint64_t second, lru_chain *gone);
+lru_told lru_words_insert(lru_cache *cache, uint64_t first, uint64_t second, uint64_t charge,
+                          uint64_t value, lru_chain *gone);
+
+/* Writes the key of an entry, held or idle. LRU_DONE; LRU_STALE if no entry has the stamp;
+ * LRU_CLOSED; LRU_OTHER_KEYS. Nothing is written unless the code is LRU_DONE. */
+lru_code lru_words_key_of(lru_cache *cache, lru_pin pin, uint64_t *first, uint64_t *second);
+
+/* ------------------------------------------------------------------------- caches of both kinds */
+
+/* Frees a cache and puts all entries that have a value into `left`, including those that are held:
+ * their values are the caller's to delete, and their pins are no longer valid. Entries whose
+ * value is still being made are not put there. `cache` is closed, and can be opened again.
+ *
+ * The idle entries come first, oldest first; held entries follow, in no particular order.
+ *
+ * Does not allocate. LRU_DONE; LRU_CLOSED; LRU_NOT_EMPTY. */
+lru_code lru_cache_free(lru_cache *cache, lru_chain *left);
+
+/* Asks again after LRU_WAIT. No pin is added or taken. The caller that makes the value must not
+ * ask: it would be told LRU_WAIT, to wait for itself.
+ *
+ * Does not allocate. LRU_WAIT with the pin; LRU_MAKE with the pin if the other caller failed: this
+ * one makes the value now; LRU_HIT with the pin and the value; LRU_STALE if no held entry has the
+ * stamp; LRU_CLOSED. */
+lru_told lru_cache_poll(lru_cache *cache, lru_pin pin);
+
+/* Stores the value of an entry whose value is being made. The value belongs to the cache until it
+ * is handed out in a chain; after a refusal it still belongs to the caller.
+ *
+ * Does not allocate. LRU_DONE; LRU_STALE if no entry with the stamp has its value being made;
+ * LRU_CLOSED. */
+lru_code lru_cache_ready(lru_cache *cache, lru_pin pin, uint64_t value);
+
+/* Gives up making a value, and gives back the pin.
+ *
+ * Does not allocate. LRU_LEFT; LRU_REMOVED; LRU_STALE if no entry with the stamp has its value
+ * being made; LRU_CLOSED. */
+lru_code lru_cache_fail(lru_cache *cache, lru_pin pin);
+
+/* Pins an entry once more by its pin, for another holder. The entry may be held, detached or not,
+ * or idle; an idle one is held then, as after a `get` of its key. No key is looked up, so this is
+ * counted neither as a hit nor as a miss. The pin that is told is equal to the one that was passed,
+ * and both are given back.
+ *
+ * Does not allocate. LRU_PINNED with the pin and the value; LRU_STALE if no entry with a value has
+ * the stamp; LRU_OVERFLOW if the entry has as many pins as it may have; LRU_CLOSED. */
+lru_told lru_cache_repin(lru_cache *cache, lru_pin pin);
+
+/* Gives back one pin of an entry. If it was the last, the entry becomes the newest idle one, or is
+ * evicted if it is detached. What is evicted, perhaps this entry itself, is put into `gone`, oldest
+ * first.
+ *
+ * Does not allocate. LRU_DONE; LRU_STALE if no held entry with a value has the stamp; LRU_CLOSED;
+ * LRU_NOT_EMPTY. */
+lru_code lru_cache_release(lru_cache *cache, lru_pin pin, lru_chain *gone);
+
+/* Gives back one pin of an entry, as `release` does. But if it was the last, the entry is evicted
+ * into `gone` at once, in place of becoming idle; no other entry is evicted. If the entry has more
+ * pins, this is the same as `release`.
+ *
+ * Does not allocate. LRU_DONE in either case; LRU_STALE if no held entry with a value has the
+ * stamp; LRU_CLOSED; LRU_NOT_EMPTY. */
+lru_code lru_cache_release_and_evict(lru_cache *cache, lru_pin pin, lru_chain *gone);
 
 /* Evicts all idle entries into `gone`, oldest first.
  *
  * Does not allocate. LRU_DONE; LRU_CLOSED; LRU_NOT_EMPTY. */
-lru_code lru_bytes_prune(lru_bytes *cache, lru_bytes_evicted *gone);
+lru_code lru_cache_prune(lru_cache *cache, lru_chain *gone);
 
 /* Sets the capacity. While the total is above it, idle entries are evicted into `gone`, oldest
  * first.
  *
  * Does not allocate. LRU_DONE; LRU_CLOSED; LRU_NOT_EMPTY. */
-lru_code lru_bytes_set_capacity(lru_bytes *cache, uint64_t capacity, lru_bytes_evicted *gone);
+lru_code lru_cache_set_capacity(lru_cache *cache, uint64_t capacity, lru_chain *gone);
 
 /* Makes room for `entries` entries in all, so that no `begin` or `insert` grows a table until there
  * are more.
  *
  * Allocates. LRU_DONE; LRU_MEMORY; LRU_CLOSED. */
-lru_code lru_bytes_reserve(lru_bytes *cache, size_t entries);
+lru_code lru_cache_reserve(lru_cache *cache, size_t entries);
 
 /* The total of the charges of all entries; the total of those that are held; the capacity; and the
  * number of all entries. Entries whose value is being made and detached entries count, and are
@@ -346,103 +373,54 @@ lru_code lru_bytes_reserve(lru_bytes *cache, size_t entries);
  *
  * These do not allocate, and take the same time however many entries there are. LRU_NUMBER with the
  * number as the value; LRU_CLOSED. */
-lru_told lru_bytes_total(lru_bytes *cache);
-lru_told lru_bytes_pinned_charge(lru_bytes *cache);
-lru_told lru_bytes_capacity(lru_bytes *cache);
-lru_told lru_bytes_len(lru_bytes *cache);
+lru_told lru_cache_total(lru_cache *cache);
+lru_told lru_cache_pinned_charge(lru_cache *cache);
+lru_told lru_cache_capacity(lru_cache *cache);
+lru_told lru_cache_len(lru_cache *cache);
 
 /* Writes all of these numbers to `out`, and how often the calls on the cache hit and missed.
  *
  * Does not allocate, and takes the same time however many entries there are. LRU_DONE; LRU_CLOSED,
  * and nothing is written. */
-lru_code lru_bytes_stats(lru_bytes *cache, lru_stats *out);
+lru_code lru_cache_stats(lru_cache *cache, lru_stats *out);
 
-/* Copies the key of an entry, held or idle, to the start of a buffer of `room` bytes.
- *
- * Does not allocate. LRU_NUMBER with the length of the key as the value; LRU_NO_ROOM with the
- * length of the key as the value if it is more than `room`; LRU_STALE if no entry has the stamp;
- * LRU_CLOSED. Nothing is written unless the code is LRU_NUMBER. */
-static inline lru_told lru_bytes_key_of(lru_bytes *cache, lru_pin pin, void *buffer, size_t room);
-
-/* ------------------------------------------------------------------ keys of bytes: the chains */
+/* --------------------------------------------------------------------------------------- chains */
 
 /* Opens an empty chain. A chain may be used for any number of calls and caches, one at a time. It
  * can be popped without a lock if each thread has its own. The caller frees it with
- * lru_bytes_evicted_free.
+ * lru_chain_free.
  *
  * Allocates. LRU_DONE; LRU_MEMORY; LRU_OPEN. */
-lru_code lru_bytes_evicted_new(lru_bytes_evicted *out);
+lru_code lru_chain_new(lru_chain *out);
 
 /* Frees an empty chain, and closes it.
  *
  * Does not allocate. LRU_DONE; LRU_NOT_EMPTY: the chain is still open; LRU_CLOSED. */
-lru_code lru_bytes_evicted_free(lru_bytes_evicted *chain);
+lru_code lru_chain_free(lru_chain *chain);
 
 /* Removes the first entry of a chain and writes it to `out`; its value is the caller's again. False
  * if no entry is left or the chain is not open, and `out` is not written. Does not allocate. */
-bool lru_bytes_evicted_pop(lru_bytes_evicted *chain, lru_gone *out);
+bool lru_chain_pop(lru_chain *chain, lru_gone *out);
 
 /* Whether no entry is left, or the chain is not open. Does not allocate. */
-bool lru_bytes_evicted_is_empty(lru_bytes_evicted *chain);
-
-/* --------------------------------------------------------------------- keys of two words */
-
-/* As the calls above. The key is (first, second); two keys are equal if both words are. Only new,
- * new_with_limits, begin for a new entry, insert, reserve and evicted_new allocate. */
-lru_code lru_words_new(uint64_t capacity, uint64_t seed, lru_words *out);
-lru_code lru_words_new_with_limits(uint64_t capacity, uint64_t first_stamp, uint32_t most_pins,
-                                   uint64_t seed, lru_words *out);
-lru_code lru_words_free(lru_words *cache, lru_words_evicted *left);
-lru_told lru_words_begin(lru_words *cache, uint64_t first, uint64_t second, uint64_t charge,
-                         lru_words_evicted *gone);
-lru_told lru_words_poll(lru_words *cache, lru_pin pin);
-lru_code lru_words_ready(lru_words *cache, lru_pin pin, uint64_t value);
-lru_code lru_words_fail(lru_words *cache, lru_pin pin);
-lru_told lru_words_get(lru_words *cache, uint64_t first, uint64_t second);
-lru_code lru_words_contains(lru_words *cache, uint64_t first, uint64_t second);
-lru_told lru_words_repin(lru_words *cache, lru_pin pin);
-lru_code lru_words_release(lru_words *cache, lru_pin pin, lru_words_evicted *gone);
-lru_code lru_words_release_and_evict(lru_words *cache, lru_pin pin, lru_words_evicted *gone);
-lru_code lru_words_advice_evict(lru_words *cache, uint64_t first, uint64_t second,
-                                lru_words_evicted *gone);
-lru_code lru_words_invalidate(lru_words *cache, uint64_t first, uint64_t second,
-                              lru_words_evicted *gone);
-lru_told lru_words_insert(lru_words *cache, uint64_t first, uint64_t second, uint64_t charge,
-                          uint64_t value, lru_words_evicted *gone);
-lru_code lru_words_prune(lru_words *cache, lru_words_evicted *gone);
-lru_code lru_words_set_capacity(lru_words *cache, uint64_t capacity, lru_words_evicted *gone);
-lru_code lru_words_reserve(lru_words *cache, size_t entries);
-lru_told lru_words_total(lru_words *cache);
-lru_told lru_words_pinned_charge(lru_words *cache);
-lru_told lru_words_capacity(lru_words *cache);
-lru_told lru_words_len(lru_words *cache);
-lru_code lru_words_stats(lru_words *cache, lru_stats *out);
-
-/* Writes the key of an entry, held or idle. LRU_DONE; LRU_STALE if no entry has the stamp;
- * LRU_CLOSED. Nothing is written unless the code is LRU_DONE. */
-lru_code lru_words_key_of(lru_words *cache, lru_pin pin, uint64_t *first, uint64_t *second);
-
-lru_code lru_words_evicted_new(lru_words_evicted *out);
-lru_code lru_words_evicted_free(lru_words_evicted *chain);
-bool lru_words_evicted_pop(lru_words_evicted *chain, lru_gone *out);
-bool lru_words_evicted_is_empty(lru_words_evicted *chain);
+bool lru_chain_is_empty(lru_chain *chain);
 
 /* ------------------------------------------------------- keys of bytes that are never null */
 
 /* The functions behind the calls above that take a key or a buffer of bytes. The pointer must not
  * be null, even if the length is 0. A binding for a language whose slices are never null may call
  * them directly. */
-lru_told lru_bytes_begin_nonnull(lru_bytes *cache, const uint8_t *key, size_t length,
-                                 uint64_t charge, lru_bytes_evicted *gone);
-lru_told lru_bytes_get_nonnull(lru_bytes *cache, const uint8_t *key, size_t length);
-lru_code lru_bytes_contains_nonnull(lru_bytes *cache, const uint8_t *key, size_t length);
-lru_code lru_bytes_advice_evict_nonnull(lru_bytes *cache, const uint8_t *key, size_t length,
-                                        lru_bytes_evicted *gone);
-lru_code lru_bytes_invalidate_nonnull(lru_bytes *cache, const uint8_t *key, size_t length,
-                                      lru_bytes_evicted *gone);
-lru_told lru_bytes_insert_nonnull(lru_bytes *cache, const uint8_t *key, size_t length,
-                                  uint64_t charge, uint64_t value, lru_bytes_evicted *gone);
-lru_told lru_bytes_key_of_nonnull(lru_bytes *cache, lru_pin pin, uint8_t *buffer, size_t room);
+lru_told lru_bytes_begin_nonnull(lru_cache *cache, const uint8_t *key, size_t length,
+                                 uint64_t charge, lru_chain *gone);
+lru_told lru_bytes_get_nonnull(lru_cache *cache, const uint8_t *key, size_t length);
+lru_code lru_bytes_contains_nonnull(lru_cache *cache, const uint8_t *key, size_t length);
+lru_code lru_bytes_advice_evict_nonnull(lru_cache *cache, const uint8_t *key, size_t length,
+                                        lru_chain *gone);
+lru_code lru_bytes_invalidate_nonnull(lru_cache *cache, const uint8_t *key, size_t length,
+                                      lru_chain *gone);
+lru_told lru_bytes_insert_nonnull(lru_cache *cache, const uint8_t *key, size_t length,
+                                  uint64_t charge, uint64_t value, lru_chain *gone);
+lru_told lru_bytes_key_of_nonnull(lru_cache *cache, lru_pin pin, uint8_t *buffer, size_t room);
 
 /* The calls that also take a null pointer. These first three names are internal. */
 static const uint8_t lru_empty_key[1] = {0};
@@ -456,48 +434,48 @@ static inline lru_told lru_told_null_key(void) {
     return told;
 }
 
-static inline lru_told lru_bytes_begin(lru_bytes *cache, const void *key, size_t length,
-                                       uint64_t charge, lru_bytes_evicted *gone) {
+static inline lru_told lru_bytes_begin(lru_cache *cache, const void *key, size_t length,
+                                       uint64_t charge, lru_chain *gone) {
     if (key == NULL && length > 0)
         return lru_told_null_key();
     return lru_bytes_begin_nonnull(cache, lru_key_or_empty(key), length, charge, gone);
 }
 
-static inline lru_told lru_bytes_get(lru_bytes *cache, const void *key, size_t length) {
+static inline lru_told lru_bytes_get(lru_cache *cache, const void *key, size_t length) {
     if (key == NULL && length > 0)
         return lru_told_null_key();
     return lru_bytes_get_nonnull(cache, lru_key_or_empty(key), length);
 }
 
-static inline lru_code lru_bytes_contains(lru_bytes *cache, const void *key, size_t length) {
+static inline lru_code lru_bytes_contains(lru_cache *cache, const void *key, size_t length) {
     if (key == NULL && length > 0)
         return LRU_NULL_KEY;
     return lru_bytes_contains_nonnull(cache, lru_key_or_empty(key), length);
 }
 
-static inline lru_code lru_bytes_advice_evict(lru_bytes *cache, const void *key, size_t length,
-                                              lru_bytes_evicted *gone) {
+static inline lru_code lru_bytes_advice_evict(lru_cache *cache, const void *key, size_t length,
+                                              lru_chain *gone) {
     if (key == NULL && length > 0)
         return LRU_NULL_KEY;
     return lru_bytes_advice_evict_nonnull(cache, lru_key_or_empty(key), length, gone);
 }
 
-static inline lru_code lru_bytes_invalidate(lru_bytes *cache, const void *key, size_t length,
-                                            lru_bytes_evicted *gone) {
+static inline lru_code lru_bytes_invalidate(lru_cache *cache, const void *key, size_t length,
+                                            lru_chain *gone) {
     if (key == NULL && length > 0)
         return LRU_NULL_KEY;
     return lru_bytes_invalidate_nonnull(cache, lru_key_or_empty(key), length, gone);
 }
 
-static inline lru_told lru_bytes_insert(lru_bytes *cache, const void *key, size_t length,
-                                        uint64_t charge, uint64_t value, lru_bytes_evicted *gone) {
+static inline lru_told lru_bytes_insert(lru_cache *cache, const void *key, size_t length,
+                                        uint64_t charge, uint64_t value, lru_chain *gone) {
     if (key == NULL && length > 0)
         return lru_told_null_key();
     return lru_bytes_insert_nonnull(cache, lru_key_or_empty(key), length, charge, value, gone);
 }
 
 /* A null buffer has no room. */
-static inline lru_told lru_bytes_key_of(lru_bytes *cache, lru_pin pin, void *buffer, size_t room) {
+static inline lru_told lru_bytes_key_of(lru_cache *cache, lru_pin pin, void *buffer, size_t room) {
     uint8_t none[1];
     if (buffer == NULL)
         return lru_bytes_key_of_nonnull(cache, pin, none, 0);

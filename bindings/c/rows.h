@@ -1,15 +1,14 @@
 /* Worked examples, called rows: each shows one rule of the cache. This file is included once for
- * each family of keys, with
+ * each kind of keys, with
  *
- *     FAMILY(name)    the family's function or type of that name, such as lru_bytes_get
- *     TYPE            the type of its caches, such as lru_bytes
+ *     FAMILY(name)    the function for such keys of that name, such as lru_bytes_get
  *     KEY(k)          the arguments that pass the number k as a key
  *
  * The value of a key is the key itself unless a row says otherwise. */
 
 typedef struct FAMILY(stage) {
-    TYPE cache;
-    FAMILY(evicted) gone;
+    lru_cache cache;
+    lru_chain gone;
     uint64_t left[64]; /* the values evicted so far */
     size_t length;
 } FAMILY(stage);
@@ -18,20 +17,20 @@ static void FAMILY(open_with_limits)(FAMILY(stage) *s, uint64_t capacity, uint64
                                      uint32_t most_pins) {
     memset(s, 0, sizeof *s);
     CHECK(FAMILY(new_with_limits)(capacity, first_stamp, most_pins, 0, &s->cache), LRU_DONE);
-    CHECK(FAMILY(evicted_new)(&s->gone), LRU_DONE);
+    CHECK(lru_chain_new(&s->gone), LRU_DONE);
 }
 
 static void FAMILY(open)(FAMILY(stage) *s, uint64_t capacity) {
     memset(s, 0, sizeof *s);
     CHECK(FAMILY(new)(capacity, 0, &s->cache), LRU_DONE);
-    CHECK(FAMILY(evicted_new)(&s->gone), LRU_DONE);
+    CHECK(lru_chain_new(&s->gone), LRU_DONE);
 }
 
 /* Pops what a call evicted, and returns the number of entries. */
 static size_t FAMILY(note)(FAMILY(stage) *s) {
     lru_gone gone;
     size_t before = s->length;
-    while (FAMILY(evicted_pop)(&s->gone, &gone)) {
+    while (lru_chain_pop(&s->gone, &gone)) {
         if (s->length < sizeof s->left / sizeof s->left[0])
             s->left[s->length] = gone.value;
         s->length++;
@@ -49,7 +48,7 @@ static lru_told FAMILY(ask)(FAMILY(stage) *s, uint64_t k, uint64_t charge) {
 static lru_pin FAMILY(hold)(FAMILY(stage) *s, uint64_t k, uint64_t charge) {
     lru_told told = FAMILY(ask)(s, k, charge);
     if (told.code == LRU_MAKE)
-        CHECK(FAMILY(ready)(&s->cache, told.pin, k), LRU_DONE);
+        CHECK(lru_cache_ready(&s->cache, told.pin, k), LRU_DONE);
     else
         CHECK(told.code, LRU_HIT);
     return told.pin;
@@ -57,19 +56,19 @@ static lru_pin FAMILY(hold)(FAMILY(stage) *s, uint64_t k, uint64_t charge) {
 
 /* Gives a pin back, and returns the number of entries that this evicts. */
 static size_t FAMILY(let_go)(FAMILY(stage) *s, lru_pin pin) {
-    CHECK(FAMILY(release)(&s->cache, pin, &s->gone), LRU_DONE);
+    CHECK(lru_cache_release(&s->cache, pin, &s->gone), LRU_DONE);
     return FAMILY(note)(s);
 }
 
 /* The same, but the entry is evicted if the pin was its last. */
 static size_t FAMILY(let_go_and_evict)(FAMILY(stage) *s, lru_pin pin) {
-    CHECK(FAMILY(release_and_evict)(&s->cache, pin, &s->gone), LRU_DONE);
+    CHECK(lru_cache_release_and_evict(&s->cache, pin, &s->gone), LRU_DONE);
     return FAMILY(note)(s);
 }
 
 /* Pins an entry once more, and returns its value. */
 static uint64_t FAMILY(hold_again)(FAMILY(stage) *s, lru_pin pin) {
-    lru_told told = FAMILY(repin)(&s->cache, pin);
+    lru_told told = lru_cache_repin(&s->cache, pin);
     CHECK(told.code, LRU_PINNED);
     CHECK(told.pin.stamp, pin.stamp);
     CHECK(told.pin.hash, pin.hash);
@@ -96,13 +95,13 @@ static bool FAMILY(finds)(FAMILY(stage) *s, uint64_t k, uint64_t value) {
 }
 
 static uint64_t FAMILY(total_of)(FAMILY(stage) *s) {
-    lru_told told = FAMILY(total)(&s->cache);
+    lru_told told = lru_cache_total(&s->cache);
     CHECK(told.code, LRU_NUMBER);
     return told.value;
 }
 
 static uint64_t FAMILY(pinned_of)(FAMILY(stage) *s) {
-    lru_told told = FAMILY(pinned_charge)(&s->cache);
+    lru_told told = lru_cache_pinned_charge(&s->cache);
     CHECK(told.code, LRU_NUMBER);
     return told.value;
 }
@@ -110,14 +109,14 @@ static uint64_t FAMILY(pinned_of)(FAMILY(stage) *s) {
 /* Evicts all idle entries, and returns their number. */
 static size_t FAMILY(prune_all)(FAMILY(stage) *s) {
     s->length = 0;
-    CHECK(FAMILY(prune)(&s->cache, &s->gone), LRU_DONE);
+    CHECK(lru_cache_prune(&s->cache, &s->gone), LRU_DONE);
     return FAMILY(note)(s);
 }
 
 static void FAMILY(close)(FAMILY(stage) *s) {
-    CHECK(FAMILY(free)(&s->cache, &s->gone), LRU_DONE);
+    CHECK(lru_cache_free(&s->cache, &s->gone), LRU_DONE);
     FAMILY(note)(s);
-    CHECK(FAMILY(evicted_free)(&s->gone), LRU_DONE);
+    CHECK(lru_chain_free(&s->gone), LRU_DONE);
 }
 
 #define EVICTED(s, ...)                                                                           \
@@ -144,7 +143,7 @@ static void FAMILY(row_1_2)(void) {
     EVICTED(&s, 1);
     told = FAMILY(ask)(&s, 1, 3);
     CHECK(told.code, LRU_MAKE);
-    CHECK(FAMILY(ready)(&s.cache, told.pin, 3), LRU_DONE);
+    CHECK(lru_cache_ready(&s.cache, told.pin, 3), LRU_DONE);
     FAMILY(let_go)(&s, told.pin);
     CHECK(FAMILY(finds)(&s, 1, 3), true);
     FAMILY(close)(&s);
@@ -217,7 +216,7 @@ static void FAMILY(row_6)(void) {
     CHECK(FAMILY(finds)(&s, 2, 2), true);
     told = FAMILY(ask)(&s, 3, 1);
     CHECK(told.code, LRU_MAKE);
-    CHECK(FAMILY(fail)(&s.cache, told.pin), LRU_REMOVED);
+    CHECK(lru_cache_fail(&s.cache, told.pin), LRU_REMOVED);
     CHECK(FAMILY(finds)(&s, 3, 3), false);
     FAMILY(make)(&s, 3, 1);
     CHECK(FAMILY(finds)(&s, 3, 3), true);
@@ -234,7 +233,7 @@ static void FAMILY(row_8)(void) {
     FAMILY(make)(&s, 2, 1);
     told = FAMILY(ask)(&s, 3, 2);
     EVICTED(&s, 1, 2);
-    CHECK(FAMILY(fail)(&s.cache, told.pin), LRU_REMOVED);
+    CHECK(lru_cache_fail(&s.cache, told.pin), LRU_REMOVED);
     CHECK(FAMILY(finds)(&s, 1, 1), false);
     CHECK(FAMILY(finds)(&s, 2, 2), false);
     CHECK(FAMILY(total_of)(&s), 0);
@@ -351,27 +350,27 @@ static void FAMILY(row_16)(void) {
     CHECK(told.pin.stamp, 0);
     CHECK(FAMILY(finds)(&s, 1, 1), false);
     /* the one that makes the value would wait for itself */
-    CHECK(FAMILY(poll)(&s.cache, pin_of(0)).code, LRU_WAIT);
+    CHECK(lru_cache_poll(&s.cache, pin_of(0)).code, LRU_WAIT);
     told = FAMILY(ask)(&s, 1, 7);
     CHECK(told.code, LRU_WAIT);
     CHECK(told.pin.stamp, 0);
-    told = FAMILY(poll)(&s.cache, pin_of(0));
+    told = lru_cache_poll(&s.cache, pin_of(0));
     CHECK(told.code, LRU_WAIT);
-    CHECK(FAMILY(fail)(&s.cache, pin_of(0)), LRU_LEFT);
-    told = FAMILY(poll)(&s.cache, pin_of(0));
+    CHECK(lru_cache_fail(&s.cache, pin_of(0)), LRU_LEFT);
+    told = lru_cache_poll(&s.cache, pin_of(0));
     CHECK(told.code, LRU_MAKE);
     CHECK(told.pin.stamp, 0);
-    CHECK(FAMILY(ready)(&s.cache, pin_of(0), 77), LRU_DONE);
-    CHECK(FAMILY(ready)(&s.cache, pin_of(0), 78), LRU_STALE);
-    told = FAMILY(poll)(&s.cache, pin_of(0));
+    CHECK(lru_cache_ready(&s.cache, pin_of(0), 77), LRU_DONE);
+    CHECK(lru_cache_ready(&s.cache, pin_of(0), 78), LRU_STALE);
+    told = lru_cache_poll(&s.cache, pin_of(0));
     CHECK(told.code, LRU_HIT);
     CHECK(told.value, 77);
     CHECK(FAMILY(total_of)(&s), 3);
     CHECK(FAMILY(let_go)(&s, pin_of(0)), 0);
-    CHECK(FAMILY(release)(&s.cache, pin_of(0), &s.gone), LRU_STALE);
+    CHECK(lru_cache_release(&s.cache, pin_of(0), &s.gone), LRU_STALE);
     CHECK(FAMILY(note)(&s), 0);
-    CHECK(FAMILY(fail)(&s.cache, pin_of(0)), LRU_STALE);
-    CHECK(FAMILY(poll)(&s.cache, pin_of(0)).code, LRU_STALE);
+    CHECK(lru_cache_fail(&s.cache, pin_of(0)), LRU_STALE);
+    CHECK(lru_cache_poll(&s.cache, pin_of(0)).code, LRU_STALE);
     CHECK(FAMILY(finds)(&s, 1, 77), true);
     FAMILY(close)(&s);
 }
@@ -412,11 +411,11 @@ static void FAMILY(row_19)(void) {
     FAMILY(make)(&s, 1, 3);
     FAMILY(make)(&s, 2, 2);
     FAMILY(make)(&s, 3, 4);
-    CHECK(FAMILY(set_capacity)(&s.cache, 5, &s.gone), LRU_DONE);
+    CHECK(lru_cache_set_capacity(&s.cache, 5, &s.gone), LRU_DONE);
     FAMILY(note)(&s);
     EVICTED(&s, 1, 2);
-    CHECK(FAMILY(capacity)(&s.cache).value, 5);
-    CHECK(FAMILY(set_capacity)(&s.cache, 9, &s.gone), LRU_DONE);
+    CHECK(lru_cache_capacity(&s.cache).value, 5);
+    CHECK(lru_cache_set_capacity(&s.cache, 9, &s.gone), LRU_DONE);
     CHECK(FAMILY(note)(&s), 0);
     CHECK(FAMILY(finds)(&s, 1, 1), false);
     CHECK(FAMILY(prune_all)(&s), 1);
@@ -445,18 +444,18 @@ static void FAMILY(invalidates)(void) {
     CHECK(FAMILY(invalidate)(&s.cache, KEY(2), &s.gone), LRU_DONE);
     CHECK(FAMILY(note)(&s), 0);
     CHECK(FAMILY(finds)(&s, 2, 2), false);
-    CHECK(FAMILY(poll)(&s.cache, first).value, 2);
+    CHECK(lru_cache_poll(&s.cache, first).value, 2);
     second = FAMILY(hold)(&s, 2, 4);
     CHECK(second.stamp != first.stamp, true);
     CHECK(FAMILY(total_of)(&s), 7);
     CHECK(FAMILY(pinned_of)(&s), 7);
-    CHECK(FAMILY(len)(&s.cache).value, 2);
+    CHECK(lru_cache_len(&s.cache).value, 2);
     CHECK(FAMILY(let_go)(&s, first), 0);
     CHECK(FAMILY(pinned_of)(&s), 7);
     CHECK(FAMILY(let_go)(&s, first), 1);
     CHECK(FAMILY(pinned_of)(&s), 4);
     EVICTED(&s, 1, 2);
-    CHECK(FAMILY(release)(&s.cache, first, &s.gone), LRU_STALE);
+    CHECK(lru_cache_release(&s.cache, first, &s.gone), LRU_STALE);
     CHECK(FAMILY(let_go)(&s, second), 0);
     CHECK(FAMILY(finds)(&s, 2, 2), true);
     CHECK(FAMILY(total_of)(&s), 4);
@@ -479,9 +478,9 @@ static void FAMILY(invalidates_a_making)(void) {
     CHECK(told.code, LRU_MAKE);
     second = told.pin;
     CHECK(second.stamp != first.stamp, true);
-    CHECK(FAMILY(ready)(&s.cache, first, 10), LRU_DONE);
-    CHECK(FAMILY(poll)(&s.cache, first).value, 10);
-    CHECK(FAMILY(ready)(&s.cache, second, 20), LRU_DONE);
+    CHECK(lru_cache_ready(&s.cache, first, 10), LRU_DONE);
+    CHECK(lru_cache_poll(&s.cache, first).value, 10);
+    CHECK(lru_cache_ready(&s.cache, second, 20), LRU_DONE);
     CHECK(FAMILY(finds)(&s, 1, 20), true);
     CHECK(FAMILY(let_go)(&s, first), 0);
     CHECK(FAMILY(let_go)(&s, first), 1);
@@ -491,7 +490,7 @@ static void FAMILY(invalidates_a_making)(void) {
     /* making the value fails */
     told = FAMILY(ask)(&s, 2, 3);
     CHECK(FAMILY(invalidate)(&s.cache, KEY(2), &s.gone), LRU_DONE);
-    CHECK(FAMILY(fail)(&s.cache, told.pin), LRU_REMOVED);
+    CHECK(lru_cache_fail(&s.cache, told.pin), LRU_REMOVED);
     CHECK(FAMILY(total_of)(&s), 3);
     FAMILY(close)(&s);
 }
@@ -527,7 +526,7 @@ static void FAMILY(inserts)(void) {
     first = FAMILY(put)(&s, 3, 1, 31);
     EVICTED(&s, 3, 10, 2);
     CHECK(FAMILY(finds)(&s, 3, 31), true);
-    CHECK(FAMILY(poll)(&s.cache, second).value, 30);
+    CHECK(lru_cache_poll(&s.cache, second).value, 30);
     CHECK(FAMILY(total_of)(&s), 4);
     CHECK(FAMILY(let_go)(&s, second), 1);
     EVICTED(&s, 3, 10, 2, 30);
@@ -565,18 +564,18 @@ static void FAMILY(pins)(void) {
     CHECK(told.pin.stamp, first.stamp);
     CHECK(told.pin.hash, first.hash);
     CHECK(told.pin.place, first.place);
-    told = FAMILY(poll)(&s.cache, first);
+    told = lru_cache_poll(&s.cache, first);
     CHECK(told.pin.stamp, first.stamp);
     CHECK(told.pin.hash, first.hash);
     CHECK(told.pin.place, first.place);
 
     second = FAMILY(put)(&s, 2, 1, 20);
     second.hash = first.hash;
-    CHECK(FAMILY(poll)(&s.cache, second).value, 20);
+    CHECK(lru_cache_poll(&s.cache, second).value, 20);
     second.place = SIZE_MAX;
-    CHECK(FAMILY(poll)(&s.cache, second).value, 20);
+    CHECK(lru_cache_poll(&s.cache, second).value, 20);
     CHECK(FAMILY(let_go)(&s, second), 0);
-    told = FAMILY(poll)(&s.cache, second); /* nobody holds it */
+    told = lru_cache_poll(&s.cache, second); /* nobody holds it */
     CHECK(told.code, LRU_STALE);
     CHECK(told.pin.stamp, 0);
     CHECK(told.pin.hash, 0);
@@ -600,7 +599,7 @@ static void FAMILY(repins)(void) {
     CHECK(FAMILY(pinned_of)(&s), 3);
     CHECK(FAMILY(let_go)(&s, first), 0);
     CHECK(FAMILY(pinned_of)(&s), 0);
-    CHECK(FAMILY(release)(&s.cache, first, &s.gone), LRU_STALE);
+    CHECK(lru_cache_release(&s.cache, first, &s.gone), LRU_STALE);
 
     /* an idle entry: it is held, and is the newest once it is released */
     FAMILY(make)(&s, 2, 3);
@@ -614,7 +613,7 @@ static void FAMILY(repins)(void) {
     EVICTED(&s, 2, 1);
 
     /* an entry that was evicted */
-    told = FAMILY(repin)(&s.cache, first);
+    told = lru_cache_repin(&s.cache, first);
     CHECK(told.code, LRU_STALE);
     CHECK(told.pin.hash, 0);
     CHECK(told.value, 0);
@@ -626,12 +625,12 @@ static void FAMILY(repins)(void) {
     second = FAMILY(put)(&s, 1, 3, 11);
     CHECK(FAMILY(hold_again)(&s, first), 1);
     CHECK(FAMILY(let_go)(&s, first), 0);
-    CHECK(FAMILY(poll)(&s.cache, first).value, 1);
+    CHECK(lru_cache_poll(&s.cache, first).value, 1);
     CHECK(FAMILY(finds)(&s, 1, 11), true);
     CHECK(FAMILY(total_of)(&s), 6);
     CHECK(FAMILY(let_go)(&s, first), 1);
     EVICTED(&s, 1);
-    CHECK(FAMILY(repin)(&s.cache, first).code, LRU_STALE);
+    CHECK(lru_cache_repin(&s.cache, first).code, LRU_STALE);
     CHECK(FAMILY(let_go)(&s, second), 0);
 
     /* another hash or place changes no answer */
@@ -641,19 +640,19 @@ static void FAMILY(repins)(void) {
     /* an entry whose value is being made, or was given up while another caller waits */
     told = FAMILY(ask)(&s, 2, 1);
     CHECK(told.code, LRU_MAKE);
-    CHECK(FAMILY(repin)(&s.cache, told.pin).code, LRU_STALE);
+    CHECK(lru_cache_repin(&s.cache, told.pin).code, LRU_STALE);
     CHECK(FAMILY(ask)(&s, 2, 1).code, LRU_WAIT);
-    CHECK(FAMILY(fail)(&s.cache, told.pin), LRU_LEFT);
-    CHECK(FAMILY(repin)(&s.cache, told.pin).code, LRU_STALE);
-    CHECK(FAMILY(poll)(&s.cache, told.pin).code, LRU_MAKE);
-    CHECK(FAMILY(fail)(&s.cache, told.pin), LRU_REMOVED);
+    CHECK(lru_cache_fail(&s.cache, told.pin), LRU_LEFT);
+    CHECK(lru_cache_repin(&s.cache, told.pin).code, LRU_STALE);
+    CHECK(lru_cache_poll(&s.cache, told.pin).code, LRU_MAKE);
+    CHECK(lru_cache_fail(&s.cache, told.pin), LRU_REMOVED);
     FAMILY(close)(&s);
 
     /* an entry that has as many pins as it may have */
     FAMILY(open_with_limits)(&s, 10, 5, 2);
     first = FAMILY(hold)(&s, 1, 1);
     CHECK(FAMILY(hold_again)(&s, first), 1);
-    told = FAMILY(repin)(&s.cache, first);
+    told = lru_cache_repin(&s.cache, first);
     CHECK(told.code, LRU_OVERFLOW);
     CHECK(told.pin.stamp, 0);
     CHECK(told.value, 0);
@@ -683,7 +682,7 @@ static void FAMILY(releases_and_evicts)(void) {
     CHECK(FAMILY(finds)(&s, 3, 3), true);
     CHECK(FAMILY(total_of)(&s), 6);
     CHECK(FAMILY(pinned_of)(&s), 0);
-    CHECK(FAMILY(release_and_evict)(&s.cache, pin, &s.gone), LRU_STALE);
+    CHECK(lru_cache_release_and_evict(&s.cache, pin, &s.gone), LRU_STALE);
     CHECK(FAMILY(note)(&s), 0);
 
     /* two pins: nothing leaves, now or with the other holder's release */
@@ -696,7 +695,7 @@ static void FAMILY(releases_and_evicts)(void) {
     CHECK(FAMILY(pinned_of)(&s), 0);
 
     /* an idle entry has no pin to give back */
-    CHECK(FAMILY(release_and_evict)(&s.cache, pin, &s.gone), LRU_STALE);
+    CHECK(lru_cache_release_and_evict(&s.cache, pin, &s.gone), LRU_STALE);
     CHECK(FAMILY(finds)(&s, 1, 1), true);
 
     /* a pin that repin told counts as any other */
@@ -720,8 +719,8 @@ static void FAMILY(releases_and_evicts)(void) {
     /* a value that is being made is given up by fail only */
     told = FAMILY(ask)(&s, 4, 1);
     CHECK(told.code, LRU_MAKE);
-    CHECK(FAMILY(release_and_evict)(&s.cache, told.pin, &s.gone), LRU_STALE);
-    CHECK(FAMILY(ready)(&s.cache, told.pin, 4), LRU_DONE);
+    CHECK(lru_cache_release_and_evict(&s.cache, told.pin, &s.gone), LRU_STALE);
+    CHECK(lru_cache_ready(&s.cache, told.pin, 4), LRU_DONE);
     CHECK(FAMILY(let_go)(&s, told.pin), 0);
     CHECK(FAMILY(finds)(&s, 4, 4), true);
     FAMILY(close)(&s);
@@ -743,30 +742,30 @@ static void FAMILY(frees)(void) {
     CHECK(FAMILY(ask)(&s, 7, 1).code, LRU_WAIT);
     CHECK(FAMILY(ask)(&s, 8, 1).code, LRU_MAKE); /* given up, while another caller waits */
     CHECK(FAMILY(ask)(&s, 8, 1).code, LRU_WAIT);
-    CHECK(FAMILY(fail)(&s.cache, pin_of(1000007)), LRU_LEFT);
+    CHECK(lru_cache_fail(&s.cache, pin_of(1000007)), LRU_LEFT);
     CHECK(FAMILY(ask)(&s, 9, 1).code, LRU_MAKE); /* detached, with a value and without */
     CHECK(FAMILY(invalidate)(&s.cache, KEY(9), &s.gone), LRU_DONE);
     FAMILY(hold)(&s, 9, 1);
     CHECK(FAMILY(invalidate)(&s.cache, KEY(9), &s.gone), LRU_DONE);
-    CHECK(FAMILY(len)(&s.cache).value, 10);
-    CHECK(FAMILY(free)(&s.cache, &s.gone), LRU_DONE);
+    CHECK(lru_cache_len(&s.cache).value, 10);
+    CHECK(lru_cache_free(&s.cache, &s.gone), LRU_DONE);
     CHECK(FAMILY(note)(&s), 7);
     sort(s.left + 4, 3); /* held entries come in no particular order */
     EVICTED(&s, 1, 3, 4, 6, 2, 5, 9);
-    CHECK(FAMILY(evicted_free)(&s.gone), LRU_DONE);
+    CHECK(lru_chain_free(&s.gone), LRU_DONE);
 
     /* the handle can be opened again */
     CHECK(FAMILY(new)(1, 0, &s.cache), LRU_DONE);
-    CHECK(FAMILY(evicted_new)(&s.gone), LRU_DONE);
-    CHECK(FAMILY(len)(&s.cache).value, 0);
+    CHECK(lru_chain_new(&s.gone), LRU_DONE);
+    CHECK(lru_cache_len(&s.cache).value, 0);
     FAMILY(close)(&s);
 }
 
 /* Each misuse that is cheap to check has a code, and changes nothing. */
 static void FAMILY(misuse)(void) {
     FAMILY(stage) s;
-    TYPE closed = {0};
-    FAMILY(evicted) shut = {0};
+    lru_cache closed = {0};
+    lru_chain shut = {0};
     lru_gone gone = {0, 0, 0};
     lru_pin pin;
 
@@ -774,50 +773,50 @@ static void FAMILY(misuse)(void) {
 
     /* a cache that is not open */
     CHECK(FAMILY(begin)(&closed, KEY(1), 1, &s.gone).code, LRU_CLOSED);
-    CHECK(FAMILY(poll)(&closed, pin_of(0)).code, LRU_CLOSED);
-    CHECK(FAMILY(ready)(&closed, pin_of(0), 1), LRU_CLOSED);
-    CHECK(FAMILY(fail)(&closed, pin_of(0)), LRU_CLOSED);
+    CHECK(lru_cache_poll(&closed, pin_of(0)).code, LRU_CLOSED);
+    CHECK(lru_cache_ready(&closed, pin_of(0), 1), LRU_CLOSED);
+    CHECK(lru_cache_fail(&closed, pin_of(0)), LRU_CLOSED);
     CHECK(FAMILY(get)(&closed, KEY(1)).code, LRU_CLOSED);
     CHECK(FAMILY(contains)(&closed, KEY(1)), LRU_CLOSED);
-    CHECK(FAMILY(repin)(&closed, pin_of(0)).code, LRU_CLOSED);
-    CHECK(FAMILY(release)(&closed, pin_of(0), &s.gone), LRU_CLOSED);
-    CHECK(FAMILY(release_and_evict)(&closed, pin_of(0), &s.gone), LRU_CLOSED);
+    CHECK(lru_cache_repin(&closed, pin_of(0)).code, LRU_CLOSED);
+    CHECK(lru_cache_release(&closed, pin_of(0), &s.gone), LRU_CLOSED);
+    CHECK(lru_cache_release_and_evict(&closed, pin_of(0), &s.gone), LRU_CLOSED);
     CHECK(FAMILY(advice_evict)(&closed, KEY(1), &s.gone), LRU_CLOSED);
     CHECK(FAMILY(invalidate)(&closed, KEY(1), &s.gone), LRU_CLOSED);
     CHECK(FAMILY(insert)(&closed, KEY(1), 1, 1, &s.gone).code, LRU_CLOSED);
-    CHECK(FAMILY(prune)(&closed, &s.gone), LRU_CLOSED);
-    CHECK(FAMILY(set_capacity)(&closed, 1, &s.gone), LRU_CLOSED);
-    CHECK(FAMILY(reserve)(&closed, 1), LRU_CLOSED);
-    CHECK(FAMILY(total)(&closed).code, LRU_CLOSED);
-    CHECK(FAMILY(pinned_charge)(&closed).code, LRU_CLOSED);
-    CHECK(FAMILY(capacity)(&closed).code, LRU_CLOSED);
-    CHECK(FAMILY(len)(&closed).code, LRU_CLOSED);
-    CHECK(FAMILY(free)(&closed, &s.gone), LRU_CLOSED);
-    CHECK(FAMILY(evicted_is_empty)(&s.gone), true);
+    CHECK(lru_cache_prune(&closed, &s.gone), LRU_CLOSED);
+    CHECK(lru_cache_set_capacity(&closed, 1, &s.gone), LRU_CLOSED);
+    CHECK(lru_cache_reserve(&closed, 1), LRU_CLOSED);
+    CHECK(lru_cache_total(&closed).code, LRU_CLOSED);
+    CHECK(lru_cache_pinned_charge(&closed).code, LRU_CLOSED);
+    CHECK(lru_cache_capacity(&closed).code, LRU_CLOSED);
+    CHECK(lru_cache_len(&closed).code, LRU_CLOSED);
+    CHECK(lru_cache_free(&closed, &s.gone), LRU_CLOSED);
+    CHECK(lru_chain_is_empty(&s.gone), true);
 
     /* a chain that is not open */
     CHECK(FAMILY(begin)(&s.cache, KEY(1), 1, &shut).code, LRU_CLOSED);
-    CHECK(FAMILY(release)(&s.cache, pin_of(0), &shut), LRU_CLOSED);
-    CHECK(FAMILY(release_and_evict)(&s.cache, pin_of(0), &shut), LRU_CLOSED);
+    CHECK(lru_cache_release(&s.cache, pin_of(0), &shut), LRU_CLOSED);
+    CHECK(lru_cache_release_and_evict(&s.cache, pin_of(0), &shut), LRU_CLOSED);
     CHECK(FAMILY(advice_evict)(&s.cache, KEY(1), &shut), LRU_CLOSED);
     CHECK(FAMILY(invalidate)(&s.cache, KEY(1), &shut), LRU_CLOSED);
     CHECK(FAMILY(insert)(&s.cache, KEY(1), 1, 1, &shut).code, LRU_CLOSED);
-    CHECK(FAMILY(prune)(&s.cache, &shut), LRU_CLOSED);
-    CHECK(FAMILY(set_capacity)(&s.cache, 1, &shut), LRU_CLOSED);
-    CHECK(FAMILY(free)(&s.cache, &shut), LRU_CLOSED);
-    CHECK(FAMILY(evicted_free)(&shut), LRU_CLOSED);
-    CHECK(FAMILY(evicted_pop)(&shut, &gone), false);
-    CHECK(FAMILY(evicted_is_empty)(&shut), true);
+    CHECK(lru_cache_prune(&s.cache, &shut), LRU_CLOSED);
+    CHECK(lru_cache_set_capacity(&s.cache, 1, &shut), LRU_CLOSED);
+    CHECK(lru_cache_free(&s.cache, &shut), LRU_CLOSED);
+    CHECK(lru_chain_free(&shut), LRU_CLOSED);
+    CHECK(lru_chain_pop(&shut, &gone), false);
+    CHECK(lru_chain_is_empty(&shut), true);
 
     /* handles that are open already */
     CHECK(FAMILY(new)(1, 0, &s.cache), LRU_OPEN);
     CHECK(FAMILY(new_with_limits)(1, 0, 1, 0, &s.cache), LRU_OPEN);
-    CHECK(FAMILY(evicted_new)(&s.gone), LRU_OPEN);
+    CHECK(lru_chain_new(&s.gone), LRU_OPEN);
 
     /* numbers that are 0 */
     CHECK(FAMILY(new_with_limits)(1, 0, 0, 0, &closed), LRU_NO_PINS);
     CHECK(FAMILY(begin)(&s.cache, KEY(1), 0, &s.gone).code, LRU_NO_CHARGE);
-    CHECK(FAMILY(len)(&s.cache).value, 0);
+    CHECK(lru_cache_len(&s.cache).value, 0);
     FAMILY(make)(&s, 1, 1);
     CHECK(FAMILY(begin)(&s.cache, KEY(1), 0, &s.gone).code, LRU_NO_CHARGE);
     CHECK(FAMILY(pinned_of)(&s), 0);
@@ -825,31 +824,31 @@ static void FAMILY(misuse)(void) {
     /* a chain that still holds entries */
     pin = FAMILY(hold)(&s, 2, 1);
     CHECK(FAMILY(advice_evict)(&s.cache, KEY(1), &s.gone), LRU_DONE);
-    CHECK(FAMILY(evicted_is_empty)(&s.gone), false);
+    CHECK(lru_chain_is_empty(&s.gone), false);
     CHECK(FAMILY(begin)(&s.cache, KEY(3), 1, &s.gone).code, LRU_NOT_EMPTY);
-    CHECK(FAMILY(release)(&s.cache, pin, &s.gone), LRU_NOT_EMPTY);
-    CHECK(FAMILY(release_and_evict)(&s.cache, pin, &s.gone), LRU_NOT_EMPTY);
+    CHECK(lru_cache_release(&s.cache, pin, &s.gone), LRU_NOT_EMPTY);
+    CHECK(lru_cache_release_and_evict(&s.cache, pin, &s.gone), LRU_NOT_EMPTY);
     CHECK(FAMILY(advice_evict)(&s.cache, KEY(2), &s.gone), LRU_NOT_EMPTY);
     CHECK(FAMILY(invalidate)(&s.cache, KEY(2), &s.gone), LRU_NOT_EMPTY);
     CHECK(FAMILY(insert)(&s.cache, KEY(2), 1, 1, &s.gone).code, LRU_NOT_EMPTY);
-    CHECK(FAMILY(prune)(&s.cache, &s.gone), LRU_NOT_EMPTY);
-    CHECK(FAMILY(set_capacity)(&s.cache, 0, &s.gone), LRU_NOT_EMPTY);
-    CHECK(FAMILY(free)(&s.cache, &s.gone), LRU_NOT_EMPTY);
-    CHECK(FAMILY(evicted_free)(&s.gone), LRU_NOT_EMPTY);
-    CHECK(FAMILY(len)(&s.cache).value, 1);
-    CHECK(FAMILY(capacity)(&s.cache).value, 2);
-    CHECK(FAMILY(evicted_pop)(&s.gone, &gone), true);
+    CHECK(lru_cache_prune(&s.cache, &s.gone), LRU_NOT_EMPTY);
+    CHECK(lru_cache_set_capacity(&s.cache, 0, &s.gone), LRU_NOT_EMPTY);
+    CHECK(lru_cache_free(&s.cache, &s.gone), LRU_NOT_EMPTY);
+    CHECK(lru_chain_free(&s.gone), LRU_NOT_EMPTY);
+    CHECK(lru_cache_len(&s.cache).value, 1);
+    CHECK(lru_cache_capacity(&s.cache).value, 2);
+    CHECK(lru_chain_pop(&s.gone, &gone), true);
     CHECK(gone.stamp, 0);
     CHECK(gone.charge, 1);
     CHECK(gone.value, 1);
-    CHECK(FAMILY(evicted_pop)(&s.gone, &gone), false);
+    CHECK(lru_chain_pop(&s.gone, &gone), false);
     CHECK(gone.value, 1);
     FAMILY(let_go)(&s, pin);
 
     /* twice */
     FAMILY(close)(&s);
-    CHECK(FAMILY(free)(&s.cache, &s.gone), LRU_CLOSED);
-    CHECK(FAMILY(evicted_free)(&s.gone), LRU_CLOSED);
+    CHECK(lru_cache_free(&s.cache, &s.gone), LRU_CLOSED);
+    CHECK(lru_chain_free(&s.gone), LRU_CLOSED);
 }
 
 static void FAMILY(rows)(void) {

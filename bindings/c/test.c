@@ -55,31 +55,27 @@ static const void *bytes_of(uint64_t k) {
 }
 
 #define FAMILY(name) lru_bytes_##name
-#define TYPE lru_bytes
 #define KEY(k) bytes_of(k), sizeof(uint64_t)
 #include "rows.h"
 #undef FAMILY
-#undef TYPE
 #undef KEY
 
 #define FAMILY(name) lru_words_##name
-#define TYPE lru_words
 #define KEY(k) (k), ~(uint64_t)(k)
 #include "rows.h"
 #undef FAMILY
-#undef TYPE
 #undef KEY
 
 /* Keys of bytes have any length, and null is the empty key if the length is 0. */
 static void keys_of_bytes(void) {
-    lru_bytes cache = {0};
-    lru_bytes_evicted gone = {0};
+    lru_cache cache = {0};
+    lru_chain gone = {0};
     lru_gone left;
     lru_told told;
     char key[8];
 
     CHECK(lru_bytes_new(10, 0, &cache), LRU_DONE);
-    CHECK(lru_bytes_evicted_new(&gone), LRU_DONE);
+    CHECK(lru_chain_new(&gone), LRU_DONE);
 
     CHECK(lru_bytes_begin(&cache, NULL, 1, 1, &gone).code, LRU_NULL_KEY);
     CHECK(lru_bytes_get(&cache, NULL, 1).code, LRU_NULL_KEY);
@@ -87,11 +83,11 @@ static void keys_of_bytes(void) {
     CHECK(lru_bytes_advice_evict(&cache, NULL, 1, &gone), LRU_NULL_KEY);
     CHECK(lru_bytes_invalidate(&cache, NULL, 1, &gone), LRU_NULL_KEY);
     CHECK(lru_bytes_insert(&cache, NULL, 1, 1, 1, &gone).code, LRU_NULL_KEY);
-    CHECK(lru_bytes_len(&cache).value, 0);
+    CHECK(lru_cache_len(&cache).value, 0);
 
     told = lru_bytes_begin(&cache, NULL, 0, 1, &gone);
     CHECK(told.code, LRU_MAKE);
-    CHECK(lru_bytes_ready(&cache, told.pin, 100), LRU_DONE);
+    CHECK(lru_cache_ready(&cache, told.pin, 100), LRU_DONE);
     CHECK(lru_bytes_get(&cache, "", 0).value, 100);
 
     /* the key is copied: its bytes may change */
@@ -99,7 +95,7 @@ static void keys_of_bytes(void) {
     told = lru_bytes_begin(&cache, key, 3, 1, &gone);
     CHECK(told.code, LRU_MAKE);
     memcpy(key, "xyz", 4);
-    CHECK(lru_bytes_ready(&cache, told.pin, 200), LRU_DONE);
+    CHECK(lru_cache_ready(&cache, told.pin, 200), LRU_DONE);
     CHECK(lru_bytes_get(&cache, "abc", 3).value, 200);
     CHECK(lru_bytes_get(&cache, "abc\0", 4).code, LRU_MISSED);
     CHECK(lru_bytes_get(&cache, "ab", 2).code, LRU_MISSED);
@@ -119,30 +115,30 @@ static void keys_of_bytes(void) {
     CHECK(told.value, 0);
     CHECK(lru_bytes_key_of(&cache, pin_of(2), key, sizeof key).code, LRU_STALE);
 
-    CHECK(lru_bytes_reserve(&cache, 1000), LRU_DONE);
-    CHECK(lru_bytes_free(&cache, &gone), LRU_DONE);
+    CHECK(lru_cache_reserve(&cache, 1000), LRU_DONE);
+    CHECK(lru_cache_free(&cache, &gone), LRU_DONE);
     /* both are held, so they come in no particular order */
-    CHECK(lru_bytes_evicted_pop(&gone, &left), true);
+    CHECK(lru_chain_pop(&gone, &left), true);
     uint64_t first = left.value;
-    CHECK(lru_bytes_evicted_pop(&gone, &left), true);
+    CHECK(lru_chain_pop(&gone, &left), true);
     CHECK(first == 100 || first == 200, true);
     CHECK(left.value, 300 - first);
-    CHECK(lru_bytes_evicted_free(&gone), LRU_DONE);
+    CHECK(lru_chain_free(&gone), LRU_DONE);
     CHECK(lru_bytes_key_of(&cache, pin_of(0), key, sizeof key).code, LRU_CLOSED);
 }
 
 /* Both words of a key count. */
 static void keys_of_words(void) {
-    lru_words cache = {0};
-    lru_words_evicted gone = {0};
+    lru_cache cache = {0};
+    lru_chain gone = {0};
     lru_told told;
     uint64_t first = 7, second = 8;
 
     CHECK(lru_words_new(10, 0, &cache), LRU_DONE);
-    CHECK(lru_words_evicted_new(&gone), LRU_DONE);
+    CHECK(lru_chain_new(&gone), LRU_DONE);
     told = lru_words_begin(&cache, 1, 2, 1, &gone);
     CHECK(told.code, LRU_MAKE);
-    CHECK(lru_words_ready(&cache, told.pin, 100), LRU_DONE);
+    CHECK(lru_cache_ready(&cache, told.pin, 100), LRU_DONE);
     CHECK(lru_words_get(&cache, 2, 1).code, LRU_MISSED);
     CHECK(lru_words_get(&cache, 1, 1).code, LRU_MISSED);
     CHECK(lru_words_get(&cache, 2, 2).code, LRU_MISSED);
@@ -153,17 +149,17 @@ static void keys_of_words(void) {
     CHECK(lru_words_key_of(&cache, told.pin, &first, &second), LRU_DONE);
     CHECK(first, 1);
     CHECK(second, 2);
-    CHECK(lru_words_reserve(&cache, 1000), LRU_DONE);
-    CHECK(lru_words_reserve(&cache, SIZE_MAX), LRU_MEMORY);
-    CHECK(lru_words_len(&cache).value, 1);
-    CHECK(lru_words_free(&cache, &gone), LRU_DONE);
-    CHECK(lru_words_evicted_free(&gone), LRU_NOT_EMPTY);
-    while (!lru_words_evicted_is_empty(&gone)) {
+    CHECK(lru_cache_reserve(&cache, 1000), LRU_DONE);
+    CHECK(lru_cache_reserve(&cache, SIZE_MAX), LRU_MEMORY);
+    CHECK(lru_cache_len(&cache).value, 1);
+    CHECK(lru_cache_free(&cache, &gone), LRU_DONE);
+    CHECK(lru_chain_free(&gone), LRU_NOT_EMPTY);
+    while (!lru_chain_is_empty(&gone)) {
         lru_gone left;
-        CHECK(lru_words_evicted_pop(&gone, &left), true);
+        CHECK(lru_chain_pop(&gone, &left), true);
         CHECK(left.value, 100);
     }
-    CHECK(lru_words_evicted_free(&gone), LRU_DONE);
+    CHECK(lru_chain_free(&gone), LRU_DONE);
     CHECK(lru_words_key_of(&cache, pin_of(0), &first, &second), LRU_CLOSED);
 }
 
@@ -183,46 +179,46 @@ static void check_stats(const char *file, int line, lru_code code, const lru_sta
 }
 
 /* Checks the numbers of a cache in the order of `lru_stats`. */
-#define CHECK_STATS(family, cache, ...)                                                            \
+#define CHECK_STATS(cache, ...)                                                                    \
     do {                                                                                           \
         const lru_stats wanted_stats = {__VA_ARGS__};                                              \
         lru_stats got_stats;                                                                       \
-        lru_code stats_code = family##_stats(&(cache), &got_stats);                                \
+        lru_code stats_code = lru_cache_stats(&(cache), &got_stats);                               \
         check_stats(__FILE__, __LINE__, stats_code, &got_stats, &wanted_stats);                    \
     } while (0)
 
 /* What is counted, and that a cache that is not open writes nothing. */
 static void counts(void) {
-    lru_words cache = {0};
-    lru_words_evicted gone = {0};
+    lru_cache cache = {0};
+    lru_chain gone = {0};
     lru_stats kept = {1, 2, 3, 4, 5, 6, 7, 8, 9, 10};
     lru_told told, other;
     lru_gone entry;
 
-    CHECK(lru_words_stats(&cache, &kept), LRU_CLOSED);
+    CHECK(lru_cache_stats(&cache, &kept), LRU_CLOSED);
     CHECK(kept.hits, 1);
     CHECK(kept.capacity, 10);
     /* the stamps need not begin at 0 */
     CHECK(lru_words_new_with_limits(2, 100, 3, 0, &cache), LRU_DONE);
-    CHECK(lru_words_evicted_new(&gone), LRU_DONE);
-    CHECK_STATS(lru_words, cache, 0, 0, 0, 0, 0, 0, 0, 0, 0, 2);
+    CHECK(lru_chain_new(&gone), LRU_DONE);
+    CHECK_STATS(cache, 0, 0, 0, 0, 0, 0, 0, 0, 0, 2);
 
     told = lru_words_begin(&cache, 1, 1, 2, &gone); /* a miss, and one waits */
     other = lru_words_begin(&cache, 1, 1, 2, &gone);
     CHECK(told.code, LRU_MAKE);
     CHECK(other.code, LRU_WAIT);
-    CHECK_STATS(lru_words, cache, 0, 1, 1, 1, 0, 0, 1, 2, 2, 2);
+    CHECK_STATS(cache, 0, 1, 1, 1, 0, 0, 1, 2, 2, 2);
     CHECK(lru_words_get(&cache, 1, 1).code, LRU_MISSED); /* it is still being made */
-    CHECK_STATS(lru_words, cache, 0, 2, 1, 1, 0, 0, 1, 2, 2, 2);
+    CHECK_STATS(cache, 0, 2, 1, 1, 0, 0, 1, 2, 2, 2);
 
     /* a making that is taken over inserts nothing, whether by `poll` or by `begin` */
-    CHECK(lru_words_fail(&cache, told.pin), LRU_LEFT);
+    CHECK(lru_cache_fail(&cache, told.pin), LRU_LEFT);
     CHECK(lru_words_begin(&cache, 1, 1, 2, &gone).code, LRU_MAKE);
-    CHECK_STATS(lru_words, cache, 0, 3, 1, 1, 0, 0, 1, 2, 2, 2);
-    CHECK(lru_words_fail(&cache, told.pin), LRU_LEFT);
-    CHECK(lru_words_poll(&cache, told.pin).code, LRU_MAKE);
-    CHECK(lru_words_fail(&cache, told.pin), LRU_REMOVED);
-    CHECK_STATS(lru_words, cache, 0, 3, 1, 1, 0, 1, 0, 0, 0, 2);
+    CHECK_STATS(cache, 0, 3, 1, 1, 0, 0, 1, 2, 2, 2);
+    CHECK(lru_cache_fail(&cache, told.pin), LRU_LEFT);
+    CHECK(lru_cache_poll(&cache, told.pin).code, LRU_MAKE);
+    CHECK(lru_cache_fail(&cache, told.pin), LRU_REMOVED);
+    CHECK_STATS(cache, 0, 3, 1, 1, 0, 1, 0, 0, 0, 2);
 
     /* an insert is neither a hit nor a miss; a refusal counts nothing */
     told = lru_words_insert(&cache, 1, 1, 1, 10, &gone);
@@ -231,37 +227,93 @@ static void counts(void) {
     CHECK(lru_words_begin(&cache, 1, 1, 1, &gone).code, LRU_HIT);
     CHECK(lru_words_get(&cache, 1, 1).code, LRU_HIT);
     CHECK(lru_words_get(&cache, 1, 1).code, LRU_OVERFLOW);
-    CHECK(lru_words_repin(&cache, told.pin).code, LRU_OVERFLOW);
+    CHECK(lru_cache_repin(&cache, told.pin).code, LRU_OVERFLOW);
     CHECK(lru_words_contains(&cache, 1, 1), LRU_DONE);
-    CHECK_STATS(lru_words, cache, 2, 3, 1, 2, 0, 1, 1, 1, 1, 2);
+    CHECK_STATS(cache, 2, 3, 1, 2, 0, 1, 1, 1, 1, 2);
 
     /* nor is a repin */
-    CHECK(lru_words_release(&cache, told.pin, &gone), LRU_DONE);
-    CHECK(lru_words_repin(&cache, told.pin).code, LRU_PINNED);
-    CHECK_STATS(lru_words, cache, 2, 3, 1, 2, 0, 1, 1, 1, 1, 2);
-    CHECK(lru_words_release(&cache, told.pin, &gone), LRU_DONE);
-    CHECK(lru_words_release(&cache, told.pin, &gone), LRU_DONE);
-    CHECK(lru_words_release(&cache, told.pin, &gone), LRU_DONE);
-    CHECK_STATS(lru_words, cache, 2, 3, 1, 2, 0, 1, 1, 1, 0, 2);
+    CHECK(lru_cache_release(&cache, told.pin, &gone), LRU_DONE);
+    CHECK(lru_cache_repin(&cache, told.pin).code, LRU_PINNED);
+    CHECK_STATS(cache, 2, 3, 1, 2, 0, 1, 1, 1, 1, 2);
+    CHECK(lru_cache_release(&cache, told.pin, &gone), LRU_DONE);
+    CHECK(lru_cache_release(&cache, told.pin, &gone), LRU_DONE);
+    CHECK(lru_cache_release(&cache, told.pin, &gone), LRU_DONE);
+    CHECK_STATS(cache, 2, 3, 1, 2, 0, 1, 1, 1, 0, 2);
 
     /* the new entry evicts the idle one */
     told = lru_words_begin(&cache, 2, 2, 2, &gone);
     CHECK(told.code, LRU_MAKE);
-    CHECK_STATS(lru_words, cache, 2, 4, 1, 3, 1, 1, 1, 2, 2, 2);
-    CHECK(lru_words_evicted_pop(&gone, &entry), true);
+    CHECK_STATS(cache, 2, 4, 1, 3, 1, 1, 1, 2, 2, 2);
+    CHECK(lru_chain_pop(&gone, &entry), true);
     CHECK(entry.value, 10);
 
     /* an eviction, whichever call evicts */
-    CHECK(lru_words_ready(&cache, told.pin, 20), LRU_DONE);
-    CHECK(lru_words_release_and_evict(&cache, told.pin, &gone), LRU_DONE);
-    CHECK_STATS(lru_words, cache, 2, 4, 1, 3, 2, 1, 0, 0, 0, 2);
-    CHECK(lru_words_evicted_pop(&gone, &entry), true);
+    CHECK(lru_cache_ready(&cache, told.pin, 20), LRU_DONE);
+    CHECK(lru_cache_release_and_evict(&cache, told.pin, &gone), LRU_DONE);
+    CHECK_STATS(cache, 2, 4, 1, 3, 2, 1, 0, 0, 0, 2);
+    CHECK(lru_chain_pop(&gone, &entry), true);
     CHECK(entry.value, 20);
 
-    CHECK(lru_words_free(&cache, &gone), LRU_DONE);
-    CHECK(lru_words_stats(&cache, &kept), LRU_CLOSED);
+    CHECK(lru_cache_free(&cache, &gone), LRU_DONE);
+    CHECK(lru_cache_stats(&cache, &kept), LRU_CLOSED);
     CHECK(kept.hits, 1);
-    CHECK(lru_words_evicted_free(&gone), LRU_DONE);
+    CHECK(lru_chain_free(&gone), LRU_DONE);
+}
+
+/* A key of the other kind is refused and changes nothing; a chain takes the entries of both. */
+static void keys_of_the_other_kind(void) {
+    lru_cache bytes = {0}, words = {0};
+    lru_chain gone = {0};
+    lru_told told, other;
+    lru_gone entry;
+    uint64_t first = 7, second = 8;
+    char buffer[2] = {9, 9};
+
+    CHECK(lru_bytes_new(10, 0, &bytes), LRU_DONE);
+    CHECK(lru_words_new(10, 0, &words), LRU_DONE);
+    CHECK(lru_words_new(10, 0, &bytes), LRU_OPEN);
+    CHECK(lru_bytes_new(10, 0, &words), LRU_OPEN);
+    CHECK(lru_chain_new(&gone), LRU_DONE);
+    told = lru_bytes_insert(&bytes, "k", 1, 4, 100, &gone);
+    CHECK(told.code, LRU_DONE);
+    other = lru_words_insert(&words, 1, 2, 5, 200, &gone);
+    CHECK(other.code, LRU_DONE);
+
+    CHECK(lru_words_begin(&bytes, 1, 2, 1, &gone).code, LRU_OTHER_KEYS);
+    CHECK(lru_words_begin(&bytes, 1, 2, 0, &gone).code, LRU_OTHER_KEYS);
+    CHECK(lru_words_get(&bytes, 1, 2).code, LRU_OTHER_KEYS);
+    CHECK(lru_words_contains(&bytes, 1, 2), LRU_OTHER_KEYS);
+    CHECK(lru_words_advice_evict(&bytes, 1, 2, &gone), LRU_OTHER_KEYS);
+    CHECK(lru_words_invalidate(&bytes, 1, 2, &gone), LRU_OTHER_KEYS);
+    CHECK(lru_words_insert(&bytes, 1, 2, 1, 1, &gone).code, LRU_OTHER_KEYS);
+    CHECK(lru_words_key_of(&bytes, told.pin, &first, &second), LRU_OTHER_KEYS);
+    CHECK(first, 7);
+    CHECK(second, 8);
+    CHECK_STATS(bytes, 0, 0, 0, 1, 0, 0, 1, 4, 4, 10);
+
+    CHECK(lru_bytes_begin(&words, "k", 1, 1, &gone).code, LRU_OTHER_KEYS);
+    CHECK(lru_bytes_begin(&words, "k", 1, 0, &gone).code, LRU_OTHER_KEYS);
+    CHECK(lru_bytes_get(&words, "k", 1).code, LRU_OTHER_KEYS);
+    CHECK(lru_bytes_contains(&words, "k", 1), LRU_OTHER_KEYS);
+    CHECK(lru_bytes_advice_evict(&words, "k", 1, &gone), LRU_OTHER_KEYS);
+    CHECK(lru_bytes_invalidate(&words, "k", 1, &gone), LRU_OTHER_KEYS);
+    CHECK(lru_bytes_insert(&words, "k", 1, 1, 1, &gone).code, LRU_OTHER_KEYS);
+    CHECK(lru_bytes_key_of(&words, other.pin, buffer, sizeof buffer).code, LRU_OTHER_KEYS);
+    CHECK(buffer[0], 9);
+    CHECK_STATS(words, 0, 0, 0, 1, 0, 0, 1, 5, 5, 10);
+    CHECK(lru_chain_is_empty(&gone), true);
+
+    CHECK(lru_cache_release_and_evict(&bytes, told.pin, &gone), LRU_DONE);
+    CHECK(lru_cache_release_and_evict(&words, other.pin, &gone), LRU_NOT_EMPTY);
+    CHECK(lru_chain_pop(&gone, &entry), true);
+    CHECK(entry.value, 100);
+    CHECK(lru_cache_release_and_evict(&words, other.pin, &gone), LRU_DONE);
+    CHECK(lru_chain_pop(&gone, &entry), true);
+    CHECK(entry.value, 200);
+    CHECK(lru_cache_free(&bytes, &gone), LRU_DONE);
+    CHECK(lru_cache_free(&words, &gone), LRU_DONE);
+    CHECK(lru_chain_free(&gone), LRU_DONE);
+    CHECK(lru_words_get(&bytes, 1, 2).code, LRU_CLOSED);
 }
 
 int main(void) {
@@ -270,6 +322,7 @@ int main(void) {
     lru_words_rows();
     keys_of_bytes();
     keys_of_words();
+    keys_of_the_other_kind();
     if (failures > 0) {
         fprintf(stderr, "%d failed\n", failures);
         return 1;

@@ -56,98 +56,57 @@ struct std::hash<lru::Words> {
 namespace lru {
 namespace detail {
 
-// The functions of lru.h, for each kind of key.
+// The functions of lru.h that take a key, for each kind of key.
 template <class Key>
 struct Calls {};
 
 template <>
 struct Calls<std::string_view> {
-  using Cache = lru_bytes;
-  using Chain = lru_bytes_evicted;
-
   static constexpr auto make = lru_bytes_new;
-  static constexpr auto free = lru_bytes_free;
-  static constexpr auto poll = lru_bytes_poll;
-  static constexpr auto ready = lru_bytes_ready;
-  static constexpr auto fail = lru_bytes_fail;
-  static constexpr auto repin = lru_bytes_repin;
-  static constexpr auto release = lru_bytes_release;
-  static constexpr auto release_and_evict = lru_bytes_release_and_evict;
-  static constexpr auto prune = lru_bytes_prune;
-  static constexpr auto set_capacity = lru_bytes_set_capacity;
-  static constexpr auto total = lru_bytes_total;
-  static constexpr auto pinned_charge = lru_bytes_pinned_charge;
-  static constexpr auto capacity = lru_bytes_capacity;
-  static constexpr auto len = lru_bytes_len;
-  static constexpr auto stats = lru_bytes_stats;
-  static constexpr auto make_chain = lru_bytes_evicted_new;
-  static constexpr auto free_chain = lru_bytes_evicted_free;
-  static constexpr auto pop = lru_bytes_evicted_pop;
-  static constexpr auto is_empty = lru_bytes_evicted_is_empty;
 
-  static lru_told begin(Cache* cache, std::string_view key, std::uint64_t charge, Chain* gone) {
+  static lru_told begin(lru_cache* cache, std::string_view key, std::uint64_t charge,
+                        lru_chain* gone) {
     return lru_bytes_begin(cache, key.data(), key.size(), charge, gone);
   }
-  static lru_told get(Cache* cache, std::string_view key) {
+  static lru_told get(lru_cache* cache, std::string_view key) {
     return lru_bytes_get(cache, key.data(), key.size());
   }
-  static lru_code contains(Cache* cache, std::string_view key) {
+  static lru_code contains(lru_cache* cache, std::string_view key) {
     return lru_bytes_contains(cache, key.data(), key.size());
   }
-  static lru_code advice_evict(Cache* cache, std::string_view key, Chain* gone) {
+  static lru_code advice_evict(lru_cache* cache, std::string_view key, lru_chain* gone) {
     return lru_bytes_advice_evict(cache, key.data(), key.size(), gone);
   }
-  static lru_code invalidate(Cache* cache, std::string_view key, Chain* gone) {
+  static lru_code invalidate(lru_cache* cache, std::string_view key, lru_chain* gone) {
     return lru_bytes_invalidate(cache, key.data(), key.size(), gone);
   }
-  static lru_told insert(Cache* cache, std::string_view key, std::uint64_t charge,
-                         std::uint64_t value, Chain* gone) {
+  static lru_told insert(lru_cache* cache, std::string_view key, std::uint64_t charge,
+                         std::uint64_t value, lru_chain* gone) {
     return lru_bytes_insert(cache, key.data(), key.size(), charge, value, gone);
   }
 };
 
 template <>
 struct Calls<Words> {
-  using Cache = lru_words;
-  using Chain = lru_words_evicted;
-
   static constexpr auto make = lru_words_new;
-  static constexpr auto free = lru_words_free;
-  static constexpr auto poll = lru_words_poll;
-  static constexpr auto ready = lru_words_ready;
-  static constexpr auto fail = lru_words_fail;
-  static constexpr auto repin = lru_words_repin;
-  static constexpr auto release = lru_words_release;
-  static constexpr auto release_and_evict = lru_words_release_and_evict;
-  static constexpr auto prune = lru_words_prune;
-  static constexpr auto set_capacity = lru_words_set_capacity;
-  static constexpr auto total = lru_words_total;
-  static constexpr auto pinned_charge = lru_words_pinned_charge;
-  static constexpr auto capacity = lru_words_capacity;
-  static constexpr auto len = lru_words_len;
-  static constexpr auto stats = lru_words_stats;
-  static constexpr auto make_chain = lru_words_evicted_new;
-  static constexpr auto free_chain = lru_words_evicted_free;
-  static constexpr auto pop = lru_words_evicted_pop;
-  static constexpr auto is_empty = lru_words_evicted_is_empty;
 
-  static lru_told begin(Cache* cache, Words key, std::uint64_t charge, Chain* gone) {
+  static lru_told begin(lru_cache* cache, Words key, std::uint64_t charge, lru_chain* gone) {
     return lru_words_begin(cache, key.first, key.second, charge, gone);
   }
-  static lru_told get(Cache* cache, Words key) {
+  static lru_told get(lru_cache* cache, Words key) {
     return lru_words_get(cache, key.first, key.second);
   }
-  static lru_code contains(Cache* cache, Words key) {
+  static lru_code contains(lru_cache* cache, Words key) {
     return lru_words_contains(cache, key.first, key.second);
   }
-  static lru_code advice_evict(Cache* cache, Words key, Chain* gone) {
+  static lru_code advice_evict(lru_cache* cache, Words key, lru_chain* gone) {
     return lru_words_advice_evict(cache, key.first, key.second, gone);
   }
-  static lru_code invalidate(Cache* cache, Words key, Chain* gone) {
+  static lru_code invalidate(lru_cache* cache, Words key, lru_chain* gone) {
     return lru_words_invalidate(cache, key.first, key.second, gone);
   }
-  static lru_told insert(Cache* cache, Words key, std::uint64_t charge, std::uint64_t value,
-                         Chain* gone) {
+  static lru_told insert(lru_cache* cache, Words key, std::uint64_t charge, std::uint64_t value,
+                         lru_chain* gone) {
     return lru_words_insert(cache, key.first, key.second, charge, value, gone);
   }
 };
@@ -191,9 +150,9 @@ class Core {
   // Deletes all nodes that are left. Calls on handles that are not open do nothing.
   ~Core() {
     Evicted<Node> rest;
-    Calls::free(&cache_, &chain_);
+    lru_cache_free(&cache_, &chain_);
     take_evicted(&rest);
-    Calls::free_chain(&chain_);
+    lru_chain_free(&chain_);
   }
 
   Core(const Core&) = delete;
@@ -202,7 +161,7 @@ class Core {
   // Opens the cache. Comes before all other members, and only once. False if there is no memory for
   // it: then only the destructor may follow.
   [[nodiscard]] bool open(std::uint64_t capacity, Seed seed) noexcept {
-    return Calls::make_chain(&chain_) == LRU_DONE &&
+    return lru_chain_new(&chain_) == LRU_DONE &&
            Calls::make(capacity, seed.number, &cache_) == LRU_DONE;
   }
 
@@ -211,22 +170,22 @@ class Core {
     if (told.code == LRU_MAKE) take_evicted(evicted);
     return told;
   }
-  lru_told poll(lru_pin pin) noexcept { return Calls::poll(&cache_, pin); }
+  lru_told poll(lru_pin pin) noexcept { return lru_cache_poll(&cache_, pin); }
   // After LRU_DONE the node is the core's; else it is still the caller's.
   lru_code ready(lru_pin pin, Node* node) noexcept {
-    return Calls::ready(&cache_, pin, word_of(node));
+    return lru_cache_ready(&cache_, pin, word_of(node));
   }
-  lru_code fail(lru_pin pin) noexcept { return Calls::fail(&cache_, pin); }
+  lru_code fail(lru_pin pin) noexcept { return lru_cache_fail(&cache_, pin); }
   lru_told get(Key key) noexcept { return Calls::get(&cache_, key); }
   lru_code contains(Key key) const noexcept { return Calls::contains(&cache_, key); }
-  lru_told repin(lru_pin pin) noexcept { return Calls::repin(&cache_, pin); }
+  lru_told repin(lru_pin pin) noexcept { return lru_cache_repin(&cache_, pin); }
   lru_code release(lru_pin pin, Evicted<Node>* evicted) noexcept {
-    const lru_code code = Calls::release(&cache_, pin, &chain_);
+    const lru_code code = lru_cache_release(&cache_, pin, &chain_);
     take_evicted(evicted);
     return code;
   }
   lru_code release_and_evict(lru_pin pin, Evicted<Node>* evicted) noexcept {
-    const lru_code code = Calls::release_and_evict(&cache_, pin, &chain_);
+    const lru_code code = lru_cache_release_and_evict(&cache_, pin, &chain_);
     take_evicted(evicted);
     return code;
   }
@@ -247,20 +206,20 @@ class Core {
     return told;
   }
   void prune(Evicted<Node>* evicted) noexcept {
-    Calls::prune(&cache_, &chain_);
+    lru_cache_prune(&cache_, &chain_);
     take_evicted(evicted);
   }
   void set_capacity(std::uint64_t capacity, Evicted<Node>* evicted) noexcept {
-    Calls::set_capacity(&cache_, capacity, &chain_);
+    lru_cache_set_capacity(&cache_, capacity, &chain_);
     take_evicted(evicted);
   }
-  std::uint64_t total() const noexcept { return Calls::total(&cache_).value; }
-  std::uint64_t pinned_charge() const noexcept { return Calls::pinned_charge(&cache_).value; }
-  std::uint64_t capacity() const noexcept { return Calls::capacity(&cache_).value; }
-  std::uint64_t len() const noexcept { return Calls::len(&cache_).value; }
+  std::uint64_t total() const noexcept { return lru_cache_total(&cache_).value; }
+  std::uint64_t pinned_charge() const noexcept { return lru_cache_pinned_charge(&cache_).value; }
+  std::uint64_t capacity() const noexcept { return lru_cache_capacity(&cache_).value; }
+  std::uint64_t len() const noexcept { return lru_cache_len(&cache_).value; }
   lru_stats stats() const noexcept {
     lru_stats stats = {};
-    Calls::stats(&cache_, &stats);
+    lru_cache_stats(&cache_, &stats);
     return stats;
   }
 
@@ -278,14 +237,14 @@ class Core {
 
   // Empties the chain, as the next call needs it empty. Most calls evict nothing.
   void take_evicted(Evicted<Node>* evicted) noexcept {
-    if (Calls::is_empty(&chain_)) return;
+    if (lru_chain_is_empty(&chain_)) return;
     lru_gone gone;
-    while (Calls::pop(&chain_, &gone)) evicted->add(node_of(gone.value));
+    while (lru_chain_pop(&chain_, &gone)) evicted->add(node_of(gone.value));
   }
 
   // Mutable because the calls that only look take a pointer that is not const.
-  mutable typename Calls::Cache cache_ = {};
-  typename Calls::Chain chain_ = {};
+  mutable lru_cache cache_ = {};
+  lru_chain chain_ = {};
 };
 
 }  // namespace detail

@@ -10,8 +10,8 @@
 enum { MOST_KEYS = 100000 };
 
 static uint64_t keys[MOST_KEYS][2];
-static lru_words cache;
-static lru_words_evicted gone;
+static lru_cache cache;
+static lru_chain gone;
 
 static void check(bool right) {
     if (!right)
@@ -25,7 +25,7 @@ static uint64_t random_seed(void) {
 }
 
 static void release(lru_pin pin) {
-    check(lru_words_release(&cache, pin, &gone) == LRU_DONE);
+    check(lru_cache_release(&cache, pin, &gone) == LRU_DONE);
 }
 
 int main(int argc, char **argv) {
@@ -33,7 +33,7 @@ int main(int argc, char **argv) {
     size_t count = fread(keys, sizeof keys[0], MOST_KEYS, stdin);
 
     check(lru_words_new(UINT64_MAX, seed, &cache) == LRU_DONE);
-    check(lru_words_evicted_new(&gone) == LRU_DONE);
+    check(lru_chain_new(&gone) == LRU_DONE);
     for (size_t i = 0; i < count; i++) {
         lru_told told = lru_words_insert(&cache, keys[i][0], keys[i][1], 1, i, &gone);
         check(told.code == LRU_DONE);
@@ -44,6 +44,6 @@ int main(int argc, char **argv) {
         check(told.code == LRU_HIT && told.value == i);
         release(told.pin);
     }
-    printf("%llu\n", (unsigned long long)lru_words_len(&cache).value);
+    printf("%llu\n", (unsigned long long)lru_cache_len(&cache).value);
     return 0;
 }

@@ -60,19 +60,16 @@ static void say(const char *call, lru_told told) {
 /* Keys of bytes have different lengths, so that some are longer than all before. */
 static char key_bytes[1200];
 
-#define FAMILY lru_bytes
 #define NAME(call) lru_bytes_##call
 #define CALL(call) "bytes_" call
 #define KEY(n) key_bytes, (size_t)(n)
 #define RUN run_bytes
 #include "no_memory_script.h"
-#undef FAMILY
 #undef NAME
 #undef CALL
 #undef KEY
 #undef RUN
 
-#define FAMILY lru_words
 #define NAME(call) lru_words_##call
 #define CALL(call) "words_" call
 #define KEY(n) (uint64_t)(n) % 7, (uint64_t)(n)

@@ -1,29 +1,28 @@
-/* The script of no_memory.c for one family of functions. It is included once for each, with
+/* The script of no_memory.c for one kind of keys. It is included once for each, with
  *
- *   FAMILY       lru_bytes or lru_words
- *   NAME(call)   the name of a function of the family
+ *   NAME(call)   the name of a function for such keys, or of one that is defined here
  *   CALL(call)   the same as text, where a call may be refused
  *   KEY(n)       the key of a number, as arguments
  *   RUN          the name of the function that is defined here
  */
 
 /* The total charge and the number of entries, which a refused call must not change. */
-static uint64_t NAME(weighed)(FAMILY *cache) {
-    return NAME(total)(cache).value * 1000 + NAME(len)(cache).value;
+static uint64_t NAME(weighed)(lru_cache *cache) {
+    return lru_cache_total(cache).value * 1000 + lru_cache_len(cache).value;
 }
 
 /* Deletes what was evicted. */
-static void NAME(take)(NAME(evicted) * gone) {
+static void NAME(take)(lru_chain *gone) {
     lru_gone entry;
-    while (NAME(evicted_pop)(gone, &entry)) delete_object(entry.value, "evicted");
-    if (!NAME(evicted_is_empty)(gone)) wrong("a chain that was popped is not empty");
+    while (lru_chain_pop(gone, &entry)) delete_object(entry.value, "evicted");
+    if (!lru_chain_is_empty(gone)) wrong("a chain that was popped is not empty");
 }
 
-static lru_told NAME(ask)(FAMILY *cache, NAME(evicted) * gone, unsigned n, uint64_t charge) {
+static lru_told NAME(ask)(lru_cache *cache, lru_chain *gone, unsigned n, uint64_t charge) {
     uint64_t before = NAME(weighed)(cache);
     lru_told told = NAME(begin)(cache, KEY(n), charge, gone);
     if (refused(told.code, CALL("begin"))) {
-        if (!NAME(evicted_is_empty)(gone) || NAME(weighed)(cache) != before)
+        if (!lru_chain_is_empty(gone) || NAME(weighed)(cache) != before)
             wrong("a refused begin changed something");
         told = NAME(begin)(cache, KEY(n), charge, gone);
     }
@@ -32,7 +31,7 @@ static lru_told NAME(ask)(FAMILY *cache, NAME(evicted) * gone, unsigned n, uint6
     return told;
 }
 
-static lru_told NAME(find)(FAMILY *cache, unsigned n) {
+static lru_told NAME(find)(lru_cache *cache, unsigned n) {
     uint64_t before = NAME(weighed)(cache);
     lru_told told = NAME(get)(cache, KEY(n));
     if (refused(told.code, CALL("get"))) {
@@ -43,39 +42,39 @@ static lru_told NAME(find)(FAMILY *cache, unsigned n) {
     return told;
 }
 
-static void NAME(give)(FAMILY *cache, lru_pin pin) {
-    say_code("ready", NAME(ready)(cache, pin, new_object()));
+static void NAME(give)(lru_cache *cache, lru_pin pin) {
+    say_code("ready", lru_cache_ready(cache, pin, new_object()));
 }
 
-static void NAME(let_go)(FAMILY *cache, NAME(evicted) * gone, lru_pin pin) {
-    say_code("release", NAME(release)(cache, pin, gone));
+static void NAME(let_go)(lru_cache *cache, lru_chain *gone, lru_pin pin) {
+    say_code("release", lru_cache_release(cache, pin, gone));
     NAME(take)(gone);
 }
 
-static void NAME(let_go_and_evict)(FAMILY *cache, NAME(evicted) * gone, lru_pin pin) {
-    say_code("release_and_evict", NAME(release_and_evict)(cache, pin, gone));
+static void NAME(let_go_and_evict)(lru_cache *cache, lru_chain *gone, lru_pin pin) {
+    say_code("release_and_evict", lru_cache_release_and_evict(cache, pin, gone));
     NAME(take)(gone);
 }
 
 /* Makes the entry of a key if there is none, and releases it. */
-static void NAME(use)(FAMILY *cache, NAME(evicted) * gone, unsigned n, uint64_t charge) {
+static void NAME(use)(lru_cache *cache, lru_chain *gone, unsigned n, uint64_t charge) {
     lru_told told = NAME(ask)(cache, gone, n, charge);
     if (told.code == LRU_MAKE) NAME(give)(cache, told.pin);
     NAME(let_go)(cache, gone, told.pin);
 }
 
-static void NAME(evict)(FAMILY *cache, NAME(evicted) * gone, unsigned n) {
+static void NAME(evict)(lru_cache *cache, lru_chain *gone, unsigned n) {
     lru_code code = NAME(advice_evict)(cache, KEY(n), gone);
     if (refused(code, CALL("advice_evict"))) code = NAME(advice_evict)(cache, KEY(n), gone);
     say_code("advice_evict", code);
     NAME(take)(gone);
 }
 
-static void NAME(take_away)(FAMILY *cache, NAME(evicted) * gone, unsigned n) {
+static void NAME(take_away)(lru_cache *cache, lru_chain *gone, unsigned n) {
     uint64_t before = NAME(weighed)(cache);
     lru_code code = NAME(invalidate)(cache, KEY(n), gone);
     if (refused(code, CALL("invalidate"))) {
-        if (!NAME(evicted_is_empty)(gone) || NAME(weighed)(cache) != before)
+        if (!lru_chain_is_empty(gone) || NAME(weighed)(cache) != before)
             wrong("a refused invalidate changed something");
         code = NAME(invalidate)(cache, KEY(n), gone);
     }
@@ -83,18 +82,18 @@ static void NAME(take_away)(FAMILY *cache, NAME(evicted) * gone, unsigned n) {
     NAME(take)(gone);
 }
 
-static void NAME(look)(FAMILY *cache, unsigned n) {
+static void NAME(look)(lru_cache *cache, unsigned n) {
     lru_code code = NAME(contains)(cache, KEY(n));
     if (refused(code, CALL("contains"))) code = NAME(contains)(cache, KEY(n));
     say_code("contains", code);
 }
 
 /* Puts a value in, and answers the pin of its entry. */
-static lru_pin NAME(put)(FAMILY *cache, NAME(evicted) * gone, unsigned n, uint64_t charge) {
+static lru_pin NAME(put)(lru_cache *cache, lru_chain *gone, unsigned n, uint64_t charge) {
     uint64_t before = NAME(weighed)(cache), value = new_object();
     lru_told told = NAME(insert)(cache, KEY(n), charge, value, gone);
     if (refused(told.code, CALL("insert"))) {
-        if (!NAME(evicted_is_empty)(gone) || NAME(weighed)(cache) != before)
+        if (!lru_chain_is_empty(gone) || NAME(weighed)(cache) != before)
             wrong("a refused insert changed something");
         told = NAME(insert)(cache, KEY(n), charge, value, gone);
     }
@@ -103,19 +102,19 @@ static lru_pin NAME(put)(FAMILY *cache, NAME(evicted) * gone, unsigned n, uint64
     return told.pin;
 }
 
-static void NAME(open)(FAMILY *cache) {
+static void NAME(open)(lru_cache *cache) {
     lru_code code = NAME(new)(20, 0, cache);
     if (refused(code, CALL("new"))) code = NAME(new)(20, 0, cache);
     say_code("new", code);
 }
 
 static void RUN(void) {
-    FAMILY cache = {0};
-    NAME(evicted) gone = {0};
+    lru_cache cache = {0};
+    lru_chain gone = {0};
     lru_told held, waited;
-    lru_code code = NAME(evicted_new)(&gone);
-    if (refused(code, CALL("evicted_new"))) code = NAME(evicted_new)(&gone);
-    say_code("evicted_new", code);
+    lru_code code = lru_chain_new(&gone);
+    if (refused(code, CALL("chain_new"))) code = lru_chain_new(&gone);
+    say_code("chain_new", code);
     NAME(open)(&cache);
 
     /* Entries are made and evicted while one is held. */
@@ -126,13 +125,13 @@ static void RUN(void) {
 
     /* Making a value fails, once while nobody waits and once while somebody does. */
     waited = NAME(ask)(&cache, &gone, 50, 2);
-    say_code("fail", NAME(fail)(&cache, waited.pin));
+    say_code("fail", lru_cache_fail(&cache, waited.pin));
     waited = NAME(ask)(&cache, &gone, 50, 2);
     NAME(ask)(&cache, &gone, 50, 9);
-    say_code("fail", NAME(fail)(&cache, waited.pin));
-    say("poll", NAME(poll)(&cache, waited.pin));
+    say_code("fail", lru_cache_fail(&cache, waited.pin));
+    say("poll", lru_cache_poll(&cache, waited.pin));
     NAME(give)(&cache, waited.pin);
-    say("poll", NAME(poll)(&cache, waited.pin));
+    say("poll", lru_cache_poll(&cache, waited.pin));
     NAME(let_go)(&cache, &gone, waited.pin);
 
     /* Hits, misses and advice_evict. */
@@ -146,7 +145,7 @@ static void RUN(void) {
     /* Another pin of an entry, which is evicted with its last one. */
     waited = NAME(ask)(&cache, &gone, 51, 2);
     NAME(give)(&cache, waited.pin);
-    say("repin", NAME(repin)(&cache, waited.pin));
+    say("repin", lru_cache_repin(&cache, waited.pin));
     NAME(let_go_and_evict)(&cache, &gone, waited.pin);
     NAME(let_go_and_evict)(&cache, &gone, waited.pin);
 
@@ -169,23 +168,23 @@ static void RUN(void) {
     NAME(evict)(&cache, &gone, 1200);
 
     /* reserve, a smaller capacity, prune. */
-    code = NAME(reserve)(&cache, 100);
-    if (refused(code, CALL("reserve"))) code = NAME(reserve)(&cache, 100);
+    code = lru_cache_reserve(&cache, 100);
+    if (refused(code, CALL("reserve"))) code = lru_cache_reserve(&cache, 100);
     say_code("reserve", code);
-    say_code("set_capacity", NAME(set_capacity)(&cache, 8, &gone));
+    say_code("set_capacity", lru_cache_set_capacity(&cache, 8, &gone));
     NAME(take)(&gone);
-    say_code("prune", NAME(prune)(&cache, &gone));
+    say_code("prune", lru_cache_prune(&cache, &gone));
     NAME(take)(&gone);
 
     /* Free with one entry held, one idle and one being made; then open again. */
     NAME(use)(&cache, &gone, 60, 1);
     NAME(ask)(&cache, &gone, 61, 1);
-    say("total", NAME(total)(&cache));
-    say_code("free", NAME(free)(&cache, &gone));
+    say("total", lru_cache_total(&cache));
+    say_code("free", lru_cache_free(&cache, &gone));
     NAME(take)(&gone);
     NAME(open)(&cache);
     NAME(use)(&cache, &gone, 1, 1);
-    say_code("free", NAME(free)(&cache, &gone));
+    say_code("free", lru_cache_free(&cache, &gone));
     NAME(take)(&gone);
-    say_code("evicted_free", NAME(evicted_free)(&gone));
+    say_code("chain_free", lru_chain_free(&gone));
 }

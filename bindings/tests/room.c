@@ -47,33 +47,33 @@ static void note(struct range *range, unsigned before) {
 }
 
 static struct range of_words(size_t room) {
-    lru_words cache = {0};
-    lru_words_evicted gone = {0};
+    lru_cache cache = {0};
+    lru_chain gone = {0};
     struct range range = {UINT32_MAX, 0};
     if (lru_words_new(ENTRIES, 1, &cache) != LRU_DONE) wrong("no cache");
-    if (lru_words_evicted_new(&gone) != LRU_DONE) wrong("no chain");
-    if (lru_words_reserve(&cache, room) != LRU_DONE) wrong("no room");
+    if (lru_chain_new(&gone) != LRU_DONE) wrong("no chain");
+    if (lru_cache_reserve(&cache, room) != LRU_DONE) wrong("no room");
     for (uint64_t key = 0; key < ENTRIES; key++) {
         unsigned before = requests;
         lru_told told = lru_words_begin(&cache, key, 0, 1, &gone);
         if (told.code != LRU_MAKE) wrong("no making");
-        if (lru_words_ready(&cache, told.pin, key) != LRU_DONE) wrong("not stored");
+        if (lru_cache_ready(&cache, told.pin, key) != LRU_DONE) wrong("not stored");
         note(&range, before);
     }
-    if (lru_words_free(&cache, &gone) != LRU_DONE) wrong("not freed");
+    if (lru_cache_free(&cache, &gone) != LRU_DONE) wrong("not freed");
     lru_gone entry;
-    while (lru_words_evicted_pop(&gone, &entry)) continue;
-    if (lru_words_evicted_free(&gone) != LRU_DONE) wrong("entries are left");
+    while (lru_chain_pop(&gone, &entry)) continue;
+    if (lru_chain_free(&gone) != LRU_DONE) wrong("entries are left");
     return range;
 }
 
 static struct range of_bytes(size_t room) {
-    lru_bytes cache = {0};
-    lru_bytes_evicted gone = {0};
+    lru_cache cache = {0};
+    lru_chain gone = {0};
     struct range range = {UINT32_MAX, 0};
     if (lru_bytes_new(ENTRIES, 1, &cache) != LRU_DONE) wrong("no cache");
-    if (lru_bytes_evicted_new(&gone) != LRU_DONE) wrong("no chain");
-    if (lru_bytes_reserve(&cache, room) != LRU_DONE) wrong("no room");
+    if (lru_chain_new(&gone) != LRU_DONE) wrong("no chain");
+    if (lru_cache_reserve(&cache, room) != LRU_DONE) wrong("no room");
     /* The buffer for the key of a call grows at the first one. */
     uint64_t key = ENTRIES;
     if (lru_bytes_get(&cache, &key, sizeof key).code != LRU_MISSED) wrong("a hit");
@@ -83,10 +83,10 @@ static struct range of_bytes(size_t room) {
         if (told.code != LRU_DONE) wrong("not inserted");
         note(&range, before);
     }
-    if (lru_bytes_free(&cache, &gone) != LRU_DONE) wrong("not freed");
+    if (lru_cache_free(&cache, &gone) != LRU_DONE) wrong("not freed");
     lru_gone entry;
-    while (lru_bytes_evicted_pop(&gone, &entry)) continue;
-    if (lru_bytes_evicted_free(&gone) != LRU_DONE) wrong("entries are left");
+    while (lru_chain_pop(&gone, &entry)) continue;
+    if (lru_chain_free(&gone) != LRU_DONE) wrong("entries are left");
     return range;
 }
 

@@ -36,21 +36,20 @@ namespace {
 constexpr std::uint64_t kSeeds = 20;
 constexpr int kSteps = 2000;
 
-// The functions of lru.h for each kind of key, and keys by number, some of which begin alike.
+// The functions of lru.h that take a key, for each kind of key, and keys by number, some of which
+// begin alike.
 
 struct Bytes : lru::detail::Calls<std::string_view> {
   using Key = std::string;
 
   static constexpr const char* name = "bytes";
   static constexpr auto open = lru_bytes_new_with_limits;
-  static constexpr auto reserve = lru_bytes_reserve;
-  static constexpr auto len = lru_bytes_len;
 
   static Key key(std::uint64_t n) { return std::string(n % 5 * 9, '\0') + std::string(n / 5, 'k'); }
-  static lru_code contains(Cache* cache, const Key& key) {
+  static lru_code contains(lru_cache* cache, const Key& key) {
     return lru_bytes_contains(cache, key.data(), key.size());
   }
-  static std::optional<Key> key_of(Cache* cache, lru_pin pin) {
+  static std::optional<Key> key_of(lru_cache* cache, lru_pin pin) {
     char buffer[64];
     const lru_told told = lru_bytes_key_of(cache, pin, buffer, sizeof buffer);
     if (told.code == LRU_STALE) return std::nullopt;
@@ -64,29 +63,27 @@ struct Pairs : lru::detail::Calls<lru::Words> {
 
   static constexpr const char* name = "words";
   static constexpr auto open = lru_words_new_with_limits;
-  static constexpr auto reserve = lru_words_reserve;
-  static constexpr auto len = lru_words_len;
 
   static Key key(std::uint64_t n) { return {n / 4, n % 4}; }
   static lru::Words words(const Key& key) { return {key.first, key.second}; }
-  static lru_told begin(Cache* cache, const Key& key, std::uint64_t charge, Chain* gone) {
+  static lru_told begin(lru_cache* cache, const Key& key, std::uint64_t charge, lru_chain* gone) {
     return Calls::begin(cache, words(key), charge, gone);
   }
-  static lru_told get(Cache* cache, const Key& key) { return Calls::get(cache, words(key)); }
-  static lru_code advice_evict(Cache* cache, const Key& key, Chain* gone) {
+  static lru_told get(lru_cache* cache, const Key& key) { return Calls::get(cache, words(key)); }
+  static lru_code advice_evict(lru_cache* cache, const Key& key, lru_chain* gone) {
     return Calls::advice_evict(cache, words(key), gone);
   }
-  static lru_code invalidate(Cache* cache, const Key& key, Chain* gone) {
+  static lru_code invalidate(lru_cache* cache, const Key& key, lru_chain* gone) {
     return Calls::invalidate(cache, words(key), gone);
   }
-  static lru_told insert(Cache* cache, const Key& key, std::uint64_t charge, std::uint64_t value,
-                         Chain* gone) {
+  static lru_told insert(lru_cache* cache, const Key& key, std::uint64_t charge,
+                         std::uint64_t value, lru_chain* gone) {
     return Calls::insert(cache, words(key), charge, value, gone);
   }
-  static lru_code contains(Cache* cache, const Key& key) {
+  static lru_code contains(lru_cache* cache, const Key& key) {
     return lru_words_contains(cache, key.first, key.second);
   }
-  static std::optional<Key> key_of(Cache* cache, lru_pin pin) {
+  static std::optional<Key> key_of(lru_cache* cache, lru_pin pin) {
     Key key;
     if (lru_words_key_of(cache, pin, &key.first, &key.second) != LRU_DONE) return std::nullopt;
     return key;
@@ -114,7 +111,7 @@ class Run {
  public:
   explicit Run(std::uint64_t seed)
       : random_(seed), seed_(seed), plain_(kCapacity, kFirstStamp, kMostPins) {
-    if (Family::make_chain(&chain_) != LRU_DONE) std::abort();
+    if (lru_chain_new(&chain_) != LRU_DONE) std::abort();
     // The answers do not depend on the seed of the cache.
     if (Family::open(kCapacity, kFirstStamp, kMostPins, seed, &cache_) != LRU_DONE) std::abort();
   }
@@ -218,20 +215,20 @@ class Run {
   bool poll() {
     call_ = "poll";
     const lru_pin pin = any_pin();
-    return Family::poll(&cache_, pin) == plain_.poll(pin.stamp);
+    return lru_cache_poll(&cache_, pin) == plain_.poll(pin.stamp);
   }
 
   bool ready() {
     call_ = "ready";
     const lru_pin pin = any_pin();
     const std::uint64_t value = random_.below(UINT64_MAX);
-    return Family::ready(&cache_, pin, value) == plain_.ready(pin.stamp, value);
+    return lru_cache_ready(&cache_, pin, value) == plain_.ready(pin.stamp, value);
   }
 
   bool fail() {
     call_ = "fail";
     const lru_pin pin = any_pin();
-    const lru_code code = Family::fail(&cache_, pin);
+    const lru_code code = lru_cache_fail(&cache_, pin);
     if (code != LRU_STALE) given_back(pin.stamp);
     return code == plain_.fail(pin.stamp);
   }
@@ -248,7 +245,7 @@ class Run {
   bool repin() {
     call_ = "repin";
     const lru_pin pin = random_.below(2) == 0 ? latest_released_ : any_pin();
-    const lru_told told = Family::repin(&cache_, pin);
+    const lru_told told = lru_cache_repin(&cache_, pin);
     if (told.code == LRU_PINNED) {
       pinned(told);
       repins_++;
@@ -259,7 +256,7 @@ class Run {
   bool release() {
     call_ = "release";
     const lru_pin pin = any_pin();
-    const lru_code code = Family::release(&cache_, pin, &chain_);
+    const lru_code code = lru_cache_release(&cache_, pin, &chain_);
     if (code == LRU_DONE) given_back(pin.stamp);
     return code == plain_.release(pin.stamp, &gone_) && evicted();
   }
@@ -267,7 +264,7 @@ class Run {
   bool release_and_evict() {
     call_ = "release_and_evict";
     const lru_pin pin = any_pin();
-    const lru_code code = Family::release_and_evict(&cache_, pin, &chain_);
+    const lru_code code = lru_cache_release_and_evict(&cache_, pin, &chain_);
     if (code == LRU_DONE) given_back(pin.stamp);
     const bool same = code == plain_.release_and_evict(pin.stamp, &gone_);
     departures_ += gone_.size();
@@ -291,18 +288,18 @@ class Run {
   bool set_capacity() {
     call_ = "set_capacity";
     const std::uint64_t capacity = random_.below(2 * kCapacity);
-    const lru_code code = Family::set_capacity(&cache_, capacity, &chain_);
+    const lru_code code = lru_cache_set_capacity(&cache_, capacity, &chain_);
     return code == plain_.set_capacity(capacity, &gone_) && evicted();
   }
 
   bool prune() {
     call_ = "prune";
-    return Family::prune(&cache_, &chain_) == plain_.prune(&gone_) && evicted();
+    return lru_cache_prune(&cache_, &chain_) == plain_.prune(&gone_) && evicted();
   }
 
   bool reserve() {
     call_ = "reserve";
-    return Family::reserve(&cache_, static_cast<std::size_t>(random_.below(64))) == LRU_DONE;
+    return lru_cache_reserve(&cache_, static_cast<std::size_t>(random_.below(64))) == LRU_DONE;
   }
 
   // Whether the chain holds what the plain cache evicted, in order.
@@ -310,10 +307,10 @@ class Run {
     bool same = true;
     for (const lru_gone& expected : gone_) {
       lru_gone told = {};
-      same = Family::pop(&chain_, &told) && told == expected && same;
+      same = lru_chain_pop(&chain_, &told) && told == expected && same;
     }
     lru_gone more;
-    while (Family::pop(&chain_, &more)) same = false;
+    while (lru_chain_pop(&chain_, &more)) same = false;
     evictions_ += gone_.size();
     gone_.clear();
     return same;
@@ -327,11 +324,11 @@ class Run {
     const Key key = any_key();
     const lru_pin pin = any_pin();
     lru_stats stats = {};
-    return number(Family::total(&cache_)) == plain_.total() &&
-           number(Family::pinned_charge(&cache_)) == plain_.pinned_charge() &&
-           number(Family::capacity(&cache_)) == plain_.capacity() &&
-           number(Family::len(&cache_)) == plain_.len() &&
-           Family::stats(&cache_, &stats) == LRU_DONE && stats == plain_.stats() &&
+    return number(lru_cache_total(&cache_)) == plain_.total() &&
+           number(lru_cache_pinned_charge(&cache_)) == plain_.pinned_charge() &&
+           number(lru_cache_capacity(&cache_)) == plain_.capacity() &&
+           number(lru_cache_len(&cache_)) == plain_.len() &&
+           lru_cache_stats(&cache_, &stats) == LRU_DONE && stats == plain_.stats() &&
            Family::contains(&cache_, key) == plain_.contains(key) &&
            Family::key_of(&cache_, pin) == plain_.key_of(pin.stamp);
   }
@@ -341,15 +338,15 @@ class Run {
   bool end() {
     std::vector<lru_gone> left;
     lru_gone gone;
-    bool same = Family::free(&cache_, &chain_) == LRU_DONE;
+    bool same = lru_cache_free(&cache_, &chain_) == LRU_DONE;
     lru_stats stats = {};
-    same = Family::stats(&cache_, &stats) == LRU_CLOSED && stats == lru_stats() && same;
-    while (Family::pop(&chain_, &gone)) left.push_back(gone);
+    same = lru_cache_stats(&cache_, &stats) == LRU_CLOSED && stats == lru_stats() && same;
+    while (lru_chain_pop(&chain_, &gone)) left.push_back(gone);
     std::sort(left.begin(), left.end(),
               [](const lru_gone& a, const lru_gone& b) { return a.stamp < b.stamp; });
     const std::vector<lru_gone> expected = plain_.values();
     same = std::equal(left.begin(), left.end(), expected.begin(), expected.end()) && same;
-    same = Family::free_chain(&chain_) == LRU_DONE && same;
+    same = lru_chain_free(&chain_) == LRU_DONE && same;
     if (!same) std::printf("seeded: %s, seed %" PRIu64 ": the free differs\n", Family::name, seed_);
     // Each kind of call that is counted must have been made often enough to mean something.
     const lru_stats counted = plain_.stats();
@@ -364,8 +361,8 @@ class Run {
   Random random_;
   std::uint64_t seed_;
   PlainCache<Key> plain_;
-  typename Family::Cache cache_ = {};
-  typename Family::Chain chain_ = {};
+  lru_cache cache_ = {};
+  lru_chain chain_ = {};
   std::vector<lru_gone> gone_;  // what the plain cache has just evicted
   std::vector<lru_pin> pins_;   // as they were told
   lru_pin latest_released_ = {};

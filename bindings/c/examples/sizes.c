@@ -9,23 +9,23 @@
 
 #include "lru.h"
 
-static lru_bytes cache; /* used only while the lock is held */
+static lru_cache cache; /* used only while the lock is held */
 static pthread_mutex_t lock = PTHREAD_MUTEX_INITIALIZER;
 static pthread_cond_t ended = PTHREAD_COND_INITIALIZER; /* after each ready and fail */
 
-static void close_evicted(lru_bytes_evicted *gone) {
+static void close_evicted(lru_chain *gone) {
     lru_gone entry;
-    while (lru_bytes_evicted_pop(gone, &entry))
+    while (lru_chain_pop(gone, &entry))
         fclose((FILE *)(uintptr_t)entry.value);
 }
 
 /* Finds or opens a file and pins it: the caller gives the pin back. Null if that fails. */
-static FILE *find_or_open(const char *path, lru_bytes_evicted *gone, lru_pin *pin) {
+static FILE *find_or_open(const char *path, lru_chain *gone, lru_pin *pin) {
     pthread_mutex_lock(&lock);
     lru_told told = lru_bytes_begin(&cache, path, strlen(path), 1, gone);
     while (told.code == LRU_WAIT) {
         pthread_cond_wait(&ended, &lock);
-        told = lru_bytes_poll(&cache, told.pin);
+        told = lru_cache_poll(&cache, told.pin);
     }
     pthread_mutex_unlock(&lock);
     close_evicted(gone);
@@ -35,9 +35,9 @@ static FILE *find_or_open(const char *path, lru_bytes_evicted *gone, lru_pin *pi
     FILE *file = fopen(path, "rb");
     pthread_mutex_lock(&lock);
     if (file != NULL)
-        lru_bytes_ready(&cache, *pin, (uintptr_t)file); /* no other caller makes this value */
+        lru_cache_ready(&cache, *pin, (uintptr_t)file); /* no other caller makes this value */
     else
-        lru_bytes_fail(&cache, *pin); /* gives the pin back */
+        lru_cache_fail(&cache, *pin); /* gives the pin back */
     pthread_mutex_unlock(&lock);
     pthread_cond_broadcast(&ended);
     return file;
@@ -45,8 +45,8 @@ static FILE *find_or_open(const char *path, lru_bytes_evicted *gone, lru_pin *pi
 
 /* Returns null if the size cannot be found. */
 static void *print_size(void *path) {
-    lru_bytes_evicted gone = {0}; /* each thread has its own */
-    if (lru_bytes_evicted_new(&gone) != LRU_DONE)
+    lru_chain gone = {0}; /* each thread has its own */
+    if (lru_chain_new(&gone) != LRU_DONE)
         return NULL;
     lru_pin pin;
     FILE *file = find_or_open(path, &gone, &pin);
@@ -58,21 +58,21 @@ static void *print_size(void *path) {
         fprintf(stderr, "sizes: cannot read %s\n", (const char *)path);
     pthread_mutex_lock(&lock);
     if (file != NULL)
-        lru_bytes_release(&cache, pin, &gone);
+        lru_cache_release(&cache, pin, &gone);
     pthread_mutex_unlock(&lock);
     close_evicted(&gone);
-    lru_bytes_evicted_free(&gone);
+    lru_chain_free(&gone);
     return found ? path : NULL;
 }
 
 int main(int argc, char **argv) {
     pthread_t threads[100];
     bool all = true;
-    lru_bytes_evicted gone = {0};
+    lru_chain gone = {0};
     uint64_t seed; /* random, so that nobody can choose paths whose hashes are equal */
     if (getrandom(&seed, sizeof seed, 0) != (ssize_t)sizeof seed)
         return 1;
-    if (lru_bytes_new(20, seed, &cache) != LRU_DONE || lru_bytes_evicted_new(&gone) != LRU_DONE)
+    if (lru_bytes_new(20, seed, &cache) != LRU_DONE || lru_chain_new(&gone) != LRU_DONE)
         return 1;
     for (int i = 0; i < 100 && i < argc - 1; i++)
         if (pthread_create(&threads[i], NULL, print_size, argv[i + 1]) != 0)
@@ -81,7 +81,7 @@ int main(int argc, char **argv) {
         void *found;
         all = pthread_join(threads[i], &found) == 0 && found != NULL && all;
     }
-    lru_bytes_free(&cache, &gone); /* hands out all that is left */
+    lru_cache_free(&cache, &gone); /* hands out all that is left */
     close_evicted(&gone);
-    return lru_bytes_evicted_free(&gone) == LRU_DONE && all ? 0 : 1;
+    return lru_chain_free(&gone) == LRU_DONE && all ? 0 : 1;
 }

@@ -1,10 +1,10 @@
-//! The types and codes of `bindings/c/lru.h`, under their names there without `lru_`.
+//! The types and codes of `bindings/c/lru.h`, under their names there without `lru_`, and its
+//! functions that take no key.
 
 use std::ffi::c_void;
 use std::ptr;
 
-/// `lru_bytes`, `lru_words`, `lru_bytes_evicted` and `lru_words_evicted`: a cache, or a chain of
-/// evicted entries.
+/// `lru_cache` and `lru_chain`: a cache, or a chain of evicted entries.
 #[repr(C)]
 pub struct Handle {
     at: *mut c_void,
@@ -73,3 +73,26 @@ pub const OVERFLOW: u32 = 7;
 pub const MEMORY: u32 = 9;
 pub const NO_CHARGE: u32 = 11;
 pub const PINNED: u32 = 18;
+
+// A caller of these guarantees that `cache` points to a cache and `gone`, `left` and `chain` to a
+// chain, that they are the only copies of these handles, and that nothing else uses them during the
+// call. Handles that are not open are refused.
+unsafe extern "C" {
+    pub fn lru_cache_free(cache: *mut Handle, left: *mut Handle) -> u32;
+    pub fn lru_cache_poll(cache: *mut Handle, pin: Pin) -> Told;
+    pub fn lru_cache_ready(cache: *mut Handle, pin: Pin, value: u64) -> u32;
+    pub fn lru_cache_fail(cache: *mut Handle, pin: Pin) -> u32;
+    pub fn lru_cache_repin(cache: *mut Handle, pin: Pin) -> Told;
+    pub fn lru_cache_release(cache: *mut Handle, pin: Pin, gone: *mut Handle) -> u32;
+    pub fn lru_cache_release_and_evict(cache: *mut Handle, pin: Pin, gone: *mut Handle) -> u32;
+    pub fn lru_cache_prune(cache: *mut Handle, gone: *mut Handle) -> u32;
+    pub fn lru_cache_set_capacity(cache: *mut Handle, capacity: u64, gone: *mut Handle) -> u32;
+    pub fn lru_cache_total(cache: *mut Handle) -> Told;
+    pub fn lru_cache_pinned_charge(cache: *mut Handle) -> Told;
+    pub fn lru_cache_capacity(cache: *mut Handle) -> Told;
+    pub fn lru_cache_len(cache: *mut Handle) -> Told;
+    pub fn lru_cache_stats(cache: *mut Handle, out: *mut Stats) -> u32;
+    pub fn lru_chain_new(out: *mut Handle) -> u32;
+    pub fn lru_chain_free(chain: *mut Handle) -> u32;
+    pub fn lru_chain_pop(chain: *mut Handle, out: *mut Gone) -> bool;
+}

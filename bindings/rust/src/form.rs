@@ -2,7 +2,7 @@
 
 use std::borrow::Cow;
 
-use crate::ffi::{Gone, Handle, Pin, Stats, Told};
+use crate::ffi::{Handle, Told};
 
 /// The form that a key is written in: [`Bytes`], [`CowBytes`] or [`Words`].
 ///
@@ -16,22 +16,30 @@ impl<F: sealed::Calls> Form for F {}
 pub type Written<'a, F> = <F as sealed::Calls>::Written<'a>;
 
 pub(crate) mod sealed {
-    use super::{Gone, Handle, Pin, Stats, Told};
+    use super::{Handle, Told};
 
-    /// The functions of `lru.h` for one form of keys.
+    /// The functions of `lru.h` that take a key, for one form of keys.
+    ///
+    /// # Safety
+    ///
+    /// `cache` must point to a cache and `gone` to a chain. They must be the only copies of these
+    /// handles, and nothing else may use them during the call.
     pub trait Calls: 'static {
         /// A key of this form.
         type Written<'a>;
-
-        /// The functions that take no key.
-        const STAMPED: Stamped;
 
         /// Appends a key to the bytes of a longer one, so that different keys never begin alike.
         fn append(key: Self::Written<'_>, bytes: &mut Vec<u8>);
 
         /// # Safety
         ///
-        /// As for [`Stamped`].
+        /// `out` must point to a cache that is closed, or was opened by `open`. It must be the only
+        /// copy of this handle, and nothing else may use it during the call.
+        unsafe fn open(capacity: u64, seed: u64, out: *mut Handle) -> u32;
+
+        /// # Safety
+        ///
+        /// As for [`Calls`].
         unsafe fn begin(
             cache: *mut Handle,
             key: Self::Written<'_>,
@@ -41,17 +49,17 @@ pub(crate) mod sealed {
 
         /// # Safety
         ///
-        /// As for [`Stamped`].
+        /// As for [`Calls`].
         unsafe fn get(cache: *mut Handle, key: Self::Written<'_>) -> Told;
 
         /// # Safety
         ///
-        /// As for [`Stamped`].
+        /// As for [`Calls`].
         unsafe fn contains(cache: *mut Handle, key: Self::Written<'_>) -> u32;
 
         /// # Safety
         ///
-        /// As for [`Stamped`].
+        /// As for [`Calls`].
         unsafe fn advice_evict(
             cache: *mut Handle,
             key: Self::Written<'_>,
@@ -60,12 +68,12 @@ pub(crate) mod sealed {
 
         /// # Safety
         ///
-        /// As for [`Stamped`].
+        /// As for [`Calls`].
         unsafe fn invalidate(cache: *mut Handle, key: Self::Written<'_>, gone: *mut Handle) -> u32;
 
         /// # Safety
         ///
-        /// As for [`Stamped`].
+        /// As for [`Calls`].
         unsafe fn insert(
             cache: *mut Handle,
             key: Self::Written<'_>,
@@ -74,100 +82,6 @@ pub(crate) mod sealed {
             gone: *mut Handle,
         ) -> Told;
     }
-
-    /// The functions of `lru.h` that take no key, for one form of keys.
-    ///
-    /// # Safety
-    ///
-    /// `cache` must point to a cache and `gone` to a chain that are closed, or were opened by `new`
-    /// and `new_chain` of the same `Stamped`. They must be the only copies of these handles, and
-    /// nothing else may use them during the call.
-    pub struct Stamped {
-        pub new: unsafe extern "C" fn(capacity: u64, seed: u64, out: *mut Handle) -> u32,
-        pub free: unsafe extern "C" fn(cache: *mut Handle, left: *mut Handle) -> u32,
-        pub poll: unsafe extern "C" fn(cache: *mut Handle, pin: Pin) -> Told,
-        pub ready: unsafe extern "C" fn(cache: *mut Handle, pin: Pin, value: u64) -> u32,
-        pub fail: unsafe extern "C" fn(cache: *mut Handle, pin: Pin) -> u32,
-        pub repin: unsafe extern "C" fn(cache: *mut Handle, pin: Pin) -> Told,
-        pub release: unsafe extern "C" fn(cache: *mut Handle, pin: Pin, gone: *mut Handle) -> u32,
-        pub release_and_evict:
-            unsafe extern "C" fn(cache: *mut Handle, pin: Pin, gone: *mut Handle) -> u32,
-        pub prune: unsafe extern "C" fn(cache: *mut Handle, gone: *mut Handle) -> u32,
-        pub set_capacity:
-            unsafe extern "C" fn(cache: *mut Handle, capacity: u64, gone: *mut Handle) -> u32,
-        pub total: unsafe extern "C" fn(cache: *mut Handle) -> Told,
-        pub pinned_charge: unsafe extern "C" fn(cache: *mut Handle) -> Told,
-        pub capacity: unsafe extern "C" fn(cache: *mut Handle) -> Told,
-        pub len: unsafe extern "C" fn(cache: *mut Handle) -> Told,
-        pub stats: unsafe extern "C" fn(cache: *mut Handle, out: *mut Stats) -> u32,
-        pub new_chain: unsafe extern "C" fn(out: *mut Handle) -> u32,
-        pub free_chain: unsafe extern "C" fn(chain: *mut Handle) -> u32,
-        pub pop: unsafe extern "C" fn(chain: *mut Handle, out: *mut Gone) -> bool,
-    }
-}
-
-/// Declares the functions with a prefix that take no key, and makes a `Stamped` of them.
-macro_rules! stamped {
-    ($prefix:literal) => {{
-        unsafe extern "C" {
-            #[link_name = concat!($prefix, "_new")]
-            fn new(capacity: u64, seed: u64, out: *mut Handle) -> u32;
-            #[link_name = concat!($prefix, "_free")]
-            fn free(cache: *mut Handle, left: *mut Handle) -> u32;
-            #[link_name = concat!($prefix, "_poll")]
-            fn poll(cache: *mut Handle, pin: Pin) -> Told;
-            #[link_name = concat!($prefix, "_ready")]
-            fn ready(cache: *mut Handle, pin: Pin, value: u64) -> u32;
-            #[link_name = concat!($prefix, "_fail")]
-            fn fail(cache: *mut Handle, pin: Pin) -> u32;
-            #[link_name = concat!($prefix, "_repin")]
-            fn repin(cache: *mut Handle, pin: Pin) -> Told;
-            #[link_name = concat!($prefix, "_release")]
-            fn release(cache: *mut Handle, pin: Pin, gone: *mut Handle) -> u32;
-            #[link_name = concat!($prefix, "_release_and_evict")]
-            fn release_and_evict(cache: *mut Handle, pin: Pin, gone: *mut Handle) -> u32;
-            #[link_name = concat!($prefix, "_prune")]
-            fn prune(cache: *mut Handle, gone: *mut Handle) -> u32;
-            #[link_name = concat!($prefix, "_set_capacity")]
-            fn set_capacity(cache: *mut Handle, capacity: u64, gone: *mut Handle) -> u32;
-            #[link_name = concat!($prefix, "_total")]
-            fn total(cache: *mut Handle) -> Told;
-            #[link_name = concat!($prefix, "_pinned_charge")]
-            fn pinned_charge(cache: *mut Handle) -> Told;
-            #[link_name = concat!($prefix, "_capacity")]
-            fn capacity(cache: *mut Handle) -> Told;
-            #[link_name = concat!($prefix, "_len")]
-            fn len(cache: *mut Handle) -> Told;
-            #[link_name = concat!($prefix, "_stats")]
-            fn stats(cache: *mut Handle, out: *mut Stats) -> u32;
-            #[link_name = concat!($prefix, "_evicted_new")]
-            fn new_chain(out: *mut Handle) -> u32;
-            #[link_name = concat!($prefix, "_evicted_free")]
-            fn free_chain(chain: *mut Handle) -> u32;
-            #[link_name = concat!($prefix, "_evicted_pop")]
-            fn pop(chain: *mut Handle, out: *mut Gone) -> bool;
-        }
-        sealed::Stamped {
-            new,
-            free,
-            poll,
-            ready,
-            fail,
-            repin,
-            release,
-            release_and_evict,
-            prune,
-            set_capacity,
-            total,
-            pinned_charge,
-            capacity,
-            len,
-            stats,
-            new_chain,
-            free_chain,
-            pop,
-        }
-    }};
 }
 
 /// The form of keys that are written as the bytes that they have.
@@ -175,6 +89,7 @@ macro_rules! stamped {
 pub enum Bytes {}
 
 unsafe extern "C" {
+    fn lru_bytes_new(capacity: u64, seed: u64, out: *mut Handle) -> u32;
     fn lru_bytes_begin_nonnull(
         cache: *mut Handle,
         key: *const u8,
@@ -209,11 +124,14 @@ unsafe extern "C" {
 impl sealed::Calls for Bytes {
     type Written<'a> = &'a [u8];
 
-    const STAMPED: sealed::Stamped = stamped!("lru_bytes");
-
     fn append(key: &[u8], bytes: &mut Vec<u8>) {
         bytes.extend_from_slice(&(key.len() as u64).to_ne_bytes());
         bytes.extend_from_slice(key);
+    }
+
+    unsafe fn open(capacity: u64, seed: u64, out: *mut Handle) -> u32 {
+        // SAFETY: the caller guarantees what the function requires.
+        unsafe { lru_bytes_new(capacity, seed, out) }
     }
 
     unsafe fn begin(cache: *mut Handle, key: &[u8], charge: u64, gone: *mut Handle) -> Told {
@@ -263,10 +181,13 @@ pub enum CowBytes {}
 impl sealed::Calls for CowBytes {
     type Written<'a> = Cow<'a, [u8]>;
 
-    const STAMPED: sealed::Stamped = Bytes::STAMPED;
-
     fn append(key: Cow<'_, [u8]>, bytes: &mut Vec<u8>) {
         Bytes::append(&key, bytes);
+    }
+
+    unsafe fn open(capacity: u64, seed: u64, out: *mut Handle) -> u32 {
+        // SAFETY: the caller guarantees what the function requires.
+        unsafe { Bytes::open(capacity, seed, out) }
     }
 
     unsafe fn begin(
@@ -316,6 +237,7 @@ impl sealed::Calls for CowBytes {
 pub enum Words {}
 
 unsafe extern "C" {
+    fn lru_words_new(capacity: u64, seed: u64, out: *mut Handle) -> u32;
     fn lru_words_begin(
         cache: *mut Handle,
         first: u64,
@@ -345,11 +267,14 @@ unsafe extern "C" {
 impl sealed::Calls for Words {
     type Written<'a> = [u64; 2];
 
-    const STAMPED: sealed::Stamped = stamped!("lru_words");
-
     fn append([first, second]: [u64; 2], bytes: &mut Vec<u8>) {
         bytes.extend_from_slice(&first.to_ne_bytes());
         bytes.extend_from_slice(&second.to_ne_bytes());
+    }
+
+    unsafe fn open(capacity: u64, seed: u64, out: *mut Handle) -> u32 {
+        // SAFETY: the caller guarantees what the function requires.
+        unsafe { lru_words_new(capacity, seed, out) }
     }
 
     unsafe fn begin(

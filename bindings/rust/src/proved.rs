@@ -7,7 +7,6 @@ use std::ptr::{self, NonNull};
 use crate::error::Refusal;
 use crate::ffi::{self, Gone, Handle, Pin, Told};
 use crate::form::Form;
-use crate::form::sealed::Stamped;
 
 /// Evicted values, oldest first. They must be dropped after the lock is released.
 pub(crate) type Evicted<V> = Vec<Box<V>>;
@@ -38,8 +37,6 @@ pub(crate) struct Core<F: Form, V> {
 unsafe impl<F: Form, V: Send> Send for Core<F, V> {}
 
 impl<F: Form, V> Core<F, V> {
-    const CALLS: Stamped = F::STAMPED;
-
     /// An empty cache that hashes keys with a seed.
     pub(crate) fn new(capacity: u64, seed: u64) -> Result<Self, Refusal> {
         let mut core = Core {
@@ -49,10 +46,10 @@ impl<F: Form, V> Core<F, V> {
             values: PhantomData,
         };
         // SAFETY: the chain is closed, and there is no other copy of it.
-        let code = unsafe { (Self::CALLS.new_chain)(&mut core.chain) };
+        let code = unsafe { ffi::lru_chain_new(&mut core.chain) };
         done(code)?;
         // SAFETY: the cache is closed, and there is no other copy of it.
-        let code = unsafe { (Self::CALLS.new)(capacity, seed, &mut core.cache) };
+        let code = unsafe { F::open(capacity, seed, &mut core.cache) };
         done(code)?;
         Ok(core)
     }
@@ -64,7 +61,7 @@ impl<F: Form, V> Core<F, V> {
         charge: u64,
         evicted: &mut Evicted<V>,
     ) -> Result<Begun<V>, Refusal> {
-        // SAFETY: both handles were opened for this form, and this core has the only copies.
+        // SAFETY: this core has the only copies of both handles.
         let told = unsafe { F::begin(&mut self.cache, key, charge, &mut self.chain) };
         self.take_evicted(evicted);
         Self::begun(told)
@@ -72,8 +69,8 @@ impl<F: Form, V> Core<F, V> {
 
     /// Asks again for a value that another caller makes.
     pub(crate) fn poll(&mut self, pin: Pin) -> Result<Begun<V>, Refusal> {
-        // SAFETY: the cache was opened for this form, and this core has the only copy.
-        let told = unsafe { (Self::CALLS.poll)(&mut self.cache, pin) };
+        // SAFETY: this core has the only copy of the handle.
+        let told = unsafe { ffi::lru_cache_poll(&mut self.cache, pin) };
         Self::begun(told)
     }
 
@@ -81,16 +78,16 @@ impl<F: Form, V> Core<F, V> {
     pub(crate) fn ready(&mut self, pin: Pin, value: Box<V>) -> NonNull<V> {
         // Every handle of this value gets the same pointer, made from this word.
         let word = word_of(Box::into_raw(value));
-        // SAFETY: the cache was opened for this form, and this core has the only copy.
-        let code = unsafe { (Self::CALLS.ready)(&mut self.cache, pin, word) };
+        // SAFETY: this core has the only copy of the handle.
+        let code = unsafe { ffi::lru_cache_ready(&mut self.cache, pin, word) };
         debug_assert_eq!(code, ffi::DONE);
         value_of(word)
     }
 
     /// Tells that the caller could not make the value, and gives its pin back.
     pub(crate) fn fail(&mut self, pin: Pin) {
-        // SAFETY: the cache was opened for this form, and this core has the only copy.
-        let code = unsafe { (Self::CALLS.fail)(&mut self.cache, pin) };
+        // SAFETY: this core has the only copy of the handle.
+        let code = unsafe { ffi::lru_cache_fail(&mut self.cache, pin) };
         debug_assert!(matches!(code, ffi::LEFT | ffi::REMOVED));
     }
 
@@ -99,7 +96,7 @@ impl<F: Form, V> Core<F, V> {
         &mut self,
         key: F::Written<'_>,
     ) -> Result<Option<(Pin, NonNull<V>)>, Refusal> {
-        // SAFETY: the cache was opened for this form, and this core has the only copy.
+        // SAFETY: this core has the only copy of the handle.
         let told = unsafe { F::get(&mut self.cache, key) };
         match told.code {
             ffi::HIT => Ok(Some((told.pin, value_of(told.value)))),
@@ -110,7 +107,7 @@ impl<F: Form, V> Core<F, V> {
 
     /// Whether `get` would find a value of the key.
     pub(crate) fn contains(&mut self, key: F::Written<'_>) -> Result<bool, Refusal> {
-        // SAFETY: the cache was opened for this form, and this core has the only copy.
+        // SAFETY: this core has the only copy of the handle.
         let code = unsafe { F::contains(&mut self.cache, key) };
         match code {
             ffi::MISSED => Ok(false),
@@ -120,8 +117,8 @@ impl<F: Form, V> Core<F, V> {
 
     /// Pins an entry that has a value once more, by a pin that the caller has.
     pub(crate) fn repin(&mut self, pin: Pin) -> Result<(Pin, NonNull<V>), Refusal> {
-        // SAFETY: the cache was opened for this form, and this core has the only copy.
-        let told = unsafe { (Self::CALLS.repin)(&mut self.cache, pin) };
+        // SAFETY: this core has the only copy of the handle.
+        let told = unsafe { ffi::lru_cache_repin(&mut self.cache, pin) };
         match told.code {
             ffi::PINNED => Ok((told.pin, value_of(told.value))),
             code => Err(refusal(code)),
@@ -130,17 +127,17 @@ impl<F: Form, V> Core<F, V> {
 
     /// Gives back a pin of an entry that has a value.
     pub(crate) fn release(&mut self, pin: Pin, evicted: &mut Evicted<V>) {
-        // SAFETY: both handles were opened for this form, and this core has the only copies.
-        let code = unsafe { (Self::CALLS.release)(&mut self.cache, pin, &mut self.chain) };
+        // SAFETY: this core has the only copies of both handles.
+        let code = unsafe { ffi::lru_cache_release(&mut self.cache, pin, &mut self.chain) };
         debug_assert_eq!(code, ffi::DONE);
         self.take_evicted(evicted);
     }
 
     /// Gives back a pin of an entry that has a value, and evicts the entry if it was its last.
     pub(crate) fn release_and_evict(&mut self, pin: Pin, evicted: &mut Evicted<V>) {
-        // SAFETY: both handles were opened for this form, and this core has the only copies.
+        // SAFETY: this core has the only copies of both handles.
         let code =
-            unsafe { (Self::CALLS.release_and_evict)(&mut self.cache, pin, &mut self.chain) };
+            unsafe { ffi::lru_cache_release_and_evict(&mut self.cache, pin, &mut self.chain) };
         debug_assert_eq!(code, ffi::DONE);
         self.take_evicted(evicted);
     }
@@ -151,7 +148,7 @@ impl<F: Form, V> Core<F, V> {
         key: F::Written<'_>,
         evicted: &mut Evicted<V>,
     ) -> Result<(), Refusal> {
-        // SAFETY: both handles were opened for this form, and this core has the only copies.
+        // SAFETY: this core has the only copies of both handles.
         let code = unsafe { F::advice_evict(&mut self.cache, key, &mut self.chain) };
         self.take_evicted(evicted);
         done(code)
@@ -164,7 +161,7 @@ impl<F: Form, V> Core<F, V> {
         key: F::Written<'_>,
         evicted: &mut Evicted<V>,
     ) -> Result<(), Refusal> {
-        // SAFETY: both handles were opened for this form, and this core has the only copies.
+        // SAFETY: this core has the only copies of both handles.
         let code = unsafe { F::invalidate(&mut self.cache, key, &mut self.chain) };
         self.take_evicted(evicted);
         done(code)
@@ -180,7 +177,7 @@ impl<F: Form, V> Core<F, V> {
         evicted: &mut Evicted<V>,
     ) -> Result<(Pin, NonNull<V>), (Refusal, Box<V>)> {
         let word = word_of(Box::into_raw(value));
-        // SAFETY: both handles were opened for this form, and this core has the only copies.
+        // SAFETY: this core has the only copies of both handles.
         let told = unsafe { F::insert(&mut self.cache, key, charge, word, &mut self.chain) };
         self.take_evicted(evicted);
         if told.code == ffi::DONE {
@@ -193,51 +190,51 @@ impl<F: Form, V> Core<F, V> {
 
     /// Evicts every entry without a pin.
     pub(crate) fn prune(&mut self, evicted: &mut Evicted<V>) {
-        // SAFETY: both handles were opened for this form, and this core has the only copies.
-        unsafe { (Self::CALLS.prune)(&mut self.cache, &mut self.chain) };
+        // SAFETY: this core has the only copies of both handles.
+        unsafe { ffi::lru_cache_prune(&mut self.cache, &mut self.chain) };
         self.take_evicted(evicted);
     }
 
     /// Sets the capacity, and evicts entries without a pin while the total is above it.
     pub(crate) fn set_capacity(&mut self, capacity: u64, evicted: &mut Evicted<V>) {
-        // SAFETY: both handles were opened for this form, and this core has the only copies.
-        unsafe { (Self::CALLS.set_capacity)(&mut self.cache, capacity, &mut self.chain) };
+        // SAFETY: this core has the only copies of both handles.
+        unsafe { ffi::lru_cache_set_capacity(&mut self.cache, capacity, &mut self.chain) };
         self.take_evicted(evicted);
     }
 
     /// The total of the charges of all entries.
     pub(crate) fn total(&mut self) -> u64 {
-        // SAFETY: the cache was opened for this form, and this core has the only copy.
-        let told = unsafe { (Self::CALLS.total)(&mut self.cache) };
+        // SAFETY: this core has the only copy of the handle.
+        let told = unsafe { ffi::lru_cache_total(&mut self.cache) };
         told.value
     }
 
     /// The total of the charges of the entries that have a pin.
     pub(crate) fn pinned_charge(&mut self) -> u64 {
-        // SAFETY: the cache was opened for this form, and this core has the only copy.
-        let told = unsafe { (Self::CALLS.pinned_charge)(&mut self.cache) };
+        // SAFETY: this core has the only copy of the handle.
+        let told = unsafe { ffi::lru_cache_pinned_charge(&mut self.cache) };
         told.value
     }
 
     /// The number of entries.
     pub(crate) fn len(&mut self) -> u64 {
-        // SAFETY: the cache was opened for this form, and this core has the only copy.
-        let told = unsafe { (Self::CALLS.len)(&mut self.cache) };
+        // SAFETY: this core has the only copy of the handle.
+        let told = unsafe { ffi::lru_cache_len(&mut self.cache) };
         told.value
     }
 
     /// The capacity.
     pub(crate) fn capacity(&mut self) -> u64 {
-        // SAFETY: the cache was opened for this form, and this core has the only copy.
-        let told = unsafe { (Self::CALLS.capacity)(&mut self.cache) };
+        // SAFETY: this core has the only copy of the handle.
+        let told = unsafe { ffi::lru_cache_capacity(&mut self.cache) };
         told.value
     }
 
     /// What the calls have answered, and what the cache holds.
     pub(crate) fn stats(&mut self) -> ffi::Stats {
         let mut stats = ffi::Stats::default();
-        // SAFETY: the cache was opened for this form, and this core has the only copy.
-        let code = unsafe { (Self::CALLS.stats)(&mut self.cache, &mut stats) };
+        // SAFETY: this core has the only copy of the handle.
+        let code = unsafe { ffi::lru_cache_stats(&mut self.cache, &mut stats) };
         debug_assert_eq!(code, ffi::DONE);
         stats
     }
@@ -258,8 +255,8 @@ impl<F: Form, V> Core<F, V> {
             charge: 0,
             value: 0,
         };
-        // SAFETY: the chain was opened for this form, and this core has the only copy.
-        while unsafe { (Self::CALLS.pop)(&mut self.chain, &mut gone) } {
+        // SAFETY: this core has the only copy of the handle.
+        while unsafe { ffi::lru_chain_pop(&mut self.chain, &mut gone) } {
             let value = value_of(gone.value).as_ptr();
             // SAFETY: the word is the address of a box that `ready` or `insert` stored. The library
             // tells each word once, and only when its entry has no pin.
@@ -270,15 +267,14 @@ impl<F: Form, V> Core<F, V> {
 
 impl<F: Form, V> Drop for Core<F, V> {
     fn drop(&mut self) {
-        // SAFETY: both handles were opened for this form or are closed, and this core has the only
-        // copies.
-        unsafe { (Self::CALLS.free)(&mut self.cache, &mut self.chain) };
+        // SAFETY: this core has the only copies of both handles.
+        unsafe { ffi::lru_cache_free(&mut self.cache, &mut self.chain) };
         // Handles borrow the cache that owns this core, so there is none left. A pin that is left
         // is one whose handle was forgotten.
         let mut left = Evicted::new();
         self.take_evicted(&mut left);
         // SAFETY: as above.
-        unsafe { (Self::CALLS.free_chain)(&mut self.chain) };
+        unsafe { ffi::lru_chain_free(&mut self.chain) };
     }
 }
 

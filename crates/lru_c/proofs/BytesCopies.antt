@@ -1,7 +1,7 @@
 -- Copies of keys are equal.
 use Rattle.std.proofs.Common.{◌≡◌, ℕ, true}
 use Rattle.core.specs.List.{AllZip, each_same}
-use Rattle.lru_c.specs.BytesCalls.{bytes_eq}
+use Rattle.lru_c.specs.Keys.{bytes_eq}
 use Rattle.lru_c.specs.declared.bytes.key.Bytes.{Bytes}
 use lib.Pointwise.{bytes_decides}
 

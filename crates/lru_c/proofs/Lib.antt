@@ -9,5 +9,5 @@ pub mod HandleSent
 pub mod Moved
 pub mod Lent
 pub mod Opened
-pub mod BytesForms
-pub mod WordsForms
+pub mod Taken
+pub mod Forms

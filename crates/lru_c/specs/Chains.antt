@@ -1,20 +1,27 @@
 -- The chains that C holds: their entries, and what calls on them return.
-use Rattle.std.specs.Prelude.{◌≡◌, ℕ, List, [], ◌∷◌, Option, Some, None, MatchBool, MatchOption, ◌==◌}
+use Rattle.std.specs.Prelude.{◌≡◌, ◌++◌, ℕ, List, [], ◌∷◌, Option, Some, None, MatchOption}
 use Rattle.concurrent_lru.specs.Cache.{Idle}
 use Rattle.lru_c.specs.Codes as code
+use Rattle.lru_c.specs.Handles.{OnOpen}
+use Rattle.lru_c.specs.declared.bytes.key.Bytes.{Bytes}
+use Rattle.lru_c.specs.declared.words.key.Words.{Words}
+use Rattle.lru_c.specs.declared.chain.Chain.{Chain}
+use Rattle.lru_c.specs.declared.chain.AnyChain.{AnyChain}
+use Rattle.lru_c.specs.declared.chain.AnyChain.TheVariants as keys
 use Rattle.lru_c.specs.declared.told.LruGone.{LruGone}
 
 module _ {K : Type 0} where
-  -- the entries of a chain, or none if it is not open
-  abbrev pub entries_in : Option (List (Idle K ℕ)) → List (Idle K ℕ)
-  entries_in None = []
-  entries_in (Some xs) = xs
+  abbrev pub entries_of : Chain K → List (Idle K ℕ)
+  entries_of c = c.first ++ c.rest
 
-  -- whether a chain takes entries: `done` if it is open and empty, or else the reason
-  abbrev pub chain_code : Option (List (Idle K ℕ)) → ℕ
-  chain_code None = code.closed
-  chain_code (Some []) = code.done
-  chain_code (Some (x ∷ xs)) = code.not_empty
+  -- a chain of these entries
+  abbrev pub chain_of : List (Idle K ℕ) → Chain K
+  chain_of out = record { first = []; rest = out }
+
+  -- whether a chain of these entries takes more
+  abbrev pub code_of_entries : List (Idle K ℕ) → ℕ
+  code_of_entries [] = code.done
+  code_of_entries (x ∷ xs) = code.not_empty
 
   -- the call returned the first entry, and these are left
   abbrev pub TellsFirst : List (Idle K ℕ) → LruGone → List (Idle K ℕ) → Type 0
@@ -25,9 +32,34 @@ module _ {K : Type 0} where
   abbrev pub Pops : List (Idle K ℕ) → Option LruGone → List (Idle K ℕ) → Type 0
   Pops old told new = MatchOption told ((old ≡ []) × (new ≡ [])) (λ g. TellsFirst old g new)
 
-module _ {K A : Type 0} where
-  -- A call that puts what it takes out into a chain, which had the entries before and now has those
-  -- after. If the chain was open and empty, Step holds of the entries now in it; otherwise the call
-  -- returned the reason, and nothing changed.
-  abbrev pub IntoChain : Option (List (Idle K ℕ)) → Option (List (Idle K ℕ)) → ℕ → A → A → (List (Idle K ℕ) → Type 0) → Type 0
-  IntoChain before after c old new Step = MatchBool (chain_code before == code.done) (MatchOption after ⊥ Step) ((c ≡ chain_code before) × (after ≡ before) × (new ≡ old))
+-- the same, by the kind of keys
+abbrev pub bytes_chain : List (Idle Bytes ℕ) → AnyChain
+bytes_chain out = keys.Bytes (chain_of out)
+
+abbrev pub words_chain : List (Idle Words ℕ) → AnyChain
+words_chain out = keys.Words (chain_of out)
+
+-- `done` if the chain has no entries, otherwise `not_empty`
+abbrev pub filled_code : AnyChain → ℕ
+filled_code (keys.Bytes c) = code_of_entries (entries_of c)
+filled_code (keys.Words c) = code_of_entries (entries_of c)
+
+-- whether a chain takes entries: `done` if it is open and empty, or else the reason
+abbrev pub chain_code : Option AnyChain → ℕ
+chain_code None = code.closed
+chain_code (Some c) = filled_code c
+
+-- the call took out the first entry, if there was one, and returned it
+abbrev pub PopsAny : AnyChain → Option LruGone → AnyChain → Type 0
+PopsAny (keys.Bytes old) told (keys.Bytes new) = Pops (entries_of old) told (entries_of new)
+PopsAny (keys.Words old) told (keys.Words new) = Pops (entries_of old) told (entries_of new)
+PopsAny (keys.Bytes old) told (keys.Words new) = ⊥
+PopsAny (keys.Words old) told (keys.Bytes new) = ⊥
+
+-- the same for a chain behind a handle; if it is not open, nothing was returned
+abbrev pub PopsOpen : Option AnyChain → Option LruGone → Option AnyChain → Type 0
+PopsOpen old told new = OnOpen old new (λ o n. PopsAny o told n) (told ≡ None)
+
+-- the chain has no entries
+abbrev pub IsEmpty : AnyChain → Type 0
+IsEmpty c = filled_code c ≡ code.done

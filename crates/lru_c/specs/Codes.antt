@@ -54,3 +54,6 @@ no_room = 17
 
 abbrev pub pinned : ℕ
 pinned = 18
+
+abbrev pub other_keys : ℕ
+other_keys = 19

@@ -1,11 +1,13 @@
 -- What an insert returns to C: the stamp of the new entry, or why there is none. E is the equality
 -- of keys.
-use Rattle.std.specs.Prelude.{◌≡◌, ◌⊎◌, ◌==◌, ℕ, Bool, List, [], MatchBool}
+use Rattle.std.specs.Prelude.{◌≡◌, ◌++◌, ◌⊎◌, ◌==◌, ℕ, Bool, List, [], MatchBool}
 use Rattle.concurrent_lru.specs.Cache.{Cache, Idle, IsLawful}
 use Rattle.concurrent_lru.specs.Inserts.{Replaces, RefusesToReplace}
 use Rattle.concurrent_lru.specs.declared.refusal.Refusal.{Refusal}
 use Rattle.lru_c.specs.Codes as code
+use Rattle.lru_c.specs.Counted.{inserted}
 use Rattle.lru_c.specs.Told.{bare, refusal_code, told}
+use Rattle.lru_c.specs.declared.cache.Cache.{Cache as Inner}
 use Rattle.lru_c.specs.declared.told.LruTold.{LruTold}
 
 module _ {K : Type 0} where
@@ -33,3 +35,9 @@ module _ {K : Type 0} where
     TellsInsertOf IsKey old charge v t replaced evicted new =
         MatchBool (charge == 0) ((t ≡ bare code.no_charge) × IsUntouched old replaced evicted new)
         (((t ≡ bare code.memory) × IsUntouched old replaced evicted new) ⊎ ((key : K) × IsKey key × TellsInsert old key charge v t replaced evicted new))
+
+    -- The same for a cache with its counts, where both lists are one after the other, those that
+    -- were replaced first.
+    abbrev pub InsertsOne : {R : Type 0} → (K → Type 0) → Inner K R → ℕ → ℕ → LruTold → List (Idle K ℕ) → Inner K R → Type 0
+    InsertsOne IsKey o charge v t out n =
+        (replaced : List (Idle K ℕ)) × (evicted : List (Idle K ℕ)) × (out ≡ replaced ++ evicted) × TellsInsertOf IsKey o.state.cache charge v t replaced evicted n.state.cache × (n.counts ≡ inserted t o.counts)

@@ -6,12 +6,11 @@ pub mod Handles
 pub mod Chains
 pub mod Opened
 pub mod Held
+pub mod Pointers
 pub mod Lends
+pub mod PointerLends
 pub mod Counted
+pub mod Keys
 pub mod Calls
-pub mod BytesHeld
-pub mod BytesLends
 pub mod BytesCalls
-pub mod WordsHeld
-pub mod WordsLends
 pub mod WordsCalls

@@ -1,15 +1,14 @@
-//! What the handle of a cache points to.
-ghost use Rattle.std.specs.Prelude.{◌≡◌, ◌<◌, [], IfOk, MatchOption};
+//! A cache with its counts, for any type of key.
+ghost use Rattle.std.specs.Prelude.{◌≡◌, ◌<◌, []};
 ghost use Rattle.concurrent_lru.specs.Cache.{CopiesAreEqual, empty_cache};
 ghost use Rattle.concurrent_lru.specs.Request as ask;
 ghost use Rattle.lru_c.specs.Counted.{no_calls};
 
 use crate::counts::Counts;
-use crate::handle::{Handle, open};
 use crate::steps;
 use crate::told::{LruPin, LruStats, LruTold};
 use crate::values::{Evicted, State};
-use std::alloc::{AllocError, Global};
+use std::alloc::Global;
 use std::hash::Hash;
 
 /// A cache with its counts and a key buffer, `R`, which depends on how C passes a key.
@@ -26,6 +25,27 @@ pub struct Cache<K: Hash + Eq + Clone, R> {
 impl<K: Hash + Eq + Clone, R> Cache<K, R> {
     ghost use Rattle.lru_c.specs.Counted.{answered, stats_of};
     ghost use Rattle.lru_c.specs.Told.{bare, Asks};
+
+    // Returns a new, empty cache whose first entry gets the stamp `first_stamp`.
+    pub(crate) fn new(
+        alloc: Global,
+        capacity: u64,
+        first_stamp: u64,
+        most_pins: u32,
+        seed: u64,
+        room: R,
+    ) -> Cache<K, R>
+        requires pinned { 0 < most_pins }
+        requires copies { CopiesAreEqual K.is_clone K.eq }
+        ensures cache { result.state.cache ≡ empty_cache capacity most_pins first_stamp }
+        ensures counts { result.counts ≡ no_calls first_stamp }
+    {
+        Cache {
+            state: State::without_stamp_map(alloc, capacity, first_stamp, most_pins, seed),
+            counts: Counts::from(first_stamp),
+            room,
+        }
+    }
 
     pub(crate) fn fail(&mut self, pin: LruPin) -> u32
         ensures asks { Asks K.eq self.old.state.cache (ask.fail pin.stamp) (bare result) []
@@ -90,28 +110,4 @@ impl<K: Hash + Eq + Clone, R> Cache<K, R> {
             capacity: self.state.capacity(),
         }
     }
-}
-
-// Returns a handle to a new, empty cache, or `AllocError` if the allocator refuses.
-pub(crate) fn make<K: Hash + Eq + Clone, R: Drop, H: Handle<To = Cache<K, R>>>(
-    alloc: Global,
-    capacity: u64,
-    first_stamp: u64,
-    most_pins: u32,
-    seed: u64,
-    room: R,
-) -> Result<H, AllocError>
-    requires pinned { 0 < most_pins }
-    requires copies { CopiesAreEqual K.is_clone K.eq }
-    ensures { IfOk result (λ h. MatchOption (H.held h) ⊥
-        (λ c. (c.state.cache ≡ empty_cache capacity most_pins first_stamp) ×
-        (c.counts ≡ no_calls first_stamp))) }
-{
-    let cache = Cache {
-        state: State::without_stamp_map(alloc, capacity, first_stamp, most_pins, seed),
-        counts: Counts::from(first_stamp),
-        room,
-    };
-    let boxed = Box::new(alloc, cache)?;
-    Ok(open(boxed))
 }

@@ -36,3 +36,5 @@ pub const NOT_EMPTY: u32 = 16;
 pub const NO_ROOM: u32 = 17;
 /// Pinned once more; the value is returned.
 pub const PINNED: u32 = 18;
+/// Refused: a key of bytes for a cache whose keys are two words, or the other way round.
+pub const OTHER_KEYS: u32 = 19;

@@ -3,14 +3,17 @@
 //! their own around each call.
 #![tactic(auto)]
 
+pub mod any_cache;
 pub mod at;
 pub mod bytes;
 pub mod cache;
+pub mod calls;
 pub mod chain;
 mod chain_calls;
 pub mod code;
 pub mod counts;
 pub mod handle;
+pub mod handles;
 mod steps;
 pub mod told;
 pub mod values;

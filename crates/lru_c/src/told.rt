@@ -1,5 +1,5 @@
 //! What a call returns to C.
-ghost use Rattle.std.specs.Prelude.{◌≡◌, ℕ};
+ghost use Rattle.std.specs.Prelude.{◌≡◌};
 ghost use Rattle.lru_c.specs.Told.{bare, hint_of, numbered, pin_of, told};
 
 use concurrent_lru::lru_core::{Hint, Place, Spot};
@@ -135,36 +135,4 @@ pub struct LruStats {
     pub pinned_charge: u64,
     /// The capacity.
     pub capacity: u64,
-}
-
-// What a call that fills a chain returns: a code, perhaps with numbers.
-pub(crate) trait Answer: Sized {
-    ghost code: { Self → ℕ };
-
-    // The answer that has this code and nothing else.
-    ghost alone: { ℕ → Self };
-
-    fn of_code(number: u32) -> Self
-        ensures code { code result ≡ number }
-        ensures alone { result ≡ alone number };
-}
-
-impl Answer for u32 {
-    ghost code = { λ c. c };
-
-    ghost alone = { λ c. c };
-
-    fn of_code(number: u32) -> u32 {
-        number
-    }
-}
-
-impl Answer for LruTold {
-    ghost code = { λ t. t.code };
-
-    ghost alone = { bare };
-
-    fn of_code(number: u32) -> LruTold {
-        LruTold::bare(number)
-    }
 }

@@ -1,17 +1,25 @@
 //! The steps of a cache whose keys are bytes. A lookup needs a whole key, so the bytes of a call
 //! are copied into a buffer that is kept.
-ghost use Rattle.std.specs.Prelude.{◌≡◌, [], true};
+ghost use Rattle.std.specs.Prelude.{◌≡◌, ◌==◌, ⊤, [], true, MatchBool};
 ghost use Rattle.concurrent_lru.specs.Request as ask;
 ghost use Rattle.lru_c.specs.BytesCalls.{CopiesKey};
+ghost use Rattle.lru_c.specs.Codes as codes;
 
+use crate::any_cache::AnyCache;
 use crate::bytes::key::Bytes;
 use crate::cache::Cache;
+use crate::chain::{AnyChain, Chain};
 use crate::told::{LruPin, LruTold};
 use crate::values::{Evicted, State};
 use crate::{code, steps};
 
+/// A cache whose keys are bytes. A lookup needs a whole key, so the bytes of a call are copied into
+/// a buffer that is kept.
+pub type BytesCache = Cache<Bytes, Bytes>;
+
 impl Cache<Bytes, Bytes> {
-    ghost use Rattle.lru_c.specs.BytesCalls.{bytes_eq, BeginsByKey, ContainsBytes, HasBytes};
+    ghost use Rattle.lru_c.specs.BytesCalls.{BeginsByKey, ContainsBytes, HasBytes};
+    ghost use Rattle.lru_c.specs.Keys.{bytes_eq};
     ghost use Rattle.lru_c.specs.Counted.{answered, inserted};
     ghost use Rattle.lru_c.specs.Inserts.{TellsInsertOf};
     ghost use Rattle.lru_c.specs.Told.{bare, AsksOf};
@@ -111,8 +119,9 @@ impl Cache<Bytes, Bytes> {
 }
 
 // Copies the key of the entry with this stamp to the start of a buffer.
-pub(crate) fn copy_key(state: &State<Bytes>, pin: LruPin, buffer: &mut [u8]) -> LruTold
-    ensures { CopiesKey state.now.cache pin.stamp result buffer.old buffer.new }
+fn copy_key(state: &State<Bytes>, pin: LruPin, buffer: &mut [u8]) -> LruTold
+    ensures told { CopiesKey state.now.cache pin.stamp result buffer.old buffer.new }
+    ensures kept { MatchBool (result.code == codes.number) ⊤ (buffer.new ≡ buffer.old) }
 {
     let Some(key) = state.key_at(&pin.spot()) else {
         return LruTold::bare(code::STALE);
@@ -123,4 +132,86 @@ pub(crate) fn copy_key(state: &State<Bytes>, pin: LruPin, buffer: &mut [u8]) -> 
     }
     buffer[..length].copy_from_slice(&key.bytes);
     LruTold::number(code::NUMBER, length as u64)
+}
+
+impl AnyCache {
+    ghost use Rattle.lru_c.specs.BytesCalls.{AsksAnyByKey, AsksIntoByKey, BeginsInto, ContainsAny, InsertsInto, KeyOfAny};
+    ghost use Rattle.lru_c.specs.Told.{bare};
+
+    pub(crate) fn begin_by_bytes(&mut self, key: &[u8], charge: u64, gone: &mut AnyChain) -> LruTold
+        ensures { BeginsInto self.old key.now charge result gone.old gone.new self.new }
+    {
+        match self {
+            AnyCache::Bytes(cache) => gone.take_bytes(cache.begin(key, charge)),
+            AnyCache::Words(_) => LruTold::bare(code::OTHER_KEYS),
+        }
+    }
+
+    pub(crate) fn get_by_bytes(&mut self, key: &[u8]) -> LruTold
+        ensures { AsksAnyByKey self.old ask.get key.now result self.new }
+    {
+        match self {
+            AnyCache::Bytes(cache) => cache.get(key),
+            AnyCache::Words(_) => LruTold::bare(code::OTHER_KEYS),
+        }
+    }
+
+    pub(crate) fn contains_by_bytes(&mut self, key: &[u8]) -> u32
+        ensures { ContainsAny self.old key.now result self.new }
+    {
+        match self {
+            AnyCache::Bytes(cache) => cache.contains(key),
+            AnyCache::Words(_) => code::OTHER_KEYS,
+        }
+    }
+
+    pub(crate) fn advice_evict_by_bytes(&mut self, key: &[u8], gone: &mut AnyChain) -> u32
+        ensures { AsksIntoByKey self.old ask.advice_evict key.now (bare result) gone.old gone.new
+            self.new }
+    {
+        match self {
+            AnyCache::Bytes(cache) => gone.take_bytes(cache.advice_evict(key)),
+            AnyCache::Words(_) => code::OTHER_KEYS,
+        }
+    }
+
+    pub(crate) fn invalidate_by_bytes(&mut self, key: &[u8], gone: &mut AnyChain) -> u32
+        ensures { AsksIntoByKey self.old ask.invalidate key.now (bare result) gone.old gone.new
+            self.new }
+    {
+        match self {
+            AnyCache::Bytes(cache) => gone.take_bytes(cache.invalidate(key)),
+            AnyCache::Words(_) => code::OTHER_KEYS,
+        }
+    }
+
+    pub(crate) fn insert_by_bytes(
+        &mut self,
+        key: &[u8],
+        charge: u64,
+        value: u64,
+        gone: &mut AnyChain,
+    ) -> LruTold
+        ensures { InsertsInto self.old key.now charge value result gone.old gone.new self.new }
+    {
+        match self {
+            AnyCache::Bytes(cache) => {
+                let (told, (first, rest)) = cache.insert(key, charge, value);
+                *gone = AnyChain::Bytes(Chain { first, rest });
+                told
+            }
+            AnyCache::Words(_) => LruTold::bare(code::OTHER_KEYS),
+        }
+    }
+
+    // Copies the key of the entry with the stamp of a pin to the start of a buffer.
+    pub(crate) fn copy_key(&mut self, pin: LruPin, buffer: &mut [u8]) -> LruTold
+        ensures told { KeyOfAny self.old pin.stamp result buffer.old buffer.new self.new }
+        ensures kept { MatchBool (result.code == codes.number) ⊤ (buffer.new ≡ buffer.old) }
+    {
+        match self {
+            AnyCache::Bytes(cache) => copy_key(&cache.state, pin, buffer),
+            AnyCache::Words(_) => LruTold::bare(code::OTHER_KEYS),
+        }
+    }
 }

@@ -1,17 +1,24 @@
 //! The steps of a cache whose keys are two words.
-ghost use Rattle.std.specs.Prelude.{◌≡◌, ◌==◌, [], MatchBool};
+ghost use Rattle.std.specs.Prelude.{◌≡◌, ◌==◌, ⊤, [], MatchBool};
 ghost use Rattle.concurrent_lru.specs.Request as ask;
 ghost use Rattle.lru_c.specs.Codes as codes;
+ghost use Rattle.lru_c.specs.Opened.{TellsKey};
+ghost use Rattle.lru_c.specs.WordsCalls.{words};
 
+use crate::any_cache::AnyCache;
 use crate::cache::Cache;
-use crate::told::LruTold;
-use crate::values::Evicted;
+use crate::chain::{AnyChain, Chain};
+use crate::told::{LruPin, LruTold};
+use crate::values::{Evicted, State};
 use crate::words::key::Words;
 use crate::{code, steps};
 
+/// A cache whose keys are two words.
+pub type WordsCache = Cache<Words, ()>;
+
 impl Cache<Words, ()> {
     ghost use Rattle.lru_c.specs.Counted.{answered, inserted};
-    ghost use Rattle.lru_c.specs.WordsCalls.{words_eq};
+    ghost use Rattle.lru_c.specs.Keys.{words_eq};
     ghost use Rattle.lru_c.specs.Inserts.{TellsInsertOf};
     ghost use Rattle.lru_c.specs.Told.{bare, Asks, IsSame};
 
@@ -70,5 +77,108 @@ impl Cache<Words, ()> {
         let answer = steps::insert(&mut self.state, key, charge, value);
         self.counts.answer_insert(answer.0);
         answer
+    }
+}
+
+impl AnyCache {
+    ghost use Rattle.lru_c.specs.WordsCalls.{AsksAnyByKey, AsksIntoByKey, BeginsInto, ContainsAny, InsertsInto, KeyOfAny};
+    ghost use Rattle.lru_c.specs.Told.{bare};
+
+    pub(crate) fn begin_by_words(
+        &mut self,
+        key: &Words,
+        charge: u64,
+        gone: &mut AnyChain,
+    ) -> LruTold
+        ensures { BeginsInto self.old key.now charge result gone.old gone.new self.new }
+    {
+        match self {
+            AnyCache::Words(cache) => gone.take_words(cache.begin(key, charge)),
+            AnyCache::Bytes(_) => LruTold::bare(code::OTHER_KEYS),
+        }
+    }
+
+    pub(crate) fn get_by_words(&mut self, key: &Words) -> LruTold
+        ensures { AsksAnyByKey self.old (ask.get key.now) result self.new }
+    {
+        match self {
+            AnyCache::Words(cache) => cache.get(key),
+            AnyCache::Bytes(_) => LruTold::bare(code::OTHER_KEYS),
+        }
+    }
+
+    pub(crate) fn contains_by_words(&mut self, key: &Words) -> u32
+        ensures { ContainsAny self.old key.now result self.new }
+    {
+        match self {
+            AnyCache::Words(cache) => steps::contains(&cache.state, key),
+            AnyCache::Bytes(_) => code::OTHER_KEYS,
+        }
+    }
+
+    pub(crate) fn advice_evict_by_words(&mut self, key: &Words, gone: &mut AnyChain) -> u32
+        ensures { AsksIntoByKey self.old (ask.advice_evict key.now) (bare result) gone.old gone.new
+            self.new }
+    {
+        match self {
+            AnyCache::Words(cache) => gone.take_words(cache.advice_evict(key)),
+            AnyCache::Bytes(_) => code::OTHER_KEYS,
+        }
+    }
+
+    pub(crate) fn invalidate_by_words(&mut self, key: &Words, gone: &mut AnyChain) -> u32
+        ensures { AsksIntoByKey self.old (ask.invalidate key.now) (bare result) gone.old gone.new
+            self.new }
+    {
+        match self {
+            AnyCache::Words(cache) => gone.take_words(cache.invalidate(key)),
+            AnyCache::Bytes(_) => code::OTHER_KEYS,
+        }
+    }
+
+    pub(crate) fn insert_by_words(
+        &mut self,
+        key: &Words,
+        charge: u64,
+        value: u64,
+        gone: &mut AnyChain,
+    ) -> LruTold
+        ensures { InsertsInto self.old key.now charge value result gone.old gone.new self.new }
+    {
+        match self {
+            AnyCache::Words(cache) => {
+                let (told, (first, rest)) = cache.insert(key, charge, value);
+                *gone = AnyChain::Words(Chain { first, rest });
+                told
+            }
+            AnyCache::Bytes(_) => LruTold::bare(code::OTHER_KEYS),
+        }
+    }
+
+    // Writes the two words of the key of the entry with the stamp of a pin.
+    pub(crate) fn write_key(&mut self, pin: LruPin, first: &mut u64, second: &mut u64) -> u32
+        ensures told { KeyOfAny self.old pin.stamp result (words first.new second.new) self.new }
+        ensures kept { MatchBool (result == codes.done) ⊤
+            ((first.new ≡ first.old) × (second.new ≡ second.old)) }
+    {
+        match self {
+            AnyCache::Words(cache) => write_key(&cache.state, pin, first, second),
+            AnyCache::Bytes(_) => code::OTHER_KEYS,
+        }
+    }
+}
+
+fn write_key(state: &State<Words>, pin: LruPin, first: &mut u64, second: &mut u64) -> u32
+    ensures told { TellsKey state.now.cache pin.stamp result (words first.new second.new) }
+    ensures kept { MatchBool (result == codes.done) ⊤
+        ((first.new ≡ first.old) × (second.new ≡ second.old)) }
+{
+    match state.key_at(&pin.spot()) {
+        Some(key) => {
+            *first = key.first;
+            *second = key.second;
+            code::DONE
+        }
+        None => code::STALE,
     }
 }

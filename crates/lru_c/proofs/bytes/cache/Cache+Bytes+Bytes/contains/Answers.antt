@@ -1,5 +1,5 @@
 use Rattle.std.proofs.Common.{inr, refl, subst}
-use Rattle.lru_c.specs.BytesCalls.{bytes_eq}
+use Rattle.lru_c.specs.Keys.{bytes_eq}
 use Rattle.lru_c.specs.Opened.{TellsReady}
 use Rattle.lru_c.proofs.bytes.cache.Cache+Bytes+Bytes.contains.Goals as goal
 

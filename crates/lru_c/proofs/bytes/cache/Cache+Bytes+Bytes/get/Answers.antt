@@ -1,6 +1,7 @@
 use Rattle.std.proofs.Common.{[], ap, refl}
 use Rattle.concurrent_lru.specs.Request as ask
-use Rattle.lru_c.specs.BytesCalls.{bytes_eq, HasBytes}
+use Rattle.lru_c.specs.BytesCalls.{HasBytes}
+use Rattle.lru_c.specs.Keys.{bytes_eq}
 use Rattle.lru_c.proofs.ByKey.{by_key, without_key}
 use Rattle.lru_c.proofs.bytes.cache.Cache+Bytes+Bytes.get.Goals as goal
 

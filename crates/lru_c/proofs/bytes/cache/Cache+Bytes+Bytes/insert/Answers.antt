@@ -1,5 +1,6 @@
 use Rattle.std.proofs.Common.{ap, refl}
-use Rattle.lru_c.specs.BytesCalls.{bytes_eq, HasBytes}
+use Rattle.lru_c.specs.BytesCalls.{HasBytes}
+use Rattle.lru_c.specs.Keys.{bytes_eq}
 use Rattle.lru_c.proofs.Inserted.{insert_of, insert_without_charge, insert_without_key}
 use Rattle.lru_c.proofs.bytes.cache.Cache+Bytes+Bytes.insert.Goals as goal
 

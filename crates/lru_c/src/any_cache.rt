@@ -1,0 +1,161 @@
+//! What the handle of a cache points to, and the calls on it that take no key.
+ghost use Rattle.concurrent_lru.specs.Cache.{count_of, pinned_of, sum_of};
+ghost use Rattle.concurrent_lru.specs.Request as ask;
+
+use crate::bytes::cache::BytesCache;
+use crate::chain::{AnyChain, Chain};
+use crate::steps;
+use crate::told::{LruPin, LruStats, LruTold};
+use crate::words::cache::WordsCache;
+
+/// A cache whose keys are of one of two kinds.
+#[derive(Drop)]
+pub enum AnyCache {
+    /// A cache whose keys are bytes.
+    Bytes(BytesCache),
+    /// A cache whose keys are two words.
+    Words(WordsCache),
+}
+
+impl AnyCache {
+    ghost use Rattle.lru_c.specs.Calls.{AsksAny, AsksInto, HoldsAll, NumbersAny, ReservesAny, StatsAny};
+    ghost use Rattle.lru_c.specs.Told.{bare};
+
+    pub(crate) fn poll(&mut self, pin: LruPin) -> LruTold
+        ensures { AsksAny self.old (λ K. ask.poll pin.stamp) result self.new }
+    {
+        match self {
+            AnyCache::Bytes(cache) => steps::poll(&mut cache.state, pin),
+            AnyCache::Words(cache) => steps::poll(&mut cache.state, pin),
+        }
+    }
+
+    pub(crate) fn ready(&mut self, pin: LruPin, value: u64) -> u32
+        ensures { AsksAny self.old (λ K. ask.ready pin.stamp value) (bare result) self.new }
+    {
+        match self {
+            AnyCache::Bytes(cache) => steps::ready(&mut cache.state, pin, value),
+            AnyCache::Words(cache) => steps::ready(&mut cache.state, pin, value),
+        }
+    }
+
+    pub(crate) fn fail(&mut self, pin: LruPin) -> u32
+        ensures { AsksAny self.old (λ K. ask.fail pin.stamp) (bare result) self.new }
+    {
+        match self {
+            AnyCache::Bytes(cache) => cache.fail(pin),
+            AnyCache::Words(cache) => cache.fail(pin),
+        }
+    }
+
+    pub(crate) fn repin(&mut self, pin: LruPin) -> LruTold
+        ensures { AsksAny self.old (λ K. ask.repin pin.stamp) result self.new }
+    {
+        match self {
+            AnyCache::Bytes(cache) => steps::repin(&mut cache.state, pin),
+            AnyCache::Words(cache) => steps::repin(&mut cache.state, pin),
+        }
+    }
+
+    pub(crate) fn release(&mut self, pin: LruPin) -> (u32, AnyChain)
+        ensures { AsksInto self.old (λ K. ask.release pin.stamp) (bare result.0) result.1 self.new }
+    {
+        match self {
+            AnyCache::Bytes(cache) => AnyChain::of_bytes(cache.release(pin)),
+            AnyCache::Words(cache) => AnyChain::of_words(cache.release(pin)),
+        }
+    }
+
+    pub(crate) fn release_and_evict(&mut self, pin: LruPin) -> (u32, AnyChain)
+        ensures { AsksInto self.old (λ K. ask.release_and_evict pin.stamp) (bare result.0) result.1
+            self.new }
+    {
+        match self {
+            AnyCache::Bytes(cache) => AnyChain::of_bytes(cache.release_and_evict(pin)),
+            AnyCache::Words(cache) => AnyChain::of_words(cache.release_and_evict(pin)),
+        }
+    }
+
+    pub(crate) fn prune(&mut self) -> (u32, AnyChain)
+        ensures { AsksInto self.old (λ K. ask.prune) (bare result.0) result.1 self.new }
+    {
+        match self {
+            AnyCache::Bytes(cache) => AnyChain::of_bytes(cache.prune()),
+            AnyCache::Words(cache) => AnyChain::of_words(cache.prune()),
+        }
+    }
+
+    pub(crate) fn set_capacity(&mut self, capacity: u64) -> (u32, AnyChain)
+        ensures { AsksInto self.old (λ K. ask.set_capacity capacity) (bare result.0) result.1
+            self.new }
+    {
+        match self {
+            AnyCache::Bytes(cache) => AnyChain::of_bytes(cache.set_capacity(capacity)),
+            AnyCache::Words(cache) => AnyChain::of_words(cache.set_capacity(capacity)),
+        }
+    }
+
+    pub(crate) fn reserve(&mut self, entries: usize) -> u32
+        ensures { ReservesAny self.old result self.new }
+    {
+        match self {
+            AnyCache::Bytes(cache) => steps::reserve(&mut cache.state, entries),
+            AnyCache::Words(cache) => steps::reserve(&mut cache.state, entries),
+        }
+    }
+
+    pub(crate) fn total(&mut self) -> LruTold
+        ensures { NumbersAny self.old (λ K. sum_of) result self.new }
+    {
+        match self {
+            AnyCache::Bytes(cache) => steps::total(&cache.state),
+            AnyCache::Words(cache) => steps::total(&cache.state),
+        }
+    }
+
+    pub(crate) fn pinned_charge(&mut self) -> LruTold
+        ensures { NumbersAny self.old (λ K. pinned_of) result self.new }
+    {
+        match self {
+            AnyCache::Bytes(cache) => steps::pinned_charge(&cache.state),
+            AnyCache::Words(cache) => steps::pinned_charge(&cache.state),
+        }
+    }
+
+    pub(crate) fn capacity(&mut self) -> LruTold
+        ensures { NumbersAny self.old (λ K c. c.capacity) result self.new }
+    {
+        match self {
+            AnyCache::Bytes(cache) => steps::capacity(&cache.state),
+            AnyCache::Words(cache) => steps::capacity(&cache.state),
+        }
+    }
+
+    pub(crate) fn len(&mut self) -> LruTold
+        ensures { NumbersAny self.old (λ K. count_of) result self.new }
+    {
+        match self {
+            AnyCache::Bytes(cache) => steps::len(&cache.state),
+            AnyCache::Words(cache) => steps::len(&cache.state),
+        }
+    }
+
+    pub(crate) fn stats(&mut self) -> LruStats
+        ensures { StatsAny self.old result self.new }
+    {
+        match self {
+            AnyCache::Bytes(cache) => cache.stats(),
+            AnyCache::Words(cache) => cache.stats(),
+        }
+    }
+
+    // Takes out every entry that has a value.
+    pub(crate) fn take_all(&mut self) -> AnyChain
+        ensures { HoldsAll self.old result }
+    {
+        match self {
+            AnyCache::Bytes(cache) => AnyChain::Bytes(Chain::of(cache.state.take_all())),
+            AnyCache::Words(cache) => AnyChain::Words(Chain::of(cache.state.take_all())),
+        }
+    }
+}

@@ -1,0 +1,318 @@
+//! The calls of C on caches that take no key, and the calls on chains.
+ghost use Rattle.std.specs.Prelude.{◌≡◌, ◌==◌, ⊤, false, true, None, Some, MatchBool};
+ghost use Rattle.concurrent_lru.specs.Cache.{count_of, pinned_of, sum_of};
+ghost use Rattle.concurrent_lru.specs.Request as ask;
+ghost use Rattle.lru_c.specs.Calls.{Asks, AsksInto, FreesInto, Into, Numbers, Reserves, TellsStats};
+ghost use Rattle.lru_c.specs.Chains.{chain_code, IsEmpty, PopsOpen};
+ghost use Rattle.lru_c.specs.Codes as codes;
+ghost use Rattle.lru_c.specs.Opened.{Opens};
+ghost use Rattle.lru_c.specs.Told.{bare};
+
+use crate::chain::AnyChain;
+use crate::chain_calls::{empty_chain, into_chain};
+use crate::handle::{Handle, open, take};
+use crate::handles::{LruCache, LruChain};
+use crate::told::{LruGone, LruPin, LruStats, LruTold};
+use crate::{chain_calls, code};
+use std::alloc::Global;
+
+/// Frees a cache, closes its handle, and puts its entries that have a value into a chain: the idle
+/// ones, oldest first, followed by the held ones, in no particular order.
+///
+/// Returns `CLOSED` if the cache or chain is not open, and `NOT_EMPTY` if the chain has entries.
+#[unsafe(no_mangle)]
+pub extern "C" fn lru_cache_free(cache: &mut LruCache, left: &mut LruChain) -> u32
+    ensures { FreesInto left.old left.new result cache.old cache.new }
+{
+    let chain = match empty_chain(left) {
+        Ok(chain) => chain,
+        Err(code) => return code,
+    };
+    let Some(mut taken) = take(cache) else {
+        return code::CLOSED;
+    };
+    *chain = taken.take_all();
+    code::DONE
+}
+
+/// Asks again for a value that was being made. Returns `MAKE` if its maker has failed.
+///
+/// Returns `STALE` if no held entry has the stamp of the pin, and `CLOSED` if the cache is not
+/// open; nothing changes then.
+#[unsafe(no_mangle)]
+pub extern "C" fn lru_cache_poll(cache: &mut LruCache, pin: LruPin) -> LruTold
+    ensures { Asks cache.old.cache.held (λ K. ask.poll pin.stamp) result cache.new.cache.held }
+{
+    match cache.get_mut() {
+        Some(cache) => cache.poll(pin),
+        None => LruTold::bare(code::CLOSED),
+    }
+}
+
+/// Stores the value of an entry that is being made.
+///
+/// Returns `STALE` if no entry is being made under the stamp, and `CLOSED` if the cache is not
+/// open. Nothing changes then, and the value is not taken.
+#[unsafe(no_mangle)]
+pub extern "C" fn lru_cache_ready(cache: &mut LruCache, pin: LruPin, value: u64) -> u32
+    ensures { Asks cache.old.cache.held (λ K. ask.ready pin.stamp value) (bare result)
+        cache.new.cache.held }
+{
+    match cache.get_mut() {
+        Some(cache) => cache.ready(pin, value),
+        None => code::CLOSED,
+    }
+}
+
+/// Gives up a making and releases its pin. Returns `LEFT` if others wait, otherwise `REMOVED`.
+///
+/// Returns `STALE` if no entry is being made under the stamp, and `CLOSED` if the cache is not
+/// open; nothing changes then.
+#[unsafe(no_mangle)]
+pub extern "C" fn lru_cache_fail(cache: &mut LruCache, pin: LruPin) -> u32
+    ensures { Asks cache.old.cache.held (λ K. ask.fail pin.stamp) (bare result)
+        cache.new.cache.held }
+{
+    match cache.get_mut() {
+        Some(cache) => cache.fail(pin),
+        None => code::CLOSED,
+    }
+}
+
+/// Pins a ready entry once more, and returns `PINNED` with its pin and its value. The entry may be
+/// held, detached or not, or idle.
+///
+/// Returns `STALE` if no ready entry has the stamp, `OVERFLOW` if the entry has the maximum number
+/// of pins, and `CLOSED` if the cache is not open; nothing changes then.
+#[unsafe(no_mangle)]
+pub extern "C" fn lru_cache_repin(cache: &mut LruCache, pin: LruPin) -> LruTold
+    ensures { Asks cache.old.cache.held (λ K. ask.repin pin.stamp) result cache.new.cache.held }
+{
+    match cache.get_mut() {
+        Some(cache) => cache.repin(pin),
+        None => LruTold::bare(code::CLOSED),
+    }
+}
+
+/// Releases a pin of a ready entry. With its last pin the entry becomes the newest idle one, or is
+/// evicted if it is detached. What is evicted is put into a chain, oldest first.
+///
+/// Returns `STALE` if no held and ready entry has the stamp, `CLOSED` if the cache or chain is not
+/// open, and `NOT_EMPTY` if the chain has entries; nothing changes then.
+#[unsafe(no_mangle)]
+pub extern "C" fn lru_cache_release(cache: &mut LruCache, pin: LruPin, gone: &mut LruChain) -> u32
+    ensures { Into gone.old gone.new (bare result) cache.old cache.new
+        (λ o b c n. AsksInto o (λ K. ask.release pin.stamp) (bare result) c n) }
+{
+    into_chain(
+        cache,
+        gone,
+        |cache|
+            ensures { AsksInto cache.old (λ K. ask.release pin.stamp) (bare result.0) result.1
+                cache.new }
+        { cache.release(pin) },
+    )
+}
+
+/// Releases a pin of a ready entry as `release` does, but with its last pin the entry is evicted
+/// into the chain.
+///
+/// Returns `STALE` if no held and ready entry has the stamp, `CLOSED` if the cache or chain is not
+/// open, and `NOT_EMPTY` if the chain has entries; nothing changes then.
+#[unsafe(no_mangle)]
+pub extern "C" fn lru_cache_release_and_evict(
+    cache: &mut LruCache,
+    pin: LruPin,
+    gone: &mut LruChain,
+) -> u32
+    ensures { Into gone.old gone.new (bare result) cache.old cache.new
+        (λ o b c n. AsksInto o (λ K. ask.release_and_evict pin.stamp) (bare result) c n) }
+{
+    into_chain(
+        cache,
+        gone,
+        |cache|
+            ensures { AsksInto cache.old (λ K. ask.release_and_evict pin.stamp) (bare result.0)
+                result.1 cache.new }
+        { cache.release_and_evict(pin) },
+    )
+}
+
+/// Evicts every idle entry into a chain, oldest first.
+///
+/// Returns `CLOSED` if the cache or chain is not open, and `NOT_EMPTY` if the chain has entries;
+/// nothing changes then.
+#[unsafe(no_mangle)]
+pub extern "C" fn lru_cache_prune(cache: &mut LruCache, gone: &mut LruChain) -> u32
+    ensures { Into gone.old gone.new (bare result) cache.old cache.new
+        (λ o b c n. AsksInto o (λ K. ask.prune) (bare result) c n) }
+{
+    into_chain(
+        cache,
+        gone,
+        |cache|
+            ensures { AsksInto cache.old (λ K. ask.prune) (bare result.0) result.1 cache.new }
+        { cache.prune() },
+    )
+}
+
+/// Sets the capacity, and evicts idle entries into a chain while the total is above it.
+///
+/// Returns `CLOSED` if the cache or chain is not open, and `NOT_EMPTY` if the chain has entries;
+/// nothing changes then.
+#[unsafe(no_mangle)]
+pub extern "C" fn lru_cache_set_capacity(
+    cache: &mut LruCache,
+    capacity: u64,
+    gone: &mut LruChain,
+) -> u32
+    ensures { Into gone.old gone.new (bare result) cache.old cache.new
+        (λ o b c n. AsksInto o (λ K. ask.set_capacity capacity) (bare result) c n) }
+{
+    into_chain(
+        cache,
+        gone,
+        |cache|
+            ensures { AsksInto cache.old (λ K. ask.set_capacity capacity) (bare result.0) result.1
+                cache.new }
+        { cache.set_capacity(capacity) },
+    )
+}
+
+/// Reserves room for a total of `entries` entries.
+///
+/// Returns `MEMORY` if the allocator refuses, and `CLOSED` if the cache is not open. No entry
+/// changes in any case.
+#[unsafe(no_mangle)]
+pub extern "C" fn lru_cache_reserve(cache: &mut LruCache, entries: usize) -> u32
+    ensures { Reserves cache.old.cache.held result cache.new.cache.held }
+{
+    match cache.get_mut() {
+        Some(cache) => cache.reserve(entries),
+        None => code::CLOSED,
+    }
+}
+
+/// Returns the sum of the charges of all entries, or `CLOSED` if the cache is not open.
+#[unsafe(no_mangle)]
+pub extern "C" fn lru_cache_total(cache: &mut LruCache) -> LruTold
+    ensures { Numbers cache.old.cache.held (λ K. sum_of) result cache.new.cache.held }
+{
+    match cache.get_mut() {
+        Some(cache) => cache.total(),
+        None => LruTold::bare(code::CLOSED),
+    }
+}
+
+/// Returns the sum of the charges of the held entries, or `CLOSED` if the cache is not open.
+#[unsafe(no_mangle)]
+pub extern "C" fn lru_cache_pinned_charge(cache: &mut LruCache) -> LruTold
+    ensures { Numbers cache.old.cache.held (λ K. pinned_of) result cache.new.cache.held }
+{
+    match cache.get_mut() {
+        Some(cache) => cache.pinned_charge(),
+        None => LruTold::bare(code::CLOSED),
+    }
+}
+
+/// Returns the capacity, or `CLOSED` if the cache is not open.
+#[unsafe(no_mangle)]
+pub extern "C" fn lru_cache_capacity(cache: &mut LruCache) -> LruTold
+    ensures { Numbers cache.old.cache.held (λ K c. c.capacity) result cache.new.cache.held }
+{
+    match cache.get_mut() {
+        Some(cache) => cache.capacity(),
+        None => LruTold::bare(code::CLOSED),
+    }
+}
+
+/// Returns the number of entries, held and idle, or `CLOSED` if the cache is not open.
+#[unsafe(no_mangle)]
+pub extern "C" fn lru_cache_len(cache: &mut LruCache) -> LruTold
+    ensures { Numbers cache.old.cache.held (λ K. count_of) result cache.new.cache.held }
+{
+    match cache.get_mut() {
+        Some(cache) => cache.len(),
+        None => LruTold::bare(code::CLOSED),
+    }
+}
+
+/// Writes counts of what the calls on a cache have returned since it was opened, and what it holds.
+///
+/// Returns `CLOSED` if the cache is not open; nothing is written then.
+#[unsafe(no_mangle)]
+pub extern "C" fn lru_cache_stats(cache: &mut LruCache, out: &mut LruStats) -> u32
+    ensures told { TellsStats cache.old.cache.held result out.new cache.new.cache.held }
+    ensures kept { MatchBool (result == codes.done) ⊤ (out.new ≡ out.old) }
+{
+    let Some(cache) = cache.get_mut() else {
+        return code::CLOSED;
+    };
+    *out = cache.stats();
+    code::DONE
+}
+
+/// Opens an empty chain.
+///
+/// Returns `OPEN` if the handle is already open, or `MEMORY`; the handle is unchanged then.
+#[unsafe(no_mangle)]
+pub extern "C" fn lru_chain_new(alloc: Global, out: &mut LruChain) -> u32
+    ensures { Opens (out.old.is_open == 1) out.old.chain.held IsEmpty result out.new.chain.held }
+{
+    if out.is_open == 1 {
+        return code::OPEN;
+    }
+    match Box::new(alloc, AnyChain::none()) {
+        Ok(chain) => {
+            *out = open(chain);
+            code::DONE
+        }
+        Err(_) => code::MEMORY,
+    }
+}
+
+/// Frees an empty chain and closes its handle.
+///
+/// Returns `NOT_EMPTY` if the chain has entries, and `CLOSED` if it is not open; nothing changes
+/// then.
+#[unsafe(no_mangle)]
+pub extern "C" fn lru_chain_free(chain: &mut LruChain) -> u32
+    ensures code { result ≡ chain_code chain.old.chain.held }
+    ensures chain { MatchBool (result == codes.done) (chain.new.chain.held ≡ None)
+        (chain.new.chain.held ≡ chain.old.chain.held) }
+{
+    let filled = chain_calls::is_filled(chain);
+    if filled == code::DONE {
+        drop(take(chain));
+    }
+    filled
+}
+
+/// Takes the first entry out of a chain. Returns false if none is left or the chain is not open.
+#[unsafe(no_mangle)]
+pub extern "C" fn lru_chain_pop(chain: &mut LruChain, out: &mut LruGone) -> bool
+    ensures { MatchBool result
+        (PopsOpen chain.old.chain.held (Some out.new) chain.new.chain.held)
+        (PopsOpen chain.old.chain.held None chain.new.chain.held × (out.new ≡ out.old)) }
+{
+    let Some(chain) = chain.get_mut() else {
+        return false;
+    };
+    match chain.pop() {
+        Some(gone) => {
+            *out = gone;
+            true
+        }
+        None => false,
+    }
+}
+
+/// Returns whether a chain has no entries or is not open.
+#[unsafe(no_mangle)]
+pub extern "C" fn lru_chain_is_empty(chain: &mut LruChain) -> bool
+    ensures same { chain.new.chain.held ≡ chain.old.chain.held }
+    ensures empty { MatchBool (chain_code chain.old.chain.held == codes.not_empty)
+        (result ≡ false) (result ≡ true) }
+{
+    chain_calls::is_filled(chain) != code::NOT_EMPTY
+}
