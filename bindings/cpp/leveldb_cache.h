@@ -48,14 +48,13 @@
 #include <cstddef>
 #include <cstdint>
 #include <cstdlib>
-#include <cstring>
 #include <mutex>
 #include <new>
 #include <string_view>
-#include <type_traits>
 
 #include "leveldb/cache.h"
 #include "leveldb/slice.h"
+#include "lru_block_cache.hpp"
 #include "lru_core.hpp"
 
 namespace lru {
@@ -82,9 +81,8 @@ class BasicLevelDBCache : public leveldb::Cache {
     return New(capacity, shards, Seed::random());
   }
   static BasicLevelDBCache* New(std::size_t capacity, std::size_t shards, Seed seed) noexcept {
-    auto* cache =
-        new (std::nothrow) BasicLevelDBCache(std::clamp<std::size_t>(shards, 1, kMostShards));
-    if (cache == nullptr || cache->Open(capacity, seed)) return cache;
+    auto* cache = new (std::nothrow) BasicLevelDBCache(shards);
+    if (cache == nullptr || cache->shards_.Open(capacity, seed)) return cache;
     delete cache;
     return nullptr;
   }
@@ -98,9 +96,11 @@ class BasicLevelDBCache : public leveldb::Cache {
   Handle* Insert(const leveldb::Slice& key, void* value, std::size_t charge,
                  void (*deleter)(const leveldb::Slice& key, void* value)) override {
     Entry* entry = Entry::New(key, value, deleter);
+    // Insert has no way to report this.
+    if (entry == nullptr) std::abort();
     if (!CanStore(key)) return reinterpret_cast<Handle*>(entry);
     const std::uint64_t weight = charge == 0 ? 1 : charge;
-    Shard& shard = ShardOf(key);
+    Shard& shard = shards_.Of(key);
     entry->shard = &shard;
     Evicted evicted;
     const std::lock_guard<std::mutex> lock(shard.mutex);
@@ -116,7 +116,7 @@ class BasicLevelDBCache : public leveldb::Cache {
 
   Handle* Lookup(const leveldb::Slice& key) override {
     if (!CanStore(key)) return nullptr;
-    Shard& shard = ShardOf(key);
+    Shard& shard = shards_.Of(key);
     const std::lock_guard<std::mutex> lock(shard.mutex);
     const lru_told told = shard.core.get(Stored(key));
     // It is a miss too if the entry has 2^32 - 1 handles. If the key is longer than any before and
@@ -141,7 +141,7 @@ class BasicLevelDBCache : public leveldb::Cache {
 
   void Erase(const leveldb::Slice& key) override {
     if (!CanStore(key)) return;
-    Shard& shard = ShardOf(key);
+    Shard& shard = shards_.Of(key);
     Evicted evicted;
     const std::lock_guard<std::mutex> lock(shard.mutex);
     // This is refused only if the key is longer than any before, and then it has no entry.
@@ -151,20 +151,15 @@ class BasicLevelDBCache : public leveldb::Cache {
   std::uint64_t NewId() override { return ++last_id_; }
 
   void Prune() override {
-    for (std::size_t i = 0; i < count_; i++) {
+    for (Shard& shard : shards_) {
       Evicted evicted;
-      const std::lock_guard<std::mutex> lock(shards_[i].mutex);
-      shards_[i].core.prune(&evicted);
+      const std::lock_guard<std::mutex> lock(shard.mutex);
+      shard.core.prune(&evicted);
     }
   }
 
   std::size_t TotalCharge() const override {
-    std::size_t total = 0;
-    for (std::size_t i = 0; i < count_; i++) {
-      const std::lock_guard<std::mutex> lock(shards_[i].mutex);
-      total += static_cast<std::size_t>(shards_[i].core.total());
-    }
-    return total;
+    return shards_.Sum([](const Shard& shard) { return shard.core.total(); });
   }
 
  private:
@@ -172,38 +167,7 @@ class BasicLevelDBCache : public leveldb::Cache {
 
   struct Shard;
 
-  // An entry, followed by the bytes of its key.
-  struct Entry {
-    void* value;
-    void (*deleter)(const leveldb::Slice&, void*);
-    Entry* next = nullptr;
-    lru_pin pin = {};
-    std::size_t length;
-    Shard* shard = nullptr;  // null if the entry is not in the cache
-
-    static Entry* New(const leveldb::Slice& key, void* value,
-                      void (*deleter)(const leveldb::Slice&, void*)) {
-      void* at = std::malloc(sizeof(Entry) + key.size());
-      // Insert has no way to report this.
-      if (at == nullptr) std::abort();
-      return ::new (at) Entry(key, value, deleter);
-    }
-
-    ~Entry() { deleter(key(), value); }
-    static void operator delete(void* at) { std::free(at); }
-
-    leveldb::Slice key() const {
-      return leveldb::Slice(reinterpret_cast<const char*>(this + 1), length);
-    }
-
-   private:
-    Entry(const leveldb::Slice& k, void* v, void (*d)(const leveldb::Slice&, void*))
-        : value(v), deleter(d), length(k.size()) {
-      char* const after = reinterpret_cast<char*>(this + 1);
-      std::memcpy(after, k.data(), k.size());
-    }
-  };
-
+  using Entry = detail::BlockEntry<leveldb::Slice, Shard>;
   using Core = detail::Core<Entry, Key>;
   // Always declared before the mutex is locked: it is destroyed, and deleters run, after the mutex
   // is unlocked.
@@ -215,58 +179,12 @@ class BasicLevelDBCache : public leveldb::Cache {
     mutable std::mutex mutex;
   };
 
-  explicit BasicLevelDBCache(std::size_t count) : count_(count) {}
+  explicit BasicLevelDBCache(std::size_t shards) : shards_(shards) {}
 
-  // False if there is no memory. Each shard gets another seed.
-  bool Open(std::size_t capacity, Seed seed) {
-    const std::size_t share = capacity / count_ + (capacity % count_ != 0);
-    for (std::size_t i = 0; i < count_; i++) {
-      if (!shards_[i].core.open(share, seed)) return false;
-      seed.number++;
-    }
-    return true;
-  }
+  static bool CanStore(const leveldb::Slice& key) { return detail::CanStore<Key>(key); }
+  static Key Stored(const leveldb::Slice& key) { return detail::Stored<Key>(key); }
 
-  // A key of LevelDB as the library stores it, if it can.
-  static bool CanStore(const leveldb::Slice& key) {
-    return !std::is_same_v<Key, Words> || key.size() == sizeof(Words);
-  }
-  static Key Stored(const leveldb::Slice& key) {
-    if constexpr (std::is_same_v<Key, Words>) {
-      Words words;
-      std::memcpy(&words, key.data(), sizeof words);
-      return words;
-    } else {
-      return Key(key.data(), key.size());
-    }
-  }
-
-  // The hash function of LevelDB's own cache, so that both choose the same shards.
-  static std::uint32_t Hash(const leveldb::Slice& key) {
-    constexpr std::uint32_t kFactor = 0xc6a4a793;
-    const auto* at = reinterpret_cast<const std::uint8_t*>(key.data());
-    const std::uint8_t* const end = at + key.size();
-    std::uint32_t hash = static_cast<std::uint32_t>(key.size()) * kFactor;
-    for (; end - at >= 4; at += 4) {
-      std::uint32_t word;  // its lowest byte first, as x86-64 and aarch64 have it
-      std::memcpy(&word, at, sizeof word);
-      hash = (hash + word) * kFactor;
-      hash ^= hash >> 16;
-    }
-    if (at == end) return hash;
-    std::uint32_t rest = 0;
-    std::memcpy(&rest, at, static_cast<std::size_t>(end - at));
-    hash = (hash + rest) * kFactor;
-    return hash ^ hash >> 24;
-  }
-
-  // Of 16 shards, the highest 4 bits of the hash choose one, as in LevelDB's own cache.
-  Shard& ShardOf(const leveldb::Slice& key) {
-    return shards_[std::uint64_t{Hash(key)} * count_ >> 32];
-  }
-
-  std::size_t count_;  // of the shards that are used
-  Shard shards_[kMostShards];
+  detail::Shards<Shard, kMostShards> shards_;
   std::atomic<std::uint64_t> last_id_{0};
 };
 

@@ -1,6 +1,6 @@
-// The library of lru.h as C++ classes without a lock. lru.hpp and leveldb_cache.h are built on
-// them. Nothing here throws except Seed::random, and the header compiles with -fno-exceptions and
-// -fno-rtti.
+// The library of lru.h as C++ classes without a lock. lru.hpp, leveldb_cache.h and rocksdb_cache.h
+// are built on them. Nothing here throws except Seed::random, and the header compiles with
+// -fno-exceptions and -fno-rtti.
 #ifndef LRU_CORE_HPP
 #define LRU_CORE_HPP
 
@@ -128,6 +128,9 @@ class Evicted {
     (last_ == nullptr ? first_ : last_->next) = node;
     last_ = node;
   }
+
+  // The oldest of them, or null. Each leads to the one that was evicted after it.
+  Node* first() const noexcept { return first_; }
 
  private:
   Node* first_ = nullptr;

@@ -1,0 +1,165 @@
+// Measures random reads of a RocksDB database with this block cache, and with RocksDB's LRU and
+// HyperClock caches.
+//
+//   rocksdb_bench FOLDER [ROUNDS [READS [KEYS]]]     creates the database in FOLDER if it does not
+//                                                    exist
+//
+// For each capacity and number of threads, the caches take turns. Prints the processor time per
+// read, the least of all rounds for each cache, and its ratio to that of the LRU cache. Metadata is
+// not charged, so that all have room for as many blocks.
+#include <sys/stat.h>
+#include <time.h>
+
+#include <algorithm>
+#include <cstddef>
+#include <cstdint>
+#include <cstdio>
+#include <cstdlib>
+#include <memory>
+#include <string>
+#include <thread>
+#include <utility>
+#include <vector>
+
+#include "rocksdb/cache.h"
+#include "rocksdb/db.h"
+#include "rocksdb/options.h"
+#include "rocksdb/table.h"
+#include "rocksdb_cache.h"
+
+namespace {
+
+// Seconds of processor time of this process, as the machine may be busy with other work.
+double ProcessorTime() {
+  timespec now;
+  clock_gettime(CLOCK_PROCESS_CPUTIME_ID, &now);
+  return static_cast<double>(now.tv_sec) + static_cast<double>(now.tv_nsec) * 1e-9;
+}
+
+std::uint64_t Mix(std::uint64_t x) {
+  x += 0x9e3779b97f4a7c15u;
+  x = (x ^ (x >> 30)) * 0xbf58476d1ce4e5b9u;
+  x = (x ^ (x >> 27)) * 0x94d049bb133111ebu;
+  return x ^ (x >> 31);
+}
+
+std::string KeyOf(std::uint64_t n) {
+  char text[24];
+  std::snprintf(text, sizeof text, "%016llu", static_cast<unsigned long long>(n));
+  return text;
+}
+
+// 100 bytes, half of which compress.
+std::string ValueOf(std::uint64_t n) {
+  std::string value;
+  for (std::uint64_t i = 0; i < 6; i++) {
+    const std::uint64_t word = Mix(n * 8 + i);
+    value.append(reinterpret_cast<const char*>(&word), sizeof word);
+  }
+  value.append(100 - value.size(), 'v');
+  return value;
+}
+
+void Check(const rocksdb::Status& status) {
+  if (status.ok()) return;
+  std::fprintf(stderr, "rocksdb_bench: %s\n", status.ToString().c_str());
+  std::exit(1);
+}
+
+std::unique_ptr<rocksdb::DB> Open(const std::string& path, std::shared_ptr<rocksdb::Cache> cache,
+                                  bool create) {
+  rocksdb::BlockBasedTableOptions table;
+  table.block_cache = std::move(cache);
+  rocksdb::Options options;
+  options.create_if_missing = create;
+  options.table_factory.reset(rocksdb::NewBlockBasedTableFactory(table));
+  rocksdb::DB* db = nullptr;
+  Check(rocksdb::DB::Open(options, path, &db));
+  return std::unique_ptr<rocksdb::DB>(db);
+}
+
+void Fill(const std::string& path, std::uint64_t keys) {
+  const std::unique_ptr<rocksdb::DB> db = Open(path, rocksdb::NewLRUCache(1 << 20), true);
+  for (std::uint64_t n = 0; n < keys; n++) {
+    Check(db->Put(rocksdb::WriteOptions(), KeyOf(n), ValueOf(n)));
+  }
+  Check(db->CompactRange(rocksdb::CompactRangeOptions(), nullptr, nullptr));
+}
+
+// Random reads of one thread. Nine of ten are of a tenth of the keys.
+void Read(rocksdb::DB* db, std::uint64_t seed, std::uint64_t reads, std::uint64_t keys) {
+  std::string value;
+  for (std::uint64_t read = 0; read < reads; read++) {
+    const std::uint64_t x = Mix(seed * 1000003 + read);
+    const std::uint64_t n = (x >> 8) % 10 != 0 ? (x >> 16) % (keys / 10) * 10 : (x >> 16) % keys;
+    Check(db->Get(rocksdb::ReadOptions(), KeyOf(n), &value));
+  }
+}
+
+struct Work {
+  std::string path;
+  std::uint64_t reads, keys;
+};
+
+// Seconds of processor time per read, once the cache is warm.
+double Measure(const Work& work, std::shared_ptr<rocksdb::Cache> cache, std::size_t threads) {
+  const std::unique_ptr<rocksdb::DB> db = Open(work.path, std::move(cache), false);
+  Read(db.get(), 7, work.reads / 4, work.keys);
+  const double start = ProcessorTime();
+  std::vector<std::thread> all;
+  for (std::size_t t = 0; t < threads; t++) {
+    all.emplace_back(Read, db.get(), 11 + t, work.reads / threads, work.keys);
+  }
+  for (std::thread& thread : all) thread.join();
+  return (ProcessorTime() - start) / static_cast<double>(work.reads);
+}
+
+std::shared_ptr<rocksdb::Cache> NewLRU(std::size_t capacity) {
+  rocksdb::LRUCacheOptions options;
+  options.capacity = capacity;
+  options.metadata_charge_policy = rocksdb::kDontChargeCacheMetadata;
+  return rocksdb::NewLRUCache(options);
+}
+
+std::shared_ptr<rocksdb::Cache> NewHyperClock(std::size_t capacity) {
+  rocksdb::HyperClockCacheOptions options(capacity, 4096);
+  options.metadata_charge_policy = rocksdb::kDontChargeCacheMetadata;
+  return options.MakeSharedCache();
+}
+
+std::shared_ptr<rocksdb::Cache> NewProved(std::size_t capacity) {
+  return lru::NewRocksDBBlockCache(capacity);
+}
+
+void Compare(const Work& work, std::size_t capacity, std::size_t threads, int rounds) {
+  double lru = 1e9, clock = 1e9, proved = 1e9;
+  for (int round = 0; round < rounds; round++) {
+    lru = std::min(lru, Measure(work, NewLRU(capacity), threads));
+    clock = std::min(clock, Measure(work, NewHyperClock(capacity), threads));
+    proved = std::min(proved, Measure(work, NewProved(capacity), threads));
+  }
+  std::printf(
+      "%2zu MiB, %zu thread%s: LRU %.2f us, HyperClock %.2f us (%.2f), this %.2f us (%.2f)\n",
+      capacity >> 20, threads, threads == 1 ? " " : "s", lru * 1e6, clock * 1e6, clock / lru,
+      proved * 1e6, proved / lru);
+}
+
+}  // namespace
+
+int main(int argc, char** argv) {
+  const int rounds = argc > 2 ? std::atoi(argv[2]) : 7;
+  Work work = {argc > 1 ? argv[1] : "", 300000, 200000};
+  if (argc > 3) work.reads = std::strtoull(argv[3], nullptr, 10);
+  if (argc > 4) work.keys = std::strtoull(argv[4], nullptr, 10);
+  if (argc < 2 || argc > 5 || rounds < 1 || work.reads < 4 || work.keys < 10) {
+    std::fprintf(stderr, "usage: rocksdb_bench FOLDER [ROUNDS [READS [KEYS]]]\n");
+    return 2;
+  }
+  struct stat found;
+  if (stat(work.path.c_str(), &found) != 0) Fill(work.path, work.keys);
+  for (const std::size_t mebibytes : {2u, 8u, 64u}) {
+    for (const std::size_t threads : {1u, 4u}) {
+      Compare(work, mebibytes << 20, threads, rounds);
+    }
+  }
+}

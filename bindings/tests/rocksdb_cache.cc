@@ -1,0 +1,994 @@
+// Tests lru::RocksDBCache: what it has in common with RocksDB's own LRU cache, on which these tests
+// run too; where it differs, as its header says; random calls on both, number for number; requests
+// for memory that are refused; and threads, with each object deleted exactly once.
+#include "rocksdb_cache.h"
+
+#include <algorithm>
+#include <atomic>
+#include <cstddef>
+#include <cstdint>
+#include <cstdio>
+#include <cstdlib>
+#include <cstring>
+#include <functional>
+#include <map>
+#include <memory>
+#include <string>
+#include <thread>
+#include <tuple>
+#include <utility>
+#include <vector>
+
+#include "check.hpp"
+#include "rocksdb/cache.h"
+
+// The linker directs the requests for memory of the cache to these. One of them can be refused.
+namespace {
+thread_local int requests_until_refusal = 0;  // 0 if none is refused
+
+bool IsRefused() { return requests_until_refusal > 0 && --requests_until_refusal == 0; }
+}  // namespace
+
+extern "C" {
+void* __real_malloc(std::size_t size);
+void* __real_realloc(void* at, std::size_t size);
+void* __wrap_malloc(std::size_t size) { return IsRefused() ? nullptr : __real_malloc(size); }
+void* __wrap_realloc(void* at, std::size_t size) {
+  return IsRefused() ? nullptr : __real_realloc(at, size);
+}
+}
+
+namespace {
+
+using rocksdb::Cache;
+using rocksdb::Slice;
+using rocksdb::Status;
+using Handle = Cache::Handle;
+using Priority = Cache::Priority;
+
+// A cache, with keys of 16 bytes if it needs them: short names are padded by zeros.
+class Tested {
+ public:
+  Tested(std::shared_ptr<Cache> cache, bool pads) : cache_(std::move(cache)), pads_(pads) {}
+
+  Cache* operator->() const { return cache_.get(); }
+
+  std::string Key(std::string name) const {
+    if (pads_) name.resize(16);
+    return name;
+  }
+
+  // Returns null if it is refused.
+  Handle* Insert(const std::string& name, const std::string& value, std::size_t charge = 1) const {
+    auto* object = new std::string(value);
+    Handle* handle = nullptr;
+    status_ = cache_->Insert(Key(name), object, charge, Delete, &handle);
+    if (!status_.ok()) delete object;
+    return handle;
+  }
+
+  void Put(const std::string& name, const std::string& value, std::size_t charge = 1) const {
+    status_ = cache_->Insert(Key(name), new std::string(value), charge, Delete);
+  }
+
+  // What the last Insert or Put returned.
+  bool IsNew() const { return status_.ok() && !status_.IsOkOverwritten(); }
+  bool IsOverwritten() const { return status_.IsOkOverwritten(); }
+  bool IsRefused() const { return status_.IsMemoryLimit(); }
+
+  Handle* Lookup(const std::string& name) const { return cache_->Lookup(Key(name)); }
+
+  void Erase(const std::string& name) const { cache_->Erase(Key(name)); }
+
+  std::string ValueOf(Handle* handle) const {
+    return *static_cast<std::string*>(cache_->Value(handle));
+  }
+
+  // The value of a key, or "none".
+  std::string Get(const std::string& name) const {
+    Handle* handle = Lookup(name);
+    if (handle == nullptr) return "none";
+    std::string value = ValueOf(handle);
+    cache_->Release(handle);
+    return value;
+  }
+
+  // Whether the cache has these charges and this number of entries that keys find. RocksDB's own
+  // returns its pinned charge in place of that number.
+  bool Counts(std::size_t usage, std::size_t pinned, std::size_t entries) const {
+    const bool is_own = std::strcmp(cache_->Name(), "LRUCache") == 0;
+    return cache_->GetUsage() == usage && cache_->GetPinnedUsage() == pinned &&
+           Visited() == entries && cache_->GetOccupancyCount() == (is_own ? pinned : entries);
+  }
+
+  // The number of entries that ApplyToAllEntries visits.
+  std::size_t Visited() const {
+    std::size_t visited = 0;
+    cache_->ApplyToAllEntries(
+        [&](const Slice&, void*, std::size_t, Cache::DeleterFn) { visited++; }, {});
+    return visited;
+  }
+
+  // What ApplyToAllEntries visits, in the order of keys, each as "key=value:charge ".
+  std::string All() const {
+    std::vector<std::string> all;
+    cache_->ApplyToAllEntries(
+        [&](const Slice& key, void* value, std::size_t charge, Cache::DeleterFn deleter) {
+          all.push_back(NameOf(key) + "=" + *static_cast<std::string*>(value) + ":" +
+                        std::to_string(charge) + " ");
+          CHECK(deleter == Delete);
+        },
+        {});
+    std::sort(all.begin(), all.end());
+    std::string text;
+    for (const std::string& entry : all) text += entry;
+    return text;
+  }
+
+  // The objects deleted since the last call, in the order of keys, each as "key=value ".
+  static std::string Deleted() {
+    std::sort(deleted_.begin(), deleted_.end());
+    std::string text;
+    for (const std::string& entry : deleted_) text += entry;
+    deleted_.clear();
+    return text;
+  }
+
+  static void Delete(const Slice& key, void* value) {
+    deleted_.push_back(NameOf(key) + "=" + *static_cast<std::string*>(value) + " ");
+    delete static_cast<std::string*>(value);
+  }
+
+ private:
+  // Without the padding.
+  static std::string NameOf(const Slice& key) { return key.ToString().c_str(); }
+
+  static inline std::vector<std::string> deleted_;
+
+  std::shared_ptr<Cache> cache_;
+  bool pads_;
+  mutable Status status_;
+};
+
+using NewCache = Tested (*)(std::size_t capacity, bool is_strict);
+
+// Each has one shard, as the charges of these tests are not bytes.
+Tested Own(std::size_t capacity, bool is_strict) {
+  rocksdb::LRUCacheOptions options(capacity, 0, is_strict, 0.0);
+  options.metadata_charge_policy = rocksdb::kDontChargeCacheMetadata;
+  return Tested(rocksdb::NewLRUCache(options), false);
+}
+Tested Any(std::size_t capacity, bool is_strict) {
+  return Tested(lru::NewRocksDBCache(capacity, 1, is_strict), false);
+}
+Tested Blocks(std::size_t capacity, bool is_strict) {
+  return Tested(lru::NewRocksDBBlockCache(capacity, 1, is_strict), true);
+}
+
+// Tests that RocksDB's own cache passes too.
+
+void HitsAndMisses(NewCache new_cache) {
+  const Tested cache = new_cache(1000, false);
+  CHECK(cache.Get("a") == "none" && cache.Counts(0, 0, 0));
+  cache.Put("a", "1");
+  CHECK(cache.IsNew());
+  cache.Put("", "empty");
+  cache.Put("a longer key", "2", 5);
+  CHECK(cache.Get("a") == "1" && cache.Get("") == "empty" && cache.Get("a longer key") == "2");
+  CHECK(cache.Counts(7, 0, 3));
+  cache.Put("a", "3");
+  CHECK(cache.IsOverwritten());
+  CHECK(cache.Get("a") == "3" && cache.Deleted() == "a=1 " && cache.Counts(7, 0, 3));
+  cache.Erase("a");
+  cache.Erase("a");
+  CHECK(cache.Get("a") == "none" && cache.Deleted() == "a=3 " && cache.Counts(6, 0, 2));
+  const std::uint64_t id = cache->NewId();
+  CHECK(cache->NewId() != id);
+  Handle* held = cache.Lookup("");
+  CHECK(cache.Counts(6, 1, 2));
+  cache->EraseUnRefEntries();
+  CHECK(cache.Deleted() == "a longer key=2 " && cache.Counts(1, 1, 1));
+  CHECK(cache.ValueOf(held) == "empty");
+  CHECK(!cache->Release(held) && cache.Get("") == "empty");
+}
+
+void TellsOfHandles(NewCache new_cache) {
+  const Tested cache = new_cache(1000, false);
+  Handle* handle = cache.Insert("a", "1", 7);
+  CHECK(cache->GetCharge(handle) == 7 && cache->GetUsage(handle) == 7);
+  CHECK(cache->GetDeleter(handle) == Tested::Delete);
+  CHECK(cache->Value(handle) != nullptr);
+  cache->Release(handle);
+  // A value and a deleter may be null.
+  CHECK(cache->Insert(cache.Key("b"), nullptr, 2, nullptr, &handle).ok());
+  CHECK(cache->Value(handle) == nullptr && cache->GetDeleter(handle) == nullptr);
+  CHECK(cache->Release(handle, true) && cache.Counts(7, 0, 1));
+}
+
+void EvictsByLastRelease(NewCache new_cache) {
+  const Tested cache = new_cache(3, false);
+  cache.Put("a", "1");
+  cache.Put("b", "2");
+  Handle* held = cache.Insert("c", "3");
+  CHECK(cache.Get("a") == "1");
+  cache.Put("d", "4");
+  CHECK(cache.Deleted() == "b=2 " && cache.All() == "a=1:1 c=3:1 d=4:1 ");
+  cache.Put("e", "5", 2);
+  CHECK(cache.Deleted() == "a=1 d=4 " && cache.All() == "c=3:1 e=5:2 ");
+  CHECK(cache.ValueOf(held) == "3" && cache.Get("c") == "3");
+  CHECK(!cache->Release(held));
+  cache.Put("f", "6");
+  CHECK(cache.Deleted() == "e=5 " && cache.All() == "c=3:1 f=6:1 ");
+}
+
+void ErasesWhatIsHeld(NewCache new_cache) {
+  const Tested cache = new_cache(1000, false);
+  Handle* one = cache.Insert("a", "1", 3);
+  Handle* two = cache.Lookup("a");
+  CHECK(one == two && cache.Counts(3, 3, 1) && cache.All() == "a=1:3 ");
+  cache.Erase("a");
+  CHECK(cache.Get("a") == "none" && cache.Deleted().empty() && cache.All().empty());
+  CHECK(cache.ValueOf(one) == "1" && cache.Counts(3, 3, 0));
+  CHECK(!cache->Release(one) && cache.Deleted().empty());
+  CHECK(cache->Release(two) && cache.Deleted() == "a=1 " && cache.Counts(0, 0, 0));
+  cache.Put("a", "2");
+  CHECK(cache.Get("a") == "2");
+}
+
+void ReplacesWhatIsHeld(NewCache new_cache) {
+  const Tested cache = new_cache(1000, false);
+  Handle* old = cache.Insert("a", "1", 3);
+  Handle* fresh = cache.Insert("a", "2", 4);
+  CHECK(cache.IsOverwritten() && cache.Counts(7, 7, 1) && cache.All() == "a=2:4 ");
+  CHECK(cache.ValueOf(old) == "1" && cache.ValueOf(fresh) == "2" && cache.Get("a") == "2");
+  cache.Put("a", "3", 5);
+  CHECK(cache.IsOverwritten() && cache.Counts(12, 7, 1) && cache.All() == "a=3:5 ");
+  CHECK(cache->Release(old) && cache.Deleted() == "a=1 " && cache.Get("a") == "3");
+  CHECK(cache->Release(fresh) && cache.Deleted() == "a=2 " && cache.Counts(5, 0, 1));
+}
+
+void Refs(NewCache new_cache) {
+  const Tested cache = new_cache(1000, false);
+  Handle* handle = cache.Insert("a", "1");
+  CHECK(cache->Ref(handle));
+  CHECK(!cache->Release(handle) && cache.Counts(1, 1, 1));
+  CHECK(cache->Ref(handle));
+  cache.Erase("a");
+  // The key does not find it any more.
+  CHECK(cache->Ref(handle) && cache.Counts(1, 1, 0));
+  CHECK(!cache->Release(handle) && !cache->Release(handle) && cache.Deleted().empty());
+  CHECK(cache->Release(handle) && cache.Deleted() == "a=1 ");
+}
+
+void ErasesWithTheLastRelease(NewCache new_cache) {
+  const Tested cache = new_cache(1000, false);
+  Handle* handle = cache.Insert("a", "1");
+  cache->Ref(handle);
+  CHECK(!cache->Release(handle, true) && cache.Get("a") == "1");
+  CHECK(cache->Release(handle, true) && cache.Deleted() == "a=1 " && cache.Counts(0, 0, 0));
+  CHECK(cache.Get("a") == "none" && cache.All().empty());
+  handle = cache.Insert("a", "2");
+  cache.Erase("a");
+  CHECK(cache->Release(handle, true) && cache.Deleted() == "a=2 ");
+}
+
+void EvictsAtReleases(NewCache new_cache) {
+  const Tested cache = new_cache(16, false);
+  cache.Put("b", "2");
+  Handle* large = cache.Insert("a", "1", 100);
+  CHECK(cache.Deleted() == "b=2 " && cache.Get("a") == "1" && cache.Counts(100, 100, 1));
+  CHECK(cache->Release(large) && cache.Deleted() == "a=1 " && cache.Counts(0, 0, 0));
+}
+
+void FindsWhatIsHeldAtCapacity0(NewCache new_cache) {
+  const Tested cache = new_cache(0, false);
+  Handle* held = cache.Insert("a", "1");
+  CHECK(cache.Get("a") == "1");
+  CHECK(cache->Release(held) && cache.Get("a") == "none" && cache.Deleted() == "a=1 ");
+  cache.Put("b", "2");
+  CHECK(cache.IsNew() && cache.Deleted() == "b=2 " && cache.Counts(0, 0, 0));
+}
+
+// Without a handle and without room, the value is deleted as if its entry had been evicted.
+void HasNoRoom(NewCache new_cache) {
+  const Tested cache = new_cache(10, false);
+  Handle* held = cache.Insert("a", "1", 6);
+  cache.Put("b", "2", 2);
+  cache.Put("c", "3", 4);
+  CHECK(cache.IsNew() && cache.Deleted() == "b=2 " && cache.Counts(10, 6, 2));
+  cache.Put("d", "4", 5);
+  CHECK(cache.IsNew() && cache.Deleted() == "c=3 d=4 " && cache.Counts(6, 6, 1));
+  // The old entry of the key stays if it is pinned.
+  cache.Put("a", "5", 5);
+  CHECK(cache.IsNew() && cache.Deleted() == "a=5 " && cache.Get("a") == "1");
+  cache->Release(held);
+  // It does not if it is idle.
+  cache.Put("a", "6", 11);
+  CHECK(cache.Deleted() == "a=1 a=6 " && cache.Counts(0, 0, 0));
+}
+
+void IsStrict(NewCache new_cache) {
+  const Tested cache = new_cache(10, true);
+  CHECK(cache->HasStrictCapacityLimit() && cache->GetCapacity() == 10);
+  Handle* held = cache.Insert("a", "1", 6);
+  CHECK(cache.Insert("b", "2", 5) == nullptr && cache.IsRefused() && cache.Counts(6, 6, 1));
+  CHECK(cache.Insert("a", "2", 5) == nullptr && cache.IsRefused() && cache.Get("a") == "1");
+  CHECK(cache.Deleted().empty());
+  // What handle pointed to before is not left.
+  Handle* handle = held;
+  CHECK(cache->Insert(cache.Key("b"), nullptr, 5, nullptr, &handle).IsMemoryLimit());
+  CHECK(handle == nullptr);
+  cache.Put("b", "2", 5);
+  CHECK(cache.IsNew() && cache.Deleted() == "b=2 " && cache.Counts(6, 6, 1));
+  cache.Put("b", "3", 4);
+  CHECK(cache.IsNew() && cache.Get("b") == "3" && cache.Counts(10, 6, 2));
+  Handle* exact = cache.Insert("c", "4", 4);
+  CHECK(exact != nullptr && cache.Deleted() == "b=3 " && cache.Counts(10, 10, 2));
+  // An entry that keys no longer find counts while it is pinned.
+  cache.Erase("a");
+  CHECK(cache.Insert("d", "5", 1) == nullptr && cache.IsRefused());
+  CHECK(cache->Release(held) && cache.Deleted() == "a=1 ");
+  cache->Release(exact);
+  cache->SetStrictCapacityLimit(false);
+  CHECK(!cache->HasStrictCapacityLimit());
+  Handle* large = cache.Insert("d", "6", 11);
+  CHECK(large != nullptr && cache.IsNew() && cache->Release(large));
+  cache->SetStrictCapacityLimit(true);
+  CHECK(cache.Insert("d", "7", 11) == nullptr && cache.IsRefused());
+}
+
+void ChangesItsCapacity(NewCache new_cache) {
+  const Tested cache = new_cache(4, false);
+  for (const char* name : {"a", "b", "c"}) cache.Put(name, "1");
+  Handle* held = cache.Insert("d", "1");
+  cache->SetCapacity(2);
+  CHECK(cache->GetCapacity() == 2 && cache.Deleted() == "a=1 b=1 " && cache.Counts(2, 1, 2));
+  cache->SetCapacity(0);
+  CHECK(cache.Deleted() == "c=1 " && cache.Counts(1, 1, 1) && cache.Get("d") == "1");
+  cache->SetCapacity(3);
+  CHECK(!cache->Release(held) && cache.Get("d") == "1");
+  for (const char* name : {"e", "f", "g"}) cache.Put(name, "1");
+  CHECK(cache.Deleted() == "d=1 " && cache.Counts(3, 0, 3));
+}
+
+// All entries that keys find, pinned or not, each once.
+void AppliesToAll(NewCache new_cache) {
+  const Tested cache = new_cache(1000, false);
+  CHECK(cache.All().empty());
+  cache.Put("a", "1", 2);
+  Handle* held = cache.Insert("b", "2", 3);
+  Handle* erased = cache.Insert("c", "3", 4);
+  cache.Erase("c");
+  Handle* replaced = cache.Insert("d", "4", 5);
+  cache.Put("d", "5", 6);
+  cache.Put("e", "6", 7);
+  cache.Erase("e");
+  cache.Put("f", "7", 8);
+  CHECK(cache.Counts(28, 12, 4));
+  CHECK(cache.All() == "a=1:2 b=2:3 d=5:6 f=7:8 ");
+  static std::size_t sum;
+  sum = 0;
+  cache->ApplyToAllCacheEntries([](void*, std::size_t charge) { sum += charge; }, true);
+  CHECK(sum == 19);
+  for (Handle* handle : {held, erased, replaced}) cache->Release(handle);
+  CHECK(cache.All() == "a=1:2 b=2:3 d=5:6 f=7:8 ");
+  cache->EraseUnRefEntries();
+  CHECK(cache.All().empty() && cache.Counts(0, 0, 0));
+}
+
+// Of a helper only the deleter is called, and each handle is ready.
+void TakesHelpers(NewCache new_cache) {
+  const Cache::CacheItemHelper helper(nullptr, nullptr, Tested::Delete);
+  const Tested cache = new_cache(1000, false);
+  const Cache::CreateCallback create = [](const void*, std::size_t, void**, std::size_t*) {
+    return Status::Corruption();
+  };
+  const Cache::CacheItemHelper* none = nullptr;
+  std::string value = "not inserted";
+  CHECK(cache->Insert(cache.Key("a"), &value, none, 1).IsInvalidArgument());
+  Handle* handle = nullptr;
+  CHECK(cache->Insert(cache.Key("a"), new std::string("1"), &helper, 3, &handle).ok());
+  CHECK(cache->IsReady(handle) && cache->GetCharge(handle) == 3);
+  CHECK(!cache->Release(handle, true, false));
+  handle = cache->Lookup(cache.Key("a"), &helper, create, Priority::LOW, false);
+  CHECK(handle != nullptr && cache->IsReady(handle));
+  std::vector<Handle*> all = {handle};
+  cache->Wait(handle);
+  cache->WaitAll(all);
+  CHECK(cache.ValueOf(handle) == "1");
+  // A value that was of no use may be evicted, but not while another handle pins it.
+  cache->Ref(handle);
+  CHECK(!cache->Release(handle, false, true));
+  CHECK(cache->Release(handle, true, true) && cache.Deleted() == "a=1 ");
+  CHECK(cache->Lookup(cache.Key("b"), &helper, create, Priority::LOW, true) == nullptr);
+}
+
+// Deleters run without the mutex, so they may call the cache.
+void DeletersMayCall(NewCache new_cache) {
+  struct Caller {
+    const Tested* cache;
+    int calls;
+  };
+  const Tested cache = new_cache(1000, false);
+  Caller caller = {&cache, 0};
+  const auto call = [](const Slice&, void* value) {
+    auto* c = static_cast<Caller*>(value);
+    c->cache->Erase("b");
+    c->calls += (*c->cache)->GetUsage() == 0;
+  };
+  for (int way = 0; way < 5; way++) {
+    Handle* handle = nullptr;
+    CHECK(cache->Insert(cache.Key("a"), &caller, 1, call, &handle).ok());
+    cache.Put("b", "1");
+    if (way == 0) cache->Release(handle, true);
+    if (way > 0) cache->Release(handle);
+    if (way == 1) cache.Erase("a");
+    if (way == 2) cache->EraseUnRefEntries();
+    if (way == 3) cache->SetCapacity(0);
+    if (way == 4) cache.Put("c", "1", 0);
+    cache->SetCapacity(1000);
+    cache->EraseUnRefEntries();
+  }
+  CHECK(caller.calls == 5);
+}
+
+void Common(NewCache new_cache) {
+  for (const auto test :
+       {HitsAndMisses, TellsOfHandles, EvictsByLastRelease, ErasesWhatIsHeld, ReplacesWhatIsHeld,
+        Refs, ErasesWithTheLastRelease, EvictsAtReleases, FindsWhatIsHeldAtCapacity0, HasNoRoom,
+        IsStrict, ChangesItsCapacity, AppliesToAll, TakesHelpers, DeletersMayCall}) {
+    test(new_cache);
+    Tested::Deleted();
+  }
+}
+
+// Where the caches differ: what RocksDB's own does, and what this one does.
+
+// Makes room for a new entry of a key without counting the old one, if that is idle.
+void ReplacesWithoutEvicting(NewCache new_cache) {
+  const bool is_own = new_cache == Own;
+  const Tested cache = new_cache(3, false);
+  for (const char* name : {"a", "b", "c"}) cache.Put(name, "1");
+  cache.Put("b", "2");
+  CHECK(cache.IsOverwritten());
+  CHECK(cache.Deleted() == (is_own ? "a=1 b=1 " : "b=1 "));
+  CHECK(cache.All() == (is_own ? "b=2:1 c=1:1 " : "a=1:1 b=2:1 c=1:1 "));
+  cache->SetCapacity(2);
+  Tested::Deleted();
+  // The oldest one is that of the key.
+  cache.Put("c", "2");
+  CHECK(cache.IsOverwritten() != is_own && cache.Deleted() == "c=1 ");
+  CHECK(cache.All() == "b=2:1 c=2:1 ");
+}
+
+void RefusesWithoutEvicting(NewCache new_cache) {
+  const bool is_own = new_cache == Own;
+  const Tested cache = new_cache(10, true);
+  Handle* held = cache.Insert("a", "1", 6);
+  cache.Put("b", "2", 2);
+  cache.Put("c", "3", 2);
+  CHECK(cache.Insert("b", "4", 5) == nullptr && cache.IsRefused());
+  CHECK(cache.Deleted() == (is_own ? "b=2 c=3 " : ""));
+  CHECK(cache.All() == (is_own ? "a=1:6 " : "a=1:6 b=2:2 c=3:2 "));
+  cache->EraseUnRefEntries();
+  Tested::Deleted();
+  cache.Put("b", "2", 2);
+  cache.Put("c", "3", 2);
+  // Without a handle, the key must not find an older value afterwards.
+  cache.Put("b", "5", 5);
+  CHECK(cache.IsNew() && cache.Deleted() == (is_own ? "b=2 b=5 c=3 " : "b=2 b=5 "));
+  CHECK(cache.Get("b") == "none" && cache.Get("c") == (is_own ? "none" : "3"));
+  cache->Release(held);
+}
+
+void CountsACharge0As1(NewCache new_cache) {
+  const bool is_own = new_cache == Own;
+  const Tested cache = new_cache(10, false);
+  Handle* handle = cache.Insert("a", "1", 0);
+  const std::size_t counted = is_own ? 0 : 1;
+  CHECK(cache.Counts(counted, counted, 1));
+  CHECK(cache->GetCharge(handle) == counted && cache->GetUsage(handle) == counted);
+  cache->Release(handle);
+}
+
+void Differences(NewCache new_cache) {
+  for (const auto test : {ReplacesWithoutEvicting, RefusesWithoutEvicting, CountsACharge0As1}) {
+    test(new_cache);
+    Tested::Deleted();
+  }
+}
+
+// Tests for this cache only.
+
+// An entry of an Insert that the library refuses is not cached, and replaces the old one all the
+// same.
+void ReturnsWhatItDoesNotCache(NewCache new_cache) {
+  const Tested cache = new_cache(1000, false);
+  Handle* old = cache.Insert("a", "1");
+  Handle* fresh = cache.Insert("a", "2", SIZE_MAX);
+  CHECK(fresh != nullptr && cache.IsOverwritten() && cache.Counts(1, 1, 0));
+  CHECK(cache.ValueOf(fresh) == "2" && cache.Get("a") == "none" && cache.All().empty());
+  CHECK(cache->GetCharge(fresh) == SIZE_MAX && cache->GetDeleter(fresh) == Tested::Delete);
+  CHECK(cache->Ref(fresh) && cache->Ref(fresh));
+  CHECK(!cache->Release(fresh) && !cache->Release(fresh, true) && cache.Deleted().empty());
+  CHECK(cache->Release(fresh) && cache.Deleted() == "a=2 ");
+  CHECK(cache.ValueOf(old) == "1" && cache->Release(old) && cache.Deleted() == "a=1 ");
+  CHECK(cache.Counts(0, 0, 0));
+}
+
+void DeletesWhatIsLeft(NewCache new_cache) {
+  {
+    const Tested cache = new_cache(1000, false);
+    cache.Put("a", "1");
+    cache.Insert("b", "2");
+    cache.Insert("c", "3");
+    cache.Erase("c");
+  }
+  CHECK(Tested::Deleted() == "a=1 b=2 c=3 ");
+}
+
+// Refuses each request for memory of an Insert in turn, until there are no more.
+void RefusesMemory(NewCache new_cache) {
+  int refused = 0, uncached = 0;
+  for (const bool has_handle : {false, true}) {
+    for (const bool is_there : {false, true}) {
+      bool was_refused = true;
+      for (int request = 1; was_refused; request++) {
+        const Tested cache = new_cache(1000, false);
+        Tested::Deleted();
+        if (is_there) cache.Put("a key", "1");
+        auto* value = new std::string("2");
+        const std::string key = cache.Key("a key");
+        Handle* handle = nullptr;
+        requests_until_refusal = request;
+        const Status status =
+            cache->Insert(key, value, 1, Tested::Delete, has_handle ? &handle : nullptr);
+        was_refused = std::exchange(requests_until_refusal, 0) == 0;
+        const std::string found = cache.Get("a key");
+        if (status.ok()) {
+          // It is cached unless the refusal prevents it. In either case the old entry is gone.
+          const bool is_cached = cache.Counts(1, has_handle, 1);
+          CHECK(is_cached || (was_refused && cache.Counts(0, 0, 0)));
+          CHECK(found == (is_cached ? "2" : "none"));
+          CHECK(status.IsOkOverwritten() == is_there && (handle != nullptr) == has_handle);
+          if (handle != nullptr) {
+            CHECK(cache.ValueOf(handle) == "2" && cache->Release(handle) == !is_cached);
+          }
+          const std::string left = is_cached ? "" : "a key=2 ";
+          CHECK(Tested::Deleted() == (is_there ? "a key=1 " + left : left));
+          uncached += !is_cached;
+        } else {
+          CHECK(was_refused && status.IsMemoryLimit() && handle == nullptr);
+          CHECK(found == (is_there ? "1" : "none"));
+          CHECK(Tested::Deleted() == (has_handle ? "" : "a key=2 "));
+          if (has_handle) delete value;
+          refused++;
+        }
+      }
+    }
+  }
+  CHECK(refused == 4 && uncached >= 4);
+}
+
+// Refuses each request for memory of New in turn.
+template <class OneCache>
+void RefusesToOpen() {
+  int refused = 0;
+  bool was_refused = true;
+  for (int request = 1; was_refused; request++) {
+    requests_until_refusal = request;
+    const std::unique_ptr<OneCache> cache(OneCache::New(100, 3));
+    was_refused = std::exchange(requests_until_refusal, 0) == 0;
+    CHECK((cache == nullptr) == was_refused);
+    refused += was_refused;
+  }
+  CHECK(refused >= 6);
+}
+
+void ForThisCache(NewCache new_cache) {
+  for (const auto test : {ReturnsWhatItDoesNotCache, DeletesWhatIsLeft, RefusesMemory}) {
+    test(new_cache);
+    Tested::Deleted();
+  }
+}
+
+// A cache of blocks returns entries of other keys, and does not cache them.
+void CachesBlocksOnly() {
+  for (const bool is_strict : {false, true}) {
+    const Tested cache(lru::NewRocksDBBlockCache(10, 1, is_strict), false);
+    Handle* handle = cache.Insert("a", "1", 20);
+    CHECK(cache.IsNew() && cache.ValueOf(handle) == "1" && cache.Get("a") == "none");
+    CHECK(cache.Counts(0, 0, 0) && cache.All().empty());
+    cache.Erase("a");
+    CHECK(cache->Ref(handle) && !cache->Release(handle));
+    CHECK(cache->Release(handle) && cache.Deleted() == "a=1 ");
+    cache.Put("a", "2");
+    CHECK(cache.IsNew() && cache.Deleted() == "a=2 ");
+  }
+}
+
+void HasShards() {
+  using Blocks = lru::RocksDBBlockCache;
+  constexpr std::size_t kMiB = 1 << 20;
+  CHECK(Blocks::ShardsFor(0) == 1 && Blocks::ShardsFor(kMiB - 1) == 1);
+  CHECK(Blocks::ShardsFor(kMiB) == 2 && Blocks::ShardsFor(32 * kMiB - 1) == 63);
+  CHECK(Blocks::ShardsFor(32 * kMiB) == 64 && Blocks::ShardsFor(SIZE_MAX) == 64);
+  // Four blocks are more than 512 KiB.
+  CHECK(Blocks::ShardsFor(8 * kMiB, kMiB) == 2 && Blocks::ShardsFor(kMiB, 0) == 2);
+  CHECK(Blocks::ShardsFor(SIZE_MAX, SIZE_MAX) == 1);
+  const auto options = [](const std::shared_ptr<Cache>& cache) {
+    return cache->GetPrintableOptions();
+  };
+  CHECK(options(lru::NewRocksDBBlockCache(8 * kMiB)) ==
+        "    capacity : 8388608\n    shards : 16\n    strict_capacity_limit : 0\n");
+  // Numbers of shards that are not possible.
+  CHECK(options(lru::NewRocksDBCache(7, 0, true)) ==
+        "    capacity : 7\n    shards : 1\n    strict_capacity_limit : 1\n");
+  CHECK(options(lru::NewRocksDBCache(7, 1000)) ==
+        "    capacity : 7\n    shards : 64\n    strict_capacity_limit : 0\n");
+  CHECK(std::strcmp(lru::NewRocksDBCache(1)->Name(), "lru::RocksDBCache") == 0);
+  CHECK(std::strcmp(lru::NewRocksDBBlockCache(1)->Name(), "lru::RocksDBBlockCache") == 0);
+  // Shares are rounded up.
+  Handle* handle = nullptr;
+  const std::unique_ptr<lru::RocksDBCache> four(lru::RocksDBCache::New(5, 4, true));
+  CHECK(four->Insert("two", nullptr, 2, nullptr, &handle).ok() && four->Release(handle, true));
+  CHECK(four->Insert("three", nullptr, 3, nullptr, &handle).IsMemoryLimit());
+  // Each shard has a share of the capacity, and all are looked at.
+  const std::unique_ptr<lru::RocksDBCache> cache(
+      lru::RocksDBCache::New(640, 64, true, lru::Seed(1)));
+  CHECK(cache->Insert("too large", nullptr, 11, nullptr, &handle).IsMemoryLimit());
+  for (int n = 0; n < 1000; n++) CHECK(cache->Insert(std::to_string(n), nullptr, 1, nullptr).ok());
+  CHECK(cache->GetUsage() > 500 && cache->GetUsage() <= 640);
+  CHECK(cache->GetOccupancyCount() == cache->GetUsage());
+  cache->SetCapacity(64);
+  CHECK(cache->GetCapacity() == 64 && cache->GetUsage() == 64);
+  std::size_t visited = 0;
+  cache->ApplyToAllEntries([&](const Slice&, void*, std::size_t, Cache::DeleterFn) { visited++; },
+                           {});
+  CHECK(visited == 64);
+  cache->EraseUnRefEntries();
+  CHECK(cache->GetUsage() == 0 && cache->GetOccupancyCount() == 0);
+}
+
+// A deleter that SetCapacity runs may call it too. Then all shards have shares of what it set.
+void DeletersMayResize() {
+  const std::unique_ptr<Cache> cache(lru::RocksDBCache::New(4000, 4));
+  const auto resize = [](const Slice&, void* value) {
+    static_cast<Cache*>(value)->SetCapacity(4000);
+  };
+  for (int round = 0; round < 10; round++) {
+    // In some shard.
+    CHECK(cache->Insert("resize" + std::to_string(round), cache.get(), 1, resize).ok());
+    cache->SetCapacity(0);
+    CHECK(cache->GetCapacity() == 4000);
+    cache->EraseUnRefEntries();
+    for (int n = 0; n < 100; n++) {
+      CHECK(cache->Insert(std::to_string(n), nullptr, 1, nullptr).ok());
+    }
+    CHECK(cache->GetUsage() == 100);
+  }
+}
+
+// Random calls on RocksDB's own cache and on another one, with one shard each. All answers, numbers
+// and deletions must be the same. Where the header says that the caches differ, the test avoids the
+// call or makes up for it.
+class SameAsOwn {
+ public:
+  enum class Limit { kLoose, kStrict, kChanging };
+
+  SameAsOwn(NewCache new_cache, Limit limit)
+      : limit_(limit),
+        is_strict_(limit == Limit::kStrict),
+        caches_{Own(kCapacity, is_strict_), new_cache(kCapacity, is_strict_)} {}
+
+  void Run(std::uint64_t seed) {
+    random_ = seed;
+    for (int call = 0; call < kCalls; call++) {
+      Call();
+      CHECK(caches_[0]->GetUsage() == caches_[1]->GetUsage());
+      CHECK(caches_[0]->GetPinnedUsage() == caches_[1]->GetPinnedUsage());
+      CHECK(caches_[1]->GetOccupancyCount() == caches_[0].Visited());
+      if (failed_checks > 20) return;
+    }
+    CHECK(caches_[0].All() == caches_[1].All());
+    while (!held_.empty()) Release(0, false);
+    Same([&](int i) { caches_[i]->EraseUnRefEntries(); });
+    CHECK(caches_[1].Counts(0, 0, 0) && made_ == deleted_);
+    // Each of the kinds of answers came often.
+    for (const char* what : {"new", "overwritten", "no room", "hit", "miss", "erased by Release",
+                             "kept by Release", "evicted by Release", "above the capacity"}) {
+      if (times_[what] < 100) std::printf("%s: %d times\n", what, times_[what]);
+      CHECK(times_[what] >= 100);
+    }
+    CHECK((times_["refused"] >= 100) == (limit_ != Limit::kLoose));
+  }
+
+ private:
+  static constexpr int kCalls = 100000;
+  static constexpr std::size_t kCapacity = 40;
+
+  // One entry that is pinned, in both caches.
+  struct Held {
+    std::string name;
+    std::string value;
+    Handle* handles[2];
+  };
+
+  std::uint64_t Below(std::uint64_t end) {
+    random_ = random_ * 6364136223846793005u + 1442695040888963407u;
+    return (random_ >> 33) % end;
+  }
+
+  // Makes a call on both caches, which must delete the same for it.
+  template <class Calls>
+  void Same(Calls calls) {
+    std::string deleted[2];
+    for (int i : {0, 1}) {
+      calls(i);
+      deleted[i] = Tested::Deleted();
+    }
+    CHECK(deleted[0] == deleted[1]);
+    deleted_ += std::count(deleted[0].begin(), deleted[0].end(), '=');
+  }
+
+  bool IsHeld(const std::string& value) const {
+    return std::any_of(held_.begin(), held_.end(),
+                       [&](const Held& held) { return held.value == value; });
+  }
+
+  // The value that a key finds, or "none". It does not count as a use.
+  std::string Found(const std::string& name) {
+    std::string found = "none";
+    caches_[0]->ApplyToAllEntries(
+        [&](const Slice& key, void* value, std::size_t, Cache::DeleterFn) {
+          if (key == name) found = *static_cast<std::string*>(value);
+        },
+        {});
+    return found;
+  }
+
+  void Insert(const std::string& name, bool has_handle) {
+    const std::size_t charge = Below(50) == 0 ? 30 + Below(30) : 1 + Below(5);
+    const std::string old = Found(name);
+    const bool replaces_idle = old != "none" && !IsHeld(old);
+    const std::size_t capacity = caches_[0]->GetCapacity();
+    // RocksDB's cache makes room while the old entry counts.
+    if (replaces_idle && caches_[0]->GetUsage() + charge > capacity)
+      Same([&](int i) { caches_[i].Erase(name); });
+    const bool has_room = caches_[0]->GetPinnedUsage() + charge <= capacity;
+    Held held = {name, std::to_string(made_), {}};
+    made_++;
+    const auto priority = static_cast<Priority>(Below(3));
+    const bool has_helper = Below(4) == 0;
+    Status status[2];
+    Same([&](int i) {
+      auto* value = new std::string(held.value);
+      Handle** handle = has_handle ? &held.handles[i] : nullptr;
+      status[i] = has_helper
+                      ? caches_[i]->Insert(name, value, &helper_, charge, handle, priority)
+                      : caches_[i]->Insert(name, value, charge, Tested::Delete, handle, priority);
+      // As if by its deleter, so that it is among the deleted ones.
+      if (!status[i].ok()) Tested::Delete(name, value);
+      // RocksDB's cache evicts all idle entries before it refuses one, and this cache does not.
+      if (is_strict_ && !has_room) caches_[i]->EraseUnRefEntries();
+    });
+    CHECK(status[0].code() == status[1].code() && status[0].subcode() == status[1].subcode());
+    CHECK(status[1].IsMemoryLimit() == (is_strict_ && has_handle && !has_room));
+    times_[status[1].IsMemoryLimit()     ? "refused"
+           : status[1].IsOkOverwritten() ? "overwritten"
+           : !has_handle && !has_room    ? "no room"
+                                         : "new"]++;
+    for (int i : {0, 1}) CHECK((held.handles[i] != nullptr) == (has_handle && status[i].ok()));
+    if (held.handles[0] == nullptr || held.handles[1] == nullptr) return;
+    for (int i : {0, 1}) {
+      CHECK(caches_[i]->GetCharge(held.handles[i]) == charge);
+      CHECK(caches_[i]->GetUsage(held.handles[i]) == charge);
+    }
+    held_.push_back(held);
+  }
+
+  void Lookup(const std::string& name) {
+    Held held = {name, "", {}};
+    Same([&](int i) { held.handles[i] = caches_[i]->Lookup(name); });
+    CHECK((held.handles[0] == nullptr) == (held.handles[1] == nullptr));
+    times_[held.handles[0] == nullptr ? "miss" : "hit"]++;
+    if (held.handles[0] == nullptr || held.handles[1] == nullptr) return;
+    held.value = caches_[0].ValueOf(held.handles[0]);
+    CHECK(held.value == caches_[1].ValueOf(held.handles[1]));
+    held_.push_back(held);
+  }
+
+  void Release(std::size_t index, bool erases) {
+    const Held held = held_[index];
+    held_.erase(held_.begin() + static_cast<std::ptrdiff_t>(index));
+    for (int i : {0, 1}) CHECK(caches_[i].ValueOf(held.handles[i]) == held.value);
+    const bool has_useful = Below(2) == 0;
+    const bool useful = Below(2) == 0;
+    bool is_gone[2];
+    Same([&](int i) {
+      is_gone[i] = has_useful ? caches_[i]->Release(held.handles[i], useful, erases)
+                              : caches_[i]->Release(held.handles[i], erases);
+    });
+    CHECK(is_gone[0] == is_gone[1]);
+    times_[!is_gone[1] ? "kept by Release" : erases ? "erased by Release" : "evicted by Release"]++;
+  }
+
+  void Call() {
+    // Of 16 bytes, so that none is padded.
+    const std::string name = "key of 16 " + std::to_string(100000 + Below(60));
+    const std::uint64_t kind = Below(100);
+    times_[caches_[1]->GetUsage() > caches_[1]->GetCapacity() ? "above the capacity" : "below"]++;
+    if (kind == 0) {
+      Same([&](int i) { caches_[i]->EraseUnRefEntries(); });
+    } else if (kind == 1) {
+      const std::size_t capacity = Below(4) == 0 ? Below(2 * kCapacity) : kCapacity;
+      Same([&](int i) { caches_[i]->SetCapacity(capacity); });
+    } else if (kind == 2 && limit_ == Limit::kChanging) {
+      is_strict_ = !is_strict_;
+      for (int i : {0, 1}) caches_[i]->SetStrictCapacityLimit(is_strict_);
+      CHECK(caches_[1]->HasStrictCapacityLimit() == is_strict_);
+    } else if (kind == 3) {
+      CHECK(caches_[0].All() == caches_[1].All());
+    } else if (kind < 10) {
+      Same([&](int i) { caches_[i].Erase(name); });
+    } else if (kind < 25) {
+      Insert(name, true);
+    } else if (kind < 40) {
+      Insert(name, false);
+    } else if (kind < 60) {
+      Lookup(name);
+    } else if (kind < 65 && !held_.empty()) {
+      const Held held = held_[Below(held_.size())];
+      for (int i : {0, 1}) CHECK(caches_[i]->Ref(held.handles[i]));
+      held_.push_back(held);
+    } else if (!held_.empty() && Below(20) < held_.size()) {
+      Release(Below(held_.size()), Below(3) == 0);
+    }
+  }
+
+  Limit limit_;
+  bool is_strict_;
+  const Cache::CacheItemHelper helper_{nullptr, nullptr, Tested::Delete};
+  Tested caches_[2];
+  std::vector<Held> held_;
+  std::map<std::string, int> times_;
+  std::uint64_t random_ = 0;
+  std::ptrdiff_t made_ = 0;
+  std::ptrdiff_t deleted_ = 0;
+};
+
+void EqualsOwn(NewCache new_cache) {
+  std::uint64_t seed = 1;
+  for (const auto limit :
+       {SameAsOwn::Limit::kLoose, SameAsOwn::Limit::kStrict, SameAsOwn::Limit::kChanging}) {
+    SameAsOwn(new_cache, limit).Run(seed++);
+    Tested::Deleted();
+  }
+}
+
+// Threads: each object is deleted once, by its own deleter, and not while it is pinned.
+
+constexpr int kThreads = 8;
+constexpr int kCalls = 20000;
+constexpr std::size_t kThreadsCapacity = 256;
+
+std::atomic<std::int64_t> alive{0};
+std::atomic<std::int64_t> wrong{0};
+
+struct Object {
+  explicit Object(std::uint64_t k) : key(k) { alive++; }
+  ~Object() { alive--; }
+
+  std::uint64_t key;
+  std::atomic<bool> there{true};
+};
+
+bool IsOf(const Slice& key, const Object* object) {
+  std::uint64_t n = 0;
+  std::memcpy(&n, key.data(), sizeof n);
+  return object->key == n;
+}
+
+void DeleteObject(const Slice& key, void* value) {
+  auto* object = static_cast<Object*>(value);
+  if (!IsOf(key, object) || !object->there.exchange(false)) wrong++;
+  delete object;
+}
+
+void Calls(Cache* cache, std::uint64_t seed) {
+  std::uint64_t random = seed * 0x9e3779b97f4a7c15u;
+  std::pair<Handle*, std::uint64_t> held[4] = {};
+  for (int call = 0; call < kCalls; call++) {
+    random = random * 6364136223846793005u + 1442695040888963407u;
+    const std::uint64_t n = (random >> 33) % 400;
+    const std::uint64_t words[2] = {n, n};
+    const Slice key(reinterpret_cast<const char*>(words), sizeof words);
+    auto& [slot, of] = held[(random >> 42) % 4];
+    const std::uint64_t kind = (random >> 44) % 64;
+    if (slot != nullptr && kind < 8) {
+      const auto* object = static_cast<const Object*>(cache->Value(slot));
+      if (!cache->Ref(slot) || !object->there || object->key != of) wrong++;
+      if (cache->Release(slot, kind < 4)) wrong++;
+    }
+    if (slot != nullptr) cache->Release(std::exchange(slot, nullptr), kind % 8 == 0);
+    const std::size_t charge = 1 + (random >> 50) % 3;
+    if (kind < 4) {
+      cache->Erase(key);
+    } else if (kind == 4 && call % 8 == 0) {
+      cache->EraseUnRefEntries();
+    } else if (kind == 5 && call % 8 == 0) {
+      cache->SetCapacity(kThreadsCapacity / (1 + random % 2));
+    } else if (kind == 6) {
+      cache->SetStrictCapacityLimit(random % 2 == 0);
+    } else if (kind == 7 && call % 8 == 0) {
+      cache->ApplyToAllEntries(
+          [](const Slice& k, void* value, std::size_t c, Cache::DeleterFn deleter) {
+            const auto* object = static_cast<const Object*>(value);
+            if (!IsOf(k, object) || !object->there || c > 3 || deleter != DeleteObject) wrong++;
+          },
+          {});
+      if (cache->GetUsage() < cache->GetCapacity() / 1000) wrong++;
+      if (cache->GetPinnedUsage() > 3 * 4 * kThreads) wrong++;
+    } else if (kind < 12) {
+      if (!cache->Insert(key, new Object(n), charge, DeleteObject).ok()) wrong++;
+    } else {
+      if (kind > 20) slot = cache->Lookup(key);
+      if (slot == nullptr) {
+        auto* object = new Object(n);
+        const Status status = cache->Insert(key, object, charge, DeleteObject, &slot);
+        if (!status.ok()) {
+          if (!status.IsMemoryLimit() || slot != nullptr) wrong++;
+          delete object;
+          continue;
+        }
+      }
+      of = n;
+      const auto* object = static_cast<const Object*>(cache->Value(slot));
+      if (object->key != n || !object->there) wrong++;
+    }
+  }
+  for (auto [handle, n] : held) {
+    if (handle != nullptr) cache->Release(handle);
+  }
+}
+
+void Threads(std::shared_ptr<Cache> cache, int count) {
+  std::vector<std::thread> threads;
+  for (int t = 1; t <= count; t++) {
+    threads.emplace_back(Calls, cache.get(), static_cast<std::uint64_t>(t));
+  }
+  for (std::thread& thread : threads) thread.join();
+  CHECK(cache->GetUsage() <= kThreadsCapacity + 64 && cache->GetPinnedUsage() == 0 && alive > 0);
+  CHECK(static_cast<std::size_t>(alive) == cache->GetOccupancyCount());
+  cache->EraseUnRefEntries();
+  CHECK(cache->GetUsage() == 0 && cache->GetOccupancyCount() == 0 && alive == 0);
+  cache.reset();
+  CHECK(wrong == 0);
+}
+
+}  // namespace
+
+int main() {
+  Common(Own);
+  Differences(Own);
+  for (const NewCache new_cache : {Any, Blocks}) {
+    Common(new_cache);
+    Differences(new_cache);
+    ForThisCache(new_cache);
+    EqualsOwn(new_cache);
+  }
+  for (const int count : {4, kThreads}) {
+    for (const std::size_t shards : {1u, 4u, 64u}) {
+      Threads(lru::NewRocksDBCache(kThreadsCapacity, shards), count);
+      Threads(lru::NewRocksDBBlockCache(kThreadsCapacity, shards), count);
+    }
+  }
+  RefusesToOpen<lru::RocksDBCache>();
+  RefusesToOpen<lru::RocksDBBlockCache>();
+  CachesBlocksOnly();
+  HasShards();
+  DeletersMayResize();
+  std::printf("rocksdb_cache.h: both caches, with 1, 4 and 8 threads: %d checks failed\n",
+              failed_checks);
+  return failed_checks == 0 ? 0 : 1;
+}
