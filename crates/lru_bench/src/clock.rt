@@ -38,22 +38,53 @@ impl<
     pub fn use_clock(&mut self, shards: usize, size: &Size<'_>) -> Result<(), Failure>
         requires { 0 < shards }
     {
-        let (system, entries) = (System::Clock(shards), size.entries.get());
         if size.has_hits() {
-            let roomy = self.on_clock(entries.saturating_mul(shards as u64), shards)?;
-            workers::fill(&Make { cache: &roomy }, size.entries)?;
-            let get = Get { cache: &roomy };
-            let read = Read { cache: &roomy };
-            let init = Init { cache: &roomy };
-            self.hits((&get, &read, &init), system, size)?;
+            self.hit_clock(shards, size)?;
         }
         if size.has_misses() {
-            let full = self.on_clock(entries, shards)?;
-            workers::fill(&Make { cache: &full }, size.entries)?;
-            mix(&full, size)?;
-            self.misses(&Make { cache: &full }, system, size)?;
+            self.miss_clock(shards, size)?;
         }
         Ok(())
+    }
+
+    fn hit_clock(&mut self, shards: usize, size: &Size<'_>) -> Result<(), Failure>
+        requires { 0 < shards }
+    {
+        let capacity = size.entries.get().saturating_mul(shards as u64);
+        let roomy = self.on_clock(capacity, shards)?;
+        self.time_clock_hits(&roomy, System::Clock(shards), size)
+    }
+
+    fn time_clock_hits(
+        &mut self,
+        cache: &Cache<u64, u64, W>,
+        system: System,
+        size: &Size<'_>,
+    ) -> Result<(), Failure> {
+        workers::fill(&Make { cache }, size.entries)?;
+        self.hits(
+            (&Get { cache }, &Read { cache }, &Init { cache }),
+            system,
+            size,
+        )
+    }
+
+    fn miss_clock(&mut self, shards: usize, size: &Size<'_>) -> Result<(), Failure>
+        requires { 0 < shards }
+    {
+        let full = self.on_clock(size.entries.get(), shards)?;
+        self.time_clock_misses(&full, System::Clock(shards), size)
+    }
+
+    fn time_clock_misses(
+        &mut self,
+        cache: &Cache<u64, u64, W>,
+        system: System,
+        size: &Size<'_>,
+    ) -> Result<(), Failure> {
+        workers::fill(&Make { cache }, size.entries)?;
+        mix(cache, size)?;
+        self.misses(&Make { cache }, system, size)
     }
 
     /// The stress workload, in shards.

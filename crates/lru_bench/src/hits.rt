@@ -10,6 +10,7 @@ use crate::system::System;
 use crate::workers;
 use crate::workers::WorkloadKeys;
 use crate::workload::Workload;
+use concurrent_lru::{sharded, unsharded};
 use lru_support::cached::Cached;
 use std::io::Write;
 use std::random::RandomSource;
@@ -27,26 +28,40 @@ impl<
     /// anywhere in memory.
     pub fn use_one_lock(&mut self, size: &Size<'_>) -> Result<(), Failure> {
         let cache = self.on_one_lock(size.entries.get())?;
-        workers::fill(&Make { cache: &cache }, size.entries)?;
+        self.time_one_lock(&cache, size)
+    }
+
+    fn time_one_lock(
+        &mut self,
+        cache: &unsharded::LruCache<u64, u64, W>,
+        size: &Size<'_>,
+    ) -> Result<(), Failure> {
+        workers::fill(&Make { cache }, size.entries)?;
         if size.has_hits() {
-            let get = Get { cache: &cache };
-            let read = Read { cache: &cache };
-            let init = Init { cache: &cache };
+            let (get, read, init) = (Get { cache }, Read { cache }, Init { cache });
             self.hits((&get, &read, &init), System::OneLock, size)?;
         } else {
-            mix(&cache, size)?;
+            mix(cache, size)?;
         }
-        self.misses(&Make { cache: &cache }, System::OneLock, size)
+        self.misses(&Make { cache }, System::OneLock, size)
     }
 
     /// On one lock: the misses on a cache that has room for twice its entries.
     pub fn use_room(&mut self, size: &Size<'_>) -> Result<(), Failure> {
-        let entries = size.entries.get();
-        let cache = self.on_one_lock(entries)?;
-        cache.reserve(usize::try_from(entries.saturating_mul(2)).unwrap_or(usize::MAX))?;
-        workers::fill(&Make { cache: &cache }, size.entries)?;
-        mix(&cache, size)?;
-        self.misses(&Make { cache: &cache }, System::Reserved, size)
+        let cache = self.on_one_lock(size.entries.get())?;
+        self.time_with_room(&cache, size)
+    }
+
+    fn time_with_room(
+        &mut self,
+        cache: &unsharded::LruCache<u64, u64, W>,
+        size: &Size<'_>,
+    ) -> Result<(), Failure> {
+        let twice = size.entries.get().saturating_mul(2);
+        cache.reserve(usize::try_from(twice).unwrap_or(usize::MAX))?;
+        workers::fill(&Make { cache }, size.entries)?;
+        mix(cache, size)?;
+        self.misses(&Make { cache }, System::Reserved, size)
     }
 
     /// In so many shards: the hits on a cache in which all entries fit, however they are spread
@@ -54,22 +69,53 @@ impl<
     pub fn use_shards(&mut self, shards: usize, size: &Size<'_>) -> Result<(), Failure>
         requires { 0 < shards }
     {
-        let (system, entries) = (System::Shards(shards), size.entries.get());
         if size.has_hits() {
-            let roomy = self.in_shards(entries.saturating_mul(shards as u64), shards)?;
-            workers::fill(&Make { cache: &roomy }, size.entries)?;
-            let get = Get { cache: &roomy };
-            let read = Read { cache: &roomy };
-            let init = Init { cache: &roomy };
-            self.hits((&get, &read, &init), system, size)?;
+            self.hit_shards(shards, size)?;
         }
         if size.has_misses() {
-            let full = self.in_shards(entries, shards)?;
-            workers::fill(&Make { cache: &full }, size.entries)?;
-            mix(&full, size)?;
-            self.misses(&Make { cache: &full }, system, size)?;
+            self.miss_shards(shards, size)?;
         }
         Ok(())
+    }
+
+    fn hit_shards(&mut self, shards: usize, size: &Size<'_>) -> Result<(), Failure>
+        requires { 0 < shards }
+    {
+        let capacity = size.entries.get().saturating_mul(shards as u64);
+        let roomy = self.in_shards(capacity, shards)?;
+        self.time_shard_hits(&roomy, System::Shards(shards), size)
+    }
+
+    fn time_shard_hits(
+        &mut self,
+        cache: &sharded::LruCache<u64, u64, W>,
+        system: System,
+        size: &Size<'_>,
+    ) -> Result<(), Failure> {
+        workers::fill(&Make { cache }, size.entries)?;
+        self.hits(
+            (&Get { cache }, &Read { cache }, &Init { cache }),
+            system,
+            size,
+        )
+    }
+
+    fn miss_shards(&mut self, shards: usize, size: &Size<'_>) -> Result<(), Failure>
+        requires { 0 < shards }
+    {
+        let full = self.in_shards(size.entries.get(), shards)?;
+        self.time_shard_misses(&full, System::Shards(shards), size)
+    }
+
+    fn time_shard_misses(
+        &mut self,
+        cache: &sharded::LruCache<u64, u64, W>,
+        system: System,
+        size: &Size<'_>,
+    ) -> Result<(), Failure> {
+        workers::fill(&Make { cache }, size.entries)?;
+        mix(cache, size)?;
+        self.misses(&Make { cache }, system, size)
     }
 
     /// The workloads of present keys, by operations on one cache. Each has a type of its own, since

@@ -50,7 +50,7 @@ pub fn replay<K: Hash + Eq + Clone + Drop>(
             Ok(hit) => hits.push(hit)?,
             Err(lru_core::Refusal::Memory) => return Err(Refusal::Memory),
             Err(lru_core::Refusal::Overflow) => return Err(Refusal::Overflow(place)),
-            Err(lru_core::Refusal::Stale) => unreachable!(),
+            Err(lru_core::Refusal::Stale | lru_core::Refusal::Full) => unreachable!(),
         }
     }
     Ok(hits)

@@ -1,8 +1,11 @@
 //! Pages of readers over memory: which blocks are read, which are found, and what a fault leaves.
 
 use crate::pages::fours::{Fault, Fours};
-use concurrent_lru::unsharded::GetError;
+use concurrent_lru::unsharded::{Counts, GetError};
 use lru_pages::PageCache;
+use lru_support::tables::text_of;
+use std::alloc::Global;
+use std::process::Abort;
 use std::sync::Wait;
 use std::test::Fail;
 
@@ -72,33 +75,44 @@ fn lacks<R: Wait>(pages: &PageCache<'_, Fours<R>, R>, number: u64) -> bool {
     matches!(pages.page(number), Err(GetError::Init(Fault::Absent)))
 }
 
-#[test]
-fn a_block_is_read_once_while_its_page_is_there(rt: HostRuntime) -> Result<(), Fail> {
-    let reader = Fours::new(rt.alloc(), &rt, 0);
-    let pages = PageCache::new(rt.alloc(), &rt, &reader, 2);
-    let steps = [
-        Step::Gives(1, 1),
-        Step::Gives(2, 2),
-        Step::Gives(1, 1),
-        Step::Gives(3, 3),
-        Step::Gives(2, 2),
-        Step::Lacks(9),
-        Step::Holds(1),
-        Step::Gives(2, 2),
-        Step::Gives(3, 3),
-        Step::Holds(2),
-        Step::Prune,
-        Step::Holds(0),
-    ];
+// Makes the steps of a table. The first that has another result ends the test.
+fn goes_all<R: Abort, Q: Wait>(rt: &R, pages: &PageCache<'_, Fours<Q>, Q>, steps: &[Step]) {
     for step in steps {
-        assert!(rt; goes(&pages, step), "at {step:?}");
+        assert!(rt; goes(pages, *step), "at {step:?}");
     }
-    assert!(rt; reader.was_asked([1, 2, 3, 2, 9, 3].as_slice()));
-    Ok(())
+}
+
+// Makes the steps of a table on a cache with room for so many pages. The reader must be asked for
+// exactly these blocks.
+fn asks_for<R: Wait + Abort>(rt: &R, alloc: Global, capacity: u64, steps: &[Step], blocks: &[u64]) {
+    let reader = Fours::new(alloc, rt, 0);
+    let pages = PageCache::new(alloc, rt, &reader, capacity);
+    goes_all(rt, &pages, steps);
+    assert!(rt; reader.was_asked(blocks));
+}
+
+const READ_ONCE: [Step; 12] = [
+    Step::Gives(1, 1),
+    Step::Gives(2, 2),
+    Step::Gives(1, 1),
+    Step::Gives(3, 3),
+    Step::Gives(2, 2),
+    Step::Lacks(9),
+    Step::Holds(1),
+    Step::Gives(2, 2),
+    Step::Gives(3, 3),
+    Step::Holds(2),
+    Step::Prune,
+    Step::Holds(0),
+];
+
+#[test]
+fn a_block_is_read_once_while_its_page_is_there(rt: HostRuntime) {
+    asks_for(&rt, rt.alloc(), 2, &READ_ONCE, &[1, 2, 3, 2, 9, 3]);
 }
 
 #[test]
-fn reads_and_finds_are_counted(rt: HostRuntime) -> Result<(), Fail> {
+fn reads_and_finds_are_counted(rt: HostRuntime) {
     let reader = Fours::new(rt.alloc(), &rt, 0);
     let pages = PageCache::new(rt.alloc(), &rt, &reader, 2);
     let steps = [
@@ -110,95 +124,85 @@ fn reads_and_finds_are_counted(rt: HostRuntime) -> Result<(), Fail> {
         Step::Lacks(9),
         Step::Gives(3, 3),
     ];
-    for step in steps {
-        assert!(rt; goes(&pages, step), "at {step:?}");
-    }
-    let counts = pages.counts();
-    assert_eq!(rt; (counts.hits, counts.misses, counts.waits), (2, 5, 0));
+    goes_all(&rt, &pages, &steps);
     // Each block that the reader was asked for is a making; a read that finds no page is not.
     assert!(rt; reader.was_asked([1, 2, 9, 3].as_slice()));
-    assert_eq!(rt; (counts.makings, counts.failures), (4, 1));
-    assert_eq!(rt;
-        (counts.insertions, counts.evictions, counts.removals),
-        (4, 1, 1)
-    );
-    assert_eq!(rt; pages.reset_counts(), counts);
-    assert_eq!(rt; pages.counts().hits, 0);
+    assert_eq!(rt; numbers(&pages.counts()), [2, 5, 0, 4, 1, 4, 1, 1]);
+    assert_eq!(rt; numbers(&pages.reset_counts()), [2, 5, 0, 4, 1, 4, 1, 1]);
+    assert_eq!(rt; numbers(&pages.counts()), [0; 8]);
     assert_eq!(rt; pages.counts().entries_before, pages.total_charge());
-    Ok(())
 }
 
-#[test]
-fn a_page_that_is_there_is_shown_without_a_handle(rt: HostRuntime) -> Result<(), Fail> {
-    let reader = Fours::new(rt.alloc(), &rt, 0);
-    let pages = PageCache::new(rt.alloc(), &rt, &reader, 2);
-    let steps = [
-        Step::Hides(1),
-        Step::Gives(1, 1),
-        Step::Gives(2, 2),
-        // It counts as a use, so the other page is evicted.
-        Step::Shows(1, 1),
-        Step::Gives(3, 3),
-        Step::Hides(2),
-        Step::Shows(1, 1),
-        Step::Shows(3, 3),
-        Step::Holds(2),
-        // It leaves no handle.
-        Step::Prune,
-        Step::Holds(0),
-        Step::Hides(1),
-    ];
-    for step in steps {
-        assert!(rt; goes(&pages, step), "at {step:?}");
-    }
-    assert!(rt; reader.was_asked([1, 2, 3].as_slice()));
-    Ok(())
+// Returns hits, misses, waits, makings, failures, insertions, evictions and removals.
+fn numbers(counts: &Counts) -> [u64; 8] {
+    [
+        counts.hits,
+        counts.misses,
+        counts.waits,
+        counts.makings,
+        counts.failures,
+        counts.insertions,
+        counts.evictions,
+        counts.removals,
+    ]
 }
 
-#[test]
-fn a_capacity_of_pages_is_set(rt: HostRuntime) -> Result<(), Fail> {
-    let reader = Fours::new(rt.alloc(), &rt, 0);
-    let pages = PageCache::new(rt.alloc(), &rt, &reader, 3);
-    let steps = [
-        Step::Gives(1, 1),
-        Step::Gives(2, 2),
-        Step::Gives(3, 3),
-        Step::SetCapacity(1),
-        Step::Holds(1),
-        Step::Gives(3, 3),
-        Step::Gives(2, 2),
-        Step::SetCapacity(0),
-        Step::Holds(0),
-    ];
-    assert_eq!(rt; pages.capacity(), 3);
-    for step in steps {
-        assert!(rt; goes(&pages, step), "at {step:?}");
-    }
-    assert!(rt; reader.was_asked([1, 2, 3, 2].as_slice()));
-    Ok(())
-}
+const SHOWN: [Step; 12] = [
+    Step::Hides(1),
+    Step::Gives(1, 1),
+    Step::Gives(2, 2),
+    // It counts as a use, so the other page is evicted.
+    Step::Shows(1, 1),
+    Step::Gives(3, 3),
+    Step::Hides(2),
+    Step::Shows(1, 1),
+    Step::Shows(3, 3),
+    Step::Holds(2),
+    // It leaves no handle.
+    Step::Prune,
+    Step::Holds(0),
+    Step::Hides(1),
+];
 
 #[test]
-fn a_capacity_of_pages_grows(rt: HostRuntime) -> Result<(), Fail> {
-    let reader = Fours::new(rt.alloc(), &rt, 0);
-    let pages = PageCache::new(rt.alloc(), &rt, &reader, 1);
-    let steps = [
-        Step::Gives(1, 1),
-        Step::SetCapacity(3),
-        Step::Gives(2, 2),
-        Step::Gives(3, 3),
-        Step::Holds(3),
-        Step::Gives(1, 1),
-        Step::Gives(4, 4),
-        Step::Holds(3),
-        Step::Gives(2, 2),
-    ];
-    for step in steps {
-        assert!(rt; goes(&pages, step), "at {step:?}");
-    }
+fn a_page_that_is_there_is_shown_without_a_handle(rt: HostRuntime) {
+    asks_for(&rt, rt.alloc(), 2, &SHOWN, &[1, 2, 3]);
+}
+
+const SET: [Step; 10] = [
+    Step::Capacity(3),
+    Step::Gives(1, 1),
+    Step::Gives(2, 2),
+    Step::Gives(3, 3),
+    Step::SetCapacity(1),
+    Step::Holds(1),
+    Step::Gives(3, 3),
+    Step::Gives(2, 2),
+    Step::SetCapacity(0),
+    Step::Holds(0),
+];
+
+#[test]
+fn a_capacity_of_pages_is_set(rt: HostRuntime) {
+    asks_for(&rt, rt.alloc(), 3, &SET, &[1, 2, 3, 2]);
+}
+
+const GROWN: [Step; 9] = [
+    Step::Gives(1, 1),
+    Step::SetCapacity(3),
+    Step::Gives(2, 2),
+    Step::Gives(3, 3),
+    Step::Holds(3),
+    Step::Gives(1, 1),
+    Step::Gives(4, 4),
+    Step::Holds(3),
+    Step::Gives(2, 2),
+];
+
+#[test]
+fn a_capacity_of_pages_grows(rt: HostRuntime) {
     // At the fourth page the second was evicted, the least recently released one.
-    assert!(rt; reader.was_asked([1, 2, 3, 4, 2].as_slice()));
-    Ok(())
+    asks_for(&rt, rt.alloc(), 1, &GROWN, &[1, 2, 3, 4, 2]);
 }
 
 #[test]
@@ -215,31 +219,37 @@ fn a_prune_leaves_the_capacity(rt: HostRuntime) -> Result<(), Fail> {
         Step::Gives(1, 1),
         Step::Holds(2),
     ];
-    for step in steps {
-        assert!(rt; goes(&pages, step), "at {step:?}");
-    }
+    goes_all(&rt, &pages, &steps);
     assert!(rt; reader.was_asked([1, 1, 2].as_slice()));
     Ok(())
 }
 
 #[test]
-fn pages_that_are_held_pass_the_capacity(rt: HostRuntime) -> Result<(), Fail> {
+fn pages_that_are_held_pass_the_capacity(rt: HostRuntime) {
     let reader = Fours::new(rt.alloc(), &rt, 0);
     let pages = PageCache::new(rt.alloc(), &rt, &reader, 1);
-    let (one, two, three) = (pages.page(1)?, pages.page(2)?, pages.page(3)?);
-    assert_eq!(rt; (pages.total_charge(), pages.capacity()), (3, 1));
-    pages.prune();
-    assert_eq!(rt; pages.total_charge(), 3);
     // Each is evicted when it is released, until there are no more than the capacity.
-    drop(one);
-    assert_eq!(rt; pages.total_charge(), 2);
-    drop(two);
-    assert_eq!(rt; pages.total_charge(), 1);
-    drop(three);
-    assert_eq!(rt; pages.total_charge(), 1);
+    assert_eq!(rt; totals_of_three(&pages), Some([3, 3, 2, 1, 1]));
     assert!(rt; gives(&pages, 3, 3));
     assert!(rt; reader.was_asked([1, 2, 3].as_slice()));
-    Ok(())
+}
+
+// Returns the total while three pages are held, once the others are evicted, and as each of the
+// three is released. Returns `None` if one of them is refused.
+fn totals_of_three<R: Wait>(pages: &PageCache<'_, Fours<R>, R>) -> Option<[u64; 5]> {
+    let held = [
+        pages.page(1).ok()?,
+        pages.page(2).ok()?,
+        pages.page(3).ok()?,
+    ];
+    let before = pages.total_charge();
+    pages.prune();
+    let pruned = pages.total_charge();
+    let [one, two, three] = held.map(|page| {
+        drop(page);
+        pages.total_charge()
+    });
+    Some([before, pruned, one, two, three])
 }
 
 #[test]
@@ -264,46 +274,52 @@ fn an_invalidated_page_is_read_again(rt: HostRuntime) {
         Step::Gives(2, 2),
         Step::Holds(3),
     ];
-    for step in steps {
-        assert!(rt; goes(&pages, step), "at {step:?}");
-    }
+    goes_all(&rt, &pages, &steps);
     assert!(rt; held.value().bytes() == [2; 4].as_slice());
     drop(held);
     assert!(rt; goes(&pages, Step::Holds(2)));
     assert!(rt; reader.was_asked([2, 1, 1, 2].as_slice()));
 }
 
+// Returns whether the reader of a cache was asked for exactly these blocks, once page 5 is held.
+fn was_asked_at_five<R: Wait>(pages: &PageCache<'_, Fours<R>, R>, blocks: &[u64]) -> bool {
+    match pages.page(5) {
+        Ok(page) => page.value().reader().was_asked(blocks),
+        Err(_) => false,
+    }
+}
+
 #[test]
-fn each_cache_has_its_own_reader(rt: HostRuntime) -> Result<(), Fail> {
+fn each_cache_has_its_own_reader(rt: HostRuntime) {
     let reader = Fours::new(rt.alloc(), &rt, 0);
     let other = Fours::new(rt.alloc(), &rt, 100);
     let pages = PageCache::new(rt.alloc(), &rt, &reader, 2);
     let others = PageCache::new(rt.alloc(), &rt, &other, 2);
-    assert!(rt; gives(&pages, 5, 5));
-    assert!(rt; gives(&others, 5, 105));
-    assert!(rt; pages.page(5)?.value().reader().was_asked([5].as_slice()));
-    assert!(rt; gives(&others, 6, 106));
-    assert!(rt;
-        others
-            .page(5)?
-            .value()
-            .reader()
-            .was_asked([5, 6].as_slice())
-    );
-    Ok(())
+    assert!(rt; gives(&pages, 5, 5) && gives(&others, 5, 105));
+    assert!(rt; was_asked_at_five(&pages, &[5]));
+    assert!(rt; gives(&others, 6, 106) && was_asked_at_five(&others, &[5, 6]));
+}
+
+// Returns the text of a cache that is empty, and of one whose page 5 is held.
+fn texts<R: Wait>(
+    alloc: Global,
+    pages: &PageCache<'_, Fours<R>, R>,
+) -> Result<(String, String), Fail> {
+    let empty = text_of(alloc, pages)?;
+    let held = pages.page(5)?;
+    let text = text_of(alloc, pages)?;
+    drop(held);
+    Ok((empty, text))
 }
 
 #[test]
 fn pages_are_printed_by_their_numbers(rt: HostRuntime) -> Result<(), Fail> {
-    let alloc = rt.alloc();
-    let reader = Fours::new(alloc, &rt, 0);
-    let pages = PageCache::new(alloc, &rt, &reader, 2);
-    assert_eq!(rt; format!(in alloc; "{pages:?}")?.as_str(), "{}");
-    let held = pages.page(5)?;
+    let reader = Fours::new(rt.alloc(), &rt, 0);
+    let pages = PageCache::new(rt.alloc(), &rt, &reader, 2);
+    let (empty, held) = texts(rt.alloc(), &pages)?;
     assert_eq!(rt;
-        format!(in alloc; "{pages:?}")?.as_str(),
-        "{5: Page { number: 5, len: 4 }}"
+        (empty.as_str(), held.as_str()),
+        ("{}", "{5: Page { number: 5, len: 4 }}")
     );
-    drop(held);
     Ok(())
 }
