@@ -14,4 +14,5 @@ pub mod RoomOfRemovals
 pub mod SteadyCapacity
 pub mod StampCounts
 pub mod StampsOnce
+pub mod StrictRuns
 pub mod PromisesOfRuns

@@ -22,6 +22,7 @@ pub mod OneFront
 pub mod EmptyCache
 pub mod StaysLawful
 pub mod StaysAttached
+pub mod StrictSteps
 pub mod ReadyValues
 pub mod ValuesRead
 pub mod ValuesInserted

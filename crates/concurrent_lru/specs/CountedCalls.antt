@@ -2,7 +2,7 @@
 -- counts add up.
 use Rattle.std.specs.Prelude.{◌≡◌, ℕ, ◌+◌, ◌*◌, ◌<◌, ◌≤◌, ◌^◌, Bool, false, cond, List, length, ◌==◌, Option, Some, None, Result, Ok, Err, refl}
 use Rattle.std.specs.Option.{option_map_or}
-use Rattle.std.specs.Coded.{Coded, code_by, coded×}
+use Rattle.std.specs.Coded.{Coded, code_by, coded×, coded_bool}
 use Rattle.std.specs.declared.sync.Arc.{Arc}
 use Rattle.std.specs.declared.alloc.Global.{Global}
 use Rattle.concurrent_lru.specs.Cache.{Cache, Idle, charges, held_at, sum_of, count_of, cache_code, IsLawful}
@@ -13,14 +13,21 @@ use Rattle.concurrent_lru.specs.Reply as say
 use Rattle.concurrent_lru.specs.Runs.{Outcome, accepted, refused}
 use Rattle.concurrent_lru.specs.declared.counts.Counts.{Counts}
 use Rattle.concurrent_lru.specs.declared.refusal.Refusal.{Refusal}
-use Rattle.concurrent_lru.specs.declared.refusal.Refusal.TheVariants.{Memory, Overflow, Stale}
+use Rattle.concurrent_lru.specs.declared.refusal.Refusal.TheVariants.{Memory, Overflow, Stale, Full}
 use Rattle.concurrent_lru.specs.declared.step.Begun.{Begun}
 use Rattle.concurrent_lru.specs.declared.step.Begun.TheVariants as begun
 
--- the state under the lock of a cache: the cache and the counts of its calls
+-- a cache and the counts of its calls
+pub record CountedCache (K V : Type 0) : Type 0 where
+  pub cache : Cache K V
+  pub counts : Counts
+
+-- the state under the lock of a cache: the cache, the counts of its calls, and whether its limit is
+-- strict
 pub record LockedCache (K V : Type 0) : Type 0 where
   pub cache : Cache K V
   pub counts : Counts
+  pub strict : Bool
 
 module _ {V : Type 0} where
   -- the counts after a begin with this answer, apart from an insertion
@@ -43,6 +50,7 @@ module _ {V : Type 0} where
   counted_poll (Err Memory) n = one_refusal n
   counted_poll (Err Overflow) n = n
   counted_poll (Err Stale) n = n
+  counted_poll (Err Full) n = n
 
   -- the counts after a repin with this result
   abbrev pub counted_repin : Result (Arc V Global) Refusal → Counts → Counts
@@ -50,10 +58,16 @@ module _ {V : Type 0} where
   counted_repin (Err Memory) n = one_refusal n
   counted_repin (Err Overflow) n = one_refusal n
   counted_repin (Err Stale) n = n
+  counted_repin (Err Full) n = n
 
 module _ {K V : Type 0} where
+  abbrev pub counted_cache_code : Coded K → Coded V → Coded (CountedCache K V)
+  counted_cache_code k v = code_by (Cache K V × Counts) (coded× (cache_code k v) counts_code) (λ c. (c.cache, c.counts)) (λ p. record { cache = p.0; counts = p.1 }) (λ _. refl)
+
   abbrev pub locked_cache_code : Coded K → Coded V → Coded (LockedCache K V)
-  locked_cache_code k v = code_by (Cache K V × Counts) (coded× (cache_code k v) counts_code) (λ c. (c.cache, c.counts)) (λ p. record { cache = p.0; counts = p.1 }) (λ _. refl)
+  locked_cache_code k v =
+      code_by (Cache K V × (Counts × Bool)) (coded× (cache_code k v) (coded× counts_code coded_bool))
+      (λ c. (c.cache, (c.counts, c.strict))) (λ p. record { cache = p.0; counts = p.1.0; strict = p.1.1 }) (λ _. refl)
 
   -- the counts after these entries were evicted
   abbrev pub evicted : List (Idle K V) → Counts → Counts
@@ -76,6 +90,10 @@ module _ {K V : Type 0} where
   counted c (ask.begin k charge) (accepted (say.wait s) out) n = one_wait n
   counted c (ask.begin k charge) (accepted (say.hit s v) out) n = one_hit n
   counted c (ask.begin k charge) (refused e) n = one_refusal n
+  counted c (ask.begin_strictly k charge) (accepted (say.make s) out) n = cond (s == c.next) (evicted out (inserted charge (one_making (one_miss n)))) (one_making (one_miss n))
+  counted c (ask.begin_strictly k charge) (accepted (say.wait s) out) n = one_wait n
+  counted c (ask.begin_strictly k charge) (accepted (say.hit s v) out) n = one_hit n
+  counted c (ask.begin_strictly k charge) (refused e) n = one_refusal n
   counted c (ask.poll s) (accepted (say.make t) out) n = one_making n
   counted c (ask.poll s) (refused Memory) n = one_refusal n
   counted c (ask.get k) (accepted (say.hit s v) out) n = one_hit n
@@ -91,6 +109,8 @@ module _ {K V : Type 0} where
   counted c (ask.invalidate k) (accepted p out) n = evicted out n
   counted c (ask.insert k charge v) (accepted p out) n = evicted out (inserted charge n)
   counted c (ask.insert k charge v) (refused e) n = one_refusal n
+  counted c (ask.insert_strictly k charge v) (accepted p out) n = evicted out (inserted charge n)
+  counted c (ask.insert_strictly k charge v) (refused e) n = one_refusal n
   counted c (ask.read k) (accepted (say.read s v) out) n = one_hit n
   counted c (ask.read k) (accepted say.missed out) n = one_miss n
   counted c (ask.read k) (refused e) n = one_refusal n

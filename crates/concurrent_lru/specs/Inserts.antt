@@ -1,10 +1,12 @@
 -- An insert is an invalidate, a begin and a ready in one step, or a refusal that changes nothing.
-use Rattle.std.specs.Prelude.{◌≡◌, ℕ, Bool, List, [], ◌∷◌, Result, Ok, Err}
-use Rattle.concurrent_lru.specs.Cache.{Cache, Idle}
+use Rattle.std.specs.Prelude.{◌≡◌, ℕ, ◌⊎◌, Bool, List, [], ◌∷◌, Result, Ok, Err}
+use Rattle.concurrent_lru.specs.Cache.{Cache, Idle, HasCapacityFor, LacksCapacityFor}
+use Rattle.std.specs.Result.{IsErrAnd}
 use Rattle.concurrent_lru.specs.Request as ask
 use Rattle.concurrent_lru.specs.Reply as say
 use Rattle.concurrent_lru.specs.Runs.{accepted, refused, Stands, Run}
 use Rattle.concurrent_lru.specs.declared.refusal.Refusal.{Refusal}
+use Rattle.concurrent_lru.specs.declared.refusal.Refusal.TheVariants.{Full}
 use Rattle.concurrent_lru.specs.declared.step.Inserted.{Inserted}
 use Rattle.concurrent_lru.specs.declared.table.spot.Spot.{Spot}
 
@@ -27,6 +29,15 @@ module _ {K V : Type 0} (E : K → K → Bool) where
   abbrev pub Inserts : {M S : Type 0} → Cache K V → K → ℕ → V → Result (Inserted K V M S) (Refusal × S) → Cache K V → Type 0
   Inserts old k charge v (Ok i) new = Replaces old k charge v i.stamp i.replaced i.evicted new
   Inserts old k charge v (Err e) new = RefusesToReplace old k charge e.0 new
+
+  -- A strict insert is an insert that the capacity has room for beside the held entries. Otherwise
+  -- it is refused as full, and nothing changes.
+  abbrev pub InsertsStrictly : {M S : Type 0} → Cache K V → K → ℕ → V → Result (Inserted K V M S) (Refusal × S) → Cache K V → Type 0
+  InsertsStrictly old k charge v r new = (HasCapacityFor old charge × Inserts old k charge v r new) ⊎ (LacksCapacityFor old charge × IsErrAnd r (λ e. e.0 ≡ Full) × (new ≡ old))
+
+  -- a strict insert is refused: the capacity has no room, or it has, and an insert would be refused
+  abbrev pub RefusesToReplaceStrictly : Cache K V → K → ℕ → Refusal → Cache K V → Type 0
+  RefusesToReplaceStrictly old k charge e new = (LacksCapacityFor old charge × (e ≡ Full) × (new ≡ old)) ⊎ (HasCapacityFor old charge × RefusesToReplace old k charge e new)
 
   -- an insert before its ready: the spot of the new entry, what was replaced and what was evicted
   abbrev pub Remakes : Cache K V → K → ℕ → Result (Spot × List (Idle K V) × List (Idle K V)) Refusal → Cache K V → Type 0

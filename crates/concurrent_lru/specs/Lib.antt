@@ -36,6 +36,7 @@ pub mod Debts
 pub mod Doors
 pub mod ThreadedCalls
 pub mod Sharded
+pub mod ReadyEntries
 pub mod Parts
 pub mod ShardSteps
 pub mod ShardLaws

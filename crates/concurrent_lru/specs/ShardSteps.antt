@@ -23,10 +23,12 @@ module _ {K V : Type 0} where
   -- the shard that a step goes to: the one of its key, or the one that it names
   abbrev pub shard_of_step : (K → ℕ) → ShardStep K V → ℕ
   shard_of_step route (shard.Begin k c) = route k
+  shard_of_step route (shard.BeginStrictly k c) = route k
   shard_of_step route (shard.Get k) = route k
   shard_of_step route (shard.AdviceEvict k) = route k
   shard_of_step route (shard.Invalidate k) = route k
   shard_of_step route (shard.Insert k c a) = route k
+  shard_of_step route (shard.InsertStrictly k c a) = route k
   shard_of_step route (shard.Read k) = route k
   shard_of_step route (shard.Poll i s) = i
   shard_of_step route (shard.Ready i s a) = i
@@ -41,10 +43,12 @@ module _ {K V : Type 0} where
   -- the step that the shard takes
   abbrev pub step_at_shard : ShardStep K V → RustStep K (Arc V Global)
   step_at_shard (shard.Begin k c) = step.Begin k c
+  step_at_shard (shard.BeginStrictly k c) = step.BeginStrictly k c
   step_at_shard (shard.Get k) = step.Get k
   step_at_shard (shard.AdviceEvict k) = step.AdviceEvict k
   step_at_shard (shard.Invalidate k) = step.Invalidate k
   step_at_shard (shard.Insert k c a) = step.Insert k c a
+  step_at_shard (shard.InsertStrictly k c a) = step.InsertStrictly k c a
   step_at_shard (shard.Read k) = step.Read k
   step_at_shard (shard.Poll i s) = step.Poll s
   step_at_shard (shard.Ready i s a) = step.Ready s a
@@ -69,6 +73,8 @@ module _ {K V : Type 0} where
   TellsNoShard (step.Ready s a) _ = ⊥
   TellsNoShard (step.Insert k c a) (answer.NotInserted e b) = (e ≡ Stale) × (b.value ≡ a.value)
   TellsNoShard (step.Insert k c a) _ = ⊥
+  TellsNoShard (step.InsertStrictly k c a) (answer.NotInserted e b) = (e ≡ Stale) × (b.value ≡ a.value)
+  TellsNoShard (step.InsertStrictly k c a) _ = ⊥
   TellsNoShard _ a = a ≡ answer.Refused Stale
 
   -- the answer is of its step's kind, or says that there is no such shard

@@ -43,5 +43,7 @@ module _ {K V : Type 0} where
   abbrev pub stamps_given : ℕ → List (Request K V × Outcome K V) → List ℕ
   stamps_given next [] = []
   stamps_given next ((ask.begin _ _, accepted (say.make s) _) ∷ es) = cond (nat_lt s next) (stamps_given next es) (s ∷ stamps_given (s + 1) es)
+  stamps_given next ((ask.begin_strictly _ _, accepted (say.make s) _) ∷ es) = cond (nat_lt s next) (stamps_given next es) (s ∷ stamps_given (s + 1) es)
   stamps_given next ((ask.insert _ _ _, accepted (say.inserted s) _) ∷ es) = s ∷ stamps_given (s + 1) es
+  stamps_given next ((ask.insert_strictly _ _ _, accepted (say.inserted s) _) ∷ es) = s ∷ stamps_given (s + 1) es
   stamps_given next (_ ∷ es) = stamps_given next es

@@ -18,6 +18,7 @@ IfHit (begun.Hit s a) P = P (arc_value a)
 abbrev pub IfInit : {E : Type 0} → GetError E → (E → Type 0) → Type 0
 IfInit error.Memory P = ⊤
 IfInit error.Overflow P = ⊤
+IfInit error.Full P = ⊤
 IfInit (error.Init e) P = P e
 
 -- the error is the cache's own, not one that `init` returned

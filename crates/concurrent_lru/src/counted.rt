@@ -1,8 +1,8 @@
 //! The core's state together with counts of what its calls did.
-ghost use Rattle.std.specs.Prelude.{◌≡◌, ◌<◌, Some, None, IsFalse, IfErr, IfOk, OnOk, OnErr, MatchOption};
+ghost use Rattle.std.specs.Prelude.{◌≡◌, ◌<◌, ◌⊎◌, Some, None, IsFalse, IfErr, IfOk, OnOk, OnErr, MatchOption};
 ghost use Rattle.std.specs.Arc.{arc_value};
 ghost use Rattle.std.specs.Fn.{FnOnceReturnsAt, FnOnceTakesAt};
-ghost use Rattle.concurrent_lru.specs.Cache.{count_of, empty_cache, most_pins_by_default, sum_of, HasKeyAt, LacksStamp, IsLawful, CopiesAreEqual, HasNoOtherPin};
+ghost use Rattle.concurrent_lru.specs.Cache.{count_of, empty_cache, most_pins_by_default, sum_of, HasCapacityFor, HasKeyAt, LacksCapacityFor, LacksStamp, IsLawful, CopiesAreEqual, HasNoOtherPin};
 ghost use Rattle.concurrent_lru.specs.CountedCalls.{counted, counted_begin, counted_look, counted_poll, counted_repin, is_insertion, replaced, AddUp};
 ghost use Rattle.concurrent_lru.specs.Counts.{counts_from, one_refusal};
 ghost use Rattle.concurrent_lru.specs.Inserts.{Inserts};
@@ -11,6 +11,7 @@ ghost use Rattle.concurrent_lru.specs.Ready.{HasEqualKeyAt};
 ghost use Rattle.concurrent_lru.specs.Request as ask;
 ghost use Rattle.concurrent_lru.specs.Results.{outcome_of_begin, outcome_of_poll, outcome_of_ready, outcome_of_fail, outcome_of_get, outcome_of_release, outcome_of_repin, outcome_of_evictions, begun_without_hint, found_without_hint, inserted_without_hint};
 ghost use Rattle.concurrent_lru.specs.Runs.{Stands};
+ghost use Rattle.concurrent_lru.specs.Steps.{IsAbsent};
 
 use crate::counts::Counts;
 use crate::lru_core::{Begun, Evicted, Failed, Inserted, Refusal, State};
@@ -34,11 +35,11 @@ pub struct CountedState<K: Hash + Eq + Clone, V> {
 }
 
 impl<K: Hash + Eq + Clone, V> Model for CountedState<K, V> {
-    ghost use Rattle.concurrent_lru.specs.CountedCalls.{LockedCache, locked_cache_code, IsSoundlyCounted};
+    ghost use Rattle.concurrent_lru.specs.CountedCalls.{CountedCache, counted_cache_code, IsSoundlyCounted};
 
-    ghost Value = { LockedCache K V };
+    ghost Value = { CountedCache K V };
 
-    ghost coded = { locked_cache_code K.code V.code };
+    ghost coded = { counted_cache_code K.code V.code };
 
     ghost view = { λ a. record { cache = a.state.cache; counts = a.counts } };
 
@@ -125,6 +126,42 @@ impl<K: Hash + Eq + Clone, V: Drop> CountedState<K, V> {
         self.counts
             .evict(self.state.len() as u64, self.state.total());
         begun
+    }
+
+    /// Returns `Full`, and counts a refusal, if the core's `begin_strictly` is refused in this way.
+    /// Changes no entry.
+    pub fn admit_begin(&mut self, key: &K, charge: u64) -> Result<(), Refusal>
+        ensures admitted { OnOk result (HasCapacityFor self.old.cache charge
+            ⊎ (IsAbsent K.eq self.old.cache key.now → ⊥)) }
+        ensures counts { OnOk result (self.new.counts ≡ self.old.counts) }
+        ensures full { OnErr result (LacksCapacityFor self.old.cache charge
+            × IsAbsent K.eq self.old.cache key.now) }
+        ensures refused { OnErr result (self.new.counts ≡ one_refusal self.old.counts) }
+        ensures refusal { IfErr result (λ e. e ≡ Refusal.Full) }
+        ensures cache { self.new.cache ≡ self.old.cache }
+    {
+        if self.state.is_full_for(key, charge) {
+            self.counts.refuse();
+            return Err(Refusal::Full);
+        }
+        Ok(())
+    }
+
+    /// Returns `Full`, and counts a refusal, if the core's `insert_strictly` is refused in this
+    /// way. Changes no entry.
+    pub fn admit_insert(&mut self, charge: u64) -> Result<(), Refusal>
+        ensures admitted { OnOk result (HasCapacityFor self.old.cache charge) }
+        ensures counts { OnOk result (self.new.counts ≡ self.old.counts) }
+        ensures full { OnErr result (LacksCapacityFor self.old.cache charge) }
+        ensures refused { OnErr result (self.new.counts ≡ one_refusal self.old.counts) }
+        ensures refusal { IfErr result (λ e. e ≡ Refusal.Full) }
+        ensures cache { self.new.cache ≡ self.old.cache }
+    {
+        if self.state.lacks_capacity_for(charge) {
+            self.counts.refuse();
+            return Err(Refusal::Full);
+        }
+        Ok(())
     }
 
     /// The core's `poll`: a making started if the caller is to make the value, a refusal if a copy

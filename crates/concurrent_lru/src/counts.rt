@@ -23,7 +23,8 @@ pub struct Counts {
     pub misses: u64,
     /// Calls that found the value being made by another caller, and waited for it.
     pub waits: u64,
-    /// Calls that asked for a value, or inserted one, and were refused with `Memory` or `Overflow`.
+    /// Calls that asked for a value, or inserted one, and were refused: with `Memory`, `Overflow`
+    /// or `Full`.
     pub refusals: u64,
     /// Makings started: how often a caller was asked to make a value.
     pub makings: u64,

@@ -138,7 +138,23 @@ impl<K: Hash + Eq + Clone + Drop, V: Drop, R: Wait, F: Fit<K, V>> Door<K, V, R, 
         }
     }
 
-    /// `Locked::begin`. What it evicts is dropped without the lock. Waits while another caller
+    /// Calls `f` with the key, the value, the charge and the pins of each entry that its key finds
+    /// and that has a value. `f` runs under the lock.
+    pub fn for_each<G>(&self, f: &mut G)
+    where
+        G: FnMut(&K, &V, u64, u32),
+        requires callable { G.IsAlwaysCallable f.old }
+        ensures callable { G.IsAlwaysCallable f.new }
+    {
+        let guard = self.lock();
+        for entry in guard.state().entries() {
+            if !entry.is_detached {
+                f(entry.key, entry.value, entry.charge, entry.pins);
+            }
+        }
+    }
+
+    /// `Locked::enter`. What it evicts is dropped without the lock. Waits while another caller
     /// makes the value.
     ///
     /// Returns `Memory` also if the value that it waited for is ready and its copy is refused; the
@@ -150,7 +166,7 @@ impl<K: Hash + Eq + Clone + Drop, V: Drop, R: Wait, F: Fit<K, V>> Door<K, V, R, 
         ensures never_stale { IfErr result (λ e. e ≢ Refusal.Stale) }
     {
         let mut guard = self.lock();
-        match guard.begin(key, charge)? {
+        match guard.enter(key, charge)? {
             Entered::Make(making, evicted) => {
                 drop(evicted.open(guard));
                 Ok(Lookup::Make(Maker { door: self, making }))
@@ -241,7 +257,7 @@ impl<K: Hash + Eq + Clone + Drop, V: Drop, R: Wait, F: Fit<K, V>> Door<K, V, R, 
                 Err(Refusal::Memory)
             }
             Polled::NoPin => {
-                let entered = guard.begin(key, charge)?;
+                let entered = guard.enter(key, charge)?;
                 Ok((guard, entered))
             }
         }
@@ -292,7 +308,7 @@ impl<K: Hash + Eq + Clone + Drop, V: Drop, R: Wait, F: Fit<K, V>> Door<K, V, R, 
         drop(evicted.open(guard));
     }
 
-    /// `Locked::insert`. What it replaces and evicts, or both `Arc`s if it is refused, are dropped
+    /// `Locked::put`. What it replaces and evicts, or both `Arc`s if it is refused, are dropped
     /// without the lock.
     pub fn insert(
         &self,
@@ -309,7 +325,7 @@ impl<K: Hash + Eq + Clone + Drop, V: Drop, R: Wait, F: Fit<K, V>> Door<K, V, R, 
         ensures never_stale { IfErr result (λ e. e ≢ Refusal.Stale) }
     {
         let mut guard = self.lock();
-        match guard.insert(key, charge, stored, read) {
+        match guard.put(key, charge, stored, read) {
             Ok((pin, gone)) => {
                 drop(gone.open(guard));
                 Ok(CacheHandle::new(self, pin))
@@ -319,6 +335,18 @@ impl<K: Hash + Eq + Clone + Drop, V: Drop, R: Wait, F: Fit<K, V>> Door<K, V, R, 
                 Err(refusal)
             }
         }
+    }
+
+    /// `Locked::set_strict`.
+    pub fn set_strict(&self, strict: bool) {
+        let mut guard = self.lock();
+        guard.set_strict(strict);
+    }
+
+    /// `Locked::is_strict`.
+    pub fn is_strict(&self) -> bool {
+        let guard = self.lock();
+        guard.is_strict()
     }
 
     /// `Locked::prune`. What it evicts is dropped without the lock.

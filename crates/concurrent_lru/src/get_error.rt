@@ -15,20 +15,25 @@ pub enum GetError<E> {
     Memory,
     /// A number is at its maximum: the total, the next stamp, or the pins of an entry.
     Overflow,
+    /// The limit is strict, and the charge of a new entry would take the total above the capacity,
+    /// even after every idle entry has left.
+    Full,
     /// `init` returned this error.
     Init(E),
 }
 
 impl<E> GetError<E> {
-    /// Returns the code of the error, for programs that have only numbers: 1, 2 or 4.
+    /// Returns the code of the error, for programs that have only numbers: 1, 2, 4 or 5.
     pub fn code(&self) -> u8
         ensures memory { self.now ≡ GetError.Memory → result ≡ 1 }
         ensures overflow { self.now ≡ GetError.Overflow → result ≡ 2 }
+        ensures full { self.now ≡ GetError.Full → result ≡ 5 }
         ensures init { (error : E) → self.now ≡ GetError.Init error → result ≡ 4 }
     {
         match self {
             GetError::Memory => 1,
             GetError::Overflow => 2,
+            GetError::Full => 5,
             GetError::Init(_) => 4,
         }
     }
@@ -38,11 +43,13 @@ impl<E> GetError<E> {
         requires { refusal ≢ Refusal.Stale }
         ensures memory { refusal ≡ Refusal.Memory → result ≡ GetError.Memory }
         ensures overflow { refusal ≡ Refusal.Overflow → result ≡ GetError.Overflow }
+        ensures full { refusal ≡ Refusal.Full → result ≡ GetError.Full }
         ensures not_init { IsNotInit result }
     {
         match refusal {
             Refusal::Memory => GetError::Memory,
             Refusal::Overflow => GetError::Overflow,
+            Refusal::Full => GetError::Full,
             Refusal::Stale => unreachable!(),
         }
     }
@@ -61,6 +68,7 @@ impl<E: fmt::Display> fmt::Display for GetError<E> {
         match self {
             GetError::Memory => fmt::Display::fmt(&Refusal::Memory, f),
             GetError::Overflow => fmt::Display::fmt(&Refusal::Overflow, f),
+            GetError::Full => fmt::Display::fmt(&Refusal::Full, f),
             GetError::Init(error) => fmt::Display::fmt(error, f),
         }
     }

@@ -3,14 +3,14 @@
 //!
 //! Each call is one step of the core. What it leaves to be done is returned as a debt, a type that
 //! is not `Drop`.
-ghost use Rattle.std.specs.Prelude.{◌≡◌, ◌≢◌, ◌<◌, [], Err, Some, None, IsTrue, IsFalse, IfOk, IfErr, IfSome, OnErr};
+ghost use Rattle.std.specs.Prelude.{◌≡◌, ◌≢◌, ◌<◌, [], Err, Some, None, IsTrue, IsFalse, IfOk, IfErr, IfSome, OnOk, OnErr, false};
 ghost use Rattle.std.specs.Arc.{arc_value};
 ghost use Rattle.std.specs.Fn.{FnOnceReturnsAt, FnOnceTakesAt};
-ghost use Rattle.concurrent_lru.specs.Cache.{count_of, empty_cache, most_pins_by_default, sum_of, IsLawful, CopiesAreEqual, HasNoOtherPin, IsSettled};
+ghost use Rattle.concurrent_lru.specs.Cache.{count_of, empty_cache, most_pins_by_default, sum_of, HasCapacityFor, IsLawful, CopiesAreEqual, HasNoOtherPin, IsSettled};
 ghost use Rattle.concurrent_lru.specs.CountedCalls.{counted, counted_look, replaced, AddUp};
 ghost use Rattle.concurrent_lru.specs.Counts.{counts_from, one_refusal};
 ghost use Rattle.concurrent_lru.specs.Debts.{outcome_of_locked_begin, outcome_of_locked_poll, outcome_of_locked_get, outcome_of_locked_repin, AsksOnEntry, AsksOnPoll, IfEntered, IfPolled};
-ghost use Rattle.concurrent_lru.specs.Inserts.{Replaces, RefusesToReplace};
+ghost use Rattle.concurrent_lru.specs.Inserts.{Replaces, RefusesToReplace, RefusesToReplaceStrictly};
 ghost use Rattle.concurrent_lru.specs.Reads.{Reads};
 ghost use Rattle.concurrent_lru.specs.Ready.{ValuesFit, HasEqualKeyAt};
 ghost use Rattle.concurrent_lru.specs.Request as ask;
@@ -37,11 +37,12 @@ use std::sync::Arc;
 
 /// A state of the core whose ready values fit their keys by the mark `F`, with counts of its calls.
 ///
-/// Clauses see the abstract cache and the counts. Whenever the lock is acquired, the type's
-/// invariant is that the cache is lawful (so its total is above the capacity only if nothing is
-/// idle), that the value of every ready entry fits its key, and that the counts add up to the
-/// entries and their charges. Each call counts its outcome, as `counted` of specs/CountedCalls.antt
-/// defines.
+/// Clauses see the abstract cache, the counts, and whether the limit is strict, which only
+/// `set_strict` changes: every other call that takes `&mut self` says that it stays the same.
+/// Whenever the lock is acquired, the type's invariant is that the cache is lawful (so its total is
+/// above the capacity only if nothing is idle), that the value of every ready entry fits its key,
+/// and that the counts add up to the entries and their charges. Each call counts its outcome, as
+/// `counted` of specs/CountedCalls.antt defines.
 ///
 /// It has no map by stamp. A debt holds the spot of its entry, the stamp with the hash of the key
 /// and the place, and a pinned entry stays at its place, so the call that settles a debt finds the
@@ -50,6 +51,8 @@ use std::sync::Arc;
 #[derive(Drop)]
 pub struct Locked<K: Hash + Eq + Clone, V, F: Fit<K, V>> {
     state: CountedState<K, V>,
+    // Whether begins and inserts are the core's strict ones.
+    strict: bool,
     mark: PhantomData<F>,
 }
 
@@ -61,20 +64,22 @@ impl<K: Hash + Eq + Clone, V, F: Fit<K, V>> Model for Locked<K, V, F> {
 
     ghost coded = { locked_cache_code K.code V.code };
 
-    ghost view = { λ a. a.state };
+    ghost view = { λ a. record { cache = a.state.cache; counts = a.state.counts; strict = a.strict } };
 
     ghost invariant = { λ a. IsSoundUnderLock K.eq F.fits a.state.cache };
 }
 
 impl<K: Hash + Eq + Clone + Drop, V: Drop, F: Fit<K, V>> Locked<K, V, F> {
-    /// Creates an empty cache. Takes no memory.
+    /// Creates an empty cache, whose limit is not strict. Takes no memory.
     pub fn new(alloc: Global, capacity: u64, seed: u64) -> Self
         requires copies { CopiesAreEqual K.is_clone K.eq }
         ensures empty { result.cache ≡ empty_cache capacity most_pins_by_default 0 }
         ensures counts { result.counts ≡ counts_from 0 0 }
+        ensures strict { result.strict ≡ false }
     {
         Locked {
             state: CountedState::without_stamp_map(alloc, capacity, seed),
+            strict: false,
             mark: PhantomData,
         }
     }
@@ -119,8 +124,61 @@ impl<K: Hash + Eq + Clone + Drop, V: Drop, F: Fit<K, V>> Locked<K, V, F> {
         ensures anew { self.new.counts ≡ counts_from (count_of self.old.cache)
             (sum_of self.old.cache) }
         ensures cache { self.new.cache ≡ self.old.cache }
+        ensures strict { self.new.strict ≡ self.old.strict }
     {
         self.state.reset_counts()
+    }
+
+    /// Sets whether the limit is strict.
+    pub fn set_strict(&mut self, strict: bool)
+        ensures strict { self.new.strict ≡ strict }
+        ensures cache { self.new.cache ≡ self.old.cache }
+        ensures counts { self.new.counts ≡ self.old.counts }
+    {
+        self.strict = strict;
+    }
+
+    /// Returns whether the limit is strict.
+    pub fn is_strict(&self) -> bool
+        ensures { result ≡ self.now.strict }
+    {
+        self.strict
+    }
+
+    /// `begin`, or `begin_strictly` if the limit is strict.
+    #[inline(always)]
+    pub fn enter(&mut self, key: &K, charge: u64) -> Result<Entered<K, V, F>, Refusal>
+        requires charged { 0 < charge }
+        ensures step { IsFalse self.old.strict → Stands K.eq self.old.cache
+            (ask.begin key.now charge) (outcome_of_locked_begin result) self.new.cache }
+        ensures strict_step { IsTrue self.old.strict → Stands K.eq self.old.cache
+            (ask.begin_strictly key.now charge) (outcome_of_locked_begin result) self.new.cache }
+        ensures asked { IfOk result (λ e. AsksOnEntry e key.now charge self.new) }
+        ensures hit { IfOk result (λ e. IfEntered e (F.fits key.now)) }
+        ensures never_stale { IfErr result (λ e. e ≢ Refusal.Stale) }
+        ensures strict { self.new.strict ≡ self.old.strict }
+    {
+        if self.strict {
+            return self.begin_strictly(key, charge);
+        }
+        self.begin(key, charge)
+    }
+
+    /// The core's `begin_strictly`. The value of a hit fits the key.
+    #[inline(never)]
+    pub fn begin_strictly(&mut self, key: &K, charge: u64) -> Result<Entered<K, V, F>, Refusal>
+        requires charged { 0 < charge }
+        ensures step { Stands K.eq self.old.cache (ask.begin_strictly key.now charge)
+            (outcome_of_locked_begin result) self.new.cache }
+        ensures counted { self.new.counts ≡ counted self.old.cache
+            (ask.begin_strictly key.now charge) (outcome_of_locked_begin result) self.old.counts }
+        ensures asked { IfOk result (λ e. AsksOnEntry e key.now charge self.new) }
+        ensures hit { IfOk result (λ e. IfEntered e (F.fits key.now)) }
+        ensures never_stale { IfErr result (λ e. e ≢ Refusal.Stale) }
+        ensures strict { self.new.strict ≡ self.old.strict }
+    {
+        self.state.admit_begin(key, charge)?;
+        self.begin(key, charge)
     }
 
     /// The core's `begin`. The value of a hit fits the key.
@@ -134,6 +192,7 @@ impl<K: Hash + Eq + Clone + Drop, V: Drop, F: Fit<K, V>> Locked<K, V, F> {
         ensures asked { IfOk result (λ e. AsksOnEntry e key.now charge self.new) }
         ensures hit { IfOk result (λ e. IfEntered e (F.fits key.now)) }
         ensures never_stale { IfErr result (λ e. e ≢ Refusal.Stale) }
+        ensures strict { self.new.strict ≡ self.old.strict }
     {
         let (begun, evicted, hint) = self.begin_core(key, charge)?;
         match begun {
@@ -169,6 +228,7 @@ impl<K: Hash + Eq + Clone + Drop, V: Drop, F: Fit<K, V>> Locked<K, V, F> {
             (outcome_of_begin (begun_without_hint result)) self.old.counts }
         ensures hit { IfOk result (λ r. IfHit r.0 (F.fits key.now)) }
         ensures never_stale { IfErr result (λ e. e ≢ Refusal.Stale) }
+        ensures strict { self.new.strict ≡ self.old.strict }
     {
         self.state.begin(key, charge)
     }
@@ -184,6 +244,7 @@ impl<K: Hash + Eq + Clone + Drop, V: Drop, F: Fit<K, V>> Locked<K, V, F> {
             (λ p. (p.key ≡ key.now) × (p.charge ≡ None))) }
         ensures hit { IfOk result (λ found. IfSome found (λ p. F.fits key.now p.value)) }
         ensures never_stale { IfErr result (λ e. e ≢ Refusal.Stale) }
+        ensures strict { self.new.strict ≡ self.old.strict }
     {
         match self.state.get(key)? {
             None => Ok(None),
@@ -206,6 +267,7 @@ impl<K: Hash + Eq + Clone + Drop, V: Drop, F: Fit<K, V>> Locked<K, V, F> {
         ensures fits { IfOk result (λ found. IfSome found
             (λ r. (v : V) × F.fits key.now v × FnOnceReturnsAt G.FnOnce reader v r.1)) }
         ensures refused { IfErr result (λ e. e ≡ Refusal.Overflow) }
+        ensures strict { self.new.strict ≡ self.old.strict }
     {
         self.state.read(key, reader)
     }
@@ -241,6 +303,7 @@ impl<K: Hash + Eq + Clone + Drop, V: Drop, F: Fit<K, V>> Locked<K, V, F> {
             → (result ≡ Polled.NoPin) × (self.new ≡ self.old) }
         ensures asked { AsksOnPoll result key.now woken.charge self.new }
         ensures hit { IfPolled result (F.fits key.now) }
+        ensures strict { self.new.strict ≡ self.old.strict }
     {
         let Woken {
             spot,
@@ -261,6 +324,7 @@ impl<K: Hash + Eq + Clone + Drop, V: Drop, F: Fit<K, V>> Locked<K, V, F> {
             → (result ≡ Polled.NoPin) × (self.new ≡ self.old) }
         ensures asked { AsksOnPoll result key.now charge self.new }
         ensures hit { IfPolled result (F.fits key.now) }
+        ensures strict { self.new.strict ≡ self.old.strict }
     {
         match self.poll_core(&spot, key) {
             Ok(Begun::Make(_)) => {
@@ -289,6 +353,7 @@ impl<K: Hash + Eq + Clone + Drop, V: Drop, F: Fit<K, V>> Locked<K, V, F> {
         ensures no_entry { (HasEqualKeyAt K.eq self.old.cache spot.now.stamp key.now → ⊥)
             → (result ≡ Err Refusal.Stale) × (self.new ≡ self.old) }
         ensures hit { IfOk result (λ b. IfHit b (F.fits key.now)) }
+        ensures strict { self.new.strict ≡ self.old.strict }
     {
         if !self.has_key(spot, key) {
             return Err(Refusal::Stale);
@@ -326,6 +391,7 @@ impl<K: Hash + Eq + Clone + Drop, V: Drop, F: Fit<K, V>> Locked<K, V, F> {
           value = arc_value stored;
         } }
         ensures quiet { IsFalse result.2 → HasNoOtherPin self.old.cache making.stamp }
+        ensures strict { self.new.strict ≡ self.old.strict }
     {
         let Making {
             spot,
@@ -355,6 +421,7 @@ impl<K: Hash + Eq + Clone + Drop, V: Drop, F: Fit<K, V>> Locked<K, V, F> {
         ensures no_entry { (HasEqualKeyAt K.eq self.old.cache making.stamp key.now → ⊥)
             → (result.0 ≡ Err Refusal.Stale) × (self.new ≡ self.old) }
         ensures quiet { IsFalse result.1 → HasNoOtherPin self.old.cache making.stamp }
+        ensures strict { self.new.strict ≡ self.old.strict }
     {
         let Making {
             spot,
@@ -382,6 +449,7 @@ impl<K: Hash + Eq + Clone + Drop, V: Drop, F: Fit<K, V>> Locked<K, V, F> {
         ensures counted { self.new.counts ≡ counted self.old.cache (ask.release pin.stamp)
             (outcome_of_release result.1) self.old.counts }
         ensures value { arc_value result.0 ≡ pin.value }
+        ensures strict { self.new.strict ≡ self.old.strict }
     {
         let HeldPin {
             spot,
@@ -411,12 +479,14 @@ impl<K: Hash + Eq + Clone + Drop, V: Drop, F: Fit<K, V>> Locked<K, V, F> {
             (outcome_of_locked_repin result) self.old.counts }
         ensures pin { IfOk result (λ r. r.0 ≡ pin.now) }
         ensures never_stale { IfErr result (λ e. e.0 ≢ Refusal.Stale) }
+        ensures strict { self.new.strict ≡ self.old.strict }
     {
         match self.state.repin(&pin.spot) {
             Ok(shared) => Ok((pin.again(read), Sealed::of(Ok(shared)))),
             Err(Refusal::Stale) => Ok((pin.again(read), Sealed::of(Err(Refusal::Stale)))),
             Err(Refusal::Overflow) => Err((Refusal::Overflow, Sealed::of(read))),
             Err(Refusal::Memory) => Err((Refusal::Memory, Sealed::of(read))),
+            Err(Refusal::Full) => Err((Refusal::Full, Sealed::of(read))),
         }
     }
 
@@ -428,6 +498,7 @@ impl<K: Hash + Eq + Clone + Drop, V: Drop, F: Fit<K, V>> Locked<K, V, F> {
             (outcome_of_release result) self.new.cache }
         ensures counted { self.new.counts ≡ counted self.old.cache
             (ask.release unread) (outcome_of_release result) self.old.counts }
+        ensures strict { self.new.strict ≡ self.old.strict }
     {
         let Unread { spot } = unread;
         Sealed::of(self.state.release(&spot))
@@ -439,6 +510,7 @@ impl<K: Hash + Eq + Clone + Drop, V: Drop, F: Fit<K, V>> Locked<K, V, F> {
             (outcome_of_evictions result) self.new.cache }
         ensures counted { self.new.counts ≡ counted self.old.cache (ask.advice_evict key.now)
             (outcome_of_evictions result) self.old.counts }
+        ensures strict { self.new.strict ≡ self.old.strict }
     {
         Sealed::of(self.state.advice_evict(key))
     }
@@ -449,8 +521,77 @@ impl<K: Hash + Eq + Clone + Drop, V: Drop, F: Fit<K, V>> Locked<K, V, F> {
             (outcome_of_evictions result) self.new.cache }
         ensures counted { self.new.counts ≡ counted self.old.cache (ask.invalidate key.now)
             (outcome_of_evictions result) self.old.counts }
+        ensures strict { self.new.strict ≡ self.old.strict }
     {
         Sealed::of(self.state.invalidate(key))
+    }
+
+    /// `insert`, or `insert_strictly` if the limit is strict.
+    pub fn put(
+        &mut self,
+        key: &K,
+        charge: u64,
+        stored: Arc<V>,
+        read: Arc<V>,
+    ) -> Result<
+        (HeldPin<K, V, F>, Sealed<(Evicted<K, V>, Evicted<K, V>)>),
+        (Refusal, Sealed<(Arc<V>, Arc<V>)>),
+    >
+        requires charged { 0 < charge }
+        requires fits { F.fits key.now (arc_value stored) }
+        requires same { arc_value read ≡ arc_value stored }
+        ensures step { IfOk result (λ r. Replaces K.eq self.old.cache key.now charge
+            (arc_value stored) r.0.stamp r.1.0 r.1.1 self.new.cache) }
+        ensures room { IsTrue self.old.strict → OnOk result (HasCapacityFor self.old.cache charge) }
+        ensures refused { IsFalse self.old.strict → IfErr result (λ e. RefusesToReplace K.eq
+            self.old.cache key.now charge e.0 self.new.cache) }
+        ensures refused_strictly { IsTrue self.old.strict → IfErr result
+            (λ e. RefusesToReplaceStrictly K.eq self.old.cache key.now charge e.0 self.new.cache) }
+        ensures pin { IfOk result (λ r. (r.0.key ≡ key.now) × (r.0.charge ≡ Some charge)
+            × (r.0.value ≡ arc_value stored)) }
+        ensures never_stale { IfErr result (λ e. e.0 ≢ Refusal.Stale) }
+        ensures strict { self.new.strict ≡ self.old.strict }
+    {
+        if self.strict {
+            return self.insert_strictly(key, charge, stored, read);
+        }
+        self.insert(key, charge, stored, read)
+    }
+
+    /// The core's `insert_strictly`, with pin and seals as `insert` has them.
+    ///
+    /// Returns `Full`, `Overflow` and `Memory` as there: then no entry changes, and both `Arc`s are
+    /// sealed.
+    pub fn insert_strictly(
+        &mut self,
+        key: &K,
+        charge: u64,
+        stored: Arc<V>,
+        read: Arc<V>,
+    ) -> Result<
+        (HeldPin<K, V, F>, Sealed<(Evicted<K, V>, Evicted<K, V>)>),
+        (Refusal, Sealed<(Arc<V>, Arc<V>)>),
+    >
+        requires charged { 0 < charge }
+        requires fits { F.fits key.now (arc_value stored) }
+        requires same { arc_value read ≡ arc_value stored }
+        ensures step { IfOk result (λ r. Replaces K.eq self.old.cache key.now charge
+            (arc_value stored) r.0.stamp r.1.0 r.1.1 self.new.cache) }
+        ensures room { OnOk result (HasCapacityFor self.old.cache charge) }
+        ensures refused { IfErr result (λ e. RefusesToReplaceStrictly K.eq self.old.cache key.now
+            charge e.0 self.new.cache) }
+        ensures inserted { IfOk result (λ r. self.new.counts
+            ≡ replaced r.1.0 r.1.1 charge self.old.counts) }
+        ensures counts { OnErr result (self.new.counts ≡ one_refusal self.old.counts) }
+        ensures pin { IfOk result (λ r. (r.0.key ≡ key.now) × (r.0.charge ≡ Some charge)
+            × (r.0.value ≡ arc_value stored)) }
+        ensures never_stale { IfErr result (λ e. e.0 ≢ Refusal.Stale) }
+        ensures strict { self.new.strict ≡ self.old.strict }
+    {
+        if let Err(refusal) = self.state.admit_insert(charge) {
+            return Err((refusal, Sealed::of((stored, read))));
+        }
+        self.insert(key, charge, stored, read)
     }
 
     /// The core's `insert`: the new entry of the key gets `stored`, and the pin holds `read`,
@@ -480,6 +621,7 @@ impl<K: Hash + Eq + Clone + Drop, V: Drop, F: Fit<K, V>> Locked<K, V, F> {
         ensures pin { IfOk result (λ r. (r.0.key ≡ key.now) × (r.0.charge ≡ Some charge)
             × (r.0.value ≡ arc_value stored)) }
         ensures never_stale { IfErr result (λ e. e.0 ≢ Refusal.Stale) }
+        ensures strict { self.new.strict ≡ self.old.strict }
     {
         let (inserted, hint) = match self.state.insert(key, charge, stored) {
             Ok(inserted) => inserted,
@@ -500,6 +642,7 @@ impl<K: Hash + Eq + Clone + Drop, V: Drop, F: Fit<K, V>> Locked<K, V, F> {
             self.new.cache }
         ensures counted { self.new.counts ≡ counted self.old.cache ask.prune
             (outcome_of_evictions result) self.old.counts }
+        ensures strict { self.new.strict ≡ self.old.strict }
     {
         Sealed::of(self.state.prune())
     }
@@ -510,6 +653,7 @@ impl<K: Hash + Eq + Clone + Drop, V: Drop, F: Fit<K, V>> Locked<K, V, F> {
             (outcome_of_evictions result) self.new.cache }
         ensures counted { self.new.counts ≡ counted self.old.cache (ask.set_capacity capacity)
             (outcome_of_evictions result) self.old.counts }
+        ensures strict { self.new.strict ≡ self.old.strict }
     {
         Sealed::of(self.state.set_capacity(capacity))
     }

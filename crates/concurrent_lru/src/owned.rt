@@ -131,8 +131,9 @@ impl<K: Hash + Eq + Clone + Drop, V: Drop, R: Wait + Drop, F: Fit<K, V>> LruCach
 
     /// `get_or_init_by`, with a handle that borrows nothing and keeps the cache alive.
     ///
-    /// Returns `Memory` and `Overflow` as `get_or_init_by` does, and `Memory` also if a copy of the
-    /// `Arc` is refused; then `init` is dropped without being called, and nothing is pinned.
+    /// Returns `Memory`, `Overflow` and `Full` as `get_or_init_by` does, and `Memory` also if a
+    /// copy of the `Arc` is refused; then `init` is dropped without being called, and nothing is
+    /// pinned.
     pub fn get_or_init_owned<I>(
         this: &Arc<LruCache<K, V, R, F>>,
         key: &K,
@@ -156,9 +157,9 @@ impl<K: Hash + Eq + Clone + Drop, V: Drop, R: Wait + Drop, F: Fit<K, V>> LruCach
 
     /// `get_or_try_init_by`, with a handle that borrows nothing and keeps the cache alive.
     ///
-    /// Returns `Init`, `Memory` and `Overflow` as `get_or_try_init_by` does, and `Memory` also if a
-    /// copy of the `Arc` is refused; then `init` is dropped without being called, and nothing is
-    /// pinned.
+    /// Returns `Init`, `Memory`, `Overflow` and `Full` as `get_or_try_init_by` does, and `Memory`
+    /// also if a copy of the `Arc` is refused; then `init` is dropped without being called, and
+    /// nothing is pinned.
     pub fn get_or_try_init_owned<E, I>(
         this: &Arc<LruCache<K, V, R, F>>,
         key: &K,

@@ -14,19 +14,24 @@ pub enum Refusal {
     Overflow,
     /// No entry with this stamp is in the phase that the call needs.
     Stale,
+    /// The charge of a new entry would take the total above the capacity, even after every idle
+    /// entry has left. Only strict calls are refused in this way.
+    Full,
 }
 
 impl Refusal {
-    /// Returns the code of the refusal, for programs that have only numbers: 1, 2 or 3.
+    /// Returns the code of the refusal, for programs that have only numbers: 1, 2, 3 or 5.
     pub fn code(&self) -> u8
         ensures memory { self.now ≡ Refusal.Memory → result ≡ 1 }
         ensures overflow { self.now ≡ Refusal.Overflow → result ≡ 2 }
         ensures stale { self.now ≡ Refusal.Stale → result ≡ 3 }
+        ensures full { self.now ≡ Refusal.Full → result ≡ 5 }
     {
         match self {
             Refusal::Memory => 1,
             Refusal::Overflow => 2,
             Refusal::Stale => 3,
+            Refusal::Full => 5,
         }
     }
 }
@@ -45,6 +50,7 @@ impl fmt::Display for Refusal {
             Refusal::Memory => f.pad("no memory"),
             Refusal::Overflow => f.pad("a number is at its end"),
             Refusal::Stale => f.pad("the stamp fits no entry"),
+            Refusal::Full => f.pad("the cache is full of held entries"),
         }
     }
 }

@@ -130,6 +130,23 @@ impl<K: Hash + Eq + Clone + Drop, V: Drop, R: Wait, S: BuildHasher, F: Fit<K, V>
         }
     }
 
+    /// Calls `set_strict_limit` of each shard, one after another.
+    pub fn set_strict_limit(&self, strict: bool) {
+        for shard in &self.shards {
+            shard.set_strict_limit(strict);
+        }
+    }
+
+    /// Returns whether the limit of every shard is strict, read one after another.
+    pub fn is_limit_strict(&self) -> bool {
+        for shard in &self.shards {
+            if !shard.is_limit_strict() {
+                return false;
+            }
+        }
+        true
+    }
+
     /// Returns the sum of the shards' capacities, read one after another.
     pub fn capacity(&self) -> u128 {
         let mut capacity = 0;
@@ -164,6 +181,17 @@ impl<K: Hash + Eq + Clone + Drop, V: Drop, R: Wait, S: BuildHasher, F: Fit<K, V>
             len = len.saturating_add(shard.len());
         }
         len
+    }
+
+    /// Calls `f` with each entry, as `LruCache::for_each` does, one shard after another.
+    pub fn for_each<G>(&self, f: &mut G)
+    where
+        G: FnMut(&K, &V, u64, u32),
+        requires callable { G.IsAlwaysCallable f.old }
+    {
+        for shard in &self.shards {
+            shard.for_each_by(f);
+        }
     }
 
     /// Returns the sum of the shards' counts, read one after another.

@@ -188,8 +188,8 @@ impl<K: Hash + Eq + Clone + Drop, V: Drop, R: Wait, S: BuildHasher, F: Fit<K, V>
     /// maker has failed. Waits while another caller makes it. `get_or_try_init_by` takes the key by
     /// reference.
     ///
-    /// Charges, evictions, the call of `init` and the errors `Init`, `Overflow` and `Memory` are
-    /// those of `unsharded::LruCache`, within the key's shard.
+    /// Charges, evictions, the call of `init` and the errors `Init`, `Overflow`, `Full` and
+    /// `Memory` are those of `unsharded::LruCache`, within the key's shard.
     #[inline(always)]
     pub fn get_or_try_init<E, I>(
         &self,
@@ -214,7 +214,7 @@ impl<K: Hash + Eq + Clone + Drop, V: Drop, R: Wait, S: BuildHasher, F: Fit<K, V>
     /// `get_or_try_init` with the key by reference. The key is copied only if there is no entry and
     /// one is inserted.
     ///
-    /// Returns `Init`, `Memory` and `Overflow` as `get_or_try_init` does.
+    /// Returns `Init`, `Memory`, `Overflow` and `Full` as `get_or_try_init` does.
     pub fn get_or_try_init_by<E, I>(
         &self,
         key: &K,
@@ -238,7 +238,7 @@ impl<K: Hash + Eq + Clone + Drop, V: Drop, R: Wait, S: BuildHasher, F: Fit<K, V>
     /// `get_or_try_init` with an `init` that cannot fail. `get_or_init_by` takes the key by
     /// reference.
     ///
-    /// Returns `Memory` and `Overflow` as `get_or_try_init` does.
+    /// Returns `Memory`, `Overflow` and `Full` as `get_or_try_init` does.
     #[inline(always)]
     pub fn get_or_init<I>(
         &self,
@@ -261,7 +261,7 @@ impl<K: Hash + Eq + Clone + Drop, V: Drop, R: Wait, S: BuildHasher, F: Fit<K, V>
 
     /// `get_or_try_init_by` with an `init` that cannot fail.
     ///
-    /// Returns `Memory` and `Overflow` as `get_or_try_init` does.
+    /// Returns `Memory`, `Overflow` and `Full` as `get_or_try_init` does.
     pub fn get_or_init_by<I>(
         &self,
         key: &K,
@@ -303,7 +303,8 @@ impl<K: Hash + Eq + Clone + Drop, V: Drop, R: Wait, S: BuildHasher, F: Fit<K, V>
     /// Inserts a value into the key's shard, replacing what the key has, and returns its handle, as
     /// `unsharded::LruCache` does: it invalidates the key and inserts the new entry in one step.
     ///
-    /// Returns `Overflow` and `Memory` as there: then no entry changed, and the value is dropped.
+    /// Returns `Overflow`, `Full` and `Memory` as there: then no entry changed, and the value is
+    /// dropped.
     pub fn insert(
         &self,
         key: &K,
@@ -331,6 +332,19 @@ impl<K: Hash + Eq + Clone + Drop, V: Drop, R: Wait, S: BuildHasher, F: Fit<K, V>
     /// so the call is not atomic. Each shard then evicts down to its share. Takes no memory.
     pub fn set_capacity(&self, capacity: u64) {
         self.routes.set_capacity(capacity);
+    }
+
+    /// Sets whether the capacity of each shard is a strict limit, as the unsharded cache's
+    /// `set_strict_limit` does, one shard after another, so the call is not atomic. The limit of a
+    /// new entry is then that of its key's shard. Takes no memory.
+    pub fn set_strict_limit(&self, strict: bool) {
+        self.routes.set_strict_limit(strict);
+    }
+
+    /// Returns whether the capacity of every shard is a strict limit, read one after another, so it
+    /// is no snapshot. Takes no memory.
+    pub fn is_limit_strict(&self) -> bool {
+        self.routes.is_limit_strict()
     }
 
     /// Returns the sum of the shards' capacities, read one after another. Each share is rounded up,
@@ -362,6 +376,21 @@ impl<K: Hash + Eq + Clone + Drop, V: Drop, R: Wait, S: BuildHasher, F: Fit<K, V>
     /// memory.
     pub fn is_empty(&self) -> bool {
         self.len() == 0
+    }
+
+    /// Calls `f` with the key, the value, the charge and the number of pins of each entry that its
+    /// key finds and that has a value, in an unspecified order, as the unsharded cache's `for_each`
+    /// does. Takes no memory.
+    ///
+    /// The shards are visited one after another, each under its lock, so the entries need not all
+    /// have been there at any one moment. `f` should be short, and must not use this cache, since
+    /// such a call could deadlock.
+    pub fn for_each<G>(&self, mut f: G)
+    where
+        G: FnMut(&K, &V, u64, u32) + Drop,
+        requires callable { G.IsAlwaysCallable f }
+    {
+        self.routes.for_each(&mut f);
     }
 
     /// Returns the sum of the shards' counts, read one after another. It is no snapshot, so the

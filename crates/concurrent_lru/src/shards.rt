@@ -1,13 +1,14 @@
 //! Caches in shards for a single owner, each for the keys that are routed to it.
 //!
 //! A step changes only the shard that its key has, or that it names.
-ghost use Rattle.std.specs.Prelude.{◌≡◌, ◌+◌, ◌-◌, ◌/◌, ◌%◌, ◌<◌, ◌^◌, ◌↔◌, length, replicate, map, sum_by, IfOk, IfErr, IfSome, IsTrue, IsFalse, OnErr};
+ghost use Rattle.std.specs.Prelude.{◌≡◌, ◌+◌, ◌-◌, ◌/◌, ◌%◌, ◌<◌, ◌≤◌, ◌^◌, ◌↔◌, length, replicate, map, sum_by, IfOk, IfErr, IfSome, IsTrue, IsFalse, OnErr};
 ghost use Rattle.std.specs.Arc.{arc_value};
 ghost use Rattle.std.specs.Fn.{FnOnceReturnsAt, FnOnceTakesAt};
 ghost use Rattle.std.specs.List.{AllByRecursion, AllZip};
 ghost use Rattle.concurrent_lru.specs.Cache.{count_of, empty_cache, most_pins_by_default, pinned_of, CopiesAreEqual};
 ghost use Rattle.concurrent_lru.specs.Parts.{EachTakes, StandsAt, RunsApart};
 ghost use Rattle.concurrent_lru.specs.Reads.{FindsAt, ReadsAt};
+ghost use Rattle.concurrent_lru.specs.ReadyEntries.{ListsReadyAt};
 ghost use Rattle.concurrent_lru.specs.Request as ask;
 ghost use Rattle.concurrent_lru.specs.Results.{IsCharged, outcome_of_evictions, outcome_of_fail, outcome_of, outcome_of_poll, outcome_of_ready, outcome_of_release, outcome_of_repin, request_of};
 ghost use Rattle.concurrent_lru.specs.Runs.{refused};
@@ -15,7 +16,7 @@ ghost use Rattle.concurrent_lru.specs.declared.refusal.Refusal.TheVariants.{Stal
 ghost use Rattle.concurrent_lru.specs.Sharded.{AreLawful, HasReadyKeyAt, IsUnreadyAt, key_number, key_shard};
 ghost use Rattle.concurrent_lru.specs.ShardSteps.{request_at_shard, outcome_of_shard_begin, outcome_of_shard_insert, outcome_of_shard_get, outcome_of_shard_evictions, shard_of_step, step_at_shard, outcome_at_shard, outcome_of_shard_total, IsShardAnswerTo, TellsNoShard};
 
-use crate::lru_core::{Answer, Begun, Evicted, Failed, Inserted, Refusal, State, Step};
+use crate::lru_core::{Answer, Begun, Entries, Evicted, Failed, Inserted, Refusal, State, Step};
 use crate::table::seed_of_shard;
 use std::alloc::Global;
 use std::fmt;
@@ -64,6 +65,8 @@ pub(crate) fn choose_shard<K: Hash, S: BuildHasher>(hasher: &S, key: &K, shards:
 pub enum ShardStep<K, V> {
     /// `begin` with a key and a charge.
     Begin(K, u64),
+    /// `begin_strictly` with a key and a charge.
+    BeginStrictly(K, u64),
     /// `get` with a key.
     Get(K),
     /// `advice_evict` with a key.
@@ -72,6 +75,8 @@ pub enum ShardStep<K, V> {
     Invalidate(K),
     /// `insert` with a key, a charge and a value.
     Insert(K, u64, Arc<V>),
+    /// `insert_strictly` with a key, a charge and a value.
+    InsertStrictly(K, u64, Arc<V>),
     /// `read` with a key. The value that it finds is shared, as by `get`.
     Read(K),
     /// `poll` at a shard with a stamp.
@@ -191,6 +196,28 @@ impl<K: Hash + Eq + Clone, V: Drop, S: BuildHasher + Drop> Shards<K, V, S> {
         Ok((shard, begun, evicted))
     }
 
+    /// `begin_strictly` in the key's shard, which is returned first. The limit is that shard's
+    /// capacity, and the total that of the shard.
+    ///
+    /// Returns `Full`, `Overflow` and `Memory` as `State::begin_strictly` does.
+    pub fn begin_strictly(
+        &mut self,
+        key: &K,
+        charge: u64,
+    ) -> Result<(usize, Begun<V>, Evicted<K, V>), Refusal>
+        requires { 0 < charge }
+        ensures shard { IfOk result (λ r. r.0 ≡ key_shard S.BuildHasher S.Hasher.Hasher K.hash_input
+            self.old key.now) }
+        ensures step { StandsAt K.eq self.old
+            (key_shard S.BuildHasher S.Hasher.Hasher K.hash_input self.old key.now)
+            (ask.begin_strictly key.now charge) (outcome_of_shard_begin result) self.new }
+        ensures lawful { AreLawful K.eq self.new }
+    {
+        let shard = self.route(key);
+        let (begun, evicted) = self.shards[shard].begin_strictly(key, charge)?;
+        Ok((shard, begun, evicted))
+    }
+
     /// `get` in the key's shard, which is returned before the stamp.
     ///
     /// Returns `Overflow` and `Memory` as `State::get` does.
@@ -268,6 +295,31 @@ impl<K: Hash + Eq + Clone, V: Drop, S: BuildHasher + Drop> Shards<K, V, S> {
     {
         let shard = self.route(key);
         let inserted = self.shards[shard].insert(key, charge, value)?;
+        Ok((shard, inserted))
+    }
+
+    /// `insert_strictly` in the key's shard, which is returned first. The limit is that shard's
+    /// capacity, and the total that of the shard.
+    ///
+    /// Returns `Full`, `Overflow` and `Memory` as `State::insert_strictly` does, with the value.
+    pub fn insert_strictly(
+        &mut self,
+        key: &K,
+        charge: u64,
+        value: Arc<V>,
+    ) -> Result<(usize, Inserted<K, V>), (Refusal, Arc<V>)>
+        requires { 0 < charge }
+        ensures shard { IfOk result (λ r. r.0 ≡ key_shard S.BuildHasher S.Hasher.Hasher K.hash_input
+            self.old key.now) }
+        ensures step { StandsAt K.eq self.old
+            (key_shard S.BuildHasher S.Hasher.Hasher K.hash_input self.old key.now)
+            (ask.insert_strictly key.now charge (arc_value value)) (outcome_of_shard_insert result)
+            self.new }
+        ensures back { IfErr result (λ e. e.1 ≡ value) }
+        ensures lawful { AreLawful K.eq self.new }
+    {
+        let shard = self.route(key);
+        let inserted = self.shards[shard].insert_strictly(key, charge, value)?;
         Ok((shard, inserted))
     }
 
@@ -461,6 +513,22 @@ impl<K: Hash + Eq + Clone, V: Drop, S: BuildHasher + Drop> Shards<K, V, S> {
         self.shards[shard].contains(key)
     }
 
+    /// Returns an iterator over the entries of a shard that have a value, as `State::entries` does.
+    /// For the entries of all shards, take one shard after another, from 0 on, until there is no
+    /// such shard. Takes no memory.
+    ///
+    /// Returns `Stale` if there is no such shard.
+    pub fn entries_shard(&self, shard: usize) -> Result<Entries<'_, K, V>, Refusal>
+        ensures entries { IfOk result (ListsReadyAt self.now shard) }
+        ensures stale { IfErr result (λ e. (e ≡ Refusal.Stale)
+            × (length self.now.caches ≤ shard)) }
+    {
+        match self.shards.get(shard) {
+            Some(cache) => Ok(cache.entries()),
+            None => Err(Refusal::Stale),
+        }
+    }
+
     // Returns the shard of a step, and the step that it takes.
     fn address(&self, step: ShardStep<K, V>) -> (usize, Step<K, V>)
         ensures shard { result.0 ≡ shard_of_step
@@ -469,11 +537,17 @@ impl<K: Hash + Eq + Clone, V: Drop, S: BuildHasher + Drop> Shards<K, V, S> {
     {
         match step {
             ShardStep::Begin(key, charge) => (self.route(&key), Step::Begin(key, charge)),
+            ShardStep::BeginStrictly(key, charge) => {
+                (self.route(&key), Step::BeginStrictly(key, charge))
+            }
             ShardStep::Get(key) => (self.route(&key), Step::Get(key)),
             ShardStep::AdviceEvict(key) => (self.route(&key), Step::AdviceEvict(key)),
             ShardStep::Invalidate(key) => (self.route(&key), Step::Invalidate(key)),
             ShardStep::Insert(key, charge, value) => {
                 (self.route(&key), Step::Insert(key, charge, value))
+            }
+            ShardStep::InsertStrictly(key, charge, value) => {
+                (self.route(&key), Step::InsertStrictly(key, charge, value))
             }
             ShardStep::Read(key) => (self.route(&key), Step::Read(key)),
             ShardStep::Poll(shard, stamp) => (shard, Step::Poll(stamp)),
@@ -549,6 +623,7 @@ fn tell_no_shard<K: Drop, V: Drop>(step: Step<K, V>) -> Answer<K, V>
     match step {
         Step::Ready(_, value) => Answer::Back(value),
         Step::Insert(_, _, value) => Answer::NotInserted(Refusal::Stale, value),
+        Step::InsertStrictly(_, _, value) => Answer::NotInserted(Refusal::Stale, value),
         _ => Answer::Refused(Refusal::Stale),
     }
 }

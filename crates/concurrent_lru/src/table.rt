@@ -19,6 +19,7 @@ mod key_hashes;
 mod removals;
 mod spot;
 mod stamp_index;
+mod walk;
 mod word_hasher;
 
 pub use self::key_hashes::{KeyHash, seed_of_shard};

@@ -151,8 +151,9 @@ impl<K: Hash + Eq + Clone + Drop, V: Drop, R: Wait, F: Fit<K, V>> LruCache<K, V,
     /// are refused: then the entry is removed, or left to a caller that waits for it, and what was
     /// evicted stays evicted. Returns `Overflow` if the charge of a new entry would take the total
     /// past `u64::MAX`, if there are no stamps left, or if the entry has the maximum number of
-    /// pins; and `Memory` if a new entry or the copy of the value is refused: then no entry
-    /// changed, except that a call that waited has released its pin.
+    /// pins; `Full` if the limit is strict (`set_strict_limit`) and leaves no room for a new entry;
+    /// and `Memory` if a new entry or the copy of the value is refused: then no entry changed,
+    /// except that a call that waited has released its pin.
     #[inline(always)]
     pub fn get_or_try_init<E, I>(
         &self,
@@ -177,7 +178,7 @@ impl<K: Hash + Eq + Clone + Drop, V: Drop, R: Wait, F: Fit<K, V>> LruCache<K, V,
     /// `get_or_try_init` with the key by reference. The key is copied only if there is no entry and
     /// one is inserted.
     ///
-    /// Returns `Init`, `Memory` and `Overflow` as `get_or_try_init` does.
+    /// Returns `Init`, `Memory`, `Overflow` and `Full` as `get_or_try_init` does.
     pub fn get_or_try_init_by<E, I>(
         &self,
         key: &K,
@@ -214,7 +215,7 @@ impl<K: Hash + Eq + Clone + Drop, V: Drop, R: Wait, F: Fit<K, V>> LruCache<K, V,
     /// `get_or_try_init` with an `init` that cannot fail. `get_or_init_by` takes the key by
     /// reference.
     ///
-    /// Returns `Memory` and `Overflow` as `get_or_try_init` does.
+    /// Returns `Memory`, `Overflow` and `Full` as `get_or_try_init` does.
     #[inline(always)]
     pub fn get_or_init<I>(
         &self,
@@ -237,7 +238,7 @@ impl<K: Hash + Eq + Clone + Drop, V: Drop, R: Wait, F: Fit<K, V>> LruCache<K, V,
 
     /// `get_or_try_init_by` with an `init` that cannot fail.
     ///
-    /// Returns `Memory` and `Overflow` as `get_or_try_init` does.
+    /// Returns `Memory`, `Overflow` and `Full` as `get_or_try_init` does.
     pub fn get_or_init_by<I>(
         &self,
         key: &K,
@@ -294,9 +295,10 @@ impl<K: Hash + Eq + Clone + Drop, V: Drop, R: Wait, F: Fit<K, V>> LruCache<K, V,
     /// callers that wait for its value get that value. Never waits for a maker.
     ///
     /// Returns `Overflow` if the charge would take the total past `u64::MAX`, not counting an idle
-    /// entry of the key, or if there are no stamps left; and `Memory` if a new entry or the shared
-    /// copies of the value are refused. Then no entry changed, the key keeps what it had, and the
-    /// value is dropped without the lock.
+    /// entry of the key, or if there are no stamps left; `Full` if the limit is strict
+    /// (`set_strict_limit`) and leaves no room for the new entry; and `Memory` if a new entry or
+    /// the shared copies of the value are refused. Then no entry changed, the key keeps what it
+    /// had, and the value is dropped without the lock.
     pub fn insert(
         &self,
         key: &K,
@@ -333,6 +335,24 @@ impl<K: Hash + Eq + Clone + Drop, V: Drop, R: Wait, F: Fit<K, V>> LruCache<K, V,
         guard.state().capacity()
     }
 
+    /// Sets whether the capacity is a strict limit, which it is not in a new cache. Takes no
+    /// memory.
+    ///
+    /// Held entries stay and count, so a new entry may take the total above the capacity. While the
+    /// limit is strict, `get_or_init` and the calls named after it, and `insert` and
+    /// `insert_owned`, return `Full` instead, if the charge of a new entry exceeds the capacity
+    /// together with the charges of the held entries. Then nothing changes and nothing is evicted.
+    /// A call that finds an entry adds no charge, and is never refused in this way. A total that is
+    /// above the capacity when the limit becomes strict only falls until it is no longer.
+    pub fn set_strict_limit(&self, strict: bool) {
+        self.door.set_strict(strict);
+    }
+
+    /// Returns whether the capacity is a strict limit. Takes no memory.
+    pub fn is_limit_strict(&self) -> bool {
+        self.door.is_strict()
+    }
+
     /// Returns the sum of the charges of all entries, including those still being made and those
     /// held after an `invalidate`. Takes no memory.
     pub fn total_charge(&self) -> u64 {
@@ -365,6 +385,33 @@ impl<K: Hash + Eq + Clone + Drop, V: Drop, R: Wait, F: Fit<K, V>> LruCache<K, V,
     pub fn contains(&self, key: &K) -> bool {
         let guard = self.door.lock();
         guard.state().contains(key)
+    }
+
+    /// Calls `f` with the key, the value, the charge and the number of pins of each entry that its
+    /// key finds and that has a value, in an unspecified order. An idle entry has no pins. Entries
+    /// that are still being made or were invalidated are left out. Pins nothing, and leaves the
+    /// order of eviction as it is. Takes no memory.
+    ///
+    /// The lock is held from the first call of `f` to the last, for a time proportional to the
+    /// greatest number of entries that the cache ever had at one time. So `f` sees the entries of
+    /// one moment. It should be short, and must not use this cache, since such a call would
+    /// deadlock.
+    pub fn for_each<G>(&self, mut f: G)
+    where
+        G: FnMut(&K, &V, u64, u32) + Drop,
+        requires callable { G.IsAlwaysCallable f }
+    {
+        self.for_each_by(&mut f);
+    }
+
+    // Does the same by reference, for a caller that goes over several caches.
+    pub(crate) fn for_each_by<G>(&self, f: &mut G)
+    where
+        G: FnMut(&K, &V, u64, u32),
+        requires callable { G.IsAlwaysCallable f.old }
+        ensures callable { G.IsAlwaysCallable f.new }
+    {
+        self.door.for_each(f);
     }
 
     /// Returns the counts of this cache's calls since it was created or last reset. They are read

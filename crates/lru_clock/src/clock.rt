@@ -523,6 +523,7 @@ fn error_of<E>(refusal: Refusal) -> GetError<E>
     match refusal {
         Refusal::Memory => GetError::Memory,
         Refusal::Overflow => GetError::Overflow,
+        Refusal::Full => GetError::Full,
         Refusal::Stale => unreachable!(),
     }
 }

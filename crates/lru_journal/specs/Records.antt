@@ -14,6 +14,7 @@ module _ {K : Type 0} where
   -- a recorded step as a request
   abbrev pub request_of_recorded : Recorded K → Request K (Unit {0})
   request_of_recorded (step.Begin k c) = ask.begin k c
+  request_of_recorded (step.BeginStrictly k c) = ask.begin_strictly k c
   request_of_recorded (step.Poll s) = ask.poll s
   request_of_recorded (step.Ready s) = ask.ready s tt
   request_of_recorded (step.Fail s) = ask.fail s
@@ -24,6 +25,7 @@ module _ {K : Type 0} where
   request_of_recorded (step.AdviceEvict k) = ask.advice_evict k
   request_of_recorded (step.Invalidate k) = ask.invalidate k
   request_of_recorded (step.Insert k c) = ask.insert k c tt
+  request_of_recorded (step.InsertStrictly k c) = ask.insert_strictly k c tt
   request_of_recorded (step.Read k) = ask.read k
   request_of_recorded step.Prune = ask.prune
   request_of_recorded (step.SetCapacity c) = ask.set_capacity c

@@ -94,6 +94,30 @@ impl<K: Hash + Eq + Clone + Send + Sync, V: Drop + Send + Sync, R: Wait + Drop, 
         Ok(Started::of(begun))
     }
 
+    /// Asks for the value of a key as `begin` does, but inserts no entry that would take the total
+    /// above the capacity.
+    ///
+    /// Returns `Full` and `Overflow` as `Journal::begin_strictly` does.
+    pub fn begin_strictly(
+        &self,
+        tally: &mut Tally<K, I>,
+        key: &K,
+        charge: u64,
+    ) -> Result<Started<V>, Refusal>
+        requires { 0 < charge }
+        ensures tallied { IsTallied tally.old
+            (λ started. IsOfCopy K.eq key.now
+            (λ copy. record_of (ask.begin_strictly copy charge) (told_of_started started))) result
+            tally.new }
+        ensures parts { tally.new.parts ≡ tally.old.parts }
+        ensures never_stale { IfErr result (λ e. e ≢ Refusal.Stale) }
+    {
+        let call = calls::BeginStrictly { key, charge };
+        let (begun, evicted) = self.door.lock().call(tally, call)?;
+        drop(evicted);
+        Ok(Started::of(begun))
+    }
+
     /// Asks again for a value that was being made, by the stamp that `begin` returned.
     ///
     /// Returns `Stale` if no held entry has the stamp.
@@ -301,6 +325,35 @@ impl<K: Hash + Eq + Clone + Send + Sync, V: Drop + Send + Sync, R: Wait + Drop, 
         let call = calls::Insert { key, charge, value };
         let inserted = self.door.lock().call(tally, call)?;
         Ok(Pin::new(inserted.stamp, own))
+    }
+
+    /// Inserts a value as `insert` does, but not if its charge would take the total above the
+    /// capacity. A refusal returns the value, and the key keeps what it has.
+    ///
+    /// Returns `Full` and `Overflow` as `Journal::insert_strictly` does, and `Memory` also if the
+    /// allocator refuses the new entry or a second owner of the value.
+    pub fn insert_strictly(
+        &self,
+        tally: &mut Tally<K, I>,
+        key: &K,
+        charge: u64,
+        value: Arc<V>,
+    ) -> Result<Pin<V>, (Refusal, Arc<V>)>
+        requires { 0 < charge }
+        ensures tallied { IsTallied tally.old
+            (λ pin. IsOfCopy K.eq key.now (λ copy. record_of (ask.insert_strictly copy charge tt)
+            (Told.Inserted pin.stamp))) result tally.new }
+        ensures parts { tally.new.parts ≡ tally.old.parts }
+        ensures value { IfOk result (λ pin. pin.value ≡ arc_value value) }
+        ensures never_stale { IfErr result (λ e. e.0 ≢ Refusal.Stale) }
+        ensures back { IfErr result (λ e. arc_value e.1 ≡ arc_value value) }
+    {
+        let Ok(read) = value.clone() else {
+            return Err((Refusal::Memory, value));
+        };
+        let call = calls::InsertStrictly { key, charge, value };
+        let inserted = self.door.lock().call(tally, call)?;
+        Ok(Pin::new(inserted.stamp, read))
     }
 
     /// Evicts every idle entry.

@@ -106,6 +106,7 @@ impl<R: Wait + Clone + Drop> Session<R> {
             Err(GetError::Init(NotMade::Asked)) => Ok(Answer::Failed),
             Err(GetError::Init(NotMade::Memory) | GetError::Memory) => Err(Refusal::Memory),
             Err(GetError::Overflow) => Err(Refusal::Overflow),
+            Err(GetError::Full) => Err(Refusal::Full),
         }
     }
 

@@ -120,7 +120,9 @@ impl From<Refusal> for Trouble {
     fn from(refusal: Refusal) -> Trouble {
         match refusal {
             Refusal::Memory => Trouble::Refused,
-            Refusal::Overflow | Refusal::Stale => Trouble::Failed(Check::TwinAnswers),
+            Refusal::Overflow | Refusal::Stale | Refusal::Full => {
+                Trouble::Failed(Check::TwinAnswers)
+            }
         }
     }
 }

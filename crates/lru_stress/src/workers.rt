@@ -50,6 +50,7 @@ impl From<GetError<Unmade>> for Unmade {
             GetError::Init(unmade) => unmade,
             GetError::Memory => Unmade::Refused(Refusal::Memory),
             GetError::Overflow => Unmade::Refused(Refusal::Overflow),
+            GetError::Full => Unmade::Refused(Refusal::Full),
         }
     }
 }

@@ -16,6 +16,8 @@ use std::test::Fail;
 pub enum Call<K = u64> {
     /// `begin` with a key and a charge, which is above 0.
     Begin(K, u64),
+    /// `begin_strictly` with a key and a charge, which is above 0.
+    BeginStrictly(K, u64),
     /// `poll` with a stamp.
     Poll(u64),
     /// `ready` with a stamp and a value.
@@ -38,6 +40,8 @@ pub enum Call<K = u64> {
     Invalidate(K),
     /// `insert` with a key, a charge, which is above 0, and a value.
     Insert(K, u64, u64),
+    /// `insert_strictly` with a key, a charge, which is above 0, and a value.
+    InsertStrictly(K, u64, u64),
     /// `prune`.
     Prune,
     /// `set_capacity` with a capacity.
@@ -59,11 +63,13 @@ impl<K: Copy> Call<K> {
     pub fn key(self) -> Option<K> {
         match self {
             Call::Begin(key, _)
+            | Call::BeginStrictly(key, _)
             | Call::Get(key)
             | Call::Read(key)
             | Call::AdviceEvict(key)
             | Call::Invalidate(key)
-            | Call::Insert(key, ..) => Some(key),
+            | Call::Insert(key, ..)
+            | Call::InsertStrictly(key, ..) => Some(key),
             _ => None,
         }
     }
@@ -114,9 +120,16 @@ impl Answers<Call> for State<u64, u64> {
     fn answer(&mut self, alloc: Global, call: Call) -> Result<String, AllocError> {
         match call {
             Call::Begin(key, charge) if charge > 0 => text_of(alloc, &self.begin(&key, charge)),
+            Call::BeginStrictly(key, charge) if charge > 0 => {
+                text_of(alloc, &self.begin_strictly(&key, charge))
+            }
             Call::Insert(key, charge, value) if charge > 0 => {
                 let value = Arc::new(alloc, value)?;
                 text_of(alloc, &self.insert(&key, charge, value))
+            }
+            Call::InsertStrictly(key, charge, value) if charge > 0 => {
+                let value = Arc::new(alloc, value)?;
+                text_of(alloc, &self.insert_strictly(&key, charge, value))
             }
             Call::Poll(stamp) => text_of(alloc, &self.poll(stamp)),
             Call::Ready(stamp, value) => {
@@ -156,7 +169,8 @@ where
         Call::Capacity => text_of(alloc, &state.capacity()),
         Call::Reserve(entries) => text_of(alloc, &state.reserve(entries)),
         Call::Show => text_of(alloc, state),
-        Call::Begin(..) | Call::Insert(..) => String::from_str(alloc, "a charge is above 0"),
+        Call::Begin(..) | Call::BeginStrictly(..) | Call::Insert(..) | Call::InsertStrictly(..) =>
+            String::from_str(alloc, "a charge is above 0"),
         Call::Poll(_)
         | Call::Ready(..)
         | Call::Fail(_)

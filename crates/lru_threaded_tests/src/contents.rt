@@ -20,6 +20,24 @@ pub(crate) trait Contents: CountingCached<u64> {
 
     /// `pinned_charge`.
     fn pinned_charge(self) -> u128;
+
+    /// `for_each`, whose closure counts the entries, and adds up what it is told of each.
+    fn sums(self) -> Sums;
+}
+
+/// How many entries `for_each` shows, and the sums of their keys, values, charges and pins.
+pub(crate) type Sums = [u64; 5];
+
+// The sums with one more entry.
+fn with_one_more(sums: Sums, key: u64, value: u64, charge: u64, pins: u32) -> Sums {
+    let [entries, keys, values, charges, all_pins] = sums;
+    [
+        entries.saturating_add(1),
+        keys.saturating_add(key),
+        values.saturating_add(value),
+        charges.saturating_add(charge),
+        all_pins.saturating_add(u64::from(pins)),
+    ]
 }
 
 impl<'a, R: Wait> Contents for &'a unsharded::LruCache<u64, u64, R> {
@@ -34,6 +52,14 @@ impl<'a, R: Wait> Contents for &'a unsharded::LruCache<u64, u64, R> {
     fn pinned_charge(self) -> u128 {
         u128::from(unsharded::LruCache::pinned_charge(self))
     }
+
+    fn sums(self) -> Sums {
+        let mut sums = [0; 5];
+        self.for_each(|key, value, charge, pins| {
+            sums = with_one_more(sums, *key, *value, charge, pins);
+        });
+        sums
+    }
 }
 
 impl<'a, R: Wait, S: BuildHasher> Contents for &'a sharded::LruCache<u64, u64, R, S> {
@@ -47,6 +73,14 @@ impl<'a, R: Wait, S: BuildHasher> Contents for &'a sharded::LruCache<u64, u64, R
 
     fn pinned_charge(self) -> u128 {
         sharded::LruCache::pinned_charge(self)
+    }
+
+    fn sums(self) -> Sums {
+        let mut sums = [0; 5];
+        self.for_each(|key, value, charge, pins| {
+            sums = with_one_more(sums, *key, *value, charge, pins);
+        });
+        sums
     }
 }
 
@@ -110,3 +144,31 @@ pub(crate) fn looks_for_the_oldest<R: Abort, C: Contents>(
     make_each(rt, cache, &[third]);
     (found, counts_nothing, keys.map(|key| cache.contains(key)))
 }
+
+/// Holds the key 20 twice and the key 300 once, while the key 1 is idle, and invalidates the key
+/// 300. Each key has itself as its charge and its tenfold as its value. Returns what `for_each`
+/// shows of the empty cache, after each of these, and after all handles are dropped.
+pub(crate) fn walks<R: Abort, C: Contents>(rt: &R, cache: C) -> [Sums; 6] {
+    let none = cache.sums();
+    drop(make(rt, cache, 1, 1, 10));
+    let idle = cache.sums();
+    let held = (make(rt, cache, 20, 20, 200), cache.get(20));
+    let twice = cache.sums();
+    let detached = make(rt, cache, 300, 300, 3_000);
+    let three = cache.sums();
+    cache.invalidate(300);
+    let found = cache.sums();
+    drop(held);
+    drop(detached);
+    [none, idle, twice, three, found, cache.sums()]
+}
+
+/// What `walks` returns.
+pub(crate) const WALKS: [Sums; 6] = [
+    [0, 0, 0, 0, 0],
+    [1, 1, 10, 1, 0],
+    [2, 21, 210, 21, 2],
+    [3, 321, 3_210, 321, 3],
+    [2, 21, 210, 21, 2],
+    [2, 21, 210, 21, 0],
+];

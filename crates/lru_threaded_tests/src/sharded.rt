@@ -21,5 +21,7 @@ mod reads;
 mod runs;
 mod seeded;
 mod shares;
+mod strict;
 mod threaded;
+mod walks;
 mod workers;

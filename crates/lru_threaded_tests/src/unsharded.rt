@@ -20,5 +20,7 @@ mod pool;
 mod reads;
 mod rows;
 mod seeded;
+mod strict;
 mod waiting;
+mod walks;
 mod workers;

@@ -14,7 +14,7 @@ use Rattle.concurrent_lru.specs.declared.step.Begun.{Begun}
 use Rattle.concurrent_lru.specs.declared.step.Begun.TheVariants as begun
 use Rattle.concurrent_lru.specs.Cache.{Cache, Idle, Held, Settles, IsLawful, charges, count_of, sum_of, empty_cache, most_pins_by_default, ready, making, untaken}
 use Rattle.concurrent_lru.specs.CountedCalls.{AddUp, IsSoundlyCounted, counted, counted_begin, counted_look, counted_poll, counted_repin, evicted, held_charge, is_insertion}
-use Rattle.concurrent_lru.specs.Counts.{counts_from, end_of_u64, inserted, one_failure, one_more, one_making, one_miss, removed}
+use Rattle.concurrent_lru.specs.Counts.{counts_from, end_of_u64, inserted, one_failure, one_more, one_making, one_miss, one_refusal, removed}
 use Rattle.concurrent_lru.specs.Reads.{Reads}
 use Rattle.concurrent_lru.specs.Request as ask
 use Rattle.concurrent_lru.specs.Request.{Request}
@@ -24,10 +24,11 @@ use Rattle.concurrent_lru.specs.Runs.{Outcome, accepted, refused, Stands}
 use Rattle.concurrent_lru.specs.Steps.{Renews, Stores, Step, with_capacity}
 use Rattle.concurrent_lru.specs.declared.counts.Counts.{Counts}
 use Rattle.concurrent_lru.specs.declared.refusal.Refusal.{Refusal}
-use Rattle.concurrent_lru.specs.declared.refusal.Refusal.TheVariants.{Memory, Overflow, Stale}
+use Rattle.concurrent_lru.specs.declared.refusal.Refusal.TheVariants.{Memory, Overflow, Stale, Full}
 use Rattle.concurrent_lru.specs.declared.table.spot.Hint.{Hint}
 use Rattle.concurrent_lru.proofs.AddedUp.SizesOfSteps.{Resizes, KeepsSize, Evicts, same_size, settled_size, joined_size, left_size, phase_size, hit_size, made_size, removed_size, rested_size, ended_size, released_and_evicted_size, repinned_size, detached_size, dropped_size, stayed_size, pruned_size, evicts_none}
 use Rattle.concurrent_lru.proofs.Steps.EmptyCache.{no_entries, empty_sum, empty_lawful}
+use Rattle.concurrent_lru.proofs.Steps.CasesOfSteps.{loose_begin}
 use Rattle.concurrent_lru.proofs.Steps.StaysLawful.{invalidates_lawful}
 
 module _ {K V : Type 0} where
@@ -144,10 +145,12 @@ module _ {K V : Type 0} where
 
   refusal_adds_up : (old : Cache K V) (n : Counts) (r : Request K V) (e : Refusal) → AddUp old n → AddUp old (counted old r (refused e) n)
   refusal_adds_up old n (ask.begin k charge) e a = with_others old n n.hits n.misses n.waits (one_more n.refusals) n.makings n.failures a
+  refusal_adds_up old n (ask.begin_strictly k charge) e a = with_others old n n.hits n.misses n.waits (one_more n.refusals) n.makings n.failures a
   refusal_adds_up old n (ask.get k) e a = with_others old n n.hits n.misses n.waits (one_more n.refusals) n.makings n.failures a
   refusal_adds_up old n (ask.poll s) Memory a = with_others old n n.hits n.misses n.waits (one_more n.refusals) n.makings n.failures a
   refusal_adds_up old n (ask.poll s) Overflow a = a
   refusal_adds_up old n (ask.poll s) Stale a = a
+  refusal_adds_up old n (ask.poll s) Full a = a
   refusal_adds_up old n (ask.ready s v) e a = a
   refusal_adds_up old n (ask.fail s) e a = a
   refusal_adds_up old n (ask.release s) e a = a
@@ -155,13 +158,19 @@ module _ {K V : Type 0} where
   refusal_adds_up old n (ask.repin s) Memory a = with_others old n n.hits n.misses n.waits (one_more n.refusals) n.makings n.failures a
   refusal_adds_up old n (ask.repin s) Overflow a = with_others old n n.hits n.misses n.waits (one_more n.refusals) n.makings n.failures a
   refusal_adds_up old n (ask.repin s) Stale a = a
+  refusal_adds_up old n (ask.repin s) Full a = a
   refusal_adds_up old n (ask.advice_evict k) e a = a
   refusal_adds_up old n (ask.invalidate k) e a = a
   refusal_adds_up old n (ask.insert k charge v) e a = with_others old n n.hits n.misses n.waits (one_more n.refusals) n.makings n.failures a
+  refusal_adds_up old n (ask.insert_strictly k charge v) e a = with_others old n n.hits n.misses n.waits (one_more n.refusals) n.makings n.failures a
   refusal_adds_up old n (ask.read k) e a = with_others old n n.hits n.misses n.waits (one_more n.refusals) n.makings n.failures a
   refusal_adds_up old n ask.prune e a = a
   refusal_adds_up old n (ask.set_capacity m) e a = a
   refusal_adds_up old n ask.total e a = a
+
+  -- one more refusal is counted
+  pub refused_adds_up : (c : Cache K V) (n m : Counts) → AddUp c n → m ≡ one_refusal n → AddUp c m
+  refused_adds_up c n m a is = subst (AddUp c) (sym is) (with_others c n n.hits n.misses n.waits (one_more n.refusals) n.makings n.failures a)
 
   module _ {E : K → K → Bool} where
     pub inserts : (old new : Cache K V) (k : K) (charge s : ℕ) (out : List (Idle K V)) → IsLawful E old → Step E old (ask.begin k charge) (say.make s) out new → s ≡ old.next → Inserts old charge s out new
@@ -222,7 +231,7 @@ module _ {K V : Type 0} where
     quiet_release_size old new s (inr (inl h)) = rested_size old new s [] h
     quiet_release_size old new s (inr (inr h)) = ended_size old new s [] h
 
-    renewed_size : (old new : Cache K V) (k : K) (s : ℕ) (v : V) (out : List (Idle K V)) → IsLawful E old → Renews E old k s v out new → KeepsSize old new
+    pub renewed_size : (old new : Cache K V) (k : K) (s : ℕ) (v : V) (out : List (Idle K V)) → IsLawful E old → Renews E old k s v out new → KeepsSize old new
     renewed_size old new k s v out l h =
         let a = hit_size old h.mid k s v [] l h.found in
         let b = quiet_release_size h.mid new s h.released in
@@ -240,16 +249,27 @@ module _ {K V : Type 0} where
         subst (λ g. Owes new (one_failure n) 1 g) (sym (ap (λ e. option_map_or (λ x. x.charge) e 0) h.holds.at))
         (owed old new (one_failure n) 1 h.entry.charge (with_others old n n.hits n.misses n.waits n.refusals n.makings (one_more n.failures) a) (removed_size old new s k out h))
 
-    step_adds_up : (old new : Cache K V) (n : Counts) (r : Request K V) (p : Reply K V) (out : List (Idle K V)) → IsLawful E old → AddUp old n → Step E old r p out new → AddUp new (counted old r (accepted p out) n)
-    step_adds_up old new n (ask.begin k charge) (say.make s) out l a h =
+    make_adds_up : (old new : Cache K V) (n : Counts) (k : K) (charge s : ℕ) (out : List (Idle K V)) → IsLawful E old → AddUp old n → Step E old (ask.begin k charge) (say.make s) out new → AddUp new (counted old (ask.begin k charge) (accepted (say.make s) out) n)
+    make_adds_up old new n k charge s out l a h =
         elim (s == old.next) as (λ b. (s == old.next) ≡ b → AddUp new (cond b (evicted out (inserted charge (one_making (one_miss n)))) (one_making (one_miss n)))) [
           | true ↦ λ b.
               let i = inserts old new k charge s out l h (eqb-true s old.next b) in
               evictions_add_up new (inserted charge (one_making (one_miss n))) out (owed_for_new old new (one_making (one_miss n)) charge (length out) (charges out) (with_others old n n.hits (one_more n.misses) n.waits n.refusals (one_more n.makings) n.failures a) i.sizes i.charge_fits i.stamps)
           | false ↦ λ b. with_others new n n.hits (one_more n.misses) n.waits n.refusals (one_more n.makings) n.failures (kept_adds_up old new n a (takes_over old new k charge s out l h (λ is. true≢false (sym (eq-eqb s old.next is) ∙ b))))
         ] refl
+
+    insert_adds_up : (old new : Cache K V) (n : Counts) (k : K) (charge : ℕ) (v : V) (s : ℕ) (out : List (Idle K V)) → IsLawful E old → AddUp old n → Step E old (ask.insert k charge v) (say.inserted s) out new → AddUp new (evicted out (inserted charge n))
+    insert_adds_up old new n k charge v s out l a h =
+        let i = stored_size old new k charge v s out l h in
+        evictions_add_up new (inserted charge n) out (owed_for_new old new n charge (length out) (charges out) a i.sizes i.charge_fits i.stamps)
+
+    step_adds_up : (old new : Cache K V) (n : Counts) (r : Request K V) (p : Reply K V) (out : List (Idle K V)) → IsLawful E old → AddUp old n → Step E old r p out new → AddUp new (counted old r (accepted p out) n)
+    step_adds_up old new n (ask.begin k charge) (say.make s) out l a h = make_adds_up old new n k charge s out l a h
     step_adds_up old new n (ask.begin k charge) (say.wait s) out l a h = with_others new n n.hits n.misses (one_more n.waits) n.refusals n.makings n.failures (kept_adds_up old new n a (joined_size old new k s making making out h))
     step_adds_up old new n (ask.begin k charge) (say.hit s v) out l a h = with_others new n (one_more n.hits) n.misses n.waits n.refusals n.makings n.failures (kept_adds_up old new n a (hit_size old new k s v out l h))
+    step_adds_up old new n (ask.begin_strictly k charge) (say.make s) out l a h = make_adds_up old new n k charge s out l a (loose_begin E old k charge (say.make s) out new h)
+    step_adds_up old new n (ask.begin_strictly k charge) (say.wait s) out l a h = with_others new n n.hits n.misses (one_more n.waits) n.refusals n.makings n.failures (kept_adds_up old new n a (joined_size old new k s making making out h))
+    step_adds_up old new n (ask.begin_strictly k charge) (say.hit s v) out l a h = with_others new n (one_more n.hits) n.misses n.waits n.refusals n.makings n.failures (kept_adds_up old new n a (hit_size old new k s v out l h))
     step_adds_up old new n (ask.poll s) (say.wait t) out l a h = kept_adds_up old new n a (phase_size old new s making making out h.1)
     step_adds_up old new n (ask.poll s) (say.make t) out l a h = with_others new n n.hits n.misses n.waits n.refusals (one_more n.makings) n.failures (kept_adds_up old new n a (phase_size old new s untaken making out h.1))
     step_adds_up old new n (ask.poll s) (say.hit t v) out l a h = kept_adds_up old new n a (phase_size old new s (ready v) (ready v) out h.1)
@@ -263,9 +283,8 @@ module _ {K V : Type 0} where
     step_adds_up old new n (ask.repin s) (say.pinned v) out l a h = kept_adds_up old new n a (repinned_size old new s v out l h)
     step_adds_up old new n (ask.advice_evict k) say.done out l a h = evicting_adds_up old new n out a (advice_evicts old new k out l h)
     step_adds_up old new n (ask.invalidate k) say.done out l a h = evicting_adds_up old new n out a (invalidate_evicts old new k out l h)
-    step_adds_up old new n (ask.insert k charge v) (say.inserted s) out l a h =
-        let i = stored_size old new k charge v s out l h in
-        evictions_add_up new (inserted charge n) out (owed_for_new old new n charge (length out) (charges out) a i.sizes i.charge_fits i.stamps)
+    step_adds_up old new n (ask.insert k charge v) (say.inserted s) out l a h = insert_adds_up old new n k charge v s out l a h
+    step_adds_up old new n (ask.insert_strictly k charge v) (say.inserted s) out l a h = insert_adds_up old new n k charge v s out l a h.1
     step_adds_up old new n (ask.read k) (say.read s v) out l a h = with_others new n (one_more n.hits) n.misses n.waits n.refusals n.makings n.failures (kept_adds_up old new n a (renewed_size old new k s v out l h))
     step_adds_up old new n (ask.read k) say.missed out l a h = with_others new n n.hits (one_more n.misses) n.waits n.refusals n.makings n.failures (kept_adds_up old new n a (same_size old new h.1.same))
     step_adds_up old new n ask.prune say.done out l a h = evicting_adds_up old new n out a (pruned_size old new out h.0 h.1)
@@ -349,12 +368,29 @@ module _ {K V : Type 0} where
   poll_counted c s (Err Memory) n = refl
   poll_counted c s (Err Overflow) n = refl
   poll_counted c s (Err Stale) n = refl
+  poll_counted c s (Err Full) n = refl
+
+  -- a strict begin is counted as one that is not strict
+  pub strictly_counted : (c : Cache K V) (k : K) (charge : ℕ) (o : Outcome K V) (n : Counts) → counted c (ask.begin_strictly k charge) o n ≡ counted c (ask.begin k charge) o n
+  strictly_counted c k charge (accepted (say.make s) out) n = refl
+  strictly_counted c k charge (accepted (say.wait s) out) n = refl
+  strictly_counted c k charge (accepted (say.hit s v) out) n = refl
+  strictly_counted c k charge (accepted say.done out) n = refl
+  strictly_counted c k charge (accepted say.left out) n = refl
+  strictly_counted c k charge (accepted (say.removed l) out) n = refl
+  strictly_counted c k charge (accepted say.missed out) n = refl
+  strictly_counted c k charge (accepted (say.sum m) out) n = refl
+  strictly_counted c k charge (accepted (say.inserted s) out) n = refl
+  strictly_counted c k charge (accepted (say.read s v) out) n = refl
+  strictly_counted c k charge (accepted (say.pinned v) out) n = refl
+  strictly_counted c k charge (refused e) n = refl
 
   pub repin_counted : (c : Cache K V) (s : ℕ) (r : Result (Arc V Global) Refusal) (n : Counts) → counted_repin r n ≡ counted c (ask.repin s) (outcome_of_repin r) n
   repin_counted c s (Ok a) n = refl
   repin_counted c s (Err Memory) n = refl
   repin_counted c s (Err Overflow) n = refl
   repin_counted c s (Err Stale) n = refl
+  repin_counted c s (Err Full) n = refl
 
   pub begin_counted : (c : Cache K V) (k : K) (charge : ℕ) (r : Result (Begun (Arc V Global) × List (Idle K V)) Refusal) (n : Counts) → is_insertion r c.next ≡ false → counted_begin r n ≡ counted c (ask.begin k charge) (outcome_of_begin r) n
   begin_counted c k charge (Ok (begun.Make s, out)) n not = sym (ap (λ b. cond b (evicted out (inserted charge (one_making (one_miss n)))) (one_making (one_miss n))) not)

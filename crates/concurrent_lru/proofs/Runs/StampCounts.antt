@@ -361,6 +361,12 @@ module _ {K V : Type 0} (E : K → K → Bool) where
   ]
   step_moves old new (ask.begin k c) (say.wait s) out i j = inl (same_stamp_count old new s j.entry (held_in_phase making (one_more_pin j.entry)) out j.holds.at j.changed j.none)
   step_moves old new (ask.begin k c) (say.hit s v) out i h = inl (hits_moves old new k s v out i h)
+  step_moves old new (ask.begin_strictly k c) (say.make s) out i h = elim h [
+    | inl m ↦ inr (makes_moves old new k c s out i m.1)
+    | inr j ↦ inl (same_stamp_count old new s j.entry (held_in_phase making (one_more_pin j.entry)) out j.holds.at j.changed j.none)
+  ]
+  step_moves old new (ask.begin_strictly k c) (say.wait s) out i j = inl (same_stamp_count old new s j.entry (held_in_phase making (one_more_pin j.entry)) out j.holds.at j.changed j.none)
+  step_moves old new (ask.begin_strictly k c) (say.hit s v) out i h = inl (hits_moves old new k s v out i h)
   step_moves old new (ask.poll s) (say.wait t) out i h = inl (same_stamp_count old new s h.1.entry (held_in_phase making h.1.entry) out h.1.holds.at h.1.changed h.1.none)
   step_moves old new (ask.poll s) (say.make t) out i h = inl (same_stamp_count old new s h.1.entry (held_in_phase making h.1.entry) out h.1.holds.at h.1.changed h.1.none)
   step_moves old new (ask.poll s) (say.hit t v) out i h = inl (same_stamp_count old new s h.1.entry (held_in_phase (ready v) h.1.entry) out h.1.holds.at h.1.changed h.1.none)
@@ -378,6 +384,7 @@ module _ {K V : Type 0} (E : K → K → Bool) where
   ]
   step_moves old new (ask.invalidate k) say.done out i h = inl (invalidates_moves old new k out i h)
   step_moves old new (ask.insert k c v) (say.inserted s) out i h = inr (stores_moves old new k c s v out i h)
+  step_moves old new (ask.insert_strictly k c v) (say.inserted s) out i h = inr (stores_moves old new k c s v out i h.1)
   step_moves old new (ask.read k) (say.read s v) out i h = inl (renews_moves old new k s v out i h)
   step_moves old new (ask.read k) say.missed out i h = inl (stays_moves old new out h.1)
   step_moves old new ask.prune say.done out i h = inl (prunes_moves old new out h.0 h.1)

@@ -5,13 +5,14 @@ use Rattle.std.specs.Prelude.{nat_lt}
 use Rattle.std.proofs.lemmas.Bool.{eqb-true, cases_lt, lt-ltb, le-ltb}
 use Rattle.std.proofs.lemmas.List.Sums.{sum_by-cons}
 use Rattle.concurrent_lru.specs.Cache.{Cache, Idle, Held, IsLawful, held_at, idle_at}
-use Rattle.concurrent_lru.specs.Steps.{Hits, Releases, ReleasesAndEvicts, Repins, Renews, Step}
+use Rattle.concurrent_lru.specs.Steps.{Hits, Releases, ReleasesAndEvicts, Repins, Renews, Stores, Step}
 use Rattle.concurrent_lru.specs.Request as ask
 use Rattle.concurrent_lru.specs.Request.{Request}
 use Rattle.concurrent_lru.specs.Reply as say
 use Rattle.concurrent_lru.specs.Reply.{Reply}
 use Rattle.concurrent_lru.specs.Runs.{Outcome, accepted, refused, Run}
 use Rattle.concurrent_lru.specs.StampCounts.{one_if, one_if_some, stamp_count_in_list, stamp_count_in_cache, stamps_given, AreNumbersUpTo}
+use Rattle.concurrent_lru.proofs.Steps.CasesOfSteps.{loose_begin}
 use Rattle.concurrent_lru.proofs.Runs.StampCounts.{IsStamped, invalidates_moves, run_stamp_count}
 
 module _ {K V : Type 0} where
@@ -101,19 +102,30 @@ module _ {K V : Type 0} (E : K → K → Bool) where
   renews_next : (old new : Cache K V) (k : K) (s : ℕ) (v : V) (out : List (Idle K V)) → Renews E old k s v out new → new.next ≡ old.next
   renews_next old new k s v out h = releases_next h.mid new s [] h.released ∙ hits_next old h.mid k s v [] h.found
 
+  -- a begin that makes a new entry, or takes over a making that failed; an insert
+  make_given : (old mid : Cache K V) (k : K) (c s : ℕ) (out : List (Idle K V)) (es : List (Request K V × Outcome K V)) (n : ℕ) → IsStamped old → Step E old (ask.begin k c) (say.make s) out mid → Told es n mid.next → Told ((ask.begin k c, accepted (say.make s) out) ∷ es) n old.next
+  make_given old mid k c s out es n i (inl m) t =
+      let low : nat_lt s old.next ≡ false = le-ltb s old.next (omega (arith, m.stamp)) in
+      let up : mid.next ≡ s + 1 = ap (λ z. z.next) m.settles.others ∙ ap (λ z. z + 1) (sym m.stamp) in
+      subst (λ b. AreNumbersUpTo old.next (cond b (stamps_given old.next es) (s ∷ stamps_given (s + 1) es)) n) (sym low) (m.stamp, subst (λ z. AreNumbersUpTo (z + 1) (stamps_given (s + 1) es) n) m.stamp (subst (Told es n) up t))
+  make_given old mid k c s out es n i (inr j) t =
+      let one : one_if_some (held_at old s) ≡ 1 = ap one_if_some j.holds.at in
+      let low : s < old.next = elim (cases_lt s old.next) [ inl l ↦ l | inr l ↦ let z : stamp_count_in_cache old s ≡ 0 = i.fresh s l in absurd (omega (arith, z, one)) ] in
+      subst (λ b. AreNumbersUpTo old.next (cond b (stamps_given old.next es) (s ∷ stamps_given (s + 1) es)) n) (sym (lt-ltb s old.next low)) (subst (Told es n) (ap (λ z. z.next) j.changed) t)
+
+  stores_given : (old mid : Cache K V) (k : K) (c : ℕ) (v : V) (s : ℕ) (out : List (Idle K V)) (es : List (Request K V × Outcome K V)) (n : ℕ) → IsStamped old → Stores E old k c v s out mid → Told es n mid.next → Told ((ask.insert k c v, accepted (say.inserted s) out) ∷ es) n old.next
+  stores_given old mid k c v s out es n i h t =
+      let is : s ≡ old.next = h.begun.stamp ∙ (invalidates_moves E old h.mid k h.replaced i h.invalidated).0 in
+      let up : mid.next ≡ s + 1 = ap (λ z. z.next) h.given.changed ∙ ap (λ z. z.next) h.begun.settles.others ∙ ap (λ z. z + 1) (sym h.begun.stamp) in
+      (is, subst (λ z. AreNumbersUpTo (z + 1) (stamps_given (s + 1) es) n) is (subst (Told es n) up t))
+
   step_given : (old mid : Cache K V) (r : Request K V) (y : Reply K V) (out : List (Idle K V)) (es : List (Request K V × Outcome K V)) (n : ℕ) → IsStamped old → Step E old r y out mid → Told es n mid.next → Told ((r, accepted y out) ∷ es) n old.next
-  step_given old mid (ask.begin k c) (say.make s) out es n i h t = elim h [
-    | inl m ↦
-        let low : nat_lt s old.next ≡ false = le-ltb s old.next (omega (arith, m.stamp)) in
-        let up : mid.next ≡ s + 1 = ap (λ z. z.next) m.settles.others ∙ ap (λ z. z + 1) (sym m.stamp) in
-        subst (λ b. AreNumbersUpTo old.next (cond b (stamps_given old.next es) (s ∷ stamps_given (s + 1) es)) n) (sym low) (m.stamp, subst (λ z. AreNumbersUpTo (z + 1) (stamps_given (s + 1) es) n) m.stamp (subst (Told es n) up t))
-    | inr j ↦
-        let one : one_if_some (held_at old s) ≡ 1 = ap one_if_some j.holds.at in
-        let low : s < old.next = elim (cases_lt s old.next) [ inl l ↦ l | inr l ↦ let z : stamp_count_in_cache old s ≡ 0 = i.fresh s l in absurd (omega (arith, z, one)) ] in
-        subst (λ b. AreNumbersUpTo old.next (cond b (stamps_given old.next es) (s ∷ stamps_given (s + 1) es)) n) (sym (lt-ltb s old.next low)) (subst (Told es n) (ap (λ z. z.next) j.changed) t)
-  ]
+  step_given old mid (ask.begin k c) (say.make s) out es n i h t = make_given old mid k c s out es n i h t
   step_given old mid (ask.begin k c) (say.wait s) out es n i j t = subst (Told es n) (ap (λ z. z.next) j.changed) t
   step_given old mid (ask.begin k c) (say.hit s v) out es n i h t = subst (Told es n) (hits_next old mid k s v out h) t
+  step_given old mid (ask.begin_strictly k c) (say.make s) out es n i h t = make_given old mid k c s out es n i (loose_begin E old k c (say.make s) out mid h) t
+  step_given old mid (ask.begin_strictly k c) (say.wait s) out es n i j t = subst (Told es n) (ap (λ z. z.next) j.changed) t
+  step_given old mid (ask.begin_strictly k c) (say.hit s v) out es n i h t = subst (Told es n) (hits_next old mid k s v out h) t
   step_given old mid (ask.poll s) (say.wait u) out es n i h t = subst (Told es n) (ap (λ z. z.next) h.1.changed) t
   step_given old mid (ask.poll s) (say.make u) out es n i h t = subst (Told es n) (ap (λ z. z.next) h.1.changed) t
   step_given old mid (ask.poll s) (say.hit u v) out es n i h t = subst (Told es n) (ap (λ z. z.next) h.1.changed) t
@@ -136,10 +148,8 @@ module _ {K V : Type 0} (E : K → K → Bool) where
       | inr s ↦ subst (Told es n) (ap (λ z. z.next) s.1.same) t
     ]
   ]
-  step_given old mid (ask.insert k c v) (say.inserted s) out es n i h t =
-      let is : s ≡ old.next = h.begun.stamp ∙ (invalidates_moves E old h.mid k h.replaced i h.invalidated).0 in
-      let up : mid.next ≡ s + 1 = ap (λ z. z.next) h.given.changed ∙ ap (λ z. z.next) h.begun.settles.others ∙ ap (λ z. z + 1) (sym h.begun.stamp) in
-      (is, subst (λ z. AreNumbersUpTo (z + 1) (stamps_given (s + 1) es) n) is (subst (Told es n) up t))
+  step_given old mid (ask.insert k c v) (say.inserted s) out es n i h t = stores_given old mid k c v s out es n i h t
+  step_given old mid (ask.insert_strictly k c v) (say.inserted s) out es n i h t = stores_given old mid k c v s out es n i h.1 t
   step_given old mid (ask.read k) (say.read s v) out es n i h t = subst (Told es n) (renews_next old mid k s v out h) t
   step_given old mid (ask.read k) say.missed out es n i h t = subst (Told es n) (ap (λ z. z.next) h.1.same) t
   step_given old mid ask.prune say.done out es n i h t = subst (Told es n) (ap (λ z. z.next) h.1) t
@@ -152,4 +162,5 @@ module _ {K V : Type 0} (E : K → K → Bool) where
   run_given old new ((r, accepted y out) ∷ es) i h =
       step_given old h.0 r y out es new.next i h.1 (run_given h.0 new es (run_stamp_count E old h.0 ((r, accepted y out) ∷ []) i (h.0, h.1, refl)).0 h.2)
   run_given old new ((ask.begin k c, refused f) ∷ es) i h = run_given old new es i (subst (λ c. Run E c (map (λ e. e.0) es) (map (λ e. e.1) es) new) h.1.1 h.2)
+  run_given old new ((ask.begin_strictly k c, refused f) ∷ es) i h = run_given old new es i (subst (λ c. Run E c (map (λ e. e.0) es) (map (λ e. e.1) es) new) h.1.1 h.2)
   run_given old new ((_, refused f) ∷ es) i h = run_given old new es i (subst (λ c. Run E c (map (λ e. e.0) es) (map (λ e. e.1) es) new) h.1.1 h.2)

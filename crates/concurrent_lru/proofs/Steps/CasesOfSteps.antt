@@ -1,6 +1,6 @@
 -- The cases of a step, request by request, with the reply of each.
 use Rattle.std.proofs.Common.{◌≡◌, ℕ, ◌⊎◌, inl, inr, Bool, List, [], refl}
-use Rattle.concurrent_lru.specs.Cache.{Cache, Idle, Phase, making, untaken, ready, sum_of, Settles}
+use Rattle.concurrent_lru.specs.Cache.{Cache, Idle, Phase, making, untaken, ready, sum_of, Settles, HasCapacityFor}
 use Rattle.concurrent_lru.specs.Request as ask
 use Rattle.concurrent_lru.specs.Reply as say
 use Rattle.concurrent_lru.specs.Reply.{Reply}
@@ -30,6 +30,18 @@ module _ {K V : Type 0} (E : K → K → Bool) (old : Cache K V) where
   begin_cases k charge (say.hit s v) out new (inl h) = inr (inl (s, ready v, refl, h))
   begin_cases k charge (say.hit s v) out new (inr h) = inr (inr (s, v, refl, h))
   begin_cases k charge p out new h = absurd h
+
+  -- a strict begin or insert does what one that is not strict does
+  pub loose_begin : (k : K) (charge : ℕ) (p : Reply K V) (out : List (Idle K V)) (new : Cache K V) → Step E old (ask.begin_strictly k charge) p out new → Step E old (ask.begin k charge) p out new
+  loose_begin k charge (say.make s) out new (inl h) = inl h.1
+  loose_begin k charge (say.make s) out new (inr h) = inr h
+  loose_begin k charge (say.wait s) out new h = h
+  loose_begin k charge (say.hit s v) out new h = h
+  loose_begin k charge p out new h = absurd h
+
+  pub loose_insert : (k : K) (charge : ℕ) (v : V) (p : Reply K V) (out : List (Idle K V)) (new : Cache K V) → Step E old (ask.insert_strictly k charge v) p out new → HasCapacityFor old charge × Step E old (ask.insert k charge v) p out new
+  loose_insert k charge v (say.inserted s) out new h = h
+  loose_insert k charge v p out new h = absurd h
 
   pub poll_cases : (s : ℕ) (p : Reply K V) (out : List (Idle K V)) (new : Cache K V) → Step E old (ask.poll s) p out new → (q : Phase V) × (p ≡ reply_in_phase q s) × ChangesPhase E old s q (phase_after_asking q) out new
   poll_cases s (say.make t) out new h = (untaken, λ i. say.make (h.0 i), h.1)

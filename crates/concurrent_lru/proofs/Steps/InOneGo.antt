@@ -4,9 +4,9 @@ use Rattle.std.proofs.Common.{◌≡◌, ℕ, ◌+◌, ◌<◌, ◌≤◌, inl, 
 use Rattle.std.specs.Cmp.{IsEquivalence}
 use Rattle.std.proofs.lemmas.Bool.{cases_lt, true≢false}
 use Rattle.std.proofs.lemmas.Option.{none-some}
-use Rattle.concurrent_lru.specs.Cache.{Cache, Idle, Held, ready, sum_of, held_at, idle_at, IsLawful, Settles}
+use Rattle.concurrent_lru.specs.Cache.{Cache, Idle, Held, ready, sum_of, held_at, idle_at, IsLawful, Settles, HasCapacityFor}
 use Rattle.concurrent_lru.specs.Counted.{Counted, WritesAtMostOneMore}
-use Rattle.concurrent_lru.specs.Inserts.{Inserts, Replaces, RefusesToReplace}
+use Rattle.concurrent_lru.specs.Inserts.{Inserts, InsertsStrictly, Replaces, RefusesToReplace}
 use Rattle.concurrent_lru.specs.Request as ask
 use Rattle.concurrent_lru.specs.Reply as say
 use Rattle.concurrent_lru.specs.Results.{outcome_of_insert_by, outcome_of_read_by, outcome_of_release}
@@ -14,7 +14,7 @@ use Rattle.concurrent_lru.specs.Runs.{Refuses, Stands}
 use Rattle.concurrent_lru.specs.StepLaws.{InsertIsThree, InsertIsRefused, ReadIsTwo}
 use Rattle.concurrent_lru.specs.Steps.{held_by_one, held_in_phase, one_more_pin, Hits, Holds, IsAbsent, Makes, Releases, Step, Stores}
 use Rattle.concurrent_lru.specs.declared.refusal.Refusal.{Refusal}
-use Rattle.concurrent_lru.specs.declared.refusal.Refusal.TheVariants.{Memory, Overflow, Stale}
+use Rattle.concurrent_lru.specs.declared.refusal.Refusal.TheVariants.{Memory, Overflow, Stale, Full}
 use Rattle.concurrent_lru.specs.declared.step.Inserted.{Inserted}
 use Rattle.concurrent_lru.proofs.AddedUp.SizesOfSteps.{hit_size}
 use Rattle.concurrent_lru.proofs.Entries.NodesOfSetAndAdd.{inserted_at}
@@ -58,10 +58,24 @@ module _ {K V : Type 0} (E : K → K → Bool) (laws : IsEquivalence E) (old : C
         ]
       ]
   refuses new charge v Stale r = absurd r.refuses.0
+  refuses new charge v Full r = absurd r.refuses.0
 
   pub insert_stands : {M S : Type 0} (seen : S → V) (new : Cache K V) (charge : ℕ) (v : V) (r : Result (Inserted K V M S) (Refusal × S)) → Inserts E old k charge v r new → Stands E old (ask.insert k charge v) (outcome_of_insert_by seen r) new
   insert_stands seen new charge v (Ok i) h = stores new charge v i.stamp i.replaced i.evicted h
   insert_stands seen new charge v (Err e) h = (refuses new charge v e.0 h, h.same)
+
+  -- where the capacity has room, a strict insert is refused as one that is not strict
+  refuses_strictly : (charge : ℕ) (v : V) (e : Refusal) → HasCapacityFor old charge → Refuses E old (ask.insert k charge v) e → Refuses E old (ask.insert_strictly k charge v) e
+  refuses_strictly charge v Overflow has r = (has, r)
+  refuses_strictly charge v Memory has r = (has, r)
+  refuses_strictly charge v Stale has r = absurd r
+  refuses_strictly charge v Full has r = absurd r
+
+  pub insert_strictly_stands : {M S : Type 0} (seen : S → V) (new : Cache K V) (charge : ℕ) (v : V) (r : Result (Inserted K V M S) (Refusal × S)) → InsertsStrictly E old k charge v r new → Stands E old (ask.insert_strictly k charge v) (outcome_of_insert_by seen r) new
+  insert_strictly_stands seen new charge v (Ok i) (inl h) = (h.0, stores new charge v i.stamp i.replaced i.evicted h.1)
+  insert_strictly_stands seen new charge v (Err e) (inl h) = (refuses_strictly charge v e.0 h.0 (refuses new charge v e.0 h.1), h.1.same)
+  insert_strictly_stands seen new charge v (Ok i) (inr h) = absurd h.1
+  insert_strictly_stands seen new charge v (Err e) (inr h) = (subst (λ x. Refuses E old (ask.insert_strictly k charge v) x) (sym h.1) h.0, h.2)
 
   -- and the other way round
   refuses_begin : (charge : ℕ) (v : V) (e : Refusal) → Refuses E old (ask.insert k charge v) e → RefusesToReplace E old k charge e old
@@ -80,6 +94,7 @@ module _ {K V : Type 0} (E : K → K → Bool) (laws : IsEquivalence E) (old : C
     same = refl;
   }
   refuses_begin charge v Stale h = absurd h
+  refuses_begin charge v Full h = absurd h
 
 pub insert_is_three : (K V : Type 0) (E : K → K → Bool) → InsertIsThree K V E
 insert_is_three K V E old new k charge s v out h = (h.replaced, h.evicted, h.both, (h.mid, h.invalidated, (h.made, inl h.begun, (new, h.given, refl))))
@@ -144,6 +159,7 @@ module _ {K V : Type 0} (E : K → K → Bool) (old mid : Cache K V) (l : IsLawf
   released new (Err Stale) hit h = let holds = hit_holds hit in absurd (h.0 holds.0 v holds.1)
   released new (Err Overflow) hit h = absurd h.0
   released new (Err Memory) hit h = absurd h.0
+  released new (Err Full) hit h = absurd h.0
 
   -- a get that hits, and the release of its stamp
   pub read_stands : {S : Type 0} (seen : S → V) (new : Cache K V) (a : S) (r : Result (List (Idle K V)) Refusal) → seen a ≡ v → Hits E old k s v [] mid → Stands E mid (ask.release s) (outcome_of_release r) new

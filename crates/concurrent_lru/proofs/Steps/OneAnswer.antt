@@ -16,7 +16,7 @@ use Rattle.concurrent_lru.proofs.Steps.BeginOfAbsent.{with_new_entry, sum-made}
 use Rattle.concurrent_lru.proofs.Lists.DistinctEntries.{same}
 use Rattle.concurrent_lru.proofs.Steps.OneFront.{one_front}
 use Rattle.concurrent_lru.proofs.Steps.LawfulAfterChange.{orderly}
-use Rattle.concurrent_lru.proofs.Steps.CasesOfSteps.{reply_in_phase, phase_after_asking, begin_cases, poll_cases, ready_cases, fail_cases, get_cases, release_cases, release_and_evict_cases, repin_cases, advice_evict_cases, invalidate_cases, insert_cases, read_cases, prune_cases, set_capacity_cases, total_cases}
+use Rattle.concurrent_lru.proofs.Steps.CasesOfSteps.{reply_in_phase, phase_after_asking, loose_begin, loose_insert, begin_cases, poll_cases, ready_cases, fail_cases, get_cases, release_cases, release_and_evict_cases, repin_cases, advice_evict_cases, invalidate_cases, insert_cases, read_cases, prune_cases, set_capacity_cases, total_cases}
 use Rattle.concurrent_lru.proofs.Steps.StaysLawful.{invalidates_lawful}
 
 pub same_value : {V : Type 0} (v w : V) → ready v ≡ ready w → v ≡ w
@@ -348,6 +348,7 @@ module _ {K V : Type 0} (E : K → K → Bool) where
 
     one_step : (new other : Cache K V) (r : Request K V) (p q : Reply K V) (out away : List (Idle K V)) → Step E old r p out new → Step E old r q away other → (p ≡ q) × (out ≡ away) × LeadsToOne E r new other
     one_step new other (ask.begin k charge) p q out away g h = one_begin laws old l k charge p q out away new other g h
+    one_step new other (ask.begin_strictly k charge) p q out away g h = one_begin laws old l k charge p q out away new other (loose_begin E old k charge p out new g) (loose_begin E old k charge q away other h)
     one_step new other (ask.poll s) p q out away g h =
         let a = poll_cases E old s p out new g in
         let b = poll_cases E old s q away other h in
@@ -386,6 +387,7 @@ module _ {K V : Type 0} (E : K → K → Bool) where
         let j = invalidates_once laws old l k out away new other a.1 b.1 in
         (a.0 ∙ sym b.0, j.0, j.1)
     one_step new other (ask.insert k charge v) p q out away g h = one_insert k charge v p q out away new other g h
+    one_step new other (ask.insert_strictly k charge v) p q out away g h = one_insert k charge v p q out away new other (loose_insert E old k charge v p out new g).1 (loose_insert E old k charge v q away other h).1
     one_step new other (ask.read k) p q out away g h = one_read k p q out away new other g h
     one_step new other ask.prune p q out away g h =
         let a = prune_cases E old p out new g in

@@ -2,36 +2,54 @@
 use Rattle.std.proofs.Common.{◌≡◌, ℕ, ◌+◌, ◌<◌, ◌≤◌, ◌^◌, ◌⊎◌, inl, inr, Bool, true, false, List, [], Some, refl, sym, ap, ◌∙◌, subst, arith}
 use Rattle.std.specs.Cmp.{IsEquivalence}
 use Rattle.std.proofs.lemmas.Option.{none-some}
-use Rattle.concurrent_lru.specs.Cache.{Cache, Idle, Held, IsLawful, ready, held_at, sum_of}
+use Rattle.concurrent_lru.specs.Cache.{Cache, Idle, Held, IsLawful, ready, held_at, sum_of, HasCapacityFor, LacksCapacityFor}
 use Rattle.concurrent_lru.specs.Request as ask
 use Rattle.concurrent_lru.specs.Request.{Request}
+use Rattle.concurrent_lru.specs.Reply as say
 use Rattle.concurrent_lru.specs.Reply.{Reply}
-use Rattle.concurrent_lru.specs.Runs.{HasRoomAt, IsFull, WouldHit, Overflows, IsStale, TakesMemory, Refuses}
+use Rattle.concurrent_lru.specs.Runs.{HasRoomAt, IsFull, WouldHit, Overflows, IsStale, TakesMemory, ExceedsCapacity, Refuses}
 use Rattle.concurrent_lru.specs.Steps.{HasNumbers, Hits, IsUnready, Step}
 use Rattle.concurrent_lru.specs.StepLaws.{LeavesNoStep, OneRefusal}
 use Rattle.concurrent_lru.specs.declared.refusal.Refusal.{Refusal}
-use Rattle.concurrent_lru.specs.declared.refusal.Refusal.TheVariants.{Memory, Overflow, Stale}
+use Rattle.concurrent_lru.specs.declared.refusal.Refusal.TheVariants.{Memory, Overflow, Stale, Full}
 use Rattle.concurrent_lru.proofs.Steps.OneAnswer.{not_ready_too, same_entry, held_once, invalidates_once, not_both, not_held, not_idle}
-use Rattle.concurrent_lru.proofs.Steps.CasesOfSteps.{begin_cases, poll_cases, ready_cases, fail_cases, get_cases, release_cases, release_and_evict_cases, repin_cases, insert_cases, read_cases}
+use Rattle.concurrent_lru.proofs.Steps.CasesOfSteps.{loose_begin, loose_insert, begin_cases, poll_cases, ready_cases, fail_cases, get_cases, release_cases, release_and_evict_cases, repin_cases, insert_cases, read_cases}
 
 module _ {K V : Type 0} (E : K → K → Bool) where
   no_numbers : (c : Cache K V) (charge : ℕ) → HasNumbers E c charge → (2 ^ 64 ≤ sum_of c + charge) ⊎ (2 ^ 64 ≤ c.next + 1) → ⊥
   no_numbers c charge h (inl k) = let a = h.0 in absurd (omega (arith, a, k))
   no_numbers c charge h (inr k) = let a = h.1 in absurd (omega (arith, a, k))
 
+  -- the capacity has room for a charge, or it does not
+  no_capacity : (c : Cache K V) (charge : ℕ) → HasCapacityFor c charge → LacksCapacityFor c charge → ⊥
+  no_capacity c charge has lacks = absurd (omega (arith, has, lacks))
+
+  -- a strict begin or insert overflows, or takes memory, as one that is not strict does
+  loose_overflow : (c : Cache K V) (k : K) (charge : ℕ) → Overflows E c (ask.begin_strictly k charge) → Overflows E c (ask.begin k charge)
+  loose_overflow c k charge (inl h) = inl (h.1, h.2)
+  loose_overflow c k charge (inr h) = inr h
+
+  loose_memory : (c : Cache K V) (k : K) (charge : ℕ) → TakesMemory E c (ask.begin_strictly k charge) → TakesMemory E c (ask.begin k charge)
+  loose_memory c k charge (inl h) = inl (h.1, h.2)
+  loose_memory c k charge (inr h) = inr h
+
   -- a stale request is not one that overflows, or takes memory
   stale_fits : (c : Cache K V) (r : Request K V) → IsStale E c r → Overflows E c r → ⊥
   stale_fits c (ask.begin k charge) h o = h
+  stale_fits c (ask.begin_strictly k charge) h o = h
   stale_fits c (ask.get k) h o = h
   stale_fits c (ask.insert k charge v) h o = h
+  stale_fits c (ask.insert_strictly k charge v) h o = h
   stale_fits c (ask.read k) h o = h
   stale_fits c (ask.repin s) h o = h.0 o.0 o.1 o.2
   stale_fits c r h o = o
 
   stale_takes_none : (c : Cache K V) (r : Request K V) → IsStale E c r → TakesMemory E c r → ⊥
   stale_takes_none c (ask.begin k charge) h m = h
+  stale_takes_none c (ask.begin_strictly k charge) h m = h
   stale_takes_none c (ask.get k) h m = h
   stale_takes_none c (ask.insert k charge v) h m = h
+  stale_takes_none c (ask.insert_strictly k charge v) h m = h
   stale_takes_none c (ask.read k) h m = h
   stale_takes_none c (ask.poll s) h m = none-some m.0 (sym h ∙ m.2.at)
   stale_takes_none c (ask.repin s) h (inl m) = h.0 m.0 m.1 m.2
@@ -94,28 +112,36 @@ module _ {K V : Type 0} (E : K → K → Bool) where
         absurd (omega (arith, n, full, room))
     full_at s e at full (inr m) = none-some e (sym (l.held_apart s m.0 m.1) ∙ at)
 
-    overflow_stops : (new : Cache K V) (r : Request K V) (p : Reply K V) (out : List (Idle K V)) → Overflows E c r → Step E c r p out new → ⊥
-    overflow_stops new (ask.begin k charge) p out (inl h) g = elim (begin_cases E c k charge p out new g) [
+    begin_overflow_stops : (new : Cache K V) (k : K) (charge : ℕ) (p : Reply K V) (out : List (Idle K V)) → Overflows E c (ask.begin k charge) → Step E c (ask.begin k charge) p out new → ⊥
+    begin_overflow_stops new k charge p out (inl h) g = elim (begin_cases E c k charge p out new g) [
       | inl a ↦ no_numbers c charge a.2.fits h.1
       | inr b ↦ elim b [
         | inl a ↦ not_held E laws c l k a.0 a.3.entry h.0 a.3.holds.at a.3.found a.3.same_key
         | inr a ↦ not_idle E laws c l k a.0 a.3.entry h.0 a.3.at a.3.same_key
       ]
     ]
-    overflow_stops new (ask.begin k charge) p out (inr h) g = elim (begin_cases E c k charge p out new g) [
+    begin_overflow_stops new k charge p out (inr h) g = elim (begin_cases E c k charge p out new g) [
       | inl a ↦ not_held E laws c l k h.stamp h.entry a.2.absent h.at h.found h.same_key
       | inr b ↦ elim b [
         | inl a ↦ has_room k a.0 a.3.entry a.3.holds.at a.3.found a.3.same_key a.3.room h
         | inr a ↦ not_both E laws c l k h.stamp a.0 h.entry a.3.entry h.at a.3.at h.found h.same_key a.3.same_key
       ]
     ]
+
+    insert_overflow_stops : (new : Cache K V) (k : K) (charge : ℕ) (v : V) (p : Reply K V) (out : List (Idle K V)) → Overflows E c (ask.insert k charge v) → Step E c (ask.insert k charge v) p out new → ⊥
+    insert_overflow_stops new k charge v p out h g =
+        let x = (insert_cases E c k charge v p out new g).2 in
+        no_numbers h.0 charge (subst (λ d. HasNumbers E d charge) (invalidates_once E laws c l k x.replaced h.1 x.mid h.0 x.invalidated h.2).1 x.begun.fits) h.3
+
+    overflow_stops : (new : Cache K V) (r : Request K V) (p : Reply K V) (out : List (Idle K V)) → Overflows E c r → Step E c r p out new → ⊥
+    overflow_stops new (ask.begin k charge) p out h g = begin_overflow_stops new k charge p out h g
+    overflow_stops new (ask.begin_strictly k charge) p out h g = begin_overflow_stops new k charge p out (loose_overflow c k charge h) (loose_begin E c k charge p out new g)
     overflow_stops new (ask.get k) p out h g = elim (get_cases E c k p out new g) [
       | inl a ↦ hit_not_full k a.0 a.1 out new a.3 h.0
       | inr a ↦ full_is_ready k h a.1
     ]
-    overflow_stops new (ask.insert k charge v) p out h g =
-        let x = (insert_cases E c k charge v p out new g).2 in
-        no_numbers h.0 charge (subst (λ d. HasNumbers E d charge) (invalidates_once E laws c l k x.replaced h.1 x.mid h.0 x.invalidated h.2).1 x.begun.fits) h.3
+    overflow_stops new (ask.insert k charge v) p out h g = insert_overflow_stops new k charge v p out h g
+    overflow_stops new (ask.insert_strictly k charge v) p out h g = insert_overflow_stops new k charge v p out h.1 (loose_insert E c k charge v p out new g).1
     overflow_stops new (ask.read k) p out h g = elim (read_cases E c k p out new g) [
       | inl a ↦ hit_not_full k a.0 a.1 [] a.3.mid a.3.found h.0
       | inr a ↦ full_is_ready k h a.1
@@ -128,17 +154,54 @@ module _ {K V : Type 0} (E : K → K → Bool) where
         ]
     overflow_stops new r p out h g = absurd h
 
+    begin_overflow_takes_none : (k : K) (charge : ℕ) → Overflows E c (ask.begin k charge) → TakesMemory E c (ask.begin k charge) → ⊥
+    begin_overflow_takes_none k charge (inl h) (inl m) = no_numbers c charge m.1 h.1
+    begin_overflow_takes_none k charge (inl h) (inr (inl m)) = not_held E laws c l k m.0 m.1 h.0 m.3.at m.6 m.4
+    begin_overflow_takes_none k charge (inl h) (inr (inr m)) = not_idle E laws c l k m.0 m.1 h.0 m.2 m.3
+    begin_overflow_takes_none k charge (inr h) (inl m) = not_held E laws c l k h.stamp h.entry m.0 h.at h.found h.same_key
+    begin_overflow_takes_none k charge (inr h) (inr m) = would_hit_not_full k m h
+
+    insert_overflow_takes_none : (k : K) (charge : ℕ) (v : V) → Overflows E c (ask.insert k charge v) → TakesMemory E c (ask.insert k charge v) → ⊥
+    insert_overflow_takes_none k charge v h m = no_numbers h.0 charge (subst (λ d. HasNumbers E d charge) (invalidates_once E laws c l k m.1 h.1 m.0 h.0 m.2 h.2).1 m.3) h.3
+
     overflow_takes_none : (r : Request K V) → Overflows E c r → TakesMemory E c r → ⊥
-    overflow_takes_none (ask.begin k charge) (inl h) (inl m) = no_numbers c charge m.1 h.1
-    overflow_takes_none (ask.begin k charge) (inl h) (inr (inl m)) = not_held E laws c l k m.0 m.1 h.0 m.3.at m.6 m.4
-    overflow_takes_none (ask.begin k charge) (inl h) (inr (inr m)) = not_idle E laws c l k m.0 m.1 h.0 m.2 m.3
-    overflow_takes_none (ask.begin k charge) (inr h) (inl m) = not_held E laws c l k h.stamp h.entry m.0 h.at h.found h.same_key
-    overflow_takes_none (ask.begin k charge) (inr h) (inr m) = would_hit_not_full k m h
+    overflow_takes_none (ask.begin k charge) h m = begin_overflow_takes_none k charge h m
+    overflow_takes_none (ask.begin_strictly k charge) h m = begin_overflow_takes_none k charge (loose_overflow c k charge h) (loose_memory c k charge m)
     overflow_takes_none (ask.get k) h m = would_hit_not_full k m h.0
-    overflow_takes_none (ask.insert k charge v) h m = no_numbers h.0 charge (subst (λ d. HasNumbers E d charge) (invalidates_once E laws c l k m.1 h.1 m.0 h.0 m.2 h.2).1 m.3) h.3
+    overflow_takes_none (ask.insert k charge v) h m = insert_overflow_takes_none k charge v h m
+    overflow_takes_none (ask.insert_strictly k charge v) h m = insert_overflow_takes_none k charge v h.1 m.1
     overflow_takes_none (ask.read k) h m = would_hit_not_full k m h.0
     overflow_takes_none (ask.repin s) h m = full_at s h.0 h.2.at h.3 m
     overflow_takes_none r h m = absurd h
+
+    -- a request that exceeds the capacity has no step, and is refused in no other way
+    exceeding_stops : (new : Cache K V) (r : Request K V) (p : Reply K V) (out : List (Idle K V)) → ExceedsCapacity E c r → Step E c r p out new → ⊥
+    exceeding_stops new (ask.begin_strictly k charge) (say.make s) out h (inl g) = no_capacity c charge g.0 h.0
+    exceeding_stops new (ask.begin_strictly k charge) (say.make s) out h (inr j) = not_held E laws c l k s j.entry h.1 j.holds.at j.found j.same_key
+    exceeding_stops new (ask.begin_strictly k charge) (say.wait s) out h j = not_held E laws c l k s j.entry h.1 j.holds.at j.found j.same_key
+    exceeding_stops new (ask.begin_strictly k charge) (say.hit s v) out h (inl j) = not_held E laws c l k s j.entry h.1 j.holds.at j.found j.same_key
+    exceeding_stops new (ask.begin_strictly k charge) (say.hit s v) out h (inr r) = not_idle E laws c l k s r.entry h.1 r.at r.same_key
+    exceeding_stops new (ask.begin_strictly k charge) p out h g = absurd g
+    exceeding_stops new (ask.insert_strictly k charge v) p out h g = no_capacity c charge (loose_insert E c k charge v p out new g).0 h
+    exceeding_stops new r p out h g = absurd h
+
+    exceeding_fits : (r : Request K V) → ExceedsCapacity E c r → Overflows E c r → ⊥
+    exceeding_fits (ask.begin_strictly k charge) h (inl o) = no_capacity c charge o.0 h.0
+    exceeding_fits (ask.begin_strictly k charge) h (inr o) = not_held E laws c l k o.stamp o.entry h.1 o.at o.found o.same_key
+    exceeding_fits (ask.insert_strictly k charge v) h o = no_capacity c charge o.0 h
+    exceeding_fits r h o = absurd h
+
+    exceeding_takes_none : (r : Request K V) → ExceedsCapacity E c r → TakesMemory E c r → ⊥
+    exceeding_takes_none (ask.begin_strictly k charge) h (inl m) = no_capacity c charge m.0 h.0
+    exceeding_takes_none (ask.begin_strictly k charge) h (inr (inl m)) = not_held E laws c l k m.0 m.1 h.1 m.3.at m.6 m.4
+    exceeding_takes_none (ask.begin_strictly k charge) h (inr (inr m)) = not_idle E laws c l k m.0 m.1 h.1 m.2 m.3
+    exceeding_takes_none (ask.insert_strictly k charge v) h m = no_capacity c charge m.0 h
+    exceeding_takes_none r h m = absurd h
+
+    exceeding_not_stale : (r : Request K V) → ExceedsCapacity E c r → IsStale E c r → ⊥
+    exceeding_not_stale (ask.begin_strictly k charge) h s = s
+    exceeding_not_stale (ask.insert_strictly k charge v) h s = s
+    exceeding_not_stale r h s = absurd h
 
     one_of : (r : Request K V) (e f : Refusal) → Refuses E c r e → Refuses E c r f → e ≡ f
     one_of r Memory Memory a b = refl
@@ -150,10 +213,18 @@ module _ {K V : Type 0} (E : K → K → Bool) where
     one_of r Stale Memory a b = absurd (stale_takes_none c r a b)
     one_of r Stale Overflow a b = absurd (stale_fits c r a b)
     one_of r Stale Stale a b = refl
+    one_of r Full Memory a b = absurd (exceeding_takes_none r a b)
+    one_of r Full Overflow a b = absurd (exceeding_fits r a b)
+    one_of r Full Stale a b = absurd (exceeding_not_stale r a b)
+    one_of r Full Full a b = refl
+    one_of r Memory Full a b = absurd (exceeding_takes_none r b a)
+    one_of r Overflow Full a b = absurd (exceeding_fits r b a)
+    one_of r Stale Full a b = absurd (exceeding_not_stale r b a)
 
 pub leaves_no_step : (K V : Type 0) (E : K → K → Bool) → IsEquivalence E → LeavesNoStep K V E
 leaves_no_step K V E laws old new r p out l (inl h) g = overflow_stops E laws old l new r p out h g
-leaves_no_step K V E laws old new r p out l (inr h) g = stale_stops E old new r p out h g
+leaves_no_step K V E laws old new r p out l (inr (inl h)) g = stale_stops E old new r p out h g
+leaves_no_step K V E laws old new r p out l (inr (inr h)) g = exceeding_stops E laws old l new r p out h g
 
 pub one_refusal : (K V : Type 0) (E : K → K → Bool) → IsEquivalence E → OneRefusal K V E
 one_refusal K V E laws old r e f l a b = one_of E laws old l r e f a b

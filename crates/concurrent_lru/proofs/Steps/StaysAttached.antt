@@ -12,7 +12,7 @@ use Rattle.concurrent_lru.specs.Steps.{held_in_phase, held_by_one, one_more_pin,
 use Rattle.concurrent_lru.specs.StepLaws.{IsAttached, InvalidatesNothing, StaysAttached, OneEntryOfKey}
 use Rattle.concurrent_lru.proofs.Lists.DistinctEntries.{same}
 use Rattle.concurrent_lru.proofs.Lists.Removals.{removed_some}
-use Rattle.concurrent_lru.proofs.Steps.CasesOfSteps.{phase_after_asking, begin_cases, poll_cases, ready_cases, fail_cases, get_cases, release_cases, release_and_evict_cases, repin_cases, advice_evict_cases, read_cases, prune_cases, set_capacity_cases, total_cases}
+use Rattle.concurrent_lru.proofs.Steps.CasesOfSteps.{phase_after_asking, loose_begin, begin_cases, poll_cases, ready_cases, fail_cases, get_cases, release_cases, release_and_evict_cases, repin_cases, advice_evict_cases, read_cases, prune_cases, set_capacity_cases, total_cases}
 
 module _ {K V : Type 0} where
   one_of : (b : Bool) (e f : Held K V) (was : Option (Held K V)) → e.detached ≡ false → ((x : Held K V) → was ≡ Some x → x.detached ≡ false) → cond b (Some e) was ≡ Some f → f.detached ≡ false
@@ -48,14 +48,18 @@ module _ {K V : Type 0} (E : K → K → Bool) (old new : Cache K V) (a : IsAtta
   repins_attached s v out (inr b) = hits_attached b.0 s v out (inr b.1)
 
 module _ {K V : Type 0} (E : K → K → Bool) (old new : Cache K V) (a : IsAttached old) where
-  step_attached : (r : Request K V) (p : Reply K V) (out : List (Idle K V)) → InvalidatesNothing r → Step E old r p out new → IsAttached new
-  step_attached (ask.begin k charge) p out none h = elim (begin_cases E old k charge p out new h) [
+  begin_attached : (k : K) (charge : ℕ) (p : Reply K V) (out : List (Idle K V)) → Step E old (ask.begin k charge) p out new → IsAttached new
+  begin_attached k charge p out h = elim (begin_cases E old k charge p out new h) [
     | inl b ↦ with_one E old new a b.0 _ refl (ap (λ c. c.held) b.2.settles.others)
     | inr b ↦ elim b [
       | inl c ↦ with_one E old new a c.0 (held_in_phase (phase_after_asking c.1) (one_more_pin c.3.entry)) c.3.found (ap (λ c. c.held) c.3.changed)
       | inr c ↦ hits_attached E old new a k c.0 c.1 out (inr c.3)
     ]
   ]
+
+  step_attached : (r : Request K V) (p : Reply K V) (out : List (Idle K V)) → InvalidatesNothing r → Step E old r p out new → IsAttached new
+  step_attached (ask.begin k charge) p out none h = begin_attached k charge p out h
+  step_attached (ask.begin_strictly k charge) p out none h = begin_attached k charge p out (loose_begin E old k charge p out new h)
   step_attached (ask.poll s) p out none h =
       let b = poll_cases E old s p out new h in
       with_one E old new a s (held_in_phase (phase_after_asking b.0) b.2.entry) (a s b.2.entry b.2.holds.at) (ap (λ c. c.held) b.2.changed)
@@ -79,6 +83,7 @@ module _ {K V : Type 0} (E : K → K → Bool) (old new : Cache K V) (a : IsAtta
   ]
   step_attached (ask.invalidate k) p out none h = absurd none
   step_attached (ask.insert k charge v) p out none h = absurd none
+  step_attached (ask.insert_strictly k charge v) p out none h = absurd none
   step_attached (ask.read k) p out none h = elim (read_cases E old k p out new h) [
     | inl b ↦ releases_attached E b.3.mid new (hits_attached E old b.3.mid a k b.0 b.1 [] b.3.found) b.0 [] b.3.released
     | inr b ↦ with_same E old new a (ap (λ c. c.held) b.2.same)

@@ -17,7 +17,7 @@ use Rattle.concurrent_lru.proofs.Steps.LawfulAfterChange.{sets_lawful}
 use Rattle.concurrent_lru.proofs.Steps.ReadyAndPoll.{changes_phase_lawful}
 use Rattle.concurrent_lru.proofs.Steps.Release.{rests_lawful, leaves_lawful, detaches_lawful}
 use Rattle.concurrent_lru.proofs.Steps.LawfulAfterRevival.{revives_lawful}
-use Rattle.concurrent_lru.proofs.Steps.CasesOfSteps.{phase_after_asking, begin_cases, poll_cases, ready_cases, fail_cases, get_cases, release_cases, release_and_evict_cases, repin_cases, advice_evict_cases, invalidate_cases, insert_cases, read_cases, prune_cases, set_capacity_cases, total_cases}
+use Rattle.concurrent_lru.proofs.Steps.CasesOfSteps.{phase_after_asking, loose_begin, loose_insert, begin_cases, poll_cases, ready_cases, fail_cases, get_cases, release_cases, release_and_evict_cases, repin_cases, advice_evict_cases, invalidate_cases, insert_cases, read_cases, prune_cases, set_capacity_cases, total_cases}
 
 module _ {K V : Type 0} where
   -- the capacity is c, and the greatest number of pins is as it was
@@ -61,14 +61,24 @@ module _ {K V : Type 0} (E : K → K → Bool) where
   makes_limits old k charge s out new a = same_limits old _ new old.capacity (refl, refl) a.settles.others
 
 module _ {K V : Type 0} (E : K → K → Bool) (old : Cache K V) where
-  step_limits : (new : Cache K V) (r : Request K V) (p : Reply K V) (out : List (Idle K V)) → Step E old r p out new → HasLimits old (capacity_by old.capacity r (accepted p out)) new
-  step_limits new (ask.begin k charge) p out h = elim (begin_cases E old k charge p out new h) [
+  begin_limits : (new : Cache K V) (k : K) (charge : ℕ) (p : Reply K V) (out : List (Idle K V)) → Step E old (ask.begin k charge) p out new → HasLimits old old.capacity new
+  begin_limits new k charge p out h = elim (begin_cases E old k charge p out new h) [
     | inl a ↦ makes_limits E old k charge a.0 out new a.2
     | inr b ↦ elim b [
       | inl a ↦ same_limits old _ new old.capacity (refl, refl) a.3.changed
       | inr a ↦ same_limits old _ new old.capacity (refl, refl) a.3.changed
     ]
   ]
+
+  insert_limits : (new : Cache K V) (k : K) (charge : ℕ) (v : V) (p : Reply K V) (out : List (Idle K V)) → Step E old (ask.insert k charge v) p out new → HasLimits old old.capacity new
+  insert_limits new k charge v p out h =
+      let a = (insert_cases E old k charge v p out new h).2 in
+      two_limits old a.mid new (invalidates_limits E old k a.replaced a.mid a.invalidated)
+      (two_limits a.mid a.made new (makes_limits E a.mid k charge _ a.evicted a.made a.begun) (same_limits a.made _ new a.made.capacity (refl, refl) a.given.changed))
+
+  step_limits : (new : Cache K V) (r : Request K V) (p : Reply K V) (out : List (Idle K V)) → Step E old r p out new → HasLimits old (capacity_by old.capacity r (accepted p out)) new
+  step_limits new (ask.begin k charge) p out h = begin_limits new k charge p out h
+  step_limits new (ask.begin_strictly k charge) p out h = begin_limits new k charge p out (loose_begin E old k charge p out new h)
   step_limits new (ask.poll s) p out h = same_limits old _ new old.capacity (refl, refl) (poll_cases E old s p out new h).2.changed
   step_limits new (ask.ready s v) p out h = same_limits old _ new old.capacity (refl, refl) (ready_cases E old s v p out new h).1.changed
   step_limits new (ask.fail s) p out h = elim (fail_cases E old s p out new h) [
@@ -87,10 +97,8 @@ module _ {K V : Type 0} (E : K → K → Bool) (old : Cache K V) where
     | inr a ↦ same_limits old _ new old.capacity (refl, refl) a.1.same
   ]
   step_limits new (ask.invalidate k) p out h = invalidates_limits E old k out new (invalidate_cases E old k p out new h).1
-  step_limits new (ask.insert k charge v) p out h =
-      let a = (insert_cases E old k charge v p out new h).2 in
-      two_limits old a.mid new (invalidates_limits E old k a.replaced a.mid a.invalidated)
-      (two_limits a.mid a.made new (makes_limits E a.mid k charge _ a.evicted a.made a.begun) (same_limits a.made _ new a.made.capacity (refl, refl) a.given.changed))
+  step_limits new (ask.insert k charge v) p out h = insert_limits new k charge v p out h
+  step_limits new (ask.insert_strictly k charge v) p out h = insert_limits new k charge v p out (loose_insert E old k charge v p out new h).1
   step_limits new (ask.read k) p out h = elim (read_cases E old k p out new h) [
     | inl a ↦ two_limits old a.3.mid new (hits_limits E old k a.0 a.1 [] a.3.mid a.3.found) (releases_limits E a.3.mid a.0 [] new a.3.released)
     | inr a ↦ same_limits old _ new old.capacity (refl, refl) a.2.same
@@ -138,14 +146,21 @@ module _ {K V : Type 0} (E : K → K → Bool) (laws : IsEquivalence E) (old : C
   repins_lawful s v out new (inl h) = pins_again_lawful E old new s v out l h
   repins_lawful s v out new (inr h) = revives_lawful E old new h.0 s v out l pins h.1
 
-  step_lawful : (new : Cache K V) (r : Request K V) (p : Reply K V) (out : List (Idle K V)) → IsCharged r → Step E old r p out new → IsLawful E new
-  step_lawful new (ask.begin k charge) p out above h = elim (begin_cases E old k charge p out new h) [
+  begin_lawful : (new : Cache K V) (k : K) (charge : ℕ) (p : Reply K V) (out : List (Idle K V)) → 0 < charge → Step E old (ask.begin k charge) p out new → IsLawful E new
+  begin_lawful new k charge p out above h = elim (begin_cases E old k charge p out new h) [
     | inl a ↦ makes_lawful E old new k charge a.0 out laws l above pins a.2
     | inr b ↦ elim b [
       | inl a ↦ joins_lawful E old new k a.0 a.1 (phase_after_asking a.1) out l a.3
       | inr a ↦ revives_lawful E old new k a.0 a.1 out l pins a.3
     ]
   ]
+
+  insert_lawful : (new : Cache K V) (k : K) (charge : ℕ) (v : V) (p : Reply K V) (out : List (Idle K V)) → 0 < charge → Step E old (ask.insert k charge v) p out new → IsLawful E new
+  insert_lawful new k charge v p out above h = stores_lawful E old new k charge v _ out laws l pins above (insert_cases E old k charge v p out new h).2
+
+  step_lawful : (new : Cache K V) (r : Request K V) (p : Reply K V) (out : List (Idle K V)) → IsCharged r → Step E old r p out new → IsLawful E new
+  step_lawful new (ask.begin k charge) p out above h = begin_lawful new k charge p out above h
+  step_lawful new (ask.begin_strictly k charge) p out above h = begin_lawful new k charge p out above (loose_begin E old k charge p out new h)
   step_lawful new (ask.poll s) p out above h = let a = poll_cases E old s p out new h in changes_phase_lawful E old new s a.0 (phase_after_asking a.0) out l a.2
   step_lawful new (ask.ready s v) p out above h = changes_phase_lawful E old new s making (ready v) out l (ready_cases E old s v p out new h).1
   step_lawful new (ask.fail s) p out above h = elim (fail_cases E old s p out new h) [
@@ -164,7 +179,8 @@ module _ {K V : Type 0} (E : K → K → Bool) (laws : IsEquivalence E) (old : C
     | inr a ↦ subst (IsLawful E) (sym a.1.same) l
   ]
   step_lawful new (ask.invalidate k) p out above h = invalidates_lawful E old k out new l (invalidate_cases E old k p out new h).1
-  step_lawful new (ask.insert k charge v) p out above h = stores_lawful E old new k charge v _ out laws l pins above (insert_cases E old k charge v p out new h).2
+  step_lawful new (ask.insert k charge v) p out above h = insert_lawful new k charge v p out above h
+  step_lawful new (ask.insert_strictly k charge v) p out above h = insert_lawful new k charge v p out above (loose_insert E old k charge v p out new h).1
   step_lawful new (ask.read k) p out above h = elim (read_cases E old k p out new h) [
     | inl a ↦ releases_lawful E a.3.mid a.0 [] new (hits_lawful k a.0 a.1 [] a.3.mid a.3.found) a.3.released
     | inr a ↦ subst (IsLawful E) (sym a.2.same) l

@@ -6,7 +6,7 @@ ghost use Rattle.concurrent_lru.specs.Counted.{most_writes_of_read, StepWritesBy
 ghost use Rattle.concurrent_lru.specs.Request as ask;
 ghost use Rattle.concurrent_lru.specs.Results.{outcome_of_read_by, request_of_by, outcome_of_by, IsCharged, IsAnswerToBy, AreAnswersToBy};
 ghost use Rattle.concurrent_lru.specs.Runs.{Stands, Run};
-ghost use Rattle.concurrent_lru.specs.WholeRuns.{KeepsStamps, LeavesFitted, LeavesTail};
+ghost use Rattle.concurrent_lru.specs.WholeRuns.{KeepsLimitIfStrict, KeepsStamps, LeavesFitted, LeavesTail};
 
 use crate::lru_core::{Refusal, State};
 use crate::share::Sharing;
@@ -49,6 +49,10 @@ where
                 Ok((begun, evicted)) => Answer::Begun(begun, evicted),
                 Err(refusal) => Answer::Refused(refusal),
             },
+            Step::BeginStrictly(key, charge) => match self.begin_strictly(&key, charge) {
+                Ok((begun, evicted)) => Answer::Begun(begun, evicted),
+                Err(refusal) => Answer::Refused(refusal),
+            },
             Step::Poll(stamp) => match self.poll(stamp) {
                 Ok(begun) => Answer::Polled(begun),
                 Err(refusal) => Answer::Refused(refusal),
@@ -83,6 +87,12 @@ where
                 Ok(inserted) => Answer::Inserted(inserted),
                 Err((refusal, value)) => Answer::NotInserted(refusal, value),
             },
+            Step::InsertStrictly(key, charge, value) => {
+                match self.insert_strictly(&key, charge, value) {
+                    Ok(inserted) => Answer::Inserted(inserted),
+                    Err((refusal, value)) => Answer::NotInserted(refusal, value),
+                }
+            }
             Step::Read(key) => match self.read_shared(&key) {
                 Ok(found) => Answer::Read(found),
                 Err(refusal) => Answer::Refused(refusal),
@@ -106,8 +116,10 @@ where
     /// idle afterwards. Any other used key is idle if and only if, at every moment since its last
     /// use, it weighed at most the capacity of that moment (`fitted`). Each stamp that was present
     /// or was given out is in exactly one place: in the cache, in the answer of `fail`, or in an
-    /// evicted list (`stamps`). The idle order is written at most once for each step that is not
-    /// refused, twice for a `Read`, and once for each evicted entry (`work`).
+    /// evicted list (`stamps`). If no step is a `Begin` or an `Insert`, but only `BeginStrictly`
+    /// and `InsertStrictly` add entries, a total that was at most the capacity stays so as long as
+    /// the capacity is not lowered (`limit`). The idle order is written at most once for each step
+    /// that is not refused, twice for a `Read`, and once for each evicted entry (`work`).
     pub fn run(&mut self, steps: Vec<Step<K, M::Share>>) -> Result<Vec<Answer<K, V, M>>, Refusal>
         requires { AllByRecursion IsCharged (map (request_of_by M.seen) steps.items) }
         ensures run { IfOk result (λ answers. Run K.eq self.old.cache
@@ -123,6 +135,8 @@ where
         ensures stamps { IfOk result (λ answers. KeepsStamps self.old.cache
             (map (request_of_by M.seen) steps.items) (map (outcome_of_by M.seen) answers.items)
             self.new.cache) }
+        ensures limit { IfOk result (λ answers. KeepsLimitIfStrict self.old.cache
+            (map (request_of_by M.seen) steps.items) self.new.cache) }
         ensures work { IfOk result (λ answers. StepsWriteAtMost self.old
             (map (outcome_of_by M.seen) answers.items) self.new) }
         ensures err { IfErr result (λ e. e ≡ Refusal.Memory) }

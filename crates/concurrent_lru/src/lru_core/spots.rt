@@ -1,10 +1,10 @@
 //! The calls for a caller that keeps a spot of each entry that it pins: those that pin an entry
 //! return a hint of it, and those by stamp take a spot. They hash no stamp, so they suit a cache
 //! without a map by stamp.
-ghost use Rattle.std.specs.Prelude.{◌≡◌, ◌+◌, ◌<◌, ◌≤◌, None, OnOk, OnErr, IfErr, IfOk, IsFalse, MatchOption, length};
-ghost use Rattle.concurrent_lru.specs.Cache.{IsLawful, HasKeyAt, LacksStamp, HasNoOtherPin};
+ghost use Rattle.std.specs.Prelude.{◌≡◌, ◌+◌, ◌<◌, ◌≤◌, ◌⊎◌, None, OnOk, OnErr, IfErr, IfOk, IsTrue, IsFalse, MatchOption, length};
+ghost use Rattle.concurrent_lru.specs.Cache.{IsLawful, HasKeyAt, LacksStamp, HasNoOtherPin, HasCapacityFor, LacksCapacityFor, IsWithinCapacity};
 ghost use Rattle.concurrent_lru.specs.Counted.{WritesAtMostOneMore};
-ghost use Rattle.concurrent_lru.specs.Inserts.{Inserts, Remakes};
+ghost use Rattle.concurrent_lru.specs.Inserts.{Inserts, InsertsStrictly, Remakes};
 ghost use Rattle.concurrent_lru.specs.KeyHashes.{IsHashOf};
 ghost use Rattle.concurrent_lru.specs.Ready.{HasEqualKeyAt};
 ghost use Rattle.concurrent_lru.specs.Request as ask;
@@ -64,6 +64,64 @@ where
                 let share = value.into_share();
                 Ok((Begun::Hit(stamp, share), Evicted::none(), hint))
             }
+        }
+    }
+
+    /// Does what `begin_strictly` does, with the same refusals, and also returns a hint of the
+    /// entry.
+    #[inline(always)]
+    pub fn begin_strictly_at(
+        &mut self,
+        key: &K,
+        charge: u64,
+    ) -> Result<(Begun<M::Share>, Evicted<K, V, M>, Hint), Refusal>
+        requires { 0 < charge }
+        ensures step { Stands K.eq self.old.cache (ask.begin_strictly key.now charge)
+            (outcome_of_begin_by M.seen (begun_without_hint result)) self.new.cache }
+        ensures limit { IsWithinCapacity self.old.cache → IsWithinCapacity self.new.cache }
+        ensures work { WritesAtMostOneMore self.old
+            (outcome_of_begin_by M.seen (begun_without_hint result)) self.new }
+        ensures lawful { IsLawful K.eq self.new.cache }
+    {
+        if self.is_full_for(key, charge) {
+            return Err(Refusal::Full);
+        }
+        self.begin_at(key, charge)
+    }
+
+    // Whether `begin_strictly` is refused as `Full`: the capacity has no room for the charge, and
+    // the key finds no entry.
+    #[inline(always)]
+    pub(crate) fn is_full_for(&self, key: &K, charge: u64) -> bool
+        ensures yes { IsTrue result → LacksCapacityFor self.now.cache charge
+            × IsAbsent K.eq self.now.cache key.now }
+        ensures no { IsFalse result → HasCapacityFor self.now.cache charge
+            ⊎ (IsAbsent K.eq self.now.cache key.now → ⊥) }
+        ensures lawful { IsLawful K.eq self.now.cache }
+    {
+        self.lacks_capacity_for(charge) && self.lacks_entry(key)
+    }
+
+    // Whether a charge exceeds the capacity together with the charges of the held entries. The idle
+    // entries do not count, since they would leave.
+    #[inline(always)]
+    pub(crate) fn lacks_capacity_for(&self, charge: u64) -> bool
+        ensures yes { IsTrue result → LacksCapacityFor self.now.cache charge }
+        ensures no { IsFalse result → HasCapacityFor self.now.cache charge }
+        ensures lawful { IsLawful K.eq self.now.cache }
+    {
+        let pinned = self.table.pinned_charge();
+        pinned > self.capacity || charge > self.capacity - pinned
+    }
+
+    // Whether the key finds no entry, in any phase.
+    fn lacks_entry(&self, key: &K) -> bool
+        ensures yes { IsTrue result → IsAbsent K.eq self.now.cache key.now }
+        ensures no { IsFalse result → IsAbsent K.eq self.now.cache key.now → ⊥ }
+    {
+        match self.table.find_key(self.table.hash_of(key), key) {
+            Some(_) => false,
+            None => true,
         }
     }
 
@@ -313,6 +371,7 @@ where
     }
 
     /// Does what `insert` does, with the same refusals, and also returns a hint of the new entry.
+    #[inline(always)]
     pub fn insert_at(
         &mut self,
         key: &K,
@@ -346,7 +405,35 @@ where
         Ok((inserted, spot.hint))
     }
 
+    /// Does what `insert_strictly` does, with the same refusals, and also returns a hint of the new
+    /// entry.
+    pub fn insert_strictly_at(
+        &mut self,
+        key: &K,
+        charge: u64,
+        value: M::Share,
+    ) -> Result<(Inserted<K, V, M>, Hint), (Refusal, M::Share)>
+        requires { 0 < charge }
+        ensures step { InsertsStrictly K.eq self.old.cache key.now charge (M.seen value)
+            (inserted_without_hint result) self.new.cache }
+        ensures request { Stands K.eq self.old.cache
+            (ask.insert_strictly key.now charge (M.seen value))
+            (outcome_of_insert_by M.seen (inserted_without_hint result)) self.new.cache }
+        ensures limit { IsWithinCapacity self.old.cache → IsWithinCapacity self.new.cache }
+        ensures work { IfOk result (λ r. self.new.work ≤ self.old.work + length
+            r.0.replaced + length r.0.evicted + 1) }
+        ensures same { OnErr result (self.new ≡ self.old) }
+        ensures back { IfErr result (λ e. e.1 ≡ value) }
+        ensures lawful { IsLawful K.eq self.new.cache }
+    {
+        if self.lacks_capacity_for(charge) {
+            return Err((Refusal::Full, value));
+        }
+        self.insert_at(key, charge, value)
+    }
+
     // `invalidate` followed by `begin`. Everything that can be refused precedes the first change.
+    #[inline(always)]
     fn remake(
         &mut self,
         key: &K,

@@ -33,6 +33,11 @@ module _ {V : Type 0} (K : Type 0) where
   begun_told k c (begun.Wait s) = refl
   begun_told k c (begun.Hit s a) = refl
 
+  pub begun_strictly_told : (k : K) (c : ℕ) (b : Begun (Arc V Global)) → told_of_begun b ≡ told_of (ask.begin_strictly k c) (reply_of_begun {K = K} b)
+  begun_strictly_told k c (begun.Make s) = refl
+  begun_strictly_told k c (begun.Wait s) = refl
+  begun_strictly_told k c (begun.Hit s a) = refl
+
   pub polled_told : (s : ℕ) (b : Begun (Arc V Global)) → told_of_begun b ≡ told_of (ask.poll s) (reply_of_begun {K = K} b)
   polled_told s (begun.Make t) = refl
   polled_told s (begun.Wait t) = refl

@@ -20,6 +20,7 @@ module _ {K V : Type 0} where
   -- what is asked and told does not look at values
   hit_by : (r : Request K V) (t : ℕ) → told_of_hit (request_by (no_value {V = V}) r) t ≡ told_of_hit r t
   hit_by (ask.begin k c) t = refl
+  hit_by (ask.begin_strictly k c) t = refl
   hit_by (ask.poll s) t = refl
   hit_by (ask.ready s v) t = refl
   hit_by (ask.fail s) t = refl
@@ -30,6 +31,7 @@ module _ {K V : Type 0} where
   hit_by (ask.advice_evict k) t = refl
   hit_by (ask.invalidate k) t = refl
   hit_by (ask.insert k c v) t = refl
+  hit_by (ask.insert_strictly k c v) t = refl
   hit_by (ask.read k) t = refl
   hit_by ask.prune t = refl
   hit_by (ask.set_capacity c) t = refl

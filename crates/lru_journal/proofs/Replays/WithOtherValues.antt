@@ -9,7 +9,7 @@ use Rattle.std.specs.FinMap.{FinMap, get, insert, remove, entries, entries_sorte
 use Rattle.std.specs.FinMap.Entries.{is_sorted, below_all}
 use Rattle.std.specs.FinMap.Entries.{find as find_entry}
 use Rattle.std.proofs.lemmas.Option.{same_Some, none-some}
-use Rattle.concurrent_lru.specs.Cache.{Cache, Idle, Held, Phase, making, untaken, ready, charges, sum_of, IsFront, Suffices, Settles, held_at, idle_at, IsFound}
+use Rattle.concurrent_lru.specs.Cache.{Cache, Idle, Held, Phase, making, untaken, ready, charges, pinned_of, sum_of, HasCapacityFor, IsFront, Suffices, Settles, held_at, idle_at, IsFound}
 use Rattle.concurrent_lru.specs.Steps.{IsAbsent, Holds, Makes, Joins, Revives, Hits, ChangesPhase, Leaves, Removes, Rests, Stays, Drops, Ends, Departs, PinsAgain, ReleasesAndEvicts, Repins, Detaches, IsUnready, IsNotIdle, Releases, Invalidates, Stores, Renews, Step, with_held, without}
 use Rattle.concurrent_lru.specs.Request as ask
 use Rattle.concurrent_lru.specs.Request.{Request}
@@ -104,6 +104,12 @@ module _ {K V W : Type 0} (f : V → W) where
   sum_by_same c = ap (λ n. n + sum_by (λ e. e.charge) (map (λ e. e.1) (entries (helds_by f c.held)))) (charges_by c.idle)
       ∙ ap (λ es. charges c.idle + sum_by (λ e. e.charge) (map (λ e. e.1) es)) (entries-from_sorted nat_cmp _ (sorted_helds c.held))
       ∙ ap (λ n. charges c.idle + n) (held_sums (entries c.held))
+
+  pinned_by_same : (c : Cache K V) → pinned_of (cache_by f c) ≡ pinned_of c
+  pinned_by_same c = ap (λ es. sum_by (λ e. e.charge) (map (λ e. e.1) es)) (entries-from_sorted nat_cmp _ (sorted_helds c.held)) ∙ held_sums (entries c.held)
+
+  capacity_by : (c : Cache K V) (charge : ℕ) → HasCapacityFor c charge → HasCapacityFor (cache_by f c) charge
+  capacity_by c charge h = subst (λ n. n + charge ≤ c.capacity) (sym (pinned_by_same c)) h
 
   -- entries that their keys find, with other values, are those entries
   found_before : (c : Cache K V) (s : ℕ) (k : K) (m : ℕ) → IsFound (cache_by f c) s k m → IsFound c s k m
@@ -347,6 +353,10 @@ module _ {K V W : Type 0} (f : V → W) where
     step_by old (ask.begin k c) (say.make s) out new (inr h) = inr (joins_by old k s untaken making out new h)
     step_by old (ask.begin k c) (say.wait s) out new h = joins_by old k s making making out new h
     step_by old (ask.begin k c) (say.hit s v) out new h = hits_by old k s v out new h
+    step_by old (ask.begin_strictly k c) (say.make s) out new (inl h) = inl (capacity_by old c h.0, makes_by old k c s out new h.1)
+    step_by old (ask.begin_strictly k c) (say.make s) out new (inr h) = inr (joins_by old k s untaken making out new h)
+    step_by old (ask.begin_strictly k c) (say.wait s) out new h = joins_by old k s making making out new h
+    step_by old (ask.begin_strictly k c) (say.hit s v) out new h = hits_by old k s v out new h
     step_by old (ask.poll s) (say.wait t) out new h = (h.0, changes_phase_by old s making making out new h.1)
     step_by old (ask.poll s) (say.make t) out new h = (h.0, changes_phase_by old s untaken making out new h.1)
     step_by old (ask.poll s) (say.hit t v) out new h = (h.0, changes_phase_by old s (ready v) (ready v) out new h.1)
@@ -362,6 +372,7 @@ module _ {K V W : Type 0} (f : V → W) where
     step_by old (ask.advice_evict k) say.done out new (inr h) = inr (not_idle_by old k h.0, stays_by old out new h.1)
     step_by old (ask.invalidate k) say.done out new h = invalidates_by old k out new h
     step_by old (ask.insert k c v) (say.inserted s) out new h = stores_by old k c v s out new h
+    step_by old (ask.insert_strictly k c v) (say.inserted s) out new h = (capacity_by old c h.0, stores_by old k c v s out new h.1)
     step_by old (ask.read k) (say.read s v) out new h = renews_by old k s v out new h
     step_by old (ask.read k) say.missed out new h = (unready_by old k h.0, stays_by old out new h.1)
     step_by old ask.prune say.done out new h = (ap (map (idle_by f)) h.0, ap (cache_by f) h.1)

@@ -57,6 +57,34 @@ impl<'a, K: Hash + Eq + Clone, V: Drop> JournalCall<K, V> for Begin<'a, K> {
     }
 }
 
+/// `Journal::begin_strictly`.
+#[derive(Drop)]
+pub struct BeginStrictly<'a, K> {
+    pub(crate) key: &'a K,
+    pub(crate) charge: u64,
+    ghost charged: { 0 < charge },
+}
+
+impl<'a, K: Hash + Eq + Clone, V: Drop> JournalCall<K, V> for BeginStrictly<'a, K> {
+    type Answer = (Begun<V>, Evicted<K, V>);
+
+    type Refused = Refusal;
+
+    ghost use Rattle.std.specs.Prelude.{◌≢◌};
+    ghost use Rattle.concurrent_lru.specs.declared.refusal.Refusal.TheVariants.{Stale};
+    ghost use Rattle.lru_journal.specs.Records.{record_of};
+    ghost use Rattle.lru_journal.specs.Replay.{told_of_begun, IsOfCopy};
+    ghost use Rattle.concurrent_lru.specs.Request as ask;
+
+    ghost is_record = { λ s begun. IsOfCopy K.eq s.key.now (λ copy. record_of (ask.begin_strictly copy s.charge) (told_of_begun begun.0)) };
+
+    ghost may_refuse = { λ s e. e ≢ Stale };
+
+    fn apply(self, journal: &mut Journal<K, V>) -> Result<(Begun<V>, Evicted<K, V>), Refusal> {
+        journal.begin_strictly(self.key, self.charge)
+    }
+}
+
 /// `Journal::poll`.
 #[derive(Drop)]
 pub struct Poll {
@@ -321,6 +349,36 @@ impl<'a, K: Hash + Eq + Clone, V: Drop> JournalCall<K, V> for Insert<'a, K, V> {
 
     fn apply(self, journal: &mut Journal<K, V>) -> Result<Inserted<K, V>, (Refusal, Arc<V>)> {
         journal.insert(self.key, self.charge, self.value)
+    }
+}
+
+/// `Journal::insert_strictly`.
+#[derive(Drop)]
+pub struct InsertStrictly<'a, K, V> {
+    pub(crate) key: &'a K,
+    pub(crate) charge: u64,
+    pub(crate) value: Arc<V>,
+    ghost charged: { 0 < charge },
+}
+
+impl<'a, K: Hash + Eq + Clone, V: Drop> JournalCall<K, V> for InsertStrictly<'a, K, V> {
+    type Answer = Inserted<K, V>;
+
+    type Refused = (Refusal, Arc<V>);
+
+    ghost use Rattle.std.specs.Prelude.{◌≡◌, ◌≢◌};
+    ghost use Rattle.concurrent_lru.specs.declared.refusal.Refusal.TheVariants.{Stale};
+    ghost use Rattle.lru_journal.specs.Records.{record_of};
+    ghost use Rattle.lru_journal.specs.Replay.{IsOfCopy};
+    ghost use Rattle.concurrent_lru.specs.Request as ask;
+    ghost use Rattle.lru_journal.specs.declared.record.Told.TheVariants as told;
+
+    ghost is_record = { λ s inserted. IsOfCopy K.eq s.key.now (λ copy. record_of (ask.insert_strictly copy s.charge tt) (told.Inserted inserted.stamp)) };
+
+    ghost may_refuse = { λ s e. (e.0 ≢ Stale) × (e.1 ≡ s.value) };
+
+    fn apply(self, journal: &mut Journal<K, V>) -> Result<Inserted<K, V>, (Refusal, Arc<V>)> {
+        journal.insert_strictly(self.key, self.charge, self.value)
     }
 }
 

@@ -81,6 +81,7 @@ impl Line {
             Refusal::Memory => Err(refusal),
             Refusal::Overflow => self.show("overflow"),
             Refusal::Stale => self.show("stale"),
+            Refusal::Full => self.show("full"),
         }
     }
 }

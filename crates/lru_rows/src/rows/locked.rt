@@ -111,5 +111,6 @@ fn handle<'a, R: Wait>(
         Err(GetError::Init(())) => Ok(None),
         Err(GetError::Memory) => Err(Refusal::Memory),
         Err(GetError::Overflow) => Err(Refusal::Overflow),
+        Err(GetError::Full) => Err(Refusal::Full),
     }
 }

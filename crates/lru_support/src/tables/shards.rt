@@ -16,6 +16,8 @@ pub enum ShardCall {
     Use(u64),
     /// `begin` with a key and a charge.
     Begin(u64, u64),
+    /// `begin_strictly` with a key and a charge.
+    BeginStrictly(u64, u64),
     /// `get` with a key.
     Get(u64),
     /// `read` with a key, by a reader that copies the value.
@@ -26,6 +28,8 @@ pub enum ShardCall {
     Invalidate(u64),
     /// `insert` with a key, a charge and a value.
     Insert(u64, u64, u64),
+    /// `insert_strictly` with a key, a charge and a value.
+    InsertStrictly(u64, u64, u64),
     /// `poll`.
     Poll(usize, u64),
     /// `ready` with a value.
@@ -53,13 +57,21 @@ impl<S: BuildHasher + Drop> Answers<ShardCall> for Shards<u64, u64, S> {
             ShardCall::Begin(key, charge) if charge > 0 => {
                 text_of(alloc, &self.begin(&key, charge))
             }
+            ShardCall::BeginStrictly(key, charge) if charge > 0 => {
+                text_of(alloc, &self.begin_strictly(&key, charge))
+            }
             ShardCall::Insert(key, charge, value) if charge > 0 => {
                 let value = Arc::new(alloc, value)?;
                 text_of(alloc, &self.insert(&key, charge, value))
             }
-            ShardCall::Begin(..) | ShardCall::Insert(..) => {
-                String::from_str(alloc, "a charge is above 0")
+            ShardCall::InsertStrictly(key, charge, value) if charge > 0 => {
+                let value = Arc::new(alloc, value)?;
+                text_of(alloc, &self.insert_strictly(&key, charge, value))
             }
+            ShardCall::Begin(..)
+            | ShardCall::BeginStrictly(..)
+            | ShardCall::Insert(..)
+            | ShardCall::InsertStrictly(..) => String::from_str(alloc, "a charge is above 0"),
             ShardCall::Get(key) => text_of(alloc, &self.get(&key)),
             ShardCall::Read(key) => text_of(alloc, &self.read(&key, |value| *value)),
             ShardCall::AdviceEvict(key) => text_of(alloc, &self.advice_evict(&key)),

@@ -27,6 +27,7 @@ impl From<GetError<u64>> for NoHandle {
         match error {
             GetError::Memory => NoHandle::Refused(Refusal::Memory),
             GetError::Overflow => NoHandle::Refused(Refusal::Overflow),
+            GetError::Full => NoHandle::Refused(Refusal::Full),
             GetError::Init(key) => NoHandle::Failed(key),
         }
     }

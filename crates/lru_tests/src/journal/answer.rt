@@ -22,9 +22,9 @@ pub(crate) enum Answer {
     /// To `Ready`, `Release` and `ReleaseAndEvict`: a refusal, and the stamp and the value that were
     /// returned with it.
     Back(Refusal, u64, u64),
-    /// To `Insert`: a refusal, and the value that was returned with it.
+    /// To `Insert` and `InsertStrictly`: a refusal, and the value that was returned with it.
     NotInserted(Refusal, u64),
-    /// The call was not made: a `Begin` at charge 0, or one that journals do not have.
+    /// The call was not made: one at charge 0, or one that journals do not have.
     Unmade,
 }
 

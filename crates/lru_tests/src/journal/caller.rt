@@ -19,6 +19,7 @@ pub(crate) fn ask<R: Wait + Drop, I: Identity>(
 {
     match call {
         Call::Begin(key, charge) => Ok(begin(cache, tally, key, charge)),
+        Call::BeginStrictly(key, charge) => Ok(begin_strictly(cache, tally, key, charge)),
         Call::Ready(stamp, value) => Ok(ready(cache, tally, stamp, Arc::new(alloc, value)?)),
         Call::Release(stamp) => {
             let pin = Pin::new(stamp, Arc::new(alloc, PINNED)?);
@@ -30,6 +31,10 @@ pub(crate) fn ask<R: Wait + Drop, I: Identity>(
         }
         Call::Insert(key, charge, value) => {
             Ok(insert(cache, tally, key, charge, Arc::new(alloc, value)?))
+        }
+        Call::InsertStrictly(key, charge, value) => {
+            let value = Arc::new(alloc, value)?;
+            Ok(insert_strictly(cache, tally, key, charge, value))
         }
         _ => Ok(ask_with_numbers(cache, tally, call)),
     }
@@ -72,6 +77,20 @@ fn begin<R: Wait + Drop, I: Identity>(
     Answer::of(cache.begin(tally, &key, charge))
 }
 
+fn begin_strictly<R: Wait + Drop, I: Identity>(
+    cache: &Twin<u64, u64, R, I>,
+    tally: &mut Tally<u64, I>,
+    key: u64,
+    charge: u64,
+) -> Answer
+    ensures { tally.new.parts ≡ tally.old.parts }
+{
+    if charge == 0 {
+        return Answer::Unmade;
+    }
+    Answer::of(cache.begin_strictly(tally, &key, charge))
+}
+
 fn ready<R: Wait + Drop, I: Identity>(
     cache: &Twin<u64, u64, R, I>,
     tally: &mut Tally<u64, I>,
@@ -106,6 +125,24 @@ fn insert<R: Wait + Drop, I: Identity>(
         return Answer::Unmade;
     }
     match cache.insert(tally, &key, charge, value) {
+        Ok(pin) => Answer::Gives(Told::Inserted(pin.stamp()), *pin.value()),
+        Err((refusal, value)) => Answer::NotInserted(refusal, *value),
+    }
+}
+
+fn insert_strictly<R: Wait + Drop, I: Identity>(
+    cache: &Twin<u64, u64, R, I>,
+    tally: &mut Tally<u64, I>,
+    key: u64,
+    charge: u64,
+    value: Arc<u64>,
+) -> Answer
+    ensures { tally.new.parts ≡ tally.old.parts }
+{
+    if charge == 0 {
+        return Answer::Unmade;
+    }
+    match cache.insert_strictly(tally, &key, charge, value) {
         Ok(pin) => Answer::Gives(Told::Inserted(pin.stamp()), *pin.value()),
         Err((refusal, value)) => Answer::NotInserted(refusal, *value),
     }

@@ -7,13 +7,13 @@
 use crate::journal::answer::Answer::{Back, Gives, NotInserted, Refused, Says};
 use crate::journal::answer::PINNED;
 use crate::journal::table::{Row, ask_all};
-use concurrent_lru::lru_core::Refusal::{Overflow, Stale};
+use concurrent_lru::lru_core::Refusal::{Full, Overflow, Stale};
 use lru_journal::journal::Told::{
     Done, Found, Hit, Inserted, Left, Make, Missed, Removed, Total as Sum, Wait,
 };
 use lru_support::tables::Call::{
-    AdviceEvict, Begin, Fail, Get, Insert, Invalidate, Poll, Prune, Read, Ready, Release,
-    ReleaseAndEvict, Repin, SetCapacity, Total,
+    AdviceEvict, Begin, BeginStrictly, Fail, Get, Insert, InsertStrictly, Invalidate, Poll, Prune,
+    Read, Ready, Release, ReleaseAndEvict, Repin, SetCapacity, Total,
 };
 use std::test;
 
@@ -334,4 +334,50 @@ fn a_repin_and_a_release_that_evicts_are_one_record_each(
     rt: HostRuntime,
 ) -> Result<(), test::Fail> {
     ask_all(&rt, rt.alloc(), 10, &REPINS)
+}
+
+// Strict calls: what is refused as full is not recorded, and the rest is.
+static STRICT: [Row; 12] = [
+    (
+        BeginStrictly(1, 3),
+        Says(Make(0)),
+        &[],
+        "begin_strictly 1 3 -> make 0",
+    ),
+    (BeginStrictly(2, 2), Refused(Full), &[], ""),
+    (
+        BeginStrictly(1, 3),
+        Says(Wait(0)),
+        &[],
+        "begin_strictly 1 3 -> wait 0",
+    ),
+    (Ready(0, 10), Says(Done), &[], "ready 0 -> done"),
+    (
+        BeginStrictly(1, 3),
+        Gives(Hit(0), 10),
+        &[],
+        "begin_strictly 1 3 -> hit 0",
+    ),
+    (InsertStrictly(1, 2, 11), NotInserted(Full, 11), &[], ""),
+    (
+        InsertStrictly(1, 1, 11),
+        Gives(Inserted(1), 11),
+        &[],
+        "insert_strictly 1 1 -> inserted 1",
+    ),
+    (Release(1), Says(Done), &[], "release 1 -> done"),
+    (
+        BeginStrictly(2, 1),
+        Says(Make(2)),
+        &[(1, 1)],
+        "begin_strictly 2 1 -> make 2",
+    ),
+    (InsertStrictly(3, 1, 30), NotInserted(Full, 30), &[], ""),
+    (Fail(2), Gives(Removed, 2), &[], "fail 2 -> removed"),
+    (Total, Says(Sum(3)), &[], "total -> total 3"),
+];
+
+#[test]
+fn a_strict_call_is_recorded_unless_it_is_refused(rt: HostRuntime) -> Result<(), test::Fail> {
+    ask_all(&rt, rt.alloc(), 4, &STRICT)
 }

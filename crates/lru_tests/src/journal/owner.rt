@@ -75,7 +75,11 @@ pub(crate) fn ask(
             Arc::new(alloc, value)?,
         ))),
         Call::Insert(key, charge, value) => insert(alloc, journal, key, charge, value),
+        Call::InsertStrictly(key, charge, value) => {
+            insert_strictly(alloc, journal, key, charge, value)
+        }
         Call::Begin(key, charge) => Ok(begin(journal, key, charge)),
+        Call::BeginStrictly(key, charge) => Ok(begin_strictly(journal, key, charge)),
         Call::Release(stamp) => Ok(released(journal.release(stamp), stamp)),
         Call::ReleaseAndEvict(stamp) => Ok(released(journal.release_and_evict(stamp), stamp)),
         Call::AdviceEvict(key) => Ok(Heard::evicts(journal.advice_evict(&key))),
@@ -109,6 +113,16 @@ fn begin(journal: &mut Journal<u64, u64>, key: u64, charge: u64) -> Heard {
     }
 }
 
+fn begin_strictly(journal: &mut Journal<u64, u64>, key: u64, charge: u64) -> Heard {
+    if charge == 0 {
+        return Heard::from(Answer::Unmade);
+    }
+    match journal.begin_strictly(&key, charge) {
+        Ok((begun, evicted)) => Heard::of(Answer::from(begun), evicted),
+        Err(refusal) => Heard::from(Answer::Refused(refusal)),
+    }
+}
+
 fn ready(journal: &mut Journal<u64, u64>, stamp: u64, value: Arc<u64>) -> Answer {
     match journal.ready(stamp, value) {
         Ok(()) => Answer::Says(Told::Done),
@@ -136,6 +150,26 @@ fn insert(
         return Ok(Heard::from(Answer::Unmade));
     }
     match journal.insert(&key, charge, Arc::new(alloc, value)?) {
+        Ok(inserted) => Ok(Heard {
+            answer: Answer::Gives(Told::Inserted(inserted.stamp), value),
+            replaced: Some(inserted.replaced),
+            evicted: Some(inserted.evicted),
+        }),
+        Err((refusal, value)) => Ok(Heard::from(Answer::NotInserted(refusal, *value))),
+    }
+}
+
+fn insert_strictly(
+    alloc: Global,
+    journal: &mut Journal<u64, u64>,
+    key: u64,
+    charge: u64,
+    value: u64,
+) -> Result<Heard, AllocError> {
+    if charge == 0 {
+        return Ok(Heard::from(Answer::Unmade));
+    }
+    match journal.insert_strictly(&key, charge, Arc::new(alloc, value)?) {
         Ok(inserted) => Ok(Heard {
             answer: Answer::Gives(Told::Inserted(inserted.stamp), value),
             replaced: Some(inserted.replaced),

@@ -10,6 +10,7 @@ fn each_kind_of_record_has_its_text(rt: HostRuntime) -> Result<(), Fail> {
     let kinds = vec![in alloc;
         (Recorded::Begin(7, 3), Told::Make(0)),
         (Recorded::Begin(7, 3), Told::Wait(1)),
+        (Recorded::BeginStrictly(7, 3), Told::Make(2)),
         (Recorded::Poll(1), Told::Hit(1)),
         (Recorded::Ready(2), Told::Done),
         (Recorded::Fail(3), Told::Left),
@@ -22,6 +23,7 @@ fn each_kind_of_record_has_its_text(rt: HostRuntime) -> Result<(), Fail> {
         (Recorded::AdviceEvict(8), Told::Done),
         (Recorded::Invalidate(8), Told::Done),
         (Recorded::Insert(8, 18446744073709551615), Told::Inserted(7)),
+        (Recorded::InsertStrictly(8, 2), Told::Inserted(8)),
         (Recorded::Read(8), Told::Found(7)),
         (Recorded::Read(9), Told::Missed),
         (Recorded::Prune, Told::Done),
@@ -34,6 +36,7 @@ fn each_kind_of_record_has_its_text(rt: HostRuntime) -> Result<(), Fail> {
     }
     let expected = "begin 7 3 -> make 0\n\
         begin 7 3 -> wait 1\n\
+        begin_strictly 7 3 -> make 2\n\
         poll 1 -> hit 1\n\
         ready 2 -> done\n\
         fail 3 -> left\n\
@@ -46,6 +49,7 @@ fn each_kind_of_record_has_its_text(rt: HostRuntime) -> Result<(), Fail> {
         advice 8 -> done\n\
         invalidate 8 -> done\n\
         insert 8 18446744073709551615 -> inserted 7\n\
+        insert_strictly 8 2 -> inserted 8\n\
         read 8 -> some 7\n\
         read 9 -> none\n\
         prune -> done\n\

@@ -24,23 +24,40 @@ pub(crate) fn ask_all<R: Wait + Abort>(
     capacity: u64,
     rows: &[Row],
 ) -> Result<(), Fail> {
-    let mut journal = Journal::new(alloc, capacity);
-    for (number, (call, wanted, left, _)) in rows.iter().enumerate() {
-        let heard = owner::ask(alloc, &mut journal, *call)?;
-        assert_eq!(rt;
-            heard.answer,
-            *wanted,
-            "at row {number} of the journal, {call:?}"
-        );
-        assert_eq!(rt;
-            heard.gone(alloc)?.as_slice(),
-            *left,
-            "what left at row {number}, {call:?}"
-        );
-    }
-    read_records(rt, alloc, journal.records(), rows)?;
+    ask_journal(rt, alloc, Journal::new(alloc, capacity), rows)?;
     let opening = Opening::<u64>::new(alloc, capacity)?;
     ask_twin::<Brand, R>(rt, alloc, opening, rows)
+}
+
+fn ask_journal<R: Abort>(
+    rt: &R,
+    alloc: Global,
+    mut journal: Journal<u64, u64>,
+    rows: &[Row],
+) -> Result<(), Fail> {
+    for (number, row) in rows.iter().enumerate() {
+        ask_row(rt, alloc, &mut journal, number, row)?;
+    }
+    read_records(rt, alloc, journal.records(), rows)
+}
+
+fn ask_row<R: Abort>(
+    rt: &R,
+    alloc: Global,
+    journal: &mut Journal<u64, u64>,
+    number: usize,
+    row: &Row,
+) -> Result<(), Fail> {
+    let (call, wanted, left, _) = row;
+    let heard = owner::ask(alloc, journal, *call)?;
+    let (answer, gone) = (heard.answer, heard.gone(alloc)?);
+    assert_eq!(rt; answer, *wanted, "at row {number} of the journal, {call:?}");
+    assert_eq!(rt;
+        gone.as_slice(),
+        *left,
+        "what left at row {number}, {call:?}"
+    );
+    Ok(())
 }
 
 fn ask_twin<I: Identity, R: Wait + Abort>(

@@ -3,6 +3,7 @@
 ghost use Rattle.std.specs.Prelude.{◌<◌};
 
 use crate::state::copies::Copies;
+use crate::state::entries::seen_in;
 use crate::state::plain::Plain;
 use concurrent_lru::lru_core::State;
 use lru_support::tables::{Answers, Call};
@@ -53,5 +54,15 @@ impl Both {
             wanted,
             "with copied values, at {place:?}, {call:?}"
         );
+    }
+
+    /// Walks over the entries of both. If the walks show other entries, or say anything else of
+    /// one, the test ends with what they show, and its place.
+    pub(crate) fn walk(&self, rt: &impl Abort, place: &impl Debug) {
+        let seen = seen_in(self.alloc, &self.state).expect(rt, "memory");
+        let wanted = self.plain.seen(self.alloc).expect(rt, "memory");
+        assert_eq!(rt; seen, wanted, "at {place:?}");
+        let copied = self.copies.seen(self.alloc).expect(rt, "memory");
+        assert_eq!(rt; copied, wanted, "with copied values, at {place:?}");
     }
 }

@@ -2,6 +2,7 @@
 //! of each entry that it pinned, and finds the entry by it.
 ghost use Rattle.std.specs.Prelude.{◌<◌};
 
+use crate::state::entries::{Seen, seen_in};
 use concurrent_lru::lru_core::{Hint, Place, Spot, State};
 use concurrent_lru::share::ByCopy;
 use concurrent_lru::step::Begun;
@@ -31,6 +32,12 @@ impl Copies {
             state: State::without_stamp_map(alloc, capacity, first_stamp, most_pins, seed),
             hints: HashMap::new(alloc),
         }
+    }
+
+    /// Returns what a walk over the entries shows, in the order of the stamps. Returns `AllocError`
+    /// if memory is refused.
+    pub(crate) fn seen(&self, alloc: Global) -> Result<Vec<Seen>, AllocError> {
+        seen_in(alloc, &self.state)
     }
 
     fn keep(&mut self, stamp: u64, hint: Hint) -> Result<(), AllocError> {
@@ -67,8 +74,28 @@ impl Answers<Call> for Copies {
                 };
                 text_of(alloc, &answer)
             }
+            Call::BeginStrictly(key, charge) if charge > 0 => {
+                let answer = match self.state.begin_strictly_at(&key, charge) {
+                    Ok((begun, evicted, hint)) => {
+                        self.keep(stamp_of(&begun), hint)?;
+                        Ok((begun, evicted))
+                    }
+                    Err(refusal) => Err(refusal),
+                };
+                text_of(alloc, &answer)
+            }
             Call::Insert(key, charge, value) if charge > 0 => {
                 let answer = match self.state.insert_at(&key, charge, value) {
+                    Ok((inserted, hint)) => {
+                        self.keep(inserted.stamp, hint)?;
+                        Ok(inserted)
+                    }
+                    Err(refused) => Err(refused),
+                };
+                text_of(alloc, &answer)
+            }
+            Call::InsertStrictly(key, charge, value) if charge > 0 => {
+                let answer = match self.state.insert_strictly_at(&key, charge, value) {
                     Ok((inserted, hint)) => {
                         self.keep(inserted.stamp, hint)?;
                         Ok(inserted)

@@ -57,6 +57,7 @@ fn gives_a_free_place_out_again(rt: HostRuntime) -> Result<(), Fail> {
 fn numbers_its_refusals(rt: HostRuntime) {
     assert_eq!(rt; Refusal::Memory.code(), 1);
     assert_eq!(rt; Refusal::Overflow.code(), 2);
+    assert_eq!(rt; Refusal::Full.code(), 5);
     assert_eq!(rt; Refusal::Stale.code(), 3);
 }
 

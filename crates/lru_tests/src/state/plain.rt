@@ -2,6 +2,7 @@
 //!
 //! Its answers are those expected of the cache.
 
+use crate::state::entries::Seen;
 use concurrent_lru::lru_core::Refusal;
 use lru_support::tables::{Answers, Call, text_of};
 use std::alloc::{AllocError, Global};
@@ -113,6 +114,26 @@ impl Plain {
             releases: 0,
             entries: Vec::new(alloc),
         }
+    }
+
+    /// Returns what a walk over the entries shows, in the order of the stamps. Returns `AllocError`
+    /// if memory is refused.
+    pub(crate) fn seen(&self, alloc: Global) -> Result<Vec<Seen>, AllocError> {
+        let mut seen = Vec::new(alloc);
+        for entry in &self.entries {
+            if let Phase::Ready(value) = entry.phase {
+                seen.push((
+                    entry.stamp,
+                    entry.key,
+                    entry.charge,
+                    entry.pins,
+                    entry.detached,
+                    value,
+                ))?;
+            }
+        }
+        seen.sort()?;
+        Ok(seen)
     }
 
     fn of_key(&self, key: u64) -> Option<Entry> {
@@ -235,6 +256,24 @@ impl Plain {
         }
         self.pin(entry);
         Ok((begun, Evicted([None; KEYS])))
+    }
+
+    // Whether the capacity has room for the charge beside those of the entries that are not idle.
+    fn has_capacity_for(&self, charge: u64) -> bool {
+        let mut sum: u64 = charge;
+        for entry in &self.entries {
+            if entry.pins > 0 {
+                sum = sum.saturating_add(entry.charge);
+            }
+        }
+        sum <= self.capacity
+    }
+
+    fn begin_strictly(&mut self, key: u64, charge: u64) -> Result<(Begun, Evicted), Refusal> {
+        if self.of_key(key).is_none() && !self.has_capacity_for(charge) {
+            return Err(Refusal::Full);
+        }
+        self.begin(key, charge)
     }
 
     fn make(&mut self, key: u64, charge: u64) -> Result<(Begun, Evicted), Refusal> {
@@ -413,6 +452,18 @@ impl Plain {
         })
     }
 
+    fn insert_strictly(
+        &mut self,
+        key: u64,
+        charge: u64,
+        value: u64,
+    ) -> Result<Inserted, (Refusal, u64)> {
+        if !self.has_capacity_for(charge) {
+            return Err((Refusal::Full, value));
+        }
+        self.insert(key, charge, value)
+    }
+
     fn key_of(&self, stamp: u64) -> Option<u64> {
         Some(self.of_stamp(stamp)?.key)
     }
@@ -428,6 +479,7 @@ impl Answers<Call> for Plain {
         self.pinned = None;
         match call {
             Call::Begin(key, charge) => text_of(alloc, &self.begin(key, charge)),
+            Call::BeginStrictly(key, charge) => text_of(alloc, &self.begin_strictly(key, charge)),
             Call::Poll(stamp) => text_of(alloc, &self.poll(stamp)),
             Call::Ready(stamp, value) => text_of(alloc, &self.ready(stamp, value)),
             Call::Fail(stamp) => text_of(alloc, &self.fail(stamp)),
@@ -439,6 +491,9 @@ impl Answers<Call> for Plain {
             Call::AdviceEvict(key) => text_of(alloc, &self.advice_evict(key)),
             Call::Invalidate(key) => text_of(alloc, &self.invalidate(key)),
             Call::Insert(key, charge, value) => text_of(alloc, &self.insert(key, charge, value)),
+            Call::InsertStrictly(key, charge, value) => {
+                text_of(alloc, &self.insert_strictly(key, charge, value))
+            }
             Call::Prune => text_of(alloc, &self.settle(0)),
             Call::SetCapacity(capacity) => text_of(alloc, &self.set_capacity(capacity)),
             Call::Total => text_of(alloc, &self.total()),

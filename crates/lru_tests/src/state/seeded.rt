@@ -10,9 +10,9 @@ use std::alloc::Global;
 use std::process::Abort;
 
 // How many kinds of calls are drawn: all of them, or only the first ones, in which no key is
-// invalidated, no value inserted or read without a pin, no entry pinned again by its stamp or evicted
-// with its last pin, and the capacity stays.
-const KINDS: u64 = 16;
+// invalidated, no value inserted or read without a pin, no entry pinned again by its stamp or
+// evicted with its last pin, no call is strict, and the capacity stays.
+const KINDS: u64 = 18;
 
 const FIRST_KINDS: u64 = 9;
 
@@ -42,7 +42,9 @@ fn draw(generator: &mut Xoshiro256PlusPlus, kinds: u64, next: u64) -> Call
         12 => Call::Read(key),
         13 => Call::SetCapacity(8 + c % 5),
         14 => Call::ReleaseAndEvict(stamp),
-        _ => Call::Repin(stamp),
+        15 => Call::Repin(stamp),
+        16 => Call::BeginStrictly(key, 1 + c % 4),
+        _ => Call::InsertStrictly(key, 1 + c % 4, b),
     }
 }
 
@@ -100,6 +102,20 @@ fn answers_alike_where_pins_are_given_back(rt: HostRuntime) {
                 both.take(&rt, &("seed", seed, "call", number), Call::Release(oldest));
             }
             held = [held[1], Some(pinned)];
+        }
+    }
+}
+
+// A walk after each call shows what it left.
+#[test]
+fn shows_the_entries_of_a_plain_cache(rt: HostRuntime) {
+    for seed in 1..=5u64 {
+        let mut both = both_of_ten(rt.alloc());
+        let mut generator = Xoshiro256PlusPlus::seed_from_u64(seed);
+        for number in 0..1_000u32 {
+            let call = draw(&mut generator, KINDS, both.plain.next);
+            both.take(&rt, &("seed", seed, "call", number), call);
+            both.walk(&rt, &("seed", seed, "call", number));
         }
     }
 }

@@ -39,6 +39,11 @@ fn an_error_of_init_is_told_as_it_tells_itself(rt: HostRuntime) -> Result<(), Fa
         text_of(rt.alloc(), overflow)?.as_str(),
         "a number is at its end"
     );
+    let full: GetError<Refusal> = GetError::Full;
+    assert_eq!(rt;
+        text_of(rt.alloc(), full)?.as_str(),
+        "the cache is full of held entries"
+    );
     let own = GetError::Init(Refusal::Stale);
     assert_eq!(rt;
         text_of(rt.alloc(), own)?.as_str(),

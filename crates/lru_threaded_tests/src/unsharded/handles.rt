@@ -74,4 +74,5 @@ fn an_error_has_a_code(rt: HostRuntime) {
     assert_eq!(rt; GetError::<u8>::Memory.code(), 1);
     assert_eq!(rt; GetError::<u8>::Overflow.code(), 2);
     assert_eq!(rt; GetError::Init(9u8).code(), 4);
+    assert_eq!(rt; GetError::<u8>::Full.code(), 5);
 }

@@ -32,6 +32,7 @@ impl From<GetError<Failure>> for Failure {
             GetError::Init(failure) => failure,
             GetError::Memory => Failure::Refused(Refusal::Memory),
             GetError::Overflow => Failure::Refused(Refusal::Overflow),
+            GetError::Full => Failure::Refused(Refusal::Full),
         }
     }
 }

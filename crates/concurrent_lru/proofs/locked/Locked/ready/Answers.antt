@@ -26,4 +26,4 @@ returns-clause-no_entry g c =
     let is = ap (λ x. x.cache) c.self.view_is in
     λ none.
     let back = keyed_no_entry g.K.PartialEq.eq _ c.ready_keyed-back.new.self.cache c.making.inside.spot.stamp c.args.key.now c.args.stored _ ready.keyed ready.same ready.back (λ at. none (subst (λ m. HasEqualKeyAt g.K.PartialEq.eq c.args.self.now.cache m.stamp c.args.key.now) c.making.view_is (subst (λ old. HasEqualKeyAt g.K.PartialEq.eq old c.making.inside.spot.stamp c.args.key.now) is at))) in
-    (c.of.ensures ∙ back.0, λ j. record { cache = (back.1 ∙ is) j; counts = (ready.counts ∙ ap (λ x. x.counts) c.self.view_is) j })
+    (c.of.ensures ∙ back.0, λ j. record { cache = (back.1 ∙ is) j; counts = (ready.counts ∙ ap (λ x. x.counts) c.self.view_is) j; strict = ap (λ x. x.strict) c.self.view_is j })

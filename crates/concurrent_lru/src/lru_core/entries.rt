@@ -1,0 +1,139 @@
+//! A walk over the entries of a cache that have a value.
+ghost use Rattle.std.specs.Prelude.{◌≡◌, None, Some, MatchOption};
+ghost use Rattle.concurrent_lru.specs.NodeTable.{entry_of};
+ghost use Rattle.concurrent_lru.specs.ReadyEntries.{ListsReady, entry_of_ref, ready_in, ready_from_node};
+
+use crate::lru_core::State;
+use crate::node_table::{Node, Phase, Place};
+use crate::share::{ByArc, Sharing, Stored};
+use crate::table::Table;
+use std::hash::Hash;
+use std::iter::FusedIterator;
+use std::marker::Model;
+
+/// An entry of a cache by reference. Its value is ready.
+#[derive(Debug, Drop)]
+pub struct EntryRef<'a, K, V> {
+    /// The number that identifies the entry.
+    pub stamp: u64,
+    /// The cache's own copy of the key.
+    pub key: &'a K,
+    /// What the entry adds to the total.
+    pub charge: u64,
+    /// How many pins the entry has: 0 if it is idle.
+    pub pins: u32,
+    /// Whether the entry was invalidated while it was held, so that its key no longer finds it.
+    pub is_detached: bool,
+    /// The value.
+    pub value: &'a V,
+}
+
+/// An iterator over the entries of a cache that have a value, in an unspecified order.
+///
+/// Clauses see the list of the entries that are left. [`State::entries`] makes one. Taking an entry
+/// takes no memory and changes nothing in the cache.
+#[derive(Drop)]
+pub struct Entries<'a, K: Hash + Eq + Clone, V, M: Sharing<V> = ByArc> {
+    table: &'a Table<K, Stored<V, M>>,
+    // The number of the next place, and one above those of all places that have an entry.
+    next: usize,
+    end: usize,
+}
+
+impl<'a, K: Hash + Eq + Clone, V, M: Sharing<V>> Model for Entries<'a, K, V, M> {
+    ghost use Rattle.std.specs.Prelude.{List, ◌-◌};
+    ghost use Rattle.concurrent_lru.specs.ReadyEntries.{ReadyEntry, ready_between};
+
+    ghost Value = { List (ReadyEntry K V) };
+
+    ghost view = { λ it. ready_between it.table.now it.next (it.end - it.next) };
+}
+
+impl<'a, K: Hash + Eq + Clone, V: Drop, M: Sharing<V>> Iterator for Entries<'a, K, V, M>
+where
+    M::Share: Drop,
+{
+    ghost use Rattle.std.specs.Iterator.{YieldsFirstBy, item_count};
+    ghost use Rattle.concurrent_lru.specs.ReadyEntries.{entry_of_ref};
+
+    type Item = EntryRef<'a, K, V>;
+
+    ghost next_gives = { YieldsFirstBy entry_of_ref (λ rest. rest) };
+
+    ghost remaining = { item_count (λ rest. rest) };
+
+    fn next(&mut self) -> Option<EntryRef<'a, K, V>> {
+        while self.next < self.end {
+            let place = Place::at(self.next);
+            self.next += 1;
+            if let Some(entry) = entry_at(self.table, place) {
+                return Some(entry);
+            }
+        }
+        None
+    }
+}
+
+impl<'a, K: Hash + Eq + Clone, V: Drop, M: Sharing<V>> FusedIterator for Entries<'a, K, V, M>
+where
+    M::Share: Drop,
+{}
+
+impl<K: Hash + Eq + Clone, V: Drop, M: Sharing<V>> State<K, V, M>
+where
+    M::Share: Drop,
+{
+    /// Returns an iterator over the entries that have a value, idle or held, in an unspecified
+    /// order. Changes nothing: it pins no entry, and leaves the order of eviction as it is. Takes
+    /// no memory.
+    ///
+    /// Entries whose value is still being made are left out. Entries that were invalidated while
+    /// they were held are included, since their holders still use them, and are marked by
+    /// `is_detached`; leave these out to see only the entries that keys find.
+    ///
+    /// An iteration to the end takes time proportional to the greatest number of entries that the
+    /// cache ever had at one time.
+    pub fn entries(&self) -> Entries<'_, K, V, M>
+        ensures { ListsReady self.now.cache result }
+    {
+        Entries {
+            table: &self.table,
+            next: 0,
+            end: self.table.end_of_places(),
+        }
+    }
+}
+
+// Returns the entry at a place, if there is one and it has a value.
+fn entry_at<'a, K: Hash + Eq + Clone, V: Drop, M: Sharing<V>>(
+    table: &'a Table<K, Stored<V, M>>,
+    place: Place,
+) -> Option<EntryRef<'a, K, V>>
+where
+    M::Share: Drop,
+    ensures { MatchOption result (ready_in table.now place ≡ None)
+        (λ entry. ready_in table.now place ≡ Some (entry_of_ref entry)) }
+{
+    match table.node_at(place) {
+        Some(node) => shown(node),
+        None => None,
+    }
+}
+
+// Returns the entry of a node, if it has a value.
+fn shown<'a, K, V, M: Sharing<V>>(node: &'a Node<K, Stored<V, M>>) -> Option<EntryRef<'a, K, V>>
+    ensures { MatchOption result (ready_from_node (entry_of node.now) ≡ None)
+        (λ entry. ready_from_node (entry_of node.now) ≡ Some (entry_of_ref entry)) }
+{
+    let Phase::Ready(value) = &node.phase else {
+        return None;
+    };
+    Some(EntryRef {
+        stamp: node.stamp,
+        key: &node.key,
+        charge: node.charge,
+        pins: node.pins,
+        is_detached: node.detached,
+        value: value.value(),
+    })
+}
