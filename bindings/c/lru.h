@@ -3,8 +3,12 @@
  * An entry has a key, a value, a charge and pins. Its charge is its weight, in units of the
  * caller's choice, and is above 0. An entry with a pin is held, and is never evicted. An entry
  * without a pin is idle. While the total of all charges is above the capacity, idle entries are
- * evicted, the one that was released longest ago first. The capacity is not a hard limit: held
- * entries stay, and count.
+ * evicted, the one that was released longest ago first.
+ *
+ * The capacity is not a hard limit: held entries stay, and count. `begin_strictly` and
+ * `insert_strictly` make it one: they answer LRU_FULL, and evict nothing, if a new entry would take
+ * the total above the capacity even after all idle entries have left. If every entry of a cache is
+ * added by these two calls, and the capacity is not lowered, the total is never above it.
  *
  * A value is one word (uint64_t) of the caller's, usually the address of an object. The cache never
  * looks at it and never deletes the object. Entries that leave the cache are put into a chain,
@@ -71,11 +75,12 @@
  *
  * COMING FROM ANOTHER CACHE. Entries are evicted by `begin`, by the `release` of a last pin and by
  * `set_capacity`; many caches evict only when an entry is inserted. `begin` does not change the
- * charge of an entry that exists. `advice_evict` does nothing to a held entry: it can still be
- * found, and becomes idle with its last release. `invalidate` detaches a held entry from its key:
- * the key no longer finds it, and it is evicted with its last release. `insert` does the same to
- * the entry that it replaces. `release_and_evict` is a release that also evicts the entry if nobody
- * else holds it. An entry counts towards the total while its value is being made, and when it is
+ * charge of an entry that exists. If the other cache has a strict limit, call `begin_strictly` and
+ * `insert_strictly`. `advice_evict` does nothing to a held entry: it can still be found, and
+ * becomes idle with its last release. `invalidate` detaches a held entry from its key: the key no
+ * longer finds it, and it is evicted with its last release. `insert` does the same to the entry
+ * that it replaces. `release_and_evict` is a release that also evicts the entry if nobody else
+ * holds it. An entry counts towards the total while its value is being made, and when it is
  * detached but still held.
  */
 #ifndef LRU_H
@@ -110,6 +115,8 @@ enum {
     LRU_OVERFLOW = 7, /* a number would overflow: the total of charges, the stamps or the pins */
     LRU_STALE = 8,    /* the pin names no entry that the call is for */
     LRU_MEMORY = 9,   /* malloc or realloc returned null */
+    LRU_FULL = 20,    /* begin_strictly, insert_strictly: the charge and those of the held entries
+                         add up to more than the capacity */
 
     LRU_NUMBER = 10, /* no refusal: the number that was asked for is told as the value */
 
@@ -125,8 +132,8 @@ enum {
 };
 
 /* Names an entry that the caller has pinned. `begin`, `get`, `poll`, `repin` and `insert` tell it,
- * and `poll`, `ready`, `fail`, `repin`, `release`, `release_and_evict` and `key_of` take it. It may
- * be copied, and is passed on as it was told.
+ * and so do the strict calls; `poll`, `ready`, `fail`, `repin`, `release`, `release_and_evict` and
+ * `key_of` take it. It may be copied, and is passed on as it was told.
  *
  * It is good until the pin is given back, and then for as long as the entry stays in the cache. An
  * old one, or one of another cache, is answered with LRU_STALE, unless the cache has an entry with
@@ -143,8 +150,8 @@ typedef struct lru_pin {
 /* The result of a call that tells more than a code. A member is 0 if it is not described for the
  * code. */
 typedef struct lru_told {
-    lru_pin pin;    /* LRU_MAKE, LRU_WAIT, LRU_HIT, LRU_PINNED, and LRU_DONE of insert: names the
-                       entry. */
+    lru_pin pin;    /* LRU_MAKE, LRU_WAIT, LRU_HIT, LRU_PINNED, and LRU_DONE of insert and
+                       insert_strictly: names the entry. */
     uint64_t value; /* LRU_HIT, LRU_PINNED: the value. LRU_NUMBER: the number. LRU_NO_ROOM: the
                        length. */
     lru_code code;
@@ -162,6 +169,9 @@ typedef struct lru_gone {
  * evicted and those removed:
  *
  *     insertions == entries + evictions + removals
+ *
+ * A `begin_strictly` is counted as a `begin`, and an `insert_strictly` as an `insert`. No call that
+ * is refused is counted, not even one that is told LRU_FULL.
  *
  * The hit ratio is hits / (hits + misses). To count from some time on, subtract the numbers that
  * were told at that time. */
@@ -223,6 +233,15 @@ lru_code lru_bytes_new_with_limits(uint64_t capacity, uint64_t first_stamp, uint
 static inline lru_told lru_bytes_begin(lru_cache *cache, const void *key, size_t length,
                                        uint64_t charge, lru_chain *gone);
 
+/* Does what `begin` does, but adds no entry that the capacity has no room for: if the key has no
+ * entry, and `charge` and the charges of the held entries add up to more than the capacity, nothing
+ * changes. In particular, nothing is evicted. An entry that exists is pinned as by `begin`, even if
+ * the total is above the capacity.
+ *
+ * Allocates as `begin` does. LRU_FULL if there is no room; else as `begin`. */
+static inline lru_told lru_bytes_begin_strictly(lru_cache *cache, const void *key, size_t length,
+                                                uint64_t charge, lru_chain *gone);
+
 /* Finds the value of a key and pins its entry. Adds no entry if there is none.
  *
  * Allocates if the key is longer than any before. LRU_HIT with the pin and the value; LRU_MISSED;
@@ -265,6 +284,15 @@ static inline lru_code lru_bytes_invalidate(lru_cache *cache, const void *key, s
 static inline lru_told lru_bytes_insert(lru_cache *cache, const void *key, size_t length,
                                         uint64_t charge, uint64_t value, lru_chain *gone);
 
+/* Does what `insert` does, unless `charge` and the charges of the held entries add up to more than
+ * the capacity: then nothing changes. In particular, nothing is evicted, and the key keeps its
+ * entry. If that is held, its charge counts too; if it is idle, it would leave.
+ *
+ * Allocates as `insert` does. LRU_FULL if there is no room: the value still belongs to the caller;
+ * else as `insert`. */
+static inline lru_told lru_bytes_insert_strictly(lru_cache *cache, const void *key, size_t length,
+                                                 uint64_t charge, uint64_t value, lru_chain *gone);
+
 /* Copies the key of an entry, held or idle, to the start of a buffer of `room` bytes.
  *
  * Does not allocate. LRU_NUMBER with the length of the key as the value; LRU_NO_ROOM with the
@@ -275,19 +303,23 @@ static inline lru_told lru_bytes_key_of(lru_cache *cache, lru_pin pin, void *buf
 /* ---------------------------------------------------------------------------- keys of two words */
 
 /* As the calls above, for keys of two words: the key is (first, second), and two keys are equal if
- * both words are. Only new, new_with_limits, begin for a new entry and insert allocate. On a cache
- * whose keys are bytes, each answers LRU_OTHER_KEYS. */
+ * both words are. Only new, new_with_limits, begin and begin_strictly for a new entry, insert and
+ * insert_strictly allocate. On a cache whose keys are bytes, each answers LRU_OTHER_KEYS. */
 lru_code lru_words_new(uint64_t capacity, uint64_t seed, lru_cache *out);
 lru_code lru_words_new_with_limits(uint64_t capacity, uint64_t first_stamp, uint32_t most_pins,
                                    uint64_t seed, lru_cache *out);
 lru_told lru_words_begin(lru_cache *cache, uint64_t first, uint64_t second, uint64_t charge,
                          lru_chain *gone);
+lru_told lru_words_begin_strictly(lru_cache *cache, uint64_t first, uint64_t second,
+                                  uint64_t charge, lru_chain *gone);
 lru_told lru_words_get(lru_cache *cache, uint64_t first, uint64_t second);
 lru_code lru_words_contains(lru_cache *cache, uint64_t first, uint64_t second);
 lru_code lru_words_advice_evict(lru_cache *cache, uint64_t first, uint64_t second, lru_chain *gone);
 lru_code lru_words_invalidate(lru_cache *cache, uint64_t first, uint64_t second, lru_chain *gone);
 lru_told lru_words_insert(lru_cache *cache, uint64_t first, uint64_t second, uint64_t charge,
                           uint64_t value, lru_chain *gone);
+lru_told lru_words_insert_strictly(lru_cache *cache, uint64_t first, uint64_t second,
+                                   uint64_t charge, uint64_t value, lru_chain *gone);
 
 /* Writes the key of an entry, held or idle. LRU_DONE; LRU_STALE if no entry has the stamp;
  * LRU_CLOSED; LRU_OTHER_KEYS. Nothing is written unless the code is LRU_DONE. */
@@ -361,7 +393,7 @@ lru_code lru_cache_prune(lru_cache *cache, lru_chain *gone);
  * Does not allocate. LRU_DONE; LRU_CLOSED; LRU_NOT_EMPTY. */
 lru_code lru_cache_set_capacity(lru_cache *cache, uint64_t capacity, lru_chain *gone);
 
-/* Makes room for `entries` entries in all, so that no `begin` or `insert` grows a table until there
+/* Makes room for `entries` entries in all, so that no call that adds one grows a table until there
  * are more.
  *
  * Allocates. LRU_DONE; LRU_MEMORY; LRU_CLOSED. */
@@ -412,6 +444,8 @@ bool lru_chain_is_empty(lru_chain *chain);
  * them directly. */
 lru_told lru_bytes_begin_nonnull(lru_cache *cache, const uint8_t *key, size_t length,
                                  uint64_t charge, lru_chain *gone);
+lru_told lru_bytes_begin_strictly_nonnull(lru_cache *cache, const uint8_t *key, size_t length,
+                                          uint64_t charge, lru_chain *gone);
 lru_told lru_bytes_get_nonnull(lru_cache *cache, const uint8_t *key, size_t length);
 lru_code lru_bytes_contains_nonnull(lru_cache *cache, const uint8_t *key, size_t length);
 lru_code lru_bytes_advice_evict_nonnull(lru_cache *cache, const uint8_t *key, size_t length,
@@ -420,6 +454,8 @@ lru_code lru_bytes_invalidate_nonnull(lru_cache *cache, const uint8_t *key, size
                                       lru_chain *gone);
 lru_told lru_bytes_insert_nonnull(lru_cache *cache, const uint8_t *key, size_t length,
                                   uint64_t charge, uint64_t value, lru_chain *gone);
+lru_told lru_bytes_insert_strictly_nonnull(lru_cache *cache, const uint8_t *key, size_t length,
+                                           uint64_t charge, uint64_t value, lru_chain *gone);
 lru_told lru_bytes_key_of_nonnull(lru_cache *cache, lru_pin pin, uint8_t *buffer, size_t room);
 
 /* The calls that also take a null pointer. These first three names are internal. */
@@ -439,6 +475,13 @@ static inline lru_told lru_bytes_begin(lru_cache *cache, const void *key, size_t
     if (key == NULL && length > 0)
         return lru_told_null_key();
     return lru_bytes_begin_nonnull(cache, lru_key_or_empty(key), length, charge, gone);
+}
+
+static inline lru_told lru_bytes_begin_strictly(lru_cache *cache, const void *key, size_t length,
+                                                uint64_t charge, lru_chain *gone) {
+    if (key == NULL && length > 0)
+        return lru_told_null_key();
+    return lru_bytes_begin_strictly_nonnull(cache, lru_key_or_empty(key), length, charge, gone);
 }
 
 static inline lru_told lru_bytes_get(lru_cache *cache, const void *key, size_t length) {
@@ -472,6 +515,15 @@ static inline lru_told lru_bytes_insert(lru_cache *cache, const void *key, size_
     if (key == NULL && length > 0)
         return lru_told_null_key();
     return lru_bytes_insert_nonnull(cache, lru_key_or_empty(key), length, charge, value, gone);
+}
+
+static inline lru_told lru_bytes_insert_strictly(lru_cache *cache, const void *key, size_t length,
+                                                 uint64_t charge, uint64_t value,
+                                                 lru_chain *gone) {
+    if (key == NULL && length > 0)
+        return lru_told_null_key();
+    return lru_bytes_insert_strictly_nonnull(cache, lru_key_or_empty(key), length, charge, value,
+                                             gone);
 }
 
 /* A null buffer has no room. */

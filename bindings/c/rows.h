@@ -548,6 +548,140 @@ static void FAMILY(inserts)(void) {
     FAMILY(close)(&s);
 }
 
+/* Refuses a strict begin and a strict insert of a key, and checks that nothing has changed. */
+static void FAMILY(is_full)(FAMILY(stage) *s, uint64_t k, uint64_t charge) {
+    lru_stats before, after;
+    lru_told told;
+
+    s->length = 0;
+    CHECK(lru_cache_stats(&s->cache, &before), LRU_DONE);
+    told = FAMILY(begin_strictly)(&s->cache, KEY(k), charge, &s->gone);
+    CHECK(told.code, LRU_FULL);
+    CHECK(told.pin.stamp, 0);
+    CHECK(told.pin.hash, 0);
+    CHECK(told.pin.place, 0);
+    CHECK(told.value, 0);
+    told = FAMILY(insert_strictly)(&s->cache, KEY(k), charge, 99, &s->gone);
+    CHECK(told.code, LRU_FULL);
+    CHECK(told.pin.stamp, 0);
+    CHECK(told.value, 0);
+    CHECK(lru_chain_is_empty(&s->gone), true);
+    CHECK(lru_cache_stats(&s->cache, &after), LRU_DONE);
+    CHECK(memcmp(&before, &after, sizeof before), 0);
+}
+
+/* begin_strictly: adds no entry that the capacity has no room for beside the held ones. */
+static void FAMILY(begins_strictly)(void) {
+    FAMILY(stage) s;
+    lru_pin first, second;
+    lru_told told;
+
+    /* the idle entries leave for a new one, oldest first, but not for one that is refused */
+    FAMILY(open)(&s, 10);
+    first = FAMILY(hold)(&s, 1, 4);
+    FAMILY(make)(&s, 2, 3);
+    FAMILY(make)(&s, 3, 3);
+    FAMILY(is_full)(&s, 4, 7);
+    FAMILY(is_full)(&s, 4, UINT64_MAX);
+    CHECK(FAMILY(total_of)(&s), 10);
+    told = FAMILY(begin_strictly)(&s.cache, KEY(4), 3, &s.gone);
+    CHECK(told.code, LRU_MAKE);
+    FAMILY(note)(&s);
+    EVICTED(&s, 2);
+    CHECK(lru_cache_ready(&s.cache, told.pin, 4), LRU_DONE);
+    CHECK(FAMILY(let_go)(&s, told.pin), 0);
+    told = FAMILY(begin_strictly)(&s.cache, KEY(5), 6, &s.gone);
+    CHECK(told.code, LRU_MAKE);
+    FAMILY(note)(&s);
+    EVICTED(&s, 2, 3, 4);
+    CHECK(FAMILY(total_of)(&s), 10);
+
+    /* now all are held: an entry that exists is still found, made or waited for */
+    FAMILY(is_full)(&s, 6, 1);
+    CHECK(FAMILY(begin_strictly)(&s.cache, KEY(1), 9, &s.gone).value, 1);
+    CHECK(FAMILY(let_go)(&s, first), 0);
+    second = told.pin;
+    CHECK(FAMILY(begin_strictly)(&s.cache, KEY(5), 9, &s.gone).code, LRU_WAIT);
+    CHECK(lru_cache_fail(&s.cache, second), LRU_LEFT);
+    CHECK(FAMILY(begin_strictly)(&s.cache, KEY(5), 9, &s.gone).code, LRU_MAKE);
+    CHECK(lru_cache_ready(&s.cache, second, 5), LRU_DONE);
+    CHECK(FAMILY(begin_strictly)(&s.cache, KEY(5), 9, &s.gone).code, LRU_HIT);
+
+    /* a charge of 0 is refused first; other refusals are those of begin */
+    CHECK(FAMILY(begin_strictly)(&s.cache, KEY(6), 0, &s.gone).code, LRU_NO_CHARGE);
+    FAMILY(close)(&s);
+    FAMILY(open_with_limits)(&s, 10, UINT64_MAX - 1, 1);
+    FAMILY(hold)(&s, 1, 10);
+    CHECK(FAMILY(begin_strictly)(&s.cache, KEY(1), 1, &s.gone).code, LRU_OVERFLOW);
+    FAMILY(is_full)(&s, 2, UINT64_MAX);
+    CHECK(FAMILY(let_go)(&s, pin_of(UINT64_MAX - 1)), 0);
+    CHECK(FAMILY(begin_strictly)(&s.cache, KEY(2), 1, &s.gone).code, LRU_OVERFLOW);
+    CHECK(FAMILY(total_of)(&s), 10);
+    FAMILY(close)(&s);
+}
+
+/* insert_strictly: replaces the entry of the key, unless the capacity has no room. */
+static void FAMILY(inserts_strictly)(void) {
+    FAMILY(stage) s;
+    lru_pin first, second;
+    lru_told told;
+
+    FAMILY(open)(&s, 10);
+    first = FAMILY(hold)(&s, 1, 4);
+    FAMILY(make)(&s, 2, 3);
+    FAMILY(make)(&s, 3, 3);
+
+    /* the held entry of the key counts, and the key keeps its entry */
+    told = FAMILY(insert_strictly)(&s.cache, KEY(1), 7, 10, &s.gone);
+    CHECK(told.code, LRU_FULL);
+    CHECK(FAMILY(note)(&s), 0);
+    CHECK(FAMILY(finds)(&s, 1, 1), true);
+    CHECK(FAMILY(total_of)(&s), 10);
+
+    /* an idle one does not: it comes first, followed by what the charge evicts */
+    told = FAMILY(insert_strictly)(&s.cache, KEY(3), 7, 30, &s.gone);
+    CHECK(told.code, LRU_FULL);
+    CHECK(FAMILY(finds)(&s, 3, 3), true);
+    told = FAMILY(insert_strictly)(&s.cache, KEY(3), 6, 30, &s.gone);
+    CHECK(told.code, LRU_DONE);
+    CHECK(told.value, 0);
+    FAMILY(note)(&s);
+    EVICTED(&s, 3, 2);
+    CHECK(FAMILY(finds)(&s, 3, 30), true);
+    CHECK(FAMILY(total_of)(&s), 10);
+    second = told.pin;
+    FAMILY(is_full)(&s, 4, 1);
+
+    /* beside a held entry of the key there is room once it is released */
+    CHECK(FAMILY(let_go)(&s, second), 0);
+    told = FAMILY(insert_strictly)(&s.cache, KEY(1), 6, 11, &s.gone);
+    CHECK(told.code, LRU_DONE);
+    FAMILY(note)(&s);
+    EVICTED(&s, 30);
+    CHECK(lru_cache_poll(&s.cache, first).value, 1);
+    CHECK(FAMILY(finds)(&s, 1, 11), true);
+    CHECK(FAMILY(let_go)(&s, first), 1);
+    CHECK(FAMILY(let_go)(&s, told.pin), 0);
+
+    /* refusals of insert */
+    CHECK(FAMILY(insert_strictly)(&s.cache, KEY(1), 0, 12, &s.gone).code, LRU_NO_CHARGE);
+    FAMILY(close)(&s);
+    FAMILY(open_with_limits)(&s, 10, UINT64_MAX, 1);
+    FAMILY(is_full)(&s, 1, 11);
+    CHECK(FAMILY(insert_strictly)(&s.cache, KEY(1), 10, 1, &s.gone).code, LRU_OVERFLOW);
+    FAMILY(close)(&s);
+
+    /* a lower capacity leaves held entries above it: nothing is added until they are released */
+    FAMILY(open)(&s, 10);
+    first = FAMILY(hold)(&s, 1, 8);
+    CHECK(lru_cache_set_capacity(&s.cache, 5, &s.gone), LRU_DONE);
+    FAMILY(is_full)(&s, 2, 1);
+    CHECK(FAMILY(let_go)(&s, first), 1);
+    CHECK(FAMILY(insert_strictly)(&s.cache, KEY(2), 5, 2, &s.gone).code, LRU_DONE);
+    FAMILY(is_full)(&s, 3, 1);
+    FAMILY(close)(&s);
+}
+
 /* The calls that pin an entry tell the same pin. Another hash or place changes no answer. */
 static void FAMILY(pins)(void) {
     FAMILY(stage) s;
@@ -784,6 +918,8 @@ static void FAMILY(misuse)(void) {
     CHECK(FAMILY(advice_evict)(&closed, KEY(1), &s.gone), LRU_CLOSED);
     CHECK(FAMILY(invalidate)(&closed, KEY(1), &s.gone), LRU_CLOSED);
     CHECK(FAMILY(insert)(&closed, KEY(1), 1, 1, &s.gone).code, LRU_CLOSED);
+    CHECK(FAMILY(begin_strictly)(&closed, KEY(1), 1, &s.gone).code, LRU_CLOSED);
+    CHECK(FAMILY(insert_strictly)(&closed, KEY(1), 1, 1, &s.gone).code, LRU_CLOSED);
     CHECK(lru_cache_prune(&closed, &s.gone), LRU_CLOSED);
     CHECK(lru_cache_set_capacity(&closed, 1, &s.gone), LRU_CLOSED);
     CHECK(lru_cache_reserve(&closed, 1), LRU_CLOSED);
@@ -801,6 +937,8 @@ static void FAMILY(misuse)(void) {
     CHECK(FAMILY(advice_evict)(&s.cache, KEY(1), &shut), LRU_CLOSED);
     CHECK(FAMILY(invalidate)(&s.cache, KEY(1), &shut), LRU_CLOSED);
     CHECK(FAMILY(insert)(&s.cache, KEY(1), 1, 1, &shut).code, LRU_CLOSED);
+    CHECK(FAMILY(begin_strictly)(&s.cache, KEY(1), 1, &shut).code, LRU_CLOSED);
+    CHECK(FAMILY(insert_strictly)(&s.cache, KEY(1), 1, 1, &shut).code, LRU_CLOSED);
     CHECK(lru_cache_prune(&s.cache, &shut), LRU_CLOSED);
     CHECK(lru_cache_set_capacity(&s.cache, 1, &shut), LRU_CLOSED);
     CHECK(lru_cache_free(&s.cache, &shut), LRU_CLOSED);
@@ -831,6 +969,8 @@ static void FAMILY(misuse)(void) {
     CHECK(FAMILY(advice_evict)(&s.cache, KEY(2), &s.gone), LRU_NOT_EMPTY);
     CHECK(FAMILY(invalidate)(&s.cache, KEY(2), &s.gone), LRU_NOT_EMPTY);
     CHECK(FAMILY(insert)(&s.cache, KEY(2), 1, 1, &s.gone).code, LRU_NOT_EMPTY);
+    CHECK(FAMILY(begin_strictly)(&s.cache, KEY(3), 9, &s.gone).code, LRU_NOT_EMPTY);
+    CHECK(FAMILY(insert_strictly)(&s.cache, KEY(2), 9, 1, &s.gone).code, LRU_NOT_EMPTY);
     CHECK(lru_cache_prune(&s.cache, &s.gone), LRU_NOT_EMPTY);
     CHECK(lru_cache_set_capacity(&s.cache, 0, &s.gone), LRU_NOT_EMPTY);
     CHECK(lru_cache_free(&s.cache, &s.gone), LRU_NOT_EMPTY);
@@ -871,6 +1011,8 @@ static void FAMILY(rows)(void) {
     FAMILY(invalidates)();
     FAMILY(invalidates_a_making)();
     FAMILY(inserts)();
+    FAMILY(begins_strictly)();
+    FAMILY(inserts_strictly)();
     FAMILY(pins)();
     FAMILY(repins)();
     FAMILY(releases_and_evicts)();

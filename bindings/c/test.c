@@ -78,11 +78,13 @@ static void keys_of_bytes(void) {
     CHECK(lru_chain_new(&gone), LRU_DONE);
 
     CHECK(lru_bytes_begin(&cache, NULL, 1, 1, &gone).code, LRU_NULL_KEY);
+    CHECK(lru_bytes_begin_strictly(&cache, NULL, 1, 1, &gone).code, LRU_NULL_KEY);
     CHECK(lru_bytes_get(&cache, NULL, 1).code, LRU_NULL_KEY);
     CHECK(lru_bytes_contains(&cache, NULL, 1), LRU_NULL_KEY);
     CHECK(lru_bytes_advice_evict(&cache, NULL, 1, &gone), LRU_NULL_KEY);
     CHECK(lru_bytes_invalidate(&cache, NULL, 1, &gone), LRU_NULL_KEY);
     CHECK(lru_bytes_insert(&cache, NULL, 1, 1, 1, &gone).code, LRU_NULL_KEY);
+    CHECK(lru_bytes_insert_strictly(&cache, NULL, 1, 1, 1, &gone).code, LRU_NULL_KEY);
     CHECK(lru_cache_len(&cache).value, 0);
 
     told = lru_bytes_begin(&cache, NULL, 0, 1, &gone);
@@ -247,14 +249,34 @@ static void counts(void) {
     CHECK(lru_chain_pop(&gone, &entry), true);
     CHECK(entry.value, 10);
 
+    /* the strict calls count as the others do, and a refusal for lack of room counts nothing */
+    CHECK(lru_words_begin_strictly(&cache, 3, 3, 1, &gone).code, LRU_FULL);
+    CHECK(lru_words_insert_strictly(&cache, 3, 3, 1, 30, &gone).code, LRU_FULL);
+    CHECK_STATS(cache, 2, 4, 1, 3, 1, 1, 1, 2, 2, 2);
+    CHECK(lru_words_begin_strictly(&cache, 2, 2, 2, &gone).code, LRU_WAIT);
+    CHECK_STATS(cache, 2, 4, 2, 3, 1, 1, 1, 2, 2, 2);
+    CHECK(lru_cache_fail(&cache, told.pin), LRU_LEFT);
+    CHECK(lru_cache_poll(&cache, told.pin).code, LRU_MAKE);
+
     /* an eviction, whichever call evicts */
     CHECK(lru_cache_ready(&cache, told.pin, 20), LRU_DONE);
     CHECK(lru_cache_release_and_evict(&cache, told.pin, &gone), LRU_DONE);
-    CHECK_STATS(cache, 2, 4, 1, 3, 2, 1, 0, 0, 0, 2);
+    CHECK_STATS(cache, 2, 4, 2, 3, 2, 1, 0, 0, 0, 2);
     CHECK(lru_chain_pop(&gone, &entry), true);
     CHECK(entry.value, 20);
 
+    told = lru_words_begin_strictly(&cache, 3, 3, 1, &gone);
+    CHECK(told.code, LRU_MAKE);
+    CHECK(lru_cache_ready(&cache, told.pin, 30), LRU_DONE);
+    CHECK(lru_words_begin_strictly(&cache, 3, 3, 9, &gone).code, LRU_HIT);
+    CHECK_STATS(cache, 3, 5, 2, 4, 2, 1, 1, 1, 1, 2);
+    told = lru_words_insert_strictly(&cache, 4, 4, 1, 40, &gone);
+    CHECK(told.code, LRU_DONE);
+    CHECK_STATS(cache, 3, 5, 2, 5, 2, 1, 2, 2, 2, 2);
+
     CHECK(lru_cache_free(&cache, &gone), LRU_DONE);
+    while (lru_chain_pop(&gone, &entry))
+        CHECK(entry.value == 30 || entry.value == 40, true);
     CHECK(lru_cache_stats(&cache, &kept), LRU_CLOSED);
     CHECK(kept.hits, 1);
     CHECK(lru_chain_free(&gone), LRU_DONE);
@@ -281,11 +303,13 @@ static void keys_of_the_other_kind(void) {
 
     CHECK(lru_words_begin(&bytes, 1, 2, 1, &gone).code, LRU_OTHER_KEYS);
     CHECK(lru_words_begin(&bytes, 1, 2, 0, &gone).code, LRU_OTHER_KEYS);
+    CHECK(lru_words_begin_strictly(&bytes, 1, 2, 11, &gone).code, LRU_OTHER_KEYS);
     CHECK(lru_words_get(&bytes, 1, 2).code, LRU_OTHER_KEYS);
     CHECK(lru_words_contains(&bytes, 1, 2), LRU_OTHER_KEYS);
     CHECK(lru_words_advice_evict(&bytes, 1, 2, &gone), LRU_OTHER_KEYS);
     CHECK(lru_words_invalidate(&bytes, 1, 2, &gone), LRU_OTHER_KEYS);
     CHECK(lru_words_insert(&bytes, 1, 2, 1, 1, &gone).code, LRU_OTHER_KEYS);
+    CHECK(lru_words_insert_strictly(&bytes, 1, 2, 11, 1, &gone).code, LRU_OTHER_KEYS);
     CHECK(lru_words_key_of(&bytes, told.pin, &first, &second), LRU_OTHER_KEYS);
     CHECK(first, 7);
     CHECK(second, 8);
@@ -293,11 +317,13 @@ static void keys_of_the_other_kind(void) {
 
     CHECK(lru_bytes_begin(&words, "k", 1, 1, &gone).code, LRU_OTHER_KEYS);
     CHECK(lru_bytes_begin(&words, "k", 1, 0, &gone).code, LRU_OTHER_KEYS);
+    CHECK(lru_bytes_begin_strictly(&words, "k", 1, 11, &gone).code, LRU_OTHER_KEYS);
     CHECK(lru_bytes_get(&words, "k", 1).code, LRU_OTHER_KEYS);
     CHECK(lru_bytes_contains(&words, "k", 1), LRU_OTHER_KEYS);
     CHECK(lru_bytes_advice_evict(&words, "k", 1, &gone), LRU_OTHER_KEYS);
     CHECK(lru_bytes_invalidate(&words, "k", 1, &gone), LRU_OTHER_KEYS);
     CHECK(lru_bytes_insert(&words, "k", 1, 1, 1, &gone).code, LRU_OTHER_KEYS);
+    CHECK(lru_bytes_insert_strictly(&words, "k", 1, 11, 1, &gone).code, LRU_OTHER_KEYS);
     CHECK(lru_bytes_key_of(&words, other.pin, buffer, sizeof buffer).code, LRU_OTHER_KEYS);
     CHECK(buffer[0], 9);
     CHECK_STATS(words, 0, 0, 0, 1, 0, 0, 1, 5, 5, 10);

@@ -6,7 +6,8 @@
 //
 // A handle pins its value: a pinned value is neither evicted nor deleted. A value without a handle
 // is idle. While the total of all charges is above the capacity, idle values are evicted, the least
-// recently released first.
+// recently released first. Pinned values may take the total above the capacity, unless the limit is
+// strict.
 //
 // The library is proved: which value is found, which ones are evicted, and in which order. This
 // header adds the locks and the values. It is ordinary C++, tested with the sanitizers.
@@ -53,6 +54,18 @@ class ZeroCharge : public std::invalid_argument {
  public:
   ZeroCharge() : std::invalid_argument("lru: the charge is 0") {}
 };
+
+// The limit is strict, and the capacity has no room for the new value beside those that are pinned.
+// Nothing changed.
+class Full : public std::runtime_error {
+ public:
+  Full() : std::runtime_error("lru: the cache is full of pinned values") {}
+};
+
+// Whether the capacity of a cache is a strict limit. If it is, no value is inserted whose charge,
+// with the charges of the pinned values, is above the capacity: the call throws Full. If it is not,
+// pinned values may take the total above the capacity.
+enum class Limit { kNotStrict, kStrict };
 
 // What the calls on a cache have found and done since it was constructed, and what it holds now.
 // The values inserted are those present, those evicted and those removed:
@@ -110,6 +123,8 @@ struct Node {
       throw Overflow();
     case LRU_NO_CHARGE:
       throw ZeroCharge();
+    case LRU_FULL:
+      throw Full();
     default:
       throw std::logic_error("lru: the library refused a call that cannot be wrong");
   }
@@ -203,7 +218,12 @@ class Cache {
   // An empty cache. It evicts idle values while the total of all charges is above `capacity`. The
   // seed is random unless a test passes its own. Throws OutOfMemory, and what std::random_device
   // throws if there are no random numbers.
-  explicit Cache(std::uint64_t capacity, Seed seed = Seed::random()) {
+  explicit Cache(std::uint64_t capacity, Seed seed = Seed::random())
+      : Cache(capacity, Limit::kNotStrict, seed) {}
+
+  // The same with a limit that may be strict.
+  Cache(std::uint64_t capacity, Limit limit, Seed seed = Seed::random())
+      : is_strict_(limit == Limit::kStrict) {
     if (!core_.open(capacity, seed)) throw OutOfMemory();
   }
 
@@ -254,8 +274,9 @@ class Cache {
   // must be above 0, even if the key has a value. If the value exists already or is being made, its
   // charge does not change, even if the other caller fails and this one makes the value.
   //
-  // Throws ZeroCharge, Overflow and OutOfMemory before `init` runs, and nothing changes. If there
-  // is no memory for the value, std::bad_alloc is thrown as if by `init`.
+  // Throws ZeroCharge, Overflow and OutOfMemory before `init` runs, and nothing changes. So does
+  // Full, if the limit is strict, the key has no value and none is being made for it, and there is
+  // no room for one. If there is no memory for the value, std::bad_alloc is thrown as if by `init`.
   template <class Init>
   Handle get_or_init(Key key, std::uint64_t charge, Init&& init) {
     const lru_told told = begin(key, charge);
@@ -268,14 +289,16 @@ class Cache {
   // old value keep it, and it counts against the capacity, until the last of them is released;
   // those who wait for a value that is being made still get that one. Does not wait.
   //
-  // Throws ZeroCharge, Overflow and std::bad_alloc. The key keeps its old value then, and the new
-  // one is deleted.
+  // Throws ZeroCharge, Overflow and std::bad_alloc, and Full if the limit is strict and there is no
+  // room for the new value; an old value that has a handle takes room too. The key keeps its old
+  // value then, and the new one is deleted.
   template <class V>
   Handle insert(Key key, std::uint64_t charge, V&& value) {
     auto node = std::make_unique<Node>(std::forward<V>(value));
     Evicted evicted;
     std::unique_lock<std::mutex> lock(mutex_);
-    const lru_told told = core_.insert(key, charge, node.get(), &evicted);
+    const lru_told told = is_strict_ ? core_.insert_strictly(key, charge, node.get(), &evicted)
+                                     : core_.insert(key, charge, node.get(), &evicted);
     lock.unlock();
     if (told.code != LRU_DONE) detail::throw_refusal(told.code);
     return Handle(this, told.pin, std::addressof(node.release()->value));
@@ -373,6 +396,19 @@ class Cache {
     core_.set_capacity(capacity, &evicted);
   }
 
+  // Sets whether the capacity is a strict limit. Evicts nothing: pinned values whose total is above
+  // the capacity stay, and until enough of them are released, no value is inserted.
+  void set_strict_limit(bool is_strict) {
+    const std::lock_guard<std::mutex> lock(mutex_);
+    is_strict_ = is_strict;
+  }
+
+  // Whether the capacity is a strict limit.
+  bool is_limit_strict() const {
+    const std::lock_guard<std::mutex> lock(mutex_);
+    return is_strict_;
+  }
+
  private:
   friend Handle;
   using Node = detail::Node<Value>;
@@ -411,7 +447,8 @@ class Cache {
   lru_told begin(Key key, std::uint64_t charge) {
     Evicted evicted;
     std::unique_lock<std::mutex> lock(mutex_);
-    lru_told told = core_.begin(key, charge, &evicted);
+    lru_told told = is_strict_ ? core_.begin_strictly(key, charge, &evicted)
+                               : core_.begin(key, charge, &evicted);
     while (told.code == LRU_WAIT) {
       ended_.wait(lock);
       told = core_.poll(told.pin);
@@ -464,6 +501,7 @@ class Cache {
   mutable std::mutex mutex_;
   std::condition_variable ended_;  // notified when a caller has made a value, or has failed
   detail::Core<Node, Key> core_;
+  bool is_strict_;
 };
 
 // A good number of shards for a cache with this capacity whose values have about this charge: the
@@ -507,6 +545,15 @@ class ShardedCache {
     if (shards == 0) throw std::invalid_argument("lru: the number of shards is 0");
     for (std::size_t i = 0; i < shards; i++)
       shards_.emplace_back(share(capacity, shards), Seed(seed.number + i));
+  }
+
+  // The same, with random seeds, and with a limit that may be strict. It is that of each shard: a
+  // value has no room if its own shard has none.
+  ShardedCache(std::uint64_t capacity, Limit limit)
+      : ShardedCache(capacity, shards_for(capacity, 1), limit) {}
+  ShardedCache(std::uint64_t capacity, std::size_t shards, Limit limit, Hash hash = Hash())
+      : ShardedCache(capacity, shards, std::move(hash)) {
+    set_strict_limit(limit == Limit::kStrict);
   }
 
   // As for Cache.
@@ -584,6 +631,17 @@ class ShardedCache {
   // it are evicted at once.
   void set_capacity(std::uint64_t capacity) {
     for (Shard& shard : shards_) shard.set_capacity(share(capacity, shards_.size()));
+  }
+
+  // Sets whether the capacity of each shard is a strict limit, one shard after another.
+  void set_strict_limit(bool is_strict) {
+    for (Shard& shard : shards_) shard.set_strict_limit(is_strict);
+  }
+
+  // Whether the capacity of every shard is a strict limit. No snapshot, as `len`.
+  bool is_limit_strict() const {
+    return std::all_of(shards_.begin(), shards_.end(),
+                       [](const Shard& shard) { return shard.is_limit_strict(); });
   }
 
  private:

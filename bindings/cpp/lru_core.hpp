@@ -68,6 +68,10 @@ struct Calls<std::string_view> {
                         lru_chain* gone) {
     return lru_bytes_begin(cache, key.data(), key.size(), charge, gone);
   }
+  static lru_told begin_strictly(lru_cache* cache, std::string_view key, std::uint64_t charge,
+                                 lru_chain* gone) {
+    return lru_bytes_begin_strictly(cache, key.data(), key.size(), charge, gone);
+  }
   static lru_told get(lru_cache* cache, std::string_view key) {
     return lru_bytes_get(cache, key.data(), key.size());
   }
@@ -84,6 +88,10 @@ struct Calls<std::string_view> {
                          std::uint64_t value, lru_chain* gone) {
     return lru_bytes_insert(cache, key.data(), key.size(), charge, value, gone);
   }
+  static lru_told insert_strictly(lru_cache* cache, std::string_view key, std::uint64_t charge,
+                                  std::uint64_t value, lru_chain* gone) {
+    return lru_bytes_insert_strictly(cache, key.data(), key.size(), charge, value, gone);
+  }
 };
 
 template <>
@@ -92,6 +100,10 @@ struct Calls<Words> {
 
   static lru_told begin(lru_cache* cache, Words key, std::uint64_t charge, lru_chain* gone) {
     return lru_words_begin(cache, key.first, key.second, charge, gone);
+  }
+  static lru_told begin_strictly(lru_cache* cache, Words key, std::uint64_t charge,
+                                 lru_chain* gone) {
+    return lru_words_begin_strictly(cache, key.first, key.second, charge, gone);
   }
   static lru_told get(lru_cache* cache, Words key) {
     return lru_words_get(cache, key.first, key.second);
@@ -108,6 +120,10 @@ struct Calls<Words> {
   static lru_told insert(lru_cache* cache, Words key, std::uint64_t charge, std::uint64_t value,
                          lru_chain* gone) {
     return lru_words_insert(cache, key.first, key.second, charge, value, gone);
+  }
+  static lru_told insert_strictly(lru_cache* cache, Words key, std::uint64_t charge,
+                                  std::uint64_t value, lru_chain* gone) {
+    return lru_words_insert_strictly(cache, key.first, key.second, charge, value, gone);
   }
 };
 
@@ -173,6 +189,11 @@ class Core {
     if (told.code == LRU_MAKE) take_evicted(evicted);
     return told;
   }
+  lru_told begin_strictly(Key key, std::uint64_t charge, Evicted<Node>* evicted) noexcept {
+    const lru_told told = Calls::begin_strictly(&cache_, key, charge, &chain_);
+    if (told.code == LRU_MAKE) take_evicted(evicted);
+    return told;
+  }
   lru_told poll(lru_pin pin) noexcept { return lru_cache_poll(&cache_, pin); }
   // After LRU_DONE the node is the core's; else it is still the caller's.
   lru_code ready(lru_pin pin, Node* node) noexcept {
@@ -205,6 +226,13 @@ class Core {
   // After LRU_DONE the node is the core's; else it is still the caller's.
   lru_told insert(Key key, std::uint64_t charge, Node* node, Evicted<Node>* evicted) noexcept {
     const lru_told told = Calls::insert(&cache_, key, charge, word_of(node), &chain_);
+    take_evicted(evicted);
+    return told;
+  }
+  // After LRU_DONE the node is the core's; else it is still the caller's.
+  lru_told insert_strictly(Key key, std::uint64_t charge, Node* node,
+                           Evicted<Node>* evicted) noexcept {
+    const lru_told told = Calls::insert_strictly(&cache_, key, charge, word_of(node), &chain_);
     take_evicted(evicted);
     return told;
   }

@@ -45,6 +45,7 @@ static_assert(!std::is_copy_constructible_v<lru::ShardedCache<int>>);
 static_assert(std::is_base_of_v<std::bad_alloc, lru::OutOfMemory>);
 static_assert(std::is_base_of_v<std::overflow_error, lru::Overflow>);
 static_assert(std::is_base_of_v<std::invalid_argument, lru::ZeroCharge>);
+static_assert(std::is_base_of_v<std::runtime_error, lru::Full>);
 
 void a_present_value_is_not_made_again() {
   Numbers cache(10);
@@ -564,6 +565,65 @@ struct BySecond {
   std::size_t operator()(lru::Words k) const { return static_cast<std::size_t>(k.second); }
 };
 
+// Whether a call throws Full.
+template <class Call>
+bool is_full(Call call) {
+  try {
+    call();
+  } catch (const lru::Full&) {
+    return true;
+  }
+  return false;
+}
+
+void a_strict_limit_has_no_room_beside_pinned_values() {
+  Numbers cache(10, lru::Limit::kStrict);
+  CHECK(cache.is_limit_strict() && !Numbers(10).is_limit_strict());
+  auto one = cache.get_or_init(key(1), 6, returns(1));
+  cache.get_or_init(key(2), 4, returns(2));
+  bool ran = false;
+  const auto runs = [&ran](lru::Words) { return ran = true, 3; };
+  const lru::Stats before = cache.stats();
+  CHECK(is_full([&] { cache.get_or_init(key(3), 5, runs); }));
+  CHECK(is_full([&] { cache.insert(key(3), 5, 3); }));
+  // The old value has a handle, so it takes room.
+  CHECK(is_full([&] { cache.insert(key(1), 5, 3); }));
+  // Nothing is evicted or counted, and no value is made.
+  const lru::Stats after = cache.stats();
+  CHECK(!ran && after.misses == before.misses && after.evictions == before.evictions);
+  CHECK(after.insertions == before.insertions && cache.total_charge() == 10);
+  CHECK(*cache.get(key(1)) == 1 && *cache.get(key(2)) == 2);
+
+  // A value that exists is found; idle values leave for a new one.
+  CHECK(*cache.get_or_init(key(1), 9, runs) == 1 && !ran);
+  CHECK(*cache.get_or_init(key(3), 4, returns(3)) == 3 && !cache.get(key(2)));
+  CHECK(*cache.insert(key(3), 4, 4) == 4 && cache.total_charge() == 10);
+  one.reset();
+  CHECK(*cache.insert(key(4), 10, 5) == 5 && cache.total_charge() == 10);
+
+  // The limit is set at any time, whatever the total is.
+  cache.set_strict_limit(false);
+  CHECK(!cache.is_limit_strict());
+  auto large = cache.insert(key(5), 11, 6);
+  cache.set_strict_limit(true);
+  CHECK(cache.is_limit_strict() && cache.total_charge() == 11 && *large == 6);
+  CHECK(is_full([&] { cache.get_or_init(key(6), 1, runs); }) && !ran);
+  large.reset();
+  CHECK(*cache.get_or_init(key(6), 1, runs) == 3 && ran);
+}
+
+void a_strict_limit_is_that_of_each_shard() {
+  using Sharded = lru::ShardedCache<const int, lru::Words, BySecond>;
+  Sharded cache(4, 2, lru::Limit::kStrict);
+  CHECK(cache.is_limit_strict() && !Sharded(4, 2).is_limit_strict());
+  CHECK((Sharded(4, lru::Limit::kStrict).is_limit_strict()));
+  auto even = cache.insert(key(0), 2, 0);
+  CHECK(is_full([&] { cache.insert(key(2), 1, 2); }));
+  CHECK(*cache.insert(key(1), 2, 1) == 1);
+  cache.set_strict_limit(false);
+  CHECK(!cache.is_limit_strict() && *cache.insert(key(2), 1, 2) == 2);
+}
+
 void shards_have_equal_shares() {
   using Sharded = lru::ShardedCache<const int, lru::Words, BySecond>;
   CHECK(Sharded(10, 3).capacity() == 12);
@@ -713,12 +773,14 @@ int main() {
   a_destructor_may_call_the_cache();
   a_cache_deletes_what_is_left_oldest_release_first();
   a_capacity_is_set_at_any_time();
+  a_strict_limit_has_no_room_beside_pinned_values();
+  a_strict_limit_is_that_of_each_shard();
   shards_have_equal_shares();
   a_small_cache_has_few_shards();
   a_seed_changes_no_answer();
   high_bits_of_a_key_choose_its_shard_too();
   a_handle_that_outlives_its_cache_is_asserted_against();
   values_may_be_move_only_or_neither();
-  std::printf("lru.hpp: 29 tests, %d checks failed\n", failed_checks);
+  std::printf("lru.hpp: 31 tests, %d checks failed\n", failed_checks);
   return failed_checks == 0 ? 0 : 1;
 }

@@ -21,7 +21,7 @@ static void wrong(const char *what) {
 }
 
 /* Objects that are not on the heap. */
-enum { OBJECTS = 256 };
+enum { OBJECTS = 512 };
 static struct object {
     int deletions;
 } objects[OBJECTS];

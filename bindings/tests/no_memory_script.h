@@ -31,6 +31,19 @@ static lru_told NAME(ask)(lru_cache *cache, lru_chain *gone, unsigned n, uint64_
     return told;
 }
 
+static lru_told NAME(ask_strictly)(lru_cache *cache, lru_chain *gone, unsigned n, uint64_t charge) {
+    uint64_t before = NAME(weighed)(cache);
+    lru_told told = NAME(begin_strictly)(cache, KEY(n), charge, gone);
+    if (refused(told.code, CALL("begin_strictly"))) {
+        if (!lru_chain_is_empty(gone) || NAME(weighed)(cache) != before)
+            wrong("a refused begin_strictly changed something");
+        told = NAME(begin_strictly)(cache, KEY(n), charge, gone);
+    }
+    NAME(take)(gone);
+    say("begin_strictly", told);
+    return told;
+}
+
 static lru_told NAME(find)(lru_cache *cache, unsigned n) {
     uint64_t before = NAME(weighed)(cache);
     lru_told told = NAME(get)(cache, KEY(n));
@@ -102,6 +115,21 @@ static lru_pin NAME(put)(lru_cache *cache, lru_chain *gone, unsigned n, uint64_t
     return told.pin;
 }
 
+/* The same with a strict limit, which must have room. */
+static lru_pin NAME(put_strictly)(lru_cache *cache, lru_chain *gone, unsigned n, uint64_t charge) {
+    uint64_t before = NAME(weighed)(cache), value = new_object();
+    lru_told told = NAME(insert_strictly)(cache, KEY(n), charge, value, gone);
+    if (refused(told.code, CALL("insert_strictly"))) {
+        if (!lru_chain_is_empty(gone) || NAME(weighed)(cache) != before)
+            wrong("a refused insert_strictly changed something");
+        told = NAME(insert_strictly)(cache, KEY(n), charge, value, gone);
+    }
+    if (told.code != LRU_DONE) wrong("there is room for an insert_strictly");
+    say("insert_strictly", told);
+    NAME(take)(gone);
+    return told.pin;
+}
+
 static void NAME(open)(lru_cache *cache) {
     lru_code code = NAME(new)(20, 0, cache);
     if (refused(code, CALL("new"))) code = NAME(new)(20, 0, cache);
@@ -166,6 +194,20 @@ static void RUN(void) {
     NAME(take_away)(&cache, &gone, 300);
     NAME(look)(&cache, 600);
     NAME(evict)(&cache, &gone, 1200);
+
+    /* With a strict limit: new entries with keys longer than all before, and a key that finds no
+     * room beside the two entries that are held, whose charges add up to 15. */
+    held = NAME(ask_strictly)(&cache, &gone, 700, 12);
+    NAME(give)(&cache, held.pin);
+    for (unsigned n = 710; n < 730; n++)
+        NAME(let_go)(&cache, &gone, NAME(put_strictly)(&cache, &gone, n, 1 + n % 5));
+    for (unsigned n = 730; n < 740; n++) {
+        waited = NAME(ask_strictly)(&cache, &gone, n, 1 + n % 5);
+        NAME(give)(&cache, waited.pin);
+        NAME(let_go)(&cache, &gone, waited.pin);
+    }
+    NAME(ask_strictly)(&cache, &gone, 740, 6);
+    NAME(let_go)(&cache, &gone, held.pin);
 
     /* reserve, a smaller capacity, prune. */
     code = lru_cache_reserve(&cache, 100);

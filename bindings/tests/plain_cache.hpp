@@ -46,6 +46,12 @@ class PlainCache {
     return told(LRU_HIT, stamp, entry.value);
   }
 
+  // A begin, unless the key has no entry and the capacity has no room for one.
+  lru_told begin_strictly(const Key& key, std::uint64_t charge, std::vector<lru_gone>* gone) {
+    if (charge != 0 && stamps_.count(key) == 0 && !has_room(charge)) return told(LRU_FULL);
+    return begin(key, charge, gone);
+  }
+
   lru_told poll(std::uint64_t stamp) {
     const auto found = entries_.find(stamp);
     if (found == entries_.end() || found->second.pins == 0) return told(LRU_STALE);
@@ -161,6 +167,13 @@ class PlainCache {
     return told(LRU_DONE, stamp);
   }
 
+  // An insert, unless the capacity has no room for the charge.
+  lru_told insert_strictly(const Key& key, std::uint64_t charge, std::uint64_t value,
+                           std::vector<lru_gone>* gone) {
+    if (charge != 0 && !has_room(charge)) return told(LRU_FULL);
+    return insert(key, charge, value, gone);
+  }
+
   lru_code prune(std::vector<lru_gone>* gone) {
     settle(0, gone);
     return LRU_DONE;
@@ -243,6 +256,12 @@ class PlainCache {
     answer.pin.stamp = stamp;
     answer.value = value;
     return answer;
+  }
+
+  // Whether a charge fits the capacity beside the entries that have a pin.
+  bool has_room(std::uint64_t charge) const {
+    const std::uint64_t pinned = pinned_charge();
+    return pinned <= capacity_ && charge <= capacity_ - pinned;
   }
 
   lru_told make(const Key& key, std::uint64_t charge, std::vector<lru_gone>* gone) {

@@ -69,6 +69,10 @@ struct Pairs : lru::detail::Calls<lru::Words> {
   static lru_told begin(lru_cache* cache, const Key& key, std::uint64_t charge, lru_chain* gone) {
     return Calls::begin(cache, words(key), charge, gone);
   }
+  static lru_told begin_strictly(lru_cache* cache, const Key& key, std::uint64_t charge,
+                                 lru_chain* gone) {
+    return Calls::begin_strictly(cache, words(key), charge, gone);
+  }
   static lru_told get(lru_cache* cache, const Key& key) { return Calls::get(cache, words(key)); }
   static lru_code advice_evict(lru_cache* cache, const Key& key, lru_chain* gone) {
     return Calls::advice_evict(cache, words(key), gone);
@@ -79,6 +83,10 @@ struct Pairs : lru::detail::Calls<lru::Words> {
   static lru_told insert(lru_cache* cache, const Key& key, std::uint64_t charge,
                          std::uint64_t value, lru_chain* gone) {
     return Calls::insert(cache, words(key), charge, value, gone);
+  }
+  static lru_told insert_strictly(lru_cache* cache, const Key& key, std::uint64_t charge,
+                                  std::uint64_t value, lru_chain* gone) {
+    return Calls::insert_strictly(cache, words(key), charge, value, gone);
   }
   static lru_code contains(lru_cache* cache, const Key& key) {
     return lru_words_contains(cache, key.first, key.second);
@@ -173,7 +181,7 @@ class Run {
   // Makes one random call on both caches. False if the answers differ. There are so many releases
   // that about half of the time some entries are idle.
   bool call() {
-    const std::uint64_t kind = random_.below(58);
+    const std::uint64_t kind = random_.below(62);
     if (kind < 7) return begin();
     if (kind < 10) return insert();
     if (kind < 11) return poll();
@@ -188,7 +196,9 @@ class Run {
     if (kind < 56) return set_capacity();
     // Rarely, as a prune leaves little for other calls to evict.
     if (kind < 57) return random_.below(4) != 0 || prune();
-    return reserve();
+    if (kind < 58) return reserve();
+    if (kind < 60) return begin_strictly();
+    return insert_strictly();
   }
 
   bool begin() {
@@ -198,6 +208,39 @@ class Run {
     const lru_told told = Family::begin(&cache_, key, charge, &chain_);
     if (told.code <= LRU_HIT) pinned(told);
     return told == plain_.begin(key, charge, &gone_) && evicted();
+  }
+
+  // With charges up to the capacity, so that a part of the calls finds no room.
+  bool begin_strictly() {
+    call_ = "begin_strictly";
+    const Key key = any_key();
+    const std::uint64_t charge = random_.below(kCapacity + 2);
+    const bool is_within = plain_.total() <= plain_.capacity();
+    const lru_told told = Family::begin_strictly(&cache_, key, charge, &chain_);
+    if (told.code <= LRU_HIT) pinned(told);
+    return told == plain_.begin_strictly(key, charge, &gone_) && evicted() &&
+           keeps_limit(is_within, told);
+  }
+
+  // Now and then with a charge that is almost the largest.
+  bool insert_strictly() {
+    call_ = "insert_strictly";
+    const Key key = any_key();
+    const std::uint64_t charge = random_.below(8) == 0
+                                     ? UINT64_MAX - random_.below(2 * kCapacity)
+                                     : random_.below(kCapacity / 2);
+    const std::uint64_t value = random_.below(UINT64_MAX);
+    const bool is_within = plain_.total() <= plain_.capacity();
+    const lru_told told = Family::insert_strictly(&cache_, key, charge, value, &chain_);
+    if (told.code == LRU_DONE) pinned(told);
+    return told == plain_.insert_strictly(key, charge, value, &gone_) && evicted() &&
+           keeps_limit(is_within, told);
+  }
+
+  // Whether a strict call left the total within the capacity, if it was. Counts the call.
+  bool keeps_limit(bool is_within, const lru_told& told) {
+    (told.code == LRU_FULL ? full_ : strict_)++;
+    return !is_within || lru_cache_total(&cache_).value <= plain_.capacity();
   }
 
   // Now and then with a charge that is almost the largest, which may be too much beside others.
@@ -353,7 +396,8 @@ class Run {
     const bool enough = evictions_ >= kSteps / 50 && counted.hits >= kSteps / 50 &&
                         counted.misses >= kSteps / 50 && counted.waits > 0 &&
                         counted.removals > 0 && counted.evictions == evictions_ &&
-                        repins_ >= kSteps / 200 && departures_ >= kSteps / 200;
+                        repins_ >= kSteps / 200 && departures_ >= kSteps / 200 &&
+                        strict_ >= kSteps / 200 && full_ >= kSteps / 200;
     if (!enough) std::printf("seeded: %s, seed %" PRIu64 ": too few\n", Family::name, seed_);
     return same && enough;
   }
@@ -370,6 +414,8 @@ class Run {
   std::size_t evictions_ = 0;
   std::size_t repins_ = 0;      // that were not refused
   std::size_t departures_ = 0;  // entries that a release_and_evict evicted
+  std::size_t strict_ = 0;      // strict calls that found room, or needed none
+  std::size_t full_ = 0;        // strict calls that found no room
   const char* call_ = "";
 };
 

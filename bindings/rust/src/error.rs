@@ -15,6 +15,9 @@ pub enum Refusal {
     Overflow,
     /// The charge was 0.
     ZeroCharge,
+    /// The limit is strict, and the capacity has no room for the new value beside those that are
+    /// pinned.
+    Full,
 }
 
 impl fmt::Display for Refusal {
@@ -23,6 +26,7 @@ impl fmt::Display for Refusal {
             Refusal::Memory => "the cache could not allocate memory",
             Refusal::Overflow => "a number of the cache would overflow",
             Refusal::ZeroCharge => "the charge is 0",
+            Refusal::Full => "the cache is full of pinned values",
         })
     }
 }
@@ -58,7 +62,7 @@ impl From<Refusal> for io::Error {
     fn from(refusal: Refusal) -> Self {
         match refusal {
             Refusal::Memory => io::ErrorKind::OutOfMemory.into(),
-            Refusal::Overflow => io::Error::other(refusal),
+            Refusal::Overflow | Refusal::Full => io::Error::other(refusal),
             Refusal::ZeroCharge => io::Error::new(io::ErrorKind::InvalidInput, refusal),
         }
     }

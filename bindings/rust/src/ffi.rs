@@ -73,6 +73,7 @@ pub const OVERFLOW: u32 = 7;
 pub const MEMORY: u32 = 9;
 pub const NO_CHARGE: u32 = 11;
 pub const PINNED: u32 = 18;
+pub const FULL: u32 = 20;
 
 // A caller of these guarantees that `cache` points to a cache and `gone`, `left` and `chain` to a
 // chain, that they are the only copies of these handles, and that nothing else uses them during the

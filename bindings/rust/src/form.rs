@@ -50,6 +50,16 @@ pub(crate) mod sealed {
         /// # Safety
         ///
         /// As for [`Calls`].
+        unsafe fn begin_strictly(
+            cache: *mut Handle,
+            key: Self::Written<'_>,
+            charge: u64,
+            gone: *mut Handle,
+        ) -> Told;
+
+        /// # Safety
+        ///
+        /// As for [`Calls`].
         unsafe fn get(cache: *mut Handle, key: Self::Written<'_>) -> Told;
 
         /// # Safety
@@ -81,6 +91,17 @@ pub(crate) mod sealed {
             value: u64,
             gone: *mut Handle,
         ) -> Told;
+
+        /// # Safety
+        ///
+        /// As for [`Calls`].
+        unsafe fn insert_strictly(
+            cache: *mut Handle,
+            key: Self::Written<'_>,
+            charge: u64,
+            value: u64,
+            gone: *mut Handle,
+        ) -> Told;
     }
 }
 
@@ -91,6 +112,13 @@ pub enum Bytes {}
 unsafe extern "C" {
     fn lru_bytes_new(capacity: u64, seed: u64, out: *mut Handle) -> u32;
     fn lru_bytes_begin_nonnull(
+        cache: *mut Handle,
+        key: *const u8,
+        length: usize,
+        charge: u64,
+        gone: *mut Handle,
+    ) -> Told;
+    fn lru_bytes_begin_strictly_nonnull(
         cache: *mut Handle,
         key: *const u8,
         length: usize,
@@ -119,6 +147,14 @@ unsafe extern "C" {
         value: u64,
         gone: *mut Handle,
     ) -> Told;
+    fn lru_bytes_insert_strictly_nonnull(
+        cache: *mut Handle,
+        key: *const u8,
+        length: usize,
+        charge: u64,
+        value: u64,
+        gone: *mut Handle,
+    ) -> Told;
 }
 
 impl sealed::Calls for Bytes {
@@ -138,6 +174,16 @@ impl sealed::Calls for Bytes {
         // SAFETY: the pointer of a slice is not null and points to its bytes, of which there are
         // fewer than 2^63. The caller guarantees the rest.
         unsafe { lru_bytes_begin_nonnull(cache, key.as_ptr(), key.len(), charge, gone) }
+    }
+
+    unsafe fn begin_strictly(
+        cache: *mut Handle,
+        key: &[u8],
+        charge: u64,
+        gone: *mut Handle,
+    ) -> Told {
+        // SAFETY: as in `begin`.
+        unsafe { lru_bytes_begin_strictly_nonnull(cache, key.as_ptr(), key.len(), charge, gone) }
     }
 
     unsafe fn get(cache: *mut Handle, key: &[u8]) -> Told {
@@ -170,6 +216,18 @@ impl sealed::Calls for Bytes {
         // SAFETY: as in `begin`.
         unsafe { lru_bytes_insert_nonnull(cache, key.as_ptr(), key.len(), charge, value, gone) }
     }
+
+    unsafe fn insert_strictly(
+        cache: *mut Handle,
+        key: &[u8],
+        charge: u64,
+        value: u64,
+        gone: *mut Handle,
+    ) -> Told {
+        let (at, length) = (key.as_ptr(), key.len());
+        // SAFETY: as in `begin`.
+        unsafe { lru_bytes_insert_strictly_nonnull(cache, at, length, charge, value, gone) }
+    }
 }
 
 /// The form of keys that are written as bytes, which may have to be put together for each call.
@@ -198,6 +256,16 @@ impl sealed::Calls for CowBytes {
     ) -> Told {
         // SAFETY: the caller guarantees what the function requires.
         unsafe { Bytes::begin(cache, &key, charge, gone) }
+    }
+
+    unsafe fn begin_strictly(
+        cache: *mut Handle,
+        key: Cow<'_, [u8]>,
+        charge: u64,
+        gone: *mut Handle,
+    ) -> Told {
+        // SAFETY: as in `begin`.
+        unsafe { Bytes::begin_strictly(cache, &key, charge, gone) }
     }
 
     unsafe fn get(cache: *mut Handle, key: Cow<'_, [u8]>) -> Told {
@@ -230,6 +298,17 @@ impl sealed::Calls for CowBytes {
         // SAFETY: as in `begin`.
         unsafe { Bytes::insert(cache, &key, charge, value, gone) }
     }
+
+    unsafe fn insert_strictly(
+        cache: *mut Handle,
+        key: Cow<'_, [u8]>,
+        charge: u64,
+        value: u64,
+        gone: *mut Handle,
+    ) -> Told {
+        // SAFETY: as in `begin`.
+        unsafe { Bytes::insert_strictly(cache, &key, charge, value, gone) }
+    }
 }
 
 /// The form of keys that are written as two words.
@@ -239,6 +318,13 @@ pub enum Words {}
 unsafe extern "C" {
     fn lru_words_new(capacity: u64, seed: u64, out: *mut Handle) -> u32;
     fn lru_words_begin(
+        cache: *mut Handle,
+        first: u64,
+        second: u64,
+        charge: u64,
+        gone: *mut Handle,
+    ) -> Told;
+    fn lru_words_begin_strictly(
         cache: *mut Handle,
         first: u64,
         second: u64,
@@ -255,6 +341,14 @@ unsafe extern "C" {
     ) -> u32;
     fn lru_words_invalidate(cache: *mut Handle, first: u64, second: u64, gone: *mut Handle) -> u32;
     fn lru_words_insert(
+        cache: *mut Handle,
+        first: u64,
+        second: u64,
+        charge: u64,
+        value: u64,
+        gone: *mut Handle,
+    ) -> Told;
+    fn lru_words_insert_strictly(
         cache: *mut Handle,
         first: u64,
         second: u64,
@@ -285,6 +379,16 @@ impl sealed::Calls for Words {
     ) -> Told {
         // SAFETY: the caller guarantees what the function requires.
         unsafe { lru_words_begin(cache, first, second, charge, gone) }
+    }
+
+    unsafe fn begin_strictly(
+        cache: *mut Handle,
+        [first, second]: [u64; 2],
+        charge: u64,
+        gone: *mut Handle,
+    ) -> Told {
+        // SAFETY: the caller guarantees what the function requires.
+        unsafe { lru_words_begin_strictly(cache, first, second, charge, gone) }
     }
 
     unsafe fn get(cache: *mut Handle, [first, second]: [u64; 2]) -> Told {
@@ -320,5 +424,16 @@ impl sealed::Calls for Words {
     ) -> Told {
         // SAFETY: as in `begin`.
         unsafe { lru_words_insert(cache, first, second, charge, value, gone) }
+    }
+
+    unsafe fn insert_strictly(
+        cache: *mut Handle,
+        [first, second]: [u64; 2],
+        charge: u64,
+        value: u64,
+        gone: *mut Handle,
+    ) -> Told {
+        // SAFETY: the caller guarantees what the function requires.
+        unsafe { lru_words_insert_strictly(cache, first, second, charge, value, gone) }
     }
 }

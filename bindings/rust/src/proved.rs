@@ -29,6 +29,8 @@ pub(crate) struct Core<F: Form, V> {
     cache: Handle,
     /// Where the library puts evicted entries. Empty between calls.
     chain: Handle,
+    /// Whether `begin` and `insert` are strict.
+    strict: bool,
     form: PhantomData<fn() -> F>,
     values: PhantomData<Box<V>>,
 }
@@ -42,6 +44,7 @@ impl<F: Form, V> Core<F, V> {
         let mut core = Core {
             cache: Handle::CLOSED,
             chain: Handle::CLOSED,
+            strict: false,
             form: PhantomData,
             values: PhantomData,
         };
@@ -54,15 +57,21 @@ impl<F: Form, V> Core<F, V> {
         Ok(core)
     }
 
-    /// Finds the entry of a key or makes one, and pins it.
+    /// Finds the entry of a key or makes one, and pins it. If the limit is strict, makes none that
+    /// the capacity has no room for.
     pub(crate) fn begin(
         &mut self,
         key: F::Written<'_>,
         charge: u64,
         evicted: &mut Evicted<V>,
     ) -> Result<Begun<V>, Refusal> {
+        let call = if self.strict {
+            F::begin_strictly
+        } else {
+            F::begin
+        };
         // SAFETY: this core has the only copies of both handles.
-        let told = unsafe { F::begin(&mut self.cache, key, charge, &mut self.chain) };
+        let told = unsafe { call(&mut self.cache, key, charge, &mut self.chain) };
         self.take_evicted(evicted);
         Self::begun(told)
     }
@@ -168,7 +177,8 @@ impl<F: Form, V> Core<F, V> {
     }
 
     /// Detaches the entry of a key as `invalidate` does, and makes one with this value, of which
-    /// the caller has a pin. If it is refused, returns the value, and nothing has changed.
+    /// the caller has a pin. If it is refused, as it is if the limit is strict and the capacity has
+    /// no room, returns the value, and nothing has changed.
     pub(crate) fn insert(
         &mut self,
         key: F::Written<'_>,
@@ -177,8 +187,13 @@ impl<F: Form, V> Core<F, V> {
         evicted: &mut Evicted<V>,
     ) -> Result<(Pin, NonNull<V>), (Refusal, Box<V>)> {
         let word = word_of(Box::into_raw(value));
+        let call = if self.strict {
+            F::insert_strictly
+        } else {
+            F::insert
+        };
         // SAFETY: this core has the only copies of both handles.
-        let told = unsafe { F::insert(&mut self.cache, key, charge, word, &mut self.chain) };
+        let told = unsafe { call(&mut self.cache, key, charge, word, &mut self.chain) };
         self.take_evicted(evicted);
         if told.code == ffi::DONE {
             return Ok((told.pin, value_of(word)));
@@ -200,6 +215,16 @@ impl<F: Form, V> Core<F, V> {
         // SAFETY: this core has the only copies of both handles.
         unsafe { ffi::lru_cache_set_capacity(&mut self.cache, capacity, &mut self.chain) };
         self.take_evicted(evicted);
+    }
+
+    /// Sets whether the limit is strict.
+    pub(crate) fn set_strict_limit(&mut self, strict: bool) {
+        self.strict = strict;
+    }
+
+    /// Whether the limit is strict.
+    pub(crate) fn is_limit_strict(&self) -> bool {
+        self.strict
     }
 
     /// The total of the charges of all entries.
@@ -308,6 +333,7 @@ fn refusal(code: u32) -> Refusal {
         ffi::OVERFLOW => Refusal::Overflow,
         ffi::MEMORY => Refusal::Memory,
         ffi::NO_CHARGE => Refusal::ZeroCharge,
+        ffi::FULL => Refusal::Full,
         // No other code is possible: both handles are open, the chain is empty, and the pins are
         // those that the library told.
         _ => unreachable!("the library answered code {code}"),

@@ -193,6 +193,21 @@ impl<K: Key + ?Sized, V, S> LruCache<K, V, S> {
             shard.set_capacity(share);
         }
     }
+
+    /// Sets whether the capacity of each shard is a strict limit, one shard after another, as
+    /// [`unsharded::LruCache::set_strict_limit`] does. A value has no room if its own shard has
+    /// none.
+    pub fn set_strict_limit(&self, strict: bool) {
+        for shard in &self.shards {
+            shard.set_strict_limit(strict);
+        }
+    }
+
+    /// Returns whether the capacity of every shard is a strict limit. No snapshot, as
+    /// [`len`](Self::len).
+    pub fn is_limit_strict(&self) -> bool {
+        self.shards.iter().all(|shard| shard.is_limit_strict())
+    }
 }
 
 impl<K: Key + ?Sized, V, S: BuildHasher> LruCache<K, V, S> {

@@ -20,7 +20,8 @@ use crate::stats::Stats;
 ///
 /// A [`CacheHandle`] pins its value: a pinned value is not evicted. A value without a handle is
 /// idle. While the total of all charges is above the capacity, idle values are evicted, the least
-/// recently released first.
+/// recently released first. Pinned values may take the total above the capacity, unless the limit
+/// is strict ([`set_strict_limit`](Self::set_strict_limit)).
 ///
 /// No lock is held while values are made or dropped. So `init` and `Drop` of a value may be slow,
 /// may panic, and may call the cache. But `init` must not ask for the key whose value it makes, and
@@ -188,7 +189,9 @@ impl<K: Key + ?Sized, V> LruCache<K, V> {
     /// [`Refusal::ZeroCharge`] if `charge` is 0, even if the key has a value. [`Refusal::Overflow`]
     /// if the total of all charges would exceed `u64::MAX`, if the value has `u32::MAX` handles, or
     /// if `u64::MAX` values have been made. [`Refusal::Memory`] if there is no memory for a new
-    /// entry. In these cases `init` does not run and nothing is evicted.
+    /// entry. [`Refusal::Full`] if the limit is strict, the key has no value and none is being made
+    /// for it, and there is no room for one. In these cases `init` does not run and nothing is
+    /// evicted.
     pub fn get_or_init<Q>(
         &self,
         key: &Q,
@@ -320,8 +323,9 @@ impl<K: Key + ?Sized, V> LruCache<K, V> {
     ///
     /// [`Refusal::ZeroCharge`] if `charge` is 0. [`Refusal::Overflow`] if the total of all charges,
     /// not counting an idle value of the key, would exceed `u64::MAX`, or if `u64::MAX` values have
-    /// been made. [`Refusal::Memory`] if there is no memory for a new entry. The key keeps its old
-    /// value then, and the new one is dropped.
+    /// been made. [`Refusal::Memory`] if there is no memory for a new entry. [`Refusal::Full`] if
+    /// the limit is strict and there is no room for the new value; an old value that has a handle
+    /// takes room too. The key keeps its old value then, and the new one is dropped.
     ///
     /// # Examples
     ///
@@ -459,6 +463,40 @@ impl<K: Key + ?Sized, V> LruCache<K, V> {
     pub fn set_capacity(&self, capacity: u64) {
         let mut evicted = Evicted::new();
         self.lock().core.set_capacity(capacity, &mut evicted);
+    }
+
+    /// Sets whether the capacity is a strict limit, which it is not in a new cache.
+    ///
+    /// If it is, no value is inserted whose charge, with the charges of the pinned values, is above
+    /// the capacity: [`get_or_init`](Self::get_or_init), [`insert`](Self::insert) and the calls
+    /// named after them return [`Refusal::Full`], and nothing is evicted. A value that exists is
+    /// found as before. The total is then never above the capacity, unless it is already, or
+    /// [`set_capacity`](Self::set_capacity) lowers the capacity below the charges of the pinned
+    /// values.
+    ///
+    /// # Examples
+    ///
+    /// ```
+    /// use concurrent_lru_proved::Refusal;
+    /// use concurrent_lru_proved::unsharded::LruCache;
+    ///
+    /// # fn main() -> Result<(), Refusal> {
+    /// let cache = LruCache::<u64, &str>::new(10)?;
+    /// cache.set_strict_limit(true);
+    /// let seven = cache.insert(&7, 6, "seven")?;
+    /// assert_eq!(cache.insert(&8, 5, "eight").err(), Some(Refusal::Full));
+    /// drop(seven); // idle, so it leaves
+    /// assert_eq!(*cache.insert(&8, 5, "eight")?, "eight");
+    /// # Ok(())
+    /// # }
+    /// ```
+    pub fn set_strict_limit(&self, strict: bool) {
+        self.lock().core.set_strict_limit(strict);
+    }
+
+    /// Returns whether the capacity is a strict limit.
+    pub fn is_limit_strict(&self) -> bool {
+        self.lock().core.is_limit_strict()
     }
 
     /// Finds the key's value, waiting for it while another caller makes it, or begins to make it.

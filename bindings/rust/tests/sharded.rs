@@ -196,6 +196,21 @@ fn prune_and_set_capacity_reach_every_shard() -> Result<(), Refusal> {
 }
 
 #[test]
+fn a_strict_limit_is_that_of_each_shard() -> Result<(), Refusal> {
+    let cache = by_itself(4, 2)?;
+    assert!(!cache.is_limit_strict());
+    cache.set_strict_limit(true);
+    assert!(cache.is_limit_strict());
+    let even = cache.insert(&0, 2, 0)?;
+    assert_eq!(cache.insert(&2, 1, 2).err(), Some(Refusal::Full));
+    assert_eq!(*cache.insert(&1, 2, 1)?, 1);
+    cache.set_strict_limit(false);
+    assert!(!cache.is_limit_strict());
+    assert_eq!((*cache.insert(&2, 1, 2)?, *even), (2, 0));
+    Ok(())
+}
+
+#[test]
 fn totals_of_shards_never_wrap() -> Result<(), Refusal> {
     let cache = by_itself(0, 2)?;
     let zero = cache.get_or_init(&0, u64::MAX, |_| 0)?;

@@ -362,6 +362,48 @@ fn refusals_have_names_and_change_nothing() -> Result<(), Refusal> {
 }
 
 #[test]
+fn a_strict_limit_has_no_room_beside_pinned_values() -> Result<(), Refusal> {
+    let cache = LruCache::<u32, u32>::new(10)?;
+    assert!(!cache.is_limit_strict());
+    cache.set_strict_limit(true);
+    assert!(cache.is_limit_strict());
+    let one = cache.get_or_init(&1, 6, |_| 1)?;
+    cache.get_or_init(&2, 4, |_| 2)?;
+    let before = cache.stats();
+    let refused = cache.get_or_init(&3, 5, |_| unreachable!()).err();
+    assert_eq!(refused, Some(Refusal::Full));
+    let refused = cache.get_or_try_init(&3, 5, |_| Err("never")).err();
+    assert_eq!(refused, Some(GetError::Refused(Refusal::Full)));
+    assert_eq!(cache.insert(&3, 5, 3).err(), Some(Refusal::Full));
+    // The old value has a handle, so it takes room.
+    assert_eq!(cache.insert(&1, 5, 3).err(), Some(Refusal::Full));
+    // Nothing is evicted or counted.
+    assert_eq!(cache.stats(), before);
+    assert_eq!(cache.get(&1)?.as_deref(), Some(&1));
+    assert_eq!(cache.get(&2)?.as_deref(), Some(&2));
+
+    // A value that exists is found; idle values leave for a new one.
+    assert_eq!(*cache.get_or_init(&1, 9, |_| unreachable!())?, 1);
+    assert_eq!(*cache.get_or_init(&3, 4, |_| 3)?, 3);
+    assert!(!cache.contains(&2)?);
+    assert_eq!(*cache.insert(&3, 4, 4)?, 4);
+    assert_eq!(cache.total_charge(), 10);
+    drop(one);
+    assert_eq!(*cache.insert(&4, 10, 5)?, 5);
+    assert_eq!(cache.total_charge(), 10);
+
+    // The limit is set at any time, whatever the total is.
+    cache.set_strict_limit(false);
+    let large = cache.insert(&5, 11, 6)?;
+    cache.set_strict_limit(true);
+    assert_eq!((*large, cache.total_charge()), (6, 11));
+    assert_eq!(cache.insert(&6, 1, 7).err(), Some(Refusal::Full));
+    drop(large);
+    assert_eq!(*cache.insert(&6, 1, 7)?, 7);
+    Ok(())
+}
+
+#[test]
 fn an_insert_replaces_whatever_is_there() -> Result<(), Refusal> {
     let recording = Recording::new()?;
     let put = |key: u32, number, charge| {
@@ -851,6 +893,7 @@ fn errors_say_what_happened() {
         told(&Refusal::Memory),
         "the cache could not allocate memory"
     );
+    assert_eq!(told(&Refusal::Full), "the cache is full of pinned values");
     assert_eq!(
         told(&GetError::Init(std::fmt::Error)),
         "the value could not be made"
@@ -859,6 +902,7 @@ fn errors_say_what_happened() {
         (Refusal::Memory, io::ErrorKind::OutOfMemory),
         (Refusal::Overflow, io::ErrorKind::Other),
         (Refusal::ZeroCharge, io::ErrorKind::InvalidInput),
+        (Refusal::Full, io::ErrorKind::Other),
     ] {
         assert_eq!(io::Error::from(GetError::Refused(error)).kind(), kind);
     }

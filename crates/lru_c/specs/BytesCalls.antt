@@ -8,7 +8,7 @@ use Rattle.lru_c.specs.Chains.{entries_of}
 use Rattle.lru_c.specs.Codes as code
 use Rattle.lru_c.specs.Counted.{answered, counted, no_calls}
 use Rattle.lru_c.specs.Handles.{OnOpen}
-use Rattle.lru_c.specs.Inserts.{InsertsOne}
+use Rattle.lru_c.specs.Inserts.{InsertsOne, TellsInsert, TellsStrictInsert}
 use Rattle.lru_c.specs.Keys.{bytes_eq}
 use Rattle.lru_c.specs.Opened.{TellsReady}
 use Rattle.lru_c.specs.Told as tells
@@ -50,10 +50,10 @@ BytesInto _ _ _ _ t Step = ⊥
 abbrev pub HasBytes : List ℕ → Key → Type 0
 HasBytes bytes key = key.bytes.items ≡ bytes
 
--- A begin with a key of these bytes, which refuses a charge of 0.
-abbrev pub BeginsByKey : Cache Key ℕ → List ℕ → ℕ → LruTold → Entries → Cache Key ℕ → Type 0
-BeginsByKey old bytes charge t gone new =
-    MatchBool (charge == 0) ((t ≡ bare code.no_charge) × IsSame old gone new) (tells.AsksOf bytes_eq (HasBytes bytes) old (λ key. ask.begin key charge) t gone new)
+-- A begin, or one that r asks for in its place, with a key of these bytes; it refuses a charge of 0.
+abbrev pub BeginsByKey : Cache Key ℕ → (Key → ℕ → Request Key ℕ) → List ℕ → ℕ → LruTold → Entries → Cache Key ℕ → Type 0
+BeginsByKey old r bytes charge t gone new =
+    MatchBool (charge == 0) ((t ≡ bare code.no_charge) × IsSame old gone new) (tells.AsksOf bytes_eq (HasBytes bytes) old (λ key. r key charge) t gone new)
 
 -- The call took one step with a key of these bytes, returned its outcome and counted it, with the
 -- same counts for every key; or memory was refused, and nothing changed.
@@ -69,13 +69,19 @@ AsksByKey old r bytes t new = OnOpen old new (λ o n. AsksAnyByKey o r bytes t n
 abbrev pub AsksIntoByKey : AnyCache → (Key → Request Key ℕ) → List ℕ → LruTold → AnyChain → AnyChain → AnyCache → Type 0
 AsksIntoByKey old r bytes t before gone new = BytesInto old before gone new t (λ o out n. TakesStepByKey o r bytes t out n)
 
--- The same for a begin, which refuses a charge of 0.
-abbrev pub BeginsInto : AnyCache → List ℕ → ℕ → LruTold → AnyChain → AnyChain → AnyCache → Type 0
-BeginsInto old bytes charge t before gone new = BytesInto old before gone new t (λ o out n. BeginsByKey o.state.cache bytes charge t out n.state.cache × (n.counts ≡ answered t o.counts))
+-- The same for a begin, or one that r asks for in its place, which refuses a charge of 0.
+abbrev pub BeginsInto : AnyCache → (Key → ℕ → Request Key ℕ) → List ℕ → ℕ → LruTold → AnyChain → AnyChain → AnyCache → Type 0
+BeginsInto old r bytes charge t before gone new =
+    BytesInto old before gone new t (λ o out n. BeginsByKey o.state.cache r bytes charge t out n.state.cache × (n.counts ≡ answered t o.counts))
 
 -- An insert, with what it replaced and what it evicted in one chain.
 abbrev pub InsertsInto : AnyCache → List ℕ → ℕ → ℕ → LruTold → AnyChain → AnyChain → AnyCache → Type 0
-InsertsInto old bytes charge v t before gone new = BytesInto old before gone new t (λ o out n. InsertsOne bytes_eq (HasBytes bytes) o charge v t out n)
+InsertsInto old bytes charge v t before gone new = BytesInto old before gone new t (λ o out n. InsertsOne (TellsInsert bytes_eq) (HasBytes bytes) o charge v t out n)
+
+-- The same for a strict insert.
+abbrev pub InsertsStrictlyInto : AnyCache → List ℕ → ℕ → ℕ → LruTold → AnyChain → AnyChain → AnyCache → Type 0
+InsertsStrictlyInto old bytes charge v t before gone new =
+    BytesInto old before gone new t (λ o out n. InsertsOne (TellsStrictInsert bytes_eq) (HasBytes bytes) o charge v t out n)
 
 -- The call returned whether a key of these bytes has a value, or that memory was refused.
 abbrev pub ContainsBytes : Cache Key ℕ → List ℕ → ℕ → Type 0

@@ -57,3 +57,6 @@ pinned = 18
 
 abbrev pub other_keys : ℕ
 other_keys = 19
+
+abbrev pub full : ℕ
+full = 20

@@ -26,21 +26,22 @@ one_insertion n = record n { next_stamp = one_more n.next_stamp }
 abbrev pub one_making : ℕ → Counts → Counts
 one_making stamp n = cond (stamp == n.next_stamp) (one_insertion (record n { misses = one_more n.misses })) (record n { misses = one_more n.misses })
 
--- the counts after a begin, a get or a fail with this answer
+-- the counts after a begin, strict or not, a get or a fail with this answer
 abbrev pub answered : LruTold → Counts → Counts
 answered t n =
     cond (t.code == code.hit) (record n { hits = one_more n.hits }) (cond (t.code == code.make) (one_making t.pin.stamp n) (
     cond (t.code == code.missed) (record n { misses = one_more n.misses }) (cond (t.code == code.wait) (record n { waits = one_more n.waits }) (
     cond (t.code == code.removed) (record n { removals = one_more n.removals }) n))))
 
--- the counts after an insert with this answer
+-- the counts after an insert, strict or not, with this answer
 abbrev pub inserted : LruTold → Counts → Counts
 inserted t n = cond (t.code == code.done) (one_insertion n) n
 
--- The counts after any call but an insert, with this request and answer. Only a begin, a get and a
--- fail change them.
+-- The counts after any call but an insert, with this request and answer. Only a begin, strict or not,
+-- a get and a fail change them.
 abbrev pub counted : {K : Type 0} → Request K ℕ → LruTold → Counts → Counts
 counted (ask.begin k charge) t n = answered t n
+counted (ask.begin_strictly k charge) t n = answered t n
 counted (ask.get k) t n = answered t n
 counted (ask.fail stamp) t n = answered t n
 counted _ t n = n

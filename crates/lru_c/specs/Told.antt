@@ -1,11 +1,11 @@
 -- What a call returns to C, as an outcome of the abstract cache. E is the equality of keys.
-use Rattle.std.specs.Prelude.{◌≡◌, ℕ, Bool, cond, ◌==◌, List, [], Option, Some, None, MatchBool, ⊤}
+use Rattle.std.specs.Prelude.{◌≡◌, ℕ, Bool, cond, ◌==◌, List, [], Option, Some, None, Result, Ok, Err, MatchBool, ⊤}
 use Rattle.concurrent_lru.specs.Cache.{Cache, Idle, IsLawful}
 use Rattle.concurrent_lru.specs.Request.{Request}
 use Rattle.concurrent_lru.specs.Reply as say
 use Rattle.concurrent_lru.specs.Runs.{Outcome, accepted, refused, Stands}
 use Rattle.concurrent_lru.specs.declared.refusal.Refusal.{Refusal}
-use Rattle.concurrent_lru.specs.declared.refusal.Refusal.TheVariants.{Memory, Overflow, Stale}
+use Rattle.concurrent_lru.specs.declared.refusal.Refusal.TheVariants.{Memory, Overflow, Stale, Full}
 use Rattle.concurrent_lru.specs.declared.step.Begun.{Begun}
 use Rattle.concurrent_lru.specs.declared.step.Begun.TheVariants as begun
 use Rattle.concurrent_lru.specs.declared.step.Failed.{Failed}
@@ -38,6 +38,7 @@ abbrev pub refusal_code : Refusal → ℕ
 refusal_code Overflow = code.overflow
 refusal_code Stale = code.stale
 refusal_code Memory = code.memory
+refusal_code Full = code.full
 
 -- What a begin or a poll returns, with a hint of the entry; what a get returns. Nothing is said of
 -- the hint, as any will do.
@@ -56,6 +57,11 @@ module _ {K : Type 0} where
   failed_code failed.Left = code.left
   failed_code (failed.Removed k) = code.removed
 
+  -- what a begin with this result of the core returns, and what it puts into a chain
+  abbrev pub TellsBegun : Result (Begun ℕ × List (Idle K ℕ) × Hint) Refusal → LruTold → List (Idle K ℕ) → Type 0
+  TellsBegun (Ok b) t gone = (t ≡ begun_told b.2 b.0) × (gone ≡ b.1)
+  TellsBegun (Err e) t gone = (t ≡ bare (refusal_code e)) × (gone ≡ [])
+
   -- The outcome that an answer stands for, unless a key was removed; what was put into a chain
   -- belongs to it. Any other code reads as a sum, and no step with such an answer has that outcome.
   abbrev pub outcome_told : LruTold → List (Idle K ℕ) → Outcome K ℕ
@@ -64,7 +70,8 @@ module _ {K : Type 0} where
       cond (t.code == code.hit) (accepted (say.hit t.pin.stamp t.value) gone) (cond (t.code == code.done) (accepted say.done gone) (
       cond (t.code == code.left) (accepted say.left gone) (cond (t.code == code.missed) (accepted say.missed gone) (
       cond (t.code == code.overflow) (refused Overflow) (cond (t.code == code.stale) (refused Stale) (
-      cond (t.code == code.memory) (refused Memory) (cond (t.code == code.pinned) (accepted (say.pinned t.value) gone) (accepted (say.sum t.value) gone))))))))))
+      cond (t.code == code.memory) (refused Memory) (cond (t.code == code.pinned) (accepted (say.pinned t.value) gone) (
+      cond (t.code == code.full) (refused Full) (accepted (say.sum t.value) gone)))))))))))
 
   -- a refusal puts nothing into a chain
   abbrev pub IsQuiet : Outcome K ℕ → List (Idle K ℕ) → Type 0

@@ -2,13 +2,12 @@
 use Rattle.std.specs.Prelude.{◌≡◌, ◌==◌, ℕ, List, [], Option, MatchBool}
 use Rattle.concurrent_lru.specs.Cache.{Idle, empty_cache}
 use Rattle.concurrent_lru.specs.Request.{Request}
-use Rattle.concurrent_lru.specs.Request as ask
 use Rattle.lru_c.specs.Calls.{IsUnchanged, TakesStep}
 use Rattle.lru_c.specs.Chains.{entries_of}
 use Rattle.lru_c.specs.Codes as code
 use Rattle.lru_c.specs.Counted.{answered, no_calls}
 use Rattle.lru_c.specs.Handles.{OnOpen}
-use Rattle.lru_c.specs.Inserts.{InsertsOne}
+use Rattle.lru_c.specs.Inserts.{InsertsOne, TellsInsert, TellsStrictInsert}
 use Rattle.lru_c.specs.Keys.{words_eq}
 use Rattle.lru_c.specs.Opened.{TellsKey, TellsReady}
 use Rattle.lru_c.specs.Told as tells
@@ -59,14 +58,18 @@ AsksByKey old r t new = OnOpen old new (λ o n. AsksAnyByKey o r t n) (t ≡ bar
 abbrev pub AsksIntoByKey : AnyCache → Request Words ℕ → LruTold → AnyChain → AnyChain → AnyCache → Type 0
 AsksIntoByKey old r t before gone new = WordsInto old before gone new t (λ o out n. TakesStep words_eq o r t out n)
 
--- The same for a begin, which refuses a charge of 0.
-abbrev pub BeginsInto : AnyCache → Words → ℕ → LruTold → AnyChain → AnyChain → AnyCache → Type 0
-BeginsInto old key charge t before gone new =
-    WordsInto old before gone new t (λ o out n. MatchBool (charge == 0) ((t ≡ bare code.no_charge) × IsSame o.state.cache out n.state.cache) (tells.Asks words_eq o.state.cache (ask.begin key charge) t out n.state.cache) × (n.counts ≡ answered t o.counts))
+-- The same for a begin, or one that r asks for in its place, which refuses a charge of 0.
+abbrev pub BeginsInto : AnyCache → (Words → ℕ → Request Words ℕ) → Words → ℕ → LruTold → AnyChain → AnyChain → AnyCache → Type 0
+BeginsInto old r key charge t before gone new =
+    WordsInto old before gone new t (λ o out n. MatchBool (charge == 0) ((t ≡ bare code.no_charge) × IsSame o.state.cache out n.state.cache) (tells.Asks words_eq o.state.cache (r key charge) t out n.state.cache) × (n.counts ≡ answered t o.counts))
 
 -- An insert, with what it replaced and what it evicted in one chain.
 abbrev pub InsertsInto : AnyCache → Words → ℕ → ℕ → LruTold → AnyChain → AnyChain → AnyCache → Type 0
-InsertsInto old key charge v t before gone new = WordsInto old before gone new t (λ o out n. InsertsOne words_eq (λ k. k ≡ key) o charge v t out n)
+InsertsInto old key charge v t before gone new = WordsInto old before gone new t (λ o out n. InsertsOne (TellsInsert words_eq) (λ k. k ≡ key) o charge v t out n)
+
+-- The same for a strict insert.
+abbrev pub InsertsStrictlyInto : AnyCache → Words → ℕ → ℕ → LruTold → AnyChain → AnyChain → AnyCache → Type 0
+InsertsStrictlyInto old key charge v t before gone new = WordsInto old before gone new t (λ o out n. InsertsOne (TellsStrictInsert words_eq) (λ k. k ≡ key) o charge v t out n)
 
 -- The call returned whether a key has a value, and changed nothing.
 abbrev pub ContainsAny : AnyCache → Words → ℕ → AnyCache → Type 0

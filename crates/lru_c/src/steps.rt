@@ -4,14 +4,15 @@ ghost use Rattle.std.specs.Prelude.{◌≡◌, ◌<◌, ◌==◌, ◌⊎◌, [],
 ghost use Rattle.concurrent_lru.specs.Cache.{count_of, pinned_of, sum_of};
 ghost use Rattle.concurrent_lru.specs.Request as ask;
 ghost use Rattle.lru_c.specs.Codes as codes;
-ghost use Rattle.lru_c.specs.Inserts.{TellsInsert};
+ghost use Rattle.lru_c.specs.Inserts.{TellsInsert, TellsInserted, TellsStrictInsert};
 ghost use Rattle.lru_c.specs.Opened.{TellsReady};
-ghost use Rattle.lru_c.specs.Told.{bare, begun_told, failed_code, found_told, numbered, refusal_code, Asks, IsSame};
+ghost use Rattle.lru_c.specs.Told.{bare, begun_told, failed_code, found_told, numbered, refusal_code, Asks, IsSame, TellsBegun};
 
 use crate::code;
 use crate::told::{LruPin, LruTold};
 use crate::values::{Begun, Evicted, State};
 use concurrent_lru::lru_core::{Failed, Hint, Inserted, Refusal};
+use concurrent_lru::share::ByCopy;
 use std::hash::Hash;
 
 pub(crate) fn begin<K: Hash + Eq + Clone>(
@@ -38,7 +39,29 @@ pub(crate) fn begin_charged<K: Hash + Eq + Clone>(
     ensures { Asks K.eq state.old.cache (ask.begin key.now charge) result.0 result.1
         state.new.cache }
 {
-    match state.begin_at(key, charge) {
+    told_of_begin(state.begin_at(key, charge))
+}
+
+pub(crate) fn begin_strictly<K: Hash + Eq + Clone>(
+    state: &mut State<K>,
+    key: &K,
+    charge: u64,
+) -> (LruTold, Evicted<K>)
+    requires { 0 < charge }
+    ensures { Asks K.eq state.old.cache (ask.begin_strictly key.now charge) result.0 result.1
+        state.new.cache }
+{
+    told_of_begin(state.begin_strictly_at(key, charge))
+}
+
+// Returns the answer of a begin with this result, and what it evicted.
+#[inline(always)]
+fn told_of_begin<K: Drop>(
+    outcome: Result<(Begun, Evicted<K>, Hint), Refusal>,
+) -> (LruTold, Evicted<K>)
+    ensures { TellsBegun outcome result.0 result.1 }
+{
+    match outcome {
         Ok((begun, gone, hint)) => (told_of_begun(begun, hint), gone),
         Err(refusal) => (LruTold::bare(code_of(refusal)), Evicted::none()),
     }
@@ -166,7 +189,31 @@ pub(crate) fn insert<K: Hash + Eq + Clone>(
     ensures { TellsInsert K.eq state.old.cache key.now charge value result.0 result.1.0 result.1.1
         state.new.cache }
 {
-    match state.insert_at(key, charge, value) {
+    told_of_insert(state.insert_at(key, charge, value))
+}
+
+// Does what `insert` does, unless the capacity has no room for the charge beside the held entries.
+pub(crate) fn insert_strictly<K: Hash + Eq + Clone>(
+    state: &mut State<K>,
+    key: &K,
+    charge: u64,
+    value: u64,
+) -> (LruTold, (Evicted<K>, Evicted<K>))
+    requires { 0 < charge }
+    ensures { TellsStrictInsert K.eq state.old.cache key.now charge value result.0 result.1.0
+        result.1.1 state.new.cache }
+{
+    told_of_insert(state.insert_strictly_at(key, charge, value))
+}
+
+// Returns the answer of an insert with this result, with what it replaced and what it evicted.
+#[inline(always)]
+fn told_of_insert<K: Drop>(
+    outcome: Result<(Inserted<K, u64, ByCopy>, Hint), (Refusal, u64)>,
+) -> (LruTold, (Evicted<K>, Evicted<K>))
+    ensures { TellsInserted outcome result.0 result.1.0 result.1.1 }
+{
+    match outcome {
         Ok((inserted, hint)) => {
             let Inserted {
                 stamp,
@@ -195,6 +242,7 @@ fn code_of(refusal: Refusal) -> u32
         Refusal::Overflow => code::OVERFLOW,
         Refusal::Stale => code::STALE,
         Refusal::Memory => code::MEMORY,
+        Refusal::Full => code::FULL,
     }
 }
 

@@ -1,7 +1,7 @@
 //! The calls of C on caches whose keys are two words.
 ghost use Rattle.std.specs.Prelude.{◌≡◌, ◌==◌, ⊤, MatchBool};
 ghost use Rattle.concurrent_lru.specs.Request as ask;
-ghost use Rattle.lru_c.specs.WordsCalls.{words, AsksByKey, AsksIntoByKey, BeginsInto, Contains, InsertsInto, IsNew, KeyOf};
+ghost use Rattle.lru_c.specs.WordsCalls.{words, AsksByKey, AsksIntoByKey, BeginsInto, Contains, InsertsInto, InsertsStrictlyInto, IsNew, KeyOf};
 ghost use Rattle.lru_c.specs.Calls.{Into};
 ghost use Rattle.lru_c.specs.Codes as codes;
 ghost use Rattle.lru_c.specs.Opened.{Opens};
@@ -76,7 +76,7 @@ pub extern "C" fn lru_words_begin(
     gone: &mut LruChain,
 ) -> LruTold
     ensures { Into gone.old gone.new result cache.old cache.new
-        (λ o b c n. BeginsInto o (words first second) charge result b c n) }
+        (λ o b c n. BeginsInto o ask.begin (words first second) charge result b c n) }
 {
     let chain = match empty_chain(gone) {
         Ok(chain) => chain,
@@ -84,6 +84,32 @@ pub extern "C" fn lru_words_begin(
     };
     match cache.get_mut() {
         Some(cache) => cache.begin_by_words(&Words { first, second }, charge, chain),
+        None => LruTold::bare(code::CLOSED),
+    }
+}
+
+/// Does what `begin` does, but inserts no entry whose charge the capacity has no room for.
+///
+/// Returns `FULL` if the key has no entry and the charge, with the charges of the held entries, is
+/// above the capacity. Otherwise returns what `begin` returns. Nothing changes if the call is
+/// refused: in particular, nothing is evicted.
+#[unsafe(no_mangle)]
+pub extern "C" fn lru_words_begin_strictly(
+    cache: &mut LruCache,
+    first: u64,
+    second: u64,
+    charge: u64,
+    gone: &mut LruChain,
+) -> LruTold
+    ensures { Into gone.old gone.new result cache.old cache.new
+        (λ o b c n. BeginsInto o ask.begin_strictly (words first second) charge result b c n) }
+{
+    let chain = match empty_chain(gone) {
+        Ok(chain) => chain,
+        Err(code) => return LruTold::bare(code),
+    };
+    match cache.get_mut() {
+        Some(cache) => cache.begin_strictly_by_words(&Words { first, second }, charge, chain),
         None => LruTold::bare(code::CLOSED),
     }
 }
@@ -194,6 +220,38 @@ pub extern "C" fn lru_words_insert(
     };
     match cache.get_mut() {
         Some(cache) => cache.insert_by_words(&Words { first, second }, charge, value, chain),
+        None => LruTold::bare(code::CLOSED),
+    }
+}
+
+/// Does what `insert` does, unless the capacity has no room for the charge.
+///
+/// Returns `FULL` if the charge, with the charges of the held entries, is above the capacity,
+/// whatever entry the key has. Otherwise returns what `insert` returns. If the call is refused,
+/// nothing changes, in particular nothing is evicted, and the value is not taken.
+#[unsafe(no_mangle)]
+pub extern "C" fn lru_words_insert_strictly(
+    cache: &mut LruCache,
+    first: u64,
+    second: u64,
+    charge: u64,
+    value: u64,
+    gone: &mut LruChain,
+) -> LruTold
+    ensures { Into gone.old gone.new result cache.old cache.new
+        (λ o b c n. InsertsStrictlyInto o (words first second) charge value result b c n) }
+{
+    let chain = match empty_chain(gone) {
+        Ok(chain) => chain,
+        Err(code) => return LruTold::bare(code),
+    };
+    match cache.get_mut() {
+        Some(cache) => cache.insert_strictly_by_words(
+            &Words { first, second },
+            charge,
+            value,
+            chain,
+        ),
         None => LruTold::bare(code::CLOSED),
     }
 }

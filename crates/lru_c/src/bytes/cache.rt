@@ -21,7 +21,7 @@ impl Cache<Bytes, Bytes> {
     ghost use Rattle.lru_c.specs.BytesCalls.{BeginsByKey, ContainsBytes, HasBytes};
     ghost use Rattle.lru_c.specs.Keys.{bytes_eq};
     ghost use Rattle.lru_c.specs.Counted.{answered, inserted};
-    ghost use Rattle.lru_c.specs.Inserts.{TellsInsertOf};
+    ghost use Rattle.lru_c.specs.Inserts.{TellsInsert, TellsInsertOf, TellsStrictInsert};
     ghost use Rattle.lru_c.specs.Told.{bare, AsksOf};
 
     // Copies the bytes of a key into the buffer. Returns false if the buffer cannot grow.
@@ -35,7 +35,7 @@ impl Cache<Bytes, Bytes> {
     }
 
     pub(crate) fn begin(&mut self, key: &[u8], charge: u64) -> (LruTold, Evicted<Bytes>)
-        ensures asks { BeginsByKey self.old.state.cache key.now charge result.0 result.1
+        ensures asks { BeginsByKey self.old.state.cache ask.begin key.now charge result.0 result.1
             self.new.state.cache }
         ensures counts { self.new.counts ≡ answered result.0 self.old.counts }
     {
@@ -48,6 +48,22 @@ impl Cache<Bytes, Bytes> {
         let answer = steps::begin_charged(&mut self.state, &self.room, charge);
         self.counts.answer(answer.0);
         answer
+    }
+
+    pub(crate) fn begin_strictly(&mut self, key: &[u8], charge: u64) -> (LruTold, Evicted<Bytes>)
+        ensures asks { BeginsByKey self.old.state.cache ask.begin_strictly key.now charge result.0
+            result.1 self.new.state.cache }
+        ensures counts { self.new.counts ≡ answered result.0 self.old.counts }
+    {
+        if charge == 0 {
+            return (LruTold::bare(code::NO_CHARGE), Evicted::none());
+        }
+        if !self.keep(key) {
+            return (LruTold::bare(code::MEMORY), Evicted::none());
+        }
+        let (begun, gone) = steps::begin_strictly(&mut self.state, &self.room, charge);
+        self.counts.answer(begun);
+        (begun, gone)
     }
 
     pub(crate) fn get(&mut self, key: &[u8]) -> LruTold
@@ -91,8 +107,8 @@ impl Cache<Bytes, Bytes> {
         charge: u64,
         value: u64,
     ) -> (LruTold, (Evicted<Bytes>, Evicted<Bytes>))
-        ensures tells { TellsInsertOf bytes_eq (HasBytes key.now) self.old.state.cache charge value
-            result.0 result.1.0 result.1.1 self.new.state.cache }
+        ensures tells { TellsInsertOf (TellsInsert bytes_eq) (HasBytes key.now)
+            self.old.state.cache charge value result.0 result.1.0 result.1.1 self.new.state.cache }
         ensures counts { self.new.counts ≡ inserted result.0 self.old.counts }
     {
         if charge == 0 {
@@ -104,6 +120,27 @@ impl Cache<Bytes, Bytes> {
         let answer = steps::insert(&mut self.state, &self.room, charge, value);
         self.counts.answer_insert(answer.0);
         answer
+    }
+
+    pub(crate) fn insert_strictly(
+        &mut self,
+        key: &[u8],
+        charge: u64,
+        value: u64,
+    ) -> (LruTold, (Evicted<Bytes>, Evicted<Bytes>))
+        ensures tells { TellsInsertOf (TellsStrictInsert bytes_eq) (HasBytes key.now)
+            self.old.state.cache charge value result.0 result.1.0 result.1.1 self.new.state.cache }
+        ensures counts { self.new.counts ≡ inserted result.0 self.old.counts }
+    {
+        if charge == 0 {
+            return steps::refused(code::NO_CHARGE);
+        }
+        if !self.keep(key) {
+            return steps::refused(code::MEMORY);
+        }
+        let (told, gone) = steps::insert_strictly(&mut self.state, &self.room, charge, value);
+        self.counts.answer_insert(told);
+        (told, gone)
     }
 
     pub(crate) fn contains(&mut self, key: &[u8]) -> u32
@@ -135,14 +172,29 @@ fn copy_key(state: &State<Bytes>, pin: LruPin, buffer: &mut [u8]) -> LruTold
 }
 
 impl AnyCache {
-    ghost use Rattle.lru_c.specs.BytesCalls.{AsksAnyByKey, AsksIntoByKey, BeginsInto, ContainsAny, InsertsInto, KeyOfAny};
+    ghost use Rattle.lru_c.specs.BytesCalls.{AsksAnyByKey, AsksIntoByKey, BeginsInto, ContainsAny, InsertsInto, InsertsStrictlyInto, KeyOfAny};
     ghost use Rattle.lru_c.specs.Told.{bare};
 
     pub(crate) fn begin_by_bytes(&mut self, key: &[u8], charge: u64, gone: &mut AnyChain) -> LruTold
-        ensures { BeginsInto self.old key.now charge result gone.old gone.new self.new }
+        ensures { BeginsInto self.old ask.begin key.now charge result gone.old gone.new self.new }
     {
         match self {
             AnyCache::Bytes(cache) => gone.take_bytes(cache.begin(key, charge)),
+            AnyCache::Words(_) => LruTold::bare(code::OTHER_KEYS),
+        }
+    }
+
+    pub(crate) fn begin_strictly_by_bytes(
+        &mut self,
+        key: &[u8],
+        charge: u64,
+        gone: &mut AnyChain,
+    ) -> LruTold
+        ensures { BeginsInto self.old ask.begin_strictly key.now charge result gone.old gone.new
+            self.new }
+    {
+        match self {
+            AnyCache::Bytes(cache) => gone.take_bytes(cache.begin_strictly(key, charge)),
             AnyCache::Words(_) => LruTold::bare(code::OTHER_KEYS),
         }
     }
@@ -197,6 +249,26 @@ impl AnyCache {
         match self {
             AnyCache::Bytes(cache) => {
                 let (told, (first, rest)) = cache.insert(key, charge, value);
+                *gone = AnyChain::Bytes(Chain { first, rest });
+                told
+            }
+            AnyCache::Words(_) => LruTold::bare(code::OTHER_KEYS),
+        }
+    }
+
+    pub(crate) fn insert_strictly_by_bytes(
+        &mut self,
+        key: &[u8],
+        charge: u64,
+        value: u64,
+        gone: &mut AnyChain,
+    ) -> LruTold
+        ensures { InsertsStrictlyInto self.old key.now charge value result gone.old gone.new
+            self.new }
+    {
+        match self {
+            AnyCache::Bytes(cache) => {
+                let (told, (first, rest)) = cache.insert_strictly(key, charge, value);
                 *gone = AnyChain::Bytes(Chain { first, rest });
                 told
             }
