@@ -19,8 +19,8 @@ pub(crate) enum Answer {
     Gives(Told, u64),
     /// A refusal.
     Refused(Refusal),
-    /// To `Ready`, `Release` and `ReleaseAndEvict`: a refusal, and the stamp and the value that were
-    /// returned with it.
+    /// To `Ready`, `Release` and `ReleaseAndEvict`: a refusal, and the stamp and the value that
+    /// were returned with it.
     Back(Refusal, u64, u64),
     /// To `Insert` and `InsertStrictly`: a refusal, and the value that was returned with it.
     NotInserted(Refusal, u64),
