@@ -14,9 +14,9 @@ pub mod key;
 use crate::any_cache::AnyCache;
 use crate::bytes::key::Bytes;
 use crate::cache::Cache;
-use crate::chain_calls::{empty_chain, open_cache};
+use crate::chain_calls::empty_chain;
 use crate::code;
-use crate::handle::Handle;
+use crate::handle::{Handle, open_new};
 use crate::handles::{LruCache, LruChain};
 use crate::told::{LruPin, LruTold};
 use std::alloc::Global;
@@ -31,7 +31,7 @@ pub extern "C" fn lru_bytes_new(alloc: Global, capacity: u64, seed: u64, out: &m
         (IsNew capacity most_pins_by_default 0) result out.new.cache.held }
 {
     let cache = Cache::new(alloc, capacity, 0, u32::MAX, seed, Bytes::new(alloc));
-    open_cache(alloc, AnyCache::Bytes(cache), out)
+    open_new(alloc, AnyCache::Bytes(cache), out.is_open == 1, out)
 }
 
 /// Opens an empty cache whose keys are bytes, whose first entry gets the stamp `first_stamp`, and
@@ -59,7 +59,7 @@ pub extern "C" fn lru_bytes_new_with_limits(
     }
     let room = Bytes::new(alloc);
     let cache = Cache::new(alloc, capacity, first_stamp, most_pins, seed, room);
-    open_cache(alloc, AnyCache::Bytes(cache), out)
+    open_new(alloc, AnyCache::Bytes(cache), out.is_open == 1, out)
 }
 
 /// Asks for the value of a key and pins its entry, inserting one with this charge if there is none.

@@ -10,7 +10,7 @@ ghost use Rattle.lru_c.specs.Told.{bare};
 
 use crate::chain::AnyChain;
 use crate::chain_calls::{empty_chain, into_chain};
-use crate::handle::{Handle, open, take};
+use crate::handle::{Handle, open_new, take};
 use crate::handles::{LruCache, LruChain};
 use crate::told::{LruGone, LruPin, LruStats, LruTold};
 use crate::{chain_calls, code};
@@ -259,16 +259,7 @@ pub extern "C" fn lru_cache_stats(cache: &mut LruCache, out: &mut LruStats) -> u
 pub extern "C" fn lru_chain_new(alloc: Global, out: &mut LruChain) -> u32
     ensures { Opens (out.old.is_open == 1) out.old.chain.held IsEmpty result out.new.chain.held }
 {
-    if out.is_open == 1 {
-        return code::OPEN;
-    }
-    match Box::new(alloc, AnyChain::none()) {
-        Ok(chain) => {
-            *out = open(chain);
-            code::DONE
-        }
-        Err(_) => code::MEMORY,
-    }
+    open_new(alloc, AnyChain::none(), out.is_open == 1, out)
 }
 
 /// Frees an empty chain and closes its handle.

@@ -1,20 +1,18 @@
 //! The calls on a chain, and the calls on a cache that put entries into a chain.
 ghost use Rattle.std.specs.Borrow.{sem};
 ghost use Rattle.std.specs.Fn.{FnOnceReturnsAtMut};
-ghost use Rattle.std.specs.Prelude.{◌≡◌, ◌≢◌, ◌==◌, None, Some, MatchResult};
+ghost use Rattle.std.specs.Prelude.{◌≡◌, ◌≢◌, None, Some, MatchResult};
 ghost use Rattle.lru_c.specs.Calls.{Into};
 ghost use Rattle.lru_c.specs.Chains.{chain_code};
 ghost use Rattle.lru_c.specs.Codes as codes;
 ghost use Rattle.lru_c.specs.Lends.{LendsChain};
-ghost use Rattle.lru_c.specs.Opened.{Opens};
 ghost use Rattle.lru_c.specs.Told.{bare};
 
 use crate::any_cache::AnyCache;
 use crate::chain::AnyChain;
 use crate::code;
-use crate::handle::{Handle, open};
+use crate::handle::Handle;
 use crate::handles::{LruCache, LruChain};
-use std::alloc::Global;
 
 // Returns the chain of a handle for a call to fill, if it is open and empty. Otherwise returns the
 // code that says why not: `CLOSED` or `NOT_EMPTY`.
@@ -67,22 +65,4 @@ where
     let (code, taken) = call(cache);
     *chain = taken;
     code
-}
-
-// Opens a cache. Returns `OPEN` if the handle is already open, or `MEMORY`; the handle is unchanged
-// then.
-pub(crate) fn open_cache(alloc: Global, cache: AnyCache, out: &mut LruCache) -> u32
-    ensures { Opens (out.old.is_open == 1) out.old.cache.held (λ c. c ≡ cache) result
-        out.new.cache.held }
-{
-    if out.is_open == 1 {
-        return code::OPEN;
-    }
-    match Box::new(alloc, cache) {
-        Ok(cache) => {
-            *out = open(cache);
-            code::DONE
-        }
-        Err(_) => code::MEMORY,
-    }
 }

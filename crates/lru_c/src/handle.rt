@@ -2,8 +2,10 @@
 ghost use Rattle.std.specs.Borrow.{sem};
 ghost use Rattle.std.specs.Prelude.{◌≡◌, Option as Maybe, Some, None, is_some, MatchOption};
 ghost use Rattle.lru_c.specs.Lends.{LendsHeld};
+ghost use Rattle.lru_c.specs.Opened.{Opens};
 
 use crate::at::At;
+use crate::code;
 use core::mem::replace_with;
 use std::alloc::Global;
 
@@ -32,7 +34,29 @@ pub trait Handle: Sized {
             (λ inner. held self.old ≡ Some inner.now) };
 }
 
-pub(crate) fn open<H: Handle>(inner: Box<H::To>) -> H
+// Opens a handle, which leads to `inner` from then on. Returns `OPEN` if it is open already, as
+// `is_open` says, or `MEMORY`; the handle is unchanged then.
+pub(crate) fn open_new<H: Handle + Drop>(
+    alloc: Global,
+    inner: H::To,
+    is_open: bool,
+    out: &mut H,
+) -> u32
+    ensures { Opens is_open (H.held out.old) (λ x. x ≡ inner) result (H.held out.new) }
+{
+    if is_open {
+        return code::OPEN;
+    }
+    match Box::new(alloc, inner) {
+        Ok(inner) => {
+            *out = open(inner);
+            code::DONE
+        }
+        Err(_) => code::MEMORY,
+    }
+}
+
+fn open<H: Handle>(inner: Box<H::To>) -> H
     ensures { H.held result ≡ Some inner.value }
 {
     H::of_parts(At::of(inner), true)

@@ -13,9 +13,9 @@ pub mod key;
 
 use crate::any_cache::AnyCache;
 use crate::cache::Cache;
-use crate::chain_calls::{empty_chain, open_cache};
+use crate::chain_calls::empty_chain;
 use crate::code;
-use crate::handle::Handle;
+use crate::handle::{Handle, open_new};
 use crate::handles::{LruCache, LruChain};
 use crate::told::{LruPin, LruTold};
 use crate::words::key::Words;
@@ -31,7 +31,7 @@ pub extern "C" fn lru_words_new(alloc: Global, capacity: u64, seed: u64, out: &m
         (IsNew capacity most_pins_by_default 0) result out.new.cache.held }
 {
     let cache = Cache::new(alloc, capacity, 0, u32::MAX, seed, ());
-    open_cache(alloc, AnyCache::Words(cache), out)
+    open_new(alloc, AnyCache::Words(cache), out.is_open == 1, out)
 }
 
 /// Opens an empty cache whose keys are two words, whose first entry gets the stamp `first_stamp`,
@@ -58,7 +58,7 @@ pub extern "C" fn lru_words_new_with_limits(
         return code::NO_PINS;
     }
     let cache = Cache::new(alloc, capacity, first_stamp, most_pins, seed, ());
-    open_cache(alloc, AnyCache::Words(cache), out)
+    open_new(alloc, AnyCache::Words(cache), out.is_open == 1, out)
 }
 
 /// Asks for the value of a key and pins its entry, inserting one with this charge if there is none.

@@ -1,5 +1,4 @@
-//! The steps of a cache whose keys are bytes. A lookup needs a whole key, so the bytes of a call
-//! are copied into a buffer that is kept.
+//! The steps of a cache whose keys are bytes.
 ghost use Rattle.std.specs.Prelude.{◌≡◌, ◌==◌, ⊤, [], true, MatchBool};
 ghost use Rattle.concurrent_lru.specs.Request as ask;
 ghost use Rattle.lru_c.specs.BytesCalls.{CopiesKey};
