@@ -8,8 +8,6 @@
 // up a key that is present and releases it. A miss looks up a key that is absent, makes its entry,
 // which evicts the oldest idle one, and releases it: Lookup, Insert and Release of a LevelDB cache;
 // begin, ready and release of this one.
-#include <time.h>
-
 #include <algorithm>
 #include <cstdint>
 #include <cstdio>
@@ -25,15 +23,9 @@
 #include "leveldb_cache.h"
 #include "lru.h"
 #include "lru.hpp"
+#include "processor_time.hpp"
 
 namespace {
-
-// Seconds of processor time of this process, as the machine may be busy with other work.
-double ProcessorTime() {
-  timespec now;
-  clock_gettime(CLOCK_PROCESS_CPUTIME_ID, &now);
-  return static_cast<double>(now.tv_sec) + static_cast<double>(now.tv_nsec) * 1e-9;
-}
 
 // The key of a block: its file, and its offset there.
 lru::Words BlockOf(std::uint64_t n) { return lru::Words{1, n * 4096}; }
@@ -170,23 +162,23 @@ void Measure(Cache cache, std::uint64_t entries, std::uint64_t calls, Times* tim
   }
   std::uint64_t random = 88172645463325252u;
   std::uint64_t hits = 0;
-  double start = ProcessorTime();
+  double start = bench::ProcessorTime();
   for (std::uint64_t call = 0; call < calls; call++) {
     random ^= random << 13;
     random ^= random >> 7;
     random ^= random << 17;
     hits += cache->Hit(BlockOf(random % entries));
   }
-  times->hits.push_back((ProcessorTime() - start) / static_cast<double>(calls) * 1e9);
+  times->hits.push_back((bench::ProcessorTime() - start) / static_cast<double>(calls) * 1e9);
   if (hits != calls) std::exit(3);
 
   // After these every shard is full, so that each further miss evicts.
   std::uint64_t fresh = entries;
   for (std::uint64_t n = 0; n < entries; n++) cache->Miss(BlockOf(fresh++));
   std::uint64_t misses = 0;
-  start = ProcessorTime();
+  start = bench::ProcessorTime();
   for (std::uint64_t call = 0; call < calls; call++) misses += cache->Miss(BlockOf(fresh++));
-  times->misses.push_back((ProcessorTime() - start) / static_cast<double>(calls) * 1e9);
+  times->misses.push_back((bench::ProcessorTime() - start) / static_cast<double>(calls) * 1e9);
   if (misses != calls) std::exit(3);
 }
 

@@ -8,7 +8,6 @@
 // read, the least of all rounds for each cache, and its ratio to that of the LRU cache. Metadata is
 // not charged, so that all have room for as many blocks.
 #include <sys/stat.h>
-#include <time.h>
 
 #include <algorithm>
 #include <cstddef>
@@ -17,10 +16,9 @@
 #include <cstdlib>
 #include <memory>
 #include <string>
-#include <thread>
 #include <utility>
-#include <vector>
 
+#include "random_reads.hpp"
 #include "rocksdb/cache.h"
 #include "rocksdb/db.h"
 #include "rocksdb/options.h"
@@ -28,37 +26,6 @@
 #include "rocksdb_cache.h"
 
 namespace {
-
-// Seconds of processor time of this process, as the machine may be busy with other work.
-double ProcessorTime() {
-  timespec now;
-  clock_gettime(CLOCK_PROCESS_CPUTIME_ID, &now);
-  return static_cast<double>(now.tv_sec) + static_cast<double>(now.tv_nsec) * 1e-9;
-}
-
-std::uint64_t Mix(std::uint64_t x) {
-  x += 0x9e3779b97f4a7c15u;
-  x = (x ^ (x >> 30)) * 0xbf58476d1ce4e5b9u;
-  x = (x ^ (x >> 27)) * 0x94d049bb133111ebu;
-  return x ^ (x >> 31);
-}
-
-std::string KeyOf(std::uint64_t n) {
-  char text[24];
-  std::snprintf(text, sizeof text, "%016llu", static_cast<unsigned long long>(n));
-  return text;
-}
-
-// 100 bytes, half of which compress.
-std::string ValueOf(std::uint64_t n) {
-  std::string value;
-  for (std::uint64_t i = 0; i < 6; i++) {
-    const std::uint64_t word = Mix(n * 8 + i);
-    value.append(reinterpret_cast<const char*>(&word), sizeof word);
-  }
-  value.append(100 - value.size(), 'v');
-  return value;
-}
 
 void Check(const rocksdb::Status& status) {
   if (status.ok()) return;
@@ -81,19 +48,9 @@ std::unique_ptr<rocksdb::DB> Open(const std::string& path, std::shared_ptr<rocks
 void Fill(const std::string& path, std::uint64_t keys) {
   const std::unique_ptr<rocksdb::DB> db = Open(path, rocksdb::NewLRUCache(1 << 20), true);
   for (std::uint64_t n = 0; n < keys; n++) {
-    Check(db->Put(rocksdb::WriteOptions(), KeyOf(n), ValueOf(n)));
+    Check(db->Put(rocksdb::WriteOptions(), bench::KeyOf(n), bench::ValueOf(n)));
   }
   Check(db->CompactRange(rocksdb::CompactRangeOptions(), nullptr, nullptr));
-}
-
-// Random reads of one thread. Nine of ten are of a tenth of the keys.
-void Read(rocksdb::DB* db, std::uint64_t seed, std::uint64_t reads, std::uint64_t keys) {
-  std::string value;
-  for (std::uint64_t read = 0; read < reads; read++) {
-    const std::uint64_t x = Mix(seed * 1000003 + read);
-    const std::uint64_t n = (x >> 8) % 10 != 0 ? (x >> 16) % (keys / 10) * 10 : (x >> 16) % keys;
-    Check(db->Get(rocksdb::ReadOptions(), KeyOf(n), &value));
-  }
 }
 
 struct Work {
@@ -104,14 +61,10 @@ struct Work {
 // Seconds of processor time per read, once the cache is warm.
 double Measure(const Work& work, std::shared_ptr<rocksdb::Cache> cache, std::size_t threads) {
   const std::unique_ptr<rocksdb::DB> db = Open(work.path, std::move(cache), false);
-  Read(db.get(), 7, work.reads / 4, work.keys);
-  const double start = ProcessorTime();
-  std::vector<std::thread> all;
-  for (std::size_t t = 0; t < threads; t++) {
-    all.emplace_back(Read, db.get(), 11 + t, work.reads / threads, work.keys);
-  }
-  for (std::thread& thread : all) thread.join();
-  return (ProcessorTime() - start) / static_cast<double>(work.reads);
+  const auto get = [&](const std::string& key, std::string* value) {
+    Check(db->Get(rocksdb::ReadOptions(), key, value));
+  };
+  return bench::TimePerRead(get, threads, work.reads, work.keys);
 }
 
 std::shared_ptr<rocksdb::Cache> NewLRU(std::size_t capacity) {

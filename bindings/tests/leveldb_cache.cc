@@ -3,11 +3,9 @@
 #include "leveldb_cache.h"
 
 #include <algorithm>
-#include <atomic>
 #include <cstddef>
 #include <cstdint>
 #include <cstdio>
-#include <cstring>
 #include <functional>
 #include <memory>
 #include <string>
@@ -16,6 +14,7 @@
 #include <vector>
 
 #include "check.hpp"
+#include "deleted_once.hpp"
 #include "leveldb/cache.h"
 
 namespace {
@@ -377,24 +376,7 @@ void EqualsOwn(NewCache new_cache) {
 constexpr int kThreads = 8;
 constexpr int kCalls = 20000;
 
-std::atomic<std::int64_t> alive{0};
-std::atomic<std::int64_t> wrong{0};
-
-struct Object {
-  explicit Object(std::uint64_t k) : key(k) { alive++; }
-  ~Object() { alive--; }
-
-  std::uint64_t key;
-  std::atomic<bool> there{true};
-};
-
-void DeleteObject(const Slice& key, void* value) {
-  auto* object = static_cast<Object*>(value);
-  std::uint64_t n = 0;
-  std::memcpy(&n, key.data(), sizeof n);
-  if (object->key != n || !object->there.exchange(false)) wrong++;
-  delete object;
-}
+constexpr auto DeleteObject = DeleteOnce<Slice>;
 
 void Calls(const Tested& cache, std::uint64_t seed) {
   std::uint64_t random = seed * 0x9e3779b97f4a7c15u;

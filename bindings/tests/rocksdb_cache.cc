@@ -4,7 +4,6 @@
 #include "rocksdb_cache.h"
 
 #include <algorithm>
-#include <atomic>
 #include <cstddef>
 #include <cstdint>
 #include <cstdio>
@@ -20,6 +19,7 @@
 #include <vector>
 
 #include "check.hpp"
+#include "deleted_once.hpp"
 #include "rocksdb/cache.h"
 
 // The linker directs the requests for memory of the cache to these. One of them can be refused.
@@ -872,28 +872,7 @@ constexpr int kThreads = 8;
 constexpr int kCalls = 20000;
 constexpr std::size_t kThreadsCapacity = 256;
 
-std::atomic<std::int64_t> alive{0};
-std::atomic<std::int64_t> wrong{0};
-
-struct Object {
-  explicit Object(std::uint64_t k) : key(k) { alive++; }
-  ~Object() { alive--; }
-
-  std::uint64_t key;
-  std::atomic<bool> there{true};
-};
-
-bool IsOf(const Slice& key, const Object* object) {
-  std::uint64_t n = 0;
-  std::memcpy(&n, key.data(), sizeof n);
-  return object->key == n;
-}
-
-void DeleteObject(const Slice& key, void* value) {
-  auto* object = static_cast<Object*>(value);
-  if (!IsOf(key, object) || !object->there.exchange(false)) wrong++;
-  delete object;
-}
+constexpr auto DeleteObject = DeleteOnce<Slice>;
 
 void Calls(Cache* cache, std::uint64_t seed) {
   std::uint64_t random = seed * 0x9e3779b97f4a7c15u;
