@@ -194,7 +194,7 @@ impl<K: Drop, V: Drop> Node<K, V> {
 }
 
 /// Where a node is. It becomes stale when the node is taken, and may then be given out again.
-#[derive(Clone, Copy, PartialEq, Eq)]
+#[derive(Clone, Copy, Debug, PartialEq, Eq)]
 pub struct Place {
     slot: usize,
 }

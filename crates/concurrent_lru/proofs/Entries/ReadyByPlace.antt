@@ -1,12 +1,12 @@
 -- The entries that have a value, by place: each has one place, below the end of all places.
-use Rattle.std.proofs.Common.{◌≡◌, ◌≢◌, ℕ, zero, suc, ◌+◌, ◌-◌, ◌<◌, ◌≤◌, Bool, true, false, cond, List, [], ◌∷◌, map, Option, Some, None, refl, sym, ap, ◌∙◌, eqb, ◌==◌, arith}
+use Rattle.std.proofs.Common.{◌≡◌, ◌≢◌, ℕ, zero, suc, ◌+◌, ◌-◌, ◌<◌, ◌≤◌, Bool, true, false, cond, List, [], ◌∷◌, map, Option, Some, None, refl, sym, ap, ◌∙◌, inl, inr, eqb, ◌==◌, arith}
 use Rattle.std.specs.List.{AllByRecursion, IsDistinct, cons_option, find}
 use Rattle.std.specs.Option.{option_map, option_map_or, option_and_then}
 use Rattle.std.specs.Cmp.{nat_eq_equiv}
 use Rattle.std.specs.FinMap.{get, keys}
 use Rattle.std.proofs.lemmas.Bool.{eqb-true, eq-eqb, true≢false}
 use Rattle.std.proofs.lemmas.Option.{none-some, same_Some}
-use Rattle.concurrent_lru.specs.Cache.{Idle, Held, Phase, making, untaken, ready, idle_at, held_at}
+use Rattle.concurrent_lru.specs.Cache.{Cache, Idle, Held, Phase, making, untaken, ready, idle_at, held_at, LacksStamp}
 use Rattle.concurrent_lru.specs.NodeTable.{Entry, NodeTable}
 use Rattle.concurrent_lru.specs.Representation.{as_idle}
 use Rattle.concurrent_lru.specs.Entries.{Entries, cache_of}
@@ -160,6 +160,21 @@ module _ {K V : Type 0} where
 
   pub shown_first : (t : Entries K V) (p b : ℕ) (r : ReadyEntry K V) → p < b → ready_in t p ≡ Some r → ready_between t p (b - p) ≡ r ∷ ready_between t (p + 1) (b - (p + 1))
   shown_first t p b r low some = first_place t p b low ∙ ap (λ o. cons_option o (ready_between t (p + 1) (b - (p + 1)))) some
+
+module _ {K V : Type 0} where
+  -- what is ready at the place of a stamp is what is ready under the stamp
+  pub ready_by_stamp : (t : Entries K V) (p s : ℕ) → get t.stamps p ≡ Some s → ready_in t p ≡ ready_at (cache_of t) s
+  ready_by_stamp t p s at = ap (option_and_then (ready_at (cache_of t))) at
+
+  -- nothing is ready under a stamp that no entry has
+  pub unready : (c : Cache K V) (s : ℕ) → LacksStamp c s → ready_at c s ≡ None
+  unready c s lacks = elim (held_at c s) as (λ o. held_at c s ≡ o → option_map_or (ready_from_held s) o (option_map ready_from_idle (idle_at c s)) ≡ None) [
+    | Some e ↦ λ at. absurd (lacks e.key e.charge (inr (e, at, refl, refl)))
+    | None ↦ λ _. elim (idle_at c s) as (λ i. idle_at c s ≡ i → option_map ready_from_idle i ≡ None) [
+      | None ↦ λ _. refl
+      | Some x ↦ λ at. absurd (lacks x.key x.charge (inl (x, at, refl, refl)))
+    ] refl
+  ] refl
 
 below_end : (p b : ℕ) → (b ≤ p → ⊥) → p < 0 + b
 below_end p b far = omega arith

@@ -1,12 +1,12 @@
 //! A walk over the entries of a cache that have a value.
 ghost use Rattle.std.specs.Prelude.{◌≡◌, None, Some, MatchOption};
 ghost use Rattle.concurrent_lru.specs.NodeTable.{entry_of};
-ghost use Rattle.concurrent_lru.specs.ReadyEntries.{ListsReady, entry_of_ref, ready_in, ready_from_node};
+ghost use Rattle.concurrent_lru.specs.ReadyEntries.{ListsReady, entry_of_ref, ready_at, ready_in, ready_from_node};
 
 use crate::lru_core::State;
 use crate::node_table::{Node, Phase, Place};
 use crate::share::{ByArc, Sharing, Stored};
-use crate::table::Table;
+use crate::table::{Hint, Spot, Table};
 use std::hash::Hash;
 use std::iter::FusedIterator;
 use std::marker::Model;
@@ -16,6 +16,8 @@ use std::marker::Model;
 pub struct EntryRef<'a, K, V> {
     /// The number that identifies the entry.
     pub stamp: u64,
+    /// Where the entry is, for the calls that take a [`Spot`].
+    pub hint: Hint,
     /// The cache's own copy of the key.
     pub key: &'a K,
     /// What the entry adds to the total.
@@ -66,7 +68,7 @@ where
         while self.next < self.end {
             let place = Place::at(self.next);
             self.next += 1;
-            if let Some(entry) = entry_at(self.table, place) {
+            if let Some(entry) = ready_at_place(self.table, place) {
                 return Some(entry);
             }
         }
@@ -102,10 +104,31 @@ where
             end: self.table.end_of_places(),
         }
     }
+
+    /// Returns the entry with a stamp, if there is one and it has a value: idle or held, detached
+    /// or not. Changes nothing, and takes no memory.
+    pub fn entry(&self, stamp: u64) -> Option<EntryRef<'_, K, V>>
+        ensures { MatchOption result (ready_at self.now.cache stamp ≡ None)
+            (λ entry. ready_at self.now.cache stamp ≡ Some (entry_of_ref entry)) }
+    {
+        let spot = self.spot(stamp);
+        self.entry_at(&spot)
+    }
+
+    /// Does what `entry` does, by spot.
+    pub fn entry_at(&self, spot: &Spot) -> Option<EntryRef<'_, K, V>>
+        ensures { MatchOption result (ready_at self.now.cache spot.now.stamp ≡ None)
+            (λ entry. ready_at self.now.cache spot.now.stamp ≡ Some (entry_of_ref entry)) }
+    {
+        match self.table.find_stamp(spot) {
+            Some((place, _near)) => ready_at_place(&self.table, place),
+            None => None,
+        }
+    }
 }
 
 // Returns the entry at a place, if there is one and it has a value.
-fn entry_at<'a, K: Hash + Eq + Clone, V: Drop, M: Sharing<V>>(
+fn ready_at_place<'a, K: Hash + Eq + Clone, V: Drop, M: Sharing<V>>(
     table: &'a Table<K, Stored<V, M>>,
     place: Place,
 ) -> Option<EntryRef<'a, K, V>>
@@ -115,13 +138,16 @@ where
         (λ entry. ready_in table.now place ≡ Some (entry_of_ref entry)) }
 {
     match table.node_at(place) {
-        Some(node) => shown(node),
+        Some(node) => shown(node, place),
         None => None,
     }
 }
 
-// Returns the entry of a node, if it has a value.
-fn shown<'a, K, V, M: Sharing<V>>(node: &'a Node<K, Stored<V, M>>) -> Option<EntryRef<'a, K, V>>
+// Returns the entry of a node at a place, if it has a value.
+fn shown<'a, K, V, M: Sharing<V>>(
+    node: &'a Node<K, Stored<V, M>>,
+    place: Place,
+) -> Option<EntryRef<'a, K, V>>
     ensures { MatchOption result (ready_from_node (entry_of node.now) ≡ None)
         (λ entry. ready_from_node (entry_of node.now) ≡ Some (entry_of_ref entry)) }
 {
@@ -130,6 +156,10 @@ fn shown<'a, K, V, M: Sharing<V>>(node: &'a Node<K, Stored<V, M>>) -> Option<Ent
     };
     Some(EntryRef {
         stamp: node.stamp,
+        hint: Hint {
+            hash: node.hash,
+            place,
+        },
         key: &node.key,
         charge: node.charge,
         pins: node.pins,

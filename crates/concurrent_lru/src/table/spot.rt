@@ -7,7 +7,7 @@ use crate::table::key_hashes::KeyHash;
 /// An entry that is found by its key has the hash of that key until it is removed, and each entry
 /// stays at its place. Both are only hints: any hash and any place will do, and no clause says
 /// anything of them.
-#[derive(Clone, Copy)]
+#[derive(Clone, Copy, Debug)]
 pub struct Hint {
     /// The hash of the key.
     pub hash: u64,
@@ -35,7 +35,7 @@ impl Hint {
 }
 
 /// The stamp of an entry, and the hint with which a lookup of it begins.
-#[derive(Clone, Copy)]
+#[derive(Clone, Copy, Debug)]
 pub struct Spot {
     /// The number that identifies the entry.
     pub stamp: u64,
