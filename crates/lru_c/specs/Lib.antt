@@ -12,5 +12,6 @@ pub mod PointerLends
 pub mod Counted
 pub mod Keys
 pub mod Calls
+pub mod Entries
 pub mod BytesCalls
 pub mod WordsCalls

@@ -1,9 +1,12 @@
 //! What the handle of a cache points to, and the calls on it that take no key.
+ghost use Rattle.std.specs.Prelude.{◌≡◌, ◌==◌, ⊤, MatchBool};
 ghost use Rattle.concurrent_lru.specs.Cache.{count_of, pinned_of, sum_of};
 ghost use Rattle.concurrent_lru.specs.Request as ask;
+ghost use Rattle.lru_c.specs.Codes as codes;
 
 use crate::bytes::cache::BytesCache;
 use crate::chain::{AnyChain, Chain};
+use crate::entries::{LruEntry, write_entries, write_entry};
 use crate::steps;
 use crate::told::{LruPin, LruStats, LruTold};
 use crate::words::cache::WordsCache;
@@ -19,6 +22,7 @@ pub enum AnyCache {
 
 impl AnyCache {
     ghost use Rattle.lru_c.specs.Calls.{AsksAny, AsksInto, HoldsAll, NumbersAny, ReservesAny, StatsAny};
+    ghost use Rattle.lru_c.specs.Entries.{EntriesOfAny, EntryOfAny};
     ghost use Rattle.lru_c.specs.Told.{bare};
 
     pub(crate) fn poll(&mut self, pin: LruPin) -> LruTold
@@ -146,6 +150,27 @@ impl AnyCache {
         match self {
             AnyCache::Bytes(cache) => cache.stats(),
             AnyCache::Words(cache) => cache.stats(),
+        }
+    }
+
+    // Writes the entry with the stamp of a pin.
+    pub(crate) fn write_entry(&mut self, pin: LruPin, out: &mut LruEntry) -> u32
+        ensures told { EntryOfAny self.old pin.stamp result out.new self.new }
+        ensures kept { MatchBool (result == codes.done) ⊤ (out.new ≡ out.old) }
+    {
+        match self {
+            AnyCache::Bytes(cache) => write_entry(&cache.state, pin, out),
+            AnyCache::Words(cache) => write_entry(&cache.state, pin, out),
+        }
+    }
+
+    // Writes all entries that have a value to the start of a buffer.
+    pub(crate) fn write_entries(&mut self, out: &mut [LruEntry]) -> LruTold
+        ensures { EntriesOfAny self.old result out.old out.new self.new }
+    {
+        match self {
+            AnyCache::Bytes(cache) => write_entries(&cache.state, out),
+            AnyCache::Words(cache) => write_entries(&cache.state, out),
         }
     }
 

@@ -5,11 +5,13 @@ ghost use Rattle.concurrent_lru.specs.Request as ask;
 ghost use Rattle.lru_c.specs.Calls.{Asks, AsksInto, FreesInto, Into, Numbers, Reserves, TellsStats};
 ghost use Rattle.lru_c.specs.Chains.{chain_code, IsEmpty, PopsOpen};
 ghost use Rattle.lru_c.specs.Codes as codes;
+ghost use Rattle.lru_c.specs.Entries.{EntriesOf, EntryOf};
 ghost use Rattle.lru_c.specs.Opened.{Opens};
 ghost use Rattle.lru_c.specs.Told.{bare};
 
 use crate::chain::AnyChain;
 use crate::chain_calls::{empty_chain, into_chain};
+use crate::entries::LruEntry;
 use crate::handle::{Handle, open_new, take};
 use crate::handles::{LruCache, LruChain};
 use crate::told::{LruGone, LruPin, LruStats, LruTold};
@@ -250,6 +252,37 @@ pub extern "C" fn lru_cache_stats(cache: &mut LruCache, out: &mut LruStats) -> u
     };
     *out = cache.stats();
     code::DONE
+}
+
+/// Writes the entry of a pin: its value, its charge, and how many pins it has. The pin may have
+/// been given back, as long as the entry is there.
+///
+/// Returns `STALE` if no entry with a value has the stamp of the pin, and `CLOSED` if the cache is
+/// not open; nothing is written then.
+#[unsafe(no_mangle)]
+pub extern "C" fn lru_cache_entry(cache: &mut LruCache, pin: LruPin, out: &mut LruEntry) -> u32
+    ensures told { EntryOf cache.old.cache.held pin.stamp result out.new cache.new.cache.held }
+    ensures kept { MatchBool (result == codes.done) ⊤ (out.new ≡ out.old) }
+{
+    match cache.get_mut() {
+        Some(cache) => cache.write_entry(pin, out),
+        None => code::CLOSED,
+    }
+}
+
+/// Writes all entries that have a value to the start of a buffer, each once, in no particular
+/// order: `NUMBER` with how many there are. No entry is pinned or moved.
+///
+/// Returns `NO_ROOM` with the number of all entries if the buffer is too small, and `CLOSED` if the
+/// cache is not open. After `NO_ROOM` the buffer has some of the entries.
+#[unsafe(no_mangle)]
+pub extern "C" fn lru_cache_entries_nonnull(cache: &mut LruCache, out: &mut [LruEntry]) -> LruTold
+    ensures { EntriesOf cache.old.cache.held result out.old out.new cache.new.cache.held }
+{
+    match cache.get_mut() {
+        Some(cache) => cache.write_entries(out),
+        None => LruTold::bare(code::CLOSED),
+    }
 }
 
 /// Opens an empty chain.

@@ -12,6 +12,7 @@ pub mod chain;
 mod chain_calls;
 pub mod code;
 pub mod counts;
+pub mod entries;
 pub mod handle;
 pub mod handles;
 mod steps;
