@@ -127,13 +127,14 @@ enum {
     LRU_CLOSED = 14,    /* the cache or the chain is not open */
     LRU_OPEN = 15,      /* new: the handle is open already */
     LRU_NOT_EMPTY = 16, /* the chain still holds entries: pop them first */
-    LRU_NO_ROOM = 17,   /* key_of: the buffer is too small; the key's length is told as the value */
+    LRU_NO_ROOM = 17,   /* key_of, entries: the buffer is too small; what has room is told as the
+                           value */
     LRU_OTHER_KEYS = 19 /* lru_bytes_* or lru_words_*: the cache has keys of the other kind */
 };
 
 /* Names an entry that the caller has pinned. `begin`, `get`, `poll`, `repin` and `insert` tell it,
- * and so do the strict calls; `poll`, `ready`, `fail`, `repin`, `release`, `release_and_evict` and
- * `key_of` take it. It may be copied, and is passed on as it was told.
+ * and so do the strict calls; `poll`, `ready`, `fail`, `repin`, `release`, `release_and_evict`,
+ * `entry` and `key_of` take it. It may be copied, and is passed on as it was told.
  *
  * It is good until the pin is given back, and then for as long as the entry stays in the cache. An
  * old one, or one of another cache, is answered with LRU_STALE, unless the cache has an entry with
@@ -152,8 +153,8 @@ typedef struct lru_pin {
 typedef struct lru_told {
     lru_pin pin;    /* LRU_MAKE, LRU_WAIT, LRU_HIT, LRU_PINNED, and LRU_DONE of insert and
                        insert_strictly: names the entry. */
-    uint64_t value; /* LRU_HIT, LRU_PINNED: the value. LRU_NUMBER: the number. LRU_NO_ROOM: the
-                       length. */
+    uint64_t value; /* LRU_HIT, LRU_PINNED: the value. LRU_NUMBER: the number. LRU_NO_ROOM: how
+                       much room is enough. */
     lru_code code;
 } lru_told;
 
@@ -163,6 +164,15 @@ typedef struct lru_gone {
     uint64_t charge;
     uint64_t value; /* the caller's again, to be deleted */
 } lru_gone;
+
+/* An entry that a cache holds, and that has a value. */
+typedef struct lru_entry {
+    lru_pin pin;          /* names the entry, for repin and key_of; nobody owes a release for it */
+    uint64_t value;       /* the cache's still */
+    uint64_t charge;
+    uint32_t pins;        /* 0: the entry is idle */
+    uint32_t is_detached; /* 1: it is held, but its key no longer finds it; else 0 */
+} lru_entry;
 
 /* What the calls on a cache have answered since it was opened, and what the cache holds. A count of
  * answers that has reached 2^64 - 1 stays there. The entries inserted are those present, those
@@ -416,6 +426,27 @@ lru_told lru_cache_len(lru_cache *cache);
  * and nothing is written. */
 lru_code lru_cache_stats(lru_cache *cache, lru_stats *out);
 
+/* Writes the entry of a pin to `out`. The pin may have been given back already, as long as the
+ * entry has not left the cache. Pins nothing and does not change the order.
+ *
+ * Does not allocate. LRU_DONE; LRU_STALE if no entry with a value has the stamp; LRU_CLOSED.
+ * Nothing is written unless the code is LRU_DONE. */
+lru_code lru_cache_entry(lru_cache *cache, lru_pin pin, lru_entry *out);
+
+/* Writes all entries that have a value, each once and in no particular order, to the start of a
+ * buffer with room for `room` entries. Pins nothing and does not change the order, so a pin that is
+ * written is good only until another call evicts its entry: call `repin` to keep the entry. Room
+ * for as many entries as lru_cache_len tells is enough.
+ *
+ *     for (size_t n = 0; n < told.value; n++)
+ *         printf("%llu\n", (unsigned long long)entries[n].charge);
+ *
+ * Does not allocate, and takes time in proportion to the greatest number of entries that there ever
+ * were at once. LRU_NUMBER with the number of entries written as the value; LRU_NO_ROOM, with the
+ * number that lru_cache_len tells as the value, if there are more entries than `room`: the buffer
+ * then has some of them; LRU_CLOSED, and nothing is written. */
+static inline lru_told lru_cache_entries(lru_cache *cache, lru_entry *out, size_t room);
+
 /* --------------------------------------------------------------------------------------- chains */
 
 /* Opens an empty chain. A chain may be used for any number of calls and caches, one at a time. It
@@ -437,9 +468,9 @@ bool lru_chain_pop(lru_chain *chain, lru_gone *out);
 /* Whether no entry is left, or the chain is not open. Does not allocate. */
 bool lru_chain_is_empty(lru_chain *chain);
 
-/* ------------------------------------------------------- keys of bytes that are never null */
+/* ---------------------------------------------------------- pointers that are never null */
 
-/* The functions behind the calls above that take a key or a buffer of bytes. The pointer must not
+/* The functions behind the calls above that take a key of bytes or a buffer. The pointer must not
  * be null, even if the length is 0. A binding for a language whose slices are never null may call
  * them directly. */
 lru_told lru_bytes_begin_nonnull(lru_cache *cache, const uint8_t *key, size_t length,
@@ -457,6 +488,7 @@ lru_told lru_bytes_insert_nonnull(lru_cache *cache, const uint8_t *key, size_t l
 lru_told lru_bytes_insert_strictly_nonnull(lru_cache *cache, const uint8_t *key, size_t length,
                                            uint64_t charge, uint64_t value, lru_chain *gone);
 lru_told lru_bytes_key_of_nonnull(lru_cache *cache, lru_pin pin, uint8_t *buffer, size_t room);
+lru_told lru_cache_entries_nonnull(lru_cache *cache, lru_entry *out, size_t room);
 
 /* The calls that also take a null pointer. These first three names are internal. */
 static const uint8_t lru_empty_key[1] = {0};
@@ -532,6 +564,13 @@ static inline lru_told lru_bytes_key_of(lru_cache *cache, lru_pin pin, void *buf
     if (buffer == NULL)
         return lru_bytes_key_of_nonnull(cache, pin, none, 0);
     return lru_bytes_key_of_nonnull(cache, pin, (uint8_t *)buffer, room);
+}
+
+static inline lru_told lru_cache_entries(lru_cache *cache, lru_entry *out, size_t room) {
+    lru_entry none[1];
+    if (out == NULL)
+        return lru_cache_entries_nonnull(cache, none, 0);
+    return lru_cache_entries_nonnull(cache, out, room);
 }
 
 #ifdef __cplusplus

@@ -1,6 +1,7 @@
-//! A walk over the entries that have a value: which ones it shows, and what it says of each.
+//! The entries that have a value, in a walk over all of them and one by one: which ones are shown,
+//! and what is said of each.
 
-use concurrent_lru::lru_core::{Refusal, State};
+use concurrent_lru::lru_core::{EntryRef, Refusal, State};
 use concurrent_lru::share::Sharing;
 use lru_support::makes::{hold, make};
 use lru_support::tables::Call::{
@@ -11,8 +12,19 @@ use lru_support::tables::{Answers, Call, text_of};
 use std::alloc::{AllocError, Global};
 use std::sync::Arc;
 
-/// What a walk shows of an entry: stamp, key, charge, pins, whether it is detached, and value.
+/// What is shown of an entry: stamp, key, charge, pins, whether it is detached, and value.
 pub(crate) type Seen = (u64, u64, u64, u32, bool, u64);
+
+fn shown(entry: &EntryRef<'_, u64, u64>) -> Seen {
+    (
+        entry.stamp,
+        *entry.key,
+        entry.charge,
+        entry.pins,
+        entry.is_detached,
+        *entry.value,
+    )
+}
 
 /// Returns what a walk shows, in the order of the stamps. Returns `AllocError` if memory is
 /// refused.
@@ -25,16 +37,24 @@ where
 {
     let mut seen = Vec::new(alloc);
     for entry in state.entries() {
-        seen.push((
-            entry.stamp,
-            *entry.key,
-            entry.charge,
-            entry.pins,
-            entry.is_detached,
-            *entry.value,
-        ))?;
+        seen.push(shown(&entry))?;
     }
     seen.sort()?;
+    Ok(seen)
+}
+
+// Returns what is shown of the entries that have the stamps below `end`, in their order.
+fn seen_by_stamp(
+    alloc: Global,
+    state: &State<u64, u64>,
+    end: u64,
+) -> Result<Vec<Seen>, AllocError> {
+    let mut seen = Vec::new(alloc);
+    for stamp in 0..end {
+        if let Some(entry) = state.entry(stamp) {
+            seen.push(shown(&entry))?;
+        }
+    }
     Ok(seen)
 }
 
@@ -97,22 +117,56 @@ const STATES: [(Call, &str); 26] = [
     ),
 ];
 
-// Makes a call. Returns the text of what a walk shows then.
+// Makes a call. Returns the text of what a walk shows then, and of what is shown of the entries by
+// their stamps.
 fn seen_after(
     alloc: Global,
     state: &mut State<u64, u64>,
     call: Call,
-) -> Result<String, AllocError> {
+) -> Result<(String, String), AllocError> {
     let _answer = state.answer(alloc, call)?;
-    text_of(alloc, &seen_in(alloc, state)?)
+    let walked = text_of(alloc, &seen_in(alloc, state)?)?;
+    let found = text_of(alloc, &seen_by_stamp(alloc, state, 7)?)?;
+    Ok((walked, found))
 }
 
 #[test]
 fn entries_with_a_value_are_shown(rt: HostRuntime) {
     let mut state: State<u64, u64> = State::new(rt.alloc(), 9);
     for (call, wanted) in STATES {
-        let seen = seen_after(rt.alloc(), &mut state, call).expect(&rt, "memory");
-        assert_eq!(rt; seen.as_str(), wanted, "after {call:?}");
+        let (walked, found) = seen_after(rt.alloc(), &mut state, call).expect(&rt, "memory");
+        assert_eq!(rt; walked.as_str(), wanted, "after {call:?}");
+        assert_eq!(rt; found.as_str(), wanted, "after {call:?}");
+    }
+}
+
+// Inserts a key. Returns the hint that the call gives, and the one that is shown of the entry.
+fn hints_of(
+    alloc: Global,
+    state: &mut State<u64, u64>,
+    key: u64,
+) -> Result<[(u64, usize); 2], Refusal> {
+    let value = Arc::new(alloc, key)?;
+    let (inserted, given) = match state.insert_at(&key, 1, value) {
+        Ok(inserted) => inserted,
+        Err((refusal, _value)) => return Err(refusal),
+    };
+    let Some(entry) = state.entry(inserted.stamp) else {
+        return Err(Refusal::Stale);
+    };
+    let shown = entry.hint;
+    Ok([
+        (given.hash, given.place.number()),
+        (shown.hash, shown.place.number()),
+    ])
+}
+
+#[test]
+fn hints_lead_to_the_entries(rt: HostRuntime) {
+    let mut state: State<u64, u64> = State::new(rt.alloc(), 10);
+    for key in [3u64, 1, 2] {
+        let [given, shown] = hints_of(rt.alloc(), &mut state, key).expect(&rt, "inserted");
+        assert_eq!(rt; shown, given);
     }
 }
 
