@@ -59,10 +59,7 @@ pub(crate) fn write_entry<K: Hash + Eq + Clone>(
 }
 
 // Writes all entries that have a value to the start of a buffer, if it has room for them.
-pub(crate) fn write_entries<K: Hash + Eq + Clone>(
-    state: &State<K>,
-    out: &mut [LruEntry],
-) -> LruTold
+pub(crate) fn write_entries<K: Hash + Eq + Clone>(state: &State<K>, out: &mut [LruEntry]) -> LruTold
     ensures { TellsEntries state.now.cache result out.old out.new }
 {
     let mut written = 0;
