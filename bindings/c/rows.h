@@ -860,6 +860,96 @@ static void FAMILY(releases_and_evicts)(void) {
     FAMILY(close)(&s);
 }
 
+/* Checks what `entry` tells of the entry of a pin, and that `entries` has it. */
+static void FAMILY(check_entry)(FAMILY(stage) *s, lru_pin pin, uint64_t value, uint64_t charge,
+                                uint32_t pins, uint32_t is_detached) {
+    lru_entry entry = {{9, 9, 9}, 9, 9, 9, 9};
+    lru_entry all[8];
+    lru_told told;
+    size_t i;
+
+    CHECK(lru_cache_entry(&s->cache, pin, &entry), LRU_DONE);
+    CHECK(entry.pin.stamp, pin.stamp);
+    CHECK(entry.pin.hash, pin.hash);
+    CHECK(entry.pin.place, pin.place);
+    CHECK(entry.value, value);
+    CHECK(entry.charge, charge);
+    CHECK(entry.pins, pins);
+    CHECK(entry.is_detached, is_detached);
+
+    told = lru_cache_entries(&s->cache, all, 8);
+    CHECK(told.code, LRU_NUMBER);
+    for (i = 0; i < told.value && all[i].pin.stamp != pin.stamp; i++)
+        continue;
+    CHECK(i < told.value, true);
+    if (i < told.value)
+        CHECK(memcmp(&all[i], &entry, sizeof entry), 0);
+}
+
+/* `entry` and `entries` show the entries that have a value. */
+static void FAMILY(entries)(void) {
+    FAMILY(stage) s;
+    lru_entry all[3], entry;
+    lru_told told, waits;
+
+    FAMILY(open)(&s, 10);
+    memset(all, 9, sizeof all);
+    entry = all[0];
+    CHECK(lru_cache_entries(&s.cache, NULL, 0).code, LRU_NUMBER);
+    CHECK(lru_cache_entries(&s.cache, NULL, 7).value, 0);
+
+    /* not while the value is being made */
+    told = FAMILY(ask)(&s, 1, 4);
+    waits = FAMILY(ask)(&s, 1, 4);
+    CHECK(lru_cache_entry(&s.cache, told.pin, &entry), LRU_STALE);
+    CHECK(memcmp(&entry, &all[0], sizeof entry), 0);
+    CHECK(lru_cache_entries(&s.cache, all, 3).value, 0);
+    CHECK(memcmp(&entry, &all[0], sizeof entry), 0);
+    CHECK(lru_cache_ready(&s.cache, told.pin, 1), LRU_DONE);
+    FAMILY(check_entry)(&s, told.pin, 1, 4, 2, 0);
+
+    /* held by one, idle, and held again, which is no use of the key */
+    FAMILY(let_go)(&s, told.pin);
+    FAMILY(check_entry)(&s, waits.pin, 1, 4, 1, 0);
+    FAMILY(let_go)(&s, waits.pin);
+    FAMILY(check_entry)(&s, told.pin, 1, 4, 0, 0);
+    CHECK(lru_cache_repin(&s.cache, told.pin).code, LRU_PINNED);
+    FAMILY(check_entry)(&s, told.pin, 1, 4, 1, 0);
+
+    /* detached, beside a new entry of its key */
+    waits = FAMILY(insert)(&s.cache, KEY(1), 3, 5, &s.gone);
+    FAMILY(check_entry)(&s, told.pin, 1, 4, 1, 1);
+    FAMILY(check_entry)(&s, waits.pin, 5, 3, 1, 0);
+
+    /* a buffer without room for both */
+    told = lru_cache_entries(&s.cache, all, 1);
+    CHECK(told.code, LRU_NO_ROOM);
+    CHECK(told.value, 2);
+    CHECK(lru_cache_entries(&s.cache, NULL, 2).code, LRU_NO_ROOM);
+    memset(all, 9, sizeof all);
+    entry = all[2];
+    told = lru_cache_entries(&s.cache, all, 3);
+    CHECK(told.code, LRU_NUMBER);
+    CHECK(told.value, 2);
+    CHECK(all[0].charge + all[1].charge, 7);
+    CHECK(memcmp(&entry, &all[2], sizeof entry), 0);
+
+    /* not once it has left */
+    FAMILY(let_go)(&s, pin_of(0));
+    CHECK(lru_cache_entry(&s.cache, pin_of(0), &entry), LRU_STALE);
+    CHECK(lru_cache_entries(&s.cache, all, 3).value, 1);
+    FAMILY(let_go)(&s, waits.pin);
+
+    /* a look is no use: the oldest leaves first */
+    FAMILY(let_go)(&s, FAMILY(hold)(&s, 2, 3));
+    FAMILY(check_entry)(&s, waits.pin, 5, 3, 0, 0);
+    FAMILY(let_go)(&s, FAMILY(hold)(&s, 3, 7));
+    EVICTED(&s, 1, 5);
+    FAMILY(close)(&s);
+    CHECK(lru_cache_entry(&s.cache, pin_of(1), &entry), LRU_CLOSED);
+    CHECK(lru_cache_entries(&s.cache, all, 3).code, LRU_CLOSED);
+}
+
 /* What free hands out: idle entries, oldest first, then those that are held, each once. */
 static void FAMILY(frees)(void) {
     FAMILY(stage) s;
@@ -1016,6 +1106,7 @@ static void FAMILY(rows)(void) {
     FAMILY(pins)();
     FAMILY(repins)();
     FAMILY(releases_and_evicts)();
+    FAMILY(entries)();
     FAMILY(frees)();
     FAMILY(misuse)();
 }

@@ -31,6 +31,7 @@
 #include <string_view>
 #include <type_traits>
 #include <utility>
+#include <vector>
 
 #include "lru_core.hpp"
 
@@ -112,6 +113,30 @@ struct Node {
 
   Value value;
   Node* next = nullptr;
+};
+
+// Room for the key of an entry, one after another.
+template <class Key>
+struct KeyRoom {
+  template <class Core>
+  Words key_of(const Core& core, lru_pin pin) {
+    return core.key_of(pin);
+  }
+};
+
+template <>
+struct KeyRoom<std::string_view> {
+  template <class Core>
+  std::string_view key_of(const Core& core, lru_pin pin) {
+    lru_told told = core.key_of(pin, bytes.data(), bytes.size());
+    if (told.code == LRU_NO_ROOM) {
+      bytes.resize(static_cast<std::size_t>(told.value));
+      told = core.key_of(pin, bytes.data(), bytes.size());
+    }
+    return std::string_view(bytes.data(), static_cast<std::size_t>(told.value));
+  }
+
+  std::vector<char> bytes;
 };
 
 // Throws the exception for a refusal.
@@ -368,6 +393,28 @@ class Cache {
     return core_.capacity();
   }
 
+  // Calls `visit(key, value, charge, pins)` for each value that its key finds, in no particular
+  // order; `pins` is the number of its handles. Values that are being made are left out, and so are
+  // those that were invalidated or replaced. This is no use of a value: the order of eviction stays
+  // as it is.
+  //
+  // The lock is held meanwhile, so `visit` must not call the cache, nor destroy a handle, and other
+  // calls wait until all values are visited. The value may be changed only as a handle may change
+  // it. The key is valid during the call. Throws std::bad_alloc before the first visit, or if there
+  // is no memory for the bytes of a key, and what `visit` throws.
+  template <class Visit>
+  void for_each(Visit&& visit) const {
+    const std::lock_guard<std::mutex> lock(mutex_);
+    std::vector<lru_entry> entries(static_cast<std::size_t>(core_.len()));
+    entries.resize(core_.entries(entries.data(), entries.size()));
+    detail::KeyRoom<Key> room;
+    for (const lru_entry& entry : entries) {
+      if (entry.is_detached != 0) continue;
+      Value& value = core_.node_of(entry.value)->value;
+      std::invoke(visit, room.key_of(core_, entry.pin), value, entry.charge, entry.pins);
+    }
+  }
+
   // How often calls hit and missed since the cache was constructed, what was inserted and evicted,
   // and what the cache holds, all at one time. `get`, `read` and `get_or_init` are counted as hits,
   // misses and waits; `contains`, `insert` and `Handle::clone` are not.
@@ -583,6 +630,12 @@ class ShardedCache {
   // Evicts every idle value, one shard after another.
   void prune() {
     for (Shard& shard : shards_) shard.prune();
+  }
+
+  // As for Cache, one shard after another, each with its own lock held.
+  template <class Visit>
+  void for_each(Visit&& visit) const {
+    for (const Shard& shard : shards_) shard.for_each(visit);
   }
 
   // The number of values. The shards are read one after another, so while other threads call the

@@ -248,6 +248,21 @@ class Core {
   std::uint64_t pinned_charge() const noexcept { return lru_cache_pinned_charge(&cache_).value; }
   std::uint64_t capacity() const noexcept { return lru_cache_capacity(&cache_).value; }
   std::uint64_t len() const noexcept { return lru_cache_len(&cache_).value; }
+  // Writes the entries that have a node to `out`, and returns how many they are. The room must be
+  // enough for len() entries.
+  std::size_t entries(lru_entry* out, std::size_t room) const noexcept {
+    const lru_told told = lru_cache_entries(&cache_, out, room);
+    return told.code == LRU_NUMBER ? static_cast<std::size_t>(told.value) : 0;
+  }
+  // The key of an entry. The first is for keys of bytes, and tells what the function of lru.h does.
+  lru_told key_of(lru_pin pin, char* buffer, std::size_t room) const noexcept {
+    return lru_bytes_key_of(&cache_, pin, buffer, room);
+  }
+  Words key_of(lru_pin pin) const noexcept {
+    Words key = {};
+    lru_words_key_of(&cache_, pin, &key.first, &key.second);
+    return key;
+  }
   lru_stats stats() const noexcept {
     lru_stats stats = {};
     lru_cache_stats(&cache_, &stats);

@@ -624,6 +624,80 @@ void a_strict_limit_is_that_of_each_shard() {
   CHECK(!cache.is_limit_strict() && *cache.insert(key(2), 1, 2) == 2);
 }
 
+// What for_each shows of each value, in the order of the keys: key, value, charge and pins.
+template <class Cache>
+std::string shown(const Cache& cache) {
+  std::set<std::string> all;
+  cache.for_each(
+      [&](std::string_view key, const int& value, std::uint64_t charge, std::uint32_t pins) {
+        all.insert(std::string(key) + "=" + std::to_string(value) + ":" + std::to_string(charge) +
+                   "/" + std::to_string(pins) + " ");
+      });
+  std::string text;
+  for (const std::string& one : all) text += one;
+  return text;
+}
+
+void values_that_keys_find_are_shown() {
+  lru::Cache<int> cache(10);
+  CHECK(shown(cache).empty());
+  const auto a = cache.insert("a", 1, 10);
+  cache.insert("bb", 2, 20);
+  cache.insert("", 3, 30);
+  // Longer than the keys that are shown before and after it.
+  const auto longest = cache.insert(std::string(100, 'x'), 4, 40);
+  const auto again = longest.clone();
+  CHECK(shown(cache) == "=30:3/0 a=10:1/1 bb=20:2/0 " + std::string(100, 'x') + "=40:4/2 ");
+  cache.get_or_init("made", 1, [&](std::string_view) {
+    CHECK(shown(cache).find("made") == std::string::npos);
+    return 50;
+  });
+  cache.invalidate("a");
+  // "bb" was released first, so the making evicted it: to be shown is no use.
+  CHECK(shown(cache) == "=30:3/0 made=50:1/0 " + std::string(100, 'x') + "=40:4/2 ");
+
+  lru::Cache<int, lru::Words> words(10);
+  const auto held = words.insert(lru::Words{3, 4}, 5, 7);
+  int visits = 0;
+  words.for_each([&](lru::Words key, int& value, std::uint64_t charge, std::uint32_t pins) {
+    CHECK((key == lru::Words{3, 4}) && &value == held.get() && charge == 5 && pins == 1);
+    visits++;
+  });
+  CHECK(visits == 1);
+}
+
+void values_of_all_shards_are_shown() {
+  lru::ShardedCache<int> cache(1000, std::size_t{4});
+  std::set<std::string> keys;
+  for (int n = 0; n < 100; n++) {
+    keys.insert(std::to_string(n));
+    cache.insert(std::to_string(n), 1, n);
+  }
+  std::set<std::string> seen;
+  int visits = 0;
+  cache.for_each([&](std::string_view key, const int& value, std::uint64_t, std::uint32_t) {
+    CHECK(std::to_string(value) == key);
+    seen.emplace(key);
+    visits++;
+  });
+  CHECK(visits == 100 && seen == keys);
+}
+
+void a_visit_may_throw() {
+  Numbers cache(10);
+  for (const std::uint64_t n : {1u, 2u, 3u}) cache.insert(key(n), 1, 0);
+  int visits = 0;
+  try {
+    cache.for_each([&](auto&&...) {
+      if (++visits == 2) throw std::runtime_error("enough");
+    });
+    CHECK(false);
+  } catch (const std::runtime_error&) {
+  }
+  // The lock was released.
+  CHECK(visits == 2 && cache.len() == 3);
+}
+
 void shards_have_equal_shares() {
   using Sharded = lru::ShardedCache<const int, lru::Words, BySecond>;
   CHECK(Sharded(10, 3).capacity() == 12);
@@ -775,12 +849,15 @@ int main() {
   a_capacity_is_set_at_any_time();
   a_strict_limit_has_no_room_beside_pinned_values();
   a_strict_limit_is_that_of_each_shard();
+  values_that_keys_find_are_shown();
+  values_of_all_shards_are_shown();
+  a_visit_may_throw();
   shards_have_equal_shares();
   a_small_cache_has_few_shards();
   a_seed_changes_no_answer();
   high_bits_of_a_key_choose_its_shard_too();
   a_handle_that_outlives_its_cache_is_asserted_against();
   values_may_be_move_only_or_neither();
-  std::printf("lru.hpp: 31 tests, %d checks failed\n", failed_checks);
+  std::printf("lru.hpp: 34 tests, %d checks failed\n", failed_checks);
   return failed_checks == 0 ? 0 : 1;
 }

@@ -222,6 +222,30 @@ class PlainCache {
     return found->second.key;
   }
 
+  // The entry of a stamp, if it has a value.
+  std::optional<lru_entry> entry(std::uint64_t stamp) const {
+    const auto found = entries_.find(stamp);
+    if (found == entries_.end() || found->second.phase != Phase::kReady) return std::nullopt;
+    const Entry& entry = found->second;
+    const auto by_key = stamps_.find(entry.key);
+    lru_entry told = {};
+    told.pin.stamp = stamp;
+    told.value = entry.value;
+    told.charge = entry.charge;
+    told.pins = entry.pins;
+    told.is_detached = by_key == stamps_.end() || by_key->second != stamp;
+    return told;
+  }
+
+  // The entries that have a value, by stamp.
+  std::vector<lru_entry> entries() const {
+    std::vector<lru_entry> all;
+    for (const auto& [stamp, entry] : entries_) {
+      if (entry.phase == Phase::kReady) all.push_back(*this->entry(stamp));
+    }
+    return all;
+  }
+
   // What free hands out: the entries that have a value, by stamp.
   std::vector<lru_gone> values() const {
     std::vector<lru_gone> all;

@@ -23,6 +23,11 @@ static bool operator==(const lru_told& one, const lru_told& other) {
 static bool operator==(const lru_gone& one, const lru_gone& other) {
   return one.stamp == other.stamp && one.charge == other.charge && one.value == other.value;
 }
+static bool operator==(const lru_entry& one, const lru_entry& other) {
+  return one.pin.stamp == other.pin.stamp && one.value == other.value &&
+         one.charge == other.charge && one.pins == other.pins &&
+         one.is_detached == other.is_detached;
+}
 static bool operator==(const lru_stats& one, const lru_stats& other) {
   return one.hits == other.hits && one.misses == other.misses && one.waits == other.waits &&
          one.insertions == other.insertions && one.evictions == other.evictions &&
@@ -226,9 +231,8 @@ class Run {
   bool insert_strictly() {
     call_ = "insert_strictly";
     const Key key = any_key();
-    const std::uint64_t charge = random_.below(8) == 0
-                                     ? UINT64_MAX - random_.below(2 * kCapacity)
-                                     : random_.below(kCapacity / 2);
+    const std::uint64_t charge = random_.below(8) == 0 ? UINT64_MAX - random_.below(2 * kCapacity)
+                                                       : random_.below(kCapacity / 2);
     const std::uint64_t value = random_.below(UINT64_MAX);
     const bool is_within = plain_.total() <= plain_.capacity();
     const lru_told told = Family::insert_strictly(&cache_, key, charge, value, &chain_);
@@ -373,7 +377,26 @@ class Run {
            number(lru_cache_len(&cache_)) == plain_.len() &&
            lru_cache_stats(&cache_, &stats) == LRU_DONE && stats == plain_.stats() &&
            Family::contains(&cache_, key) == plain_.contains(key) &&
-           Family::key_of(&cache_, pin) == plain_.key_of(pin.stamp);
+           Family::key_of(&cache_, pin) == plain_.key_of(pin.stamp) &&
+           entry(pin) == plain_.entry(pin.stamp) && entries() == plain_.entries();
+  }
+
+  // What the library tells of the entry of a pin.
+  std::optional<lru_entry> entry(lru_pin pin) {
+    lru_entry told = {};
+    if (lru_cache_entry(&cache_, pin, &told) != LRU_DONE) return std::nullopt;
+    return told;
+  }
+
+  // What the library tells of all entries, by stamp. Each has the pin with which it is found.
+  std::vector<lru_entry> entries() {
+    std::vector<lru_entry> all(static_cast<std::size_t>(lru_cache_len(&cache_).value));
+    const lru_told told = lru_cache_entries(&cache_, all.data(), all.size());
+    if (told.code != LRU_NUMBER) return {};
+    all.resize(static_cast<std::size_t>(told.value));
+    std::sort(all.begin(), all.end(),
+              [](const lru_entry& a, const lru_entry& b) { return a.pin.stamp < b.pin.stamp; });
+    return all;
   }
 
   // Whether free hands out the same entries, in any order, and the run evicted enough to mean

@@ -46,6 +46,32 @@ pub struct Gone {
     pub value: u64,
 }
 
+/// `lru_entry`: an entry of a cache that has a value.
+#[repr(C)]
+#[derive(Debug, Clone, Copy)]
+pub struct Entry {
+    pub pin: Pin,
+    pub value: u64,
+    pub charge: u64,
+    pub pins: u32,
+    pub is_detached: u32,
+}
+
+impl Entry {
+    /// What a buffer is filled with before the entries are written to it.
+    pub const NONE: Entry = Entry {
+        pin: Pin {
+            stamp: 0,
+            hash: 0,
+            place: 0,
+        },
+        value: 0,
+        charge: 0,
+        pins: 0,
+        is_detached: 0,
+    };
+}
+
 /// `lru_stats`: what the calls on a cache have answered, and what it holds.
 #[repr(C)]
 #[derive(Debug, Clone, Copy, Default)]
@@ -71,6 +97,7 @@ pub const REMOVED: u32 = 5;
 pub const MISSED: u32 = 6;
 pub const OVERFLOW: u32 = 7;
 pub const MEMORY: u32 = 9;
+pub const NUMBER: u32 = 10;
 pub const NO_CHARGE: u32 = 11;
 pub const PINNED: u32 = 18;
 pub const FULL: u32 = 20;
@@ -93,6 +120,7 @@ unsafe extern "C" {
     pub fn lru_cache_capacity(cache: *mut Handle) -> Told;
     pub fn lru_cache_len(cache: *mut Handle) -> Told;
     pub fn lru_cache_stats(cache: *mut Handle, out: *mut Stats) -> u32;
+    pub fn lru_cache_entries_nonnull(cache: *mut Handle, out: *mut Entry, room: usize) -> Told;
     pub fn lru_chain_new(out: *mut Handle) -> u32;
     pub fn lru_chain_free(chain: *mut Handle) -> u32;
     pub fn lru_chain_pop(chain: *mut Handle, out: *mut Gone) -> bool;

@@ -48,6 +48,7 @@
 //! where `make -C bindings/c` puts it. The environment variable `LRU_LIB_DIR` may name another
 //! folder by its absolute path.
 
+mod entry;
 mod error;
 mod ffi;
 mod form;
@@ -57,5 +58,6 @@ pub mod sharded;
 mod stats;
 pub mod unsharded;
 
+pub use entry::EntryRef;
 pub use error::{GetError, Refusal};
 pub use stats::Stats;

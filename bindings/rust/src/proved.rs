@@ -4,6 +4,7 @@ use std::hash::{BuildHasher, Hasher, RandomState};
 use std::marker::PhantomData;
 use std::ptr::{self, NonNull};
 
+use crate::entry::EntryRef;
 use crate::error::Refusal;
 use crate::ffi::{self, Gone, Handle, Pin, Told};
 use crate::form::Form;
@@ -253,6 +254,29 @@ impl<F: Form, V> Core<F, V> {
         // SAFETY: this core has the only copy of the handle.
         let told = unsafe { ffi::lru_cache_capacity(&mut self.cache) };
         told.value
+    }
+
+    /// Calls `visit` for each value that its key finds.
+    pub(crate) fn for_each(&mut self, mut visit: impl FnMut(EntryRef<'_, V>)) {
+        let len = usize::try_from(self.len()).expect("each entry takes memory");
+        let mut entries = vec![ffi::Entry::NONE; len];
+        // SAFETY: this core has the only copy of the handle, and the buffer has room for `len`
+        // entries, which is enough.
+        let told = unsafe {
+            ffi::lru_cache_entries_nonnull(&mut self.cache, entries.as_mut_ptr(), entries.len())
+        };
+        debug_assert_eq!(told.code, ffi::NUMBER);
+        entries.truncate(usize::try_from(told.value).unwrap_or(len));
+        for entry in entries.iter().filter(|entry| entry.is_detached == 0) {
+            // SAFETY: the word is the address of a box that `ready` or `insert` stored, and no
+            // entry is evicted while this core is borrowed. Others have shared references only.
+            let value = unsafe { value_of(entry.value).as_ref() };
+            visit(EntryRef {
+                value,
+                charge: entry.charge,
+                pins: entry.pins,
+            });
+        }
     }
 
     /// What the calls have answered, and what the cache holds.

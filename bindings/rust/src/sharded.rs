@@ -9,6 +9,7 @@ use std::ops::Deref;
 use std::ptr::{self, NonNull};
 use std::sync::Arc;
 
+use crate::entry::EntryRef;
 use crate::error::{GetError, Refusal};
 use crate::ffi::Pin;
 use crate::key::Key;
@@ -143,6 +144,14 @@ impl<K: Key + ?Sized, V, S> LruCache<K, V, S> {
     pub fn prune(&self) {
         for shard in &self.shards {
             shard.prune();
+        }
+    }
+
+    /// Calls `visit` for each value that its key finds, as the cache behind one lock does, one
+    /// shard after another, each with its own lock held.
+    pub fn for_each(&self, mut visit: impl FnMut(EntryRef<'_, V>)) {
+        for shard in &self.shards {
+            shard.for_each(&mut visit);
         }
     }
 

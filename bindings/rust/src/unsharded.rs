@@ -9,6 +9,7 @@ use std::ops::Deref;
 use std::ptr::{self, NonNull};
 use std::sync::{Arc, Condvar, Mutex, MutexGuard, PoisonError};
 
+use crate::entry::EntryRef;
 use crate::error::{GetError, Refusal};
 use crate::ffi::Pin;
 use crate::form::{Form, Written};
@@ -448,6 +449,37 @@ impl<K: Key + ?Sized, V> LruCache<K, V> {
     /// Returns the capacity.
     pub fn capacity(&self) -> u64 {
         self.lock().core.capacity()
+    }
+
+    /// Calls `visit` for each value that its key finds, in no particular order. Values that are
+    /// being made are left out, and so are those that were invalidated or replaced. This is no use
+    /// of a value: the order of eviction stays as it is.
+    ///
+    /// The lock is held meanwhile, so `visit` must not call the cache or drop a handle of it, which
+    /// would wait for the lock for ever, and other calls wait until all values are visited.
+    ///
+    /// # Examples
+    ///
+    /// ```
+    /// use concurrent_lru_proved::unsharded::LruCache;
+    ///
+    /// # fn main() -> Result<(), concurrent_lru_proved::Refusal> {
+    /// let cache = LruCache::<u64, &str>::new(10)?;
+    /// cache.insert(&7, 3, "seven")?;
+    /// let eight = cache.insert(&8, 4, "eight")?;
+    /// let mut idle = Vec::new();
+    /// cache.for_each(|entry| {
+    ///     if entry.pins == 0 {
+    ///         idle.push((*entry.value, entry.charge));
+    ///     }
+    /// });
+    /// assert_eq!(idle, [("seven", 3)]);
+    /// drop(eight);
+    /// # Ok(())
+    /// # }
+    /// ```
+    pub fn for_each(&self, visit: impl FnMut(EntryRef<'_, V>)) {
+        self.lock().core.for_each(visit);
     }
 
     /// Returns how often calls hit and missed since the cache was created, what was inserted and

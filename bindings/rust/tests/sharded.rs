@@ -289,3 +289,17 @@ fn stress() -> Result<(), Refusal> {
     );
     Ok(())
 }
+
+#[test]
+fn values_of_all_shards_are_shown() -> Result<(), Refusal> {
+    let cache = by_itself(1000, 4)?;
+    for key in 0..100 {
+        cache.insert(&key, 1 + key % 3, key)?;
+    }
+    let mut all = Vec::new();
+    cache.for_each(|entry| all.push((*entry.value, entry.charge, entry.pins)));
+    all.sort_unstable();
+    let wanted: Vec<(u64, u64, u32)> = (0..100).map(|key| (key, 1 + key % 3, 0)).collect();
+    assert_eq!(all, wanted);
+    Ok(())
+}

@@ -910,6 +910,66 @@ fn errors_say_what_happened() {
     assert_eq!(io::Error::from(missing).kind(), io::ErrorKind::NotFound);
 }
 
+/// What `for_each` shows, in the order of the values: value, charge, pins.
+fn shown(cache: &LruCache<u64, u64>) -> Vec<(u64, u64, u32)> {
+    let mut all = Vec::new();
+    cache.for_each(|entry| all.push((*entry.value, entry.charge, entry.pins)));
+    all.sort_unstable();
+    all
+}
+
+#[test]
+fn values_that_keys_find_are_shown() -> Result<(), Refusal> {
+    let cache = LruCache::new(10)?;
+    assert_eq!(shown(&cache), []);
+    let held = cache.insert(&1, 1, 10)?;
+    cache.insert(&2, 2, 20)?;
+    cache.insert(&3, 3, 30)?;
+    let twice = cache.insert(&4, 4, 40)?;
+    let again = twice.try_clone()?;
+    let all = [(10, 1, 1), (20, 2, 0), (30, 3, 0), (40, 4, 2)];
+    assert_eq!(shown(&cache), all);
+    cache.get_or_init(&5, 1, |_| {
+        // Not while it is being made. The making evicted the oldest: to be shown is no use.
+        assert_eq!(shown(&cache), [(10, 1, 1), (30, 3, 0), (40, 4, 2)]);
+        50
+    })?;
+    cache.invalidate(&1)?;
+    drop(again);
+    assert_eq!(shown(&cache), [(30, 3, 0), (40, 4, 1), (50, 1, 0)]);
+    drop(held);
+    assert_eq!(cache.len(), 3);
+    Ok(())
+}
+
+#[test]
+fn a_value_is_shown_where_it_is() -> Result<(), Refusal> {
+    let cache = LruCache::<u64, String>::new(10)?;
+    let held = cache.insert(&1, 1, "one".to_string())?;
+    let mut at = ptr::null();
+    cache.for_each(|entry| at = entry.value);
+    assert!(ptr::eq(at, &*held));
+    Ok(())
+}
+
+#[test]
+fn a_visit_may_panic() -> Result<(), Refusal> {
+    let cache = LruCache::new(10)?;
+    for key in 0..3 {
+        cache.insert(&key, 1, key)?;
+    }
+    let mut visits = 0;
+    let visited = panic::catch_unwind(AssertUnwindSafe(|| {
+        cache.for_each(|_| {
+            visits += 1;
+            assert!(visits < 2, "enough");
+        });
+    }));
+    assert!(visited.is_err());
+    assert_eq!((visits, shown(&cache).len()), (2, 3));
+    Ok(())
+}
+
 /// In a function that returns `io::Result`, `?` is enough for an `init` that opens a file.
 #[test]
 fn errors_become_those_of_io() -> io::Result<()> {
