@@ -1,9 +1,9 @@
 -- What an insert of the core did, told as C is told; an insert by the bytes of a key is the insert
 -- of the key that was made of them.
 use Rattle.std.proofs.Common.{◌≡◌, ℕ, Bool, List, [], inl, inr, refl, sym, ◌∙◌, ap, subst}
-use Rattle.std.specs.Prelude.{◌⊎◌, Result, Ok, Err}
+use Rattle.std.specs.Prelude.{Result, Ok, Err}
 use Rattle.concurrent_lru.specs.Cache.{Cache, Idle, IsLawful}
-use Rattle.concurrent_lru.specs.Inserts.{Replaces, RefusesToReplace, Inserts, InsertsStrictly}
+use Rattle.concurrent_lru.specs.Inserts.{Replaces, Inserts, InsertsStrictly}
 use Rattle.concurrent_lru.specs.Results.{inserted_without_hint}
 use Rattle.concurrent_lru.specs.declared.refusal.Refusal.{Refusal}
 use Rattle.concurrent_lru.specs.declared.step.Inserted.{Inserted}

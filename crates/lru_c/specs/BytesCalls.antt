@@ -1,14 +1,13 @@
 -- The calls from C with keys of bytes.
-use Rattle.std.specs.Prelude.{◌≡◌, ◌==◌, ◌<◌, ◌++◌, ◌⊎◌, ℕ, length, drop, List, [], Option, MatchBool}
+use Rattle.std.specs.Prelude.{◌≡◌, ◌==◌, ◌<◌, ◌++◌, ◌⊎◌, ℕ, Bool, true, false, length, drop, List, [], Option, MatchBool}
 use Rattle.concurrent_lru.specs.Cache.{Cache, Idle, HasKeyAt, LacksStamp, empty_cache}
 use Rattle.concurrent_lru.specs.Request.{Request}
-use Rattle.concurrent_lru.specs.Request as ask
 use Rattle.lru_c.specs.Calls.{IsUnchanged}
 use Rattle.lru_c.specs.Chains.{entries_of}
 use Rattle.lru_c.specs.Codes as code
 use Rattle.lru_c.specs.Counted.{answered, counted, no_calls}
 use Rattle.lru_c.specs.Handles.{OnOpen}
-use Rattle.lru_c.specs.Inserts.{InsertsOne, TellsInsert, TellsStrictInsert}
+use Rattle.lru_c.specs.Inserts.{InsertsOne, TellsInsertBy}
 use Rattle.lru_c.specs.Keys.{bytes_eq}
 use Rattle.lru_c.specs.Opened.{TellsReady}
 use Rattle.lru_c.specs.Told as tells
@@ -74,14 +73,16 @@ abbrev pub BeginsInto : AnyCache → (Key → ℕ → Request Key ℕ) → List 
 BeginsInto old r bytes charge t before gone new =
     BytesInto old before gone new t (λ o out n. BeginsByKey o.state.cache r bytes charge t out n.state.cache × (n.counts ≡ answered t o.counts))
 
--- An insert, with what it replaced and what it evicted in one chain.
-abbrev pub InsertsInto : AnyCache → List ℕ → ℕ → ℕ → LruTold → AnyChain → AnyChain → AnyCache → Type 0
-InsertsInto old bytes charge v t before gone new = BytesInto old before gone new t (λ o out n. InsertsOne (TellsInsert bytes_eq) (HasBytes bytes) o charge v t out n)
+-- An insert, strict or not, with what it replaced and what it evicted in one chain.
+abbrev pub InsertsIntoBy : Bool → AnyCache → List ℕ → ℕ → ℕ → LruTold → AnyChain → AnyChain → AnyCache → Type 0
+InsertsIntoBy strict old bytes charge v t before gone new =
+    BytesInto old before gone new t (λ o out n. InsertsOne (TellsInsertBy bytes_eq strict) (HasBytes bytes) o charge v t out n)
 
--- The same for a strict insert.
+abbrev pub InsertsInto : AnyCache → List ℕ → ℕ → ℕ → LruTold → AnyChain → AnyChain → AnyCache → Type 0
+InsertsInto = InsertsIntoBy false
+
 abbrev pub InsertsStrictlyInto : AnyCache → List ℕ → ℕ → ℕ → LruTold → AnyChain → AnyChain → AnyCache → Type 0
-InsertsStrictlyInto old bytes charge v t before gone new =
-    BytesInto old before gone new t (λ o out n. InsertsOne (TellsStrictInsert bytes_eq) (HasBytes bytes) o charge v t out n)
+InsertsStrictlyInto = InsertsIntoBy true
 
 -- The call returned whether a key of these bytes has a value, or that memory was refused.
 abbrev pub ContainsBytes : Cache Key ℕ → List ℕ → ℕ → Type 0

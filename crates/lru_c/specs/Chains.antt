@@ -39,6 +39,13 @@ bytes_chain out = keys.Bytes (chain_of out)
 abbrev pub words_chain : List (Idle Words ℕ) → AnyChain
 words_chain out = keys.Words (chain_of out)
 
+-- a chain of some entries, and then others
+abbrev pub bytes_chain_of : List (Idle Bytes ℕ) → List (Idle Bytes ℕ) → AnyChain
+bytes_chain_of first rest = keys.Bytes (record { first = first; rest = rest })
+
+abbrev pub words_chain_of : List (Idle Words ℕ) → List (Idle Words ℕ) → AnyChain
+words_chain_of first rest = keys.Words (record { first = first; rest = rest })
+
 -- `done` if the chain has no entries, otherwise `not_empty`
 abbrev pub filled_code : AnyChain → ℕ
 filled_code (keys.Bytes c) = code_of_entries (entries_of c)

@@ -42,6 +42,11 @@ module _ {K : Type 0} where
     TellsStrictInsert old k charge v t replaced evicted new =
         (HasCapacityFor old charge × TellsInsert old k charge v t replaced evicted new) ⊎ (LacksCapacityFor old charge × (t ≡ bare code.full) × IsUntouched old replaced evicted new)
 
+    -- The one or the other.
+    abbrev pub TellsInsertBy : Bool → Cache K ℕ → K → ℕ → ℕ → LruTold → List (Idle K ℕ) → List (Idle K ℕ) → Cache K ℕ → Type 0
+    TellsInsertBy strict old k charge v t replaced evicted new =
+        MatchBool strict (TellsStrictInsert old k charge v t replaced evicted new) (TellsInsert old k charge v t replaced evicted new)
+
   -- An insert that Tells describes, by a call that refuses a charge of 0 and first makes a key, from
   -- bytes for example, of which IsKey holds; if memory for it is refused, nothing changed.
   abbrev pub TellsInsertOf : (Cache K ℕ → K → ℕ → ℕ → LruTold → List (Idle K ℕ) → List (Idle K ℕ) → Cache K ℕ → Type 0) → (K → Type 0) → Cache K ℕ → ℕ → ℕ → LruTold → List (Idle K ℕ) → List (Idle K ℕ) → Cache K ℕ → Type 0

@@ -2,6 +2,7 @@
 use Rattle.std.specs.Prelude.{◌≡◌, ℕ, Bool, cond, ◌==◌, List, [], Option, Some, None, Result, Ok, Err, MatchBool, ⊤}
 use Rattle.concurrent_lru.specs.Cache.{Cache, Idle, IsLawful}
 use Rattle.concurrent_lru.specs.Request.{Request}
+use Rattle.concurrent_lru.specs.Request as ask
 use Rattle.concurrent_lru.specs.Reply as say
 use Rattle.concurrent_lru.specs.Runs.{Outcome, accepted, refused, Stands}
 use Rattle.concurrent_lru.specs.declared.refusal.Refusal.{Refusal}
@@ -52,6 +53,10 @@ found_told None = bare code.missed
 found_told (Some r) = told code.hit (pin_of r.0 r.2) r.1
 
 module _ {K : Type 0} where
+  -- a begin, or a strict one
+  abbrev pub begin_by : Bool → K → ℕ → Request K ℕ
+  begin_by strict k charge = cond strict (ask.begin_strictly k charge) (ask.begin k charge)
+
   -- the code of a making that failed
   abbrev pub failed_code : Failed K → ℕ
   failed_code failed.Left = code.left

@@ -1,5 +1,5 @@
 -- The calls from C with keys of two words.
-use Rattle.std.specs.Prelude.{◌≡◌, ◌==◌, ℕ, List, [], Option, MatchBool}
+use Rattle.std.specs.Prelude.{◌≡◌, ◌==◌, ℕ, Bool, true, false, List, [], Option, MatchBool}
 use Rattle.concurrent_lru.specs.Cache.{Idle, empty_cache}
 use Rattle.concurrent_lru.specs.Request.{Request}
 use Rattle.lru_c.specs.Calls.{IsUnchanged, TakesStep}
@@ -7,7 +7,7 @@ use Rattle.lru_c.specs.Chains.{entries_of}
 use Rattle.lru_c.specs.Codes as code
 use Rattle.lru_c.specs.Counted.{answered, no_calls}
 use Rattle.lru_c.specs.Handles.{OnOpen}
-use Rattle.lru_c.specs.Inserts.{InsertsOne, TellsInsert, TellsStrictInsert}
+use Rattle.lru_c.specs.Inserts.{InsertsOne, TellsInsertBy}
 use Rattle.lru_c.specs.Keys.{words_eq}
 use Rattle.lru_c.specs.Opened.{TellsKey, TellsReady}
 use Rattle.lru_c.specs.Told as tells
@@ -63,13 +63,16 @@ abbrev pub BeginsInto : AnyCache → (Words → ℕ → Request Words ℕ) → W
 BeginsInto old r key charge t before gone new =
     WordsInto old before gone new t (λ o out n. MatchBool (charge == 0) ((t ≡ bare code.no_charge) × IsSame o.state.cache out n.state.cache) (tells.Asks words_eq o.state.cache (r key charge) t out n.state.cache) × (n.counts ≡ answered t o.counts))
 
--- An insert, with what it replaced and what it evicted in one chain.
-abbrev pub InsertsInto : AnyCache → Words → ℕ → ℕ → LruTold → AnyChain → AnyChain → AnyCache → Type 0
-InsertsInto old key charge v t before gone new = WordsInto old before gone new t (λ o out n. InsertsOne (TellsInsert words_eq) (λ k. k ≡ key) o charge v t out n)
+-- An insert, strict or not, with what it replaced and what it evicted in one chain.
+abbrev pub InsertsIntoBy : Bool → AnyCache → Words → ℕ → ℕ → LruTold → AnyChain → AnyChain → AnyCache → Type 0
+InsertsIntoBy strict old key charge v t before gone new =
+    WordsInto old before gone new t (λ o out n. InsertsOne (TellsInsertBy words_eq strict) (λ k. k ≡ key) o charge v t out n)
 
--- The same for a strict insert.
+abbrev pub InsertsInto : AnyCache → Words → ℕ → ℕ → LruTold → AnyChain → AnyChain → AnyCache → Type 0
+InsertsInto = InsertsIntoBy false
+
 abbrev pub InsertsStrictlyInto : AnyCache → Words → ℕ → ℕ → LruTold → AnyChain → AnyChain → AnyCache → Type 0
-InsertsStrictlyInto old key charge v t before gone new = WordsInto old before gone new t (λ o out n. InsertsOne (TellsStrictInsert words_eq) (λ k. k ≡ key) o charge v t out n)
+InsertsStrictlyInto = InsertsIntoBy true
 
 -- The call returned whether a key has a value, and changed nothing.
 abbrev pub ContainsAny : AnyCache → Words → ℕ → AnyCache → Type 0

@@ -1,11 +1,11 @@
 //! The calls of C on caches whose keys are bytes.
 ghost use Rattle.std.specs.Prelude.{◌≡◌, ◌==◌, ⊤, MatchBool};
 ghost use Rattle.concurrent_lru.specs.Request as ask;
-ghost use Rattle.lru_c.specs.BytesCalls.{AsksByKey, AsksIntoByKey, BeginsInto, Contains, InsertsInto, InsertsStrictlyInto, IsNew, KeyOf};
+ghost use Rattle.lru_c.specs.BytesCalls.{AsksByKey, AsksIntoByKey, BeginsInto, Contains, InsertsInto, InsertsIntoBy, InsertsStrictlyInto, IsNew, KeyOf};
 ghost use Rattle.lru_c.specs.Calls.{Into};
 ghost use Rattle.lru_c.specs.Codes as codes;
 ghost use Rattle.lru_c.specs.Opened.{Opens};
-ghost use Rattle.lru_c.specs.Told.{bare};
+ghost use Rattle.lru_c.specs.Told.{bare, begin_by};
 ghost use Rattle.concurrent_lru.specs.Cache.{most_pins_by_default};
 
 pub mod cache;
@@ -78,14 +78,7 @@ pub extern "C" fn lru_bytes_begin_nonnull(
     ensures { Into gone.old gone.new result cache.old cache.new
         (λ o b c n. BeginsInto o ask.begin key.now charge result b c n) }
 {
-    let chain = match empty_chain(gone) {
-        Ok(chain) => chain,
-        Err(code) => return LruTold::bare(code),
-    };
-    match cache.get_mut() {
-        Some(cache) => cache.begin_by_bytes(key, charge, chain),
-        None => LruTold::bare(code::CLOSED),
-    }
+    begin(cache, key, charge, false, gone)
 }
 
 /// Does what `begin` does, but inserts no entry whose charge the capacity has no room for.
@@ -103,14 +96,7 @@ pub extern "C" fn lru_bytes_begin_strictly_nonnull(
     ensures { Into gone.old gone.new result cache.old cache.new
         (λ o b c n. BeginsInto o ask.begin_strictly key.now charge result b c n) }
 {
-    let chain = match empty_chain(gone) {
-        Ok(chain) => chain,
-        Err(code) => return LruTold::bare(code),
-    };
-    match cache.get_mut() {
-        Some(cache) => cache.begin_strictly_by_bytes(key, charge, chain),
-        None => LruTold::bare(code::CLOSED),
-    }
+    begin(cache, key, charge, true, gone)
 }
 
 /// Pins the entry of a key and returns its value, or returns `MISSED` if the key has no ready
@@ -211,14 +197,7 @@ pub extern "C" fn lru_bytes_insert_nonnull(
     ensures { Into gone.old gone.new result cache.old cache.new
         (λ o b c n. InsertsInto o key.now charge value result b c n) }
 {
-    let chain = match empty_chain(gone) {
-        Ok(chain) => chain,
-        Err(code) => return LruTold::bare(code),
-    };
-    match cache.get_mut() {
-        Some(cache) => cache.insert_by_bytes(key, charge, value, chain),
-        None => LruTold::bare(code::CLOSED),
-    }
+    insert(cache, key, charge, value, false, gone)
 }
 
 /// Does what `insert` does, unless the capacity has no room for the charge.
@@ -237,14 +216,7 @@ pub extern "C" fn lru_bytes_insert_strictly_nonnull(
     ensures { Into gone.old gone.new result cache.old cache.new
         (λ o b c n. InsertsStrictlyInto o key.now charge value result b c n) }
 {
-    let chain = match empty_chain(gone) {
-        Ok(chain) => chain,
-        Err(code) => return LruTold::bare(code),
-    };
-    match cache.get_mut() {
-        Some(cache) => cache.insert_strictly_by_bytes(key, charge, value, chain),
-        None => LruTold::bare(code::CLOSED),
-    }
+    insert(cache, key, charge, value, true, gone)
 }
 
 /// Copies the key of an entry, held or idle, to the start of a buffer: `NUMBER` with its length.
@@ -264,6 +236,49 @@ pub extern "C" fn lru_bytes_key_of_nonnull(
 {
     match cache.get_mut() {
         Some(cache) => cache.copy_key(pin, buffer),
+        None => LruTold::bare(code::CLOSED),
+    }
+}
+
+#[inline(always)]
+fn begin(
+    cache: &mut LruCache,
+    key: &[u8],
+    charge: u64,
+    strict: bool,
+    gone: &mut LruChain,
+) -> LruTold
+    ensures { Into gone.old gone.new result cache.old cache.new
+        (λ o b c n. BeginsInto o (begin_by strict) key.now charge result b c n) }
+{
+    let chain = match empty_chain(gone) {
+        Ok(chain) => chain,
+        Err(code) => return LruTold::bare(code),
+    };
+    match cache.get_mut() {
+        Some(cache) => cache.begin_by_bytes(key, charge, strict, chain),
+        None => LruTold::bare(code::CLOSED),
+    }
+}
+
+#[inline(always)]
+fn insert(
+    cache: &mut LruCache,
+    key: &[u8],
+    charge: u64,
+    value: u64,
+    strict: bool,
+    gone: &mut LruChain,
+) -> LruTold
+    ensures { Into gone.old gone.new result cache.old cache.new
+        (λ o b c n. InsertsIntoBy strict o key.now charge value result b c n) }
+{
+    let chain = match empty_chain(gone) {
+        Ok(chain) => chain,
+        Err(code) => return LruTold::bare(code),
+    };
+    match cache.get_mut() {
+        Some(cache) => cache.insert_by_bytes(key, charge, value, strict, chain),
         None => LruTold::bare(code::CLOSED),
     }
 }

@@ -76,7 +76,7 @@ pub enum AnyChain {
 }
 
 impl AnyChain {
-    ghost use Rattle.lru_c.specs.Chains.{bytes_chain, filled_code, words_chain, IsEmpty, PopsAny};
+    ghost use Rattle.lru_c.specs.Chains.{bytes_chain, bytes_chain_of, filled_code, words_chain, words_chain_of, IsEmpty, PopsAny};
 
     // Returns a chain of no entries. It takes entries with keys of either kind.
     pub(crate) fn none() -> AnyChain
@@ -115,6 +115,20 @@ impl AnyChain {
         answer
     }
 
+    // Takes what an insert into such a cache replaced and then what it evicted, and returns its
+    // answer.
+    pub(crate) fn take_both_bytes<A: Drop>(
+        &mut self,
+        told: (A, (Evicted<Bytes>, Evicted<Bytes>)),
+    ) -> A
+        ensures answer { result ≡ told.0 }
+        ensures chain { self.new ≡ bytes_chain_of told.1.0 told.1.1 }
+    {
+        let (answer, (first, rest)) = told;
+        *self = AnyChain::Bytes(Chain { first, rest });
+        answer
+    }
+
     // Takes what a call on a cache whose keys are two words evicted, and returns its answer.
     pub(crate) fn take_words<A: Drop>(&mut self, told: (A, Evicted<Words>)) -> A
         ensures answer { result ≡ told.0 }
@@ -122,6 +136,20 @@ impl AnyChain {
     {
         let (answer, evicted) = told;
         *self = AnyChain::Words(Chain::of(evicted));
+        answer
+    }
+
+    // Takes what an insert into such a cache replaced and then what it evicted, and returns its
+    // answer.
+    pub(crate) fn take_both_words<A: Drop>(
+        &mut self,
+        told: (A, (Evicted<Words>, Evicted<Words>)),
+    ) -> A
+        ensures answer { result ≡ told.0 }
+        ensures chain { self.new ≡ words_chain_of told.1.0 told.1.1 }
+    {
+        let (answer, (first, rest)) = told;
+        *self = AnyChain::Words(Chain { first, rest });
         answer
     }
 

@@ -4,9 +4,9 @@ ghost use Rattle.std.specs.Prelude.{◌≡◌, ◌<◌, ◌==◌, ◌⊎◌, [],
 ghost use Rattle.concurrent_lru.specs.Cache.{count_of, pinned_of, sum_of};
 ghost use Rattle.concurrent_lru.specs.Request as ask;
 ghost use Rattle.lru_c.specs.Codes as codes;
-ghost use Rattle.lru_c.specs.Inserts.{TellsInsert, TellsInserted, TellsStrictInsert};
+ghost use Rattle.lru_c.specs.Inserts.{TellsInsertBy, TellsInserted};
 ghost use Rattle.lru_c.specs.Opened.{TellsReady};
-ghost use Rattle.lru_c.specs.Told.{bare, begun_told, failed_code, found_told, numbered, refusal_code, Asks, IsSame, TellsBegun};
+ghost use Rattle.lru_c.specs.Told.{bare, begin_by, begun_told, failed_code, found_told, numbered, refusal_code, Asks, TellsBegun};
 
 use crate::code;
 use crate::told::{LruPin, LruTold};
@@ -19,39 +19,17 @@ pub(crate) fn begin<K: Hash + Eq + Clone>(
     state: &mut State<K>,
     key: &K,
     charge: u64,
+    strict: bool,
 ) -> (LruTold, Evicted<K>)
-    ensures { MatchBool (charge == 0)
-        ((result.0 ≡ bare codes.no_charge) × IsSame state.old.cache result.1 state.new.cache)
-        (Asks K.eq state.old.cache (ask.begin key.now charge) result.0 result.1 state.new.cache) }
+    requires { 0 < charge }
+    ensures { Asks K.eq state.old.cache (begin_by strict key.now charge) result.0 result.1
+        state.new.cache }
 {
-    if charge == 0 {
-        return (LruTold::bare(code::NO_CHARGE), Evicted::none());
+    if strict {
+        told_of_begin(state.begin_strictly_at(key, charge))
+    } else {
+        told_of_begin(state.begin_at(key, charge))
     }
-    begin_charged(state, key, charge)
-}
-
-pub(crate) fn begin_charged<K: Hash + Eq + Clone>(
-    state: &mut State<K>,
-    key: &K,
-    charge: u64,
-) -> (LruTold, Evicted<K>)
-    requires { 0 < charge }
-    ensures { Asks K.eq state.old.cache (ask.begin key.now charge) result.0 result.1
-        state.new.cache }
-{
-    told_of_begin(state.begin_at(key, charge))
-}
-
-pub(crate) fn begin_strictly<K: Hash + Eq + Clone>(
-    state: &mut State<K>,
-    key: &K,
-    charge: u64,
-) -> (LruTold, Evicted<K>)
-    requires { 0 < charge }
-    ensures { Asks K.eq state.old.cache (ask.begin_strictly key.now charge) result.0 result.1
-        state.new.cache }
-{
-    told_of_begin(state.begin_strictly_at(key, charge))
 }
 
 // Returns the answer of a begin with this result, and what it evicted.
@@ -178,32 +156,24 @@ pub(crate) fn invalidate<K: Hash + Eq + Clone>(state: &mut State<K>, key: &K) ->
     (code::DONE, state.invalidate(key))
 }
 
-// Also returns what the new entry replaced, and what its charge evicted.
+// Also returns what the new entry replaced, and what its charge evicted. If the insert is strict and
+// the capacity has no room for the charge beside the held entries, inserts nothing.
 pub(crate) fn insert<K: Hash + Eq + Clone>(
     state: &mut State<K>,
     key: &K,
     charge: u64,
     value: u64,
+    strict: bool,
 ) -> (LruTold, (Evicted<K>, Evicted<K>))
     requires { 0 < charge }
-    ensures { TellsInsert K.eq state.old.cache key.now charge value result.0 result.1.0 result.1.1
-        state.new.cache }
-{
-    told_of_insert(state.insert_at(key, charge, value))
-}
-
-// Does what `insert` does, unless the capacity has no room for the charge beside the held entries.
-pub(crate) fn insert_strictly<K: Hash + Eq + Clone>(
-    state: &mut State<K>,
-    key: &K,
-    charge: u64,
-    value: u64,
-) -> (LruTold, (Evicted<K>, Evicted<K>))
-    requires { 0 < charge }
-    ensures { TellsStrictInsert K.eq state.old.cache key.now charge value result.0 result.1.0
+    ensures { TellsInsertBy K.eq strict state.old.cache key.now charge value result.0 result.1.0
         result.1.1 state.new.cache }
 {
-    told_of_insert(state.insert_strictly_at(key, charge, value))
+    if strict {
+        told_of_insert(state.insert_strictly_at(key, charge, value))
+    } else {
+        told_of_insert(state.insert_at(key, charge, value))
+    }
 }
 
 // Returns the answer of an insert with this result, with what it replaced and what it evicted.

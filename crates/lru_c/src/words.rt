@@ -1,11 +1,11 @@
 //! The calls of C on caches whose keys are two words.
 ghost use Rattle.std.specs.Prelude.{◌≡◌, ◌==◌, ⊤, MatchBool};
 ghost use Rattle.concurrent_lru.specs.Request as ask;
-ghost use Rattle.lru_c.specs.WordsCalls.{words, AsksByKey, AsksIntoByKey, BeginsInto, Contains, InsertsInto, InsertsStrictlyInto, IsNew, KeyOf};
+ghost use Rattle.lru_c.specs.WordsCalls.{words, AsksByKey, AsksIntoByKey, BeginsInto, Contains, InsertsInto, InsertsIntoBy, InsertsStrictlyInto, IsNew, KeyOf};
 ghost use Rattle.lru_c.specs.Calls.{Into};
 ghost use Rattle.lru_c.specs.Codes as codes;
 ghost use Rattle.lru_c.specs.Opened.{Opens};
-ghost use Rattle.lru_c.specs.Told.{bare};
+ghost use Rattle.lru_c.specs.Told.{bare, begin_by};
 ghost use Rattle.concurrent_lru.specs.Cache.{most_pins_by_default};
 
 pub mod cache;
@@ -78,14 +78,7 @@ pub extern "C" fn lru_words_begin(
     ensures { Into gone.old gone.new result cache.old cache.new
         (λ o b c n. BeginsInto o ask.begin (words first second) charge result b c n) }
 {
-    let chain = match empty_chain(gone) {
-        Ok(chain) => chain,
-        Err(code) => return LruTold::bare(code),
-    };
-    match cache.get_mut() {
-        Some(cache) => cache.begin_by_words(&Words { first, second }, charge, chain),
-        None => LruTold::bare(code::CLOSED),
-    }
+    begin(cache, &Words { first, second }, charge, false, gone)
 }
 
 /// Does what `begin` does, but inserts no entry whose charge the capacity has no room for.
@@ -104,14 +97,7 @@ pub extern "C" fn lru_words_begin_strictly(
     ensures { Into gone.old gone.new result cache.old cache.new
         (λ o b c n. BeginsInto o ask.begin_strictly (words first second) charge result b c n) }
 {
-    let chain = match empty_chain(gone) {
-        Ok(chain) => chain,
-        Err(code) => return LruTold::bare(code),
-    };
-    match cache.get_mut() {
-        Some(cache) => cache.begin_strictly_by_words(&Words { first, second }, charge, chain),
-        None => LruTold::bare(code::CLOSED),
-    }
+    begin(cache, &Words { first, second }, charge, true, gone)
 }
 
 /// Pins the entry of a key and returns its value, or returns `MISSED` if the key has no ready
@@ -214,14 +200,7 @@ pub extern "C" fn lru_words_insert(
     ensures { Into gone.old gone.new result cache.old cache.new
         (λ o b c n. InsertsInto o (words first second) charge value result b c n) }
 {
-    let chain = match empty_chain(gone) {
-        Ok(chain) => chain,
-        Err(code) => return LruTold::bare(code),
-    };
-    match cache.get_mut() {
-        Some(cache) => cache.insert_by_words(&Words { first, second }, charge, value, chain),
-        None => LruTold::bare(code::CLOSED),
-    }
+    insert(cache, &Words { first, second }, charge, value, false, gone)
 }
 
 /// Does what `insert` does, unless the capacity has no room for the charge.
@@ -241,19 +220,7 @@ pub extern "C" fn lru_words_insert_strictly(
     ensures { Into gone.old gone.new result cache.old cache.new
         (λ o b c n. InsertsStrictlyInto o (words first second) charge value result b c n) }
 {
-    let chain = match empty_chain(gone) {
-        Ok(chain) => chain,
-        Err(code) => return LruTold::bare(code),
-    };
-    match cache.get_mut() {
-        Some(cache) => cache.insert_strictly_by_words(
-            &Words { first, second },
-            charge,
-            value,
-            chain,
-        ),
-        None => LruTold::bare(code::CLOSED),
-    }
+    insert(cache, &Words { first, second }, charge, value, true, gone)
 }
 
 /// Writes the two words of an entry's key, held or idle.
@@ -275,5 +242,48 @@ pub extern "C" fn lru_words_key_of(
     match cache.get_mut() {
         Some(cache) => cache.write_key(pin, first, second),
         None => code::CLOSED,
+    }
+}
+
+#[inline(always)]
+fn begin(
+    cache: &mut LruCache,
+    key: &Words,
+    charge: u64,
+    strict: bool,
+    gone: &mut LruChain,
+) -> LruTold
+    ensures { Into gone.old gone.new result cache.old cache.new
+        (λ o b c n. BeginsInto o (begin_by strict) key.now charge result b c n) }
+{
+    let chain = match empty_chain(gone) {
+        Ok(chain) => chain,
+        Err(code) => return LruTold::bare(code),
+    };
+    match cache.get_mut() {
+        Some(cache) => cache.begin_by_words(key, charge, strict, chain),
+        None => LruTold::bare(code::CLOSED),
+    }
+}
+
+#[inline(always)]
+fn insert(
+    cache: &mut LruCache,
+    key: &Words,
+    charge: u64,
+    value: u64,
+    strict: bool,
+    gone: &mut LruChain,
+) -> LruTold
+    ensures { Into gone.old gone.new result cache.old cache.new
+        (λ o b c n. InsertsIntoBy strict o key.now charge value result b c n) }
+{
+    let chain = match empty_chain(gone) {
+        Ok(chain) => chain,
+        Err(code) => return LruTold::bare(code),
+    };
+    match cache.get_mut() {
+        Some(cache) => cache.insert_by_words(key, charge, value, strict, chain),
+        None => LruTold::bare(code::CLOSED),
     }
 }

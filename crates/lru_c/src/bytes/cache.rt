@@ -7,7 +7,7 @@ ghost use Rattle.lru_c.specs.Codes as codes;
 use crate::any_cache::AnyCache;
 use crate::bytes::key::Bytes;
 use crate::cache::Cache;
-use crate::chain::{AnyChain, Chain};
+use crate::chain::AnyChain;
 use crate::told::{LruPin, LruTold};
 use crate::values::{Evicted, State};
 use crate::{code, steps};
@@ -20,8 +20,8 @@ impl Cache<Bytes, Bytes> {
     ghost use Rattle.lru_c.specs.BytesCalls.{BeginsByKey, ContainsBytes, HasBytes};
     ghost use Rattle.lru_c.specs.Keys.{bytes_eq};
     ghost use Rattle.lru_c.specs.Counted.{answered, inserted};
-    ghost use Rattle.lru_c.specs.Inserts.{TellsInsert, TellsInsertOf, TellsStrictInsert};
-    ghost use Rattle.lru_c.specs.Told.{bare, AsksOf};
+    ghost use Rattle.lru_c.specs.Inserts.{TellsInsertBy, TellsInsertOf};
+    ghost use Rattle.lru_c.specs.Told.{bare, begin_by, AsksOf};
 
     // Copies the bytes of a key into the buffer. Returns false if the buffer cannot grow.
     fn keep(&mut self, key: &[u8]) -> bool
@@ -33,24 +33,13 @@ impl Cache<Bytes, Bytes> {
         self.room.bytes.extend_from_slice(key).is_ok()
     }
 
-    pub(crate) fn begin(&mut self, key: &[u8], charge: u64) -> (LruTold, Evicted<Bytes>)
-        ensures asks { BeginsByKey self.old.state.cache ask.begin key.now charge result.0 result.1
-            self.new.state.cache }
-        ensures counts { self.new.counts ≡ answered result.0 self.old.counts }
-    {
-        if charge == 0 {
-            return (LruTold::bare(code::NO_CHARGE), Evicted::none());
-        }
-        if !self.keep(key) {
-            return (LruTold::bare(code::MEMORY), Evicted::none());
-        }
-        let answer = steps::begin_charged(&mut self.state, &self.room, charge);
-        self.counts.answer(answer.0);
-        answer
-    }
-
-    pub(crate) fn begin_strictly(&mut self, key: &[u8], charge: u64) -> (LruTold, Evicted<Bytes>)
-        ensures asks { BeginsByKey self.old.state.cache ask.begin_strictly key.now charge result.0
+    pub(crate) fn begin(
+        &mut self,
+        key: &[u8],
+        charge: u64,
+        strict: bool,
+    ) -> (LruTold, Evicted<Bytes>)
+        ensures asks { BeginsByKey self.old.state.cache (begin_by strict) key.now charge result.0
             result.1 self.new.state.cache }
         ensures counts { self.new.counts ≡ answered result.0 self.old.counts }
     {
@@ -60,9 +49,9 @@ impl Cache<Bytes, Bytes> {
         if !self.keep(key) {
             return (LruTold::bare(code::MEMORY), Evicted::none());
         }
-        let (begun, gone) = steps::begin_strictly(&mut self.state, &self.room, charge);
-        self.counts.answer(begun);
-        (begun, gone)
+        let answer = steps::begin(&mut self.state, &self.room, charge, strict);
+        self.counts.answer(answer.0);
+        answer
     }
 
     pub(crate) fn get(&mut self, key: &[u8]) -> LruTold
@@ -105,8 +94,9 @@ impl Cache<Bytes, Bytes> {
         key: &[u8],
         charge: u64,
         value: u64,
+        strict: bool,
     ) -> (LruTold, (Evicted<Bytes>, Evicted<Bytes>))
-        ensures tells { TellsInsertOf (TellsInsert bytes_eq) (HasBytes key.now)
+        ensures tells { TellsInsertOf (TellsInsertBy bytes_eq strict) (HasBytes key.now)
             self.old.state.cache charge value result.0 result.1.0 result.1.1 self.new.state.cache }
         ensures counts { self.new.counts ≡ inserted result.0 self.old.counts }
     {
@@ -116,30 +106,9 @@ impl Cache<Bytes, Bytes> {
         if !self.keep(key) {
             return steps::refused(code::MEMORY);
         }
-        let answer = steps::insert(&mut self.state, &self.room, charge, value);
+        let answer = steps::insert(&mut self.state, &self.room, charge, value, strict);
         self.counts.answer_insert(answer.0);
         answer
-    }
-
-    pub(crate) fn insert_strictly(
-        &mut self,
-        key: &[u8],
-        charge: u64,
-        value: u64,
-    ) -> (LruTold, (Evicted<Bytes>, Evicted<Bytes>))
-        ensures tells { TellsInsertOf (TellsStrictInsert bytes_eq) (HasBytes key.now)
-            self.old.state.cache charge value result.0 result.1.0 result.1.1 self.new.state.cache }
-        ensures counts { self.new.counts ≡ inserted result.0 self.old.counts }
-    {
-        if charge == 0 {
-            return steps::refused(code::NO_CHARGE);
-        }
-        if !self.keep(key) {
-            return steps::refused(code::MEMORY);
-        }
-        let (told, gone) = steps::insert_strictly(&mut self.state, &self.room, charge, value);
-        self.counts.answer_insert(told);
-        (told, gone)
     }
 
     pub(crate) fn contains(&mut self, key: &[u8]) -> u32
@@ -171,29 +140,22 @@ fn copy_key(state: &State<Bytes>, pin: LruPin, buffer: &mut [u8]) -> LruTold
 }
 
 impl AnyCache {
-    ghost use Rattle.lru_c.specs.BytesCalls.{AsksAnyByKey, AsksIntoByKey, BeginsInto, ContainsAny, InsertsInto, InsertsStrictlyInto, KeyOfAny};
-    ghost use Rattle.lru_c.specs.Told.{bare};
+    ghost use Rattle.lru_c.specs.BytesCalls.{AsksAnyByKey, AsksIntoByKey, BeginsInto, ContainsAny, InsertsIntoBy, KeyOfAny};
+    ghost use Rattle.lru_c.specs.Told.{bare, begin_by};
 
-    pub(crate) fn begin_by_bytes(&mut self, key: &[u8], charge: u64, gone: &mut AnyChain) -> LruTold
-        ensures { BeginsInto self.old ask.begin key.now charge result gone.old gone.new self.new }
-    {
-        match self {
-            AnyCache::Bytes(cache) => gone.take_bytes(cache.begin(key, charge)),
-            AnyCache::Words(_) => LruTold::bare(code::OTHER_KEYS),
-        }
-    }
-
-    pub(crate) fn begin_strictly_by_bytes(
+    #[inline(always)]
+    pub(crate) fn begin_by_bytes(
         &mut self,
         key: &[u8],
         charge: u64,
+        strict: bool,
         gone: &mut AnyChain,
     ) -> LruTold
-        ensures { BeginsInto self.old ask.begin_strictly key.now charge result gone.old gone.new
+        ensures { BeginsInto self.old (begin_by strict) key.now charge result gone.old gone.new
             self.new }
     {
         match self {
-            AnyCache::Bytes(cache) => gone.take_bytes(cache.begin_strictly(key, charge)),
+            AnyCache::Bytes(cache) => gone.take_bytes(cache.begin(key, charge, strict)),
             AnyCache::Words(_) => LruTold::bare(code::OTHER_KEYS),
         }
     }
@@ -236,40 +198,21 @@ impl AnyCache {
         }
     }
 
+    #[inline(always)]
     pub(crate) fn insert_by_bytes(
         &mut self,
         key: &[u8],
         charge: u64,
         value: u64,
+        strict: bool,
         gone: &mut AnyChain,
     ) -> LruTold
-        ensures { InsertsInto self.old key.now charge value result gone.old gone.new self.new }
-    {
-        match self {
-            AnyCache::Bytes(cache) => {
-                let (told, (first, rest)) = cache.insert(key, charge, value);
-                *gone = AnyChain::Bytes(Chain { first, rest });
-                told
-            }
-            AnyCache::Words(_) => LruTold::bare(code::OTHER_KEYS),
-        }
-    }
-
-    pub(crate) fn insert_strictly_by_bytes(
-        &mut self,
-        key: &[u8],
-        charge: u64,
-        value: u64,
-        gone: &mut AnyChain,
-    ) -> LruTold
-        ensures { InsertsStrictlyInto self.old key.now charge value result gone.old gone.new
+        ensures { InsertsIntoBy strict self.old key.now charge value result gone.old gone.new
             self.new }
     {
         match self {
             AnyCache::Bytes(cache) => {
-                let (told, (first, rest)) = cache.insert_strictly(key, charge, value);
-                *gone = AnyChain::Bytes(Chain { first, rest });
-                told
+                gone.take_both_bytes(cache.insert(key, charge, value, strict))
             }
             AnyCache::Words(_) => LruTold::bare(code::OTHER_KEYS),
         }

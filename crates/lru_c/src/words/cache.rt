@@ -7,7 +7,7 @@ ghost use Rattle.lru_c.specs.WordsCalls.{words};
 
 use crate::any_cache::AnyCache;
 use crate::cache::Cache;
-use crate::chain::{AnyChain, Chain};
+use crate::chain::AnyChain;
 use crate::told::{LruPin, LruTold};
 use crate::values::{Evicted, State};
 use crate::words::key::Words;
@@ -19,36 +19,28 @@ pub type WordsCache = Cache<Words, ()>;
 impl Cache<Words, ()> {
     ghost use Rattle.lru_c.specs.Counted.{answered, inserted};
     ghost use Rattle.lru_c.specs.Keys.{words_eq};
-    ghost use Rattle.lru_c.specs.Inserts.{TellsInsert, TellsInsertOf, TellsStrictInsert};
-    ghost use Rattle.lru_c.specs.Told.{bare, Asks, IsSame};
+    ghost use Rattle.lru_c.specs.Inserts.{TellsInsertBy, TellsInsertOf};
+    ghost use Rattle.lru_c.specs.Told.{bare, begin_by, Asks, IsSame};
 
-    pub(crate) fn begin(&mut self, key: &Words, charge: u64) -> (LruTold, Evicted<Words>)
+    pub(crate) fn begin(
+        &mut self,
+        key: &Words,
+        charge: u64,
+        strict: bool,
+    ) -> (LruTold, Evicted<Words>)
         ensures asks { MatchBool (charge == 0)
             ((result.0 ≡ bare codes.no_charge) ×
             IsSame self.old.state.cache result.1 self.new.state.cache)
-            (Asks words_eq self.old.state.cache (ask.begin key.now charge) result.0 result.1
+            (Asks words_eq self.old.state.cache (begin_by strict key.now charge) result.0 result.1
             self.new.state.cache) }
-        ensures counts { self.new.counts ≡ answered result.0 self.old.counts }
-    {
-        let answer = steps::begin(&mut self.state, key, charge);
-        self.counts.answer(answer.0);
-        answer
-    }
-
-    pub(crate) fn begin_strictly(&mut self, key: &Words, charge: u64) -> (LruTold, Evicted<Words>)
-        ensures asks { MatchBool (charge == 0)
-            ((result.0 ≡ bare codes.no_charge) ×
-            IsSame self.old.state.cache result.1 self.new.state.cache)
-            (Asks words_eq self.old.state.cache (ask.begin_strictly key.now charge) result.0
-            result.1 self.new.state.cache) }
         ensures counts { self.new.counts ≡ answered result.0 self.old.counts }
     {
         if charge == 0 {
             return (LruTold::bare(code::NO_CHARGE), Evicted::none());
         }
-        let (begun, gone) = steps::begin_strictly(&mut self.state, key, charge);
-        self.counts.answer(begun);
-        (begun, gone)
+        let answer = steps::begin(&mut self.state, key, charge, strict);
+        self.counts.answer(answer.0);
+        answer
     }
 
     pub(crate) fn get(&mut self, key: &Words) -> LruTold
@@ -82,67 +74,38 @@ impl Cache<Words, ()> {
         key: &Words,
         charge: u64,
         value: u64,
+        strict: bool,
     ) -> (LruTold, (Evicted<Words>, Evicted<Words>))
-        ensures tells { TellsInsertOf (TellsInsert words_eq) (λ k. k ≡ key.now)
+        ensures tells { TellsInsertOf (TellsInsertBy words_eq strict) (λ k. k ≡ key.now)
             self.old.state.cache charge value result.0 result.1.0 result.1.1 self.new.state.cache }
         ensures counts { self.new.counts ≡ inserted result.0 self.old.counts }
     {
         if charge == 0 {
             return steps::refused(code::NO_CHARGE);
         }
-        let answer = steps::insert(&mut self.state, key, charge, value);
+        let answer = steps::insert(&mut self.state, key, charge, value, strict);
         self.counts.answer_insert(answer.0);
         answer
-    }
-
-    pub(crate) fn insert_strictly(
-        &mut self,
-        key: &Words,
-        charge: u64,
-        value: u64,
-    ) -> (LruTold, (Evicted<Words>, Evicted<Words>))
-        ensures tells { TellsInsertOf (TellsStrictInsert words_eq) (λ k. k ≡ key.now)
-            self.old.state.cache charge value result.0 result.1.0 result.1.1 self.new.state.cache }
-        ensures counts { self.new.counts ≡ inserted result.0 self.old.counts }
-    {
-        if charge == 0 {
-            return steps::refused(code::NO_CHARGE);
-        }
-        let (told, gone) = steps::insert_strictly(&mut self.state, key, charge, value);
-        self.counts.answer_insert(told);
-        (told, gone)
     }
 }
 
 impl AnyCache {
-    ghost use Rattle.lru_c.specs.WordsCalls.{AsksAnyByKey, AsksIntoByKey, BeginsInto, ContainsAny, InsertsInto, InsertsStrictlyInto, KeyOfAny};
-    ghost use Rattle.lru_c.specs.Told.{bare};
+    ghost use Rattle.lru_c.specs.WordsCalls.{AsksAnyByKey, AsksIntoByKey, BeginsInto, ContainsAny, InsertsIntoBy, KeyOfAny};
+    ghost use Rattle.lru_c.specs.Told.{bare, begin_by};
 
+    #[inline(always)]
     pub(crate) fn begin_by_words(
         &mut self,
         key: &Words,
         charge: u64,
+        strict: bool,
         gone: &mut AnyChain,
     ) -> LruTold
-        ensures { BeginsInto self.old ask.begin key.now charge result gone.old gone.new self.new }
-    {
-        match self {
-            AnyCache::Words(cache) => gone.take_words(cache.begin(key, charge)),
-            AnyCache::Bytes(_) => LruTold::bare(code::OTHER_KEYS),
-        }
-    }
-
-    pub(crate) fn begin_strictly_by_words(
-        &mut self,
-        key: &Words,
-        charge: u64,
-        gone: &mut AnyChain,
-    ) -> LruTold
-        ensures { BeginsInto self.old ask.begin_strictly key.now charge result gone.old gone.new
+        ensures { BeginsInto self.old (begin_by strict) key.now charge result gone.old gone.new
             self.new }
     {
         match self {
-            AnyCache::Words(cache) => gone.take_words(cache.begin_strictly(key, charge)),
+            AnyCache::Words(cache) => gone.take_words(cache.begin(key, charge, strict)),
             AnyCache::Bytes(_) => LruTold::bare(code::OTHER_KEYS),
         }
     }
@@ -185,40 +148,21 @@ impl AnyCache {
         }
     }
 
+    #[inline(always)]
     pub(crate) fn insert_by_words(
         &mut self,
         key: &Words,
         charge: u64,
         value: u64,
+        strict: bool,
         gone: &mut AnyChain,
     ) -> LruTold
-        ensures { InsertsInto self.old key.now charge value result gone.old gone.new self.new }
-    {
-        match self {
-            AnyCache::Words(cache) => {
-                let (told, (first, rest)) = cache.insert(key, charge, value);
-                *gone = AnyChain::Words(Chain { first, rest });
-                told
-            }
-            AnyCache::Bytes(_) => LruTold::bare(code::OTHER_KEYS),
-        }
-    }
-
-    pub(crate) fn insert_strictly_by_words(
-        &mut self,
-        key: &Words,
-        charge: u64,
-        value: u64,
-        gone: &mut AnyChain,
-    ) -> LruTold
-        ensures { InsertsStrictlyInto self.old key.now charge value result gone.old gone.new
+        ensures { InsertsIntoBy strict self.old key.now charge value result gone.old gone.new
             self.new }
     {
         match self {
             AnyCache::Words(cache) => {
-                let (told, (first, rest)) = cache.insert_strictly(key, charge, value);
-                *gone = AnyChain::Words(Chain { first, rest });
-                told
+                gone.take_both_words(cache.insert(key, charge, value, strict))
             }
             AnyCache::Bytes(_) => LruTold::bare(code::OTHER_KEYS),
         }

@@ -1,7 +1,0 @@
-use Rattle.concurrent_lru.specs.Request as ask
-use Rattle.lru_c.proofs.Asked.{asks_begin}
-use Rattle.lru_c.proofs.steps.begin_charged.Goals as goal
-
-pub returns : goal.returns
-returns g c =
-    asks_begin g.K.PartialEq.eq c.args.state.now.cache c.begin_at.new.self.cache (ask.begin c.args.key.now c.args.charge) c.begin_at.result c.told_of_begin.result.0 c.told_of_begin.result.1 c.told_of_begin.ensures c.begin_at.ensures.step c.begin_at.ensures.lawful
