@@ -443,8 +443,8 @@ lru_code lru_cache_entry(lru_cache *cache, lru_pin pin, lru_entry *out);
  *
  * Does not allocate, and takes time in proportion to the greatest number of entries that there ever
  * were at once. LRU_NUMBER with the number of entries written as the value; LRU_NO_ROOM, with the
- * number that lru_cache_len tells as the value, if there are more entries than `room`: the buffer
- * then has some of them; LRU_CLOSED, and nothing is written. */
+ * number that lru_cache_len tells as the value, if more entries than `room` have a value: the
+ * buffer then has some of them; LRU_CLOSED, and nothing is written. */
 static inline lru_told lru_cache_entries(lru_cache *cache, lru_entry *out, size_t room);
 
 /* --------------------------------------------------------------------------------------- chains */
