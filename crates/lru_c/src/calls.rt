@@ -322,6 +322,10 @@ pub extern "C" fn lru_chain_pop(chain: &mut LruChain, out: &mut LruGone) -> bool
     let Some(chain) = chain.get_mut() else {
         return false;
     };
+    // Most calls evict nothing, so this returns before registers are saved for the rest.
+    if chain.is_filled() == code::DONE {
+        return false;
+    }
     match chain.pop() {
         Some(gone) => {
             *out = gone;

@@ -164,6 +164,7 @@ impl AnyChain {
     }
 
     // Takes out the first entry and returns it, or `None` if none is left.
+    #[inline(never)]
     pub(crate) fn pop(&mut self) -> Option<LruGone>
         ensures { PopsAny self.old result self.new }
     {
