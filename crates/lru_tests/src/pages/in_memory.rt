@@ -82,12 +82,15 @@ fn goes_all<R: Abort, Q: Wait>(rt: &R, pages: &PageCache<'_, Fours<Q>, Q>, steps
     }
 }
 
-// Makes the steps of a table on a cache with room for so many pages. The reader must be asked for
-// exactly these blocks.
-fn asks_for<R: Wait + Abort>(rt: &R, alloc: Global, capacity: u64, steps: &[Step], blocks: &[u64]) {
-    let reader = Fours::new(alloc, rt, 0);
-    let pages = PageCache::new(alloc, rt, &reader, capacity);
-    goes_all(rt, &pages, steps);
+// Makes the steps of a table. The reader of the cache must be asked for exactly these blocks.
+fn asks_for<R: Abort, Q: Wait>(
+    rt: &R,
+    pages: &PageCache<'_, Fours<Q>, Q>,
+    reader: &Fours<Q>,
+    steps: &[Step],
+    blocks: &[u64],
+) {
+    goes_all(rt, pages, steps);
     assert!(rt; reader.was_asked(blocks));
 }
 
@@ -108,7 +111,9 @@ const READ_ONCE: [Step; 12] = [
 
 #[test]
 fn a_block_is_read_once_while_its_page_is_there(rt: HostRuntime) {
-    asks_for(&rt, rt.alloc(), 2, &READ_ONCE, &[1, 2, 3, 2, 9, 3]);
+    let reader = Fours::new(rt.alloc(), &rt, 0);
+    let pages = PageCache::new(rt.alloc(), &rt, &reader, 2);
+    asks_for(&rt, &pages, &reader, &READ_ONCE, &[1, 2, 3, 2, 9, 3]);
 }
 
 #[test]
@@ -166,7 +171,9 @@ const SHOWN: [Step; 12] = [
 
 #[test]
 fn a_page_that_is_there_is_shown_without_a_handle(rt: HostRuntime) {
-    asks_for(&rt, rt.alloc(), 2, &SHOWN, &[1, 2, 3]);
+    let reader = Fours::new(rt.alloc(), &rt, 0);
+    let pages = PageCache::new(rt.alloc(), &rt, &reader, 2);
+    asks_for(&rt, &pages, &reader, &SHOWN, &[1, 2, 3]);
 }
 
 const SET: [Step; 10] = [
@@ -184,7 +191,9 @@ const SET: [Step; 10] = [
 
 #[test]
 fn a_capacity_of_pages_is_set(rt: HostRuntime) {
-    asks_for(&rt, rt.alloc(), 3, &SET, &[1, 2, 3, 2]);
+    let reader = Fours::new(rt.alloc(), &rt, 0);
+    let pages = PageCache::new(rt.alloc(), &rt, &reader, 3);
+    asks_for(&rt, &pages, &reader, &SET, &[1, 2, 3, 2]);
 }
 
 const GROWN: [Step; 9] = [
@@ -202,7 +211,9 @@ const GROWN: [Step; 9] = [
 #[test]
 fn a_capacity_of_pages_grows(rt: HostRuntime) {
     // At the fourth page the second was evicted, the least recently released one.
-    asks_for(&rt, rt.alloc(), 1, &GROWN, &[1, 2, 3, 4, 2]);
+    let reader = Fours::new(rt.alloc(), &rt, 0);
+    let pages = PageCache::new(rt.alloc(), &rt, &reader, 1);
+    asks_for(&rt, &pages, &reader, &GROWN, &[1, 2, 3, 4, 2]);
 }
 
 #[test]
