@@ -5,7 +5,6 @@
 //! nanoseconds each call of a function shows. What is rare (a making, a wait, a growth) is called.
 #![tactic(auto)]
 
-mod asked;
 mod counted;
 pub mod counts;
 mod door;
@@ -26,6 +25,7 @@ pub mod shard_laws;
 pub mod sharded;
 mod shards;
 pub mod share;
+pub mod shown;
 pub mod step;
 pub mod step_laws;
 mod table;

@@ -49,7 +49,7 @@ BytesInto _ _ _ _ t Step = ⊥
 abbrev pub HasBytes : List ℕ → Key → Type 0
 HasBytes bytes key = key.bytes.items ≡ bytes
 
--- A begin, or one that r asks for in its place, with a key of these bytes; it refuses a charge of 0.
+-- A begin, or the request r in its place, with a key of these bytes. It refuses a charge of 0.
 abbrev pub BeginsByKey : Cache Key ℕ → (Key → ℕ → Request Key ℕ) → List ℕ → ℕ → LruTold → Entries → Cache Key ℕ → Type 0
 BeginsByKey old r bytes charge t gone new =
     MatchBool (charge == 0) ((t ≡ bare code.no_charge) × IsSame old gone new) (tells.AsksOf bytes_eq (HasBytes bytes) old (λ key. r key charge) t gone new)

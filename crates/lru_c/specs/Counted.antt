@@ -37,8 +37,8 @@ answered t n =
 abbrev pub inserted : LruTold → Counts → Counts
 inserted t n = cond (t.code == code.done) (one_insertion n) n
 
--- The counts after any call but an insert, with this request and answer. Only a begin, strict or not,
--- a get and a fail change them.
+-- The counts after any call but an insert, with this request and answer. Only a begin, strict or
+-- not, a get and a fail change them.
 abbrev pub counted : {K : Type 0} → Request K ℕ → LruTold → Counts → Counts
 counted (ask.begin k charge) t n = answered t n
 counted (ask.begin_strictly k charge) t n = answered t n

@@ -47,8 +47,8 @@ module _ {K : Type 0} where
     TellsInsertBy strict old k charge v t replaced evicted new =
         MatchBool strict (TellsStrictInsert old k charge v t replaced evicted new) (TellsInsert old k charge v t replaced evicted new)
 
-  -- An insert that Tells describes, by a call that refuses a charge of 0 and first makes a key, from
-  -- bytes for example, of which IsKey holds; if memory for it is refused, nothing changed.
+  -- An insert that Tells describes, by a call that refuses a charge of 0 and first makes a key of
+  -- which IsKey holds, from bytes for example. If memory for the key is refused, nothing changes.
   abbrev pub TellsInsertOf : (Cache K ℕ → K → ℕ → ℕ → LruTold → List (Idle K ℕ) → List (Idle K ℕ) → Cache K ℕ → Type 0) → (K → Type 0) → Cache K ℕ → ℕ → ℕ → LruTold → List (Idle K ℕ) → List (Idle K ℕ) → Cache K ℕ → Type 0
   TellsInsertOf Tells IsKey old charge v t replaced evicted new =
       MatchBool (charge == 0) ((t ≡ bare code.no_charge) × IsUntouched old replaced evicted new)

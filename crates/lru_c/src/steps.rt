@@ -156,8 +156,8 @@ pub(crate) fn invalidate<K: Hash + Eq + Clone>(state: &mut State<K>, key: &K) ->
     (code::DONE, state.invalidate(key))
 }
 
-// Also returns what the new entry replaced, and what its charge evicted. If the insert is strict and
-// the capacity has no room for the charge beside the held entries, inserts nothing.
+// Also returns what the new entry replaced, and what its charge evicted. If the insert is strict
+// and the capacity has no room for the charge beside the held entries, inserts nothing.
 pub(crate) fn insert<K: Hash + Eq + Clone>(
     state: &mut State<K>,
     key: &K,

@@ -4,9 +4,9 @@
 ghost use Rattle.std.specs.Prelude.{◌≡◌};
 
 use crate::shard::Shard;
-use crate::shown::Shown;
 use crate::store::{Pin, Released};
 use concurrent_lru::fit::{Anything, Fit};
+use concurrent_lru::shown::Shown;
 use std::fmt;
 use std::hash::Hash;
 use std::marker::Model;

@@ -16,5 +16,4 @@ mod makings;
 mod sent;
 mod shard;
 mod shard_state;
-mod shown;
 mod store;

@@ -1,4 +1,4 @@
--- A strict begin or insert is granted only within the capacity, and no other request raises the sum.
+-- A strict begin or insert is granted only within the capacity. No other request raises the sum.
 use Rattle.std.proofs.Common.{◌≡◌, ℕ, ◌+◌, ◌≤◌, ◌⊎◌, inl, inr, Bool, false, List, [], length, Result, Ok, Err, sym, ap, ◌∙◌, subst, arith}
 use Rattle.std.specs.Result.{IsErrAnd}
 use Rattle.concurrent_lru.specs.Cache.{Cache, Idle, Held, IsLawful, Settles, HasCapacityFor, LacksCapacityFor, IsWithinCapacity, charges, making, ready, untaken, pinned_of, sum_of}

@@ -4,11 +4,11 @@ ghost use Rattle.std.specs.Prelude.{◌≡◌, IfOk, IfErr};
 ghost use Rattle.std.specs.Arc.{arc_value};
 ghost use Rattle.std.specs.Sync.Mutex.{mutex_guard_value};
 
-use crate::asked::Asked;
 use crate::fit::Fit;
 use crate::locked::Locked;
 use crate::lru_core::{Evicted, Refusal};
 use crate::sealed::Sealed;
+use crate::shown::Shown;
 use crate::table::Spot;
 use std::hash::Hash;
 use std::marker::{Model, PhantomData};
@@ -177,8 +177,8 @@ impl Model for Unread {
 /// which fits that key by the mark `F`.
 pub struct HeldPin<K: Hash + Eq + Clone, V, F: Fit<K, V>> {
     pub(super) spot: Spot,
-    pub(super) asked: Asked<K>,
-    pub(super) charge: Asked<Option<u64>>,
+    pub(super) asked: Shown<K>,
+    pub(super) charge: Shown<Option<u64>>,
     pub(super) value: Arc<V>,
     pub(super) mark: PhantomData<F>,
 }
@@ -212,8 +212,8 @@ impl<K: Hash + Eq + Clone, V, F: Fit<K, V>> HeldPin<K, V, F> {
     {
         HeldPin {
             spot,
-            asked: Asked::of(key),
-            charge: Asked::of(&charge),
+            asked: Shown::of(key),
+            charge: Shown::of(&charge),
             value,
             mark: PhantomData,
         }

@@ -1,4 +1,4 @@
-//! A walk over the entries of a cache that have a value.
+//! The entries of a cache that have a value: a walk over all of them, and each by its stamp.
 ghost use Rattle.std.specs.Prelude.{◌≡◌, None, Some, MatchOption};
 ghost use Rattle.concurrent_lru.specs.NodeTable.{entry_of};
 ghost use Rattle.concurrent_lru.specs.ReadyEntries.{ListsReady, entry_of_ref, ready_at, ready_in, ready_from_node};

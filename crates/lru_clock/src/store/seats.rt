@@ -9,11 +9,11 @@ ghost use Rattle.lru_clock.specs.Seats.{seat as seat_of, HasKeyAt, LacksKey, IsI
 ghost use Rattle.lru_clock.specs.SeatChanges.{IsFree, ListsAt, UnlistsAt};
 
 use crate::index::{Index, Words, word_of};
-use crate::shown::Shown;
 use crate::store::search::{Search, find_key};
 use crate::store::{Left, Taken};
 use concurrent_lru::fit::Fit;
 use concurrent_lru::sealed::Sealed;
+use concurrent_lru::shown::Shown;
 use std::alloc::{AllocError, Global};
 use std::marker::Model;
 use std::sync::Arc;

@@ -7,9 +7,9 @@ ghost use Rattle.std.specs.Prelude.{◌≡◌, ◌<◌, ◌%◌, IfErr, IfOk, If
 ghost use Rattle.counted_slot.specs.Counting.{readers, IsTurn};
 
 use crate::sent::Sent;
-use crate::shown::Shown;
 use concurrent_lru::fit::Fit;
 use concurrent_lru::sharded::Refusal;
+use concurrent_lru::shown::Shown;
 use counted_slot::{Claim, Counted, FREE, Fits, MARKED, ONE_READER, PRESENT, TAKEN};
 use std::marker::{Model, PhantomData};
 

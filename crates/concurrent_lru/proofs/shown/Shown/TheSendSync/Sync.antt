@@ -1,8 +1,8 @@
 -- It owns nothing, so any thread may share it.
 use denote.RattleType.{RattleType}
 use denote.Param.Send.{IsSync, part_keyless}
-use Rattle.concurrent_lru.specs.contracts.asked.Asked.{the_row}
-use Rattle.concurrent_lru.proofs.asked.Asked.TheSendSync.Send.{send}
+use Rattle.concurrent_lru.specs.contracts.shown.Shown.{the_row}
+use Rattle.concurrent_lru.proofs.shown.Shown.TheSendSync.Send.{send}
 
 pub sync : (T : RattleType) → IsSync (the_row T)
 sync T = record { shared = λ d b o κ q. part_keyless (the_row T) (send T) q d b o }

@@ -1,7 +1,7 @@
 -- It owns nothing, so it may go to any thread.
 use denote.RattleType.{RattleType}
 use denote.Param.Send.{IsSend}
-use Rattle.lru_clock.specs.contracts.shown.Shown.{the_row}
+use Rattle.concurrent_lru.specs.contracts.shown.Shown.{the_row}
 
 pub send : (T : RattleType) → IsSend (the_row T)
 send T = record {

@@ -1,5 +1,4 @@
--- `again` makes a value of no bytes, whose ghost field is that of the one it is called on. Assumes
--- `Logic`.
+-- `of` makes a value of no bytes, whose ghost field is what the reference shows. Assumes `Logic`.
 use Rattle.std.proofs.Common.{◌≡◌, List, [], ◌∷◌, ◌++◌, refl, sym, subst}
 use mir.Syntax.{a_type}
 use mir.Val.{Val, vptr, vstruct, vcons, vnil}
@@ -23,18 +22,17 @@ use denote.Steps.{nothing}
 use denote.Triple.Entry.{alive}
 use denote.Triple.Walked.{Stays, stay_dropped, walk_of, Goes-dropped}
 use Rattle.std.proofs.raw_atomic.Walks.{proved_at, leaves}
-use Rattle.concurrent_lru.specs.contracts.asked.Asked.{the_row}
-use Rattle.concurrent_lru.specs.contracts.asked.Asked.again.{ended, clauses}
-use Rattle.concurrent_lru.specs.contracts.asked.Asked.again.Key.{name as #self}
-use Rattle.concurrent_lru.proofs.asked.Asked.again.Statement.{statement}
-use Rattle.concurrent_lru.proofs.asked.Asked.again.Code as code
+use Rattle.concurrent_lru.specs.contracts.shown.Shown.of.{ended, clauses}
+use Rattle.concurrent_lru.specs.contracts.shown.Shown.of.Key.{name as #self}
+use Rattle.concurrent_lru.proofs.shown.Shown.of.Statement.{statement}
+use Rattle.concurrent_lru.proofs.shown.Shown.of.Code as code
 
-pub again_spec : {M : Type 1} → statement M
-again_spec 𝓤 𝓛 𝓜 𝓡 wired Y L =
+pub of_spec : {M : Type 1} → statement M
+of_spec 𝓤 𝓛 𝓜 𝓡 wired Y L =
     let H = 𝓛.H in let 𝓣 = tables 𝓤 H 𝓜 𝓡 𝓡.env in
     let En = ended Y in let c = clauses Y 𝓛 𝓜.mem 𝓡.returns in
     let inst = layouts (a_type ∷ []) (Y, tt) in let fn = inst_fn inst code.function in
-    let self = RefOf (0 ∷ []) tt (plain (λ _. the_row (param 0 Y))) (λ _. tt) in
+    let self = RefOf (0 ∷ []) tt (plain (λ _. param 0 Y)) (λ _. tt) in
     let hs : Stays En.signature.params En.kept = (stay_dropped self yes, tt) in
     proved_at 𝓛 En hs c 𝓜 𝓡 (Goes-dropped 𝓛 2 self yes (λ κs x f. refl), tt)
     (#self inst) fn (code.unfolded 𝓤 H 𝓜 𝓡 wired (Y, tt)) (λ z are.
@@ -43,7 +41,7 @@ again_spec 𝓤 𝓛 𝓜 𝓡 wired Y L =
     let p = z.0.3.0.ref_ptr in let us : List Val = vptr p.0 p.1 ∷ [] in
     let v : Val = vstruct (vcons (vstruct vnil) vnil) in
     let r : denote.Triple.Entry.Res En.signature κs =
-    record { mark = record {}; value = z.0.3.0.now.value } in
+    record { mark = record {}; value = z.0.3.0.now } in
     let O : Fml = (type_at En.signature.result κs).own_val r (v ∷ []) in
     qed 𝓛 ((raw (alive 𝓛 En.signature κs z.0.1)
     ⊛ ‵ (owns (types_at En.signature.params κs) z.0.3 z.0.4))
