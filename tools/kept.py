@@ -19,8 +19,8 @@ from crate_list import TOP
 
 CACHES = pathlib.Path(os.environ.get("XDG_CACHE_HOME") or pathlib.Path.home() / ".cache")
 RECORDS = CACHES / "concurrent_lru"
-# folders that builds make, which git ignores too
-MADE = {"out", "build", "target", "__pycache__"}
+# what builds make, which git ignores too
+MADE = {"out", "build", "target", "__pycache__", "Cargo.lock"}
 
 
 @functools.cache

@@ -127,8 +127,8 @@ enum {
     LRU_CLOSED = 14,    /* the cache or the chain is not open */
     LRU_OPEN = 15,      /* new: the handle is open already */
     LRU_NOT_EMPTY = 16, /* the chain still holds entries: pop them first */
-    LRU_NO_ROOM = 17,   /* key_of, entries: the buffer is too small; what has room is told as the
-                           value */
+    LRU_NO_ROOM = 17,   /* key_of, entries: the buffer is too small; how much room is enough is told
+                           as the value */
     LRU_OTHER_KEYS = 19 /* lru_bytes_* or lru_words_*: the cache has keys of the other kind */
 };
 
@@ -438,8 +438,9 @@ lru_code lru_cache_entry(lru_cache *cache, lru_pin pin, lru_entry *out);
  * written is good only until another call evicts its entry: call `repin` to keep the entry. Room
  * for as many entries as lru_cache_len tells is enough.
  *
- *     for (size_t n = 0; n < told.value; n++)
- *         printf("%llu\n", (unsigned long long)entries[n].charge);
+ *     lru_told told = lru_cache_entries(&cache, entries, room);
+ *     for (size_t n = 0; told.code == LRU_NUMBER && n < told.value; n++)
+ *         sum += entries[n].charge;
  *
  * Does not allocate, and takes time in proportion to the greatest number of entries that there ever
  * were at once. LRU_NUMBER with the number of entries written as the value; LRU_NO_ROOM, with the
@@ -468,7 +469,7 @@ bool lru_chain_pop(lru_chain *chain, lru_gone *out);
 /* Whether no entry is left, or the chain is not open. Does not allocate. */
 bool lru_chain_is_empty(lru_chain *chain);
 
-/* ---------------------------------------------------------- pointers that are never null */
+/* ----------------------------------------------------------------- pointers that are never null */
 
 /* The functions behind the calls above that take a key of bytes or a buffer. The pointer must not
  * be null, even if the length is 0. A binding for a language whose slices are never null may call

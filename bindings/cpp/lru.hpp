@@ -247,9 +247,9 @@ class Cache {
       : Cache(capacity, Limit::kNotStrict, seed) {}
 
   // The same with a limit that may be strict.
-  Cache(std::uint64_t capacity, Limit limit, Seed seed = Seed::random())
-      : is_strict_(limit == Limit::kStrict) {
+  Cache(std::uint64_t capacity, Limit limit, Seed seed = Seed::random()) {
     if (!core_.open(capacity, seed)) throw OutOfMemory();
+    core_.set_strict_limit(limit == Limit::kStrict);
   }
 
   // Deletes all values. There must be no handle left, as it would dangle; this is asserted. The
@@ -322,8 +322,7 @@ class Cache {
     auto node = std::make_unique<Node>(std::forward<V>(value));
     Evicted evicted;
     std::unique_lock<std::mutex> lock(mutex_);
-    const lru_told told = is_strict_ ? core_.insert_strictly(key, charge, node.get(), &evicted)
-                                     : core_.insert(key, charge, node.get(), &evicted);
+    const lru_told told = core_.insert(key, charge, node.get(), &evicted);
     lock.unlock();
     if (told.code != LRU_DONE) detail::throw_refusal(told.code);
     return Handle(this, told.pin, std::addressof(node.release()->value));
@@ -447,13 +446,13 @@ class Cache {
   // the capacity stay, and until enough of them are released, no value is inserted.
   void set_strict_limit(bool is_strict) {
     const std::lock_guard<std::mutex> lock(mutex_);
-    is_strict_ = is_strict;
+    core_.set_strict_limit(is_strict);
   }
 
   // Whether the capacity is a strict limit.
   bool is_limit_strict() const {
     const std::lock_guard<std::mutex> lock(mutex_);
-    return is_strict_;
+    return core_.is_limit_strict();
   }
 
  private:
@@ -494,8 +493,7 @@ class Cache {
   lru_told begin(Key key, std::uint64_t charge) {
     Evicted evicted;
     std::unique_lock<std::mutex> lock(mutex_);
-    lru_told told = is_strict_ ? core_.begin_strictly(key, charge, &evicted)
-                               : core_.begin(key, charge, &evicted);
+    lru_told told = core_.begin(key, charge, &evicted);
     while (told.code == LRU_WAIT) {
       ended_.wait(lock);
       told = core_.poll(told.pin);
@@ -548,7 +546,6 @@ class Cache {
   mutable std::mutex mutex_;
   std::condition_variable ended_;  // notified when a caller has made a value, or has failed
   detail::Core<Node, Key> core_;
-  bool is_strict_;
 };
 
 // A good number of shards for a cache with this capacity whose values have about this charge: the

@@ -184,13 +184,14 @@ class Core {
            Calls::make(capacity, seed.number, &cache_) == LRU_DONE;
   }
 
+  // Whether the capacity is a strict limit, which at first it is not. If it is, begin and insert do
+  // what begin_strictly and insert_strictly of lru.h do.
+  void set_strict_limit(bool is_strict) noexcept { is_strict_ = is_strict; }
+  bool is_limit_strict() const noexcept { return is_strict_; }
+
   lru_told begin(Key key, std::uint64_t charge, Evicted<Node>* evicted) noexcept {
-    const lru_told told = Calls::begin(&cache_, key, charge, &chain_);
-    if (told.code == LRU_MAKE) take_evicted(evicted);
-    return told;
-  }
-  lru_told begin_strictly(Key key, std::uint64_t charge, Evicted<Node>* evicted) noexcept {
-    const lru_told told = Calls::begin_strictly(&cache_, key, charge, &chain_);
+    const auto call = is_strict_ ? Calls::begin_strictly : Calls::begin;
+    const lru_told told = call(&cache_, key, charge, &chain_);
     if (told.code == LRU_MAKE) take_evicted(evicted);
     return told;
   }
@@ -225,14 +226,8 @@ class Core {
   }
   // After LRU_DONE the node is the core's; else it is still the caller's.
   lru_told insert(Key key, std::uint64_t charge, Node* node, Evicted<Node>* evicted) noexcept {
-    const lru_told told = Calls::insert(&cache_, key, charge, word_of(node), &chain_);
-    take_evicted(evicted);
-    return told;
-  }
-  // After LRU_DONE the node is the core's; else it is still the caller's.
-  lru_told insert_strictly(Key key, std::uint64_t charge, Node* node,
-                           Evicted<Node>* evicted) noexcept {
-    const lru_told told = Calls::insert_strictly(&cache_, key, charge, word_of(node), &chain_);
+    const auto call = is_strict_ ? Calls::insert_strictly : Calls::insert;
+    const lru_told told = call(&cache_, key, charge, word_of(node), &chain_);
     take_evicted(evicted);
     return told;
   }
@@ -291,6 +286,7 @@ class Core {
   // Mutable because the calls that only look take a pointer that is not const.
   mutable lru_cache cache_ = {};
   lru_chain chain_ = {};
+  bool is_strict_ = false;
 };
 
 }  // namespace detail

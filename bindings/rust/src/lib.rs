@@ -20,8 +20,9 @@
 //! - A number of shards is a [`NonZeroUsize`](std::num::NonZeroUsize), and a small capacity is
 //!   divided among fewer than 16 shards ([`sharded::shards_for`]).
 //! - It has more calls: `insert`, `invalidate`, `read`, `contains`, `len`, `pinned_charge`,
-//!   `capacity`, `set_capacity`, `set_strict_limit`, `is_limit_strict`, `stats`, and those that return an [`unsharded::OwnedHandle`], a
-//!   handle that keeps its cache alive. Handles have `try_clone` and `release_and_evict`.
+//!   `capacity`, `set_capacity`, `set_strict_limit`, `is_limit_strict`, `for_each`, `stats`, and
+//!   those that return an [`unsharded::OwnedHandle`], a handle that keeps its cache alive. Handles
+//!   have `try_clone` and `release_and_evict`.
 //!
 //! # Examples
 //!
