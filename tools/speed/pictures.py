@@ -61,14 +61,12 @@ VARIANTS = ("read", "reserved")
 
 # The labels of the parts of a system's name. A number in a name is a number of shards.
 CALLED = {
-    "std-map": "std's map",
     "port": "this cache",
     "orig": "original",
     "leveldb": "LevelDB",
     "rocksdb": "RocksDB",
     "tbb": "oneTBB",
     "caffeine": "Caffeine",
-    "parts": "this cache's parts",
     "unsharded": "one lock",
     "sharded": "16 shards",
     "port-clock": "lru_clock",

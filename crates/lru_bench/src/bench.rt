@@ -66,16 +66,10 @@ impl<
         }
     }
 
-    // The hits and misses of one thread, with those of a map and of the parts.
+    // The hits and misses of one thread.
     fn run_alone(&mut self, plan: &Plan) -> Result<(), Failure> {
         for entries in &plan.entries {
             let size = Size::new(plan, *entries, 1);
-            if plan.wants(Workload::HitGet) {
-                self.use_map(&size)?;
-            }
-            if plan.wants(Workload::HitGet) || size.has_misses() {
-                self.use_parts(&size)?;
-            }
             if size.has_hits() || size.has_misses() {
                 self.use_one_lock(&size)?;
             }
@@ -105,7 +99,6 @@ impl<
     fn run_stress(&mut self, calls: u32) -> Result<(), Failure> {
         for workers in [1, 2, 4, 8] {
             let load = Load { workers, calls };
-            self.stress_parts(load)?;
             self.stress_caches(load)?;
             self.stress_clock(load)?;
         }

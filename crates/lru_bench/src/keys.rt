@@ -1,7 +1,4 @@
-//! The keys that a workload asks for, drawn uniformly, and those that are evicted from the parts
-//! for absent ones.
-//!
-//! Generating both costs next to nothing compared with what is timed.
+//! The keys that a workload asks for. Drawing them costs next to nothing compared with what is timed.
 ghost use Rattle.std.specs.Prelude.{◌<◌};
 
 use std::num::NonZeroU64;
@@ -68,59 +65,3 @@ impl Source for Ascending {
 
 /// The first key that no cache is filled with.
 pub const FIRST_ABSENT: u64 = 10_000_000;
-
-// A prime, so that its multiples reach each place once before they return to 0.
-const STRIDE: u64 = 618_970_019;
-
-/// The keys that are evicted for absent ones, which come in ascending order: first those from 0 up
-/// to the number of entries, and then, round after round, those that came in the round before. In a
-/// round each is evicted once, in an order that looks random.
-#[derive(Drop)]
-pub struct Leaving {
-    entries: u64,
-    stride: u64,
-    // The least key of the round, and the distance of the next one from it.
-    first: u64,
-    place: u64,
-}
-
-impl Leaving {
-    /// Creates the keys for this many entries.
-    pub fn of(entries: NonZeroU64) -> Leaving {
-        Leaving {
-            entries: entries.get(),
-            stride: STRIDE % entries,
-            first: 0,
-            place: 0,
-        }
-    }
-
-    /// Returns the next key.
-    pub fn draw(&mut self) -> u64 {
-        let key = self.first.wrapping_add(self.place);
-        self.place = self.next_place();
-        if self.place == 0 {
-            self.first = self.next_first();
-        }
-        key
-    }
-
-    // One stride on, modulo the number of entries.
-    fn next_place(&self) -> u64 {
-        let room = self.entries.wrapping_sub(self.place);
-        if self.stride < room {
-            self.place.wrapping_add(self.stride)
-        } else {
-            self.stride.wrapping_sub(room)
-        }
-    }
-
-    // Returns the least key of the next round.
-    fn next_first(&self) -> u64 {
-        if self.first < FIRST_ABSENT {
-            FIRST_ABSENT
-        } else {
-            self.first.wrapping_add(self.entries)
-        }
-    }
-}

@@ -12,7 +12,6 @@ mod hits;
 mod keys;
 mod mostly;
 mod operation;
-mod parts;
 mod plan;
 mod program;
 mod quotient;
@@ -22,7 +21,6 @@ mod single;
 mod size;
 mod stress;
 mod system;
-mod uses;
 mod workers;
 mod workload;
 

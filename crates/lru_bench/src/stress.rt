@@ -1,14 +1,11 @@
-//! The stress workload on caches whose values are their keys, and on the parts of the cache, where
-//! each key is present.
-ghost use Rattle.std.specs.Prelude.{◌<◌};
+//! The stress workload on caches whose values are their keys.
 
 use crate::bench::Bench;
 use crate::failure::Failure;
-use crate::parts::{Parts, PartsInShards};
 use crate::report::Work;
 use crate::system::{SHARDS, System};
 use crate::workload::Workload;
-use lru_stress::plan::{KEYS, Plan};
+use lru_stress::plan::Plan;
 use lru_stress::workers::{Answer, StressTarget, Unmade, share};
 use lru_support::cached::Cached;
 use lru_support::calls::WorkerCall;
@@ -83,16 +80,6 @@ impl<
     O: Write,
     E: Write,
 > Bench<'_, R, W, O, E> {
-    /// The parts under one lock, and in shards.
-    pub fn stress_parts(&mut self, load: Load) -> Result<(), Failure> {
-        let parts = Parts::with_keys(self.alloc, self.wait.clone()?, KEYS)?;
-        let work = load.work(System::Parts, LOCK_CAPACITY);
-        self.stress(&parts, load, &work)?;
-        let parts = PartsInShards::with_keys(self.alloc, &self.wait, KEYS)?;
-        let work = load.work(System::PartsInShards, SHARDS_CAPACITY);
-        self.stress(&parts, load, &work)
-    }
-
     /// A cache of one lock, and one in shards.
     pub fn stress_caches(&mut self, load: Load) -> Result<(), Failure> {
         let cache = self.on_one_lock(LOCK_CAPACITY)?;

@@ -14,12 +14,6 @@ pub const MOST_SHARDS: usize = 256;
 /// What the operations of a workload are asked of.
 #[derive(Clone, Copy)]
 pub enum System {
-    /// A map of std's, with no lock.
-    Map,
-    /// The parts of the cache under one lock, with no rule of a cache.
-    Parts,
-    /// The parts in 16 shards.
-    PartsInShards,
     /// The cache of one lock.
     OneLock,
     /// The cache of one lock, which has reserved room for twice its entries.
@@ -38,9 +32,6 @@ pub enum System {
 impl fmt::Display for System {
     fn fmt<W: fmt::Write>(&self, f: &mut fmt::Formatter<W>) -> fmt::Result {
         match self {
-            System::Map => f.write_str("std-map"),
-            System::Parts => f.write_str("parts-unsharded"),
-            System::PartsInShards => f.write_str("parts-sharded"),
             System::OneLock => f.write_str("port-unsharded"),
             System::Reserved => f.write_str("port-unsharded-reserved"),
             System::Shards(SHARDS) => f.write_str("port-sharded"),
