@@ -35,34 +35,36 @@ pub enum Phase<V> {
 }
 
 /// An entry of the cache as it is laid out in memory.
-// What a hit reads and writes is adjacent, from the charge on, so that it touches as few cache
-// lines as possible.
+// What a hit reads and writes is adjacent, and of its neighbours in the idle order it writes a link
+// and the mark beside it, so that it touches as few cache lines as possible.
 #[derive(Drop)]
 pub struct Node<K, V> {
-    /// The next node of a chain of evicted ones; `None` while the node is in a `Nodes`.
-    pub next: Option<Box<Node<K, V>>>,
-    /// The hash of the key, under which the entry is found while it is not detached.
-    pub hash: u64,
     /// What the entry adds to the total.
     pub charge: u64,
-    /// The number that identifies the entry; no two entries of a cache ever share one.
-    pub stamp: u64,
     /// A copy of the key that the entry was inserted for.
     pub key: K,
-    /// How many handles hold the entry.
-    pub pins: u32,
-    /// Whether the entry is found by its stamp only, and no longer by its key.
-    pub detached: bool,
+    /// The state of its value.
+    pub phase: Phase<V>,
+    // The node after it in the idle order.
+    after: *mut Node<K, V>,
     // Whether there is a node before it in the idle order, and one after it. The two links without
     // these marks lead nowhere. An `Option` of a pointer would take 16 bytes.
     has_before: bool,
     has_after: bool,
-    /// The state of its value.
-    pub phase: Phase<V>,
-    // The nodes before and after it in the idle order, and its own slot.
+    /// Whether the entry is found by its stamp only, and no longer by its key.
+    pub detached: bool,
+    /// How many handles hold the entry.
+    pub pins: u32,
+    // The node before it in the idle order.
     before: *mut Node<K, V>,
-    after: *mut Node<K, V>,
+    /// The number that identifies the entry; no two entries of a cache ever share one.
+    pub stamp: u64,
+    // Its own slot.
     slot: usize,
+    /// The hash of the key, under which the entry is found while it is not detached.
+    pub hash: u64,
+    /// The next node of a chain of evicted ones; `None` while the node is in a `Nodes`.
+    pub next: Option<Box<Node<K, V>>>,
 }
 
 // A node owns its key and shares its value, as an `Arc` does; its links give no access to others.
@@ -78,19 +80,19 @@ impl<K, V> Node<K, V> {
         ensures alone { chain_of result ≡ [] }
     {
         Node {
-            next: None,
-            hash,
             charge,
-            stamp,
             key,
-            pins: 1,
-            detached: false,
+            phase: Phase::Making,
+            after: ptr::null_mut(),
             has_before: false,
             has_after: false,
-            phase: Phase::Making,
+            detached: false,
+            pins: 1,
             before: ptr::null_mut(),
-            after: ptr::null_mut(),
+            stamp,
             slot: 0,
+            hash,
+            next: None,
         }
     }
 }
