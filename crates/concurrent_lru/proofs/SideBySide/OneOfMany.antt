@@ -1,8 +1,10 @@
 -- One cache of many is changed, and a run at many caches goes on by one step.
-use Rattle.std.proofs.Common.{◌≡◌, ◌≢◌, ℕ, ◌<◌, ◌==◌, Bool, true, false, List, [], ◌∷◌, ◌++◌, map, length, slice_index_or, slice_set, replicate, if◌then◌else◌, refl, sym, ap, ◌∙◌, subst, arith, append-nil}
+use Rattle.std.proofs.Common.{◌≡◌, ◌≢◌, ℕ, ◌+◌, ◌<◌, ◌==◌, Bool, true, false, List, [], ◌∷◌, ◌++◌, map, length, take, slice_index_or, slice_set, replicate, if◌then◌else◌, refl, sym, ap, ◌∙◌, subst, arith, append-nil}
+use Rattle.std.specs.Prelude.{sum_by}
 use Rattle.std.specs.List.{All, AllByRecursion, AllZip}
 use Rattle.std.proofs.lemmas.List.{map_push, map-set, get_or-map, get_or-set_same, get_or-set_other, length-map, length-set, length-replicate, same_lists}
 use Rattle.std.proofs.lemmas.List.Elements.{All-set, All-replicate}
+use Rattle.std.proofs.lemmas.List.Sums.{sum_by_more}
 use Rattle.std.proofs.lemmas.Bool.{true≢false, eq-eqb, ne_eqb, eqb-true}
 use Rattle.concurrent_lru.specs.Cache.{Cache, IsLawful, empty_cache}
 use Rattle.concurrent_lru.specs.Counted.{Counted, caches_in}
@@ -53,10 +55,10 @@ module _ {K V : Type 0} (E : K → K → Bool) where
 
 module _ {K V S : Type 0} (E : K → K → Bool) where
   -- where the cache at i takes a step, all of them take it at the shard i
-  pub stands-set : (old : Sharded K V S) (hasher : S) (cs : List (Counted K V)) (i : ℕ) (was new : Counted K V) (r : Request K V) (o : Outcome K V)
+  pub stands-set : {old : Sharded K V S} {hasher : S} (cs : List (Counted K V)) {i : ℕ} {was : Counted K V} (new : Counted K V) {r : Request K V} {o : Outcome K V}
       → record { hasher = hasher; caches = caches_in cs } ≡ old → i < length cs → was ≡ slice_index_or cs i was → Stands E was.cache r o new.cache
       → StandsAt E old i r o (record { hasher = hasher; caches = caches_in (slice_set cs i new) })
-  stands-set old hasher cs i was new r o is within at step =
+  stands-set {hasher} cs {i} {was} new {r} {o} is within at step =
       let here : i < length (caches_in cs) = subst (λ n. i < n) (sym (length-map cs (λ c. c.cache))) within in
       let stands : StandsAt E (record { hasher = hasher; caches = caches_in cs }) i r o (record { hasher = hasher; caches = slice_set (caches_in cs) i new.cache }) = record {
         hasher = refl;
@@ -68,14 +70,19 @@ module _ {K V S : Type 0} (E : K → K → Bool) where
       subst (λ s. StandsAt E s i r o (record { hasher = hasher; caches = caches_in (slice_set cs i new) })) is
       (subst (λ ds. StandsAt E (record { hasher = hasher; caches = caches_in cs }) i r o (record { hasher = hasher; caches = ds })) (sym (map-set (λ c. c.cache) cs i new)) stands)
 
-  -- the same where the shard is found among those that are seen
-  pub stands-set-at : (old : Sharded K V S) (hasher : S) (cs : List (Counted K V)) (i j : ℕ) (was new : Counted K V) (r : Request K V) (o : Outcome K V)
-      → record { hasher = hasher; caches = caches_in cs } ≡ old → i ≡ j → i < length old.caches → was ≡ slice_index_or cs i was → Stands E was.cache r o new.cache
-      → StandsAt E old j r o (record { hasher = hasher; caches = caches_in (slice_set cs i new) })
-  stands-set-at old hasher cs i j was new r o is same within at step =
+  -- the same where the shard is found among those that are seen, and what is told is the outcome
+  pub stands-set-at : {old : Sharded K V S} {hasher : S} (cs : List (Counted K V)) {i j : ℕ} {was : Counted K V} (new : Counted K V) {r : Request K V} {o told : Outcome K V}
+      → record { hasher = hasher; caches = caches_in cs } ≡ old → i ≡ j → i < length old.caches → was ≡ slice_index_or cs i was → Stands E was.cache r o new.cache → told ≡ o
+      → StandsAt E old j r told (record { hasher = hasher; caches = caches_in (slice_set cs i new) })
+  stands-set-at {old} {hasher} cs {i} new {r} is same within at step told =
       let as_many : length cs ≡ length old.caches = sym (length-map cs (λ c. c.cache)) ∙ ap (λ s. length s.caches) is in
-      subst (λ k. StandsAt E old k r o (record { hasher = hasher; caches = caches_in (slice_set cs i new) })) same
-      (stands-set old hasher cs i was new r o is (subst (λ n. i < n) (sym as_many) within) at step)
+      rw (told, sym same) (stands-set cs new is (subst (λ n. i < n) (sym as_many) within) at step)
+
+  -- where the cache at i takes a step and stays lawful, all of them take it there and stay lawful
+  pub stands-lawful : {old : Sharded K V S} {hasher : S} (cs : List (Counted K V)) {i : ℕ} {was : Counted K V} (new : Counted K V) {r : Request K V} {o : Outcome K V}
+      → record { hasher = hasher; caches = caches_in cs } ≡ old → i < length cs → was ≡ slice_index_or cs i was → (0 < length cs) × All (IsLawful E) (caches_in cs) → Stands E was.cache r o new.cache → IsLawful E new.cache
+      → record { step : StandsAt E old i r o (record { hasher = hasher; caches = caches_in (slice_set cs i new) }); lawful : All (IsLawful E) (caches_in (slice_set cs i new)) }
+  stands-lawful cs {i} new is within at lawful step stays = record { step = stands-set cs new is within at step; lawful = (lawful-set E cs i new lawful stays).1 }
 
   pub apart-nothing : (old : Sharded K V S) → RunsApart E old [] [] old
   apart-nothing old = record { hasher = refl; count = refl; shards = refl; apart = λ i d lt. refl; strangers = _ }
@@ -115,3 +122,11 @@ module _ {K V S : Type 0} where
   cache-at old hasher cs i j was is same within at d =
       let inside : i < length cs = subst (λ n. i < n) (sym (sym (length-map cs (λ c. c.cache)) ∙ ap (λ s. length s.caches) is)) within in
       sym (ap (λ s. slice_index_or s.caches j d) is) ∙ ap (λ k. slice_index_or (caches_in cs) k d) (sym same) ∙ get_or-map (λ c. c.cache) cs i was d inside ∙ ap (λ c. c.cache) (sym at)
+
+  -- the first i + 1 caches have what the first i have, and what the next one has
+  pub sum-more : (f : Cache K V → ℕ) {old : Sharded K V S} {hasher : S} (cs : List (Counted K V)) {items : List (Counted K V)} (i : ℕ) {own : Counted K V}
+      → record { hasher = hasher; caches = caches_in cs } ≡ old → items ≡ cs → i < length items → own ≡ slice_index_or items i own → sum_by f (take (i + 1) old.caches) ≡ sum_by f (take i old.caches) + f own.cache
+  sum-more f {old} {hasher} cs i {own} is same within at =
+      let inside : i < length old.caches = subst (λ n. i < n) (ap length same ∙ sym (length-map cs (λ c. c.cache)) ∙ ap (λ s. length s.caches) is) within in
+      let here = cache-at old hasher cs i i own is refl inside (at ∙ ap (λ xs. slice_index_or xs i own) same) own.cache in
+      sum_by_more f old.caches i own.cache inside ∙ ap (λ c. sum_by f (take i old.caches) + f c) here

@@ -1,25 +1,16 @@
-use Rattle.std.proofs.Common.{rules, ◌≡◌, Err}
+use Rattle.std.proofs.Common.{rules, refl, Err}
 use Rattle.concurrent_lru.specs.Results.{outcome_of_begin}
-use Rattle.concurrent_lru.specs.ShardSteps.{outcome_of_shard_begin}
 use Rattle.concurrent_lru.proofs.SideBySide.OneOfMany.{lawful-set, stands-set-at}
 use Rattle.concurrent_lru.proofs.shards.Shards.begin.Goals as goal
 
 pub invariant_of-self : goal.invariant_of-self
-invariant_of-self g c = lawful-set g.K.PartialEq.eq c.self.inside.shards.items c.route-shard.result c.begin.new.self c.self.invariant c.begin.ensures.lawful
+invariant_of-self g c = lawful-set _ _ _ _ c.self.invariant c.begin.ensures.lawful
 
 pub invariant_of-self-2 : goal.invariant_of-self-2
-invariant_of-self-2 g c = lawful-set g.K.PartialEq.eq c.self.inside.shards.items c.route-shard.result c.begin.new.self c.self.invariant c.begin.ensures.lawful
+invariant_of-self-2 g c = lawful-set _ _ _ _ c.self.invariant c.begin.ensures.lawful
 
-pub returns-clause-lawful : goal.returns-clause-lawful
-returns-clause-lawful g c = (lawful-set g.K.PartialEq.eq c.self.inside.shards.items c.route-shard.result c.begin.new.self c.self.invariant c.begin.ensures.lawful).1
+pub returns : goal.returns
+returns g c = record { shard = search rules; lawful = (lawful-set _ _ _ _ c.self.invariant c.begin.ensures.lawful).1; step = stands-set-at _ _ _ c.self.view_is c.route-shard.ensures.route c.route-shard.ensures.within c.index_mut.ensures.value c.in_ok-begun.ensures.step refl }
 
-pub returns-in_err-begun-clause-lawful : goal.returns-in_err-begun-clause-lawful
-returns-in_err-begun-clause-lawful g c = (lawful-set g.K.PartialEq.eq c.self.inside.shards.items c.route-shard.result c.begin.new.self c.self.invariant c.begin.ensures.lawful).1
-
-pub returns-clause-step : goal.returns-clause-step
-returns-clause-step g c = stands-set-at g.K.PartialEq.eq _ _ c.self.inside.shards.items c.route-shard.result _ c.index_mut.result.now c.begin.new.self _ _ c.self.view_is c.route-shard.ensures.route c.route-shard.ensures.within c.index_mut.ensures.value c.in_ok-begun.ensures.step
-
-pub returns-in_err-begun-clause-step : goal.returns-in_err-begun-clause-step
-returns-in_err-begun-clause-step g c =
-    let told : outcome_of_shard_begin c.from_residual.result ≡ outcome_of_begin (Err c.in_err-begun.field-0.0) = search rules in
-    rw told (stands-set-at g.K.PartialEq.eq _ _ c.self.inside.shards.items c.route-shard.result _ c.index_mut.result.now c.begin.new.self _ _ c.self.view_is c.route-shard.ensures.route c.route-shard.ensures.within c.index_mut.ensures.value c.in_err-begun.ensures.step)
+pub returns-in_err-begun : goal.returns-in_err-begun
+returns-in_err-begun g c = record { shard = search rules; lawful = (lawful-set _ _ _ _ c.self.invariant c.begin.ensures.lawful).1; step = stands-set-at _ _ _ {o = outcome_of_begin (Err c.in_err-begun.field-0.0)} c.self.view_is c.route-shard.ensures.route c.route-shard.ensures.within c.index_mut.ensures.value c.in_err-begun.ensures.step (search rules) }

@@ -9,10 +9,10 @@ read-requires g c = record {
 }
 
 pub invariant_of-self : goal.invariant_of-self
-invariant_of-self g c = lawful-set g.K.PartialEq.eq c.self.inside.shards.items c.route-shard.result c.read.new.self c.self.invariant c.read.ensures.lawful
+invariant_of-self g c = lawful-set _ _ _ _ c.self.invariant c.read.ensures.lawful
 
 pub returns-clause-lawful : goal.returns-clause-lawful
-returns-clause-lawful g c = (lawful-set g.K.PartialEq.eq c.self.inside.shards.items c.route-shard.result c.read.new.self c.self.invariant c.read.ensures.lawful).1
+returns-clause-lawful g c = (lawful-set _ _ _ _ c.self.invariant c.read.ensures.lawful).1
 
 pub returns-clause-step : goal.returns-clause-step
 returns-clause-step g c = reads_at g.K.PartialEq.eq _ _ c.self.inside.shards.items c.route-shard.result _ c.index_mut.result.now c.self.view_is c.route-shard.ensures.route c.route-shard.ensures.within c.index_mut.ensures.value c.read.new.self c.args.key.now (FnOnceReturnsAt g.G.FnOnce c.args.reader) c.read.result c.read.ensures.step

@@ -5,10 +5,10 @@ use Rattle.concurrent_lru.proofs.SideBySide.OneOfMany.{lawful-set, stands-set}
 use Rattle.concurrent_lru.proofs.shards.Shards.step.Goals as goal
 
 pub invariant_of-self-2 : goal.invariant_of-self-2
-invariant_of-self-2 g c = lawful-set g.K.PartialEq.eq c.self.inside.shards.items c.address-shard.result.0 c.step.new.self c.self.invariant c.step.ensures.lawful
+invariant_of-self-2 g c = lawful-set _ _ _ _ c.self.invariant c.step.ensures.lawful
 
 pub returns-clause-lawful : goal.returns-clause-lawful
-returns-clause-lawful g c = (lawful-set g.K.PartialEq.eq c.self.inside.shards.items c.address-shard.result.0 c.step.new.self c.self.invariant c.step.ensures.lawful).1
+returns-clause-lawful g c = (lawful-set _ _ _ _ c.self.invariant c.step.ensures.lawful).1
 
 pub returns-clause-kind : goal.returns-clause-kind
 returns-clause-kind g c = inl (subst (λ s. IsAnswerTo s c.step.result) c.address-shard.ensures.step c.step.ensures.kind)
@@ -16,4 +16,4 @@ returns-clause-kind g c = inl (subst (λ s. IsAnswerTo s c.step.result) c.addres
 pub returns-clause-step : goal.returns-clause-step
 returns-clause-step g c =
     let step = subst (λ s. Stands g.K.PartialEq.eq c.in-Some.cache.now.cache (request_of s) (outcome_of c.step.result) c.step.new.self.cache) c.address-shard.ensures.step c.step.ensures.step in
-    stands-set g.K.PartialEq.eq _ _ c.self.inside.shards.items c.address-shard.result.0 c.in-Some.cache.now c.step.new.self _ _ c.self.view_is c.in-Some.ensures.item.3.0 c.in-Some.ensures.item.1 step
+    stands-set _ _ _ c.self.view_is c.in-Some.ensures.item.3.0 c.in-Some.ensures.item.1 step
