@@ -3,3 +3,4 @@ pub mod NodeWrites
 pub mod PointersTied
 pub mod Listings
 pub mod SlotViews
+pub mod ShownChanges

@@ -8,7 +8,7 @@ use Rattle.concurrent_lru.specs.Inserts.{Replaces}
 use Rattle.concurrent_lru.specs.declared.counts.Counts.{Counts}
 use Rattle.concurrent_lru.specs.declared.step.Begun.TheVariants as begun
 use Rattle.concurrent_lru.proofs.AddedUp.SizesOfSteps.{Resizes, made_size, phase_size, same_size}
-use Rattle.concurrent_lru.proofs.AddedUp.CountsOfSteps.{Owes, invalidate_evicts, owed_for_new, with_others}
+use Rattle.concurrent_lru.proofs.AddedUp.CountsOfSteps.{Owes, invalidate_evicts, left_evicted, owed_for_new, with_others}
 use Rattle.concurrent_lru.proofs.Steps.InsertOfKey.{begun_new, invalidated_absent}
 use Rattle.concurrent_lru.proofs.Steps.ValuesInserted.{invalidated_lawful}
 
@@ -74,15 +74,14 @@ module _ {K V : Type 0} where
       }
 
   -- how the code tells what was replaced and evicted, from what is left
-  pub told_replaced : (c : Cache K V) (n : Counts) (charge : ℕ) (gone out : List (Idle K V)) (entries total : ℕ) → Owes c (inserted charge n) (length gone + length out) (charges gone + charges out) → entries ≡ count_of c → total ≡ sum_of c
-      → record (inserted charge n) { evictions = n.entries_before + (n.insertions + 1) - n.removals - entries; evicted_charge = n.charge_before + (n.inserted_charge + charge) - n.removed_charge - total } ≡ replaced gone out charge n
-  told_replaced c n charge gone out entries total o is_count is_sum =
+  pub told_replaced : {c : Cache K V} {m after : Counts} {entries total : ℕ} (n : Counts) (charge : ℕ) (gone out : List (Idle K V)) → Owes c (inserted charge n) (length gone + length out) (charges gone + charges out) → m ≡ inserted charge n → after ≡ left_evicted m entries total → entries ≡ count_of c → total ≡ sum_of c
+      → after ≡ replaced gone out charge n
+  told_replaced {c} {entries} {total} n charge gone out o same told is_count is_sum =
       let e : count_of c + (length gone + length out) + n.evictions + n.removals ≡ n.entries_before + (n.insertions + 1) = o.entries in
       let f : sum_of c + (charges gone + charges out) + n.evicted_charge + n.removed_charge ≡ n.charge_before + (n.inserted_charge + charge) = o.charge in
       let a : n.entries_before + (n.insertions + 1) - n.removals - entries ≡ n.evictions + length gone + length out = omega (arith, e, is_count) in
       let b : n.charge_before + (n.inserted_charge + charge) - n.removed_charge - total ≡ n.evicted_charge + charges gone + charges out = omega (arith, f, is_sum) in
-      ap (λ (x : ℕ). record (inserted charge n) { evictions = x; evicted_charge = n.charge_before + (n.inserted_charge + charge) - n.removed_charge - total }) a
-      ∙ ap (λ (y : ℕ). record (inserted charge n) { evictions = n.evictions + length gone + length out; evicted_charge = y }) b
+      told ∙ ap (λ x. left_evicted x entries total) same ∙ (λ j. record (inserted charge n) { evictions = a j; evicted_charge = b j })
 
   pub replaced_adds_up : (c : Cache K V) (n : Counts) (charge : ℕ) (gone out : List (Idle K V)) → Owes c (inserted charge n) (length gone + length out) (charges gone + charges out) → AddUp c (replaced gone out charge n)
   replaced_adds_up c n charge gone out o =

@@ -13,7 +13,7 @@ use Rattle.concurrent_lru.specs.Ready.{HasEqualKeyAt}
 use Rattle.concurrent_lru.specs.declared.step.Begun.{Begun}
 use Rattle.concurrent_lru.specs.declared.step.Begun.TheVariants as begun
 use Rattle.concurrent_lru.specs.Cache.{Cache, Idle, Held, Settles, IsLawful, charges, count_of, sum_of, empty_cache, most_pins_by_default, ready, making, untaken}
-use Rattle.concurrent_lru.specs.CountedCalls.{AddUp, IsSoundlyCounted, counted, counted_begin, counted_look, counted_poll, counted_repin, evicted, held_charge, is_insertion}
+use Rattle.concurrent_lru.specs.CountedCalls.{AddUp, CountedCache, IsSoundlyCounted, counted, counted_begin, counted_look, counted_poll, counted_repin, evicted, held_charge, is_insertion}
 use Rattle.concurrent_lru.specs.Counts.{counts_from, end_of_u64, inserted, one_failure, one_more, one_making, one_miss, one_refusal, removed}
 use Rattle.concurrent_lru.specs.Reads.{Reads}
 use Rattle.concurrent_lru.specs.Request as ask
@@ -30,6 +30,22 @@ use Rattle.concurrent_lru.proofs.AddedUp.SizesOfSteps.{Resizes, KeepsSize, Evict
 use Rattle.concurrent_lru.proofs.Steps.EmptyCache.{no_entries, empty_sum, empty_lawful}
 use Rattle.concurrent_lru.proofs.Steps.CasesOfSteps.{loose_begin}
 use Rattle.concurrent_lru.proofs.Steps.StaysLawful.{invalidates_lawful}
+
+-- how the code tells what was evicted or removed, from what is left
+abbrev pub left_evicted : Counts → ℕ → ℕ → Counts
+left_evicted n entries charge = record n { evictions = n.entries_before + n.insertions - n.removals - entries; evicted_charge = n.charge_before + n.inserted_charge - n.removed_charge - charge }
+
+abbrev pub left_removed : Counts → ℕ → Counts
+left_removed n charge = record n { removals = n.removals + 1; removed_charge = n.charge_before + n.inserted_charge - n.evicted_charge - charge }
+
+-- what the code asks of the counts before it counts as evicted, or as removed, what is gone when
+-- so many entries of so much charge are left
+abbrev pub MayEvict : Counts → ℕ → ℕ → Type 0
+MayEvict n entries charge =
+    record { entries : entries + n.removals ≤ n.entries_before + n.insertions; entries_fit : n.entries_before + n.insertions < 2 ^ 64; charge : charge + n.removed_charge ≤ n.charge_before + n.inserted_charge; charge_fits : n.charge_before + n.inserted_charge < 2 ^ 128 }
+
+abbrev pub MayRemove : Counts → ℕ → Type 0
+MayRemove n charge = record { entries : n.removals + 1 < 2 ^ 64; charge : charge + n.evicted_charge ≤ n.charge_before + n.inserted_charge; charge_fits : n.charge_before + n.inserted_charge < 2 ^ 128 }
 
 module _ {K V : Type 0} where
   -- the counts add up but for so many entries of so much charge that left and are not counted yet
@@ -92,23 +108,20 @@ module _ {K V : Type 0} where
   pub evicting_adds_up : (old new : Cache K V) (n : Counts) (out : List (Idle K V)) → AddUp old n → Evicts old out new → AddUp new (evicted out n)
   evicting_adds_up old new n out a e = evictions_add_up new n out (owed old new n (length out) (charges out) a e)
 
-  -- how the code tells what was evicted, from what is left
-  pub told_evicted : (c : Cache K V) (n : Counts) (out : List (Idle K V)) (entries charge : ℕ) → Owes c n (length out) (charges out) → entries ≡ count_of c → charge ≡ sum_of c
-      → record n { evictions = n.entries_before + n.insertions - n.removals - entries; evicted_charge = n.charge_before + n.inserted_charge - n.removed_charge - charge } ≡ evicted out n
-  told_evicted c n out entries charge o is_count is_sum =
+  -- this counts what left
+  pub told_evicted : {c : Cache K V} {n m after : Counts} {entries charge : ℕ} (out : List (Idle K V)) → Owes c n (length out) (charges out) → m ≡ n → after ≡ left_evicted m entries charge → entries ≡ count_of c → charge ≡ sum_of c → after ≡ evicted out n
+  told_evicted {c} {n} {entries} {charge} out o same told is_count is_sum =
       let e : count_of c + length out + n.evictions + n.removals ≡ n.entries_before + n.insertions = o.entries in
       let f : sum_of c + charges out + n.evicted_charge + n.removed_charge ≡ n.charge_before + n.inserted_charge = o.charge in
       let a : n.entries_before + n.insertions - n.removals - entries ≡ n.evictions + length out = omega (arith, e, is_count) in
       let b : n.charge_before + n.inserted_charge - n.removed_charge - charge ≡ n.evicted_charge + charges out = omega (arith, f, is_sum) in
-      ap (λ (x : ℕ). record n { evictions = x; evicted_charge = n.charge_before + n.inserted_charge - n.removed_charge - charge }) a
-      ∙ ap (λ (y : ℕ). record n { evictions = n.evictions + length out; evicted_charge = y }) b
+      told ∙ ap (λ x. left_evicted x entries charge) same ∙ (λ j. record n { evictions = a j; evicted_charge = b j })
 
-  pub told_removed : (c : Cache K V) (n : Counts) (g charge : ℕ) → Owes c n 1 g → charge ≡ sum_of c
-      → record n { removals = n.removals + 1; removed_charge = n.charge_before + n.inserted_charge - n.evicted_charge - charge } ≡ removed g n
-  told_removed c n g charge o is_sum =
+  pub told_removed : {c : Cache K V} {n m after : Counts} {g charge : ℕ} → Owes c n 1 g → m ≡ n → after ≡ left_removed m charge → charge ≡ sum_of c → after ≡ removed g n
+  told_removed {c} {n} {g} {charge} o same told is_sum =
       let f : sum_of c + g + n.evicted_charge + n.removed_charge ≡ n.charge_before + n.inserted_charge = o.charge in
       let b : n.charge_before + n.inserted_charge - n.evicted_charge - charge ≡ n.removed_charge + g = omega (arith, f, is_sum) in
-      ap (λ (y : ℕ). record n { removals = n.removals + 1; removed_charge = y }) b
+      told ∙ ap (λ x. left_removed x charge) same ∙ (λ j. record n { removals = n.removals + 1; removed_charge = b j })
 
   -- nothing was evicted
   pub evicted_none : (n : Counts) (out : List (Idle K V)) → out ≡ [] → evicted out n ≡ n
@@ -427,40 +440,40 @@ module _ {K V : Type 0} where
   begin_inserted E old new k charge (Ok (begun.Hit s a, out)) n sound h is = absurd (true≢false (sym is))
   begin_inserted E old new k charge (Err e) n sound h is = absurd (true≢false (sym is))
 
-  -- what the code asks of counts that it is to count evictions, or a removal, in
-  pub record CanEvict (c : Cache K V) (n : Counts) : Type 0 where
-    pub entries : count_of c + n.removals ≤ n.entries_before + n.insertions
-    pub entries_fit : n.entries_before + n.insertions < 2 ^ 64
-    pub charge : sum_of c + n.removed_charge ≤ n.charge_before + n.inserted_charge
-    pub charge_fits : n.charge_before + n.inserted_charge < 2 ^ 128
-
-  pub can_evict : (c : Cache K V) (n : Counts) (o g : ℕ) → Owes c n o g → CanEvict c n
-  can_evict c n o g w =
+  -- which it may
+  pub can_evict : {c : Cache K V} {n m : Counts} {o g entries charge : ℕ} → Owes c n o g → m ≡ n → entries ≡ count_of c → charge ≡ sum_of c → MayEvict m entries charge
+  can_evict {c} {n} {m} {o} {g} {entries} {charge} w same is_count is_sum =
       let e : count_of c + o + n.evictions + n.removals ≡ n.entries_before + n.insertions = w.entries in
       let f : sum_of c + g + n.evicted_charge + n.removed_charge ≡ n.charge_before + n.inserted_charge = w.charge in
       let s : c.next < 2 ^ 64 = w.stamps in
       let u : n.entries_before + n.insertions ≤ c.next = w.entries_fit in
       let v : n.charge_before + n.inserted_charge ≤ c.next * end_of_u64 = w.charge_fits in
-      record { entries = omega (arith, e); entries_fit = omega (arith, u, s); charge = omega (arith, f); charge_fits = omega (arith, v, s) }
+      subst (λ x. MayEvict x entries charge) (sym same) record { entries = omega (arith, e, is_count); entries_fit = omega (arith, u, s); charge = omega (arith, f, is_sum); charge_fits = omega (arith, v, s) }
 
-  pub record CanRemove (c : Cache K V) (n : Counts) : Type 0 where
-    pub entries : n.removals + 1 < 2 ^ 64
-    pub charge : sum_of c + n.evicted_charge ≤ n.charge_before + n.inserted_charge
-    pub charge_fits : n.charge_before + n.inserted_charge < 2 ^ 128
-
-  pub can_remove : (c : Cache K V) (n : Counts) (g : ℕ) → Owes c n 1 g → CanRemove c n
-  can_remove c n g w =
+  pub can_remove : {c : Cache K V} {n m : Counts} {g charge : ℕ} → Owes c n 1 g → m ≡ n → charge ≡ sum_of c → MayRemove m charge
+  can_remove {c} {n} {m} {g} {charge} w same is_sum =
       let e : count_of c + 1 + n.evictions + n.removals ≡ n.entries_before + n.insertions = w.entries in
       let f : sum_of c + g + n.evicted_charge + n.removed_charge ≡ n.charge_before + n.inserted_charge = w.charge in
       let s : c.next < 2 ^ 64 = w.stamps in
       let u : n.entries_before + n.insertions ≤ c.next = w.entries_fit in
       let v : n.charge_before + n.inserted_charge ≤ c.next * end_of_u64 = w.charge_fits in
-      record { entries = omega (arith, e, u, s); charge = omega (arith, f); charge_fits = omega (arith, v, s) }
+      subst (λ x. MayRemove x charge) (sym same) record { entries = omega (arith, e, u, s); charge = omega (arith, f, is_sum); charge_fits = omega (arith, v, s) }
 
   -- where a call evicted these, the code may count them, and counts just these
-  pub can_count : (old new : Cache K V) (n : Counts) (out : List (Idle K V)) → AddUp old n → Evicts old out new → CanEvict new n
-  can_count old new n out a e = can_evict new n (length out) (charges out) (owed old new n (length out) (charges out) a e)
+  pub can_count : {old new : Cache K V} {n : Counts} {entries charge : ℕ} (out : List (Idle K V)) → AddUp old n → Evicts old out new → entries ≡ count_of new → charge ≡ sum_of new → MayEvict n entries charge
+  can_count {old} {new} {n} out a e is_count is_sum = can_evict (owed old new n (length out) (charges out) a e) refl is_count is_sum
 
-  pub counts_evicted : (old new : Cache K V) (n : Counts) (out : List (Idle K V)) (entries charge : ℕ) → AddUp old n → Evicts old out new → entries ≡ count_of new → charge ≡ sum_of new
-      → record n { evictions = n.entries_before + n.insertions - n.removals - entries; evicted_charge = n.charge_before + n.inserted_charge - n.removed_charge - charge } ≡ evicted out n
-  counts_evicted old new n out entries charge a e is_count is_sum = told_evicted new n out entries charge (owed old new n (length out) (charges out) a e) is_count is_sum
+  pub counts_evicted : {old new : Cache K V} {n m : Counts} {seen : CountedCache K V} {entries charge : ℕ} (out : List (Idle K V)) → record { cache = old; counts = n } ≡ seen → AddUp old n → Evicts old out new → m ≡ left_evicted n entries charge → entries ≡ count_of new → charge ≡ sum_of new
+      → m ≡ evicted out seen.counts
+  counts_evicted {old} {new} {n} {m} out is a e told is_count is_sum = subst (λ x. m ≡ evicted out x.counts) is (told_evicted out (owed old new n (length out) (charges out) a e) refl told is_count is_sum)
+
+  -- the invariant after a call that evicted these, and after one that evicted nothing
+  pub soundly_evicted : {E : K → K → Bool} {old new : Cache K V} {n m : Counts} {entries charge : ℕ} (out : List (Idle K V)) → IsSoundlyCounted E old n → Evicts old out new → IsLawful E new
+      → m ≡ left_evicted n entries charge → entries ≡ count_of new → charge ≡ sum_of new → IsSoundlyCounted E new m
+  soundly_evicted {old} {new} {n} {m} out sound e lawful told is_count is_sum = record {
+    lawful = lawful;
+    adds_up = subst (AddUp new) (sym (counts_evicted out refl sound.adds_up e told is_count is_sum)) (evicting_adds_up old new n out sound.adds_up e);
+  }
+
+  pub soundly_kept : {E : K → K → Bool} {old new : Cache K V} {n : Counts} (out : List (Idle K V)) → IsSoundlyCounted E old n → Evicts old out new → IsLawful E new → out ≡ [] → IsSoundlyCounted E new n
+  soundly_kept {old} {new} {n} out sound e lawful none = record { lawful = lawful; adds_up = subst (AddUp new) (evicted_none n out none) (evicting_adds_up old new n out sound.adds_up e) }

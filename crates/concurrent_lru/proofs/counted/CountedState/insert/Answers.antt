@@ -1,46 +1,30 @@
-use Rattle.std.proofs.Common.{◌≡◌, ◌+◌, ◌-◌, ◌≤◌, ◌∙◌, length, sym, subst, arith}
+use Rattle.std.proofs.Common.{◌≡◌, subst}
 use Rattle.std.specs.Arc.{arc_value}
-use Rattle.concurrent_lru.specs.Cache.{charges, count_of, sum_of}
 use Rattle.concurrent_lru.specs.CountedCalls.{replaced}
 use Rattle.concurrent_lru.specs.Inserts.{Replaces}
-use Rattle.concurrent_lru.proofs.AddedUp.CountsOfSteps.{Owes, can_evict}
-use Rattle.concurrent_lru.proofs.AddedUp.CountsOfInserts.{can_insert, soundly_replaced, told_replaced}
+use Rattle.concurrent_lru.proofs.AddedUp.CountsOfSteps.{can_evict}
+use Rattle.concurrent_lru.proofs.AddedUp.CountsOfInserts.{CanInsert, can_insert, soundly_replaced, told_replaced}
+use Rattle.concurrent_lru.proofs.counted.CountedState.insert.Goals.{In-Ok}
 use Rattle.concurrent_lru.proofs.counted.CountedState.insert.Goals as goal
 
-pub insert-requires-clause-entries : goal.insert-requires-clause-entries
-insert-requires-clause-entries g c =
+-- what the counts allow before the code counts the insertion, and what they owe after it
+can : (g : _) (c : In-Ok g) → CanInsert c.self.inside.state.cache c.self.inside.counts c.args.charge c.in-Ok.inserted.0.replaced c.in-Ok.inserted.0.evicted c.insert_at.new.self.cache
+can g c =
     let i = c.in-Ok.inserted.0 in
-    (can_insert {E = g.K.PartialEq.eq} c.self.inside.state.cache c.insert_at.new.self.cache c.self.inside.counts c.args.key.now c.args.charge (arc_value c.args.value) i.stamp i.replaced i.evicted g.met.K.Eq.laws c.self.invariant c.insert_at.ensures.lawful c.in-Ok.ensures.step).entries
+    can_insert {E = g.K.PartialEq.eq} c.self.inside.state.cache c.insert_at.new.self.cache c.self.inside.counts c.args.key.now c.args.charge (arc_value c.args.value) i.stamp i.replaced i.evicted g.met.K.Eq.laws c.self.invariant c.insert_at.ensures.lawful c.in-Ok.ensures.step
 
-pub insert-requires-clause-charge : goal.insert-requires-clause-charge
-insert-requires-clause-charge g c =
-    let i = c.in-Ok.inserted.0 in
-    (can_insert {E = g.K.PartialEq.eq} c.self.inside.state.cache c.insert_at.new.self.cache c.self.inside.counts c.args.key.now c.args.charge (arc_value c.args.value) i.stamp i.replaced i.evicted g.met.K.Eq.laws c.self.invariant c.insert_at.ensures.lawful c.in-Ok.ensures.step).charge_fits
+pub insert-requires : goal.insert-requires
+insert-requires g c = let can = can g (goal.at.insert-requires g c).In-Ok in record { entries = can.entries; charge = can.charge_fits }
 
 pub evict-requires : goal.evict-requires
-evict-requires g c =
-    let new = c.insert_at.new.self.cache in
-    let i = c.in-Ok.inserted.0 in
-    let m = c.insert.new.self in
-    let out = length i.replaced + length i.evicted in
-    let charge = charges i.replaced + charges i.evicted in
-    let owes = (can_insert {E = g.K.PartialEq.eq} c.self.inside.state.cache new c.self.inside.counts c.args.key.now c.args.charge (arc_value c.args.value) i.stamp i.replaced i.evicted g.met.K.Eq.laws c.self.invariant c.insert_at.ensures.lawful c.in-Ok.ensures.step).owes in
-    let can = can_evict new m out charge (subst (λ x. Owes new x out charge) (sym c.insert.ensures) owes) in
-    let e : count_of new + m.removals ≤ m.entries_before + m.insertions = can.entries in
-    let f : sum_of new + m.removed_charge ≤ m.charge_before + m.inserted_charge = can.charge in
-    let len : c.len.result ≡ count_of new = c.len.ensures in
-    let total : c.total.result ≡ sum_of new = c.total.ensures.step.0 in
-    record { entries = omega (arith, e, len); entries_fit = can.entries_fit; charge = omega (arith, f, total); charge_fits = can.charge_fits }
+evict-requires g c = can_evict (can g (goal.at.evict-requires g c).In-Ok).owes c.insert.ensures c.len.ensures c.total.ensures.step.0
 
 pub invariant_of-self-2 : goal.invariant_of-self-2
 invariant_of-self-2 g c =
-    let new = c.insert_at.new.self.cache in
-    let n = c.self.inside.counts in
     let i = c.in-Ok.inserted.0 in
-    let owes = (can_insert {E = g.K.PartialEq.eq} c.self.inside.state.cache new n c.args.key.now c.args.charge (arc_value c.args.value) i.stamp i.replaced i.evicted g.met.K.Eq.laws c.self.invariant c.insert_at.ensures.lawful c.in-Ok.ensures.step).owes in
-    let told = told_replaced new n c.args.charge i.replaced i.evicted c.len.result c.total.result owes c.len.ensures c.total.ensures.step.0 in
-    let is = subst (λ m. c.evict.new.self ≡ record m { evictions = m.entries_before + m.insertions - m.removals - c.len.result; evicted_charge = m.charge_before + m.inserted_charge - m.removed_charge - c.total.result }) c.insert.ensures c.evict.ensures in
-    soundly_replaced {E = g.K.PartialEq.eq} new n c.evict.new.self c.args.charge i.replaced i.evicted c.insert_at.ensures.lawful owes (is ∙ told)
+    let owes = (can g (goal.at.invariant_of-self-2 g c).In-Ok).owes in
+    soundly_replaced {E = g.K.PartialEq.eq} c.insert_at.new.self.cache c.self.inside.counts c.evict.new.self c.args.charge i.replaced i.evicted c.insert_at.ensures.lawful owes
+    (told_replaced c.self.inside.counts c.args.charge i.replaced i.evicted owes c.insert.ensures c.evict.ensures c.len.ensures c.total.ensures.step.0)
 
 pub returns-clause-step : goal.returns-clause-step
 returns-clause-step g c =
@@ -49,10 +33,7 @@ returns-clause-step g c =
 
 pub returns-clause-inserted : goal.returns-clause-inserted
 returns-clause-inserted g c =
-    let new = c.insert_at.new.self.cache in
-    let n = c.self.inside.counts in
     let i = c.in-Ok.inserted.0 in
-    let owes = (can_insert {E = g.K.PartialEq.eq} c.self.inside.state.cache new n c.args.key.now c.args.charge (arc_value c.args.value) i.stamp i.replaced i.evicted g.met.K.Eq.laws c.self.invariant c.insert_at.ensures.lawful c.in-Ok.ensures.step).owes in
-    let told = told_replaced new n c.args.charge i.replaced i.evicted c.len.result c.total.result owes c.len.ensures c.total.ensures.step.0 in
-    let is = subst (λ m. c.evict.new.self ≡ record m { evictions = m.entries_before + m.insertions - m.removals - c.len.result; evicted_charge = m.charge_before + m.inserted_charge - m.removed_charge - c.total.result }) c.insert.ensures c.evict.ensures in
-    subst (λ x. c.evict.new.self ≡ replaced i.replaced i.evicted c.args.charge x.counts) c.self.view_is (is ∙ told)
+    let owes = (can g (goal.at.returns-clause-inserted g c).In-Ok).owes in
+    subst (λ x. c.evict.new.self ≡ replaced i.replaced i.evicted c.args.charge x.counts) c.self.view_is
+    (told_replaced c.self.inside.counts c.args.charge i.replaced i.evicted owes c.insert.ensures c.evict.ensures c.len.ensures c.total.ensures.step.0)

@@ -1,36 +1,13 @@
-use Rattle.std.proofs.Common.{refl, arith, ◌++◌, ◌∷◌, [], true, filter, not, eqb, ap, ◌∙◌}
-use Rattle.concurrent_lru.specs.NodeTable.{NodeTable}
-use Rattle.concurrent_lru.proofs.Nodes.SlotViews.{idle_there, hashes_same, spare_same, whole_kept}
+use Rattle.std.proofs.Common.{◌++◌, ◌∷◌, [], true, filter, not, eqb, refl, arith}
+use Rattle.concurrent_lru.proofs.Nodes.SlotViews.{idle_there, whole_kept}
+use Rattle.concurrent_lru.proofs.Nodes.ShownChanges.{shown_relinked}
 use Rattle.concurrent_lru.proofs.node_table.Nodes.renew.Goals as goal
 
 pub renew-requires-clause-idle : goal.renew-requires-clause-idle
 renew-requires-clause-idle g c = let i = c.self.inside in idle_there i.order i.work.count c.args.self.now c.self.view_is true c.place.inside.slot c.args.place c.place.view_is c.requires
 
-pub returns-clause-nodes : goal.returns-clause-nodes
-returns-clause-nodes g c = c.renew.ensures.nodes ∙ ap (λ (v : NodeTable g.row.K.Denot g.row.V.Denot). v.nodes) c.self.view_is
-
-pub returns-clause-idle : goal.returns-clause-idle
-returns-clause-idle g c = c.renew.ensures.idle ∙ (λ j. filter (λ q. not (eqb q (c.place.view_is j))) (c.self.view_is j).idle ++ c.place.view_is j ∷ [])
-
-pub returns-clause-spare : goal.returns-clause-spare
-returns-clause-spare g c = let i = c.self.inside in spare_same i.order c.renew.new.self.slots c.args.self.now i.work.count c.self.view_is c.renew.ensures.rest
-
-pub returns-clause-looks : goal.returns-clause-looks
-returns-clause-looks g c =
-    let looks = ap (λ (v : NodeTable g.row.K.Denot g.row.V.Denot). v.looks) c.self.view_is in
-    let more = c.renew.ensures.looks in
-    omega (arith, looks, more)
-
-pub returns-clause-work : goal.returns-clause-work
-returns-clause-work g c =
-    let work = ap (λ (v : NodeTable g.row.K.Denot g.row.V.Denot). v.work) c.self.view_is in
-    let first = c.tick.ensures in
-    let second = c.tick-2.ensures in
-    omega (arith, work, first, second)
+pub returns : goal.returns
+returns g c = shown_relinked c.self.inside.order c.renew.new.self _ 2 (λ m k. m) (λ ks k. filter (λ q. not (eqb q k)) ks ++ k ∷ []) c.self.view_is c.place.view_is c.renew.ensures.nodes c.renew.ensures.idle c.renew.ensures.rest c.renew.ensures.listings c.renew.ensures.looks (let first = c.tick.ensures in let second = c.tick-2.ensures in omega (arith, first, second))
 
 pub invariant_of-self : goal.invariant_of-self
 invariant_of-self g c = (refl, tt, whole_kept c.self.inside.order c.renew.new.self c.self.invariant c.renew.ensures.linked c.renew.ensures.rest c.renew.ensures.listings)
-
-pub returns-clause-hashes : goal.returns-clause-hashes
-returns-clause-hashes g c =
-    hashes_same c.self.inside.order.slots.memory.cells c.renew.new.self.slots.memory.cells (λ k. (c.renew.ensures.listings k).0) ∙ ap (λ (v : NodeTable g.row.K.Denot g.row.V.Denot). v.hashes) c.self.view_is

@@ -1,32 +1,14 @@
-use Rattle.std.proofs.Common.{refl, ap, ◌∙◌}
-use Rattle.concurrent_lru.specs.NodeTable.{NodeTable, entry_detached}
-use Rattle.concurrent_lru.proofs.Nodes.SlotViews.{present, nodes_written, hashes_written, idle_written, table_written, hashes_same, spare_kept}
+use Rattle.std.proofs.Common.{refl}
+use Rattle.concurrent_lru.specs.NodeTable.{entry_detached}
+use Rattle.concurrent_lru.proofs.Nodes.SlotViews.{present, table_written}
+use Rattle.concurrent_lru.proofs.Nodes.ShownChanges.{shown_rewritten}
 use Rattle.concurrent_lru.proofs.node_table.Nodes.set_detached.Goals as goal
 
 pub set_detached-requires-clause-present : goal.set_detached-requires-clause-present
 set_detached-requires-clause-present g c = let i = c.self.inside in present i.order i.work.count c.args.self.now c.self.view_is c.place.inside.slot c.args.place c.place.view_is c.requires
 
 pub invariant_of-self : goal.invariant_of-self
-invariant_of-self g c =
-    let i = c.self.inside in (
-      refl,
-      tt,
-      record {
-        linked = table_written i.order c.set_detached.new.self c.place.inside.slot entry_detached c.set_detached.ensures.pointers c.set_detached.ensures.entry c.self.invariant.linked;
-        listed = c.set_detached.ensures.listed;
-      },
-    )
+invariant_of-self g c = (refl, tt, record { linked = table_written c.self.inside.order c.set_detached.new.self c.place.inside.slot entry_detached c.set_detached.ensures.pointers c.set_detached.ensures.entry c.self.invariant.linked; listed = c.set_detached.ensures.listed })
 
-pub returns-clause-nodes : goal.returns-clause-nodes
-returns-clause-nodes g c = let i = c.self.inside in nodes_written i.order c.set_detached.new.self c.place.inside.slot entry_detached c.set_detached.ensures.pointers c.set_detached.ensures.entry c.args.self.now i.work.count c.args.place c.self.view_is c.place.view_is
-
-pub returns-clause-idle : goal.returns-clause-idle
-returns-clause-idle g c = let i = c.self.inside in idle_written i.order c.set_detached.new.self c.place.inside.slot entry_detached c.set_detached.ensures.pointers c.set_detached.ensures.entry c.self.invariant.linked ∙ ap (λ (v : NodeTable g.row.K.Denot g.row.V.Denot). v.idle) c.self.view_is
-
-pub returns-clause-hashes : goal.returns-clause-hashes
-returns-clause-hashes g c =
-    let i = c.self.inside in let t = c.set_detached.new.self in
-    hashes_same i.order.slots.memory.cells t.memory.cells (hashes_written i.order t c.place.inside.slot entry_detached c.set_detached.ensures.pointers c.set_detached.ensures.entry) ∙ ap (λ (v : NodeTable g.row.K.Denot g.row.V.Denot). v.hashes) c.self.view_is
-
-pub returns-clause-spare : goal.returns-clause-spare
-returns-clause-spare g c = let i = c.self.inside in spare_kept i.order c.set_detached.new.self c.args.self.now i.work.count c.self.view_is c.set_detached.ensures.spare
+pub returns : goal.returns
+returns g c = shown_rewritten c.self.inside.order c.set_detached.new.self _ entry_detached c.self.view_is c.place.view_is c.self.invariant.linked c.set_detached.ensures.pointers c.set_detached.ensures.spare c.set_detached.ensures.entry
