@@ -26,12 +26,13 @@ template <class Slice, class Shard, class More = NothingMore>
 struct BlockEntry : More {
   using Deleter = void (*)(const Slice& key, void* value);
 
+  // What a hit and its release use is adjacent, so that it touches as few cache lines as possible.
   void* value;
+  Shard* shard = nullptr;  // null if the entry is not in the cache
+  lru_pin pin = {};
   Deleter deleter;  // or null
   BlockEntry* next = nullptr;
-  lru_pin pin = {};
   std::size_t length;
-  Shard* shard = nullptr;  // null if the entry is not in the cache
 
   // Null if there is no memory.
   static BlockEntry* New(const Slice& key, void* value, Deleter deleter) {
