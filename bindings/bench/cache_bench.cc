@@ -70,7 +70,8 @@ class Calls {
 
  public:
   explicit Calls(std::uint64_t capacity) {
-    if (lru_chain_new(&gone_) != LRU_DONE || C::make(capacity, 0, &cache_) != LRU_DONE)
+    if (lru_chain_new(&gone_) != LRU_DONE ||
+        lru_cache_new(C::kind, capacity, 0, &cache_) != LRU_DONE)
       std::exit(2);
   }
 
@@ -91,7 +92,7 @@ class Calls {
 
   bool Miss(lru::Words block) {
     mutex_.lock();
-    const lru_told told = C::begin(&cache_, KeyOf(&block), 1, &gone_);
+    const lru_told told = C::begin(&cache_, KeyOf(&block), 1, false, &gone_);
     mutex_.unlock();
     Pop();
     if (told.code != LRU_MAKE) return false;

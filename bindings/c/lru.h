@@ -5,10 +5,10 @@
  * without a pin is idle. While the total of all charges is above the capacity, idle entries are
  * evicted, the one that was released longest ago first.
  *
- * The capacity is not a hard limit: held entries stay, and count. `begin_strictly` and
- * `insert_strictly` make it one: they answer LRU_FULL, and evict nothing, if a new entry would take
- * the total above the capacity even after all idle entries have left. If every entry of a cache is
- * added by these two calls, and the capacity is not lowered, the total is never above it.
+ * The capacity is not a hard limit: held entries stay, and count. Strict calls of `begin` and
+ * `insert` make it one: they answer LRU_FULL, and evict nothing, if a new entry would take the
+ * total above the capacity even after all idle entries have left. If every entry of a cache is
+ * added by strict calls, and the capacity is not lowered, the total is never above it.
  *
  * A value is one word (uint64_t) of the caller's, usually the address of an object. The cache never
  * looks at it and never deletes the object. Entries that leave the cache are put into a chain,
@@ -19,8 +19,8 @@
  * They have a pin already, and ask again with `poll` after that `ready` or `fail`. The library does
  * not wake them: threads that wait need, for example, a condition variable.
  *
- * The keys of a cache are of one of two kinds, which it is opened with. The calls that take a key
- * are there for each kind; all others are the same:
+ * The keys of a cache are of one of two kinds, which it is opened with: LRU_BYTES or LRU_WORDS. The
+ * calls that take a key are there for each kind; all others are the same:
  *
  *     lru_bytes_*   keys are byte strings; the cache keeps its own copies
  *     lru_words_*   keys are 16 bytes, passed as two words, and faster to look up
@@ -68,15 +68,15 @@
  *     uint64_t seed;
  *     if (getrandom(&seed, sizeof seed, 0) != (ssize_t)sizeof seed)
  *         return false;
- *     lru_code code = lru_bytes_new(capacity, seed, &cache);
+ *     lru_code code = lru_cache_new(LRU_BYTES, capacity, seed, &cache);
  *
  * Otherwise the seed may be 0. No answer depends on the seed, except for the hash of a pin, nor
  * does what is evicted, or its order.
  *
  * COMING FROM ANOTHER CACHE. Entries are evicted by `begin`, by the `release` of a last pin and by
  * `set_capacity`; many caches evict only when an entry is inserted. `begin` does not change the
- * charge of an entry that exists. If the other cache has a strict limit, call `begin_strictly` and
- * `insert_strictly`. `advice_evict` does nothing to a held entry: it can still be found, and
+ * charge of an entry that exists. If the other cache has a strict limit, make strict calls of
+ * `begin` and `insert`. `advice_evict` does nothing to a held entry: it can still be found, and
  * becomes idle with its last release. `invalidate` detaches a held entry from its key: the key no
  * longer finds it, and it is evicted with its last release. `insert` does the same to the entry
  * that it replaces. `release_and_evict` is a release that also evicts the entry if nobody else
@@ -115,8 +115,8 @@ enum {
     LRU_OVERFLOW = 7, /* a number would overflow: the total of charges, the stamps or the pins */
     LRU_STALE = 8,    /* the pin names no entry that the call is for */
     LRU_MEMORY = 9,   /* malloc or realloc returned null */
-    LRU_FULL = 20,    /* begin_strictly, insert_strictly: the charge and those of the held entries
-                         add up to more than the capacity */
+    LRU_FULL = 20,    /* a strict begin or insert: the charge and those of the held entries add up
+                         to more than the capacity */
 
     LRU_NUMBER = 10, /* no refusal: the number that was asked for is told as the value */
 
@@ -129,12 +129,21 @@ enum {
     LRU_NOT_EMPTY = 16, /* the chain still holds entries: pop them first */
     LRU_NO_ROOM = 17,   /* key_of, entries: the buffer is too small; how much room is enough is told
                            as the value */
-    LRU_OTHER_KEYS = 19 /* lru_bytes_* or lru_words_*: the cache has keys of the other kind */
+    LRU_OTHER_KEYS = 19, /* lru_bytes_* or lru_words_*: the cache has keys of the other kind */
+    LRU_NO_KIND = 21     /* new: no such kind of keys */
 };
 
-/* Names an entry that the caller has pinned. `begin`, `get`, `poll`, `repin` and `insert` tell it,
- * and so do the strict calls; `poll`, `ready`, `fail`, `repin`, `release`, `release_and_evict`,
- * `entry` and `key_of` take it. It may be copied, and is passed on as it was told.
+/* The kinds of keys, with which a cache is opened. */
+typedef uint32_t lru_kind;
+
+enum {
+    LRU_BYTES = 0, /* keys are byte strings */
+    LRU_WORDS = 1  /* keys are two words */
+};
+
+/* Names an entry that the caller has pinned. `begin`, `get`, `poll`, `repin` and `insert` tell it;
+ * `poll`, `ready`, `fail`, `repin`, `release`, `release_and_evict`, `entry` and `key_of` take it.
+ * It may be copied, and is passed on as it was told.
  *
  * It is good until the pin is given back, and then for as long as the entry stays in the cache. An
  * old one, or one of another cache, is answered with LRU_STALE, unless the cache has an entry with
@@ -151,8 +160,8 @@ typedef struct lru_pin {
 /* The result of a call that tells more than a code. A member is 0 if it is not described for the
  * code. */
 typedef struct lru_told {
-    lru_pin pin;    /* LRU_MAKE, LRU_WAIT, LRU_HIT, LRU_PINNED, and LRU_DONE of insert and
-                       insert_strictly: names the entry. */
+    lru_pin pin;    /* LRU_MAKE, LRU_WAIT, LRU_HIT, LRU_PINNED, and LRU_DONE of insert: names the
+                       entry. */
     uint64_t value; /* LRU_HIT, LRU_PINNED: the value. LRU_NUMBER: the number. LRU_NO_ROOM: how
                        much room is enough. */
     lru_code code;
@@ -180,8 +189,8 @@ typedef struct lru_entry {
  *
  *     insertions == entries + evictions + removals
  *
- * A `begin_strictly` is counted as a `begin`, and an `insert_strictly` as an `insert`. No call that
- * is refused is counted, not even one that is told LRU_FULL.
+ * A strict call is counted as one that is not. No call that is refused is counted, not even one
+ * that is told LRU_FULL.
  *
  * The hit ratio is hits / (hits + misses). To count from some time on, subtract the numbers that
  * were told at that time. */
@@ -211,46 +220,46 @@ typedef struct lru_chain {
     uint64_t open;
 } lru_chain;
 
-/* -------------------------------------------------------------------------------- keys of bytes */
+/* ------------------------------------------------------------------------------- opening caches */
 
-/* A key is `length` bytes. On a cache whose keys are two words, each of these calls but new and
- * new_with_limits answers LRU_OTHER_KEYS. */
-
-/* Opens an empty cache that evicts idle entries while the total of charges is above `capacity`. Its
- * first entry gets the stamp 0, and an entry may have up to 2^32 - 1 pins. Keys are hashed with
- * `seed` (SEEDS, above). The caller frees the cache with lru_cache_free.
+/* Opens an empty cache whose keys are of the kind `keys`. It evicts idle entries while the total of
+ * charges is above `capacity`. Its first entry gets the stamp 0, and an entry may have up to
+ * 2^32 - 1 pins. Keys are hashed with `seed` (SEEDS, above). The caller frees the cache with
+ * lru_cache_free.
  *
- * Allocates. LRU_DONE; LRU_MEMORY; LRU_OPEN. */
-lru_code lru_bytes_new(uint64_t capacity, uint64_t seed, lru_cache *out);
+ * Allocates. LRU_DONE; LRU_NO_KIND if `keys` is neither LRU_BYTES nor LRU_WORDS; LRU_MEMORY;
+ * LRU_OPEN. */
+lru_code lru_cache_new(lru_kind keys, uint64_t capacity, uint64_t seed, lru_cache *out);
 
 /* The same, but the first entry gets the stamp `first_stamp`, and an entry may have up to
  * `most_pins` pins.
  *
- * Allocates. LRU_DONE; LRU_NO_PINS if `most_pins` is 0; LRU_MEMORY; LRU_OPEN. */
-lru_code lru_bytes_new_with_limits(uint64_t capacity, uint64_t first_stamp, uint32_t most_pins,
-                                   uint64_t seed, lru_cache *out);
+ * Allocates. LRU_DONE; LRU_NO_PINS if `most_pins` is 0; LRU_NO_KIND; LRU_MEMORY; LRU_OPEN. */
+lru_code lru_cache_new_with_limits(lru_kind keys, uint64_t capacity, uint64_t first_stamp,
+                                   uint32_t most_pins, uint64_t seed, lru_cache *out);
+
+/* -------------------------------------------------------------------------------- keys of bytes */
+
+/* A key is `length` bytes. On a cache whose keys are two words, each of these calls answers
+ * LRU_OTHER_KEYS. */
 
 /* Asks for the value of a key and pins its entry, or adds an entry if there is none. `charge`,
  * above 0, is the charge of a new entry; an entry that exists keeps its charge, even if its maker
  * failed and this caller makes the value. What the new charge evicts is put into `gone`, oldest
  * first. The pin is given back by `release` after LRU_HIT or `ready`, or by `fail`.
  *
- * Allocates for a new entry, and if the key is longer than any before. LRU_MAKE with the pin;
- * LRU_WAIT with the pin; LRU_HIT with the pin and the value; LRU_OVERFLOW if the total would exceed
- * 2^64 - 1, if the stamps are used up or if the entry has as many pins as it may have;
- * LRU_MEMORY; LRU_NO_CHARGE if `charge` is 0, even if the key has an entry; LRU_NULL_KEY;
- * LRU_CLOSED; LRU_NOT_EMPTY. */
-static inline lru_told lru_bytes_begin(lru_cache *cache, const void *key, size_t length,
-                                       uint64_t charge, lru_chain *gone);
-
-/* Does what `begin` does, but adds no entry that the capacity has no room for: if the key has no
+ * If the call is `strict`, it adds no entry that the capacity has no room for: if the key has no
  * entry, and `charge` and the charges of the held entries add up to more than the capacity, nothing
- * changes. In particular, nothing is evicted. An entry that exists is pinned as by `begin`, even if
+ * changes. In particular, nothing is evicted. An entry that exists is pinned in any case, even if
  * the total is above the capacity.
  *
- * Allocates as `begin` does. LRU_FULL if there is no room; else as `begin`. */
-static inline lru_told lru_bytes_begin_strictly(lru_cache *cache, const void *key, size_t length,
-                                                uint64_t charge, lru_chain *gone);
+ * Allocates for a new entry, and if the key is longer than any before. LRU_MAKE with the pin;
+ * LRU_WAIT with the pin; LRU_HIT with the pin and the value; LRU_OVERFLOW if the total would exceed
+ * 2^64 - 1, if the stamps are used up or if the entry has as many pins as it may have; LRU_FULL if
+ * the call is strict and there is no room; LRU_MEMORY; LRU_NO_CHARGE if `charge` is 0, even if the
+ * key has an entry; LRU_NULL_KEY; LRU_CLOSED; LRU_NOT_EMPTY. */
+static inline lru_told lru_bytes_begin(lru_cache *cache, const void *key, size_t length,
+                                       uint64_t charge, bool strict, lru_chain *gone);
 
 /* Finds the value of a key and pins its entry. Adds no entry if there is none.
  *
@@ -287,21 +296,18 @@ static inline lru_code lru_bytes_invalidate(lru_cache *cache, const void *key, s
  * to be given back by `release`. If the old entry was idle, it is put into `gone`, followed by what
  * the charge evicts, oldest first.
  *
+ * If the call is `strict`, and `charge` and the charges of the held entries add up to more than the
+ * capacity, nothing changes. In particular, nothing is evicted, and the key keeps its entry. If
+ * that is held, its charge counts too; if it is idle, it would leave.
+ *
  * Allocates. LRU_DONE with the pin: the value belongs to the cache; LRU_OVERFLOW if the total,
  * not counting an idle entry of the key, would exceed 2^64 - 1, or if the stamps are used up;
- * LRU_MEMORY; LRU_NO_CHARGE if `charge` is 0; LRU_NULL_KEY; LRU_CLOSED; LRU_NOT_EMPTY. After a
- * refusal the key keeps its entry, and the value still belongs to the caller. */
+ * LRU_FULL if the call is strict and there is no room; LRU_MEMORY; LRU_NO_CHARGE if `charge` is 0;
+ * LRU_NULL_KEY; LRU_CLOSED; LRU_NOT_EMPTY. After a refusal the key keeps its entry, and the value
+ * still belongs to the caller. */
 static inline lru_told lru_bytes_insert(lru_cache *cache, const void *key, size_t length,
-                                        uint64_t charge, uint64_t value, lru_chain *gone);
-
-/* Does what `insert` does, unless `charge` and the charges of the held entries add up to more than
- * the capacity: then nothing changes. In particular, nothing is evicted, and the key keeps its
- * entry. If that is held, its charge counts too; if it is idle, it would leave.
- *
- * Allocates as `insert` does. LRU_FULL if there is no room: the value still belongs to the caller;
- * else as `insert`. */
-static inline lru_told lru_bytes_insert_strictly(lru_cache *cache, const void *key, size_t length,
-                                                 uint64_t charge, uint64_t value, lru_chain *gone);
+                                        uint64_t charge, uint64_t value, bool strict,
+                                        lru_chain *gone);
 
 /* Copies the key of an entry, held or idle, to the start of a buffer of `room` bytes.
  *
@@ -313,23 +319,16 @@ static inline lru_told lru_bytes_key_of(lru_cache *cache, lru_pin pin, void *buf
 /* ---------------------------------------------------------------------------- keys of two words */
 
 /* As the calls above, for keys of two words: the key is (first, second), and two keys are equal if
- * both words are. Only new, new_with_limits, begin and begin_strictly for a new entry, insert and
- * insert_strictly allocate. On a cache whose keys are bytes, each answers LRU_OTHER_KEYS. */
-lru_code lru_words_new(uint64_t capacity, uint64_t seed, lru_cache *out);
-lru_code lru_words_new_with_limits(uint64_t capacity, uint64_t first_stamp, uint32_t most_pins,
-                                   uint64_t seed, lru_cache *out);
+ * both words are. Only `begin` for a new entry and `insert` allocate. On a cache whose keys are
+ * bytes, each answers LRU_OTHER_KEYS. */
 lru_told lru_words_begin(lru_cache *cache, uint64_t first, uint64_t second, uint64_t charge,
-                         lru_chain *gone);
-lru_told lru_words_begin_strictly(lru_cache *cache, uint64_t first, uint64_t second,
-                                  uint64_t charge, lru_chain *gone);
+                         bool strict, lru_chain *gone);
 lru_told lru_words_get(lru_cache *cache, uint64_t first, uint64_t second);
 lru_code lru_words_contains(lru_cache *cache, uint64_t first, uint64_t second);
 lru_code lru_words_advice_evict(lru_cache *cache, uint64_t first, uint64_t second, lru_chain *gone);
 lru_code lru_words_invalidate(lru_cache *cache, uint64_t first, uint64_t second, lru_chain *gone);
 lru_told lru_words_insert(lru_cache *cache, uint64_t first, uint64_t second, uint64_t charge,
-                          uint64_t value, lru_chain *gone);
-lru_told lru_words_insert_strictly(lru_cache *cache, uint64_t first, uint64_t second,
-                                   uint64_t charge, uint64_t value, lru_chain *gone);
+                          uint64_t value, bool strict, lru_chain *gone);
 
 /* Writes the key of an entry, held or idle. LRU_DONE; LRU_STALE if no entry has the stamp;
  * LRU_CLOSED; LRU_OTHER_KEYS. Nothing is written unless the code is LRU_DONE. */
@@ -475,9 +474,7 @@ bool lru_chain_is_empty(lru_chain *chain);
  * be null, even if the length is 0. A binding for a language whose slices are never null may call
  * them directly. */
 lru_told lru_bytes_begin_nonnull(lru_cache *cache, const uint8_t *key, size_t length,
-                                 uint64_t charge, lru_chain *gone);
-lru_told lru_bytes_begin_strictly_nonnull(lru_cache *cache, const uint8_t *key, size_t length,
-                                          uint64_t charge, lru_chain *gone);
+                                 uint64_t charge, bool strict, lru_chain *gone);
 lru_told lru_bytes_get_nonnull(lru_cache *cache, const uint8_t *key, size_t length);
 lru_code lru_bytes_contains_nonnull(lru_cache *cache, const uint8_t *key, size_t length);
 lru_code lru_bytes_advice_evict_nonnull(lru_cache *cache, const uint8_t *key, size_t length,
@@ -485,9 +482,7 @@ lru_code lru_bytes_advice_evict_nonnull(lru_cache *cache, const uint8_t *key, si
 lru_code lru_bytes_invalidate_nonnull(lru_cache *cache, const uint8_t *key, size_t length,
                                       lru_chain *gone);
 lru_told lru_bytes_insert_nonnull(lru_cache *cache, const uint8_t *key, size_t length,
-                                  uint64_t charge, uint64_t value, lru_chain *gone);
-lru_told lru_bytes_insert_strictly_nonnull(lru_cache *cache, const uint8_t *key, size_t length,
-                                           uint64_t charge, uint64_t value, lru_chain *gone);
+                                  uint64_t charge, uint64_t value, bool strict, lru_chain *gone);
 lru_told lru_bytes_key_of_nonnull(lru_cache *cache, lru_pin pin, uint8_t *buffer, size_t room);
 lru_told lru_cache_entries_nonnull(lru_cache *cache, lru_entry *out, size_t room);
 
@@ -504,17 +499,10 @@ static inline lru_told lru_told_null_key(void) {
 }
 
 static inline lru_told lru_bytes_begin(lru_cache *cache, const void *key, size_t length,
-                                       uint64_t charge, lru_chain *gone) {
+                                       uint64_t charge, bool strict, lru_chain *gone) {
     if (key == NULL && length > 0)
         return lru_told_null_key();
-    return lru_bytes_begin_nonnull(cache, lru_key_or_empty(key), length, charge, gone);
-}
-
-static inline lru_told lru_bytes_begin_strictly(lru_cache *cache, const void *key, size_t length,
-                                                uint64_t charge, lru_chain *gone) {
-    if (key == NULL && length > 0)
-        return lru_told_null_key();
-    return lru_bytes_begin_strictly_nonnull(cache, lru_key_or_empty(key), length, charge, gone);
+    return lru_bytes_begin_nonnull(cache, lru_key_or_empty(key), length, charge, strict, gone);
 }
 
 static inline lru_told lru_bytes_get(lru_cache *cache, const void *key, size_t length) {
@@ -544,19 +532,12 @@ static inline lru_code lru_bytes_invalidate(lru_cache *cache, const void *key, s
 }
 
 static inline lru_told lru_bytes_insert(lru_cache *cache, const void *key, size_t length,
-                                        uint64_t charge, uint64_t value, lru_chain *gone) {
+                                        uint64_t charge, uint64_t value, bool strict,
+                                        lru_chain *gone) {
     if (key == NULL && length > 0)
         return lru_told_null_key();
-    return lru_bytes_insert_nonnull(cache, lru_key_or_empty(key), length, charge, value, gone);
-}
-
-static inline lru_told lru_bytes_insert_strictly(lru_cache *cache, const void *key, size_t length,
-                                                 uint64_t charge, uint64_t value,
-                                                 lru_chain *gone) {
-    if (key == NULL && length > 0)
-        return lru_told_null_key();
-    return lru_bytes_insert_strictly_nonnull(cache, lru_key_or_empty(key), length, charge, value,
-                                             gone);
+    return lru_bytes_insert_nonnull(cache, lru_key_or_empty(key), length, charge, value, strict,
+                                    gone);
 }
 
 /* A null buffer has no room. */

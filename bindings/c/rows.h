@@ -2,6 +2,7 @@
  * each kind of keys, with
  *
  *     FAMILY(name)    the function for such keys of that name, such as lru_bytes_get
+ *     KIND            the kind of such keys, with which a cache is opened
  *     KEY(k)          the arguments that pass the number k as a key
  *
  * The value of a key is the key itself unless a row says otherwise. */
@@ -16,13 +17,14 @@ typedef struct FAMILY(stage) {
 static void FAMILY(open_with_limits)(FAMILY(stage) *s, uint64_t capacity, uint64_t first_stamp,
                                      uint32_t most_pins) {
     memset(s, 0, sizeof *s);
-    CHECK(FAMILY(new_with_limits)(capacity, first_stamp, most_pins, 0, &s->cache), LRU_DONE);
+    CHECK(lru_cache_new_with_limits(KIND, capacity, first_stamp, most_pins, 0, &s->cache),
+          LRU_DONE);
     CHECK(lru_chain_new(&s->gone), LRU_DONE);
 }
 
 static void FAMILY(open)(FAMILY(stage) *s, uint64_t capacity) {
     memset(s, 0, sizeof *s);
-    CHECK(FAMILY(new)(capacity, 0, &s->cache), LRU_DONE);
+    CHECK(lru_cache_new(KIND, capacity, 0, &s->cache), LRU_DONE);
     CHECK(lru_chain_new(&s->gone), LRU_DONE);
 }
 
@@ -39,7 +41,7 @@ static size_t FAMILY(note)(FAMILY(stage) *s) {
 }
 
 static lru_told FAMILY(ask)(FAMILY(stage) *s, uint64_t k, uint64_t charge) {
-    lru_told told = FAMILY(begin)(&s->cache, KEY(k), charge, &s->gone);
+    lru_told told = FAMILY(begin)(&s->cache, KEY(k), charge, false, &s->gone);
     FAMILY(note)(s);
     return told;
 }
@@ -497,7 +499,7 @@ static void FAMILY(invalidates_a_making)(void) {
 
 /* Inserts a value, and returns the pin of its entry. */
 static lru_pin FAMILY(put)(FAMILY(stage) *s, uint64_t k, uint64_t charge, uint64_t value) {
-    lru_told told = FAMILY(insert)(&s->cache, KEY(k), charge, value, &s->gone);
+    lru_told told = FAMILY(insert)(&s->cache, KEY(k), charge, value, false, &s->gone);
     CHECK(told.code, LRU_DONE);
     CHECK(told.value, 0);
     FAMILY(note)(s);
@@ -534,9 +536,9 @@ static void FAMILY(inserts)(void) {
     CHECK(FAMILY(finds)(&s, 3, 31), true);
 
     /* refused: the key keeps its entry */
-    CHECK(FAMILY(insert)(&s.cache, KEY(3), 0, 32, &s.gone).code, LRU_NO_CHARGE);
+    CHECK(FAMILY(insert)(&s.cache, KEY(3), 0, 32, false, &s.gone).code, LRU_NO_CHARGE);
     first = FAMILY(hold)(&s, 3, 1);
-    CHECK(FAMILY(insert)(&s.cache, KEY(3), UINT64_MAX, 32, &s.gone).code, LRU_OVERFLOW);
+    CHECK(FAMILY(insert)(&s.cache, KEY(3), UINT64_MAX, 32, false, &s.gone).code, LRU_OVERFLOW);
     CHECK(FAMILY(finds)(&s, 3, 31), true);
     CHECK(FAMILY(let_go)(&s, first), 0);
     CHECK(FAMILY(note)(&s), 0);
@@ -555,13 +557,13 @@ static void FAMILY(is_full)(FAMILY(stage) *s, uint64_t k, uint64_t charge) {
 
     s->length = 0;
     CHECK(lru_cache_stats(&s->cache, &before), LRU_DONE);
-    told = FAMILY(begin_strictly)(&s->cache, KEY(k), charge, &s->gone);
+    told = FAMILY(begin)(&s->cache, KEY(k), charge, true, &s->gone);
     CHECK(told.code, LRU_FULL);
     CHECK(told.pin.stamp, 0);
     CHECK(told.pin.hash, 0);
     CHECK(told.pin.place, 0);
     CHECK(told.value, 0);
-    told = FAMILY(insert_strictly)(&s->cache, KEY(k), charge, 99, &s->gone);
+    told = FAMILY(insert)(&s->cache, KEY(k), charge, 99, true, &s->gone);
     CHECK(told.code, LRU_FULL);
     CHECK(told.pin.stamp, 0);
     CHECK(told.value, 0);
@@ -584,13 +586,13 @@ static void FAMILY(begins_strictly)(void) {
     FAMILY(is_full)(&s, 4, 7);
     FAMILY(is_full)(&s, 4, UINT64_MAX);
     CHECK(FAMILY(total_of)(&s), 10);
-    told = FAMILY(begin_strictly)(&s.cache, KEY(4), 3, &s.gone);
+    told = FAMILY(begin)(&s.cache, KEY(4), 3, true, &s.gone);
     CHECK(told.code, LRU_MAKE);
     FAMILY(note)(&s);
     EVICTED(&s, 2);
     CHECK(lru_cache_ready(&s.cache, told.pin, 4), LRU_DONE);
     CHECK(FAMILY(let_go)(&s, told.pin), 0);
-    told = FAMILY(begin_strictly)(&s.cache, KEY(5), 6, &s.gone);
+    told = FAMILY(begin)(&s.cache, KEY(5), 6, true, &s.gone);
     CHECK(told.code, LRU_MAKE);
     FAMILY(note)(&s);
     EVICTED(&s, 2, 3, 4);
@@ -598,24 +600,24 @@ static void FAMILY(begins_strictly)(void) {
 
     /* now all are held: an entry that exists is still found, made or waited for */
     FAMILY(is_full)(&s, 6, 1);
-    CHECK(FAMILY(begin_strictly)(&s.cache, KEY(1), 9, &s.gone).value, 1);
+    CHECK(FAMILY(begin)(&s.cache, KEY(1), 9, true, &s.gone).value, 1);
     CHECK(FAMILY(let_go)(&s, first), 0);
     second = told.pin;
-    CHECK(FAMILY(begin_strictly)(&s.cache, KEY(5), 9, &s.gone).code, LRU_WAIT);
+    CHECK(FAMILY(begin)(&s.cache, KEY(5), 9, true, &s.gone).code, LRU_WAIT);
     CHECK(lru_cache_fail(&s.cache, second), LRU_LEFT);
-    CHECK(FAMILY(begin_strictly)(&s.cache, KEY(5), 9, &s.gone).code, LRU_MAKE);
+    CHECK(FAMILY(begin)(&s.cache, KEY(5), 9, true, &s.gone).code, LRU_MAKE);
     CHECK(lru_cache_ready(&s.cache, second, 5), LRU_DONE);
-    CHECK(FAMILY(begin_strictly)(&s.cache, KEY(5), 9, &s.gone).code, LRU_HIT);
+    CHECK(FAMILY(begin)(&s.cache, KEY(5), 9, true, &s.gone).code, LRU_HIT);
 
     /* a charge of 0 is refused first; other refusals are those of begin */
-    CHECK(FAMILY(begin_strictly)(&s.cache, KEY(6), 0, &s.gone).code, LRU_NO_CHARGE);
+    CHECK(FAMILY(begin)(&s.cache, KEY(6), 0, true, &s.gone).code, LRU_NO_CHARGE);
     FAMILY(close)(&s);
     FAMILY(open_with_limits)(&s, 10, UINT64_MAX - 1, 1);
     FAMILY(hold)(&s, 1, 10);
-    CHECK(FAMILY(begin_strictly)(&s.cache, KEY(1), 1, &s.gone).code, LRU_OVERFLOW);
+    CHECK(FAMILY(begin)(&s.cache, KEY(1), 1, true, &s.gone).code, LRU_OVERFLOW);
     FAMILY(is_full)(&s, 2, UINT64_MAX);
     CHECK(FAMILY(let_go)(&s, pin_of(UINT64_MAX - 1)), 0);
-    CHECK(FAMILY(begin_strictly)(&s.cache, KEY(2), 1, &s.gone).code, LRU_OVERFLOW);
+    CHECK(FAMILY(begin)(&s.cache, KEY(2), 1, true, &s.gone).code, LRU_OVERFLOW);
     CHECK(FAMILY(total_of)(&s), 10);
     FAMILY(close)(&s);
 }
@@ -632,17 +634,17 @@ static void FAMILY(inserts_strictly)(void) {
     FAMILY(make)(&s, 3, 3);
 
     /* the held entry of the key counts, and the key keeps its entry */
-    told = FAMILY(insert_strictly)(&s.cache, KEY(1), 7, 10, &s.gone);
+    told = FAMILY(insert)(&s.cache, KEY(1), 7, 10, true, &s.gone);
     CHECK(told.code, LRU_FULL);
     CHECK(FAMILY(note)(&s), 0);
     CHECK(FAMILY(finds)(&s, 1, 1), true);
     CHECK(FAMILY(total_of)(&s), 10);
 
     /* an idle one does not: it comes first, followed by what the charge evicts */
-    told = FAMILY(insert_strictly)(&s.cache, KEY(3), 7, 30, &s.gone);
+    told = FAMILY(insert)(&s.cache, KEY(3), 7, 30, true, &s.gone);
     CHECK(told.code, LRU_FULL);
     CHECK(FAMILY(finds)(&s, 3, 3), true);
-    told = FAMILY(insert_strictly)(&s.cache, KEY(3), 6, 30, &s.gone);
+    told = FAMILY(insert)(&s.cache, KEY(3), 6, 30, true, &s.gone);
     CHECK(told.code, LRU_DONE);
     CHECK(told.value, 0);
     FAMILY(note)(&s);
@@ -654,7 +656,7 @@ static void FAMILY(inserts_strictly)(void) {
 
     /* beside a held entry of the key there is room once it is released */
     CHECK(FAMILY(let_go)(&s, second), 0);
-    told = FAMILY(insert_strictly)(&s.cache, KEY(1), 6, 11, &s.gone);
+    told = FAMILY(insert)(&s.cache, KEY(1), 6, 11, true, &s.gone);
     CHECK(told.code, LRU_DONE);
     FAMILY(note)(&s);
     EVICTED(&s, 30);
@@ -664,11 +666,11 @@ static void FAMILY(inserts_strictly)(void) {
     CHECK(FAMILY(let_go)(&s, told.pin), 0);
 
     /* refusals of insert */
-    CHECK(FAMILY(insert_strictly)(&s.cache, KEY(1), 0, 12, &s.gone).code, LRU_NO_CHARGE);
+    CHECK(FAMILY(insert)(&s.cache, KEY(1), 0, 12, true, &s.gone).code, LRU_NO_CHARGE);
     FAMILY(close)(&s);
     FAMILY(open_with_limits)(&s, 10, UINT64_MAX, 1);
     FAMILY(is_full)(&s, 1, 11);
-    CHECK(FAMILY(insert_strictly)(&s.cache, KEY(1), 10, 1, &s.gone).code, LRU_OVERFLOW);
+    CHECK(FAMILY(insert)(&s.cache, KEY(1), 10, 1, true, &s.gone).code, LRU_OVERFLOW);
     FAMILY(close)(&s);
 
     /* a lower capacity leaves held entries above it: nothing is added until they are released */
@@ -677,7 +679,7 @@ static void FAMILY(inserts_strictly)(void) {
     CHECK(lru_cache_set_capacity(&s.cache, 5, &s.gone), LRU_DONE);
     FAMILY(is_full)(&s, 2, 1);
     CHECK(FAMILY(let_go)(&s, first), 1);
-    CHECK(FAMILY(insert_strictly)(&s.cache, KEY(2), 5, 2, &s.gone).code, LRU_DONE);
+    CHECK(FAMILY(insert)(&s.cache, KEY(2), 5, 2, true, &s.gone).code, LRU_DONE);
     FAMILY(is_full)(&s, 3, 1);
     FAMILY(close)(&s);
 }
@@ -917,7 +919,7 @@ static void FAMILY(entries)(void) {
     FAMILY(check_entry)(&s, told.pin, 1, 4, 1, 0);
 
     /* detached, beside a new entry of its key */
-    waits = FAMILY(insert)(&s.cache, KEY(1), 3, 5, &s.gone);
+    waits = FAMILY(insert)(&s.cache, KEY(1), 3, 5, false, &s.gone);
     FAMILY(check_entry)(&s, told.pin, 1, 4, 1, 1);
     FAMILY(check_entry)(&s, waits.pin, 5, 3, 1, 0);
 
@@ -979,7 +981,7 @@ static void FAMILY(frees)(void) {
     CHECK(lru_chain_free(&s.gone), LRU_DONE);
 
     /* the handle can be opened again */
-    CHECK(FAMILY(new)(1, 0, &s.cache), LRU_DONE);
+    CHECK(lru_cache_new(KIND, 1, 0, &s.cache), LRU_DONE);
     CHECK(lru_chain_new(&s.gone), LRU_DONE);
     CHECK(lru_cache_len(&s.cache).value, 0);
     FAMILY(close)(&s);
@@ -996,7 +998,7 @@ static void FAMILY(misuse)(void) {
     FAMILY(open)(&s, 2);
 
     /* a cache that is not open */
-    CHECK(FAMILY(begin)(&closed, KEY(1), 1, &s.gone).code, LRU_CLOSED);
+    CHECK(FAMILY(begin)(&closed, KEY(1), 1, false, &s.gone).code, LRU_CLOSED);
     CHECK(lru_cache_poll(&closed, pin_of(0)).code, LRU_CLOSED);
     CHECK(lru_cache_ready(&closed, pin_of(0), 1), LRU_CLOSED);
     CHECK(lru_cache_fail(&closed, pin_of(0)), LRU_CLOSED);
@@ -1007,9 +1009,9 @@ static void FAMILY(misuse)(void) {
     CHECK(lru_cache_release_and_evict(&closed, pin_of(0), &s.gone), LRU_CLOSED);
     CHECK(FAMILY(advice_evict)(&closed, KEY(1), &s.gone), LRU_CLOSED);
     CHECK(FAMILY(invalidate)(&closed, KEY(1), &s.gone), LRU_CLOSED);
-    CHECK(FAMILY(insert)(&closed, KEY(1), 1, 1, &s.gone).code, LRU_CLOSED);
-    CHECK(FAMILY(begin_strictly)(&closed, KEY(1), 1, &s.gone).code, LRU_CLOSED);
-    CHECK(FAMILY(insert_strictly)(&closed, KEY(1), 1, 1, &s.gone).code, LRU_CLOSED);
+    CHECK(FAMILY(insert)(&closed, KEY(1), 1, 1, false, &s.gone).code, LRU_CLOSED);
+    CHECK(FAMILY(begin)(&closed, KEY(1), 1, true, &s.gone).code, LRU_CLOSED);
+    CHECK(FAMILY(insert)(&closed, KEY(1), 1, 1, true, &s.gone).code, LRU_CLOSED);
     CHECK(lru_cache_prune(&closed, &s.gone), LRU_CLOSED);
     CHECK(lru_cache_set_capacity(&closed, 1, &s.gone), LRU_CLOSED);
     CHECK(lru_cache_reserve(&closed, 1), LRU_CLOSED);
@@ -1021,14 +1023,14 @@ static void FAMILY(misuse)(void) {
     CHECK(lru_chain_is_empty(&s.gone), true);
 
     /* a chain that is not open */
-    CHECK(FAMILY(begin)(&s.cache, KEY(1), 1, &shut).code, LRU_CLOSED);
+    CHECK(FAMILY(begin)(&s.cache, KEY(1), 1, false, &shut).code, LRU_CLOSED);
     CHECK(lru_cache_release(&s.cache, pin_of(0), &shut), LRU_CLOSED);
     CHECK(lru_cache_release_and_evict(&s.cache, pin_of(0), &shut), LRU_CLOSED);
     CHECK(FAMILY(advice_evict)(&s.cache, KEY(1), &shut), LRU_CLOSED);
     CHECK(FAMILY(invalidate)(&s.cache, KEY(1), &shut), LRU_CLOSED);
-    CHECK(FAMILY(insert)(&s.cache, KEY(1), 1, 1, &shut).code, LRU_CLOSED);
-    CHECK(FAMILY(begin_strictly)(&s.cache, KEY(1), 1, &shut).code, LRU_CLOSED);
-    CHECK(FAMILY(insert_strictly)(&s.cache, KEY(1), 1, 1, &shut).code, LRU_CLOSED);
+    CHECK(FAMILY(insert)(&s.cache, KEY(1), 1, 1, false, &shut).code, LRU_CLOSED);
+    CHECK(FAMILY(begin)(&s.cache, KEY(1), 1, true, &shut).code, LRU_CLOSED);
+    CHECK(FAMILY(insert)(&s.cache, KEY(1), 1, 1, true, &shut).code, LRU_CLOSED);
     CHECK(lru_cache_prune(&s.cache, &shut), LRU_CLOSED);
     CHECK(lru_cache_set_capacity(&s.cache, 1, &shut), LRU_CLOSED);
     CHECK(lru_cache_free(&s.cache, &shut), LRU_CLOSED);
@@ -1037,30 +1039,30 @@ static void FAMILY(misuse)(void) {
     CHECK(lru_chain_is_empty(&shut), true);
 
     /* handles that are open already */
-    CHECK(FAMILY(new)(1, 0, &s.cache), LRU_OPEN);
-    CHECK(FAMILY(new_with_limits)(1, 0, 1, 0, &s.cache), LRU_OPEN);
+    CHECK(lru_cache_new(KIND, 1, 0, &s.cache), LRU_OPEN);
+    CHECK(lru_cache_new_with_limits(KIND, 1, 0, 1, 0, &s.cache), LRU_OPEN);
     CHECK(lru_chain_new(&s.gone), LRU_OPEN);
 
     /* numbers that are 0 */
-    CHECK(FAMILY(new_with_limits)(1, 0, 0, 0, &closed), LRU_NO_PINS);
-    CHECK(FAMILY(begin)(&s.cache, KEY(1), 0, &s.gone).code, LRU_NO_CHARGE);
+    CHECK(lru_cache_new_with_limits(KIND, 1, 0, 0, 0, &closed), LRU_NO_PINS);
+    CHECK(FAMILY(begin)(&s.cache, KEY(1), 0, false, &s.gone).code, LRU_NO_CHARGE);
     CHECK(lru_cache_len(&s.cache).value, 0);
     FAMILY(make)(&s, 1, 1);
-    CHECK(FAMILY(begin)(&s.cache, KEY(1), 0, &s.gone).code, LRU_NO_CHARGE);
+    CHECK(FAMILY(begin)(&s.cache, KEY(1), 0, false, &s.gone).code, LRU_NO_CHARGE);
     CHECK(FAMILY(pinned_of)(&s), 0);
 
     /* a chain that still holds entries */
     pin = FAMILY(hold)(&s, 2, 1);
     CHECK(FAMILY(advice_evict)(&s.cache, KEY(1), &s.gone), LRU_DONE);
     CHECK(lru_chain_is_empty(&s.gone), false);
-    CHECK(FAMILY(begin)(&s.cache, KEY(3), 1, &s.gone).code, LRU_NOT_EMPTY);
+    CHECK(FAMILY(begin)(&s.cache, KEY(3), 1, false, &s.gone).code, LRU_NOT_EMPTY);
     CHECK(lru_cache_release(&s.cache, pin, &s.gone), LRU_NOT_EMPTY);
     CHECK(lru_cache_release_and_evict(&s.cache, pin, &s.gone), LRU_NOT_EMPTY);
     CHECK(FAMILY(advice_evict)(&s.cache, KEY(2), &s.gone), LRU_NOT_EMPTY);
     CHECK(FAMILY(invalidate)(&s.cache, KEY(2), &s.gone), LRU_NOT_EMPTY);
-    CHECK(FAMILY(insert)(&s.cache, KEY(2), 1, 1, &s.gone).code, LRU_NOT_EMPTY);
-    CHECK(FAMILY(begin_strictly)(&s.cache, KEY(3), 9, &s.gone).code, LRU_NOT_EMPTY);
-    CHECK(FAMILY(insert_strictly)(&s.cache, KEY(2), 9, 1, &s.gone).code, LRU_NOT_EMPTY);
+    CHECK(FAMILY(insert)(&s.cache, KEY(2), 1, 1, false, &s.gone).code, LRU_NOT_EMPTY);
+    CHECK(FAMILY(begin)(&s.cache, KEY(3), 9, true, &s.gone).code, LRU_NOT_EMPTY);
+    CHECK(FAMILY(insert)(&s.cache, KEY(2), 9, 1, true, &s.gone).code, LRU_NOT_EMPTY);
     CHECK(lru_cache_prune(&s.cache, &s.gone), LRU_NOT_EMPTY);
     CHECK(lru_cache_set_capacity(&s.cache, 0, &s.gone), LRU_NOT_EMPTY);
     CHECK(lru_cache_free(&s.cache, &s.gone), LRU_NOT_EMPTY);

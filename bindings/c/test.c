@@ -55,15 +55,19 @@ static const void *bytes_of(uint64_t k) {
 }
 
 #define FAMILY(name) lru_bytes_##name
+#define KIND LRU_BYTES
 #define KEY(k) bytes_of(k), sizeof(uint64_t)
 #include "rows.h"
 #undef FAMILY
+#undef KIND
 #undef KEY
 
 #define FAMILY(name) lru_words_##name
+#define KIND LRU_WORDS
 #define KEY(k) (k), ~(uint64_t)(k)
 #include "rows.h"
 #undef FAMILY
+#undef KIND
 #undef KEY
 
 /* Keys of bytes have any length, and null is the empty key if the length is 0. */
@@ -74,27 +78,27 @@ static void keys_of_bytes(void) {
     lru_told told;
     char key[8];
 
-    CHECK(lru_bytes_new(10, 0, &cache), LRU_DONE);
+    CHECK(lru_cache_new(LRU_BYTES, 10, 0, &cache), LRU_DONE);
     CHECK(lru_chain_new(&gone), LRU_DONE);
 
-    CHECK(lru_bytes_begin(&cache, NULL, 1, 1, &gone).code, LRU_NULL_KEY);
-    CHECK(lru_bytes_begin_strictly(&cache, NULL, 1, 1, &gone).code, LRU_NULL_KEY);
+    CHECK(lru_bytes_begin(&cache, NULL, 1, 1, false, &gone).code, LRU_NULL_KEY);
+    CHECK(lru_bytes_begin(&cache, NULL, 1, 1, true, &gone).code, LRU_NULL_KEY);
     CHECK(lru_bytes_get(&cache, NULL, 1).code, LRU_NULL_KEY);
     CHECK(lru_bytes_contains(&cache, NULL, 1), LRU_NULL_KEY);
     CHECK(lru_bytes_advice_evict(&cache, NULL, 1, &gone), LRU_NULL_KEY);
     CHECK(lru_bytes_invalidate(&cache, NULL, 1, &gone), LRU_NULL_KEY);
-    CHECK(lru_bytes_insert(&cache, NULL, 1, 1, 1, &gone).code, LRU_NULL_KEY);
-    CHECK(lru_bytes_insert_strictly(&cache, NULL, 1, 1, 1, &gone).code, LRU_NULL_KEY);
+    CHECK(lru_bytes_insert(&cache, NULL, 1, 1, 1, false, &gone).code, LRU_NULL_KEY);
+    CHECK(lru_bytes_insert(&cache, NULL, 1, 1, 1, true, &gone).code, LRU_NULL_KEY);
     CHECK(lru_cache_len(&cache).value, 0);
 
-    told = lru_bytes_begin(&cache, NULL, 0, 1, &gone);
+    told = lru_bytes_begin(&cache, NULL, 0, 1, false, &gone);
     CHECK(told.code, LRU_MAKE);
     CHECK(lru_cache_ready(&cache, told.pin, 100), LRU_DONE);
     CHECK(lru_bytes_get(&cache, "", 0).value, 100);
 
     /* the key is copied: its bytes may change */
     memcpy(key, "abc", 4);
-    told = lru_bytes_begin(&cache, key, 3, 1, &gone);
+    told = lru_bytes_begin(&cache, key, 3, 1, false, &gone);
     CHECK(told.code, LRU_MAKE);
     memcpy(key, "xyz", 4);
     CHECK(lru_cache_ready(&cache, told.pin, 200), LRU_DONE);
@@ -136,9 +140,9 @@ static void keys_of_words(void) {
     lru_told told;
     uint64_t first = 7, second = 8;
 
-    CHECK(lru_words_new(10, 0, &cache), LRU_DONE);
+    CHECK(lru_cache_new(LRU_WORDS, 10, 0, &cache), LRU_DONE);
     CHECK(lru_chain_new(&gone), LRU_DONE);
-    told = lru_words_begin(&cache, 1, 2, 1, &gone);
+    told = lru_words_begin(&cache, 1, 2, 1, false, &gone);
     CHECK(told.code, LRU_MAKE);
     CHECK(lru_cache_ready(&cache, told.pin, 100), LRU_DONE);
     CHECK(lru_words_get(&cache, 2, 1).code, LRU_MISSED);
@@ -201,12 +205,12 @@ static void counts(void) {
     CHECK(kept.hits, 1);
     CHECK(kept.capacity, 10);
     /* the stamps need not begin at 0 */
-    CHECK(lru_words_new_with_limits(2, 100, 3, 0, &cache), LRU_DONE);
+    CHECK(lru_cache_new_with_limits(LRU_WORDS, 2, 100, 3, 0, &cache), LRU_DONE);
     CHECK(lru_chain_new(&gone), LRU_DONE);
     CHECK_STATS(cache, 0, 0, 0, 0, 0, 0, 0, 0, 0, 2);
 
-    told = lru_words_begin(&cache, 1, 1, 2, &gone); /* a miss, and one waits */
-    other = lru_words_begin(&cache, 1, 1, 2, &gone);
+    told = lru_words_begin(&cache, 1, 1, 2, false, &gone); /* a miss, and one waits */
+    other = lru_words_begin(&cache, 1, 1, 2, false, &gone);
     CHECK(told.code, LRU_MAKE);
     CHECK(other.code, LRU_WAIT);
     CHECK_STATS(cache, 0, 1, 1, 1, 0, 0, 1, 2, 2, 2);
@@ -215,7 +219,7 @@ static void counts(void) {
 
     /* a making that is taken over inserts nothing, whether by `poll` or by `begin` */
     CHECK(lru_cache_fail(&cache, told.pin), LRU_LEFT);
-    CHECK(lru_words_begin(&cache, 1, 1, 2, &gone).code, LRU_MAKE);
+    CHECK(lru_words_begin(&cache, 1, 1, 2, false, &gone).code, LRU_MAKE);
     CHECK_STATS(cache, 0, 3, 1, 1, 0, 0, 1, 2, 2, 2);
     CHECK(lru_cache_fail(&cache, told.pin), LRU_LEFT);
     CHECK(lru_cache_poll(&cache, told.pin).code, LRU_MAKE);
@@ -223,10 +227,10 @@ static void counts(void) {
     CHECK_STATS(cache, 0, 3, 1, 1, 0, 1, 0, 0, 0, 2);
 
     /* an insert is neither a hit nor a miss; a refusal counts nothing */
-    told = lru_words_insert(&cache, 1, 1, 1, 10, &gone);
+    told = lru_words_insert(&cache, 1, 1, 1, 10, false, &gone);
     CHECK(told.code, LRU_DONE);
-    CHECK(lru_words_insert(&cache, 1, 1, 0, 10, &gone).code, LRU_NO_CHARGE);
-    CHECK(lru_words_begin(&cache, 1, 1, 1, &gone).code, LRU_HIT);
+    CHECK(lru_words_insert(&cache, 1, 1, 0, 10, false, &gone).code, LRU_NO_CHARGE);
+    CHECK(lru_words_begin(&cache, 1, 1, 1, false, &gone).code, LRU_HIT);
     CHECK(lru_words_get(&cache, 1, 1).code, LRU_HIT);
     CHECK(lru_words_get(&cache, 1, 1).code, LRU_OVERFLOW);
     CHECK(lru_cache_repin(&cache, told.pin).code, LRU_OVERFLOW);
@@ -243,17 +247,17 @@ static void counts(void) {
     CHECK_STATS(cache, 2, 3, 1, 2, 0, 1, 1, 1, 0, 2);
 
     /* the new entry evicts the idle one */
-    told = lru_words_begin(&cache, 2, 2, 2, &gone);
+    told = lru_words_begin(&cache, 2, 2, 2, false, &gone);
     CHECK(told.code, LRU_MAKE);
     CHECK_STATS(cache, 2, 4, 1, 3, 1, 1, 1, 2, 2, 2);
     CHECK(lru_chain_pop(&gone, &entry), true);
     CHECK(entry.value, 10);
 
     /* the strict calls count as the others do, and a refusal for lack of room counts nothing */
-    CHECK(lru_words_begin_strictly(&cache, 3, 3, 1, &gone).code, LRU_FULL);
-    CHECK(lru_words_insert_strictly(&cache, 3, 3, 1, 30, &gone).code, LRU_FULL);
+    CHECK(lru_words_begin(&cache, 3, 3, 1, true, &gone).code, LRU_FULL);
+    CHECK(lru_words_insert(&cache, 3, 3, 1, 30, true, &gone).code, LRU_FULL);
     CHECK_STATS(cache, 2, 4, 1, 3, 1, 1, 1, 2, 2, 2);
-    CHECK(lru_words_begin_strictly(&cache, 2, 2, 2, &gone).code, LRU_WAIT);
+    CHECK(lru_words_begin(&cache, 2, 2, 2, true, &gone).code, LRU_WAIT);
     CHECK_STATS(cache, 2, 4, 2, 3, 1, 1, 1, 2, 2, 2);
     CHECK(lru_cache_fail(&cache, told.pin), LRU_LEFT);
     CHECK(lru_cache_poll(&cache, told.pin).code, LRU_MAKE);
@@ -265,12 +269,12 @@ static void counts(void) {
     CHECK(lru_chain_pop(&gone, &entry), true);
     CHECK(entry.value, 20);
 
-    told = lru_words_begin_strictly(&cache, 3, 3, 1, &gone);
+    told = lru_words_begin(&cache, 3, 3, 1, true, &gone);
     CHECK(told.code, LRU_MAKE);
     CHECK(lru_cache_ready(&cache, told.pin, 30), LRU_DONE);
-    CHECK(lru_words_begin_strictly(&cache, 3, 3, 9, &gone).code, LRU_HIT);
+    CHECK(lru_words_begin(&cache, 3, 3, 9, true, &gone).code, LRU_HIT);
     CHECK_STATS(cache, 3, 5, 2, 4, 2, 1, 1, 1, 1, 2);
-    told = lru_words_insert_strictly(&cache, 4, 4, 1, 40, &gone);
+    told = lru_words_insert(&cache, 4, 4, 1, 40, true, &gone);
     CHECK(told.code, LRU_DONE);
     CHECK_STATS(cache, 3, 5, 2, 5, 2, 1, 2, 2, 2, 2);
 
@@ -284,46 +288,49 @@ static void counts(void) {
 
 /* A key of the other kind is refused and changes nothing; a chain takes the entries of both. */
 static void keys_of_the_other_kind(void) {
-    lru_cache bytes = {0}, words = {0};
+    lru_cache bytes = {0}, words = {0}, neither = {0};
     lru_chain gone = {0};
     lru_told told, other;
     lru_gone entry;
     uint64_t first = 7, second = 8;
     char buffer[2] = {9, 9};
 
-    CHECK(lru_bytes_new(10, 0, &bytes), LRU_DONE);
-    CHECK(lru_words_new(10, 0, &words), LRU_DONE);
-    CHECK(lru_words_new(10, 0, &bytes), LRU_OPEN);
-    CHECK(lru_bytes_new(10, 0, &words), LRU_OPEN);
+    CHECK(lru_cache_new(LRU_BYTES, 10, 0, &bytes), LRU_DONE);
+    CHECK(lru_cache_new(LRU_WORDS, 10, 0, &words), LRU_DONE);
+    CHECK(lru_cache_new(LRU_WORDS, 10, 0, &bytes), LRU_OPEN);
+    CHECK(lru_cache_new(LRU_BYTES, 10, 0, &words), LRU_OPEN);
+    CHECK(lru_cache_new(2, 10, 0, &neither), LRU_NO_KIND);
+    CHECK(lru_cache_new_with_limits(2, 10, 0, 1, 0, &neither), LRU_NO_KIND);
+    CHECK(lru_cache_len(&neither).code, LRU_CLOSED);
     CHECK(lru_chain_new(&gone), LRU_DONE);
-    told = lru_bytes_insert(&bytes, "k", 1, 4, 100, &gone);
+    told = lru_bytes_insert(&bytes, "k", 1, 4, 100, false, &gone);
     CHECK(told.code, LRU_DONE);
-    other = lru_words_insert(&words, 1, 2, 5, 200, &gone);
+    other = lru_words_insert(&words, 1, 2, 5, 200, false, &gone);
     CHECK(other.code, LRU_DONE);
 
-    CHECK(lru_words_begin(&bytes, 1, 2, 1, &gone).code, LRU_OTHER_KEYS);
-    CHECK(lru_words_begin(&bytes, 1, 2, 0, &gone).code, LRU_OTHER_KEYS);
-    CHECK(lru_words_begin_strictly(&bytes, 1, 2, 11, &gone).code, LRU_OTHER_KEYS);
+    CHECK(lru_words_begin(&bytes, 1, 2, 1, false, &gone).code, LRU_OTHER_KEYS);
+    CHECK(lru_words_begin(&bytes, 1, 2, 0, false, &gone).code, LRU_OTHER_KEYS);
+    CHECK(lru_words_begin(&bytes, 1, 2, 11, true, &gone).code, LRU_OTHER_KEYS);
     CHECK(lru_words_get(&bytes, 1, 2).code, LRU_OTHER_KEYS);
     CHECK(lru_words_contains(&bytes, 1, 2), LRU_OTHER_KEYS);
     CHECK(lru_words_advice_evict(&bytes, 1, 2, &gone), LRU_OTHER_KEYS);
     CHECK(lru_words_invalidate(&bytes, 1, 2, &gone), LRU_OTHER_KEYS);
-    CHECK(lru_words_insert(&bytes, 1, 2, 1, 1, &gone).code, LRU_OTHER_KEYS);
-    CHECK(lru_words_insert_strictly(&bytes, 1, 2, 11, 1, &gone).code, LRU_OTHER_KEYS);
+    CHECK(lru_words_insert(&bytes, 1, 2, 1, 1, false, &gone).code, LRU_OTHER_KEYS);
+    CHECK(lru_words_insert(&bytes, 1, 2, 11, 1, true, &gone).code, LRU_OTHER_KEYS);
     CHECK(lru_words_key_of(&bytes, told.pin, &first, &second), LRU_OTHER_KEYS);
     CHECK(first, 7);
     CHECK(second, 8);
     CHECK_STATS(bytes, 0, 0, 0, 1, 0, 0, 1, 4, 4, 10);
 
-    CHECK(lru_bytes_begin(&words, "k", 1, 1, &gone).code, LRU_OTHER_KEYS);
-    CHECK(lru_bytes_begin(&words, "k", 1, 0, &gone).code, LRU_OTHER_KEYS);
-    CHECK(lru_bytes_begin_strictly(&words, "k", 1, 11, &gone).code, LRU_OTHER_KEYS);
+    CHECK(lru_bytes_begin(&words, "k", 1, 1, false, &gone).code, LRU_OTHER_KEYS);
+    CHECK(lru_bytes_begin(&words, "k", 1, 0, false, &gone).code, LRU_OTHER_KEYS);
+    CHECK(lru_bytes_begin(&words, "k", 1, 11, true, &gone).code, LRU_OTHER_KEYS);
     CHECK(lru_bytes_get(&words, "k", 1).code, LRU_OTHER_KEYS);
     CHECK(lru_bytes_contains(&words, "k", 1), LRU_OTHER_KEYS);
     CHECK(lru_bytes_advice_evict(&words, "k", 1, &gone), LRU_OTHER_KEYS);
     CHECK(lru_bytes_invalidate(&words, "k", 1, &gone), LRU_OTHER_KEYS);
-    CHECK(lru_bytes_insert(&words, "k", 1, 1, 1, &gone).code, LRU_OTHER_KEYS);
-    CHECK(lru_bytes_insert_strictly(&words, "k", 1, 11, 1, &gone).code, LRU_OTHER_KEYS);
+    CHECK(lru_bytes_insert(&words, "k", 1, 1, 1, false, &gone).code, LRU_OTHER_KEYS);
+    CHECK(lru_bytes_insert(&words, "k", 1, 11, 1, true, &gone).code, LRU_OTHER_KEYS);
     CHECK(lru_bytes_key_of(&words, other.pin, buffer, sizeof buffer).code, LRU_OTHER_KEYS);
     CHECK(buffer[0], 9);
     CHECK_STATS(words, 0, 0, 0, 1, 0, 0, 1, 5, 5, 10);

@@ -62,15 +62,11 @@ struct Calls {};
 
 template <>
 struct Calls<std::string_view> {
-  static constexpr auto make = lru_bytes_new;
+  static constexpr std::uint32_t kind = LRU_BYTES;
 
-  static lru_told begin(lru_cache* cache, std::string_view key, std::uint64_t charge,
+  static lru_told begin(lru_cache* cache, std::string_view key, std::uint64_t charge, bool strict,
                         lru_chain* gone) {
-    return lru_bytes_begin(cache, key.data(), key.size(), charge, gone);
-  }
-  static lru_told begin_strictly(lru_cache* cache, std::string_view key, std::uint64_t charge,
-                                 lru_chain* gone) {
-    return lru_bytes_begin_strictly(cache, key.data(), key.size(), charge, gone);
+    return lru_bytes_begin(cache, key.data(), key.size(), charge, strict, gone);
   }
   static lru_told get(lru_cache* cache, std::string_view key) {
     return lru_bytes_get(cache, key.data(), key.size());
@@ -85,25 +81,18 @@ struct Calls<std::string_view> {
     return lru_bytes_invalidate(cache, key.data(), key.size(), gone);
   }
   static lru_told insert(lru_cache* cache, std::string_view key, std::uint64_t charge,
-                         std::uint64_t value, lru_chain* gone) {
-    return lru_bytes_insert(cache, key.data(), key.size(), charge, value, gone);
-  }
-  static lru_told insert_strictly(lru_cache* cache, std::string_view key, std::uint64_t charge,
-                                  std::uint64_t value, lru_chain* gone) {
-    return lru_bytes_insert_strictly(cache, key.data(), key.size(), charge, value, gone);
+                         std::uint64_t value, bool strict, lru_chain* gone) {
+    return lru_bytes_insert(cache, key.data(), key.size(), charge, value, strict, gone);
   }
 };
 
 template <>
 struct Calls<Words> {
-  static constexpr auto make = lru_words_new;
+  static constexpr std::uint32_t kind = LRU_WORDS;
 
-  static lru_told begin(lru_cache* cache, Words key, std::uint64_t charge, lru_chain* gone) {
-    return lru_words_begin(cache, key.first, key.second, charge, gone);
-  }
-  static lru_told begin_strictly(lru_cache* cache, Words key, std::uint64_t charge,
-                                 lru_chain* gone) {
-    return lru_words_begin_strictly(cache, key.first, key.second, charge, gone);
+  static lru_told begin(lru_cache* cache, Words key, std::uint64_t charge, bool strict,
+                        lru_chain* gone) {
+    return lru_words_begin(cache, key.first, key.second, charge, strict, gone);
   }
   static lru_told get(lru_cache* cache, Words key) {
     return lru_words_get(cache, key.first, key.second);
@@ -118,12 +107,8 @@ struct Calls<Words> {
     return lru_words_invalidate(cache, key.first, key.second, gone);
   }
   static lru_told insert(lru_cache* cache, Words key, std::uint64_t charge, std::uint64_t value,
-                         lru_chain* gone) {
-    return lru_words_insert(cache, key.first, key.second, charge, value, gone);
-  }
-  static lru_told insert_strictly(lru_cache* cache, Words key, std::uint64_t charge,
-                                  std::uint64_t value, lru_chain* gone) {
-    return lru_words_insert_strictly(cache, key.first, key.second, charge, value, gone);
+                         bool strict, lru_chain* gone) {
+    return lru_words_insert(cache, key.first, key.second, charge, value, strict, gone);
   }
 };
 
@@ -181,17 +166,16 @@ class Core {
   // it: then only the destructor may follow.
   [[nodiscard]] bool open(std::uint64_t capacity, Seed seed) noexcept {
     return lru_chain_new(&chain_) == LRU_DONE &&
-           Calls::make(capacity, seed.number, &cache_) == LRU_DONE;
+           lru_cache_new(Calls::kind, capacity, seed.number, &cache_) == LRU_DONE;
   }
 
-  // Whether the capacity is a strict limit, which at first it is not. If it is, begin and insert do
-  // what begin_strictly and insert_strictly of lru.h do.
+  // Whether the capacity is a strict limit, which at first it is not. If it is, calls of begin and
+  // insert are strict.
   void set_strict_limit(bool is_strict) noexcept { is_strict_ = is_strict; }
   bool is_limit_strict() const noexcept { return is_strict_; }
 
   lru_told begin(Key key, std::uint64_t charge, Evicted<Node>* evicted) noexcept {
-    const auto call = is_strict_ ? Calls::begin_strictly : Calls::begin;
-    const lru_told told = call(&cache_, key, charge, &chain_);
+    const lru_told told = Calls::begin(&cache_, key, charge, is_strict_, &chain_);
     if (told.code == LRU_MAKE) take_evicted(evicted);
     return told;
   }
@@ -226,8 +210,7 @@ class Core {
   }
   // After LRU_DONE the node is the core's; else it is still the caller's.
   lru_told insert(Key key, std::uint64_t charge, Node* node, Evicted<Node>* evicted) noexcept {
-    const auto call = is_strict_ ? Calls::insert_strictly : Calls::insert;
-    const lru_told told = call(&cache_, key, charge, word_of(node), &chain_);
+    const lru_told told = Calls::insert(&cache_, key, charge, word_of(node), is_strict_, &chain_);
     take_evicted(evicted);
     return told;
   }

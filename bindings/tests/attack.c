@@ -32,10 +32,10 @@ int main(int argc, char **argv) {
     uint64_t seed = argc > 1 ? strtoull(argv[1], NULL, 10) : random_seed();
     size_t count = fread(keys, sizeof keys[0], MOST_KEYS, stdin);
 
-    check(lru_words_new(UINT64_MAX, seed, &cache) == LRU_DONE);
+    check(lru_cache_new(LRU_WORDS, UINT64_MAX, seed, &cache) == LRU_DONE);
     check(lru_chain_new(&gone) == LRU_DONE);
     for (size_t i = 0; i < count; i++) {
-        lru_told told = lru_words_insert(&cache, keys[i][0], keys[i][1], 1, i, &gone);
+        lru_told told = lru_words_insert(&cache, keys[i][0], keys[i][1], 1, i, false, &gone);
         check(told.code == LRU_DONE);
         release(told.pin);
     }

@@ -62,16 +62,19 @@ static char key_bytes[1200];
 
 #define NAME(call) lru_bytes_##call
 #define CALL(call) "bytes_" call
+#define KIND LRU_BYTES
 #define KEY(n) key_bytes, (size_t)(n)
 #define RUN run_bytes
 #include "no_memory_script.h"
 #undef NAME
 #undef CALL
+#undef KIND
 #undef KEY
 #undef RUN
 
 #define NAME(call) lru_words_##call
 #define CALL(call) "words_" call
+#define KIND LRU_WORDS
 #define KEY(n) (uint64_t)(n) % 7, (uint64_t)(n)
 #define RUN run_words
 #include "no_memory_script.h"

@@ -2,6 +2,7 @@
  *
  *   NAME(call)   the name of a function for such keys, or of one that is defined here
  *   CALL(call)   the same as text, where a call may be refused
+ *   KIND         the kind of such keys, with which a cache is opened
  *   KEY(n)       the key of a number, as arguments
  *   RUN          the name of the function that is defined here
  */
@@ -20,11 +21,11 @@ static void NAME(take)(lru_chain *gone) {
 
 static lru_told NAME(ask)(lru_cache *cache, lru_chain *gone, unsigned n, uint64_t charge) {
     uint64_t before = NAME(weighed)(cache);
-    lru_told told = NAME(begin)(cache, KEY(n), charge, gone);
+    lru_told told = NAME(begin)(cache, KEY(n), charge, false, gone);
     if (refused(told.code, CALL("begin"))) {
         if (!lru_chain_is_empty(gone) || NAME(weighed)(cache) != before)
             wrong("a refused begin changed something");
-        told = NAME(begin)(cache, KEY(n), charge, gone);
+        told = NAME(begin)(cache, KEY(n), charge, false, gone);
     }
     NAME(take)(gone);
     say("begin", told);
@@ -33,11 +34,11 @@ static lru_told NAME(ask)(lru_cache *cache, lru_chain *gone, unsigned n, uint64_
 
 static lru_told NAME(ask_strictly)(lru_cache *cache, lru_chain *gone, unsigned n, uint64_t charge) {
     uint64_t before = NAME(weighed)(cache);
-    lru_told told = NAME(begin_strictly)(cache, KEY(n), charge, gone);
+    lru_told told = NAME(begin)(cache, KEY(n), charge, true, gone);
     if (refused(told.code, CALL("begin_strictly"))) {
         if (!lru_chain_is_empty(gone) || NAME(weighed)(cache) != before)
             wrong("a refused begin_strictly changed something");
-        told = NAME(begin_strictly)(cache, KEY(n), charge, gone);
+        told = NAME(begin)(cache, KEY(n), charge, true, gone);
     }
     NAME(take)(gone);
     say("begin_strictly", told);
@@ -104,11 +105,11 @@ static void NAME(look)(lru_cache *cache, unsigned n) {
 /* Puts a value in, and answers the pin of its entry. */
 static lru_pin NAME(put)(lru_cache *cache, lru_chain *gone, unsigned n, uint64_t charge) {
     uint64_t before = NAME(weighed)(cache), value = new_object();
-    lru_told told = NAME(insert)(cache, KEY(n), charge, value, gone);
+    lru_told told = NAME(insert)(cache, KEY(n), charge, value, false, gone);
     if (refused(told.code, CALL("insert"))) {
         if (!lru_chain_is_empty(gone) || NAME(weighed)(cache) != before)
             wrong("a refused insert changed something");
-        told = NAME(insert)(cache, KEY(n), charge, value, gone);
+        told = NAME(insert)(cache, KEY(n), charge, value, false, gone);
     }
     say("insert", told);
     NAME(take)(gone);
@@ -118,11 +119,11 @@ static lru_pin NAME(put)(lru_cache *cache, lru_chain *gone, unsigned n, uint64_t
 /* The same with a strict limit, which must have room. */
 static lru_pin NAME(put_strictly)(lru_cache *cache, lru_chain *gone, unsigned n, uint64_t charge) {
     uint64_t before = NAME(weighed)(cache), value = new_object();
-    lru_told told = NAME(insert_strictly)(cache, KEY(n), charge, value, gone);
+    lru_told told = NAME(insert)(cache, KEY(n), charge, value, true, gone);
     if (refused(told.code, CALL("insert_strictly"))) {
         if (!lru_chain_is_empty(gone) || NAME(weighed)(cache) != before)
             wrong("a refused insert_strictly changed something");
-        told = NAME(insert_strictly)(cache, KEY(n), charge, value, gone);
+        told = NAME(insert)(cache, KEY(n), charge, value, true, gone);
     }
     if (told.code != LRU_DONE) wrong("there is room for an insert_strictly");
     say("insert_strictly", told);
@@ -131,8 +132,8 @@ static lru_pin NAME(put_strictly)(lru_cache *cache, lru_chain *gone, unsigned n,
 }
 
 static void NAME(open)(lru_cache *cache) {
-    lru_code code = NAME(new)(20, 0, cache);
-    if (refused(code, CALL("new"))) code = NAME(new)(20, 0, cache);
+    lru_code code = lru_cache_new(KIND, 20, 0, cache);
+    if (refused(code, CALL("new"))) code = lru_cache_new(KIND, 20, 0, cache);
     say_code("new", code);
 }
 

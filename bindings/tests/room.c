@@ -50,12 +50,12 @@ static struct range of_words(size_t room) {
     lru_cache cache = {0};
     lru_chain gone = {0};
     struct range range = {UINT32_MAX, 0};
-    if (lru_words_new(ENTRIES, 1, &cache) != LRU_DONE) wrong("no cache");
+    if (lru_cache_new(LRU_WORDS, ENTRIES, 1, &cache) != LRU_DONE) wrong("no cache");
     if (lru_chain_new(&gone) != LRU_DONE) wrong("no chain");
     if (lru_cache_reserve(&cache, room) != LRU_DONE) wrong("no room");
     for (uint64_t key = 0; key < ENTRIES; key++) {
         unsigned before = requests;
-        lru_told told = lru_words_begin(&cache, key, 0, 1, &gone);
+        lru_told told = lru_words_begin(&cache, key, 0, 1, false, &gone);
         if (told.code != LRU_MAKE) wrong("no making");
         if (lru_cache_ready(&cache, told.pin, key) != LRU_DONE) wrong("not stored");
         note(&range, before);
@@ -71,7 +71,7 @@ static struct range of_bytes(size_t room) {
     lru_cache cache = {0};
     lru_chain gone = {0};
     struct range range = {UINT32_MAX, 0};
-    if (lru_bytes_new(ENTRIES, 1, &cache) != LRU_DONE) wrong("no cache");
+    if (lru_cache_new(LRU_BYTES, ENTRIES, 1, &cache) != LRU_DONE) wrong("no cache");
     if (lru_chain_new(&gone) != LRU_DONE) wrong("no chain");
     if (lru_cache_reserve(&cache, room) != LRU_DONE) wrong("no room");
     /* The buffer for the key of a call grows at the first one. */
@@ -79,7 +79,7 @@ static struct range of_bytes(size_t room) {
     if (lru_bytes_get(&cache, &key, sizeof key).code != LRU_MISSED) wrong("a hit");
     for (key = 0; key < ENTRIES; key++) {
         unsigned before = requests;
-        lru_told told = lru_bytes_insert(&cache, &key, sizeof key, 1, key, &gone);
+        lru_told told = lru_bytes_insert(&cache, &key, sizeof key, 1, key, false, &gone);
         if (told.code != LRU_DONE) wrong("not inserted");
         note(&range, before);
     }

@@ -48,7 +48,6 @@ struct Bytes : lru::detail::Calls<std::string_view> {
   using Key = std::string;
 
   static constexpr const char* name = "bytes";
-  static constexpr auto open = lru_bytes_new_with_limits;
 
   static Key key(std::uint64_t n) { return std::string(n % 5 * 9, '\0') + std::string(n / 5, 'k'); }
   static lru_code contains(lru_cache* cache, const Key& key) {
@@ -67,16 +66,12 @@ struct Pairs : lru::detail::Calls<lru::Words> {
   using Key = std::pair<std::uint64_t, std::uint64_t>;
 
   static constexpr const char* name = "words";
-  static constexpr auto open = lru_words_new_with_limits;
 
   static Key key(std::uint64_t n) { return {n / 4, n % 4}; }
   static lru::Words words(const Key& key) { return {key.first, key.second}; }
-  static lru_told begin(lru_cache* cache, const Key& key, std::uint64_t charge, lru_chain* gone) {
-    return Calls::begin(cache, words(key), charge, gone);
-  }
-  static lru_told begin_strictly(lru_cache* cache, const Key& key, std::uint64_t charge,
-                                 lru_chain* gone) {
-    return Calls::begin_strictly(cache, words(key), charge, gone);
+  static lru_told begin(lru_cache* cache, const Key& key, std::uint64_t charge, bool strict,
+                        lru_chain* gone) {
+    return Calls::begin(cache, words(key), charge, strict, gone);
   }
   static lru_told get(lru_cache* cache, const Key& key) { return Calls::get(cache, words(key)); }
   static lru_code advice_evict(lru_cache* cache, const Key& key, lru_chain* gone) {
@@ -86,12 +81,8 @@ struct Pairs : lru::detail::Calls<lru::Words> {
     return Calls::invalidate(cache, words(key), gone);
   }
   static lru_told insert(lru_cache* cache, const Key& key, std::uint64_t charge,
-                         std::uint64_t value, lru_chain* gone) {
-    return Calls::insert(cache, words(key), charge, value, gone);
-  }
-  static lru_told insert_strictly(lru_cache* cache, const Key& key, std::uint64_t charge,
-                                  std::uint64_t value, lru_chain* gone) {
-    return Calls::insert_strictly(cache, words(key), charge, value, gone);
+                         std::uint64_t value, bool strict, lru_chain* gone) {
+    return Calls::insert(cache, words(key), charge, value, strict, gone);
   }
   static lru_code contains(lru_cache* cache, const Key& key) {
     return lru_words_contains(cache, key.first, key.second);
@@ -126,7 +117,9 @@ class Run {
       : random_(seed), seed_(seed), plain_(kCapacity, kFirstStamp, kMostPins) {
     if (lru_chain_new(&chain_) != LRU_DONE) std::abort();
     // The answers do not depend on the seed of the cache.
-    if (Family::open(kCapacity, kFirstStamp, kMostPins, seed, &cache_) != LRU_DONE) std::abort();
+    if (lru_cache_new_with_limits(Family::kind, kCapacity, kFirstStamp, kMostPins, seed, &cache_) !=
+        LRU_DONE)
+      std::abort();
   }
 
   // Whether all answers were the same.
@@ -210,7 +203,7 @@ class Run {
     call_ = "begin";
     const Key key = any_key();
     const std::uint64_t charge = random_.below(5);
-    const lru_told told = Family::begin(&cache_, key, charge, &chain_);
+    const lru_told told = Family::begin(&cache_, key, charge, false, &chain_);
     if (told.code <= LRU_HIT) pinned(told);
     return told == plain_.begin(key, charge, &gone_) && evicted();
   }
@@ -221,7 +214,7 @@ class Run {
     const Key key = any_key();
     const std::uint64_t charge = random_.below(kCapacity + 2);
     const bool is_within = plain_.total() <= plain_.capacity();
-    const lru_told told = Family::begin_strictly(&cache_, key, charge, &chain_);
+    const lru_told told = Family::begin(&cache_, key, charge, true, &chain_);
     if (told.code <= LRU_HIT) pinned(told);
     return told == plain_.begin_strictly(key, charge, &gone_) && evicted() &&
            keeps_limit(is_within, told);
@@ -235,7 +228,7 @@ class Run {
                                                        : random_.below(kCapacity / 2);
     const std::uint64_t value = random_.below(UINT64_MAX);
     const bool is_within = plain_.total() <= plain_.capacity();
-    const lru_told told = Family::insert_strictly(&cache_, key, charge, value, &chain_);
+    const lru_told told = Family::insert(&cache_, key, charge, value, true, &chain_);
     if (told.code == LRU_DONE) pinned(told);
     return told == plain_.insert_strictly(key, charge, value, &gone_) && evicted() &&
            keeps_limit(is_within, told);
@@ -254,7 +247,7 @@ class Run {
     const std::uint64_t charge =
         random_.below(8) == 0 ? UINT64_MAX - random_.below(2 * kCapacity) : random_.below(5);
     const std::uint64_t value = random_.below(UINT64_MAX);
-    const lru_told told = Family::insert(&cache_, key, charge, value, &chain_);
+    const lru_told told = Family::insert(&cache_, key, charge, value, false, &chain_);
     if (told.code == LRU_DONE) pinned(told);
     return told == plain_.insert(key, charge, value, &gone_) && evicted();
   }

@@ -22,7 +22,7 @@ static void close_evicted(lru_chain *gone) {
 /* Finds or opens a file and pins it: the caller gives the pin back. Null if that fails. */
 static FILE *find_or_open(const char *path, lru_chain *gone, lru_pin *pin) {
     pthread_mutex_lock(&lock);
-    lru_told told = lru_bytes_begin(&cache, path, strlen(path), 1, gone);
+    lru_told told = lru_bytes_begin(&cache, path, strlen(path), 1, false, gone);
     while (told.code == LRU_WAIT) {
         pthread_cond_wait(&ended, &lock);
         told = lru_cache_poll(&cache, told.pin);
@@ -72,7 +72,7 @@ int main(int argc, char **argv) {
     uint64_t seed; /* random, so that nobody can choose paths whose hashes are equal */
     if (getrandom(&seed, sizeof seed, 0) != (ssize_t)sizeof seed)
         return 1;
-    if (lru_bytes_new(20, seed, &cache) != LRU_DONE || lru_chain_new(&gone) != LRU_DONE)
+    if (lru_cache_new(LRU_BYTES, 20, seed, &cache) != LRU_DONE || lru_chain_new(&gone) != LRU_DONE)
         return 1;
     for (int i = 0; i < 100 && i < argc - 1; i++)
         if (pthread_create(&threads[i], NULL, print_size, argv[i + 1]) != 0)

@@ -102,10 +102,14 @@ pub const NO_CHARGE: u32 = 11;
 pub const PINNED: u32 = 18;
 pub const FULL: u32 = 20;
 
+pub const BYTES: u32 = 0;
+pub const WORDS: u32 = 1;
+
 // A caller of these guarantees that `cache` points to a cache and `gone`, `left` and `chain` to a
 // chain, that they are the only copies of these handles, and that nothing else uses them during the
 // call. Handles that are not open are refused.
 unsafe extern "C" {
+    pub fn lru_cache_new(keys: u32, capacity: u64, seed: u64, out: *mut Handle) -> u32;
     pub fn lru_cache_free(cache: *mut Handle, left: *mut Handle) -> u32;
     pub fn lru_cache_poll(cache: *mut Handle, pin: Pin) -> Told;
     pub fn lru_cache_ready(cache: *mut Handle, pin: Pin, value: u64) -> u32;

@@ -2,7 +2,7 @@
 
 use std::borrow::Cow;
 
-use crate::ffi::{Handle, Told};
+use crate::ffi::{self, Handle, Told};
 
 /// The form that a key is written in: [`Bytes`], [`CowBytes`] or [`Words`].
 ///
@@ -28,14 +28,11 @@ pub(crate) mod sealed {
         /// A key of this form.
         type Written<'a>;
 
+        /// The kind of keys with which a cache is opened.
+        const KIND: u32;
+
         /// Appends a key to the bytes of a longer one, so that different keys never begin alike.
         fn append(key: Self::Written<'_>, bytes: &mut Vec<u8>);
-
-        /// # Safety
-        ///
-        /// `out` must point to a cache that is closed, or was opened by `open`. It must be the only
-        /// copy of this handle, and nothing else may use it during the call.
-        unsafe fn open(capacity: u64, seed: u64, out: *mut Handle) -> u32;
 
         /// # Safety
         ///
@@ -44,16 +41,7 @@ pub(crate) mod sealed {
             cache: *mut Handle,
             key: Self::Written<'_>,
             charge: u64,
-            gone: *mut Handle,
-        ) -> Told;
-
-        /// # Safety
-        ///
-        /// As for [`Calls`].
-        unsafe fn begin_strictly(
-            cache: *mut Handle,
-            key: Self::Written<'_>,
-            charge: u64,
+            strict: bool,
             gone: *mut Handle,
         ) -> Told;
 
@@ -89,17 +77,7 @@ pub(crate) mod sealed {
             key: Self::Written<'_>,
             charge: u64,
             value: u64,
-            gone: *mut Handle,
-        ) -> Told;
-
-        /// # Safety
-        ///
-        /// As for [`Calls`].
-        unsafe fn insert_strictly(
-            cache: *mut Handle,
-            key: Self::Written<'_>,
-            charge: u64,
-            value: u64,
+            strict: bool,
             gone: *mut Handle,
         ) -> Told;
     }
@@ -110,19 +88,12 @@ pub(crate) mod sealed {
 pub enum Bytes {}
 
 unsafe extern "C" {
-    fn lru_bytes_new(capacity: u64, seed: u64, out: *mut Handle) -> u32;
     fn lru_bytes_begin_nonnull(
         cache: *mut Handle,
         key: *const u8,
         length: usize,
         charge: u64,
-        gone: *mut Handle,
-    ) -> Told;
-    fn lru_bytes_begin_strictly_nonnull(
-        cache: *mut Handle,
-        key: *const u8,
-        length: usize,
-        charge: u64,
+        strict: bool,
         gone: *mut Handle,
     ) -> Told;
     fn lru_bytes_get_nonnull(cache: *mut Handle, key: *const u8, length: usize) -> Told;
@@ -145,14 +116,7 @@ unsafe extern "C" {
         length: usize,
         charge: u64,
         value: u64,
-        gone: *mut Handle,
-    ) -> Told;
-    fn lru_bytes_insert_strictly_nonnull(
-        cache: *mut Handle,
-        key: *const u8,
-        length: usize,
-        charge: u64,
-        value: u64,
+        strict: bool,
         gone: *mut Handle,
     ) -> Told;
 }
@@ -160,30 +124,23 @@ unsafe extern "C" {
 impl sealed::Calls for Bytes {
     type Written<'a> = &'a [u8];
 
+    const KIND: u32 = ffi::BYTES;
+
     fn append(key: &[u8], bytes: &mut Vec<u8>) {
         bytes.extend_from_slice(&(key.len() as u64).to_ne_bytes());
         bytes.extend_from_slice(key);
     }
 
-    unsafe fn open(capacity: u64, seed: u64, out: *mut Handle) -> u32 {
-        // SAFETY: the caller guarantees what the function requires.
-        unsafe { lru_bytes_new(capacity, seed, out) }
-    }
-
-    unsafe fn begin(cache: *mut Handle, key: &[u8], charge: u64, gone: *mut Handle) -> Told {
-        // SAFETY: the pointer of a slice is not null and points to its bytes, of which there are
-        // fewer than 2^63. The caller guarantees the rest.
-        unsafe { lru_bytes_begin_nonnull(cache, key.as_ptr(), key.len(), charge, gone) }
-    }
-
-    unsafe fn begin_strictly(
+    unsafe fn begin(
         cache: *mut Handle,
         key: &[u8],
         charge: u64,
+        strict: bool,
         gone: *mut Handle,
     ) -> Told {
-        // SAFETY: as in `begin`.
-        unsafe { lru_bytes_begin_strictly_nonnull(cache, key.as_ptr(), key.len(), charge, gone) }
+        // SAFETY: the pointer of a slice is not null and points to its bytes, of which there are
+        // fewer than 2^63. The caller guarantees the rest.
+        unsafe { lru_bytes_begin_nonnull(cache, key.as_ptr(), key.len(), charge, strict, gone) }
     }
 
     unsafe fn get(cache: *mut Handle, key: &[u8]) -> Told {
@@ -211,22 +168,12 @@ impl sealed::Calls for Bytes {
         key: &[u8],
         charge: u64,
         value: u64,
-        gone: *mut Handle,
-    ) -> Told {
-        // SAFETY: as in `begin`.
-        unsafe { lru_bytes_insert_nonnull(cache, key.as_ptr(), key.len(), charge, value, gone) }
-    }
-
-    unsafe fn insert_strictly(
-        cache: *mut Handle,
-        key: &[u8],
-        charge: u64,
-        value: u64,
+        strict: bool,
         gone: *mut Handle,
     ) -> Told {
         let (at, length) = (key.as_ptr(), key.len());
         // SAFETY: as in `begin`.
-        unsafe { lru_bytes_insert_strictly_nonnull(cache, at, length, charge, value, gone) }
+        unsafe { lru_bytes_insert_nonnull(cache, at, length, charge, value, strict, gone) }
     }
 }
 
@@ -239,33 +186,21 @@ pub enum CowBytes {}
 impl sealed::Calls for CowBytes {
     type Written<'a> = Cow<'a, [u8]>;
 
+    const KIND: u32 = Bytes::KIND;
+
     fn append(key: Cow<'_, [u8]>, bytes: &mut Vec<u8>) {
         Bytes::append(&key, bytes);
-    }
-
-    unsafe fn open(capacity: u64, seed: u64, out: *mut Handle) -> u32 {
-        // SAFETY: the caller guarantees what the function requires.
-        unsafe { Bytes::open(capacity, seed, out) }
     }
 
     unsafe fn begin(
         cache: *mut Handle,
         key: Cow<'_, [u8]>,
         charge: u64,
+        strict: bool,
         gone: *mut Handle,
     ) -> Told {
         // SAFETY: the caller guarantees what the function requires.
-        unsafe { Bytes::begin(cache, &key, charge, gone) }
-    }
-
-    unsafe fn begin_strictly(
-        cache: *mut Handle,
-        key: Cow<'_, [u8]>,
-        charge: u64,
-        gone: *mut Handle,
-    ) -> Told {
-        // SAFETY: as in `begin`.
-        unsafe { Bytes::begin_strictly(cache, &key, charge, gone) }
+        unsafe { Bytes::begin(cache, &key, charge, strict, gone) }
     }
 
     unsafe fn get(cache: *mut Handle, key: Cow<'_, [u8]>) -> Told {
@@ -293,21 +228,11 @@ impl sealed::Calls for CowBytes {
         key: Cow<'_, [u8]>,
         charge: u64,
         value: u64,
+        strict: bool,
         gone: *mut Handle,
     ) -> Told {
         // SAFETY: as in `begin`.
-        unsafe { Bytes::insert(cache, &key, charge, value, gone) }
-    }
-
-    unsafe fn insert_strictly(
-        cache: *mut Handle,
-        key: Cow<'_, [u8]>,
-        charge: u64,
-        value: u64,
-        gone: *mut Handle,
-    ) -> Told {
-        // SAFETY: as in `begin`.
-        unsafe { Bytes::insert_strictly(cache, &key, charge, value, gone) }
+        unsafe { Bytes::insert(cache, &key, charge, value, strict, gone) }
     }
 }
 
@@ -316,19 +241,12 @@ impl sealed::Calls for CowBytes {
 pub enum Words {}
 
 unsafe extern "C" {
-    fn lru_words_new(capacity: u64, seed: u64, out: *mut Handle) -> u32;
     fn lru_words_begin(
         cache: *mut Handle,
         first: u64,
         second: u64,
         charge: u64,
-        gone: *mut Handle,
-    ) -> Told;
-    fn lru_words_begin_strictly(
-        cache: *mut Handle,
-        first: u64,
-        second: u64,
-        charge: u64,
+        strict: bool,
         gone: *mut Handle,
     ) -> Told;
     fn lru_words_get(cache: *mut Handle, first: u64, second: u64) -> Told;
@@ -346,14 +264,7 @@ unsafe extern "C" {
         second: u64,
         charge: u64,
         value: u64,
-        gone: *mut Handle,
-    ) -> Told;
-    fn lru_words_insert_strictly(
-        cache: *mut Handle,
-        first: u64,
-        second: u64,
-        charge: u64,
-        value: u64,
+        strict: bool,
         gone: *mut Handle,
     ) -> Told;
 }
@@ -361,34 +272,22 @@ unsafe extern "C" {
 impl sealed::Calls for Words {
     type Written<'a> = [u64; 2];
 
+    const KIND: u32 = ffi::WORDS;
+
     fn append([first, second]: [u64; 2], bytes: &mut Vec<u8>) {
         bytes.extend_from_slice(&first.to_ne_bytes());
         bytes.extend_from_slice(&second.to_ne_bytes());
-    }
-
-    unsafe fn open(capacity: u64, seed: u64, out: *mut Handle) -> u32 {
-        // SAFETY: the caller guarantees what the function requires.
-        unsafe { lru_words_new(capacity, seed, out) }
     }
 
     unsafe fn begin(
         cache: *mut Handle,
         [first, second]: [u64; 2],
         charge: u64,
+        strict: bool,
         gone: *mut Handle,
     ) -> Told {
         // SAFETY: the caller guarantees what the function requires.
-        unsafe { lru_words_begin(cache, first, second, charge, gone) }
-    }
-
-    unsafe fn begin_strictly(
-        cache: *mut Handle,
-        [first, second]: [u64; 2],
-        charge: u64,
-        gone: *mut Handle,
-    ) -> Told {
-        // SAFETY: the caller guarantees what the function requires.
-        unsafe { lru_words_begin_strictly(cache, first, second, charge, gone) }
+        unsafe { lru_words_begin(cache, first, second, charge, strict, gone) }
     }
 
     unsafe fn get(cache: *mut Handle, [first, second]: [u64; 2]) -> Told {
@@ -420,20 +319,10 @@ impl sealed::Calls for Words {
         [first, second]: [u64; 2],
         charge: u64,
         value: u64,
+        strict: bool,
         gone: *mut Handle,
     ) -> Told {
         // SAFETY: as in `begin`.
-        unsafe { lru_words_insert(cache, first, second, charge, value, gone) }
-    }
-
-    unsafe fn insert_strictly(
-        cache: *mut Handle,
-        [first, second]: [u64; 2],
-        charge: u64,
-        value: u64,
-        gone: *mut Handle,
-    ) -> Told {
-        // SAFETY: the caller guarantees what the function requires.
-        unsafe { lru_words_insert_strictly(cache, first, second, charge, value, gone) }
+        unsafe { lru_words_insert(cache, first, second, charge, value, strict, gone) }
     }
 }

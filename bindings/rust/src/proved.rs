@@ -53,7 +53,7 @@ impl<F: Form, V> Core<F, V> {
         let code = unsafe { ffi::lru_chain_new(&mut core.chain) };
         done(code)?;
         // SAFETY: the cache is closed, and there is no other copy of it.
-        let code = unsafe { F::open(capacity, seed, &mut core.cache) };
+        let code = unsafe { ffi::lru_cache_new(F::KIND, capacity, seed, &mut core.cache) };
         done(code)?;
         Ok(core)
     }
@@ -66,13 +66,9 @@ impl<F: Form, V> Core<F, V> {
         charge: u64,
         evicted: &mut Evicted<V>,
     ) -> Result<Begun<V>, Refusal> {
-        let call = if self.strict {
-            F::begin_strictly
-        } else {
-            F::begin
-        };
+        let (cache, chain) = (&mut self.cache, &mut self.chain);
         // SAFETY: this core has the only copies of both handles.
-        let told = unsafe { call(&mut self.cache, key, charge, &mut self.chain) };
+        let told = unsafe { F::begin(cache, key, charge, self.strict, chain) };
         self.take_evicted(evicted);
         Self::begun(told)
     }
@@ -188,13 +184,9 @@ impl<F: Form, V> Core<F, V> {
         evicted: &mut Evicted<V>,
     ) -> Result<(Pin, NonNull<V>), (Refusal, Box<V>)> {
         let word = word_of(Box::into_raw(value));
-        let call = if self.strict {
-            F::insert_strictly
-        } else {
-            F::insert
-        };
+        let (cache, chain) = (&mut self.cache, &mut self.chain);
         // SAFETY: this core has the only copies of both handles.
-        let told = unsafe { call(&mut self.cache, key, charge, word, &mut self.chain) };
+        let told = unsafe { F::insert(cache, key, charge, word, self.strict, chain) };
         self.take_evicted(evicted);
         if told.code == ffi::DONE {
             return Ok((told.pin, value_of(word)));

@@ -4,7 +4,7 @@ use Rattle.std.specs.Prelude.{Option, Some, None, Result, Ok, Err}
 use Rattle.concurrent_lru.specs.Cache.{Cache, Idle, IsLawful}
 use Rattle.concurrent_lru.specs.Reply as say
 use Rattle.concurrent_lru.specs.Request.{Request}
-use Rattle.concurrent_lru.specs.Results.{begun_without_hint, found_without_hint, outcome_of_begin_by, outcome_of_get_by, reply_of_begun_by, reply_of_failed}
+use Rattle.concurrent_lru.specs.Results.{begun_without_hint, found_without_hint, outcome_of_begin_by, outcome_of_get_by, outcome_of_release, reply_of_begun_by, reply_of_failed}
 use Rattle.concurrent_lru.specs.Runs.{accepted, refused, Stands}
 use Rattle.concurrent_lru.specs.declared.refusal.Refusal.{Refusal}
 use Rattle.concurrent_lru.specs.declared.refusal.Refusal.TheVariants.{Memory, Overflow, Stale, Full}
@@ -14,7 +14,7 @@ use Rattle.concurrent_lru.specs.declared.step.Failed.{Failed}
 use Rattle.concurrent_lru.specs.declared.step.Failed.TheVariants as failed
 use Rattle.concurrent_lru.specs.declared.table.spot.Hint.{Hint}
 use Rattle.lru_c.specs.Codes as code
-use Rattle.lru_c.specs.Told.{bare, begun_told, failed_code, found_told, refusal_code, told, Asks, TellsBegun}
+use Rattle.lru_c.specs.Told.{bare, begun_told, failed_code, found_told, refusal_code, told, Asks, TellsBegun, TellsReleased}
 use Rattle.lru_c.specs.declared.told.LruPin.{LruPin}
 use Rattle.lru_c.specs.declared.told.LruTold.{LruTold}
 
@@ -48,6 +48,12 @@ module _ {K : Type 0} (E : K → K → Bool) (old new : Cache K ℕ) (r : Reques
   pub asks_refused : (e : Refusal) (c : ℕ) (t : LruTold) (gone : List (Idle K ℕ)) → c ≡ refusal_code e → t ≡ bare c → gone ≡ [] → Stands E old r (refused e) new → IsLawful E new → Asks E old r t gone new
   asks_refused e c t gone is bared none h l =
       subst (λ (u : LruTold). Asks E old r u gone new) (sym (bared ∙ ap bare is)) (subst (λ (out : List (Idle K ℕ)). Asks E old r (bare (refusal_code e)) out new) (sym none) (refused_as_told e h l))
+
+  -- a release, of either kind
+  pub asks_released : (out : Result (List (Idle K ℕ)) Refusal) (c : ℕ) (gone : List (Idle K ℕ)) → TellsReleased out c gone → Stands E old r (outcome_of_release out) new → IsLawful E new → Asks E old r (bare c) gone new
+  asks_released (Ok evicted) c gone told h l =
+      subst (λ (n : ℕ). Asks E old r (bare n) gone new) (sym told.0) (subst (λ (out : List (Idle K ℕ)). Asks E old r (bare code.done) out new) (sym told.1) (h, tt, l))
+  asks_released (Err e) c gone told h l = asks_refused e c (bare c) gone told.0 refl told.1 h l
 
   -- a begin, strict or not
   pub asks_begin : (b : Result (Begun ℕ × List (Idle K ℕ) × Hint) Refusal) (t : LruTold) (gone : List (Idle K ℕ)) → TellsBegun b t gone → Stands E old r (outcome_of_begin_by word (begun_without_hint b)) new → IsLawful E new → Asks E old r t gone new

@@ -9,5 +9,4 @@ pub mod HandleSent
 pub mod Moved
 pub mod Lent
 pub mod Opened
-pub mod Taken
 pub mod Forms

@@ -1,23 +1,31 @@
--- What holds of what an open handle leads to holds of the handle; and what was put into an empty
--- chain is in it.
-use Rattle.std.proofs.Common.{◌≡◌, ◌∙◌, sym, ap, subst}
-use Rattle.std.specs.Prelude.{Option, Some}
-use Rattle.lru_c.specs.Calls.{Filled, Fills}
-use Rattle.lru_c.specs.Chains.{chain_code}
+-- What was put into an empty chain by a call on a cache with keys of one kind is in it.
+use Rattle.std.proofs.Common.{◌≡◌, ◌∙◌, ℕ, List, sym, ap, subst}
+use Rattle.std.specs.Prelude.{Option, Some, Result, Ok, MatchOption, MatchResult}
+use Rattle.concurrent_lru.specs.Cache.{Idle}
+use Rattle.lru_c.specs.Calls.{Fills}
+use Rattle.lru_c.specs.Chains.{chain_code, IsEmpty}
 use Rattle.lru_c.specs.Codes as code
-use Rattle.lru_c.specs.Handles.{OnOpen}
 use Rattle.lru_c.specs.Lends.{written}
 use Rattle.lru_c.specs.declared.any_cache.AnyCache.{AnyCache}
+use Rattle.lru_c.specs.declared.cache.Cache.{Cache as Inner}
 use Rattle.lru_c.specs.declared.chain.AnyChain.{AnyChain}
 use Rattle.lru_c.specs.declared.told.LruTold.{LruTold}
 use Rattle.lru_c.proofs.Cases.{where_is}
 
--- the step took what the handle led to from x to y
-pub on_open : {A : Type 0} {old new : Option A} {x y : A} (Step : A → A → Type 0) (Closed : Type 0) → old ≡ Some x → new ≡ written old y → Step x y → OnOpen old new Step Closed
-on_open {A} {old} {new} {x} {y} Step Closed o n h = subst (λ m. OnOpen m new Step Closed) (sym o) (subst (λ m. OnOpen (Some x) m Step Closed) (sym (n ∙ ap (λ m. written m y) o)) h)
+-- what a handle leads to was taken from x to y
+leads_to : {A : Type 0} {was is : Option A} {x : A} (y : A) → was ≡ Some x → is ≡ written was y → is ≡ Some y
+leads_to y w i = i ∙ ap (λ m. written m y) w
 
--- the chain went from x to y
-module _ {A : Type 0} {before after : Option AnyChain} {was is : Option AnyCache} {x : AnyChain} (y : AnyChain) {o n : AnyCache} (t : LruTold) (old new : A) (Step : AnyCache → AnyChain → AnyChain → AnyCache → Type 0) (Closed : Type 0) where
-  pub into : before ≡ Some x → after ≡ written before y → chain_code before ≡ code.done → was ≡ Some o → is ≡ written was n → Step o x y n → Fills before after t old new (OnOpen was is (λ o n. Filled before after (λ b c. Step o b c n)) Closed)
-  into b a empty w i h =
-      where_is (chain_code before) code.done _ _ empty (on_open _ Closed w i (subst (λ (m : Option AnyChain). Filled m after (λ b c. Step o b c n)) (sym b) (subst (λ (m : Option AnyChain). Filled (Some x) m (λ b c. Step o b c n)) (sym (a ∙ ap (λ m. written m y) b)) h)))
+-- make: a cache of the kind, as one of either kind; entries: those of a chain, of the kind
+module _ {K R : Type 0} (of_kind : Option AnyCache → Result (Inner K R) ℕ) (make : Inner K R → AnyCache) (made : (c : Inner K R) → of_kind (Some (make c)) ≡ Ok c) (entries : AnyChain → Option (List (Idle K ℕ))) (Step : LruTold → Inner K R → List (Idle K ℕ) → Inner K R → Type 0) where
+  -- The chain went from b to c, and the cache from x to y.
+  pub into_kind : {A : Type 0} {before after : Option AnyChain} {was is : Option AnyCache} {b : AnyChain} (c : AnyChain) {x : Inner K R} (y : Inner K R) {t a : LruTold} (old new : A) {out : List (Idle K ℕ)} (Closed : ℕ → Type 0) → before ≡ Some b → IsEmpty b → after ≡ written before c → was ≡ Some (make x) → is ≡ written was (make y) → entries c ≡ Some out → t ≡ a → Step a x out y
+      → Fills before after t old new (MatchResult (of_kind was) (λ o. MatchResult (of_kind is) (λ n. MatchOption after ⊥ (λ c. MatchOption (entries c) ⊥ (λ out. Step t o out n))) (λ _. ⊥)) Closed)
+  into_kind {before = before} {after} {was} {is} {b} c {x} y {t} {a} old new {out} Closed be empty ce xe ye has answered h =
+      let InChain : Inner K R → Inner K R → Type 0 = λ o n. MatchOption after ⊥ (λ c. MatchOption (entries c) ⊥ (λ out. Step t o out n)) in
+      where_is (chain_code before) code.done _ _ (ap chain_code be ∙ empty)
+      (subst (λ (r : Result (Inner K R) ℕ). MatchResult r (λ o. MatchResult (of_kind is) (InChain o) (λ _. ⊥)) Closed) (sym (ap of_kind xe ∙ made x))
+      (subst (λ (r : Result (Inner K R) ℕ). MatchResult r (InChain x) (λ _. ⊥)) (sym (ap of_kind (leads_to (make y) xe ye) ∙ made y))
+      (subst (λ (m : Option AnyChain). MatchOption m ⊥ (λ c. MatchOption (entries c) ⊥ (λ out. Step t x out y))) (sym (leads_to c be ce))
+      (subst (λ (m : Option (List (Idle K ℕ))). MatchOption m ⊥ (λ out. Step t x out y)) (sym has)
+      (subst (λ (u : LruTold). Step u x out y) (sym answered) h)))))

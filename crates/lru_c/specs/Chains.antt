@@ -32,19 +32,20 @@ module _ {K : Type 0} where
   abbrev pub Pops : List (Idle K ℕ) → Option LruGone → List (Idle K ℕ) → Type 0
   Pops old told new = MatchOption told ((old ≡ []) × (new ≡ [])) (λ g. TellsFirst old g new)
 
--- the same, by the kind of keys
-abbrev pub bytes_chain : List (Idle Bytes ℕ) → AnyChain
-bytes_chain out = keys.Bytes (chain_of out)
+-- entries as ones with keys of the other kind: there are none, or they cannot be
+abbrev pub as_none : {K L : Type 0} → List (Idle K ℕ) → Option (List (Idle L ℕ))
+as_none [] = Some []
+as_none (x ∷ xs) = None
 
-abbrev pub words_chain : List (Idle Words ℕ) → AnyChain
-words_chain out = keys.Words (chain_of out)
+-- The entries of a chain, if they are entries with keys of bytes, or with keys of two words. A chain
+-- of none has none of either kind.
+abbrev pub bytes_in : AnyChain → Option (List (Idle Bytes ℕ))
+bytes_in (keys.Bytes c) = Some (entries_of c)
+bytes_in (keys.Words c) = as_none (entries_of c)
 
--- a chain of some entries, and then others
-abbrev pub bytes_chain_of : List (Idle Bytes ℕ) → List (Idle Bytes ℕ) → AnyChain
-bytes_chain_of first rest = keys.Bytes (record { first = first; rest = rest })
-
-abbrev pub words_chain_of : List (Idle Words ℕ) → List (Idle Words ℕ) → AnyChain
-words_chain_of first rest = keys.Words (record { first = first; rest = rest })
+abbrev pub words_in : AnyChain → Option (List (Idle Words ℕ))
+words_in (keys.Bytes c) = as_none (entries_of c)
+words_in (keys.Words c) = Some (entries_of c)
 
 -- `done` if the chain has no entries, otherwise `not_empty`
 abbrev pub filled_code : AnyChain → ℕ

@@ -60,3 +60,6 @@ other_keys = 19
 
 abbrev pub full : ℕ
 full = 20
+
+abbrev pub no_kind : ℕ
+no_kind = 21

@@ -57,6 +57,10 @@ module _ {K : Type 0} where
   abbrev pub begin_by : Bool → K → ℕ → Request K ℕ
   begin_by strict k charge = cond strict (ask.begin_strictly k charge) (ask.begin k charge)
 
+  -- an invalidation, which detaches an entry even if it is held, or an advice to evict
+  abbrev pub evict_by : Bool → K → Request K ℕ
+  evict_by even_held k = cond even_held (ask.invalidate k) (ask.advice_evict k)
+
   -- the code of a making that failed
   abbrev pub failed_code : Failed K → ℕ
   failed_code failed.Left = code.left
@@ -66,6 +70,11 @@ module _ {K : Type 0} where
   abbrev pub TellsBegun : Result (Begun ℕ × List (Idle K ℕ) × Hint) Refusal → LruTold → List (Idle K ℕ) → Type 0
   TellsBegun (Ok b) t gone = (t ≡ begun_told b.2 b.0) × (gone ≡ b.1)
   TellsBegun (Err e) t gone = (t ≡ bare (refusal_code e)) × (gone ≡ [])
+
+  -- what a release with this result of the core returns, and what it puts into a chain
+  abbrev pub TellsReleased : Result (List (Idle K ℕ)) Refusal → ℕ → List (Idle K ℕ) → Type 0
+  TellsReleased (Ok out) c gone = (c ≡ code.done) × (gone ≡ out)
+  TellsReleased (Err e) c gone = (c ≡ refusal_code e) × (gone ≡ [])
 
   -- The outcome that an answer stands for, unless a key was removed; what was put into a chain
   -- belongs to it. Any other code reads as a sum, and no step with such an answer has that outcome.

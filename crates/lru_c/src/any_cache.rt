@@ -1,15 +1,18 @@
 //! What the handle of a cache points to, and the calls on it that take no key.
-ghost use Rattle.std.specs.Prelude.{◌≡◌, ◌==◌, ⊤, MatchBool};
+ghost use Rattle.std.specs.Prelude.{◌≡◌, ◌==◌, ◌<◌, ⊤, true, false, MatchBool, MatchOption};
 ghost use Rattle.concurrent_lru.specs.Cache.{count_of, pinned_of, sum_of};
 ghost use Rattle.concurrent_lru.specs.Request as ask;
 ghost use Rattle.lru_c.specs.Codes as codes;
 
 use crate::bytes::cache::BytesCache;
+use crate::bytes::key::Bytes;
+use crate::cache::Cache;
 use crate::chain::{AnyChain, Chain};
 use crate::entries::{LruEntry, write_entries, write_entry};
-use crate::steps;
 use crate::told::{LruPin, LruStats, LruTold};
 use crate::words::cache::WordsCache;
+use crate::{kind, steps};
+use std::alloc::Global;
 
 /// A cache whose keys are of one of two kinds.
 #[derive(Drop)]
@@ -21,9 +24,36 @@ pub enum AnyCache {
 }
 
 impl AnyCache {
-    ghost use Rattle.lru_c.specs.Calls.{AsksAny, AsksInto, HoldsAll, NumbersAny, ReservesAny, StatsAny};
+    ghost use Rattle.lru_c.specs.Calls.{AsksAny, AsksInto, HoldsAll, IsNew, NumbersAny, ReservesAny, StatsAny};
+    ghost use Rattle.lru_c.specs.Chains.{IsEmpty};
     ghost use Rattle.lru_c.specs.Entries.{EntriesOfAny, EntryOfAny};
+    ghost use Rattle.lru_c.specs.Keys.{is_kind};
     ghost use Rattle.lru_c.specs.Told.{bare};
+
+    // Returns a new, empty cache whose keys are of a kind, or `None` if there is no such kind.
+    pub(crate) fn new(
+        alloc: Global,
+        kind: u32,
+        capacity: u64,
+        first_stamp: u64,
+        most_pins: u32,
+        seed: u64,
+    ) -> Option<AnyCache>
+        requires { 0 < most_pins }
+        ensures { MatchOption result (is_kind kind ≡ false) (λ cache. (is_kind kind ≡ true) ×
+            IsNew kind capacity most_pins first_stamp cache) }
+    {
+        if kind == kind::BYTES {
+            let room = Bytes::new(alloc);
+            let cache = Cache::new(alloc, capacity, first_stamp, most_pins, seed, room);
+            return Some(AnyCache::Bytes(cache));
+        }
+        if kind == kind::WORDS {
+            let cache = Cache::new(alloc, capacity, first_stamp, most_pins, seed, ());
+            return Some(AnyCache::Words(cache));
+        }
+        None
+    }
 
     pub(crate) fn poll(&mut self, pin: LruPin) -> LruTold
         ensures { AsksAny self.old (λ K. ask.poll pin.stamp) result self.new }
@@ -61,41 +91,43 @@ impl AnyCache {
         }
     }
 
-    pub(crate) fn release(&mut self, pin: LruPin) -> (u32, AnyChain)
-        ensures { AsksInto self.old (λ K. ask.release pin.stamp) (bare result.0) result.1 self.new }
+    pub(crate) fn release(&mut self, pin: LruPin, gone: &mut AnyChain) -> u32
+        requires { IsEmpty gone.old }
+        ensures { AsksInto (λ K. ask.release pin.stamp) (bare result) self.old gone.new self.new }
     {
         match self {
-            AnyCache::Bytes(cache) => AnyChain::of_bytes(cache.release(pin)),
-            AnyCache::Words(cache) => AnyChain::of_words(cache.release(pin)),
+            AnyCache::Bytes(cache) => gone.take_bytes(cache.release(pin)),
+            AnyCache::Words(cache) => gone.take_words(cache.release(pin)),
         }
     }
 
-    pub(crate) fn release_and_evict(&mut self, pin: LruPin) -> (u32, AnyChain)
-        ensures { AsksInto self.old (λ K. ask.release_and_evict pin.stamp) (bare result.0) result.1
-            self.new }
+    pub(crate) fn release_and_evict(&mut self, pin: LruPin, gone: &mut AnyChain) -> u32
+        requires { IsEmpty gone.old }
+        ensures { AsksInto (λ K. ask.release_and_evict pin.stamp) (bare result) self.old gone.new self.new }
     {
         match self {
-            AnyCache::Bytes(cache) => AnyChain::of_bytes(cache.release_and_evict(pin)),
-            AnyCache::Words(cache) => AnyChain::of_words(cache.release_and_evict(pin)),
+            AnyCache::Bytes(cache) => gone.take_bytes(cache.release_and_evict(pin)),
+            AnyCache::Words(cache) => gone.take_words(cache.release_and_evict(pin)),
         }
     }
 
-    pub(crate) fn prune(&mut self) -> (u32, AnyChain)
-        ensures { AsksInto self.old (λ K. ask.prune) (bare result.0) result.1 self.new }
+    pub(crate) fn prune(&mut self, gone: &mut AnyChain) -> u32
+        requires { IsEmpty gone.old }
+        ensures { AsksInto (λ K. ask.prune) (bare result) self.old gone.new self.new }
     {
         match self {
-            AnyCache::Bytes(cache) => AnyChain::of_bytes(cache.prune()),
-            AnyCache::Words(cache) => AnyChain::of_words(cache.prune()),
+            AnyCache::Bytes(cache) => gone.take_bytes(cache.prune()),
+            AnyCache::Words(cache) => gone.take_words(cache.prune()),
         }
     }
 
-    pub(crate) fn set_capacity(&mut self, capacity: u64) -> (u32, AnyChain)
-        ensures { AsksInto self.old (λ K. ask.set_capacity capacity) (bare result.0) result.1
-            self.new }
+    pub(crate) fn set_capacity(&mut self, capacity: u64, gone: &mut AnyChain) -> u32
+        requires { IsEmpty gone.old }
+        ensures { AsksInto (λ K. ask.set_capacity capacity) (bare result) self.old gone.new self.new }
     {
         match self {
-            AnyCache::Bytes(cache) => AnyChain::of_bytes(cache.set_capacity(capacity)),
-            AnyCache::Words(cache) => AnyChain::of_words(cache.set_capacity(capacity)),
+            AnyCache::Bytes(cache) => gone.take_bytes(cache.set_capacity(capacity)),
+            AnyCache::Words(cache) => gone.take_words(cache.set_capacity(capacity)),
         }
     }
 
@@ -175,12 +207,13 @@ impl AnyCache {
     }
 
     // Takes out every entry that has a value.
-    pub(crate) fn take_all(&mut self) -> AnyChain
-        ensures { HoldsAll self.old result }
+    pub(crate) fn take_all(&mut self, left: &mut AnyChain)
+        requires { IsEmpty left.old }
+        ensures { HoldsAll self.old left.new }
     {
         match self {
-            AnyCache::Bytes(cache) => AnyChain::Bytes(Chain::of(cache.state.take_all())),
-            AnyCache::Words(cache) => AnyChain::Words(Chain::of(cache.state.take_all())),
+            AnyCache::Bytes(cache) => left.fill_bytes(Chain::of(cache.state.take_all())),
+            AnyCache::Words(cache) => left.fill_words(Chain::of(cache.state.take_all())),
         }
     }
 }

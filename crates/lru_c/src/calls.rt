@@ -1,22 +1,86 @@
-//! The calls of C on caches that take no key, and the calls on chains.
-ghost use Rattle.std.specs.Prelude.{◌≡◌, ◌==◌, ⊤, false, true, None, Some, MatchBool};
-ghost use Rattle.concurrent_lru.specs.Cache.{count_of, pinned_of, sum_of};
+//! The calls of C that open caches, those on caches that take no key, and those on chains.
+ghost use Rattle.std.specs.Prelude.{◌≡◌, ◌==◌, ◌<◌, ⊤, false, true, None, Some, MatchBool};
+ghost use Rattle.concurrent_lru.specs.Cache.{count_of, most_pins_by_default, pinned_of, sum_of};
 ghost use Rattle.concurrent_lru.specs.Request as ask;
-ghost use Rattle.lru_c.specs.Calls.{Asks, AsksInto, FreesInto, Into, Numbers, Reserves, TellsStats};
+ghost use Rattle.lru_c.specs.Calls.{Asks, AsksInto, FreesInto, Into, Numbers, OpensCache, Reserves, TellsStats};
 ghost use Rattle.lru_c.specs.Chains.{chain_code, IsEmpty, PopsOpen};
 ghost use Rattle.lru_c.specs.Codes as codes;
 ghost use Rattle.lru_c.specs.Entries.{EntriesOf, EntryOf};
 ghost use Rattle.lru_c.specs.Opened.{Opens};
 ghost use Rattle.lru_c.specs.Told.{bare};
 
+use crate::any_cache::AnyCache;
 use crate::chain::AnyChain;
-use crate::chain_calls::{empty_chain, into_chain};
+use crate::chain_calls::empty_chain;
 use crate::entries::LruEntry;
 use crate::handle::{Handle, open_new, take};
 use crate::handles::{LruCache, LruChain};
 use crate::told::{LruGone, LruPin, LruStats, LruTold};
 use crate::{chain_calls, code};
 use std::alloc::Global;
+
+/// Opens an empty cache whose keys are of the kind `keys`, one of those of `kind`. An entry may
+/// have up to `u32::MAX` pins, and the first entry gets the stamp 0. Keys are hashed with `seed`;
+/// only the hashes of pins depend on it.
+///
+/// Returns `NO_KIND` if there is no such kind, `OPEN` if the handle is already open, and `MEMORY`
+/// if the allocator refuses. The handle is unchanged then.
+#[unsafe(no_mangle)]
+pub extern "C" fn lru_cache_new(
+    alloc: Global,
+    keys: u32,
+    capacity: u64,
+    seed: u64,
+    out: &mut LruCache,
+) -> u32
+    ensures { OpensCache keys capacity most_pins_by_default 0 out.old result out.new }
+{
+    open_cache(alloc, keys, capacity, 0, u32::MAX, seed, out)
+}
+
+/// Opens an empty cache whose keys are of the kind `keys`, whose first entry gets the stamp
+/// `first_stamp`, and whose entries have at most `most_pins` pins each. Keys are hashed with
+/// `seed`; only the hashes of pins depend on it.
+///
+/// Returns `NO_PINS` if `most_pins` is 0, `NO_KIND` if there is no such kind, `OPEN` if the handle
+/// is already open, and `MEMORY` if the allocator refuses. The handle is unchanged then.
+#[unsafe(no_mangle)]
+pub extern "C" fn lru_cache_new_with_limits(
+    alloc: Global,
+    keys: u32,
+    capacity: u64,
+    first_stamp: u64,
+    most_pins: u32,
+    seed: u64,
+    out: &mut LruCache,
+) -> u32
+    ensures { MatchBool (most_pins == 0)
+        ((result ≡ codes.no_pins) × (out.new.cache.held ≡ out.old.cache.held))
+        (OpensCache keys capacity most_pins first_stamp out.old result out.new) }
+{
+    if most_pins == 0 {
+        return code::NO_PINS;
+    }
+    open_cache(alloc, keys, capacity, first_stamp, most_pins, seed, out)
+}
+
+fn open_cache(
+    alloc: Global,
+    keys: u32,
+    capacity: u64,
+    first_stamp: u64,
+    most_pins: u32,
+    seed: u64,
+    out: &mut LruCache,
+) -> u32
+    requires { 0 < most_pins }
+    ensures { OpensCache keys capacity most_pins first_stamp out.old result out.new }
+{
+    match AnyCache::new(alloc, keys, capacity, first_stamp, most_pins, seed) {
+        Some(cache) => open_new(alloc, cache, out.is_open == 1, out),
+        None => code::NO_KIND,
+    }
+}
 
 /// Frees a cache, closes its handle, and puts its entries that have a value into a chain: the idle
 /// ones, oldest first, followed by the held ones, in no particular order.
@@ -33,7 +97,7 @@ pub extern "C" fn lru_cache_free(cache: &mut LruCache, left: &mut LruChain) -> u
     let Some(mut taken) = take(cache) else {
         return code::CLOSED;
     };
-    *chain = taken.take_all();
+    taken.take_all(chain);
     code::DONE
 }
 
@@ -104,16 +168,15 @@ pub extern "C" fn lru_cache_repin(cache: &mut LruCache, pin: LruPin) -> LruTold
 #[unsafe(no_mangle)]
 pub extern "C" fn lru_cache_release(cache: &mut LruCache, pin: LruPin, gone: &mut LruChain) -> u32
     ensures { Into gone.old gone.new (bare result) cache.old cache.new
-        (λ o b c n. AsksInto o (λ K. ask.release pin.stamp) (bare result) c n) }
+        (AsksInto (λ K. ask.release pin.stamp) (bare result)) }
 {
-    into_chain(
-        cache,
-        gone,
-        |cache|
-            ensures { AsksInto cache.old (λ K. ask.release pin.stamp) (bare result.0) result.1
-                cache.new }
-        { cache.release(pin) },
-    )
+    match empty_chain(gone) {
+        Ok(chain) => match cache.get_mut() {
+            Some(cache) => cache.release(pin, chain),
+            None => code::CLOSED,
+        },
+        Err(code) => code,
+    }
 }
 
 /// Releases a pin of a ready entry as `release` does, but with its last pin the entry is evicted
@@ -128,16 +191,15 @@ pub extern "C" fn lru_cache_release_and_evict(
     gone: &mut LruChain,
 ) -> u32
     ensures { Into gone.old gone.new (bare result) cache.old cache.new
-        (λ o b c n. AsksInto o (λ K. ask.release_and_evict pin.stamp) (bare result) c n) }
+        (AsksInto (λ K. ask.release_and_evict pin.stamp) (bare result)) }
 {
-    into_chain(
-        cache,
-        gone,
-        |cache|
-            ensures { AsksInto cache.old (λ K. ask.release_and_evict pin.stamp) (bare result.0)
-                result.1 cache.new }
-        { cache.release_and_evict(pin) },
-    )
+    match empty_chain(gone) {
+        Ok(chain) => match cache.get_mut() {
+            Some(cache) => cache.release_and_evict(pin, chain),
+            None => code::CLOSED,
+        },
+        Err(code) => code,
+    }
 }
 
 /// Evicts every idle entry into a chain, oldest first.
@@ -147,15 +209,15 @@ pub extern "C" fn lru_cache_release_and_evict(
 #[unsafe(no_mangle)]
 pub extern "C" fn lru_cache_prune(cache: &mut LruCache, gone: &mut LruChain) -> u32
     ensures { Into gone.old gone.new (bare result) cache.old cache.new
-        (λ o b c n. AsksInto o (λ K. ask.prune) (bare result) c n) }
+        (AsksInto (λ K. ask.prune) (bare result)) }
 {
-    into_chain(
-        cache,
-        gone,
-        |cache|
-            ensures { AsksInto cache.old (λ K. ask.prune) (bare result.0) result.1 cache.new }
-        { cache.prune() },
-    )
+    match empty_chain(gone) {
+        Ok(chain) => match cache.get_mut() {
+            Some(cache) => cache.prune(chain),
+            None => code::CLOSED,
+        },
+        Err(code) => code,
+    }
 }
 
 /// Sets the capacity, and evicts idle entries into a chain while the total is above it.
@@ -169,16 +231,15 @@ pub extern "C" fn lru_cache_set_capacity(
     gone: &mut LruChain,
 ) -> u32
     ensures { Into gone.old gone.new (bare result) cache.old cache.new
-        (λ o b c n. AsksInto o (λ K. ask.set_capacity capacity) (bare result) c n) }
+        (AsksInto (λ K. ask.set_capacity capacity) (bare result)) }
 {
-    into_chain(
-        cache,
-        gone,
-        |cache|
-            ensures { AsksInto cache.old (λ K. ask.set_capacity capacity) (bare result.0) result.1
-                cache.new }
-        { cache.set_capacity(capacity) },
-    )
+    match empty_chain(gone) {
+        Ok(chain) => match cache.get_mut() {
+            Some(cache) => cache.set_capacity(capacity, chain),
+            None => code::CLOSED,
+        },
+        Err(code) => code,
+    }
 }
 
 /// Reserves room for a total of `entries` entries.

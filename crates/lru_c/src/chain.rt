@@ -76,7 +76,8 @@ pub enum AnyChain {
 }
 
 impl AnyChain {
-    ghost use Rattle.lru_c.specs.Chains.{bytes_chain, bytes_chain_of, filled_code, words_chain, words_chain_of, IsEmpty, PopsAny};
+    ghost use Rattle.std.specs.Prelude.{Some, ◌++◌};
+    ghost use Rattle.lru_c.specs.Chains.{bytes_in, filled_code, words_in, IsEmpty, PopsAny};
 
     // Returns a chain of no entries. It takes entries with keys of either kind.
     pub(crate) fn none() -> AnyChain
@@ -85,33 +86,14 @@ impl AnyChain {
         AnyChain::Words(Chain::of(Evicted::none()))
     }
 
-    // Returns the answer of a call on a cache whose keys are bytes, with what it evicted as a
-    // chain.
-    pub(crate) fn of_bytes<A: Drop>(told: (A, Evicted<Bytes>)) -> (A, AnyChain)
-        ensures answer { result.0 ≡ told.0 }
-        ensures chain { result.1 ≡ bytes_chain told.1 }
-    {
-        let (answer, evicted) = told;
-        (answer, AnyChain::Bytes(Chain::of(evicted)))
-    }
-
-    // Returns the answer of a call on a cache whose keys are two words, with what it evicted as a
-    // chain.
-    pub(crate) fn of_words<A: Drop>(told: (A, Evicted<Words>)) -> (A, AnyChain)
-        ensures answer { result.0 ≡ told.0 }
-        ensures chain { result.1 ≡ words_chain told.1 }
-    {
-        let (answer, evicted) = told;
-        (answer, AnyChain::Words(Chain::of(evicted)))
-    }
-
     // Takes what a call on a cache whose keys are bytes evicted, and returns its answer.
     pub(crate) fn take_bytes<A: Drop>(&mut self, told: (A, Evicted<Bytes>)) -> A
+        requires { IsEmpty self.old }
         ensures answer { result ≡ told.0 }
-        ensures chain { self.new ≡ bytes_chain told.1 }
+        ensures chain { bytes_in self.new ≡ Some told.1 }
     {
         let (answer, evicted) = told;
-        *self = AnyChain::Bytes(Chain::of(evicted));
+        self.fill_bytes(Chain::of(evicted));
         answer
     }
 
@@ -121,21 +103,33 @@ impl AnyChain {
         &mut self,
         told: (A, (Evicted<Bytes>, Evicted<Bytes>)),
     ) -> A
+        requires { IsEmpty self.old }
         ensures answer { result ≡ told.0 }
-        ensures chain { self.new ≡ bytes_chain_of told.1.0 told.1.1 }
+        ensures chain { bytes_in self.new ≡ Some (told.1.0 ++ told.1.1) }
     {
         let (answer, (first, rest)) = told;
-        *self = AnyChain::Bytes(Chain { first, rest });
+        self.fill_bytes(Chain { first, rest });
         answer
+    }
+
+    // Becomes `filled` if that has entries. Most calls evict nothing, and write no chain.
+    pub(crate) fn fill_bytes(&mut self, filled: Chain<Bytes>)
+        requires { IsEmpty self.old }
+        ensures { bytes_in self.new ≡ Some (entries_of filled) }
+    {
+        if filled.is_filled() == code::NOT_EMPTY {
+            *self = AnyChain::Bytes(filled);
+        }
     }
 
     // Takes what a call on a cache whose keys are two words evicted, and returns its answer.
     pub(crate) fn take_words<A: Drop>(&mut self, told: (A, Evicted<Words>)) -> A
+        requires { IsEmpty self.old }
         ensures answer { result ≡ told.0 }
-        ensures chain { self.new ≡ words_chain told.1 }
+        ensures chain { words_in self.new ≡ Some told.1 }
     {
         let (answer, evicted) = told;
-        *self = AnyChain::Words(Chain::of(evicted));
+        self.fill_words(Chain::of(evicted));
         answer
     }
 
@@ -145,12 +139,23 @@ impl AnyChain {
         &mut self,
         told: (A, (Evicted<Words>, Evicted<Words>)),
     ) -> A
+        requires { IsEmpty self.old }
         ensures answer { result ≡ told.0 }
-        ensures chain { self.new ≡ words_chain_of told.1.0 told.1.1 }
+        ensures chain { words_in self.new ≡ Some (told.1.0 ++ told.1.1) }
     {
         let (answer, (first, rest)) = told;
-        *self = AnyChain::Words(Chain { first, rest });
+        self.fill_words(Chain { first, rest });
         answer
+    }
+
+    // Becomes `filled` if that has entries.
+    pub(crate) fn fill_words(&mut self, filled: Chain<Words>)
+        requires { IsEmpty self.old }
+        ensures { words_in self.new ≡ Some (entries_of filled) }
+    {
+        if filled.is_filled() == code::NOT_EMPTY {
+            *self = AnyChain::Words(filled);
+        }
     }
 
     // Returns `NOT_EMPTY` if the chain has entries, otherwise `DONE`.

@@ -40,3 +40,5 @@ pub const PINNED: u32 = 18;
 pub const OTHER_KEYS: u32 = 19;
 /// Refused: beside the held entries, the capacity has no room for the charge.
 pub const FULL: u32 = 20;
+/// Refused: a kind of keys that does not exist.
+pub const NO_KIND: u32 = 21;

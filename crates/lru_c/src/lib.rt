@@ -15,6 +15,7 @@ pub mod counts;
 pub mod entries;
 pub mod handle;
 pub mod handles;
+pub mod kind;
 mod steps;
 pub mod told;
 pub mod values;

@@ -6,7 +6,7 @@ ghost use Rattle.concurrent_lru.specs.Request as ask;
 ghost use Rattle.lru_c.specs.Codes as codes;
 ghost use Rattle.lru_c.specs.Inserts.{TellsInsertBy, TellsInserted};
 ghost use Rattle.lru_c.specs.Opened.{TellsReady};
-ghost use Rattle.lru_c.specs.Told.{bare, begin_by, begun_told, failed_code, found_told, numbered, refusal_code, Asks, TellsBegun};
+ghost use Rattle.lru_c.specs.Told.{bare, begin_by, begun_told, evict_by, failed_code, found_told, numbered, refusal_code, Asks, TellsBegun, TellsReleased};
 
 use crate::code;
 use crate::told::{LruPin, LruTold};
@@ -114,10 +114,7 @@ pub(crate) fn release<K: Hash + Eq + Clone>(state: &mut State<K>, pin: LruPin) -
     ensures { Asks K.eq state.old.cache (ask.release pin.stamp)
         (bare result.0) result.1 state.new.cache }
 {
-    match state.release_at(&pin.spot()) {
-        Ok(gone) => (code::DONE, gone),
-        Err(refusal) => (code_of(refusal), Evicted::none()),
-    }
+    told_of_release(state.release_at(&pin.spot()))
 }
 
 pub(crate) fn release_and_evict<K: Hash + Eq + Clone>(
@@ -127,8 +124,16 @@ pub(crate) fn release_and_evict<K: Hash + Eq + Clone>(
     ensures { Asks K.eq state.old.cache (ask.release_and_evict pin.stamp) (bare result.0) result.1
         state.new.cache }
 {
-    match state.release_and_evict_at(&pin.spot()) {
-        Ok(evicted) => (code::DONE, evicted),
+    told_of_release(state.release_and_evict_at(&pin.spot()))
+}
+
+// Returns the code of a release with this result, and what it evicted.
+#[inline(always)]
+fn told_of_release<K: Drop>(outcome: Result<Evicted<K>, Refusal>) -> (u32, Evicted<K>)
+    ensures { TellsReleased outcome result.0 result.1 }
+{
+    match outcome {
+        Ok(gone) => (code::DONE, gone),
         Err(refusal) => (code_of(refusal), Evicted::none()),
     }
 }
@@ -142,18 +147,20 @@ pub(crate) fn repin<K: Hash + Eq + Clone>(state: &mut State<K>, pin: LruPin) -> 
     }
 }
 
-pub(crate) fn advice_evict<K: Hash + Eq + Clone>(state: &mut State<K>, key: &K) -> (u32, Evicted<K>)
-    ensures { Asks K.eq state.old.cache (ask.advice_evict key.now)
+// Evicts the entry of a key if it is idle. Detaches it if it is held, if `even_held` says so.
+pub(crate) fn evict<K: Hash + Eq + Clone>(
+    state: &mut State<K>,
+    key: &K,
+    even_held: bool,
+) -> (u32, Evicted<K>)
+    ensures { Asks K.eq state.old.cache (evict_by even_held key.now)
         (bare result.0) result.1 state.new.cache }
 {
-    (code::DONE, state.advice_evict(key))
-}
-
-pub(crate) fn invalidate<K: Hash + Eq + Clone>(state: &mut State<K>, key: &K) -> (u32, Evicted<K>)
-    ensures { Asks K.eq state.old.cache (ask.invalidate key.now)
-        (bare result.0) result.1 state.new.cache }
-{
-    (code::DONE, state.invalidate(key))
+    if even_held {
+        (code::DONE, state.invalidate(key))
+    } else {
+        (code::DONE, state.advice_evict(key))
+    }
 }
 
 // Also returns what the new entry replaced, and what its charge evicted. If the insert is strict

@@ -1,13 +1,16 @@
 //! The steps of a cache whose keys are bytes.
-ghost use Rattle.std.specs.Prelude.{◌≡◌, ◌==◌, ⊤, [], true, MatchBool};
+ghost use Rattle.std.specs.Borrow.{sem};
+ghost use Rattle.std.specs.Prelude.{◌≡◌, ◌==◌, ⊤, [], true, Some, Err, MatchBool, MatchResult};
 ghost use Rattle.concurrent_lru.specs.Request as ask;
-ghost use Rattle.lru_c.specs.BytesCalls.{CopiesKey};
+ghost use Rattle.lru_c.specs.BytesCalls.{bytes_cache as behind, CopiesKey};
 ghost use Rattle.lru_c.specs.Codes as codes;
+ghost use Rattle.lru_c.specs.Lends.{LendsBytes};
+ghost use Rattle.lru_c.specs.declared.any_cache.AnyCache.TheVariants as any;
 
 use crate::any_cache::AnyCache;
 use crate::bytes::key::Bytes;
 use crate::cache::Cache;
-use crate::chain::AnyChain;
+use crate::handle::Handle;
 use crate::told::{LruPin, LruTold};
 use crate::values::{Evicted, State};
 use crate::{code, steps};
@@ -16,12 +19,27 @@ use crate::{code, steps};
 /// a buffer that is kept.
 pub type BytesCache = Cache<Bytes, Bytes>;
 
+// Returns the cache of a handle for a call on it, if its keys are bytes. Otherwise returns the code
+// that says why not: `CLOSED` or `OTHER_KEYS`.
+pub(crate) fn bytes_cache<G: Handle<To = AnyCache>>(cache: &mut G) -> Result<&mut BytesCache, u32>
+    ensures* writes_back { sem 𝓛 (LendsBytes G.row G.held cache.entry result) }
+    ensures cache { MatchResult result
+        (λ inner. G.held cache.old ≡ Some (any.Bytes inner.now))
+        (λ code. behind (G.held cache.old) ≡ Err code) }
+{
+    match cache.get_mut() {
+        Some(AnyCache::Bytes(cache)) => Ok(cache),
+        Some(AnyCache::Words(_)) => Err(code::OTHER_KEYS),
+        None => Err(code::CLOSED),
+    }
+}
+
 impl Cache<Bytes, Bytes> {
     ghost use Rattle.lru_c.specs.BytesCalls.{BeginsByKey, ContainsBytes, HasBytes};
     ghost use Rattle.lru_c.specs.Keys.{bytes_eq};
     ghost use Rattle.lru_c.specs.Counted.{answered, inserted};
     ghost use Rattle.lru_c.specs.Inserts.{TellsInsertBy, TellsInsertOf};
-    ghost use Rattle.lru_c.specs.Told.{bare, begin_by, AsksOf};
+    ghost use Rattle.lru_c.specs.Told.{bare, begin_by, evict_by, AsksOf};
 
     // Copies the bytes of a key into the buffer. Returns false if the buffer cannot grow.
     fn keep(&mut self, key: &[u8]) -> bool
@@ -67,26 +85,16 @@ impl Cache<Bytes, Bytes> {
         told
     }
 
-    pub(crate) fn advice_evict(&mut self, key: &[u8]) -> (u32, Evicted<Bytes>)
+    // Evicts the entry of a key if it is idle. Detaches it if it is held, if `even_held` says so.
+    pub(crate) fn evict(&mut self, key: &[u8], even_held: bool) -> (u32, Evicted<Bytes>)
         ensures asks { AsksOf bytes_eq (HasBytes key.now) self.old.state.cache
-            ask.advice_evict (bare result.0) result.1 self.new.state.cache }
+            (evict_by even_held) (bare result.0) result.1 self.new.state.cache }
         ensures counts { self.new.counts ≡ self.old.counts }
     {
         if !self.keep(key) {
             return (code::MEMORY, Evicted::none());
         }
-        steps::advice_evict(&mut self.state, &self.room)
-    }
-
-    pub(crate) fn invalidate(&mut self, key: &[u8]) -> (u32, Evicted<Bytes>)
-        ensures asks { AsksOf bytes_eq (HasBytes key.now) self.old.state.cache
-            ask.invalidate (bare result.0) result.1 self.new.state.cache }
-        ensures counts { self.new.counts ≡ self.old.counts }
-    {
-        if !self.keep(key) {
-            return (code::MEMORY, Evicted::none());
-        }
-        steps::invalidate(&mut self.state, &self.room)
+        steps::evict(&mut self.state, &self.room, even_held)
     }
 
     pub(crate) fn insert(
@@ -124,7 +132,7 @@ impl Cache<Bytes, Bytes> {
 }
 
 // Copies the key of the entry with this stamp to the start of a buffer.
-fn copy_key(state: &State<Bytes>, pin: LruPin, buffer: &mut [u8]) -> LruTold
+pub(crate) fn copy_key(state: &State<Bytes>, pin: LruPin, buffer: &mut [u8]) -> LruTold
     ensures told { CopiesKey state.now.cache pin.stamp result buffer.old buffer.new }
     ensures kept { MatchBool (result.code == codes.number) ⊤ (buffer.new ≡ buffer.old) }
 {
@@ -137,95 +145,4 @@ fn copy_key(state: &State<Bytes>, pin: LruPin, buffer: &mut [u8]) -> LruTold
     }
     buffer[..length].copy_from_slice(&key.bytes);
     LruTold::number(code::NUMBER, length as u64)
-}
-
-impl AnyCache {
-    ghost use Rattle.lru_c.specs.BytesCalls.{AsksAnyByKey, AsksIntoByKey, BeginsInto, ContainsAny, InsertsIntoBy, KeyOfAny};
-    ghost use Rattle.lru_c.specs.Told.{bare, begin_by};
-
-    #[inline(always)]
-    pub(crate) fn begin_by_bytes(
-        &mut self,
-        key: &[u8],
-        charge: u64,
-        strict: bool,
-        gone: &mut AnyChain,
-    ) -> LruTold
-        ensures { BeginsInto self.old (begin_by strict) key.now charge result gone.old gone.new
-            self.new }
-    {
-        match self {
-            AnyCache::Bytes(cache) => gone.take_bytes(cache.begin(key, charge, strict)),
-            AnyCache::Words(_) => LruTold::bare(code::OTHER_KEYS),
-        }
-    }
-
-    pub(crate) fn get_by_bytes(&mut self, key: &[u8]) -> LruTold
-        ensures { AsksAnyByKey self.old ask.get key.now result self.new }
-    {
-        match self {
-            AnyCache::Bytes(cache) => cache.get(key),
-            AnyCache::Words(_) => LruTold::bare(code::OTHER_KEYS),
-        }
-    }
-
-    pub(crate) fn contains_by_bytes(&mut self, key: &[u8]) -> u32
-        ensures { ContainsAny self.old key.now result self.new }
-    {
-        match self {
-            AnyCache::Bytes(cache) => cache.contains(key),
-            AnyCache::Words(_) => code::OTHER_KEYS,
-        }
-    }
-
-    pub(crate) fn advice_evict_by_bytes(&mut self, key: &[u8], gone: &mut AnyChain) -> u32
-        ensures { AsksIntoByKey self.old ask.advice_evict key.now (bare result) gone.old gone.new
-            self.new }
-    {
-        match self {
-            AnyCache::Bytes(cache) => gone.take_bytes(cache.advice_evict(key)),
-            AnyCache::Words(_) => code::OTHER_KEYS,
-        }
-    }
-
-    pub(crate) fn invalidate_by_bytes(&mut self, key: &[u8], gone: &mut AnyChain) -> u32
-        ensures { AsksIntoByKey self.old ask.invalidate key.now (bare result) gone.old gone.new
-            self.new }
-    {
-        match self {
-            AnyCache::Bytes(cache) => gone.take_bytes(cache.invalidate(key)),
-            AnyCache::Words(_) => code::OTHER_KEYS,
-        }
-    }
-
-    #[inline(always)]
-    pub(crate) fn insert_by_bytes(
-        &mut self,
-        key: &[u8],
-        charge: u64,
-        value: u64,
-        strict: bool,
-        gone: &mut AnyChain,
-    ) -> LruTold
-        ensures { InsertsIntoBy strict self.old key.now charge value result gone.old gone.new
-            self.new }
-    {
-        match self {
-            AnyCache::Bytes(cache) => {
-                gone.take_both_bytes(cache.insert(key, charge, value, strict))
-            }
-            AnyCache::Words(_) => LruTold::bare(code::OTHER_KEYS),
-        }
-    }
-
-    // Copies the key of the entry with the stamp of a pin to the start of a buffer.
-    pub(crate) fn copy_key(&mut self, pin: LruPin, buffer: &mut [u8]) -> LruTold
-        ensures told { KeyOfAny self.old pin.stamp result buffer.old buffer.new self.new }
-        ensures kept { MatchBool (result.code == codes.number) ⊤ (buffer.new ≡ buffer.old) }
-    {
-        match self {
-            AnyCache::Bytes(cache) => copy_key(&cache.state, pin, buffer),
-            AnyCache::Words(_) => LruTold::bare(code::OTHER_KEYS),
-        }
-    }
 }

@@ -1,13 +1,16 @@
 //! The steps of a cache whose keys are two words.
-ghost use Rattle.std.specs.Prelude.{◌≡◌, ◌==◌, ⊤, [], MatchBool};
+ghost use Rattle.std.specs.Borrow.{sem};
+ghost use Rattle.std.specs.Prelude.{◌≡◌, ◌==◌, ⊤, [], Some, Err, MatchBool, MatchResult};
 ghost use Rattle.concurrent_lru.specs.Request as ask;
 ghost use Rattle.lru_c.specs.Codes as codes;
+ghost use Rattle.lru_c.specs.Lends.{LendsWords};
 ghost use Rattle.lru_c.specs.Opened.{TellsKey};
-ghost use Rattle.lru_c.specs.WordsCalls.{words};
+ghost use Rattle.lru_c.specs.WordsCalls.{words, words_cache as behind};
+ghost use Rattle.lru_c.specs.declared.any_cache.AnyCache.TheVariants as any;
 
 use crate::any_cache::AnyCache;
 use crate::cache::Cache;
-use crate::chain::AnyChain;
+use crate::handle::Handle;
 use crate::told::{LruPin, LruTold};
 use crate::values::{Evicted, State};
 use crate::words::key::Words;
@@ -16,11 +19,26 @@ use crate::{code, steps};
 /// A cache whose keys are two words.
 pub type WordsCache = Cache<Words, ()>;
 
+// Returns the cache of a handle for a call on it, if its keys are two words. Otherwise returns the code
+// that says why not: `CLOSED` or `OTHER_KEYS`.
+pub(crate) fn words_cache<G: Handle<To = AnyCache>>(cache: &mut G) -> Result<&mut WordsCache, u32>
+    ensures* writes_back { sem 𝓛 (LendsWords G.row G.held cache.entry result) }
+    ensures cache { MatchResult result
+        (λ inner. G.held cache.old ≡ Some (any.Words inner.now))
+        (λ code. behind (G.held cache.old) ≡ Err code) }
+{
+    match cache.get_mut() {
+        Some(AnyCache::Words(cache)) => Ok(cache),
+        Some(AnyCache::Bytes(_)) => Err(code::OTHER_KEYS),
+        None => Err(code::CLOSED),
+    }
+}
+
 impl Cache<Words, ()> {
     ghost use Rattle.lru_c.specs.Counted.{answered, inserted};
     ghost use Rattle.lru_c.specs.Keys.{words_eq};
     ghost use Rattle.lru_c.specs.Inserts.{TellsInsertBy, TellsInsertOf};
-    ghost use Rattle.lru_c.specs.Told.{bare, begin_by, Asks, IsSame};
+    ghost use Rattle.lru_c.specs.Told.{bare, begin_by, evict_by, Asks, IsSame};
 
     pub(crate) fn begin(
         &mut self,
@@ -53,20 +71,13 @@ impl Cache<Words, ()> {
         told
     }
 
-    pub(crate) fn advice_evict(&mut self, key: &Words) -> (u32, Evicted<Words>)
-        ensures asks { Asks words_eq self.old.state.cache (ask.advice_evict key.now) (bare result.0)
-            result.1 self.new.state.cache }
+    // Evicts the entry of a key if it is idle. Detaches it if it is held, if `even_held` says so.
+    pub(crate) fn evict(&mut self, key: &Words, even_held: bool) -> (u32, Evicted<Words>)
+        ensures asks { Asks words_eq self.old.state.cache (evict_by even_held key.now)
+            (bare result.0) result.1 self.new.state.cache }
         ensures counts { self.new.counts ≡ self.old.counts }
     {
-        steps::advice_evict(&mut self.state, key)
-    }
-
-    pub(crate) fn invalidate(&mut self, key: &Words) -> (u32, Evicted<Words>)
-        ensures asks { Asks words_eq self.old.state.cache (ask.invalidate key.now) (bare result.0)
-            result.1 self.new.state.cache }
-        ensures counts { self.new.counts ≡ self.old.counts }
-    {
-        steps::invalidate(&mut self.state, key)
+        steps::evict(&mut self.state, key, even_held)
     }
 
     pub(crate) fn insert(
@@ -89,99 +100,8 @@ impl Cache<Words, ()> {
     }
 }
 
-impl AnyCache {
-    ghost use Rattle.lru_c.specs.WordsCalls.{AsksAnyByKey, AsksIntoByKey, BeginsInto, ContainsAny, InsertsIntoBy, KeyOfAny};
-    ghost use Rattle.lru_c.specs.Told.{bare, begin_by};
-
-    #[inline(always)]
-    pub(crate) fn begin_by_words(
-        &mut self,
-        key: &Words,
-        charge: u64,
-        strict: bool,
-        gone: &mut AnyChain,
-    ) -> LruTold
-        ensures { BeginsInto self.old (begin_by strict) key.now charge result gone.old gone.new
-            self.new }
-    {
-        match self {
-            AnyCache::Words(cache) => gone.take_words(cache.begin(key, charge, strict)),
-            AnyCache::Bytes(_) => LruTold::bare(code::OTHER_KEYS),
-        }
-    }
-
-    pub(crate) fn get_by_words(&mut self, key: &Words) -> LruTold
-        ensures { AsksAnyByKey self.old (ask.get key.now) result self.new }
-    {
-        match self {
-            AnyCache::Words(cache) => cache.get(key),
-            AnyCache::Bytes(_) => LruTold::bare(code::OTHER_KEYS),
-        }
-    }
-
-    pub(crate) fn contains_by_words(&mut self, key: &Words) -> u32
-        ensures { ContainsAny self.old key.now result self.new }
-    {
-        match self {
-            AnyCache::Words(cache) => steps::contains(&cache.state, key),
-            AnyCache::Bytes(_) => code::OTHER_KEYS,
-        }
-    }
-
-    pub(crate) fn advice_evict_by_words(&mut self, key: &Words, gone: &mut AnyChain) -> u32
-        ensures { AsksIntoByKey self.old (ask.advice_evict key.now) (bare result) gone.old gone.new
-            self.new }
-    {
-        match self {
-            AnyCache::Words(cache) => gone.take_words(cache.advice_evict(key)),
-            AnyCache::Bytes(_) => code::OTHER_KEYS,
-        }
-    }
-
-    pub(crate) fn invalidate_by_words(&mut self, key: &Words, gone: &mut AnyChain) -> u32
-        ensures { AsksIntoByKey self.old (ask.invalidate key.now) (bare result) gone.old gone.new
-            self.new }
-    {
-        match self {
-            AnyCache::Words(cache) => gone.take_words(cache.invalidate(key)),
-            AnyCache::Bytes(_) => code::OTHER_KEYS,
-        }
-    }
-
-    #[inline(always)]
-    pub(crate) fn insert_by_words(
-        &mut self,
-        key: &Words,
-        charge: u64,
-        value: u64,
-        strict: bool,
-        gone: &mut AnyChain,
-    ) -> LruTold
-        ensures { InsertsIntoBy strict self.old key.now charge value result gone.old gone.new
-            self.new }
-    {
-        match self {
-            AnyCache::Words(cache) => {
-                gone.take_both_words(cache.insert(key, charge, value, strict))
-            }
-            AnyCache::Bytes(_) => LruTold::bare(code::OTHER_KEYS),
-        }
-    }
-
-    // Writes the two words of the key of the entry with the stamp of a pin.
-    pub(crate) fn write_key(&mut self, pin: LruPin, first: &mut u64, second: &mut u64) -> u32
-        ensures told { KeyOfAny self.old pin.stamp result (words first.new second.new) self.new }
-        ensures kept { MatchBool (result == codes.done) ⊤
-            ((first.new ≡ first.old) × (second.new ≡ second.old)) }
-    {
-        match self {
-            AnyCache::Words(cache) => write_key(&cache.state, pin, first, second),
-            AnyCache::Bytes(_) => code::OTHER_KEYS,
-        }
-    }
-}
-
-fn write_key(state: &State<Words>, pin: LruPin, first: &mut u64, second: &mut u64) -> u32
+// Writes the two words of the key of the entry with the stamp of a pin.
+pub(crate) fn write_key(state: &State<Words>, pin: LruPin, first: &mut u64, second: &mut u64) -> u32
     ensures told { TellsKey state.now.cache pin.stamp result (words first.new second.new) }
     ensures kept { MatchBool (result == codes.done) ⊤
         ((first.new ≡ first.old) × (second.new ≡ second.old)) }
