@@ -325,8 +325,10 @@ lru_told lru_words_begin(lru_cache *cache, uint64_t first, uint64_t second, uint
                          bool strict, lru_chain *gone);
 lru_told lru_words_get(lru_cache *cache, uint64_t first, uint64_t second);
 lru_code lru_words_contains(lru_cache *cache, uint64_t first, uint64_t second);
-lru_code lru_words_advice_evict(lru_cache *cache, uint64_t first, uint64_t second, lru_chain *gone);
-lru_code lru_words_invalidate(lru_cache *cache, uint64_t first, uint64_t second, lru_chain *gone);
+static inline lru_code lru_words_advice_evict(lru_cache *cache, uint64_t first, uint64_t second,
+                                              lru_chain *gone);
+static inline lru_code lru_words_invalidate(lru_cache *cache, uint64_t first, uint64_t second,
+                                            lru_chain *gone);
 lru_told lru_words_insert(lru_cache *cache, uint64_t first, uint64_t second, uint64_t charge,
                           uint64_t value, bool strict, lru_chain *gone);
 
@@ -468,7 +470,7 @@ bool lru_chain_pop(lru_chain *chain, lru_gone *out);
 /* Whether no entry is left, or the chain is not open. Does not allocate. */
 bool lru_chain_is_empty(lru_chain *chain);
 
-/* ----------------------------------------------------------------- pointers that are never null */
+/* -------------------------------------------------------------- the functions behind some calls */
 
 /* The functions behind the calls above that take a key of bytes or a buffer. The pointer must not
  * be null, even if the length is 0. A binding for a language whose slices are never null may call
@@ -477,14 +479,27 @@ lru_told lru_bytes_begin_nonnull(lru_cache *cache, const uint8_t *key, size_t le
                                  uint64_t charge, bool strict, lru_chain *gone);
 lru_told lru_bytes_get_nonnull(lru_cache *cache, const uint8_t *key, size_t length);
 lru_code lru_bytes_contains_nonnull(lru_cache *cache, const uint8_t *key, size_t length);
-lru_code lru_bytes_advice_evict_nonnull(lru_cache *cache, const uint8_t *key, size_t length,
-                                        lru_chain *gone);
-lru_code lru_bytes_invalidate_nonnull(lru_cache *cache, const uint8_t *key, size_t length,
-                                      lru_chain *gone);
+lru_code lru_bytes_evict_nonnull(lru_cache *cache, const uint8_t *key, size_t length,
+                                 bool even_held, lru_chain *gone);
 lru_told lru_bytes_insert_nonnull(lru_cache *cache, const uint8_t *key, size_t length,
                                   uint64_t charge, uint64_t value, bool strict, lru_chain *gone);
 lru_told lru_bytes_key_of_nonnull(lru_cache *cache, lru_pin pin, uint8_t *buffer, size_t room);
 lru_told lru_cache_entries_nonnull(lru_cache *cache, lru_entry *out, size_t room);
+
+/* The function behind `advice_evict` and `invalidate`, as is lru_bytes_evict_nonnull: it also
+ * detaches an entry that is held if `even_held` says so. */
+lru_code lru_words_evict(lru_cache *cache, uint64_t first, uint64_t second, bool even_held,
+                         lru_chain *gone);
+
+static inline lru_code lru_words_advice_evict(lru_cache *cache, uint64_t first, uint64_t second,
+                                              lru_chain *gone) {
+    return lru_words_evict(cache, first, second, false, gone);
+}
+
+static inline lru_code lru_words_invalidate(lru_cache *cache, uint64_t first, uint64_t second,
+                                            lru_chain *gone) {
+    return lru_words_evict(cache, first, second, true, gone);
+}
 
 /* The calls that also take a null pointer. These first three names are internal. */
 static const uint8_t lru_empty_key[1] = {0};
@@ -521,14 +536,14 @@ static inline lru_code lru_bytes_advice_evict(lru_cache *cache, const void *key,
                                               lru_chain *gone) {
     if (key == NULL && length > 0)
         return LRU_NULL_KEY;
-    return lru_bytes_advice_evict_nonnull(cache, lru_key_or_empty(key), length, gone);
+    return lru_bytes_evict_nonnull(cache, lru_key_or_empty(key), length, false, gone);
 }
 
 static inline lru_code lru_bytes_invalidate(lru_cache *cache, const void *key, size_t length,
                                             lru_chain *gone) {
     if (key == NULL && length > 0)
         return LRU_NULL_KEY;
-    return lru_bytes_invalidate_nonnull(cache, lru_key_or_empty(key), length, gone);
+    return lru_bytes_evict_nonnull(cache, lru_key_or_empty(key), length, true, gone);
 }
 
 static inline lru_told lru_bytes_insert(lru_cache *cache, const void *key, size_t length,

@@ -77,7 +77,7 @@ static void NAME(use)(lru_cache *cache, lru_chain *gone, unsigned n, uint64_t ch
     NAME(let_go)(cache, gone, told.pin);
 }
 
-static void NAME(evict)(lru_cache *cache, lru_chain *gone, unsigned n) {
+static void NAME(advise)(lru_cache *cache, lru_chain *gone, unsigned n) {
     lru_code code = NAME(advice_evict)(cache, KEY(n), gone);
     if (refused(code, CALL("advice_evict"))) code = NAME(advice_evict)(cache, KEY(n), gone);
     say_code("advice_evict", code);
@@ -165,9 +165,9 @@ static void RUN(void) {
 
     /* Hits, misses and advice_evict. */
     waited = NAME(find)(&cache, 50);
-    NAME(evict)(&cache, &gone, 50);
+    NAME(advise)(&cache, &gone, 50);
     NAME(let_go)(&cache, &gone, waited.pin);
-    NAME(evict)(&cache, &gone, 50);
+    NAME(advise)(&cache, &gone, 50);
     NAME(find)(&cache, 50);
     NAME(find)(&cache, 80);
 
@@ -194,7 +194,7 @@ static void RUN(void) {
     NAME(look)(&cache, 148);
     NAME(take_away)(&cache, &gone, 300);
     NAME(look)(&cache, 600);
-    NAME(evict)(&cache, &gone, 1200);
+    NAME(advise)(&cache, &gone, 1200);
 
     /* With a strict limit: new entries with keys longer than all before, and a key that finds no
      * room beside the two entries that are held, whose charges add up to 15. */

@@ -55,19 +55,17 @@ pub(crate) mod sealed {
         /// As for [`Calls`].
         unsafe fn contains(cache: *mut Handle, key: Self::Written<'_>) -> u32;
 
+        /// Is `advice_evict`, or `invalidate` if `even_held` says so.
+        ///
         /// # Safety
         ///
         /// As for [`Calls`].
-        unsafe fn advice_evict(
+        unsafe fn evict(
             cache: *mut Handle,
             key: Self::Written<'_>,
+            even_held: bool,
             gone: *mut Handle,
         ) -> u32;
-
-        /// # Safety
-        ///
-        /// As for [`Calls`].
-        unsafe fn invalidate(cache: *mut Handle, key: Self::Written<'_>, gone: *mut Handle) -> u32;
 
         /// # Safety
         ///
@@ -98,16 +96,11 @@ unsafe extern "C" {
     ) -> Told;
     fn lru_bytes_get_nonnull(cache: *mut Handle, key: *const u8, length: usize) -> Told;
     fn lru_bytes_contains_nonnull(cache: *mut Handle, key: *const u8, length: usize) -> u32;
-    fn lru_bytes_advice_evict_nonnull(
+    fn lru_bytes_evict_nonnull(
         cache: *mut Handle,
         key: *const u8,
         length: usize,
-        gone: *mut Handle,
-    ) -> u32;
-    fn lru_bytes_invalidate_nonnull(
-        cache: *mut Handle,
-        key: *const u8,
-        length: usize,
+        even_held: bool,
         gone: *mut Handle,
     ) -> u32;
     fn lru_bytes_insert_nonnull(
@@ -153,14 +146,9 @@ impl sealed::Calls for Bytes {
         unsafe { lru_bytes_contains_nonnull(cache, key.as_ptr(), key.len()) }
     }
 
-    unsafe fn advice_evict(cache: *mut Handle, key: &[u8], gone: *mut Handle) -> u32 {
+    unsafe fn evict(cache: *mut Handle, key: &[u8], even_held: bool, gone: *mut Handle) -> u32 {
         // SAFETY: as in `begin`.
-        unsafe { lru_bytes_advice_evict_nonnull(cache, key.as_ptr(), key.len(), gone) }
-    }
-
-    unsafe fn invalidate(cache: *mut Handle, key: &[u8], gone: *mut Handle) -> u32 {
-        // SAFETY: as in `begin`.
-        unsafe { lru_bytes_invalidate_nonnull(cache, key.as_ptr(), key.len(), gone) }
+        unsafe { lru_bytes_evict_nonnull(cache, key.as_ptr(), key.len(), even_held, gone) }
     }
 
     unsafe fn insert(
@@ -213,14 +201,14 @@ impl sealed::Calls for CowBytes {
         unsafe { Bytes::contains(cache, &key) }
     }
 
-    unsafe fn advice_evict(cache: *mut Handle, key: Cow<'_, [u8]>, gone: *mut Handle) -> u32 {
+    unsafe fn evict(
+        cache: *mut Handle,
+        key: Cow<'_, [u8]>,
+        even_held: bool,
+        gone: *mut Handle,
+    ) -> u32 {
         // SAFETY: as in `begin`.
-        unsafe { Bytes::advice_evict(cache, &key, gone) }
-    }
-
-    unsafe fn invalidate(cache: *mut Handle, key: Cow<'_, [u8]>, gone: *mut Handle) -> u32 {
-        // SAFETY: as in `begin`.
-        unsafe { Bytes::invalidate(cache, &key, gone) }
+        unsafe { Bytes::evict(cache, &key, even_held, gone) }
     }
 
     unsafe fn insert(
@@ -251,13 +239,13 @@ unsafe extern "C" {
     ) -> Told;
     fn lru_words_get(cache: *mut Handle, first: u64, second: u64) -> Told;
     fn lru_words_contains(cache: *mut Handle, first: u64, second: u64) -> u32;
-    fn lru_words_advice_evict(
+    fn lru_words_evict(
         cache: *mut Handle,
         first: u64,
         second: u64,
+        even_held: bool,
         gone: *mut Handle,
     ) -> u32;
-    fn lru_words_invalidate(cache: *mut Handle, first: u64, second: u64, gone: *mut Handle) -> u32;
     fn lru_words_insert(
         cache: *mut Handle,
         first: u64,
@@ -300,18 +288,14 @@ impl sealed::Calls for Words {
         unsafe { lru_words_contains(cache, first, second) }
     }
 
-    unsafe fn advice_evict(
+    unsafe fn evict(
         cache: *mut Handle,
         [first, second]: [u64; 2],
+        even_held: bool,
         gone: *mut Handle,
     ) -> u32 {
         // SAFETY: as in `begin`.
-        unsafe { lru_words_advice_evict(cache, first, second, gone) }
-    }
-
-    unsafe fn invalidate(cache: *mut Handle, [first, second]: [u64; 2], gone: *mut Handle) -> u32 {
-        // SAFETY: as in `begin`.
-        unsafe { lru_words_invalidate(cache, first, second, gone) }
+        unsafe { lru_words_evict(cache, first, second, even_held, gone) }
     }
 
     unsafe fn insert(

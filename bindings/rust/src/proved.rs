@@ -155,7 +155,7 @@ impl<F: Form, V> Core<F, V> {
         evicted: &mut Evicted<V>,
     ) -> Result<(), Refusal> {
         // SAFETY: this core has the only copies of both handles.
-        let code = unsafe { F::advice_evict(&mut self.cache, key, &mut self.chain) };
+        let code = unsafe { F::evict(&mut self.cache, key, false, &mut self.chain) };
         self.take_evicted(evicted);
         done(code)
     }
@@ -168,7 +168,7 @@ impl<F: Form, V> Core<F, V> {
         evicted: &mut Evicted<V>,
     ) -> Result<(), Refusal> {
         // SAFETY: this core has the only copies of both handles.
-        let code = unsafe { F::invalidate(&mut self.cache, key, &mut self.chain) };
+        let code = unsafe { F::evict(&mut self.cache, key, true, &mut self.chain) };
         self.take_evicted(evicted);
         done(code)
     }

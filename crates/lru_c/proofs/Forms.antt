@@ -7,34 +7,10 @@ use Rattle.lru_c.specs.contracts.handles.ChainAt as ChainAt
 use Rattle.lru_c.proofs.Moved.{Form, at_form}
 
 abbrev pub cache_handle : Form (Option HeldCache) cache_owns
-cache_handle = record {
-  row = CacheAt.the_row;
-  name = CacheAt.the_type.name;
-  at = λ d. d.at;
-  alloc = λ d. d.alloc;
-  held = λ d. d.held;
-  make = λ p a h. record { at = p; alloc = a; held = h };
-  opens = λ d us. refl;
-  shuts = λ p a h us. refl;
-  tells = λ p a h. refl;
-  last = λ x. tt;
-  silent = λ x f. refl;
-}
+cache_handle = record { row = CacheAt.the_row; name = CacheAt.the_type.name; at = λ d. d.at; alloc = λ d. d.alloc; held = λ d. d.held; make = λ p a h. record { at = p; alloc = a; held = h }; opens = λ d us. refl; shuts = λ p a h us. refl; tells = λ p a h. refl; last = λ x. tt; silent = λ x f. refl }
 
 abbrev pub chain_handle : Form (Option HeldChain) chain_owns
-chain_handle = record {
-  row = ChainAt.the_row;
-  name = ChainAt.the_type.name;
-  at = λ d. d.at;
-  alloc = λ d. d.alloc;
-  held = λ d. d.held;
-  make = λ p a h. record { at = p; alloc = a; held = h };
-  opens = λ d us. refl;
-  shuts = λ p a h us. refl;
-  tells = λ p a h. refl;
-  last = λ x. tt;
-  silent = λ x f. refl;
-}
+chain_handle = record { row = ChainAt.the_row; name = ChainAt.the_type.name; at = λ d. d.at; alloc = λ d. d.alloc; held = λ d. d.held; make = λ p a h. record { at = p; alloc = a; held = h }; opens = λ d us. refl; shuts = λ p a h us. refl; tells = λ p a h. refl; last = λ x. tt; silent = λ x f. refl }
 
 abbrev pub cache_pointer : Form (Option HeldCache) cache_owns
 cache_pointer = at_form cache_row

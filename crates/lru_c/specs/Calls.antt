@@ -97,9 +97,9 @@ abbrev pub Into : LruChain → LruChain → LruTold → LruCache → LruCache �
 Into before after t old new Step =
     Fills before.chain.held after.chain.held t old new (OnOpen old.cache.held new.cache.held (λ o n. MatchOption after.chain.held ⊥ (λ c. Step o c n)) ((t ≡ bare code.closed) × (after.chain.held ≡ before.chain.held)))
 
--- The call took one step of the cache, with these entries in the chain.
+-- The call took one step of the cache, with these entries in the chain. It is not counted.
 abbrev pub AsksInto : ((K : Type 0) → Request K ℕ) → LruTold → AnyCache → AnyChain → AnyCache → Type 0
-AsksInto r t old gone new = IntoAny (λ K R E o out n. TakesStep E o (r K) t out n) old gone new
+AsksInto r t old gone new = IntoAny (λ K R E o out n. tells.Asks E o.state.cache (r K) t out n.state.cache × (n.counts ≡ o.counts)) old gone new
 
 module _ {K R : Type 0} (of_kind : Option AnyCache → Result (Inner K R) ℕ) where
   -- A call by a key of one kind. If the handle leads to a cache with such keys, which of_kind tells,

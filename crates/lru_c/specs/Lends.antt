@@ -1,5 +1,5 @@
 -- What a handle leads to once a `&mut` that was lent from it has ended.
-use Rattle.std.specs.Prelude.{◌≡◌, ℕ, Option, Some, None, Result}
+use Rattle.std.specs.Prelude.{◌≡◌, ℕ, Option, Some, None, Result, Err, MatchResult}
 use Rattle.std.specs.Borrow.{Fml, LendsSo, LendsSoOk, MutBor, RattleType, unit}
 use Rattle.lru_c.specs.declared.any_cache.AnyCache.{AnyCache}
 use Rattle.lru_c.specs.declared.any_cache.AnyCache.TheVariants as cache
@@ -32,6 +32,10 @@ LendsChain G held g r = LendsSoOk G chain_row g r (λ n w. held n ≡ written (h
 -- make: the cache as one with keys of either kind.
 abbrev pub LendsKind : (G T : RattleType) → (T.Denot → AnyCache) → (G.Denot → Option AnyCache) → MutBor G.Denot → Result (MutBor T.Denot) ℕ → Fml
 LendsKind G T make held g r = LendsSoOk G T g r (λ n w. held n ≡ written (held g.now) (make w)) (λ n. held n ≡ held g.now)
+
+-- What r leads to is that cache; or r is the code, which of_kind tells.
+abbrev pub IsLent : {A : Type 0} → (A → AnyCache) → (Option AnyCache → Result A ℕ) → Option AnyCache → Result (MutBor A) ℕ → Type 0
+IsLent make of_kind held r = MatchResult r (λ c. held ≡ Some (make c.now)) (λ code. of_kind held ≡ Err code)
 
 abbrev pub bytes_row : RattleType
 bytes_row = Cache.the_row Bytes.the_row Bytes.the_row bytes_hash.ghosts bytes_equal.ghosts bytes_clone.ghosts

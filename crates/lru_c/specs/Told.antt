@@ -13,6 +13,8 @@ use Rattle.concurrent_lru.specs.declared.step.Failed.{Failed}
 use Rattle.concurrent_lru.specs.declared.step.Failed.TheVariants as failed
 use Rattle.concurrent_lru.specs.declared.table.spot.Hint.{Hint}
 use Rattle.lru_c.specs.Codes as code
+use Rattle.lru_c.specs.declared.steps.Step.{Step}
+use Rattle.lru_c.specs.declared.steps.Step.TheVariants as step
 use Rattle.lru_c.specs.declared.told.LruPin.{LruPin}
 use Rattle.lru_c.specs.declared.told.LruTold.{LruTold}
 
@@ -60,6 +62,13 @@ module _ {K : Type 0} where
   -- an invalidation, which detaches an entry even if it is held, or an advice to evict
   abbrev pub evict_by : Bool → K → Request K ℕ
   evict_by even_held k = cond even_held (ask.invalidate k) (ask.advice_evict k)
+
+  -- the request of a step that takes no key and may evict
+  abbrev pub request_of : Step → Request K ℕ
+  request_of (step.Release p) = ask.release p.stamp
+  request_of (step.ReleaseAndEvict p) = ask.release_and_evict p.stamp
+  request_of step.Prune = ask.prune
+  request_of (step.SetCapacity capacity) = ask.set_capacity capacity
 
   -- the code of a making that failed
   abbrev pub failed_code : Failed K → ℕ

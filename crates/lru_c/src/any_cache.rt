@@ -1,6 +1,5 @@
 //! What the handle of a cache points to, and the calls on it that take no key.
 ghost use Rattle.std.specs.Prelude.{◌≡◌, ◌==◌, ◌<◌, ⊤, true, false, MatchBool, MatchOption};
-ghost use Rattle.concurrent_lru.specs.Cache.{count_of, pinned_of, sum_of};
 ghost use Rattle.concurrent_lru.specs.Request as ask;
 ghost use Rattle.lru_c.specs.Codes as codes;
 
@@ -9,6 +8,7 @@ use crate::bytes::key::Bytes;
 use crate::cache::Cache;
 use crate::chain::{AnyChain, Chain};
 use crate::entries::{LruEntry, write_entries, write_entry};
+use crate::steps::{Number, Step};
 use crate::told::{LruPin, LruStats, LruTold};
 use crate::words::cache::WordsCache;
 use crate::{kind, steps};
@@ -28,7 +28,8 @@ impl AnyCache {
     ghost use Rattle.lru_c.specs.Chains.{IsEmpty};
     ghost use Rattle.lru_c.specs.Entries.{EntriesOfAny, EntryOfAny};
     ghost use Rattle.lru_c.specs.Keys.{is_kind};
-    ghost use Rattle.lru_c.specs.Told.{bare};
+    ghost use Rattle.lru_c.specs.Opened.{number_of};
+    ghost use Rattle.lru_c.specs.Told.{bare, request_of};
 
     // Returns a new, empty cache whose keys are of a kind, or `None` if there is no such kind.
     pub(crate) fn new(
@@ -91,43 +92,15 @@ impl AnyCache {
         }
     }
 
-    pub(crate) fn release(&mut self, pin: LruPin, gone: &mut AnyChain) -> u32
+    // Takes a step, and puts what it evicts into a chain.
+    #[inline(always)]
+    pub(crate) fn take(&mut self, step: Step, gone: &mut AnyChain) -> u32
         requires { IsEmpty gone.old }
-        ensures { AsksInto (λ K. ask.release pin.stamp) (bare result) self.old gone.new self.new }
+        ensures { AsksInto (λ K. request_of step) (bare result) self.old gone.new self.new }
     {
         match self {
-            AnyCache::Bytes(cache) => gone.take_bytes(cache.release(pin)),
-            AnyCache::Words(cache) => gone.take_words(cache.release(pin)),
-        }
-    }
-
-    pub(crate) fn release_and_evict(&mut self, pin: LruPin, gone: &mut AnyChain) -> u32
-        requires { IsEmpty gone.old }
-        ensures { AsksInto (λ K. ask.release_and_evict pin.stamp) (bare result) self.old gone.new self.new }
-    {
-        match self {
-            AnyCache::Bytes(cache) => gone.take_bytes(cache.release_and_evict(pin)),
-            AnyCache::Words(cache) => gone.take_words(cache.release_and_evict(pin)),
-        }
-    }
-
-    pub(crate) fn prune(&mut self, gone: &mut AnyChain) -> u32
-        requires { IsEmpty gone.old }
-        ensures { AsksInto (λ K. ask.prune) (bare result) self.old gone.new self.new }
-    {
-        match self {
-            AnyCache::Bytes(cache) => gone.take_bytes(cache.prune()),
-            AnyCache::Words(cache) => gone.take_words(cache.prune()),
-        }
-    }
-
-    pub(crate) fn set_capacity(&mut self, capacity: u64, gone: &mut AnyChain) -> u32
-        requires { IsEmpty gone.old }
-        ensures { AsksInto (λ K. ask.set_capacity capacity) (bare result) self.old gone.new self.new }
-    {
-        match self {
-            AnyCache::Bytes(cache) => gone.take_bytes(cache.set_capacity(capacity)),
-            AnyCache::Words(cache) => gone.take_words(cache.set_capacity(capacity)),
+            AnyCache::Bytes(cache) => gone.take_bytes(steps::take(&mut cache.state, step)),
+            AnyCache::Words(cache) => gone.take_words(steps::take(&mut cache.state, step)),
         }
     }
 
@@ -140,39 +113,12 @@ impl AnyCache {
         }
     }
 
-    pub(crate) fn total(&mut self) -> LruTold
-        ensures { NumbersAny self.old (λ K. sum_of) result self.new }
+    pub(crate) fn tell(&mut self, which: Number) -> LruTold
+        ensures { NumbersAny self.old (λ K. number_of which) result self.new }
     {
         match self {
-            AnyCache::Bytes(cache) => steps::total(&cache.state),
-            AnyCache::Words(cache) => steps::total(&cache.state),
-        }
-    }
-
-    pub(crate) fn pinned_charge(&mut self) -> LruTold
-        ensures { NumbersAny self.old (λ K. pinned_of) result self.new }
-    {
-        match self {
-            AnyCache::Bytes(cache) => steps::pinned_charge(&cache.state),
-            AnyCache::Words(cache) => steps::pinned_charge(&cache.state),
-        }
-    }
-
-    pub(crate) fn capacity(&mut self) -> LruTold
-        ensures { NumbersAny self.old (λ K c. c.capacity) result self.new }
-    {
-        match self {
-            AnyCache::Bytes(cache) => steps::capacity(&cache.state),
-            AnyCache::Words(cache) => steps::capacity(&cache.state),
-        }
-    }
-
-    pub(crate) fn len(&mut self) -> LruTold
-        ensures { NumbersAny self.old (λ K. count_of) result self.new }
-    {
-        match self {
-            AnyCache::Bytes(cache) => steps::len(&cache.state),
-            AnyCache::Words(cache) => steps::len(&cache.state),
+            AnyCache::Bytes(cache) => steps::tell(&cache.state, which),
+            AnyCache::Words(cache) => steps::tell(&cache.state, which),
         }
     }
 

@@ -72,40 +72,30 @@ pub extern "C" fn lru_bytes_contains_nonnull(cache: &mut LruCache, key: &[u8]) -
     }
 }
 
-/// Evicts the entry of a key into a chain if it is idle. Otherwise nothing happens, now or later.
+/// Evicts the entry of a key into a chain if it is idle. If it is held, detaches it if `even_held`
+/// says so: no call finds it by the key then, but it is still found by its stamp, and is evicted
+/// with its last pin. Otherwise nothing happens, now or later.
 ///
 /// Returns `MEMORY` if a copy of the key is refused, `CLOSED` if the cache or chain is not open,
 /// `OTHER_KEYS` if the keys of the cache are not bytes, and `NOT_EMPTY` if the chain has entries;
 /// nothing changes then.
 #[unsafe(no_mangle)]
-pub extern "C" fn lru_bytes_advice_evict_nonnull(
+pub extern "C" fn lru_bytes_evict_nonnull(
     cache: &mut LruCache,
     key: &[u8],
+    even_held: bool,
     gone: &mut LruChain,
 ) -> u32
     ensures { IntoBytes gone.old gone.new (bare result) cache.old cache.new
-        (Evicts ask.advice_evict key.now (bare result)) }
+        (Evicts (evict_by even_held) key.now (bare result)) }
 {
-    evict(cache, key, false, gone)
-}
-
-/// Detaches the entry of a key, so that no call finds it by the key. An idle entry is evicted into
-/// a chain; a held one is still found by its stamp, and is evicted with its last pin. If the key
-/// has no entry, nothing happens.
-///
-/// Returns `MEMORY` if a copy of the key is refused, `CLOSED` if the cache or chain is not open,
-/// `OTHER_KEYS` if the keys of the cache are not bytes, and `NOT_EMPTY` if the chain has entries;
-/// nothing changes then.
-#[unsafe(no_mangle)]
-pub extern "C" fn lru_bytes_invalidate_nonnull(
-    cache: &mut LruCache,
-    key: &[u8],
-    gone: &mut LruChain,
-) -> u32
-    ensures { IntoBytes gone.old gone.new (bare result) cache.old cache.new
-        (Evicts ask.invalidate key.now (bare result)) }
-{
-    evict(cache, key, true, gone)
+    match empty_chain(gone) {
+        Ok(chain) => match bytes_cache(cache) {
+            Ok(cache) => chain.take_bytes(cache.evict(key, even_held)),
+            Err(code) => code,
+        },
+        Err(code) => code,
+    }
 }
 
 /// Inserts a value, replacing what the key has: detaches the entry of the key as `invalidate` does,
@@ -156,19 +146,5 @@ pub extern "C" fn lru_bytes_key_of_nonnull(
     match bytes_cache(cache) {
         Ok(cache) => copy_key(&cache.state, pin, buffer),
         Err(code) => LruTold::bare(code),
-    }
-}
-
-// Evicts the entry of a key if it is idle. Detaches it if it is held, if `even_held` says so.
-fn evict(cache: &mut LruCache, key: &[u8], even_held: bool, gone: &mut LruChain) -> u32
-    ensures { IntoBytes gone.old gone.new (bare result) cache.old cache.new
-        (Evicts (evict_by even_held) key.now (bare result)) }
-{
-    match empty_chain(gone) {
-        Ok(chain) => match bytes_cache(cache) {
-            Ok(cache) => chain.take_bytes(cache.evict(key, even_held)),
-            Err(code) => code,
-        },
-        Err(code) => code,
     }
 }

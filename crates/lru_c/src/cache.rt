@@ -7,7 +7,7 @@ ghost use Rattle.lru_c.specs.Counted.{no_calls};
 use crate::counts::Counts;
 use crate::steps;
 use crate::told::{LruPin, LruStats, LruTold};
-use crate::values::{Evicted, State};
+use crate::values::State;
 use std::alloc::Global;
 use std::hash::Hash;
 
@@ -55,38 +55,6 @@ impl<K: Hash + Eq + Clone, R> Cache<K, R> {
         let code = steps::fail(&mut self.state, pin);
         self.counts.answer(LruTold::bare(code));
         code
-    }
-
-    pub(crate) fn release(&mut self, pin: LruPin) -> (u32, Evicted<K>)
-        ensures asks { Asks K.eq self.old.state.cache (ask.release pin.stamp) (bare result.0)
-            result.1 self.new.state.cache }
-        ensures counts { self.new.counts ≡ self.old.counts }
-    {
-        steps::release(&mut self.state, pin)
-    }
-
-    pub(crate) fn release_and_evict(&mut self, pin: LruPin) -> (u32, Evicted<K>)
-        ensures asks { Asks K.eq self.old.state.cache (ask.release_and_evict pin.stamp)
-            (bare result.0) result.1 self.new.state.cache }
-        ensures counts { self.new.counts ≡ self.old.counts }
-    {
-        steps::release_and_evict(&mut self.state, pin)
-    }
-
-    pub(crate) fn prune(&mut self) -> (u32, Evicted<K>)
-        ensures asks { Asks K.eq self.old.state.cache ask.prune (bare result.0) result.1
-            self.new.state.cache }
-        ensures counts { self.new.counts ≡ self.old.counts }
-    {
-        steps::prune(&mut self.state)
-    }
-
-    pub(crate) fn set_capacity(&mut self, capacity: u64) -> (u32, Evicted<K>)
-        ensures asks { Asks K.eq self.old.state.cache (ask.set_capacity capacity) (bare result.0)
-            result.1 self.new.state.cache }
-        ensures counts { self.new.counts ≡ self.old.counts }
-    {
-        steps::set_capacity(&mut self.state, capacity)
     }
 
     pub(crate) fn stats(&self) -> LruStats

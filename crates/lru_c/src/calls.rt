@@ -6,8 +6,8 @@ ghost use Rattle.lru_c.specs.Calls.{Asks, AsksInto, FreesInto, Into, Numbers, Op
 ghost use Rattle.lru_c.specs.Chains.{chain_code, IsEmpty, PopsOpen};
 ghost use Rattle.lru_c.specs.Codes as codes;
 ghost use Rattle.lru_c.specs.Entries.{EntriesOf, EntryOf};
-ghost use Rattle.lru_c.specs.Opened.{Opens};
-ghost use Rattle.lru_c.specs.Told.{bare};
+ghost use Rattle.lru_c.specs.Opened.{number_of, Opens};
+ghost use Rattle.lru_c.specs.Told.{bare, request_of};
 
 use crate::any_cache::AnyCache;
 use crate::chain::AnyChain;
@@ -15,6 +15,7 @@ use crate::chain_calls::empty_chain;
 use crate::entries::LruEntry;
 use crate::handle::{Handle, open_new, take};
 use crate::handles::{LruCache, LruChain};
+use crate::steps::{Number, Step};
 use crate::told::{LruGone, LruPin, LruStats, LruTold};
 use crate::{chain_calls, code};
 use std::alloc::Global;
@@ -170,13 +171,7 @@ pub extern "C" fn lru_cache_release(cache: &mut LruCache, pin: LruPin, gone: &mu
     ensures { Into gone.old gone.new (bare result) cache.old cache.new
         (AsksInto (λ K. ask.release pin.stamp) (bare result)) }
 {
-    match empty_chain(gone) {
-        Ok(chain) => match cache.get_mut() {
-            Some(cache) => cache.release(pin, chain),
-            None => code::CLOSED,
-        },
-        Err(code) => code,
-    }
+    into_chain(cache, Step::Release(pin), gone)
 }
 
 /// Releases a pin of a ready entry as `release` does, but with its last pin the entry is evicted
@@ -193,13 +188,7 @@ pub extern "C" fn lru_cache_release_and_evict(
     ensures { Into gone.old gone.new (bare result) cache.old cache.new
         (AsksInto (λ K. ask.release_and_evict pin.stamp) (bare result)) }
 {
-    match empty_chain(gone) {
-        Ok(chain) => match cache.get_mut() {
-            Some(cache) => cache.release_and_evict(pin, chain),
-            None => code::CLOSED,
-        },
-        Err(code) => code,
-    }
+    into_chain(cache, Step::ReleaseAndEvict(pin), gone)
 }
 
 /// Evicts every idle entry into a chain, oldest first.
@@ -211,13 +200,7 @@ pub extern "C" fn lru_cache_prune(cache: &mut LruCache, gone: &mut LruChain) -> 
     ensures { Into gone.old gone.new (bare result) cache.old cache.new
         (AsksInto (λ K. ask.prune) (bare result)) }
 {
-    match empty_chain(gone) {
-        Ok(chain) => match cache.get_mut() {
-            Some(cache) => cache.prune(chain),
-            None => code::CLOSED,
-        },
-        Err(code) => code,
-    }
+    into_chain(cache, Step::Prune, gone)
 }
 
 /// Sets the capacity, and evicts idle entries into a chain while the total is above it.
@@ -225,17 +208,22 @@ pub extern "C" fn lru_cache_prune(cache: &mut LruCache, gone: &mut LruChain) -> 
 /// Returns `CLOSED` if the cache or chain is not open, and `NOT_EMPTY` if the chain has entries;
 /// nothing changes then.
 #[unsafe(no_mangle)]
-pub extern "C" fn lru_cache_set_capacity(
-    cache: &mut LruCache,
-    capacity: u64,
-    gone: &mut LruChain,
-) -> u32
+pub extern "C" fn lru_cache_set_capacity(cache: &mut LruCache, to: u64, gone: &mut LruChain) -> u32
     ensures { Into gone.old gone.new (bare result) cache.old cache.new
-        (AsksInto (λ K. ask.set_capacity capacity) (bare result)) }
+        (AsksInto (λ K. ask.set_capacity to) (bare result)) }
+{
+    into_chain(cache, Step::SetCapacity(to), gone)
+}
+
+// Takes a step of a cache that puts what it evicts into a chain.
+#[inline(always)]
+fn into_chain(cache: &mut LruCache, step: Step, gone: &mut LruChain) -> u32
+    ensures { Into gone.old gone.new (bare result) cache.old cache.new
+        (AsksInto (λ K. request_of step) (bare result)) }
 {
     match empty_chain(gone) {
         Ok(chain) => match cache.get_mut() {
-            Some(cache) => cache.set_capacity(capacity, chain),
+            Some(cache) => cache.take(step, chain),
             None => code::CLOSED,
         },
         Err(code) => code,
@@ -261,10 +249,7 @@ pub extern "C" fn lru_cache_reserve(cache: &mut LruCache, entries: usize) -> u32
 pub extern "C" fn lru_cache_total(cache: &mut LruCache) -> LruTold
     ensures { Numbers cache.old.cache.held (λ K. sum_of) result cache.new.cache.held }
 {
-    match cache.get_mut() {
-        Some(cache) => cache.total(),
-        None => LruTold::bare(code::CLOSED),
-    }
+    tell(cache, Number::Total)
 }
 
 /// Returns the sum of the charges of the held entries, or `CLOSED` if the cache is not open.
@@ -272,10 +257,7 @@ pub extern "C" fn lru_cache_total(cache: &mut LruCache) -> LruTold
 pub extern "C" fn lru_cache_pinned_charge(cache: &mut LruCache) -> LruTold
     ensures { Numbers cache.old.cache.held (λ K. pinned_of) result cache.new.cache.held }
 {
-    match cache.get_mut() {
-        Some(cache) => cache.pinned_charge(),
-        None => LruTold::bare(code::CLOSED),
-    }
+    tell(cache, Number::PinnedCharge)
 }
 
 /// Returns the capacity, or `CLOSED` if the cache is not open.
@@ -283,10 +265,7 @@ pub extern "C" fn lru_cache_pinned_charge(cache: &mut LruCache) -> LruTold
 pub extern "C" fn lru_cache_capacity(cache: &mut LruCache) -> LruTold
     ensures { Numbers cache.old.cache.held (λ K c. c.capacity) result cache.new.cache.held }
 {
-    match cache.get_mut() {
-        Some(cache) => cache.capacity(),
-        None => LruTold::bare(code::CLOSED),
-    }
+    tell(cache, Number::Capacity)
 }
 
 /// Returns the number of entries, held and idle, or `CLOSED` if the cache is not open.
@@ -294,8 +273,14 @@ pub extern "C" fn lru_cache_capacity(cache: &mut LruCache) -> LruTold
 pub extern "C" fn lru_cache_len(cache: &mut LruCache) -> LruTold
     ensures { Numbers cache.old.cache.held (λ K. count_of) result cache.new.cache.held }
 {
+    tell(cache, Number::Len)
+}
+
+fn tell(cache: &mut LruCache, which: Number) -> LruTold
+    ensures { Numbers cache.old.cache.held (λ K. number_of which) result cache.new.cache.held }
+{
     match cache.get_mut() {
-        Some(cache) => cache.len(),
+        Some(cache) => cache.tell(which),
         None => LruTold::bare(code::CLOSED),
     }
 }

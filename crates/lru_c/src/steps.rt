@@ -1,12 +1,11 @@
 //! The steps of a cache of words, for any type of key. Each takes one step of the core and returns
 //! its answer as C gets it.
 ghost use Rattle.std.specs.Prelude.{◌≡◌, ◌<◌, ◌==◌, ◌⊎◌, [], MatchBool};
-ghost use Rattle.concurrent_lru.specs.Cache.{count_of, pinned_of, sum_of};
 ghost use Rattle.concurrent_lru.specs.Request as ask;
 ghost use Rattle.lru_c.specs.Codes as codes;
 ghost use Rattle.lru_c.specs.Inserts.{TellsInsertBy, TellsInserted};
-ghost use Rattle.lru_c.specs.Opened.{TellsReady};
-ghost use Rattle.lru_c.specs.Told.{bare, begin_by, begun_told, evict_by, failed_code, found_told, numbered, refusal_code, Asks, TellsBegun, TellsReleased};
+ghost use Rattle.lru_c.specs.Opened.{number_of, TellsReady};
+ghost use Rattle.lru_c.specs.Told.{bare, begin_by, begun_told, evict_by, failed_code, found_told, numbered, refusal_code, request_of, Asks, TellsBegun, TellsReleased};
 
 use crate::code;
 use crate::told::{LruPin, LruTold};
@@ -110,21 +109,30 @@ fn told_of_found(found: Option<(u64, u64, Hint)>) -> LruTold
     }
 }
 
-pub(crate) fn release<K: Hash + Eq + Clone>(state: &mut State<K>, pin: LruPin) -> (u32, Evicted<K>)
-    ensures { Asks K.eq state.old.cache (ask.release pin.stamp)
-        (bare result.0) result.1 state.new.cache }
-{
-    told_of_release(state.release_at(&pin.spot()))
+/// A step that takes no key and may evict.
+#[derive(Clone, Copy)]
+pub enum Step {
+    /// Release a pin.
+    Release(LruPin),
+    /// Release a pin, and evict its entry with the last one.
+    ReleaseAndEvict(LruPin),
+    /// Evict every idle entry.
+    Prune,
+    /// Set the capacity.
+    SetCapacity(u64),
 }
 
-pub(crate) fn release_and_evict<K: Hash + Eq + Clone>(
-    state: &mut State<K>,
-    pin: LruPin,
-) -> (u32, Evicted<K>)
-    ensures { Asks K.eq state.old.cache (ask.release_and_evict pin.stamp) (bare result.0) result.1
+#[inline(always)]
+pub(crate) fn take<K: Hash + Eq + Clone>(state: &mut State<K>, step: Step) -> (u32, Evicted<K>)
+    ensures { Asks K.eq state.old.cache (request_of step) (bare result.0) result.1
         state.new.cache }
 {
-    told_of_release(state.release_and_evict_at(&pin.spot()))
+    match step {
+        Step::Release(pin) => told_of_release(state.release_at(&pin.spot())),
+        Step::ReleaseAndEvict(pin) => told_of_release(state.release_and_evict_at(&pin.spot())),
+        Step::Prune => (code::DONE, state.prune()),
+        Step::SetCapacity(capacity) => (code::DONE, state.set_capacity(capacity)),
+    }
 }
 
 // Returns the code of a release with this result, and what it evicted.
@@ -223,44 +231,34 @@ fn code_of(refusal: Refusal) -> u32
     }
 }
 
-pub(crate) fn prune<K: Hash + Eq + Clone>(state: &mut State<K>) -> (u32, Evicted<K>)
-    ensures { Asks K.eq state.old.cache ask.prune (bare result.0) result.1 state.new.cache }
-{
-    (code::DONE, state.prune())
+/// A number that a cache tells.
+#[derive(Clone, Copy)]
+pub enum Number {
+    /// The sum of the charges of all entries.
+    Total,
+    /// The sum of the charges of the held entries.
+    PinnedCharge,
+    /// The capacity.
+    Capacity,
+    /// The number of entries.
+    Len,
 }
 
-pub(crate) fn set_capacity<K: Hash + Eq + Clone>(
-    state: &mut State<K>,
-    capacity: u64,
-) -> (u32, Evicted<K>)
-    ensures { Asks K.eq state.old.cache (ask.set_capacity capacity)
-        (bare result.0) result.1 state.new.cache }
+pub(crate) fn tell<K: Hash + Eq + Clone>(state: &State<K>, which: Number) -> LruTold
+    ensures { result ≡ numbered codes.number (number_of which state.now.cache) }
 {
-    (code::DONE, state.set_capacity(capacity))
+    LruTold::number(code::NUMBER, read(state, which))
 }
 
-pub(crate) fn total<K: Hash + Eq + Clone>(state: &State<K>) -> LruTold
-    ensures { result ≡ numbered codes.number (sum_of state.now.cache) }
+fn read<K: Hash + Eq + Clone>(state: &State<K>, which: Number) -> u64
+    ensures { result ≡ number_of which state.now.cache }
 {
-    LruTold::number(code::NUMBER, state.total())
-}
-
-pub(crate) fn pinned_charge<K: Hash + Eq + Clone>(state: &State<K>) -> LruTold
-    ensures { result ≡ numbered codes.number (pinned_of state.now.cache) }
-{
-    LruTold::number(code::NUMBER, state.pinned_charge())
-}
-
-pub(crate) fn capacity<K: Hash + Eq + Clone>(state: &State<K>) -> LruTold
-    ensures { result ≡ numbered codes.number state.now.cache.capacity }
-{
-    LruTold::number(code::NUMBER, state.capacity())
-}
-
-pub(crate) fn len<K: Hash + Eq + Clone>(state: &State<K>) -> LruTold
-    ensures { result ≡ numbered codes.number (count_of state.now.cache) }
-{
-    LruTold::number(code::NUMBER, state.len() as u64)
+    match which {
+        Number::Total => state.total(),
+        Number::PinnedCharge => state.pinned_charge(),
+        Number::Capacity => state.capacity(),
+        Number::Len => state.len() as u64,
+    }
 }
 
 pub(crate) fn reserve<K: Hash + Eq + Clone>(state: &mut State<K>, entries: usize) -> u32

@@ -21,8 +21,8 @@ use crate::words::key::Words;
 ///
 /// Returns `FULL` if the call is strict, the key has no entry, and the charge, with the charges of
 /// the held entries, is above the capacity. Returns `NO_CHARGE` if the charge is 0, `CLOSED` if the
-/// cache or chain is not open, `OTHER_KEYS` if the keys of the cache are not two words, `NOT_EMPTY` if
-/// the chain has entries, and `OVERFLOW` or `MEMORY` as `lru.h` says. Nothing changes then: in
+/// cache or chain is not open, `OTHER_KEYS` if the keys of the cache are not two words, `NOT_EMPTY`
+/// if the chain has entries, and `OVERFLOW` or `MEMORY` as `lru.h` says. Nothing changes then: in
 /// particular, nothing is evicted.
 #[unsafe(no_mangle)]
 pub extern "C" fn lru_words_begin(
@@ -74,40 +74,30 @@ pub extern "C" fn lru_words_contains(cache: &mut LruCache, first: u64, second: u
     }
 }
 
-/// Evicts the entry of a key into a chain if it is idle. Otherwise nothing happens, now or later.
+/// Evicts the entry of a key into a chain if it is idle. If it is held, detaches it if `even_held`
+/// says so: no call finds it by the key then, but it is still found by its stamp, and is evicted
+/// with its last pin. Otherwise nothing happens, now or later.
 ///
 /// Returns `CLOSED` if the cache or chain is not open, `OTHER_KEYS` if the keys of the cache are
 /// not two words, and `NOT_EMPTY` if the chain has entries; nothing changes then.
 #[unsafe(no_mangle)]
-pub extern "C" fn lru_words_advice_evict(
+pub extern "C" fn lru_words_evict(
     cache: &mut LruCache,
     first: u64,
     second: u64,
+    even_held: bool,
     gone: &mut LruChain,
 ) -> u32
     ensures { IntoWords gone.old gone.new (bare result) cache.old cache.new
-        (Evicts (ask.advice_evict (words first second)) (bare result)) }
+        (Evicts (evict_by even_held (words first second)) (bare result)) }
 {
-    evict(cache, &Words { first, second }, false, gone)
-}
-
-/// Detaches the entry of a key, so that no call finds it by the key. An idle entry is evicted into
-/// a chain; a held one is still found by its stamp, and is evicted with its last pin. If the key
-/// has no entry, nothing happens.
-///
-/// Returns `CLOSED` if the cache or chain is not open, `OTHER_KEYS` if the keys of the cache are
-/// not two words, and `NOT_EMPTY` if the chain has entries; nothing changes then.
-#[unsafe(no_mangle)]
-pub extern "C" fn lru_words_invalidate(
-    cache: &mut LruCache,
-    first: u64,
-    second: u64,
-    gone: &mut LruChain,
-) -> u32
-    ensures { IntoWords gone.old gone.new (bare result) cache.old cache.new
-        (Evicts (ask.invalidate (words first second)) (bare result)) }
-{
-    evict(cache, &Words { first, second }, true, gone)
+    match empty_chain(gone) {
+        Ok(chain) => match words_cache(cache) {
+            Ok(cache) => chain.take_words(cache.evict(&Words { first, second }, even_held)),
+            Err(code) => code,
+        },
+        Err(code) => code,
+    }
 }
 
 /// Inserts a value, replacing what the key has: detaches the entry of the key as `invalidate` does,
@@ -164,20 +154,6 @@ pub extern "C" fn lru_words_key_of(
 {
     match words_cache(cache) {
         Ok(cache) => write_key(&cache.state, pin, first, second),
-        Err(code) => code,
-    }
-}
-
-// Evicts the entry of a key if it is idle. Detaches it if it is held, if `even_held` says so.
-fn evict(cache: &mut LruCache, key: &Words, even_held: bool, gone: &mut LruChain) -> u32
-    ensures { IntoWords gone.old gone.new (bare result) cache.old cache.new
-        (Evicts (evict_by even_held key.now) (bare result)) }
-{
-    match empty_chain(gone) {
-        Ok(chain) => match words_cache(cache) {
-            Ok(cache) => chain.take_words(cache.evict(key, even_held)),
-            Err(code) => code,
-        },
         Err(code) => code,
     }
 }

@@ -1,10 +1,10 @@
 //! The steps of a cache whose keys are bytes.
 ghost use Rattle.std.specs.Borrow.{sem};
-ghost use Rattle.std.specs.Prelude.{◌≡◌, ◌==◌, ⊤, [], true, Some, Err, MatchBool, MatchResult};
+ghost use Rattle.std.specs.Prelude.{◌≡◌, ◌==◌, ⊤, [], true, MatchBool};
 ghost use Rattle.concurrent_lru.specs.Request as ask;
 ghost use Rattle.lru_c.specs.BytesCalls.{bytes_cache as behind, CopiesKey};
 ghost use Rattle.lru_c.specs.Codes as codes;
-ghost use Rattle.lru_c.specs.Lends.{LendsBytes};
+ghost use Rattle.lru_c.specs.Lends.{IsLent, LendsBytes};
 ghost use Rattle.lru_c.specs.declared.any_cache.AnyCache.TheVariants as any;
 
 use crate::any_cache::AnyCache;
@@ -23,9 +23,7 @@ pub type BytesCache = Cache<Bytes, Bytes>;
 // that says why not: `CLOSED` or `OTHER_KEYS`.
 pub(crate) fn bytes_cache<G: Handle<To = AnyCache>>(cache: &mut G) -> Result<&mut BytesCache, u32>
     ensures* writes_back { sem 𝓛 (LendsBytes G.row G.held cache.entry result) }
-    ensures cache { MatchResult result
-        (λ inner. G.held cache.old ≡ Some (any.Bytes inner.now))
-        (λ code. behind (G.held cache.old) ≡ Err code) }
+    ensures cache { IsLent any.Bytes behind (G.held cache.old) result }
 {
     match cache.get_mut() {
         Some(AnyCache::Bytes(cache)) => Ok(cache),

@@ -1,9 +1,9 @@
 //! The steps of a cache whose keys are two words.
 ghost use Rattle.std.specs.Borrow.{sem};
-ghost use Rattle.std.specs.Prelude.{◌≡◌, ◌==◌, ⊤, [], Some, Err, MatchBool, MatchResult};
+ghost use Rattle.std.specs.Prelude.{◌≡◌, ◌==◌, ⊤, [], MatchBool};
 ghost use Rattle.concurrent_lru.specs.Request as ask;
 ghost use Rattle.lru_c.specs.Codes as codes;
-ghost use Rattle.lru_c.specs.Lends.{LendsWords};
+ghost use Rattle.lru_c.specs.Lends.{IsLent, LendsWords};
 ghost use Rattle.lru_c.specs.Opened.{TellsKey};
 ghost use Rattle.lru_c.specs.WordsCalls.{words, words_cache as behind};
 ghost use Rattle.lru_c.specs.declared.any_cache.AnyCache.TheVariants as any;
@@ -19,17 +19,15 @@ use crate::{code, steps};
 /// A cache whose keys are two words.
 pub type WordsCache = Cache<Words, ()>;
 
-// Returns the cache of a handle for a call on it, if its keys are two words. Otherwise returns the code
-// that says why not: `CLOSED` or `OTHER_KEYS`.
+// Returns the cache of a handle for a call on it, if its keys are two words. Otherwise returns the
+// code that says why not: `CLOSED` or `OTHER_KEYS`.
 pub(crate) fn words_cache<G: Handle<To = AnyCache>>(cache: &mut G) -> Result<&mut WordsCache, u32>
     ensures* writes_back { sem 𝓛 (LendsWords G.row G.held cache.entry result) }
-    ensures cache { MatchResult result
-        (λ inner. G.held cache.old ≡ Some (any.Words inner.now))
-        (λ code. behind (G.held cache.old) ≡ Err code) }
+    ensures cache { IsLent any.Words behind (G.held cache.old) result }
 {
     match cache.get_mut() {
-        Some(AnyCache::Words(cache)) => Ok(cache),
         Some(AnyCache::Bytes(_)) => Err(code::OTHER_KEYS),
+        Some(AnyCache::Words(cache)) => Ok(cache),
         None => Err(code::CLOSED),
     }
 }

@@ -1,4 +1,3 @@
--- `into_parts` gives the fields back, and what they own goes with them.
 use contract.Running.{tables, tables_of}
 use denote.Triple.Spec.{triple_of}
 use denote.Triple.Table.{entered}

@@ -1,4 +1,3 @@
--- `lend` lends what the pointer leads to.
 use mathlib.Core.Path.{refl}
 use contract.Running.{tables, tables_of}
 use denote.Triple.Spec.{triple_of}
