@@ -7,6 +7,7 @@ pub mod ChainCodes
 pub mod EvictedSent
 pub mod HandleSent
 pub mod Moved
+pub mod AtWalk
 pub mod Lent
 pub mod Opened
 pub mod Forms
