@@ -1,5 +1,5 @@
 //! The calls of C that open caches, those on caches that take no key, and those on chains.
-ghost use Rattle.std.specs.Prelude.{◌≡◌, ◌==◌, ◌<◌, ⊤, false, true, None, Some, MatchBool};
+ghost use Rattle.std.specs.Prelude.{◌≡◌, ◌==◌, ⊤, false, true, None, Some, MatchBool};
 ghost use Rattle.concurrent_lru.specs.Cache.{count_of, most_pins_by_default, pinned_of, sum_of};
 ghost use Rattle.concurrent_lru.specs.Request as ask;
 ghost use Rattle.lru_c.specs.Calls.{Asks, AsksInto, FreesInto, Into, Numbers, OpensCache, Reserves, TellsStats};
@@ -36,7 +36,7 @@ pub extern "C" fn lru_cache_new(
 ) -> u32
     ensures { OpensCache keys capacity most_pins_by_default 0 out.old result out.new }
 {
-    open_cache(alloc, keys, capacity, 0, u32::MAX, seed, out)
+    lru_cache_new_with_limits(alloc, keys, capacity, 0, u32::MAX, seed, out)
 }
 
 /// Opens an empty cache whose keys are of the kind `keys`, whose first entry gets the stamp
@@ -62,21 +62,6 @@ pub extern "C" fn lru_cache_new_with_limits(
     if most_pins == 0 {
         return code::NO_PINS;
     }
-    open_cache(alloc, keys, capacity, first_stamp, most_pins, seed, out)
-}
-
-fn open_cache(
-    alloc: Global,
-    keys: u32,
-    capacity: u64,
-    first_stamp: u64,
-    most_pins: u32,
-    seed: u64,
-    out: &mut LruCache,
-) -> u32
-    requires { 0 < most_pins }
-    ensures { OpensCache keys capacity most_pins first_stamp out.old result out.new }
-{
     match AnyCache::new(alloc, keys, capacity, first_stamp, most_pins, seed) {
         Some(cache) => open_new(alloc, cache, out.is_open == 1, out),
         None => code::NO_KIND,
@@ -110,10 +95,10 @@ pub extern "C" fn lru_cache_free(cache: &mut LruCache, left: &mut LruChain) -> u
 pub extern "C" fn lru_cache_poll(cache: &mut LruCache, pin: LruPin) -> LruTold
     ensures { Asks cache.old.cache.held (λ K. ask.poll pin.stamp) result cache.new.cache.held }
 {
-    match cache.get_mut() {
-        Some(cache) => cache.poll(pin),
-        None => LruTold::bare(code::CLOSED),
-    }
+    let Some(cache) = cache.get_mut() else {
+        return LruTold::bare(code::CLOSED);
+    };
+    cache.poll(pin)
 }
 
 /// Stores the value of an entry that is being made.

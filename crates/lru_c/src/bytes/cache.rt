@@ -21,6 +21,7 @@ pub type BytesCache = Cache<Bytes, Bytes>;
 
 // Returns the cache of a handle for a call on it, if its keys are bytes. Otherwise returns the code
 // that says why not: `CLOSED` or `OTHER_KEYS`.
+#[inline(always)]
 pub(crate) fn bytes_cache<G: Handle<To = AnyCache>>(cache: &mut G) -> Result<&mut BytesCache, u32>
     ensures* writes_back { sem 𝓛 (LendsBytes G.row G.held cache.entry result) }
     ensures cache { IsLent any.Bytes behind (G.held cache.old) result }

@@ -21,6 +21,7 @@ pub type WordsCache = Cache<Words, ()>;
 
 // Returns the cache of a handle for a call on it, if its keys are two words. Otherwise returns the
 // code that says why not: `CLOSED` or `OTHER_KEYS`.
+#[inline(always)]
 pub(crate) fn words_cache<G: Handle<To = AnyCache>>(cache: &mut G) -> Result<&mut WordsCache, u32>
     ensures* writes_back { sem 𝓛 (LendsWords G.row G.held cache.entry result) }
     ensures cache { IsLent any.Words behind (G.held cache.old) result }
