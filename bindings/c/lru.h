@@ -56,9 +56,10 @@
  *     same stamp, and would release that.
  *
  * What is cheap to check is checked, and answered with a code: a charge of 0, a limit of 0 pins, a
- * null key with a length, a handle that is not open (it was never opened, its opening was refused,
- * or it was freed), a handle that is open already, a key of the other kind, a chain that still
- * holds entries, a buffer that is too small, and a pin of no entry in the right state.
+ * kind of keys that does not exist, a null key with a length, a handle that is not open (it was
+ * never opened, its opening was refused, or it was freed), a handle that is open already, a key of
+ * the other kind, a chain that still holds entries, a buffer that is too small, and a pin of no
+ * entry in the right state.
  *
  * SEEDS. A cache hashes its keys with the `seed` that it is opened with. Whoever knows the seed can
  * choose keys whose hashes are all equal. Each look-up of such a key then visits all of them, while

@@ -36,10 +36,10 @@ bytes_cache (Some (cache.Words c)) = Err code.other_keys
 abbrev pub HasBytes : List ℕ → Key → Type 0
 HasBytes bytes key = key.bytes.items ≡ bytes
 
--- A begin, or the request r in its place, with a key of these bytes. It refuses a charge of 0.
-abbrev pub BeginsByKey : Cache Key ℕ → (Key → ℕ → Request Key ℕ) → List ℕ → ℕ → LruTold → Entries → Cache Key ℕ → Type 0
-BeginsByKey old r bytes charge t gone new =
-    MatchBool (charge == 0) ((t ≡ bare code.no_charge) × IsSame old gone new) (tells.AsksOf bytes_eq (HasBytes bytes) old (λ key. r key charge) t gone new)
+-- A begin, strict or not, with a key of these bytes. It refuses a charge of 0.
+abbrev pub BeginsByKey : Cache Key ℕ → Bool → List ℕ → ℕ → LruTold → Entries → Cache Key ℕ → Type 0
+BeginsByKey old strict bytes charge t gone new =
+    MatchBool (charge == 0) ((t ≡ bare code.no_charge) × IsSame old gone new) (tells.AsksOf bytes_eq (HasBytes bytes) old (λ key. begin_by strict key charge) t gone new)
 
 -- The call took one step with a key of these bytes, returned its outcome and counted it, with the
 -- same counts for every key; or memory was refused, and nothing changed.
@@ -60,7 +60,7 @@ Evicts r bytes t o out n = tells.AsksOf bytes_eq (HasBytes bytes) o.state.cache 
 
 -- A begin, strict or not, which is counted.
 abbrev pub Begins : Bool → List ℕ → ℕ → LruTold → BytesCache → Entries → BytesCache → Type 0
-Begins strict bytes charge t o out n = BeginsByKey o.state.cache (begin_by strict) bytes charge t out n.state.cache × (n.counts ≡ answered t o.counts)
+Begins strict bytes charge t o out n = BeginsByKey o.state.cache strict bytes charge t out n.state.cache × (n.counts ≡ answered t o.counts)
 
 -- An insert, strict or not, with what it replaced and what it evicted.
 abbrev pub Inserts : Bool → List ℕ → ℕ → ℕ → LruTold → BytesCache → Entries → BytesCache → Type 0

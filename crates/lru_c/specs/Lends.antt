@@ -37,12 +37,14 @@ LendsKind G T make held g r = LendsSoOk G T g r (λ n w. held n ≡ written (hel
 abbrev pub IsLent : {A : Type 0} → (A → AnyCache) → (Option AnyCache → Result A ℕ) → Option AnyCache → Result (MutBor A) ℕ → Type 0
 IsLent make of_kind held r = MatchResult r (λ c. held ≡ Some (make c.now)) (λ code. of_kind held ≡ Err code)
 
+-- the types of the caches of both kinds
 abbrev pub bytes_row : RattleType
 bytes_row = Cache.the_row Bytes.the_row Bytes.the_row bytes_hash.ghosts bytes_equal.ghosts bytes_clone.ghosts
 
 abbrev pub words_row : RattleType
 words_row = Cache.the_row Words.the_row unit words_hash.ghosts words_equal.ghosts (copied.ghosts Words.the_row)
 
+-- LendsKind for each kind
 abbrev pub LendsBytes : (G : RattleType) → (G.Denot → Option AnyCache) → MutBor G.Denot → Result (MutBor bytes_row.Denot) ℕ → Fml
 LendsBytes G = LendsKind G bytes_row cache.Bytes
 

@@ -38,7 +38,7 @@ impl Cache<Bytes, Bytes> {
     ghost use Rattle.lru_c.specs.Keys.{bytes_eq};
     ghost use Rattle.lru_c.specs.Counted.{answered, inserted};
     ghost use Rattle.lru_c.specs.Inserts.{TellsInsertBy, TellsInsertOf};
-    ghost use Rattle.lru_c.specs.Told.{bare, begin_by, evict_by, AsksOf};
+    ghost use Rattle.lru_c.specs.Told.{bare, evict_by, AsksOf};
 
     // Copies the bytes of a key into the buffer. Returns false if the buffer cannot grow.
     fn keep(&mut self, key: &[u8]) -> bool
@@ -56,8 +56,8 @@ impl Cache<Bytes, Bytes> {
         charge: u64,
         strict: bool,
     ) -> (LruTold, Evicted<Bytes>)
-        ensures asks { BeginsByKey self.old.state.cache (begin_by strict) key.now charge result.0
-            result.1 self.new.state.cache }
+        ensures asks { BeginsByKey self.old.state.cache strict key.now charge result.0 result.1
+            self.new.state.cache }
         ensures counts { self.new.counts ≡ answered result.0 self.old.counts }
     {
         if charge == 0 {
