@@ -1,11 +1,11 @@
 -- A call by the bytes of a key is the call on the key that was made of them.
-use Rattle.std.proofs.Common.{◌≡◌, ℕ, Bool, true, false, List, [], refl, sym, subst, ◌==◌}
+use Rattle.std.proofs.Common.{◌≡◌, ℕ, Bool, true, false, List, refl, sym, subst, ◌==◌}
 use Rattle.std.proofs.lemmas.Bool.{eqb-true}
 use Rattle.std.specs.Prelude.{MatchBool}
 use Rattle.concurrent_lru.specs.Cache.{Cache, Idle}
 use Rattle.concurrent_lru.specs.Request.{Request}
 use Rattle.lru_c.specs.Codes as code
-use Rattle.lru_c.specs.Told.{bare, told, Asks, AsksOf, IsSame}
+use Rattle.lru_c.specs.Told.{told, Asks, AsksOf, IsSame}
 use Rattle.lru_c.specs.declared.told.LruTold.{LruTold}
 
 module _ {K : Type 0} (E : K → K → Bool) where
@@ -21,7 +21,3 @@ module _ {K : Type 0} (E : K → K → Bool) where
 
   pub by_key : (IsKey : K → Type 0) (old mid new : Cache K ℕ) (r : K → Request K ℕ) (key : K) (t : LruTold) (gone : List (Idle K ℕ)) → mid ≡ old → IsKey key → Asks E mid (r key) t gone new → AsksOf E IsKey old r t gone new
   by_key IsKey old mid new r key t gone same is asked = either IsKey old new r key t gone is (subst (λ c. Asks E c (r key) t gone new) same asked) (t.code == code.memory) refl
-
-  -- no room for the key
-  pub without_key : (IsKey : K → Type 0) (old new : Cache K ℕ) (r : K → Request K ℕ) (t : LruTold) (gone : List (Idle K ℕ)) → t ≡ bare code.memory → new ≡ old → gone ≡ [] → AsksOf E IsKey old r t gone new
-  without_key IsKey old new r t gone e same none = subst (λ (u : LruTold). AsksOf E IsKey old r u gone new) (sym e) (same, none)

@@ -1,6 +1,6 @@
 -- What an insert of the core did, told as C is told; an insert by the bytes of a key is the insert
 -- of the key that was made of them.
-use Rattle.std.proofs.Common.{◌≡◌, ℕ, Bool, List, [], inl, inr, refl, sym, ◌∙◌, ap, subst}
+use Rattle.std.proofs.Common.{◌≡◌, ℕ, Bool, List, inl, inr, refl, sym, ◌∙◌, ap, subst}
 use Rattle.std.specs.Prelude.{Result, Ok, Err}
 use Rattle.concurrent_lru.specs.Cache.{Cache, Idle, IsLawful}
 use Rattle.concurrent_lru.specs.Inserts.{Replaces, Inserts, InsertsStrictly}
@@ -13,7 +13,7 @@ use Rattle.lru_c.specs.Inserts.{TellsInsert, TellsInserted, TellsInsertOf, Tells
 use Rattle.lru_c.specs.Told.{bare, pin_of, refusal_code, told}
 use Rattle.lru_c.specs.declared.told.LruPin.{LruPin}
 use Rattle.lru_c.specs.declared.told.LruTold.{LruTold}
-use Rattle.lru_c.proofs.Cases.{where_is, where_is_not}
+use Rattle.lru_c.proofs.Cases.{where_is_not}
 
 module _ {K : Type 0} where
   module _ (E : K → K → Bool) (old new : Cache K ℕ) (key : K) (charge v : ℕ) where
@@ -38,10 +38,3 @@ module _ {K : Type 0} where
   module _ (Tells : Cache K ℕ → K → ℕ → ℕ → LruTold → List (Idle K ℕ) → List (Idle K ℕ) → Cache K ℕ → Type 0) (IsKey : K → Type 0) (old new : Cache K ℕ) (charge v : ℕ) (t : LruTold) (replaced evicted : List (Idle K ℕ)) where
     pub insert_of : (mid : Cache K ℕ) (key : K) → (charge ≡ 0 → ⊥) → mid ≡ old → IsKey key → Tells mid key charge v t replaced evicted new → TellsInsertOf Tells IsKey old charge v t replaced evicted new
     insert_of mid key charged same is h = where_is_not charge 0 _ _ charged (inr (key, is, subst (λ (c : Cache K ℕ). Tells c key charge v t replaced evicted new) same h))
-
-    -- no room for the key
-    pub insert_without_key : (charge ≡ 0 → ⊥) → (t ≡ bare code.memory) × (replaced ≡ []) × (evicted ≡ []) → new ≡ old → TellsInsertOf Tells IsKey old charge v t replaced evicted new
-    insert_without_key charged refused same = where_is_not charge 0 _ _ charged (inl (refused.0, (same, refused.1, refused.2)))
-
-    pub insert_without_charge : charge ≡ 0 → (t ≡ bare code.no_charge) × (replaced ≡ []) × (evicted ≡ []) → new ≡ old → TellsInsertOf Tells IsKey old charge v t replaced evicted new
-    insert_without_charge free refused same = where_is charge 0 _ _ free (refused.0, (same, refused.1, refused.2))

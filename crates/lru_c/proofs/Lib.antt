@@ -1,4 +1,3 @@
-pub mod Asked
 pub mod ByKey
 pub mod Cases
 pub mod Inserted

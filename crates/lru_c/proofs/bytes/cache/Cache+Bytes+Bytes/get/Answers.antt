@@ -2,12 +2,8 @@ use Rattle.std.proofs.Common.{[], ap, refl}
 use Rattle.concurrent_lru.specs.Request as ask
 use Rattle.lru_c.specs.BytesCalls.{HasBytes}
 use Rattle.lru_c.specs.Keys.{bytes_eq}
-use Rattle.lru_c.proofs.ByKey.{by_key, without_key}
+use Rattle.lru_c.proofs.ByKey.{by_key}
 use Rattle.lru_c.proofs.bytes.cache.Cache+Bytes+Bytes.get.Goals as goal
-
-pub returns-then-not-keep-clause-asks : goal.returns-then-not-keep-clause-asks
-returns-then-not-keep-clause-asks c =
-    without_key bytes_eq (HasBytes c.args.key.now) c.args.self.now.state.cache c.keep.new.self.state.cache (λ k. ask.get k) c.bare.result [] c.bare.ensures (ap (λ s. s.cache) c.keep.ensures.state) refl
 
 pub returns-clause-asks : goal.returns-clause-asks
 returns-clause-asks c =

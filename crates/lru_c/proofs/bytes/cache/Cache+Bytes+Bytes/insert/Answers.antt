@@ -2,17 +2,8 @@ use Rattle.std.proofs.Common.{ap, refl}
 use Rattle.lru_c.specs.BytesCalls.{HasBytes}
 use Rattle.lru_c.specs.Inserts.{TellsInsertBy}
 use Rattle.lru_c.specs.Keys.{bytes_eq}
-use Rattle.lru_c.proofs.Inserted.{insert_of, insert_without_charge, insert_without_key}
+use Rattle.lru_c.proofs.Inserted.{insert_of}
 use Rattle.lru_c.proofs.bytes.cache.Cache+Bytes+Bytes.insert.Goals as goal
-
-pub returns-then-charge-eq0-clause-tells : goal.returns-then-charge-eq0-clause-tells
-returns-then-charge-eq0-clause-tells c =
-    insert_without_charge (TellsInsertBy bytes_eq c.args.strict) (HasBytes c.args.key.now) c.args.self.now.state.cache c.args.self.now.state.cache c.args.charge c.args.value c.refused.result.0 c.refused.result.1.0 c.refused.result.1.1 c.if-charge-eq0.true c.refused.ensures refl
-
-pub returns-then-not-keep-clause-tells : goal.returns-then-not-keep-clause-tells
-returns-then-not-keep-clause-tells c =
-    insert_without_key (TellsInsertBy bytes_eq c.args.strict) (HasBytes c.args.key.now) c.args.self.now.state.cache c.keep.new.self.state.cache c.args.charge c.args.value c.refused-then-not-keep.result.0 c.refused-then-not-keep.result.1.0 c.refused-then-not-keep.result.1.1 c.if-charge-eq0.false c.refused-then-not-keep.ensures
-    (ap (λ s. s.cache) c.keep.ensures.state)
 
 pub returns-clause-tells : goal.returns-clause-tells
 returns-clause-tells c =
