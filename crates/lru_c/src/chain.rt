@@ -87,6 +87,7 @@ impl AnyChain {
     }
 
     // Takes what a call on a cache whose keys are bytes evicted, and returns its answer.
+    #[inline(always)]
     pub(crate) fn take_bytes<A: Drop>(&mut self, told: (A, Evicted<Bytes>)) -> A
         requires { IsEmpty self.old }
         ensures answer { result ≡ told.0 }
@@ -99,6 +100,7 @@ impl AnyChain {
 
     // Takes what an insert into such a cache replaced and then what it evicted, and returns its
     // answer.
+    #[inline(always)]
     pub(crate) fn take_both_bytes<A: Drop>(
         &mut self,
         told: (A, (Evicted<Bytes>, Evicted<Bytes>)),
@@ -113,16 +115,18 @@ impl AnyChain {
     }
 
     // Becomes `filled` if that has entries. Most calls evict nothing, and write no chain.
+    #[inline(always)]
     pub(crate) fn fill_bytes(&mut self, filled: Chain<Bytes>)
         requires { IsEmpty self.old }
         ensures { bytes_in self.new ≡ Some (entries_of filled) }
     {
         if filled.is_filled() == code::NOT_EMPTY {
-            *self = AnyChain::Bytes(filled);
+            self.replace(AnyChain::Bytes(filled));
         }
     }
 
     // Takes what a call on a cache whose keys are two words evicted, and returns its answer.
+    #[inline(always)]
     pub(crate) fn take_words<A: Drop>(&mut self, told: (A, Evicted<Words>)) -> A
         requires { IsEmpty self.old }
         ensures answer { result ≡ told.0 }
@@ -135,6 +139,7 @@ impl AnyChain {
 
     // Takes what an insert into such a cache replaced and then what it evicted, and returns its
     // answer.
+    #[inline(always)]
     pub(crate) fn take_both_words<A: Drop>(
         &mut self,
         told: (A, (Evicted<Words>, Evicted<Words>)),
@@ -149,13 +154,22 @@ impl AnyChain {
     }
 
     // Becomes `filled` if that has entries.
+    #[inline(always)]
     pub(crate) fn fill_words(&mut self, filled: Chain<Words>)
         requires { IsEmpty self.old }
         ensures { words_in self.new ≡ Some (entries_of filled) }
     {
         if filled.is_filled() == code::NOT_EMPTY {
-            *self = AnyChain::Words(filled);
+            self.replace(AnyChain::Words(filled));
         }
+    }
+
+    // Not inlined, since most calls evict nothing.
+    #[inline(never)]
+    fn replace(&mut self, filled: AnyChain)
+        ensures { self.new ≡ filled }
+    {
+        *self = filled;
     }
 
     // Returns `NOT_EMPTY` if the chain has entries, otherwise `DONE`.
