@@ -120,10 +120,7 @@ class Shards {
   }
 
   // Of 16 shards, the highest 4 bits of the hash choose one, as in LevelDB's own cache.
-  template <class Slice>
-  Shard& Of(const Slice& key) {
-    return shards_[std::uint64_t{HashOf(key)} * count_ >> 32];
-  }
+  Shard& Of(std::uint32_t hash) { return shards_[std::uint64_t{hash} * count_ >> 32]; }
 
   // The sum of a number of each shard, which `number` returns while the mutex is held.
   template <class Number>

@@ -39,7 +39,8 @@
 //    RocksDB's cache ends the process if an allocation fails.
 //  - ApplyToAllEntries holds the mutex of a shard while it visits all of its entries, whatever
 //    average_entries_per_lock is. The callback may read the key and the value and change what they
-//    point to, but it must not call the cache, wait for a thread that does, or delete the value.
+//    point to, but it must not call the cache, wait for a thread that does, or delete the value. If
+//    there is no memory for a list of the entries of a shard, they are not visited.
 //  - Lookup does not use its statistics. There is no secondary cache and no memory allocator: of a
 //    CacheItemHelper only the deleter is called.
 //  - The destructor deletes entries that are still pinned; RocksDB's leaves them. Deleters that the
@@ -63,6 +64,7 @@
 #include <cstddef>
 #include <cstdint>
 #include <cstdio>
+#include <cstdlib>
 #include <functional>
 #include <memory>
 #include <mutex>
@@ -137,7 +139,7 @@ class BasicRocksDBCache : public rocksdb::Cache {
       return rocksdb::Status::MemoryLimit();
     }
     entry->charge = std::max<std::size_t>(charge, 1);
-    if (CanStore(key)) return InsertInto(&shards_.Of(key), entry, handle);
+    if (CanStore(key)) return InsertInto(&ShardOf(key), entry, handle);
     if (handle == nullptr) {
       delete entry;
     } else {
@@ -149,7 +151,7 @@ class BasicRocksDBCache : public rocksdb::Cache {
   using rocksdb::Cache::Lookup;
   Handle* Lookup(const rocksdb::Slice& key, rocksdb::Statistics* = nullptr) override {
     if (!CanStore(key)) return nullptr;
-    Shard& shard = shards_.Of(key);
+    Shard& shard = ShardOf(key);
     const std::lock_guard<std::mutex> lock(shard.mutex);
     const lru_told told = shard.core.get(Stored(key));
     // It is a miss too if the entry has 2^32 - 1 handles. If the key is longer than any before and
@@ -179,7 +181,7 @@ class BasicRocksDBCache : public rocksdb::Cache {
   void* Value(Handle* handle) override { return EntryOf(handle)->value; }
 
   void Erase(const rocksdb::Slice& key) override {
-    if (CanStore(key)) Call(&shards_.Of(key)).Detach(key);
+    if (CanStore(key)) Call(&ShardOf(key)).Detach(key);
   }
 
   std::uint64_t NewId() override { return ++last_id_; }
@@ -207,7 +209,7 @@ class BasicRocksDBCache : public rocksdb::Cache {
     return shards_.Sum([](const Shard& shard) { return shard.core.pinned_charge(); });
   }
   std::size_t GetOccupancyCount() const override {
-    return shards_.Sum([](const Shard& shard) { return shard.found.length(); });
+    return shards_.Sum([](const Shard& shard) { return shard.found; });
   }
 
   std::size_t GetUsage(Handle* handle) const override { return EntryOf(handle)->charge; }
@@ -218,11 +220,9 @@ class BasicRocksDBCache : public rocksdb::Cache {
                                                   std::size_t charge, DeleterFn deleter)>& callback,
                          const ApplyToAllEntriesOptions&) override {
     for (Shard& shard : shards_) {
-      const std::lock_guard<std::mutex> lock(shard.mutex);
-      for (const Link* link = shard.found.first(); link != nullptr; link = link->after) {
-        const Entry& entry = static_cast<const Entry&>(*link);
+      Call(&shard).ForEachFound([&](const Entry& entry) {
         callback(entry.key(), entry.value, entry.charge, entry.deleter);
-      }
+      });
     }
   }
 
@@ -243,54 +243,21 @@ class BasicRocksDBCache : public rocksdb::Cache {
 
   struct Shard;
 
-  // What an entry has for a list of entries.
-  struct Link {
-    Link* before = nullptr;
-    Link* after = nullptr;
-    bool is_linked = false;
-  };
-
-  struct More : Link {
+  struct More {
     std::size_t charge = 0;
     // Of an entry that is not in the cache, how many handles it has besides one.
     std::atomic<std::size_t> other_handles{0};
+    bool is_found = false;  // whether its key finds it
   };
 
   using Entry = detail::BlockEntry<rocksdb::Slice, Shard, More>;
   using Core = detail::Core<Entry, Key>;
 
-  // A list of entries. Nothing happens if an entry is removed that is not in it.
-  class List {
-   public:
-    Link* first() const { return first_; }
-    std::size_t length() const { return length_; }
-
-    void Add(Link* link) {
-      link->is_linked = true;
-      link->after = first_;
-      if (first_ != nullptr) first_->before = link;
-      first_ = link;
-      length_++;
-    }
-
-    void Remove(Link* link) {
-      if (!link->is_linked) return;
-      link->is_linked = false;
-      (link->before == nullptr ? first_ : link->before->after) = link->after;
-      if (link->after != nullptr) link->after->before = link->before;
-      length_--;
-    }
-
-   private:
-    Link* first_ = nullptr;
-    std::size_t length_ = 0;
-  };
-
   // What a hit uses of a shard comes first.
   struct alignas(64) Shard {
     Core core;
     mutable std::mutex mutex;
-    List found;  // the entries that their keys find
+    std::size_t found = 0;  // how many entries their keys find
   };
 
   // A call on a shard, which holds its mutex. The destructor unlocks it, and then runs the deleters
@@ -300,7 +267,7 @@ class BasicRocksDBCache : public rocksdb::Cache {
     explicit Call(Shard* shard) : shard_(*shard), lock_(shard->mutex) {}
     ~Call() {
       for (Entry* entry = evicted_.first(); entry != nullptr; entry = entry->next)
-        shard_.found.Remove(entry);
+        SetFound(entry, false);
     }
 
     Call(const Call&) = delete;
@@ -321,7 +288,7 @@ class BasicRocksDBCache : public rocksdb::Cache {
       if (told.code != LRU_DONE) return;
       entry->pin = told.pin;
       entry->shard = &shard_;
-      shard_.found.Add(entry);
+      SetFound(entry, true);
     }
 
     // Returns whether the entry has left the cache.
@@ -343,11 +310,13 @@ class BasicRocksDBCache : public rocksdb::Cache {
       if (told.code != LRU_HIT && told.code != LRU_OVERFLOW) return false;
       shard_.core.invalidate(Stored(key), &evicted_);
       if (told.code == LRU_HIT) {
-        shard_.found.Remove(Core::node_of(told.value));
+        SetFound(Core::node_of(told.value), false);
         shard_.core.release(told.pin, &evicted_);
       } else {
         // The entry has 2^32 - 1 handles, and is not told.
-        shard_.found.Remove(Find(key));
+        ForEachFound([&](Entry& entry) {
+          if (entry.key() == key) SetFound(&entry, false);
+        });
       }
       return true;
     }
@@ -363,12 +332,29 @@ class BasicRocksDBCache : public rocksdb::Cache {
     // Deletes an entry that is not in the cache, without the mutex.
     void Delete(Entry* entry) { evicted_.add(entry); }
 
+    // Visits each entry that its key finds, or none if there is no memory for a list of them.
+    template <class Visit>
+    void ForEachFound(const Visit& visit) const {
+      const auto room = static_cast<std::size_t>(shard_.core.len());
+      const std::unique_ptr<lru_entry[], Free> entries(
+          static_cast<lru_entry*>(std::malloc(room * sizeof(lru_entry))));
+      if (entries == nullptr) return;
+      const std::size_t count = shard_.core.entries(entries.get(), room);
+      for (std::size_t n = 0; n < count; n++) {
+        Entry& entry = *Core::node_of(entries[n].value);
+        if (entry.is_found) visit(entry);
+      }
+    }
+
    private:
-    // The entry that a key finds.
-    Entry* Find(const rocksdb::Slice& key) const {
-      Entry* entry = static_cast<Entry*>(shard_.found.first());
-      while (entry->key() != key) entry = static_cast<Entry*>(entry->after);
-      return entry;
+    struct Free {
+      void operator()(void* at) const { std::free(at); }
+    };
+
+    void SetFound(Entry* entry, bool is_found) {
+      if (entry->is_found == is_found) return;
+      entry->is_found = is_found;
+      is_found ? shard_.found++ : shard_.found--;
     }
 
     Shard& shard_;
@@ -381,6 +367,15 @@ class BasicRocksDBCache : public rocksdb::Cache {
 
   static bool CanStore(const rocksdb::Slice& key) { return detail::CanStore<Key>(key); }
   static Key Stored(const rocksdb::Slice& key) { return detail::Stored<Key>(key); }
+
+  // Two words have a hash that takes fewer instructions than that of bytes.
+  Shard& ShardOf(const rocksdb::Slice& key) {
+    if constexpr (std::is_same_v<Key, Words>) {
+      return shards_.Of(static_cast<std::uint32_t>(std::hash<Words>()(Stored(key))));
+    } else {
+      return shards_.Of(detail::HashOf(key));
+    }
+  }
 
   static Handle* HandleOf(Entry* entry) { return reinterpret_cast<Handle*>(entry); }
   static Entry* EntryOf(Handle* handle) { return reinterpret_cast<Entry*>(handle); }

@@ -570,6 +570,17 @@ void RefusesMemory(NewCache new_cache) {
   CHECK(refused == 4 && uncached >= 4);
 }
 
+// Without memory for a list of the entries, none is visited.
+void VisitsNothingWithoutMemory(NewCache new_cache) {
+  const Tested cache = new_cache(10, false);
+  cache.Put("a", "1");
+  cache.Put("b", "2");
+  requests_until_refusal = 1;
+  const std::size_t visited = cache.Visited();
+  CHECK(visited == 0 && std::exchange(requests_until_refusal, 0) == 0);
+  CHECK(cache.All() == "a=1:1 b=2:1 ");
+}
+
 // Refuses each request for memory of New in turn.
 template <class OneCache>
 void RefusesToOpen() {
@@ -586,7 +597,8 @@ void RefusesToOpen() {
 }
 
 void ForThisCache(NewCache new_cache) {
-  for (const auto test : {ReturnsWhatItDoesNotCache, DeletesWhatIsLeft, RefusesMemory}) {
+  for (const auto test :
+       {ReturnsWhatItDoesNotCache, DeletesWhatIsLeft, RefusesMemory, VisitsNothingWithoutMemory}) {
     test(new_cache);
     Tested::Deleted();
   }
