@@ -572,7 +572,7 @@ static void FAMILY(is_full)(FAMILY(stage) *s, uint64_t k, uint64_t charge) {
     CHECK(memcmp(&before, &after, sizeof before), 0);
 }
 
-/* begin_strictly: adds no entry that the capacity has no room for beside the held ones. */
+/* A strict begin adds no entry that the capacity has no room for beside the held ones. */
 static void FAMILY(begins_strictly)(void) {
     FAMILY(stage) s;
     lru_pin first, second;
@@ -622,7 +622,7 @@ static void FAMILY(begins_strictly)(void) {
     FAMILY(close)(&s);
 }
 
-/* insert_strictly: replaces the entry of the key, unless the capacity has no room. */
+/* A strict insert replaces the entry of the key, unless the capacity has no room. */
 static void FAMILY(inserts_strictly)(void) {
     FAMILY(stage) s;
     lru_pin first, second;
