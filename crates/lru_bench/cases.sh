@@ -97,7 +97,7 @@ times() {
         whole=\$(((\${EPOCHREALTIME/./} - begin) / 1000))
         awk -v whole=\$whole -f untimed.awk lines"
 }
-times "8 hit_get" "std-map hit_get 8 1" "parts-unsharded hit_get 8 1" "port-unsharded hit_get 8 1"
+times "8 hit_get" "port-unsharded hit_get 8 1" "port-clock-1 hit_get 8 1"
 times "3 hit_read threads" "port-unsharded hit_read 3 1" "port-clock-1 hit_read 3 1" \
     "port-unsharded hit_read 3 2" "port-sharded hit_read 3 2"
 
