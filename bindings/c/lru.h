@@ -487,8 +487,8 @@ lru_told lru_bytes_insert_nonnull(lru_cache *cache, const uint8_t *key, size_t l
 lru_told lru_bytes_key_of_nonnull(lru_cache *cache, lru_pin pin, uint8_t *buffer, size_t room);
 lru_told lru_cache_entries_nonnull(lru_cache *cache, lru_entry *out, size_t room);
 
-/* The function behind `advice_evict` and `invalidate`, as is lru_bytes_evict_nonnull: it also
- * detaches an entry that is held if `even_held` says so. */
+/* The function behind `advice_evict` and `invalidate`, as lru_bytes_evict_nonnull is for keys of
+ * bytes. It evicts an idle entry; if `even_held`, it also detaches a held one. */
 lru_code lru_words_evict(lru_cache *cache, uint64_t first, uint64_t second, bool even_held,
                          lru_chain *gone);
 

@@ -100,7 +100,7 @@ class BasicLevelDBCache : public leveldb::Cache {
     if (entry == nullptr) std::abort();
     if (!CanStore(key)) return reinterpret_cast<Handle*>(entry);
     const std::uint64_t weight = charge == 0 ? 1 : charge;
-    Shard& shard = shards_.Of(detail::HashOf(key));
+    Shard& shard = ShardOf(key);
     entry->shard = &shard;
     Evicted evicted;
     const std::lock_guard<std::mutex> lock(shard.mutex);
@@ -116,7 +116,7 @@ class BasicLevelDBCache : public leveldb::Cache {
 
   Handle* Lookup(const leveldb::Slice& key) override {
     if (!CanStore(key)) return nullptr;
-    Shard& shard = shards_.Of(detail::HashOf(key));
+    Shard& shard = ShardOf(key);
     const std::lock_guard<std::mutex> lock(shard.mutex);
     const lru_told told = shard.core.get(Stored(key));
     // It is a miss too if the entry has 2^32 - 1 handles. If the key is longer than any before and
@@ -141,7 +141,7 @@ class BasicLevelDBCache : public leveldb::Cache {
 
   void Erase(const leveldb::Slice& key) override {
     if (!CanStore(key)) return;
-    Shard& shard = shards_.Of(detail::HashOf(key));
+    Shard& shard = ShardOf(key);
     Evicted evicted;
     const std::lock_guard<std::mutex> lock(shard.mutex);
     // This is refused only if the key is longer than any before, and then it has no entry.
@@ -183,6 +183,9 @@ class BasicLevelDBCache : public leveldb::Cache {
 
   static bool CanStore(const leveldb::Slice& key) { return detail::CanStore<Key>(key); }
   static Key Stored(const leveldb::Slice& key) { return detail::Stored<Key>(key); }
+
+  // Of 16 shards, the one that LevelDB's own cache has for the key.
+  Shard& ShardOf(const leveldb::Slice& key) { return shards_.Of(detail::HashOf(key)); }
 
   detail::Shards<Shard, kMostShards> shards_;
   std::atomic<std::uint64_t> last_id_{0};

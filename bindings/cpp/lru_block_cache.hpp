@@ -119,7 +119,7 @@ class Shards {
     return capacity / count_ + (capacity % count_ != 0);
   }
 
-  // Of 16 shards, the highest 4 bits of the hash choose one, as in LevelDB's own cache.
+  // The highest bits of the hash choose the shard, the highest 4 one of 16.
   Shard& Of(std::uint32_t hash) { return shards_[std::uint64_t{hash} * count_ >> 32]; }
 
   // The sum of a number of each shard, which `number` returns while the mutex is held.
