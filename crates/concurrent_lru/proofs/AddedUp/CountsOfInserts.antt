@@ -1,14 +1,14 @@
 -- Counts that add up go on adding up where an insert replaces an entry.
-use Rattle.std.proofs.Common.{◌≡◌, ℕ, ◌+◌, ◌-◌, ◌*◌, ◌<◌, ◌≤◌, ◌^◌, Bool, List, [], length, sym, ap, ◌∙◌, subst, arith}
+use Rattle.std.proofs.Common.{◌≡◌, ℕ, ◌+◌, ◌-◌, ◌<◌, ◌^◌, Bool, List, [], length, sym, ap, ◌∙◌, subst, arith}
 use Rattle.std.specs.Cmp.{IsEquivalence}
 use Rattle.concurrent_lru.specs.Cache.{Cache, Idle, making, ready, IsLawful, charges, count_of, sum_of}
 use Rattle.concurrent_lru.specs.CountedCalls.{AddUp, IsSoundlyCounted, replaced}
-use Rattle.concurrent_lru.specs.Counts.{end_of_u64, inserted, one_more, one_refusal}
+use Rattle.concurrent_lru.specs.Counts.{inserted, one_more, one_refusal}
 use Rattle.concurrent_lru.specs.Inserts.{Replaces}
 use Rattle.concurrent_lru.specs.declared.counts.Counts.{Counts}
 use Rattle.concurrent_lru.specs.declared.step.Begun.TheVariants as begun
 use Rattle.concurrent_lru.proofs.AddedUp.SizesOfSteps.{Resizes, made_size, phase_size, same_size}
-use Rattle.concurrent_lru.proofs.AddedUp.CountsOfSteps.{Owes, invalidate_evicts, left_evicted, owed_for_new, with_others}
+use Rattle.concurrent_lru.proofs.AddedUp.CountsOfSteps.{Owes, insertion_fits, invalidate_evicts, left_evicted, owed_for_new, with_others}
 use Rattle.concurrent_lru.proofs.Steps.InsertOfKey.{begun_new, invalidated_absent}
 use Rattle.concurrent_lru.proofs.Steps.ValuesInserted.{invalidated_lawful}
 
@@ -62,16 +62,8 @@ module _ {K V : Type 0} where
       → CanInsert old n charge gone out new
   can_insert {E} old new n k charge v s gone out laws sound last r =
       let i = enters {E = E} old new k charge v s gone out laws sound.lawful last r in
-      let a = sound.adds_up in
-      let f : charge < 2 ^ 64 = i.charge_fits in
-      let m : old.next + 1 < 2 ^ 64 = i.stamps in
-      let u : n.entries_before + n.insertions ≤ old.next = a.entries_fit in
-      let w : n.charge_before + n.inserted_charge ≤ old.next * end_of_u64 = a.charge_fits in
-      record {
-        entries = omega (arith, u, m);
-        charge_fits = omega (arith, w, m, f);
-        owes = owed_for_new old new n charge (length gone + length out) (charges gone + charges out) a i.sizes f m;
-      }
+      let fits = insertion_fits old n charge sound.adds_up i.charge_fits i.stamps in
+      record { entries = fits.0; charge_fits = fits.1; owes = owed_for_new old new n charge (length gone + length out) (charges gone + charges out) sound.adds_up i.sizes i.charge_fits i.stamps }
 
   -- how the code tells what was replaced and evicted, from what is left
   pub told_replaced : {c : Cache K V} {m after : Counts} {entries total : ℕ} (n : Counts) (charge : ℕ) (gone out : List (Idle K V)) → Owes c (inserted charge n) (length gone + length out) (charges gone + charges out) → m ≡ inserted charge n → after ≡ left_evicted m entries total → entries ≡ count_of c → total ≡ sum_of c

@@ -108,7 +108,7 @@ module _ {K V : Type 0} where
   pub evicting_adds_up : (old new : Cache K V) (n : Counts) (out : List (Idle K V)) → AddUp old n → Evicts old out new → AddUp new (evicted out n)
   evicting_adds_up old new n out a e = evictions_add_up new n out (owed old new n (length out) (charges out) a e)
 
-  -- this counts what left
+  -- what the code counts so is what left
   pub told_evicted : {c : Cache K V} {n m after : Counts} {entries charge : ℕ} (out : List (Idle K V)) → Owes c n (length out) (charges out) → m ≡ n → after ≡ left_evicted m entries charge → entries ≡ count_of c → charge ≡ sum_of c → after ≡ evicted out n
   told_evicted {c} {n} {entries} {charge} out o same told is_count is_sum =
       let e : count_of c + length out + n.evictions + n.removals ≡ n.entries_before + n.insertions = o.entries in
@@ -411,6 +411,13 @@ module _ {K V : Type 0} where
   begin_counted c k charge (Ok (begun.Hit s a, out)) n not = refl
   begin_counted c k charge (Err e) n not = refl
 
+  -- one insertion more can be counted
+  pub insertion_fits : (c : Cache K V) (n : Counts) (charge : ℕ) → AddUp c n → charge < 2 ^ 64 → c.next + 1 < 2 ^ 64 → (n.insertions + 1 < 2 ^ 64) × (n.inserted_charge + charge < 2 ^ 128)
+  insertion_fits c n charge a fits stamps =
+      let u : n.entries_before + n.insertions ≤ c.next = a.entries_fit in
+      let v : n.charge_before + n.inserted_charge ≤ c.next * end_of_u64 = a.charge_fits in
+      (omega (arith, u, stamps), omega (arith, v, stamps, fits))
+
   -- a begin that inserts an entry: what it says, and the counts after it
   pub record Inserted (E : K → K → Bool) (old : Cache K V) (k : K) (charge : ℕ) (r : Result (Begun (Arc V Global) × List (Idle K V)) Refusal) (new : Cache K V) (n : Counts) : Type 0 where
     pub out : List (Idle K V)
@@ -424,23 +431,20 @@ module _ {K V : Type 0} where
   begin_inserted E old new k charge (Ok (begun.Make s, out)) n sound h is =
       let i = inserts old new k charge s out sound.lawful h (eqb-true s old.next is) in
       let a = sound.adds_up in
-      let f : charge < 2 ^ 64 = i.charge_fits in
-      let m : old.next + 1 < 2 ^ 64 = i.stamps in
-      let u : n.entries_before + n.insertions ≤ old.next = a.entries_fit in
-      let v : n.charge_before + n.inserted_charge ≤ old.next * end_of_u64 = a.charge_fits in
+      let fits = insertion_fits old n charge a i.charge_fits i.stamps in
       record {
         out = out;
         asked = refl;
         counted_is = ap (λ b. cond b (evicted out (inserted charge (one_making (one_miss n)))) (one_making (one_miss n))) is;
-        insertions_fit = omega (arith, u, m);
-        charge_fits = omega (arith, v, m, f);
+        insertions_fit = fits.0;
+        charge_fits = fits.1;
         owes = owed_for_new old new (one_making (one_miss n)) charge (length out) (charges out) (with_others old n n.hits (one_more n.misses) n.waits n.refusals (one_more n.makings) n.failures a) i.sizes i.charge_fits i.stamps;
       }
   begin_inserted E old new k charge (Ok (begun.Wait s, out)) n sound h is = absurd (true≢false (sym is))
   begin_inserted E old new k charge (Ok (begun.Hit s a, out)) n sound h is = absurd (true≢false (sym is))
   begin_inserted E old new k charge (Err e) n sound h is = absurd (true≢false (sym is))
 
-  -- which it may
+  -- what is owed may be counted
   pub can_evict : {c : Cache K V} {n m : Counts} {o g entries charge : ℕ} → Owes c n o g → m ≡ n → entries ≡ count_of c → charge ≡ sum_of c → MayEvict m entries charge
   can_evict {c} {n} {m} {o} {g} {entries} {charge} w same is_count is_sum =
       let e : count_of c + o + n.evictions + n.removals ≡ n.entries_before + n.insertions = w.entries in

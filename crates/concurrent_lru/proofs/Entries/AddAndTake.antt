@@ -65,18 +65,19 @@ module _ {K V : Type 0} where
 
 module _ {K V : Type 0} {C : K → K → Type 0} {E : K → K → Bool} {H : K → ℕ} (alike : (k l : K) → E k l ≡ true → H k ≡ H l) {t t' : NodeTable K V} {by_stamp by_stamp' : StampIndex} {p s h m : ℕ} {own k : K} (r : IsStored C E H t by_stamp) (is_own : C k own) where
   -- the node of a new entry, whose key is a copy of k
-  pub put_added : get t.nodes p ≡ None → t'.nodes ≡ insert t.nodes p (new_entry s own m) → t'.hashes ≡ insert t.hashes p h → h ≡ H k → t'.idle ≡ t.idle → IsNewStamp t s → keeps_map by_stamp' ≡ keeps_map by_stamp
-      → (keeps_map by_stamp ≡ true → (q : ℕ) → mapped_place by_stamp' q ≡ cond (eqb s q) (Some p) (mapped_place by_stamp q)) → IsAdded H t t' by_stamp by_stamp' p (new_entry s own m)
-  put_added free nodes hashes hash idle fresh keeps stamps = record {
-    free = free;
-    nodes = nodes;
-    hashes = hashes ∙ ap (insert t.hashes p) (hash ∙ sym (alike own k (r.copies k own is_own)));
-    idle = idle;
+  pub put_added : {W T : Type 0} {e : Entry K V} → e ≡ new_entry s own m → h ≡ H k → IsNewStamp t s
+      → record { free : get t.nodes p ≡ None; nodes : t'.nodes ≡ insert t.nodes p e; hashes : t'.hashes ≡ insert t.hashes p h; idle : t'.idle ≡ t.idle; work : W; keeps : keeps_map by_stamp' ≡ keeps_map by_stamp; by_stamp : keeps_map by_stamp ≡ true → (q : ℕ) → mapped_place by_stamp' q ≡ cond (eqb e.stamp q) (Some p) (mapped_place by_stamp q); total : T }
+      → IsAdded H t t' by_stamp by_stamp' p (new_entry s own m)
+  put_added is hash fresh put = record {
+    free = put.free;
+    nodes = put.nodes ∙ ap (insert t.nodes p) is;
+    hashes = put.hashes ∙ ap (insert t.hashes p) (hash ∙ sym (alike own k (r.copies k own is_own)));
+    idle = put.idle;
     pins = refl;
     found = refl;
     fresh = fresh;
-    keeps = keeps;
-    stamps_now = stamps;
+    keeps = put.keeps;
+    stamps_now = λ kept q. put.by_stamp kept q ∙ ap (λ n. cond (eqb n q) (Some p) (mapped_place by_stamp q)) (ap (λ x. x.stamp) is);
   }
 
 module _ {K V : Type 0} {C : K → K → Type 0} {E : K → K → Bool} {H : K → ℕ} where

@@ -6,7 +6,7 @@ use Rattle.std.specs.Cmp.{IsEquivalence}
 use Rattle.std.specs.FinMap.{get}
 use Rattle.std.proofs.lemmas.Bool.{true≢false, eqb-true, eq-eqb}
 use Rattle.std.proofs.lemmas.Option.{none-some, same_Some}
-use Rattle.concurrent_lru.specs.Cache.{Idle, Held, Phase, making, untaken, ready, IsLawful, idle_at}
+use Rattle.concurrent_lru.specs.Cache.{Cache, Idle, Held, Phase, making, untaken, ready, IsLawful, held_at, idle_at}
 use Rattle.concurrent_lru.specs.Steps.{Holds, IsNotIdle, IsUnready}
 use Rattle.concurrent_lru.specs.Request as ask
 use Rattle.concurrent_lru.specs.Runs.{HasRoomAt, IsFull, Overflows, WouldHit}
@@ -14,6 +14,7 @@ use Rattle.concurrent_lru.specs.NodeTable.{Entry, value_in, value_of}
 use Rattle.concurrent_lru.specs.Representation.{as_idle, held_entry}
 use Rattle.concurrent_lru.specs.Entries.{Entries, cache_of, cache_with, ContainsEntry, FindsEntry, IsPlaceOfKey, GetsAt, ContainsIdleAt, ContainsHeldAt, ContainsFoundAt, IsReadyAt, value_at}
 use Rattle.concurrent_lru.proofs.Steps.BeginOfAbsent.{as_idle-ready}
+use Rattle.concurrent_lru.proofs.Steps.NotReady.{unready_not_ready}
 
 -- the phase that has a value
 ready_with : {V : Type 0} (q : Phase V) (v : V) → value_in q ≡ Some v → q ≡ ready v
@@ -119,6 +120,10 @@ module _ {K V : Type 0} {t : Entries K V} {p : ℕ} {e : Entry K V} (here : Gets
           | inr h ↦ ap (λ x. x.detached) (sym (held_is w.stamp h.0 w.at h.1).1) ∙ h.4
         ]
 
+    -- where the node is in another phase, nothing is held in this one
+    pub not_in_phase : {seen : Cache K V} (q : Phase V) → cache_with capacity most next t ≡ seen → (s : ℕ) → get t.stamps p ≡ Some s → (e.phase ≡ q → ⊥) → (h : Held K V) → Holds seen s h q → ⊥
+    not_in_phase q is s at other h holds = other (ap (λ x. x.phase) (sym (held_is s h at (ap (λ c. held_at c s) is ∙ holds.at)).1) ∙ holds.phase)
+
     -- a node that has not the greatest number of pins has fewer
     pub has_room : 0 < most → (e.pins ≡ most → ⊥) → e.pins < most
     has_room high other = elim (e.pins == 0) as (λ b. (e.pins == 0) ≡ b → e.pins < most) [
@@ -132,6 +137,9 @@ module _ {K V : Type 0} {t : Entries K V} {p : ℕ} {e : Entry K V} (here : Gets
         let keys : E a e.key ≡ true = laws.congr a k e.key equal ∙ laws.symm k e.key ∙ same in
         let stamp : s ≡ e.stamp = l.one_entry s e.stamp a e.key m e.charge entry (finds_entry found) keys in
         (held_entry e, ap (get t.held) stamp ∙ here.held some, phase)
+
+    pub unready_found : (k : K) → IsEquivalence E → IsPlaceOfKey E t p k → (e.phase ≡ making) ⊎ (e.phase ≡ untaken) → IsUnready E (cache_with capacity most next t) k
+    unready_found k laws w phase = is_unready k laws (key_is k w) phase (unready_pinned (unready_not_ready _ phase)) (found_is k w)
 
     pub is_not_idle : (k : K) → IsEquivalence E → E e.key k ≡ true → e.pins ≢ 0 → (e.pins ≢ 0 → e.detached ≡ false) → IsNotIdle E (cache_with capacity most next t) k
     is_not_idle k laws same some found s x idle =

@@ -1,7 +1,7 @@
 -- Held entries are taken one by one, until none is left.
 use Rattle.std.proofs.Common.{◌≡◌, ℕ, ◌+◌, ◌<◌, ◌≤◌, ◌⊎◌, inl, inr, Bool, true, false, cond, List, [], ◌∷◌, ◌++◌, map, Option, Some, None, refl, sym, ap, ◌∙◌, subst, eqb, ◌==◌, arith}
 use Rattle.std.specs.Prelude.{is_some}
-use Rattle.std.specs.List.{AllByRecursion, IsDistinct, filter_map, cons_option, find}
+use Rattle.std.specs.List.{IsDistinct, filter_map, cons_option, find}
 use Rattle.std.specs.Option.{option_and_then}
 use Rattle.std.specs.Ordering.{nat_cmp}
 use Rattle.std.specs.Cmp.{nat_cmp_total, nat_eq_equiv}
@@ -15,7 +15,7 @@ use Rattle.concurrent_lru.specs.Entries.{Entries, ContainsHeldAt}
 use Rattle.concurrent_lru.specs.Indexes.{IsStored, entries_of}
 use Rattle.concurrent_lru.specs.TakeAll.{TakesHeld, leaves_as, leaves_at, taken_at}
 use Rattle.concurrent_lru.specs.declared.table.stamp_index.StampIndex.{StampIndex}
-use Rattle.concurrent_lru.proofs.Lists.DistinctEntries.{head_none}
+use Rattle.concurrent_lru.proofs.Lists.DistinctEntries.{none_has}
 use Rattle.concurrent_lru.proofs.Lists.Removals.{removed_other, removed_some}
 use Rattle.concurrent_lru.proofs.Entries.SumsOfHeld.{removed_at}
 use Rattle.concurrent_lru.proofs.Entries.NodesOfSetAndAdd.{held_in-found}
@@ -34,13 +34,6 @@ module _ {K V : Type 0} where
   stamp_in e untaken x h = absurd (none-some x h)
   stamp_in e (ready v) x h = ap (λ y. y.stamp) (sym (same_Some _ x h))
 
-  -- where nothing was taken under a stamp, nothing that was taken has it
-  none_has : (s : ℕ) (xs : List (Idle K V)) → taken_at xs s ≡ None → AllByRecursion (λ y. eqb s y ≡ false) (map (λ x. x.stamp) xs)
-  none_has s [] h = tt
-  none_has s (x ∷ xs) h =
-      let apart = head_none (x.stamp == s) x (taken_at xs s) h in
-      (nat_eq_equiv.symm s x.stamp ∙ apart.0, none_has s xs apart.1)
-
   -- what is taken under the stamp of one more, and under others
   found_first : (s : ℕ) (o : Option (Idle K V)) (xs : List (Idle K V)) → ((x : Idle K V) → o ≡ Some x → x.stamp ≡ s) → taken_at xs s ≡ None → taken_at (cons_option o [] ++ xs) s ≡ o
   found_first s None xs stamp none = none
@@ -53,7 +46,7 @@ module _ {K V : Type 0} where
   apart_first : (s : ℕ) (o : Option (Idle K V)) (xs : List (Idle K V)) → ((x : Idle K V) → o ≡ Some x → x.stamp ≡ s) → taken_at xs s ≡ None → IsDistinct eqb (map (λ (x : Idle K V). x.stamp) xs) → IsDistinct eqb (map (λ (x : Idle K V). x.stamp) (cons_option o [] ++ xs))
   unfolding IsDistinct
   apart_first s None xs stamp none d = d
-  apart_first s (Some x) xs stamp none d = (none_has x.stamp xs (subst (λ n. taken_at xs n ≡ None) (sym (stamp x refl)) none), d)
+  apart_first s (Some x) xs stamp none d = (none_has (λ (y : Idle K V). y.stamp) x.stamp xs (subst (λ n. taken_at xs n ≡ None) (sym (stamp x refl)) none), d)
 
   -- the entry of the stamp has left, and was taken where it had a value; or it is as it was
   abbrev pub HasLeft : FinMap nat_cmp (Held K V) → FinMap nat_cmp (Held K V) → List (Idle K V) → ℕ → Type 0

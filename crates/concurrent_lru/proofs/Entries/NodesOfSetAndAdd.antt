@@ -40,6 +40,13 @@ module _ {X : Type 0} where
   pub inserted_other : (m : FinMap nat_cmp X) (p q : ℕ) (x : X) → eqb q p ≡ false → get (insert m p x) q ≡ get m q
   inserted_other m p q x ne = get-insert nat_cmp_total m p x q ∙ ap (λ t. cond t (Some x) (get m q)) (unsigned_tied q p ∙ ne)
 
+  -- what is there then was put there, or was there
+  pub inserted_cases : (m : FinMap nat_cmp X) (p q : ℕ) (x y : X) → get (insert m p x) q ≡ Some y → ((q ≡ p) × (y ≡ x)) ⊎ (get m q ≡ Some y)
+  inserted_cases m p q x y h = elim (eqb q p) as (λ b. eqb q p ≡ b → ((q ≡ p) × (y ≡ x)) ⊎ (get m q ≡ Some y)) [
+    | true ↦ λ b. let here : q ≡ p = eqb-true q p b in inl (here, same_Some _ _ (sym h ∙ ap (get (insert m p x)) here ∙ inserted_at m p x))
+    | false ↦ λ b. inr (sym (inserted_other m p q x b) ∙ h)
+  ] refl
+
   merged : (t : Bool) (h : X) (u v : Option X) → (t ≡ true → u ≡ Some h) → v ≡ cond t None u → u ≡ cond t (Some h) v
   merged true h u v is e = is refl
   merged false h u v is e = sym e

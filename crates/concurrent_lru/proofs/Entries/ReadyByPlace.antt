@@ -1,8 +1,7 @@
 -- The entries that have a value, by place: each has one place, below the end of all places.
 use Rattle.std.proofs.Common.{◌≡◌, ◌≢◌, ℕ, zero, suc, ◌+◌, ◌-◌, ◌<◌, ◌≤◌, Bool, true, false, cond, List, [], ◌∷◌, map, Option, Some, None, refl, sym, ap, ◌∙◌, inl, inr, eqb, ◌==◌, arith}
-use Rattle.std.specs.List.{AllByRecursion, IsDistinct, cons_option, find}
+use Rattle.std.specs.List.{IsDistinct, cons_option, find}
 use Rattle.std.specs.Option.{option_map, option_map_or, option_and_then}
-use Rattle.std.specs.Cmp.{nat_eq_equiv}
 use Rattle.std.specs.FinMap.{get, keys}
 use Rattle.std.proofs.lemmas.Bool.{eqb-true, eq-eqb, true≢false}
 use Rattle.std.proofs.lemmas.Option.{none-some, same_Some}
@@ -13,7 +12,7 @@ use Rattle.concurrent_lru.specs.Entries.{Entries, cache_of}
 use Rattle.concurrent_lru.specs.Indexes.{IsStored, entries_of}
 use Rattle.concurrent_lru.specs.ReadyEntries.{ReadyEntry, ListsReady, ready_from_idle, ready_from_held, ready_at, ready_in, ready_between, ready_from_node, listed_at}
 use Rattle.concurrent_lru.specs.declared.table.stamp_index.StampIndex.{StampIndex}
-use Rattle.concurrent_lru.proofs.Lists.DistinctEntries.{head_none}
+use Rattle.concurrent_lru.proofs.Lists.DistinctEntries.{none_has}
 use Rattle.concurrent_lru.proofs.Entries.NodesOfSetAndAdd.{held_in-found}
 use Rattle.concurrent_lru.proofs.Entries.NodeAtPlace.{place_at, idle_unheld, idle_found, idle_like, held_found}
 use Rattle.concurrent_lru.proofs.Entries.PlacesOfNodes.{get_stamps}
@@ -120,17 +119,10 @@ module _ {K V : Type 0} where
         ] refl
       ] refl
 
-  -- where nothing is listed under a stamp, nothing that is listed has it
-  none_has : (s : ℕ) (xs : List (ReadyEntry K V)) → listed_at xs s ≡ None → AllByRecursion (λ y. eqb s y ≡ false) (map (λ x. x.stamp) xs)
-  none_has s [] h = tt
-  none_has s (x ∷ xs) h =
-      let apart = head_none (x.stamp == s) x (listed_at xs s) h in
-      (nat_eq_equiv.symm s x.stamp ∙ apart.0, none_has s xs apart.1)
-
   apart_first : (o : Option (ReadyEntry K V)) (xs : List (ReadyEntry K V)) → ((x : ReadyEntry K V) → o ≡ Some x → listed_at xs x.stamp ≡ None) → IsDistinct eqb (map (λ (x : ReadyEntry K V). x.stamp) xs) → IsDistinct eqb (map (λ (x : ReadyEntry K V). x.stamp) (cons_option o xs))
   unfolding IsDistinct
   apart_first None xs none d = d
-  apart_first (Some x) xs none d = (none_has x.stamp xs (none x refl), d)
+  apart_first (Some x) xs none d = (none_has (λ (y : ReadyEntry K V). y.stamp) x.stamp xs (none x refl), d)
 
   -- where no two places have one stamp, no two of the list have one
   abbrev pub HaveOwnStamps : Entries K V → Type 0

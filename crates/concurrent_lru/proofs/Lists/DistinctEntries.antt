@@ -1,7 +1,9 @@
 -- Lists of entries under distinct numbers, as maps: one entry more, one changed, one less.
-use Rattle.std.proofs.Common.{◌≡◌, ℕ, Bool, true, false, cond, List, [], ◌∷◌, ◌++◌, Option, Some, None, refl, sym, ap, ◌∙◌, subst}
+use Rattle.std.proofs.Common.{◌≡◌, ℕ, Bool, true, false, cond, List, [], ◌∷◌, ◌++◌, map, Option, Some, None, refl, sym, ap, ◌∙◌, subst, eqb, ◌==◌}
+use Rattle.std.specs.List as list
+use Rattle.std.specs.List.{AllByRecursion}
 use Rattle.std.specs.Ordering.{nat_cmp, eq_by_cmp}
-use Rattle.std.specs.Cmp.{nat_cmp_total, eq_by_cmp_equiv, unsigned_tied}
+use Rattle.std.specs.Cmp.{nat_cmp_total, nat_eq_equiv, eq_by_cmp_equiv, unsigned_tied}
 use Rattle.std.specs.FinMap.{from_entries, insert, remove, get-from_entries, get-insert, get-remove, same_map, nat_cmp-IsAntisymmetric, from_entries_push}
 use Rattle.std.specs.FinMap.Entries.{find}
 use Rattle.std.proofs.lemmas.Bool.{eqb-true}
@@ -26,6 +28,13 @@ same_of q s t a b = subst (λ u. same u s ≡ false) (sym (same-true q t a)) (sa
 pub head_none : {A : Type 0} (t : Bool) (x : A) (o : Option A) → cond t (Some x) o ≡ None → (t ≡ false) × (o ≡ None)
 head_none true x o h = absurd (none-some x (sym h))
 head_none false x o h = (refl, h)
+
+-- where nothing has the stamp, no stamp equals it
+pub none_has : {X : Type 0} (stamp : X → ℕ) (s : ℕ) (xs : List X) → list.find (λ x. stamp x == s) xs ≡ None → AllByRecursion (λ y. eqb s y ≡ false) (map stamp xs)
+none_has stamp s [] h = tt
+none_has stamp s (x ∷ xs) h =
+    let apart = head_none (stamp x == s) x (list.find (λ y. stamp y == s) xs) h in
+    (nat_eq_equiv.symm s (stamp x) ∙ apart.0, none_has stamp s xs apart.1)
 
 cond_same : {A : Type 0} (t : Bool) (x y z : A) → cond t y z ≡ cond t y (cond t x z)
 cond_same true x y z = refl

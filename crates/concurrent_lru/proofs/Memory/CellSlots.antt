@@ -2,7 +2,7 @@
 use Rattle.std.proofs.Common.{◌≡◌, ◌≢◌, ℕ, zero, suc, List, [], ◌∷◌, Bool, true, false, cond, ◌&&◌, ◌==◌, Option, Some, None, IsSome, refl, sym, ap, ◌∙◌, subst, T, eqb→eq}
 use lib.Dec.{eqb_refl}
 use denote.RawPtr.{Ptr, block_ptr, null_ptr}
-use Rattle.concurrent_lru.specs.Cells.{Cell, cell, cell_at, put_at, same_ptr, next_slot, ptr_in, slot_at, write_to, IsApartFrom, AreApart}
+use Rattle.concurrent_lru.specs.Cells.{Cell, cell, cell_at, put_at, same_ptr, next_slot, ptr_in, slot_at, write_to, AtFirst, IsApartFrom, AreApart}
 
 -- ---- pointers
 holds_true : (b : Bool) → T b → b ≡ true
@@ -65,6 +65,13 @@ ptr_beyond T A zero = refl
 ptr_beyond T A (suc slot) = refl
 
 module _ {T A : Type 0} where
+  -- the value in the first slot of a pointer is the one that it leads to
+  pub first_value : (cells : List (Option (Cell T A))) (p : Ptr) (slot : ℕ) (c : Cell T A) → slot_at cells p ≡ Some slot → cell_at cells slot ≡ Some c → AtFirst cells p (λ _ d. c.value ≡ d.value)
+  first_value cells p slot c at is again other at_again is_other =
+      let slots : Some slot ≡ Some again = sym at ∙ at_again in let one_slot : slot ≡ again = cc in
+      let same : Some c ≡ Some other = sym is ∙ ap (cell_at cells) one_slot ∙ is_other in let one : c ≡ other = cc in
+      ap (λ (k : Cell T A). k.value) one
+
   -- the value at the first slot lies there
   pub value_at_slot : (cells : List (Option (Cell T A))) (p : Ptr) (slot : ℕ) → slot_at cells p ≡ Some slot → (c : Cell T A) × (cell_at cells slot ≡ Some c) × (c.at ≡ p)
   value_at_slot [] p slot e = cc

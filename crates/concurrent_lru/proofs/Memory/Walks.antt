@@ -5,9 +5,13 @@ use mathlib.Core.List.{List, [], ◌∷◌, ◌++◌}
 use seplogic.Ra.Ura.{Ura}
 use base.Logic.{SProp, ent, sep, emp, via, fst∗, snd∗}
 use base.Fml.{Fml, Lft}
+use mir.Syntax.{Callee, Fn}
+use prog.Model.{Model}
+use prog.Wp.{Closed, WpFn}
 use mir.Val.{Val, vstruct, vcons, vnil, of_list}
 use types.Logic.{Logic, sem}
 use contract.Monad.{fact, fact_i, fact_use}
+use contract.Running.{MachineTables, Running, tables}
 use types.Kit.{Item, Goal, Seq, Step, step, mean, prop, ‵, raw, ◌⊛◌, ◌$◌, ◌∵◌, !, qed, move, keep, drop, use0, use1, use2, split, frame, fsplit, fjoin, fjoin3, fpick, fpack, feq_i, feq_l, done}
 use denote.RattleType.{RattleType, Valss}
 use denote.RawPtr.{Ptr, RawPtr, ptr_val}
@@ -17,6 +21,11 @@ use denote.Struct.Lending.{lent_at}
 use denote.Struct.Struct.{Shape, Struct, within}
 use denote.Struct.Owning.{shape}
 use denote.Struct.Tuple.{Tuple}
+use denote.Triple.Carry.{grown, spared}
+use denote.Triple.Clauses.{Clauses, Ended, closing}
+use denote.Triple.Spec.{Meets, triple_of}
+use denote.Triple.Statement.{Triple}
+use denote.Triple.Table.{entered, run_framed}
 use Rattle.std.specs.Prelude.{Option, Some, None}
 use Rattle.std_alloc.proofs.BoxSteps.Form.{Bx, R, P}
 use Rattle.std_alloc.proofs.RcSteps.{word}
@@ -115,3 +124,12 @@ module _ (E : Bx) {M : Type 1} {𝓤 : Ura M} (𝓛 : Logic 𝓤) where
   cell_seen κ (x ∷ cs) zero c e =
       subst (λ (y : Option (One E)). ent 𝓤 (sem 𝓛 (cells_lent (R E) (P E) (y ∷ cs) κ)) (sem 𝓛 (lent_at (R E) c.at c.value κ))) (sym e) (fst∗ 𝓤 (sem 𝓛 (lent_at (R E) c.at c.value κ)) (sem 𝓛 (cells_lent (R E) (P E) cs κ)))
   cell_seen κ (x ∷ cs) (suc k) c e = via 𝓤 _ (snd∗ 𝓤 (sem 𝓛 (cell_lent (R E) (P E) x κ)) (sem 𝓛 (cells_lent (R E) (P E) cs κ))) (cell_seen κ cs k c e)
+
+module _ {M : Type 1} {𝓤 : Ura M} (𝓛 : Logic 𝓤) (𝓜 : Model 𝓤 𝓛.H) (𝓡 : Running 𝓤 𝓛.H 𝓜) (E : Bx) (T : Ended) (c : Clauses 𝓤 T) where
+  abbrev 𝓣 : MachineTables 𝓤 𝓛.H 𝓜
+  𝓣 = tables 𝓤 𝓛.H 𝓜 𝓡 𝓡.env
+
+  -- a method whose body meets its clauses meets them within the lifetimes of its types
+  pub meets_grown : (k : Callee) (e : Fn) → Closed 𝓤 𝓛.H 𝓣.C 𝓣.Λ k e → Meets 𝓛 T.signature (WpFn 𝓤 𝓛.H 𝓣.C 𝓣.Λ e) (closing 𝓛 T c) → Triple 𝓤 (𝓡.run (𝓡.env k)) (grown 𝓛 T.signature 2 (E.row.lives, (E.al.row.lives, tt)) (closing 𝓛 T c))
+  meets_grown k e closed met =
+      spared 𝓛 T.signature (𝓡.run (𝓡.env k)) (run_framed 𝓤 𝓛.H 𝓜 𝓡 (𝓡.env k)) 2 (E.row.lives, (E.al.row.lives, tt)) (closing 𝓛 T c) (entered 𝓤 𝓛.H (triple_of 𝓛 T.signature (closing 𝓛 T c)) 𝓣.C 𝓣.Λ k e closed met)

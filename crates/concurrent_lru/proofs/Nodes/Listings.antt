@@ -9,7 +9,7 @@ use Rattle.concurrent_lru.specs.NodeTable.{Entry, entry_of, hash_of}
 use Rattle.concurrent_lru.specs.Probing.Entries.{entry, Has, Holds, IsSame, Adds, Removes}
 use Rattle.concurrent_lru.specs.Probing.OpenTable.{mark_of}
 use Rattle.concurrent_lru.specs.Relinks.{NodeCell, NodeCells, place_of}
-use Rattle.concurrent_lru.specs.SlotPointers.{IsTied, cells_of, place_in, KeepsOthers}
+use Rattle.concurrent_lru.specs.SlotPointers.{IsTied, cells_of, place_in, HasNode, KeepsOthers}
 use Rattle.concurrent_lru.specs.SlotTable.{entry_in}
 use Rattle.concurrent_lru.specs.declared.node_table.Node.{Node}
 use Rattle.concurrent_lru.specs.declared.node_table.memory.At.{At}
@@ -168,6 +168,10 @@ module _ {K V : Type 0} where
   -- the pointers stay in step whatever the table has
   pub tied_unlisted : (s t : Slots K V) → t ≡ record s { by_hash = t.by_hash } → IsTied s → IsTied t
   tied_unlisted s t rest tied = subst IsTied (sym rest) (record { pointers = tied.pointers; apart = tied.apart; placed = tied.placed })
+
+  -- and a node stays in its slot
+  pub unlisted : (s t : Slots K V) (slot : ℕ) → t ≡ record s { by_hash = t.by_hash } → IsTied s → HasNode s slot → record { tied : IsTied t; present : HasNode t slot }
+  unlisted s t slot rest tied there = record { tied = tied_unlisted s t rest tied; present = subst (λ x. HasNode x slot) (sym rest) there }
 
   -- a node that was put in
   pub put_listed : (x : Option (NodeCell K V)) (n : Node K V) (at : At (Node K V)) → entry_in x ≡ Some (entry_of n) → hash_in x ≡ Some (hash_of n) → ptr_in x ≡ Some at.ptr → (entry_of n).detached ≡ false → listing_in x ≡ Some (entry (mark_of (hash_of n)) at)

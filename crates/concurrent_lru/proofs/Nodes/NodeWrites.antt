@@ -1,5 +1,5 @@
 -- A node written through its pointer, as the cells that it leaves.
-use Rattle.std.proofs.Common.{◌≡◌, ℕ, Option, Some, None, IsSome, refl, sym, ap, ◌∙◌, subst}
+use Rattle.std.proofs.Common.{◌≡◌, ◌≢◌, ℕ, Option, Some, None, IsSome, refl, sym, ap, ◌∙◌, subst}
 use denote.RawPtr.{Ptr}
 use Rattle.concurrent_lru.specs.Cells.{cell, cell_at, put_at, slot_at, write_to, AtFirst, AtSlot, OfSlot}
 use Rattle.concurrent_lru.specs.NodeTable.{Entry, entry_of}
@@ -21,6 +21,9 @@ module _ {K V : Type 0} where
   pub then_writes : (s t u : Slots K V) → OnlyLooksAndWrites s t → OnlyLooksAndWrites t u → OnlyLooksAndWrites s u
   then_writes s t u e f = f ∙ ap (λ (x : Slots K V). record x { memory = u.memory; looks = u.looks }) e
 
+  pub looked_and_wrote : (s t u : Slots K V) → t ≡ record s { looks = t.looks } → OnlyWrites t u → OnlyLooksAndWrites s u
+  looked_and_wrote s t u e f = then_writes s t u (only_looked s t e) (only_wrote t u f)
+
 -- the node at p, which is now, is written to new
 module _ {K V : Type 0} (cs : NodeCells K V) (p : Ptr) (now new : Node K V) (value : AtFirst cs p (λ _ c. now ≡ c.value)) where
   module _ (k : ℕ) (at : slot_at cs p ≡ Some k) where
@@ -30,30 +33,24 @@ module _ {K V : Type 0} (cs : NodeCells K V) (p : Ptr) (now new : Node K V) (val
     same : now ≡ there.0.value
     same = value k there.0 at there.1
 
-    put : write_to p new cs ≡ put_at k (Some (cell there.0.at there.0.alloc new)) cs
+    -- the cell that is there then, and the others
+    abbrev written : NodeCell K V
+    written = cell there.0.at there.0.alloc new
+
+    put : write_to p new cs ≡ put_at k (Some written) cs
     put = write_is_put cs p new k there.0 at there.1
 
+    written_there : cell_at (write_to p new cs) k ≡ Some written
+    written_there = ap (λ l. cell_at l k) put ∙ put_same k (Some written) cs
+
+    others_same : (j : ℕ) → j ≢ k → cell_at (write_to p new cs) j ≡ cell_at cs j
+    others_same j ne = ap (λ l. cell_at l j) put ∙ put_other k j (Some written) cs ne
+
     relinked_at : (b a : Option Ptr) → IsRelinked now new b a → Relinks cs (write_to p new cs) k b a
-    relinked_at b a r = record {
-      others = λ j ne. ap (λ l. cell_at l j) put ∙ put_other k j (Some (cell there.0.at there.0.alloc new)) cs ne;
-      old = there.0;
-      new = cell there.0.at there.0.alloc new;
-      was = there.1;
-      now = ap (λ l. cell_at l k) put ∙ put_same k (Some (cell there.0.at there.0.alloc new)) cs;
-      at = refl;
-      node = subst (λ n. IsRelinked n new b a) same r;
-    }
+    relinked_at b a r = record { others = others_same; old = there.0; new = written; was = there.1; now = written_there; at = refl; node = subst (λ n. IsRelinked n new b a) same r }
 
     revalued_at : (f : Entry K V → Entry K V) → IsRevalued now new (f (entry_of now)) → Revalues cs (write_to p new cs) k f
-    revalued_at f r = record {
-      others = λ j ne. ap (λ l. cell_at l j) put ∙ put_other k j (Some (cell there.0.at there.0.alloc new)) cs ne;
-      old = there.0;
-      new = cell there.0.at there.0.alloc new;
-      was = there.1;
-      now = ap (λ l. cell_at l k) put ∙ put_same k (Some (cell there.0.at there.0.alloc new)) cs;
-      at = refl;
-      node = subst (λ n. IsRevalued n new (f (entry_of n))) same r;
-    }
+    revalued_at f r = record { others = others_same; old = there.0; new = written; was = there.1; now = written_there; at = refl; node = subst (λ n. IsRevalued n new (f (entry_of n))) same r }
 
     -- its links are those that the cells tell
     was_before : before_link now ≡ before_at cs k

@@ -24,7 +24,7 @@ module _ {K V : Type 0} where
       record { entry = entry_there o w v e k p there.0 is there.1 ∙ ap (λ m. Some (entry_of m)) (sym same); alone = ap chain_of same ∙ subst IsEnd there.1 (linked.ends k) }
 
   -- Where the nodes and the idle ones changed by f and h at a slot, they did so at its place. The
-  -- order was written more times.
+  -- order was written `more` times.
   pub shown_relinked : (o q : Order K V) (w more : ℕ) {after : ℕ} {v : NodeTable K V} {k p : ℕ} (f : FinMap nat_cmp (Entry K V) → ℕ → FinMap nat_cmp (Entry K V)) (h : List ℕ → ℕ → List ℕ) → node_table_of o w ≡ v → k ≡ p
       → nodes_of q ≡ f (nodes_of o) k → idle_of q ≡ h (idle_of o) k → OnlyLooksAndWrites o.slots q.slots → KeepsListings (cells_of o.slots) (cells_of q.slots) → q.slots.looks.count ≡ o.slots.looks.count + 1 → after ≡ w + more
       → record { nodes : nodes_of q ≡ f v.nodes p; hashes : hashes_of q ≡ v.hashes; idle : idle_of q ≡ h v.idle p; spare : v.spare ≤ spare_of q.slots; work : after ≡ v.work + more; looks : q.slots.looks.count ≤ v.looks + 1 }

@@ -3,15 +3,16 @@ use Rattle.std.proofs.Common.{◌≡◌, ◌≢◌, ◌⊎◌, ℕ, List, [], �
 use Rattle.std.proofs.lemmas.Bool.{cases_eq, eq-eqb, ne_eqb}
 use denote.RawPtr.{Ptr}
 use Rattle.concurrent_lru.specs.declared.node_table.links.Order.{Order}
-use Rattle.concurrent_lru.specs.Cells.{cell_at}
+use Rattle.concurrent_lru.specs.declared.node_table.slots.Slots.{Slots}
+use Rattle.concurrent_lru.specs.Cells.{cell_at, slot_at}
 use Rattle.concurrent_lru.specs.Order.{Link, link, first_or, last_or, Absent, Distinct, IsOrder}
 use Rattle.concurrent_lru.specs.Relinks.{NodeCell, NodeCells, Relinks, Unlinks, LeftJoined, RightJoined, slot_in, before_at, after_at}
-use Rattle.concurrent_lru.specs.SlotPointers.{cells_of, HasNode}
-use Rattle.concurrent_lru.specs.SlotTable.{link_of, link_at, nodes_of, idle_of, idle_without, IsGood, IsGoodAt, AreGood, IsWellLinked, Lists}
+use Rattle.concurrent_lru.specs.SlotPointers.{cells_of, HasNode, IsTied, LeadsTo}
+use Rattle.concurrent_lru.specs.SlotTable.{link_of, link_at, nodes_of, idle_of, idle_without, IsGood, IsGoodAt, AreGood, IsWellLinked, Lists, ListsLink, LosesLink}
 use Rattle.concurrent_lru.proofs.Entries.NodesOfSetAndAdd.{around}
 use Rattle.concurrent_lru.proofs.Lists.Members.{IsIn}
 use Rattle.concurrent_lru.proofs.Order.Links.{absent_both, order_cut, oldest_without, newest_without, linked_at, apart_middle}
-use Rattle.concurrent_lru.proofs.Order.Appending.{Quiet, quiet, quiet_trans, link_there, link_else, before_there, before_else, after_there, after_else, good_kept, are_good, read, link_told_at, link_kept, quiet_same, tied_kept, entries_kept}
+use Rattle.concurrent_lru.proofs.Order.Appending.{table_looked, Quiet, quiet, quiet_trans, link_there, link_else, before_there, before_else, after_there, after_else, good_kept, are_good, read, link_told_at, link_kept, quiet_same, tied_kept, entries_kept}
 
 cut_at : (ks : List ℕ) (k : ℕ) → IsIn k ks → (xs : List ℕ) × (ys : List ℕ) × (ks ≡ xs ++ k ∷ ys)
 cut_at ks k m = let w = around ks k m in (w.front, w.back, w.whole)
@@ -252,3 +253,10 @@ module _ {K V : Type 0} where
   present_in o k kept there =
       let cs = cells_of o.slots in let w = cut_at (idle_of o) k there in
       linked_present cs k _ (linked_at (link_at cs) None (idle_of o) None k w.0 w.1 w.2 kept.ordered.linked)
+
+  -- what is idle and looked up may be cut, and what is left then
+  pub looked_up : (o : Order K V) (t : Slots K V) (p : Ptr) {k : ℕ} → t ≡ record o.slots { looks = t.looks } → IsTied t → IsWellLinked o → LeadsTo o.slots p k → Lists o k → record { linked : IsWellLinked (record o { slots = t }); idle : ListsLink (record o { slots = t }) p }
+  looked_up o t p {k} rest tied kept link there = record { linked = table_looked o t rest tied kept; idle = (k, ap (λ l. slot_at l p) (ap cells_of rest) ∙ link, subst (λ s. Lists (record o { slots = s }) k) (sym rest) there) }
+
+  pub left_idle : (o : Order K V) (t : Slots K V) (q : Order K V) (p : Ptr) {k : ℕ} → t ≡ record o.slots { looks = t.looks } → LeadsTo o.slots p k → LosesLink (record o { slots = t }) q p → idle_of q ≡ idle_without o k
+  left_idle o t q p {k} rest link loses = loses k (ap (λ l. slot_at l p) (ap cells_of rest) ∙ link) ∙ ap (λ s. idle_without (record o { slots = s }) k) rest

@@ -26,24 +26,23 @@ module _ (ms : List ℕ) where
     apart : (at : ℕ) → IsFilledAt ms at → e ≢ at
     apart at h is = h (ap (mark_at ms) (sym is) ∙ empty)
 
-    -- enough steps to come to the empty slot are enough
-    run_more : (more at : ℕ) → at < length ms → steps (length ms) at e < more → run (suc more) ms at ≡ run more ms at
-    run_more zero at lt h = absurd (omega arith)
-    run_more (suc more) at lt h = elim (cases_eq (mark_at ms at) 0) [
-      | inl is ↦ run_empty (suc (suc more)) at is ∙ sym (run_empty (suc more) at is)
+    -- what goes on at filled slots and stops at empty ones has enough steps with those that come to
+    -- an empty slot
+    enough : {X : Type 0} (f : ℕ → ℕ → X) (stop : ℕ → X) (go : ℕ → X → X) → ((more at : ℕ) → IsEmptyAt ms at → f more at ≡ stop at) → ((more at : ℕ) → IsFilledAt ms at → f (suc more) at ≡ go at (f more (next_of (length ms) at)))
+        → (more at : ℕ) → at < length ms → steps (length ms) at e < more → f (suc more) at ≡ f more at
+    enough f stop go stops goes zero at lt h = absurd (omega arith)
+    enough f stop go stops goes (suc more) at lt h = elim (cases_eq (mark_at ms at) 0) [
+      | inl is ↦ stops (suc (suc more)) at is ∙ sym (stops (suc more) at is)
       | inr ne ↦
           let step : steps (length ms) (next_of (length ms) at) e + 1 ≡ steps (length ms) at e = steps_from_next (length ms) at e lt within (apart at ne) in
-          run_filled (suc more) at ne ∙ ap (λ l. at ∷ l) (run_more more (next_of (length ms) at) (next_within (length ms) at lt) (omega arith)) ∙ sym (run_filled more at ne)
+          goes (suc more) at ne ∙ ap (go at) (enough f stop go stops goes more (next_of (length ms) at) (next_within (length ms) at lt) (omega arith)) ∙ sym (goes more at ne)
     ]
 
+    run_more : (more at : ℕ) → at < length ms → steps (length ms) at e < more → run (suc more) ms at ≡ run more ms at
+    run_more = enough (λ n at. run n ms at) (λ at. []) (λ at l. at ∷ l) run_empty run_filled
+
     end_more : (more at : ℕ) → at < length ms → steps (length ms) at e < more → end (suc more) ms at ≡ end more ms at
-    end_more zero at lt h = absurd (omega arith)
-    end_more (suc more) at lt h = elim (cases_eq (mark_at ms at) 0) [
-      | inl is ↦ end_empty (suc (suc more)) at is ∙ sym (end_empty (suc more) at is)
-      | inr ne ↦
-          let step : steps (length ms) (next_of (length ms) at) e + 1 ≡ steps (length ms) at e = steps_from_next (length ms) at e lt within (apart at ne) in
-          end_filled (suc more) at ne ∙ end_more more (next_of (length ms) at) (next_within (length ms) at lt) (omega arith) ∙ sym (end_filled more at ne)
-    ]
+    end_more = enough (λ n at. end n ms at) (λ at. at) (λ at n. n) end_empty end_filled
 
     step_on : (n at : ℕ) → length ms ≡ suc n → at < length ms → IsFilledAt ms at → (run_at ms at ≡ at ∷ run_at ms (next_of (length ms) at)) × (end_at ms at ≡ end_at ms (next_of (length ms) at))
     step_on n at long lt h =

@@ -12,7 +12,7 @@ use Rattle.concurrent_lru.specs.NodeTable.{Entry, NodeTable}
 use Rattle.concurrent_lru.specs.Representation.{IsRepresentation, held_entry, held_charges, cache_in, as_idle, idle_at_place}
 use Rattle.concurrent_lru.proofs.Lists.Members.{IsIn, in_self, in_tail, not_self, filter_map-mid}
 use Rattle.concurrent_lru.proofs.Lists.DistinctNumbers.{distinct_parts}
-use Rattle.concurrent_lru.proofs.Entries.NodesOfSetAndAdd.{around, held_in-get, held_in-found, inserted_at, inserted_other}
+use Rattle.concurrent_lru.proofs.Entries.NodesOfSetAndAdd.{around, held_in-get, held_in-found, inserted_at, inserted_cases, inserted_other}
 use Rattle.concurrent_lru.proofs.Steps.LawfulAfterChange.{IsOrderly, orderly, settles_lawful}
 use Rattle.concurrent_lru.proofs.Entries.SumsOfHeld.{sum-insert}
 
@@ -123,15 +123,19 @@ module _ {K V : Type 0} where
       (lacks table e.stamp w.front (λ q k. ap (list_any (eqb q)) w.whole ∙ Rattle.concurrent_lru.proofs.Lists.Members.in_left q w.front (p ∷ w.back) k) (λ q y k h s. true≢false (sym (eq-eqb q p (r.stamps q p y e h at s)) ∙ not_self q p w.front parts.0 k)) places r)
       (eq-eqb e.stamp e.stamp refl)
 
+  -- and it is idle if it has no pins
+  resting_idle : (capacity most next : ℕ) (table : NodeTable K V) (places : List ℕ) (p : ℕ) (e : Entry K V) → IsRepresentation table places → finmap.get table.nodes p ≡ Some e → e.pins ≡ 0 → (v : V) × (idle_at (cache_in capacity most next table places) e.stamp ≡ Some (record { stamp = e.stamp; key = e.key; charge = e.charge; value = v }))
+  resting_idle capacity most next table places p e r at none =
+      let m = r.resting p e at none in
+      let w = r.idle_ready p m in
+      let same : w.0 ≡ e = same_Some _ _ (sym w.2 ∙ at) in
+      (w.1, idle_in-get capacity most next table places p e w.1 r at m (ap (λ y. y.phase) (sym same) ∙ w.4))
+
   -- a node is an entry of the cache
   pub node_entry : (capacity most next : ℕ) (table : NodeTable K V) (places : List ℕ) (p : ℕ) (e : Entry K V) → IsRepresentation table places → finmap.get table.nodes p ≡ Some e → IsEntry (cache_in capacity most next table places) e.stamp e.key e.charge
   node_entry capacity most next table places p e r at =
       elim (e.pins == 0) as (λ b. (e.pins == 0) ≡ b → IsEntry (cache_in capacity most next table places) e.stamp e.key e.charge) [
-        | true ↦ λ b.
-            let m = r.resting p e at (eqb-true e.pins 0 b) in
-            let w = r.idle_ready p m in
-            let same : w.0 ≡ e = same_Some _ _ (sym w.2 ∙ at) in
-            inl (record { stamp = e.stamp; key = e.key; charge = e.charge; value = w.1 }, idle_in-get capacity most next table places p e w.1 r at m (ap (λ y. y.phase) (sym same) ∙ w.4), refl, refl)
+        | true ↦ λ b. let i = resting_idle capacity most next table places p e r at (eqb-true e.pins 0 b) in inl (record { stamp = e.stamp; key = e.key; charge = e.charge; value = i.0 }, i.1, refl, refl)
         | false ↦ λ b. inr (held_entry e, held_in-get table places p e r at b, refl, refl)
       ] refl
 
@@ -139,11 +143,7 @@ module _ {K V : Type 0} where
   pub node_found : (capacity most next : ℕ) (table : NodeTable K V) (places : List ℕ) (p : ℕ) (e : Entry K V) → IsRepresentation table places → finmap.get table.nodes p ≡ Some e → e.detached ≡ false → IsFound (cache_in capacity most next table places) e.stamp e.key e.charge
   node_found capacity most next table places p e r at found =
       elim (e.pins == 0) as (λ b. (e.pins == 0) ≡ b → IsFound (cache_in capacity most next table places) e.stamp e.key e.charge) [
-        | true ↦ λ b.
-            let m = r.resting p e at (eqb-true e.pins 0 b) in
-            let w = r.idle_ready p m in
-            let same : w.0 ≡ e = same_Some _ _ (sym w.2 ∙ at) in
-            inl (record { stamp = e.stamp; key = e.key; charge = e.charge; value = w.1 }, idle_in-get capacity most next table places p e w.1 r at m (ap (λ y. y.phase) (sym same) ∙ w.4), refl, refl)
+        | true ↦ λ b. let i = resting_idle capacity most next table places p e r at (eqb-true e.pins 0 b) in inl (record { stamp = e.stamp; key = e.key; charge = e.charge; value = i.0 }, i.1, refl, refl)
         | false ↦ λ b. inr (held_entry e, held_in-get table places p e r at b, refl, refl, found)
       ] refl
 
@@ -160,25 +160,19 @@ module _ {K V : Type 0} where
   made_entry : (c : Cache K V) (copy : K) (charge s : ℕ) (k : K) (m : ℕ) → IsEntry (with_new_entry c copy charge) s k m → (IsEntry c s k m) ⊎ ((s ≡ c.next) × (copy ≡ k) × (charge ≡ m))
   made_entry c copy charge s k m e = elim e [
     | inl i ↦ inl (inl i)
-    | inr h ↦ elim (eqb s c.next) as (λ b. eqb s c.next ≡ b → (IsEntry c s k m) ⊎ ((s ≡ c.next) × (copy ≡ k) × (charge ≡ m))) [
-      | true ↦ λ b.
-          let here : s ≡ c.next = eqb-true s c.next b in
-          let is = same_Some _ _ (sym (inserted_at c.held c.next (record { key = copy; charge = charge; pins = 1; detached = false; phase = making })) ∙ ap (finmap.get (finmap.insert c.held c.next (record { key = copy; charge = charge; pins = 1; detached = false; phase = making }))) (sym here) ∙ h.1) in
-          inr (here, ap (λ x. x.key) is ∙ h.2, ap (λ x. x.charge) is ∙ h.3)
-      | false ↦ λ b. inl (inr (h.0, sym (inserted_other c.held c.next s (record { key = copy; charge = charge; pins = 1; detached = false; phase = making }) b) ∙ h.1, h.2, h.3))
-    ] refl
+    | inr h ↦ elim (inserted_cases c.held c.next s _ h.0 h.1) [
+      | inl w ↦ inr (w.0, sym (ap (λ x. x.key) w.1) ∙ h.2, sym (ap (λ x. x.charge) w.1) ∙ h.3)
+      | inr was ↦ inl (inr (h.0, was, h.2, h.3))
+    ]
   ]
 
   made_found : (c : Cache K V) (copy : K) (charge s : ℕ) (k : K) (m : ℕ) → IsFound (with_new_entry c copy charge) s k m → (IsFound c s k m) ⊎ ((s ≡ c.next) × (copy ≡ k) × (charge ≡ m))
   made_found c copy charge s k m e = elim e [
     | inl i ↦ inl (inl i)
-    | inr h ↦ elim (eqb s c.next) as (λ b. eqb s c.next ≡ b → (IsFound c s k m) ⊎ ((s ≡ c.next) × (copy ≡ k) × (charge ≡ m))) [
-      | true ↦ λ b.
-          let here : s ≡ c.next = eqb-true s c.next b in
-          let is = same_Some _ _ (sym (inserted_at c.held c.next (record { key = copy; charge = charge; pins = 1; detached = false; phase = making })) ∙ ap (finmap.get (finmap.insert c.held c.next (record { key = copy; charge = charge; pins = 1; detached = false; phase = making }))) (sym here) ∙ h.1) in
-          inr (here, ap (λ x. x.key) is ∙ h.2, ap (λ x. x.charge) is ∙ h.3)
-      | false ↦ λ b. inl (inr (h.0, sym (inserted_other c.held c.next s (record { key = copy; charge = charge; pins = 1; detached = false; phase = making }) b) ∙ h.1, h.2, h.3, h.4))
-    ] refl
+    | inr h ↦ elim (inserted_cases c.held c.next s _ h.0 h.1) [
+      | inl w ↦ inr (w.0, sym (ap (λ x. x.key) w.1) ∙ h.2, sym (ap (λ x. x.charge) w.1) ∙ h.3)
+      | inr was ↦ inl (inr (h.0, was, h.2, h.3, h.4))
+    ]
   ]
 
   pub orderly-made : (E : K → K → Bool) (c : Cache K V) (k copy : K) (charge : ℕ) → IsEquivalence E → IsOrderly E c → IsAbsent E c k → E copy k ≡ true → 0 < charge → 0 < c.most_pins → IsOrderly E (with_new_entry c copy charge)

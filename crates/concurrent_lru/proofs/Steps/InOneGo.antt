@@ -12,7 +12,7 @@ use Rattle.concurrent_lru.specs.Reply as say
 use Rattle.concurrent_lru.specs.Results.{outcome_of_insert_by, outcome_of_read_by, outcome_of_release}
 use Rattle.concurrent_lru.specs.Runs.{Refuses, Stands}
 use Rattle.concurrent_lru.specs.StepLaws.{InsertIsThree, InsertIsRefused, ReadIsTwo}
-use Rattle.concurrent_lru.specs.Steps.{held_by_one, held_in_phase, one_more_pin, Hits, Holds, IsAbsent, Makes, Releases, Step, Stores}
+use Rattle.concurrent_lru.specs.Steps.{held_by_one, held_in_phase, one_more_pin, Hits, Holds, IsAbsent, Joins, Makes, Releases, Step, Stores}
 use Rattle.concurrent_lru.specs.declared.refusal.Refusal.{Refusal}
 use Rattle.concurrent_lru.specs.declared.refusal.Refusal.TheVariants.{Memory, Overflow, Stale, Full}
 use Rattle.concurrent_lru.specs.declared.step.Inserted.{Inserted}
@@ -78,21 +78,12 @@ module _ {K V : Type 0} (E : K → K → Bool) (laws : IsEquivalence E) (old : C
   insert_strictly_stands seen new charge v (Err e) (inr h) = (subst (λ x. Refuses E old (ask.insert_strictly k charge v) x) (sym h.1) h.0, h.2)
 
   -- and the other way round
+  refuses_once : (charge : ℕ) (e : Refusal) (mid : Cache K V) (gone : List (Idle K V)) → Step E old (ask.invalidate k) say.done gone mid → (IsAbsent E mid k → Refuses E mid (ask.begin k charge) e) → RefusesToReplace E old k charge e old
+  refuses_once charge e mid gone step refusal = record { mid = mid; replaced = gone; invalidated = step; refuses = (refusal (invalidated_absent E laws old l k mid gone step), refl); same = refl }
+
   refuses_begin : (charge : ℕ) (v : V) (e : Refusal) → Refuses E old (ask.insert k charge v) e → RefusesToReplace E old k charge e old
-  refuses_begin charge v Overflow h = record {
-    mid = h.0;
-    replaced = h.1;
-    invalidated = h.2;
-    refuses = (inl (invalidated_absent E laws old l k h.0 h.1 h.2, h.3), refl);
-    same = refl;
-  }
-  refuses_begin charge v Memory h = record {
-    mid = h.0;
-    replaced = h.1;
-    invalidated = h.2;
-    refuses = (inl (invalidated_absent E laws old l k h.0 h.1 h.2, h.3), refl);
-    same = refl;
-  }
+  refuses_begin charge v Overflow h = refuses_once charge Overflow h.0 h.1 h.2 (λ absent. inl (absent, h.3))
+  refuses_begin charge v Memory h = refuses_once charge Memory h.0 h.1 h.2 (λ absent. inl (absent, h.3))
   refuses_begin charge v Stale h = absurd h
   refuses_begin charge v Full h = absurd h
 
@@ -127,22 +118,21 @@ module _ {K V : Type 0} (E : K → K → Bool) (old mid : Cache K V) (l : IsLawf
   none_leave c new [] settles fits = refl
   none_leave c new (x ∷ out) settles fits = absurd (settles.front.shortest [] c.idle refl (omega arith) (inl (omega (arith, fits))))
 
+  -- an entry that was held before the hit has another pin
+  not_last : Joins E old k s (ready v) (ready v) [] mid → (e : Held K V) → held_at mid s ≡ Some e → e.pins ≡ 1 → ⊥
+  unfolding hit_holds
+  not_last j e at last =
+      let is = same_entry E mid s e (held_in_phase (ready v) (one_more_pin j.entry)) at (hit_holds (inl j)).1.at in
+      let pins : e.pins ≡ j.entry.pins + 1 = ap (λ x. x.pins) is in
+      let some : 0 < j.entry.pins = (l.pinned s j.entry j.holds.at).0 in
+      omega (arith, pins, some, last)
+
   -- where the hit is given back at once, nothing is evicted
   gives_back : (new : Cache K V) (out : List (Idle K V)) → Hits E old k s v [] mid → Releases E mid s out new → out ≡ []
   unfolding hit_holds
   gives_back new out hit (inl left) = left.1.none
-  gives_back new out (inl j) (inr (inl r)) =
-      let is = same_entry E mid s r.entry (held_in_phase (ready v) (one_more_pin j.entry)) r.holds.at (hit_holds (inl j)).1.at in
-      let pins : r.entry.pins ≡ j.entry.pins + 1 = ap (λ e. e.pins) is in
-      let some : 0 < j.entry.pins = (l.pinned s j.entry j.holds.at).0 in
-      let last : r.entry.pins ≡ 1 = r.last in
-      absurd (omega (arith, pins, some, last))
-  gives_back new out (inl j) (inr (inr r)) =
-      let is = same_entry E mid s r.entry (held_in_phase (ready v) (one_more_pin j.entry)) r.holds.at (hit_holds (inl j)).1.at in
-      let pins : r.entry.pins ≡ j.entry.pins + 1 = ap (λ e. e.pins) is in
-      let some : 0 < j.entry.pins = (l.pinned s j.entry j.holds.at).0 in
-      let last : r.entry.pins ≡ 1 = r.last in
-      absurd (omega (arith, pins, some, last))
+  gives_back new out (inl j) (inr (inl r)) = absurd (not_last j r.entry r.holds.at r.last)
+  gives_back new out (inl j) (inr (inr r)) = absurd (not_last j r.entry r.holds.at r.last)
   gives_back new out (inr h) (inr (inl r)) =
       let sums = hit_size {E = E} old mid k s v [] l (inr h) in
       let a : sum_of mid + 0 ≡ sum_of old + 0 = sums.charge in

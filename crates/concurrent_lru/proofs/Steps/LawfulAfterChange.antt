@@ -4,13 +4,13 @@ use Rattle.std.specs.List.{find, IsDistinct, AllByRecursion}
 use Rattle.std.specs.Cmp.{nat_eq_equiv}
 use Rattle.std.specs.FinMap as finmap
 use Rattle.std.proofs.lemmas.Bool.{eqb-true}
-use Rattle.std.proofs.lemmas.Option.{none-some, same_Some}
+use Rattle.std.proofs.lemmas.Option.{none-some}
 use Rattle.std.proofs.lemmas.List.{map-append}
 use Rattle.std.proofs.lemmas.List.Sums.{sum_by-append}
 use Rattle.concurrent_lru.specs.Cache.{Cache, Idle, Held, IsEntry, IsLawful, Settles, IsFound, idle_at, held_at, sum_of, charges}
 use Rattle.concurrent_lru.specs.Steps.{with_capacity, with_held}
 use Rattle.concurrent_lru.specs.Representation.{held_charges}
-use Rattle.concurrent_lru.proofs.Entries.NodesOfSetAndAdd.{inserted_at, inserted_other}
+use Rattle.concurrent_lru.proofs.Entries.NodesOfSetAndAdd.{inserted_cases, inserted_other}
 use Rattle.concurrent_lru.proofs.Entries.SumsOfHeld.{sum-change}
 
 distinct_rest : (a b : List ℕ) → IsDistinct eqb (a ++ b) → IsDistinct eqb b
@@ -52,35 +52,27 @@ module _ {K V : Type 0} where
   orderly-with_held E c s e f o at key charge found low high = orderly_fewer E c (with_held c s f) o
       (λ t k m a. elim a [
         | inl i ↦ inl i
-        | inr h ↦ elim (eqb t s) as (λ b. eqb t s ≡ b → IsEntry c t k m) [
-          | true ↦ λ b.
-              let here : t ≡ s = eqb-true t s b in
-              let is : h.0 ≡ f = same_Some _ _ (sym h.1 ∙ ap (finmap.get (finmap.insert c.held s f)) here ∙ inserted_at c.held s f) in
-              inr (e, ap (finmap.get c.held) here ∙ at, sym (ap (λ x. x.key) is ∙ key) ∙ h.2, sym (ap (λ x. x.charge) is ∙ charge) ∙ h.3)
-          | false ↦ λ b. inr (h.0, sym (inserted_other c.held s t f b) ∙ h.1, h.2, h.3)
-        ] refl
+        | inr h ↦ elim (inserted_cases c.held s t f h.0 h.1) [
+          | inl w ↦ inr (e, ap (finmap.get c.held) w.0 ∙ at, sym (ap (λ x. x.key) w.1 ∙ key) ∙ h.2, sym (ap (λ x. x.charge) w.1 ∙ charge) ∙ h.3)
+          | inr was ↦ inr (h.0, was, h.2, h.3)
+        ]
       ])
       (λ t k m a. elim a [
         | inl i ↦ inl i
-        | inr h ↦ elim (eqb t s) as (λ b. eqb t s ≡ b → IsFound c t k m) [
-          | true ↦ λ b.
-              let here : t ≡ s = eqb-true t s b in
-              let is : h.0 ≡ f = same_Some _ _ (sym h.1 ∙ ap (finmap.get (finmap.insert c.held s f)) here ∙ inserted_at c.held s f) in
-              inr (e, ap (finmap.get c.held) here ∙ at, sym (ap (λ x. x.key) is ∙ key) ∙ h.2, sym (ap (λ x. x.charge) is ∙ charge) ∙ h.3, found (sym (ap (λ x. x.detached) is) ∙ h.4))
-          | false ↦ λ b. inr (h.0, sym (inserted_other c.held s t f b) ∙ h.1, h.2, h.3, h.4)
-        ] refl
+        | inr h ↦ elim (inserted_cases c.held s t f h.0 h.1) [
+          | inl w ↦ inr (e, ap (finmap.get c.held) w.0 ∙ at, sym (ap (λ x. x.key) w.1 ∙ key) ∙ h.2, sym (ap (λ x. x.charge) w.1 ∙ charge) ∙ h.3, found (sym (ap (λ x. x.detached) w.1) ∙ h.4))
+          | inr was ↦ inr (h.0, was, h.2, h.3, h.4)
+        ]
       ])
       refl o.idle_apart
       (λ t x i. elim (eqb t s) as (λ b. eqb t s ≡ b → held_at (with_held c s f) t ≡ None) [
         | true ↦ λ b. absurd (none-some e (sym (o.held_apart t x i) ∙ ap (finmap.get c.held) (eqb-true t s b) ∙ at))
         | false ↦ λ b. inserted_other c.held s t f b ∙ o.held_apart t x i
       ] refl)
-      (λ t x h. elim (eqb t s) as (λ b. eqb t s ≡ b → (0 < x.pins) × (x.pins ≤ c.most_pins)) [
-        | true ↦ λ b.
-            let is : x ≡ f = same_Some _ _ (sym h ∙ ap (finmap.get (finmap.insert c.held s f)) (eqb-true t s b) ∙ inserted_at c.held s f) in
-            subst (λ y. (0 < y.pins) × (y.pins ≤ c.most_pins)) (sym is) (low, high)
-        | false ↦ λ b. o.pinned t x (sym (inserted_other c.held s t f b) ∙ h)
-      ] refl)
+      (λ t x h. elim (inserted_cases c.held s t f x h) [
+        | inl w ↦ subst (λ y. (0 < y.pins) × (y.pins ≤ c.most_pins)) (sym w.1) (low, high)
+        | inr was ↦ o.pinned t x was
+      ])
 
   -- and so is the sum
   pub sum-with_held : (c : Cache K V) (s : ℕ) (e f : Held K V) → held_at c s ≡ Some e → f.charge ≡ e.charge → sum_of (with_held c s f) ≡ sum_of c

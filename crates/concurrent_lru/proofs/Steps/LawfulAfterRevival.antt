@@ -1,14 +1,14 @@
 -- An idle entry that is held again: what every cache keeps is kept.
-use Rattle.std.proofs.Common.{◌≡◌, ℕ, ◌+◌, ◌<◌, ◌≤◌, ◌^◌, inl, inr, Bool, true, false, cond, not, List, [], ◌∷◌, map, Some, refl, sym, ap, ◌∙◌, subst, arith, eqb, ◌==◌}
+use Rattle.std.proofs.Common.{◌≡◌, ℕ, ◌+◌, ◌<◌, ◌^◌, inl, inr, Bool, true, false, cond, not, List, [], ◌∷◌, map, Some, refl, sym, ap, ◌∙◌, subst, arith, eqb, ◌==◌}
 use Rattle.std.specs.List.{find, filter, IsDistinct, AllByRecursion}
 use Rattle.std.specs.FinMap as finmap
 use Rattle.std.specs.Cmp.{nat_eq_equiv}
 use Rattle.std.proofs.lemmas.Bool.{eqb-true, eq-eqb, true≢false}
 use Rattle.std.proofs.lemmas.Option.{none-some, same_Some}
-use Rattle.concurrent_lru.specs.Cache.{Cache, Idle, IsEntry, IsFound, IsLawful, idle_at, sum_of, charges}
+use Rattle.concurrent_lru.specs.Cache.{Cache, Idle, IsLawful, idle_at, sum_of, charges}
 use Rattle.concurrent_lru.specs.Steps.{with_held, without, held_by_one, Revives}
 use Rattle.concurrent_lru.specs.Representation.{held_charges}
-use Rattle.concurrent_lru.proofs.Entries.NodesOfSetAndAdd.{inserted_at, inserted_other}
+use Rattle.concurrent_lru.proofs.Entries.NodesOfSetAndAdd.{inserted_cases, inserted_other}
 use Rattle.concurrent_lru.proofs.Lists.DistinctNumbers.{IsDistinct-filter}
 use Rattle.concurrent_lru.proofs.Steps.LawfulAfterChange.{IsOrderly, orderly, orderly_fewer, lawful_from}
 use Rattle.concurrent_lru.proofs.Entries.SumsOfHeld.{sum-insert, sum_by-cons}
@@ -61,33 +61,24 @@ module _ {K V : Type 0} where
   orderly-revived E c s x o high at = orderly_fewer E c (revived c s x) o
       (λ t k m a. elim a [
         | inl i ↦ inl (i.0, (find_without s t i.0 c.idle i.1).0, i.2, i.3)
-        | inr h ↦ elim (eqb t s) as (λ b. eqb t s ≡ b → IsEntry c t k m) [
-          | true ↦ λ b.
-              let here : t ≡ s = eqb-true t s b in
-              let is : h.0 ≡ held_by_one x = same_Some _ _ (sym h.1 ∙ ap (finmap.get (finmap.insert c.held s (held_by_one x))) here ∙ inserted_at c.held s (held_by_one x)) in
-              inl (x, ap (λ u. find (λ z. z.stamp == u) c.idle) here ∙ at, sym (ap (λ y. y.key) is) ∙ h.2, sym (ap (λ y. y.charge) is) ∙ h.3)
-          | false ↦ λ b. inr (h.0, sym (inserted_other c.held s t (held_by_one x) b) ∙ h.1, h.2, h.3)
-        ] refl
+        | inr h ↦ elim (inserted_cases c.held s t (held_by_one x) h.0 h.1) [
+          | inl w ↦ inl (x, ap (λ u. find (λ z. z.stamp == u) c.idle) w.0 ∙ at, sym (ap (λ y. y.key) w.1) ∙ h.2, sym (ap (λ y. y.charge) w.1) ∙ h.3)
+          | inr was ↦ inr (h.0, was, h.2, h.3)
+        ]
       ])
       (λ t k m a. elim a [
         | inl i ↦ inl (i.0, (find_without s t i.0 c.idle i.1).0, i.2, i.3)
-        | inr h ↦ elim (eqb t s) as (λ b. eqb t s ≡ b → IsFound c t k m) [
-          | true ↦ λ b.
-              let here : t ≡ s = eqb-true t s b in
-              let is : h.0 ≡ held_by_one x = same_Some _ _ (sym h.1 ∙ ap (finmap.get (finmap.insert c.held s (held_by_one x))) here ∙ inserted_at c.held s (held_by_one x)) in
-              inl (x, ap (λ u. find (λ z. z.stamp == u) c.idle) here ∙ at, sym (ap (λ y. y.key) is) ∙ h.2, sym (ap (λ y. y.charge) is) ∙ h.3)
-          | false ↦ λ b. inr (h.0, sym (inserted_other c.held s t (held_by_one x) b) ∙ h.1, h.2, h.3, h.4)
-        ] refl
+        | inr h ↦ elim (inserted_cases c.held s t (held_by_one x) h.0 h.1) [
+          | inl w ↦ inl (x, ap (λ u. find (λ z. z.stamp == u) c.idle) w.0 ∙ at, sym (ap (λ y. y.key) w.1) ∙ h.2, sym (ap (λ y. y.charge) w.1) ∙ h.3)
+          | inr was ↦ inr (h.0, was, h.2, h.3, h.4)
+        ]
       ])
       refl (subst (IsDistinct eqb) (sym (map_without s c.idle)) (IsDistinct-filter s (map (λ x. x.stamp) c.idle) o.idle_apart))
       (λ t y i. let r = find_without s t y c.idle i in inserted_other c.held s t (held_by_one x) (Rattle.std.proofs.lemmas.Bool.ne_eqb t s r.1) ∙ o.held_apart t y r.0)
-      (λ t e h. elim (eqb t s) as (λ b. eqb t s ≡ b → (0 < e.pins) × (e.pins ≤ c.most_pins)) [
-        | true ↦ λ b.
-            let is : e ≡ held_by_one x = same_Some _ _ (sym h ∙ ap (finmap.get (finmap.insert c.held s (held_by_one x))) (eqb-true t s b) ∙ inserted_at c.held s (held_by_one x)) in
-            let one : e.pins ≡ 1 = ap (λ y. y.pins) is in
-            (omega (arith, one), omega (arith, one))
-        | false ↦ λ b. o.pinned t e (sym (inserted_other c.held s t (held_by_one x) b) ∙ h)
-      ] refl)
+      (λ t e h. elim (inserted_cases c.held s t (held_by_one x) e h) [
+        | inl w ↦ let one : e.pins ≡ 1 = ap (λ y. y.pins) w.1 in (omega (arith, one), omega (arith, one))
+        | inr was ↦ o.pinned t e was
+      ])
 
   pub sum-revived : (E : K → K → Bool) (c : Cache K V) (s : ℕ) (x : Idle K V) → IsOrderly E c → idle_at c s ≡ Some x → sum_of (revived c s x) ≡ sum_of c
   sum-revived E c s x o at =

@@ -1,5 +1,5 @@
 -- What each step does to the ready values.
-use Rattle.std.proofs.Common.{◌≡◌, ◌≢◌, ℕ, ◌⊎◌, inl, inr, Bool, true, false, cond, List, [], ◌∷◌, Option, Some, None, Result, Ok, Err, refl, sym, ap, ◌∙◌, subst, arith, eqb}
+use Rattle.std.proofs.Common.{◌≡◌, ◌≢◌, ℕ, ◌⊎◌, inl, inr, Bool, true, false, cond, List, [], ◌∷◌, Option, Some, None, Result, Ok, Err, refl, sym, ap, ◌∙◌, subst, arith}
 use Rattle.std.specs.List.{Contains, find, filter}
 use Rattle.std.specs.FinMap as finmap
 use Rattle.std.specs.Ordering.{nat_cmp}
@@ -7,7 +7,7 @@ use Rattle.std.specs.Prelude.{IfOk, IfErr, IfSome, OnOk, OnErr}
 use Rattle.std.specs.declared.sync.Arc.{Arc}
 use Rattle.std.specs.declared.alloc.Global.{Global}
 use Rattle.std.specs.Cmp.{IsEquivalence}
-use Rattle.std.proofs.lemmas.Bool.{eqb-true, true≢false}
+use Rattle.std.proofs.lemmas.Bool.{true≢false}
 use Rattle.std.proofs.lemmas.Option.{none-some, same_Some}
 use Rattle.std.proofs.lemmas.List.Elements.{Contains-append_left, Contains-append_right, Contains-append_cases, Contains-push_cases}
 use Rattle.concurrent_lru.specs.Cache.{Cache, empty_cache, Idle, Held, Phase, making, untaken, ready, held_at, HasKeyAt, IsLawful, LacksStamp, Settles}
@@ -23,7 +23,7 @@ use Rattle.concurrent_lru.specs.declared.refusal.Refusal.TheVariants.{Stale}
 use Rattle.concurrent_lru.specs.declared.step.Begun.{Begun}
 use Rattle.concurrent_lru.specs.declared.step.Begun.TheVariants as rust
 use Rattle.concurrent_lru.specs.declared.table.spot.Hint.{Hint}
-use Rattle.concurrent_lru.proofs.Entries.NodesOfSetAndAdd.{inserted_at, inserted_other}
+use Rattle.concurrent_lru.proofs.Entries.NodesOfSetAndAdd.{inserted_cases}
 use Rattle.concurrent_lru.proofs.Steps.EmptyCache.{empty_lawful}
 use Rattle.concurrent_lru.proofs.Lists.Removals.{removed_some}
 
@@ -90,12 +90,10 @@ module _ {K V : Type 0} where
   one_written : (c : Cache K V) (s : ℕ) (f : Held K V) (k : K) (v : V) → HasReady (with_held c s f) k v → HasReady c k v ⊎ ((f.key ≡ k) × (f.phase ≡ ready v))
   one_written c s f k v h = elim h [
     | inl i ↦ inl (inl i)
-    | inr e ↦ elim (eqb e.0 s) as (λ t. eqb e.0 s ≡ t → HasReady c k v ⊎ ((f.key ≡ k) × (f.phase ≡ ready v))) [
-      | true ↦ λ t.
-          let is : f ≡ e.1 = same_Some _ _ (sym (inserted_at c.held s f) ∙ ap (finmap.get (finmap.insert c.held s f)) (sym (eqb-true e.0 s t)) ∙ e.2) in
-          inr (ap (λ x. x.key) is ∙ e.3, ap (λ x. x.phase) is ∙ e.4)
-      | false ↦ λ t. inl (inr (e.0, e.1, sym (inserted_other c.held s e.0 f t) ∙ e.2, e.3, e.4))
-    ] refl
+    | inr e ↦ elim (inserted_cases c.held s e.0 f e.1 e.2) [
+      | inl w ↦ inr (sym (ap (λ x. x.key) w.1) ∙ e.3, sym (ap (λ x. x.phase) w.1) ∙ e.4)
+      | inr was ↦ inl (inr (e.0, e.1, was, e.3, e.4))
+    ]
   ]
 
   -- it keeps its key, and is ready only with what it was ready with
@@ -166,72 +164,33 @@ module _ {K V : Type 0} (E : K → K → Bool) where
   begin_fewer old new k charge (accepted (say.make s) out) (inr j) = joins_fewer old new k s untaken making out (λ v e. unready_making v e) j
   begin_fewer old new k charge (accepted (say.wait s) out) j = joins_fewer old new k s making making out (λ v e. e) j
   begin_fewer old new k charge (accepted (say.hit s v) out) h = hits_fewer old new k s v out h
-  begin_fewer old new k charge (accepted say.done out) h = absurd h
-  begin_fewer old new k charge (accepted say.left out) h = absurd h
-  begin_fewer old new k charge (accepted (say.removed l) out) h = absurd h
-  begin_fewer old new k charge (accepted say.missed out) h = absurd h
-  begin_fewer old new k charge (accepted (say.sum n) out) h = absurd h
-  begin_fewer old new k charge (accepted (say.inserted n) out) h = absurd h
-  begin_fewer old new k charge (accepted (say.read n w) out) h = absurd h
-  begin_fewer old new k charge (accepted (say.pinned w) out) h = absurd h
+  begin_fewer old new k charge (accepted reply out) h = absurd h
   begin_fewer old new k charge (refused e) h = fewer_same old new h.1
 
   poll_fewer : (old new : Cache K V) (s : ℕ) (o : Outcome K V) → Stands E old (ask.poll s) o new → FewerReady old new
   poll_fewer old new s (accepted (say.make t) out) h = changes_phase_fewer old new s untaken making out (λ v e. unready_making v e) h.1
   poll_fewer old new s (accepted (say.wait t) out) h = changes_phase_fewer old new s making making out (λ v e. e) h.1
   poll_fewer old new s (accepted (say.hit t v) out) h = changes_phase_fewer old new s (ready v) (ready v) out (λ w e. e) h.1
-  poll_fewer old new s (accepted say.done out) h = absurd h
-  poll_fewer old new s (accepted say.left out) h = absurd h
-  poll_fewer old new s (accepted (say.removed l) out) h = absurd h
-  poll_fewer old new s (accepted say.missed out) h = absurd h
-  poll_fewer old new s (accepted (say.sum n) out) h = absurd h
-  poll_fewer old new s (accepted (say.inserted n) out) h = absurd h
-  poll_fewer old new s (accepted (say.read n w) out) h = absurd h
-  poll_fewer old new s (accepted (say.pinned w) out) h = absurd h
+  poll_fewer old new s (accepted reply out) h = absurd h
   poll_fewer old new s (refused e) h = fewer_same old new h.1
 
   fail_fewer : (old new : Cache K V) (s : ℕ) (o : Outcome K V) → Stands E old (ask.fail s) o new → FewerReady old new
   fail_fewer old new s (accepted say.left out) l = leaves_fewer old new s making untaken out (λ v e. unready_untaken v e) l
   fail_fewer old new s (accepted (say.removed k) out) r = removes_fewer old new s k out r
-  fail_fewer old new s (accepted (say.make t) out) h = absurd h
-  fail_fewer old new s (accepted (say.wait t) out) h = absurd h
-  fail_fewer old new s (accepted (say.hit t v) out) h = absurd h
-  fail_fewer old new s (accepted say.done out) h = absurd h
-  fail_fewer old new s (accepted say.missed out) h = absurd h
-  fail_fewer old new s (accepted (say.sum n) out) h = absurd h
-  fail_fewer old new s (accepted (say.inserted n) out) h = absurd h
-  fail_fewer old new s (accepted (say.read n w) out) h = absurd h
-  fail_fewer old new s (accepted (say.pinned w) out) h = absurd h
+  fail_fewer old new s (accepted reply out) h = absurd h
   fail_fewer old new s (refused e) h = fewer_same old new h.1
 
   get_fewer : (old new : Cache K V) (k : K) (o : Outcome K V) → Stands E old (ask.get k) o new → FewerReady old new
   get_fewer old new k (accepted (say.hit s v) out) h = hits_fewer old new k s v out h
   get_fewer old new k (accepted say.missed out) h = fewer_same old new h.1.same
-  get_fewer old new k (accepted (say.make t) out) h = absurd h
-  get_fewer old new k (accepted (say.wait t) out) h = absurd h
-  get_fewer old new k (accepted say.done out) h = absurd h
-  get_fewer old new k (accepted say.left out) h = absurd h
-  get_fewer old new k (accepted (say.removed l) out) h = absurd h
-  get_fewer old new k (accepted (say.sum n) out) h = absurd h
-  get_fewer old new k (accepted (say.inserted n) out) h = absurd h
-  get_fewer old new k (accepted (say.read n w) out) h = absurd h
-  get_fewer old new k (accepted (say.pinned w) out) h = absurd h
+  get_fewer old new k (accepted reply out) h = absurd h
   get_fewer old new k (refused e) h = fewer_same old new h.1
 
   release_fewer : (old new : Cache K V) (s : ℕ) (o : Outcome K V) → Stands E old (ask.release s) o new → FewerReady old new
   release_fewer old new s (accepted say.done out) (inl l) = leaves_fewer old new s (ready l.0) (ready l.0) out (λ v e. e) l.1
   release_fewer old new s (accepted say.done out) (inr (inl r)) = rests_fewer old new s out r
   release_fewer old new s (accepted say.done out) (inr (inr r)) = subst (FewerReady old) (sym r.changed) (fewer_without old s)
-  release_fewer old new s (accepted (say.make t) out) h = absurd h
-  release_fewer old new s (accepted (say.wait t) out) h = absurd h
-  release_fewer old new s (accepted (say.hit t v) out) h = absurd h
-  release_fewer old new s (accepted say.left out) h = absurd h
-  release_fewer old new s (accepted (say.removed l) out) h = absurd h
-  release_fewer old new s (accepted say.missed out) h = absurd h
-  release_fewer old new s (accepted (say.sum n) out) h = absurd h
-  release_fewer old new s (accepted (say.inserted n) out) h = absurd h
-  release_fewer old new s (accepted (say.read n w) out) h = absurd h
-  release_fewer old new s (accepted (say.pinned w) out) h = absurd h
+  release_fewer old new s (accepted reply out) h = absurd h
   release_fewer old new s (refused e) h = fewer_same old new h.1
 
   releases_and_evicts_fewer : (old new : Cache K V) (s : ℕ) (out : List (Idle K V)) → ReleasesAndEvicts E old s out new → FewerReady old new
@@ -365,16 +324,7 @@ module _ {K V : Type 0} (E : K → K → Bool) where
           let own : at.0 ≡ key = one_key old s at.0 key lawful at.1 is.1 in
           subst (fits key) (sym is.0) (law k key v (ap (E k) (sym own) ∙ eq.symm k at.0 ∙ at.2) fit)
     ]
-    ready_kept old new s k v (accepted (say.make t) out) eq law lawful at fit h kept = absurd h
-    ready_kept old new s k v (accepted (say.wait t) out) eq law lawful at fit h kept = absurd h
-    ready_kept old new s k v (accepted (say.hit t w) out) eq law lawful at fit h kept = absurd h
-    ready_kept old new s k v (accepted say.left out) eq law lawful at fit h kept = absurd h
-    ready_kept old new s k v (accepted (say.removed l) out) eq law lawful at fit h kept = absurd h
-    ready_kept old new s k v (accepted say.missed out) eq law lawful at fit h kept = absurd h
-    ready_kept old new s k v (accepted (say.sum n) out) eq law lawful at fit h kept = absurd h
-    ready_kept old new s k v (accepted (say.inserted n) out) eq law lawful at fit h kept = absurd h
-    ready_kept old new s k v (accepted (say.read n w) out) eq law lawful at fit h kept = absurd h
-    ready_kept old new s k v (accepted (say.pinned w) out) eq law lawful at fit h kept = absurd h
+    ready_kept old new s k v (accepted reply out) eq law lawful at fit h kept = absurd h
     ready_kept old new s k v (refused e) eq law lawful at fit h kept = kept_fewer old new (fewer_same old new h.1) kept
 
     -- where it is done only under a stamp whose entry has the key, the values fit whether it is

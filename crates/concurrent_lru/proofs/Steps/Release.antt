@@ -1,5 +1,5 @@
 -- The laws of release, a ready phase, and a write of the pins of a node.
-use Rattle.std.proofs.Common.{◌≡◌, ℕ, ◌<◌, ◌^◌, Bool, List, Some, refl, sym, ap, ◌∙◌, subst, arith}
+use Rattle.std.proofs.Common.{◌≡◌, ℕ, ◌<◌, ◌^◌, Bool, List, [], Some, refl, sym, ap, ◌∙◌, subst, arith}
 use Rattle.std.proofs.lemmas.Bool.{true≢false}
 use Rattle.std.specs.FinMap.{get, insert}
 use Rattle.concurrent_lru.specs.declared.node_table.Phase.{Phase as RustPhase}
@@ -41,6 +41,10 @@ module _ {K V : Type 0} where
       let pins = l.pinned s r.entry r.holds.at in
       let others = r.others in
       subst (IsLawful E) (sym r.changed) (lawful-with_held E old s r.entry (held_in_phase g (one_pin_less r.entry)) l r.holds.at refl refl (λ h. h) (omega (arith, pins.1, others)) (omega (arith, pins.1)))
+
+  -- a pin left, where the cache is seen as another, and nothing was evicted
+  pub left_seen : {E : K → K → Bool} {old seen new : Cache K V} {s : ℕ} {f g : Phase V} {out : List (Idle K V)} → old ≡ seen → out ≡ [] → Leaves E old s f g [] new → Leaves E seen s f g out new
+  left_seen {E} {old} {new} {s} {f} {g} {out} is none h = subst (λ c. Leaves E c s f g out new) is (subst (λ xs. Leaves E old s f g xs new) (sym none) h)
 
   pub detaches_lawful : (E : K → K → Bool) (old new : Cache K V) (k : K) (out : List (Idle K V)) → IsLawful E old → Detaches E old k out new → IsLawful E new
   detaches_lawful E old new k out l r =

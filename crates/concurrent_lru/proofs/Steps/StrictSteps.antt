@@ -7,7 +7,7 @@ use Rattle.concurrent_lru.specs.Request as ask
 use Rattle.concurrent_lru.specs.Request.{Request}
 use Rattle.concurrent_lru.specs.Reply as say
 use Rattle.concurrent_lru.specs.Reply.{Reply}
-use Rattle.concurrent_lru.specs.Runs.{Outcome, accepted, refused, Overflows, TakesMemory, Refuses, Stands}
+use Rattle.concurrent_lru.specs.Runs.{Outcome, accepted, refused, Refuses, Stands}
 use Rattle.concurrent_lru.specs.Steps.{with_held, held_detached, Makes, Invalidates, Stores, Step, IsAbsent}
 use Rattle.concurrent_lru.specs.StepLaws.{IsStrict, StrictRequestsKeepLimit, capacity_by}
 use Rattle.concurrent_lru.specs.Debts.{outcome_of_locked_begin}
@@ -108,6 +108,12 @@ module _ {K V : Type 0} (E : K → K → Bool) where
         | inr is ↦ is
       ]
 
+  -- what refuses a begin refuses a strict one
+  still_refused : {A B : Type 0} (old : Cache K V) (k : K) (charge : ℕ) → HasCapacityFor old charge ⊎ (IsAbsent E old k → ⊥) → (IsAbsent E old k × A) ⊎ B → (HasCapacityFor old charge × IsAbsent E old k × A) ⊎ B
+  still_refused old k charge (inl has) (inl h) = inl (has, h.0, h.1)
+  still_refused old k charge (inr found) (inl h) = absurd (found h.0)
+  still_refused old k charge may (inr b) = inr b
+
   -- a begin that finds an entry, or that the capacity has room for, may be strict
   pub strictly_begun : (old new : Cache K V) (k : K) (charge : ℕ) (o : Outcome K V) → HasCapacityFor old charge ⊎ (IsAbsent E old k → ⊥) → Stands E old (ask.begin k charge) o new → Stands E old (ask.begin_strictly k charge) o new
   strictly_begun old new k charge (accepted (say.make s) out) (inl has) (inl m) = inl (has, m)
@@ -115,41 +121,15 @@ module _ {K V : Type 0} (E : K → K → Bool) where
   strictly_begun old new k charge (accepted (say.make s) out) may (inr j) = inr j
   strictly_begun old new k charge (accepted (say.wait s) out) may h = h
   strictly_begun old new k charge (accepted (say.hit s v) out) may h = h
-  strictly_begun old new k charge (accepted say.done out) may h = absurd h
-  strictly_begun old new k charge (accepted say.left out) may h = absurd h
-  strictly_begun old new k charge (accepted (say.removed l) out) may h = absurd h
-  strictly_begun old new k charge (accepted say.missed out) may h = absurd h
-  strictly_begun old new k charge (accepted (say.sum n) out) may h = absurd h
-  strictly_begun old new k charge (accepted (say.inserted n) out) may h = absurd h
-  strictly_begun old new k charge (accepted (say.read n w) out) may h = absurd h
-  strictly_begun old new k charge (accepted (say.pinned w) out) may h = absurd h
+  strictly_begun old new k charge (accepted reply out) may h = absurd h
   strictly_begun old new k charge (refused Stale) may h = absurd h.0
   strictly_begun old new k charge (refused Full) may h = absurd h.0
-  strictly_begun old new k charge (refused Overflow) may h = (may_overflow may h.0, h.1)
-    where
-      may_overflow : HasCapacityFor old charge ⊎ (IsAbsent E old k → ⊥) → Overflows E old (ask.begin k charge) → Overflows E old (ask.begin_strictly k charge)
-      may_overflow (inl has) (inl h) = inl (has, h.0, h.1)
-      may_overflow (inr found) (inl h) = absurd (found h.0)
-      may_overflow may (inr full) = inr full
-  strictly_begun old new k charge (refused Memory) may h = (may_take may h.0, h.1)
-    where
-      may_take : HasCapacityFor old charge ⊎ (IsAbsent E old k → ⊥) → TakesMemory E old (ask.begin k charge) → TakesMemory E old (ask.begin_strictly k charge)
-      may_take (inl has) (inl h) = inl (has, h.0, h.1)
-      may_take (inr found) (inl h) = absurd (found h.0)
-      may_take may (inr hit) = inr hit
+  strictly_begun old new k charge (refused Overflow) may h = (still_refused old k charge may h.0, h.1)
+  strictly_begun old new k charge (refused Memory) may h = (still_refused old k charge may h.0, h.1)
 
   pub strictly_inserted : (old new : Cache K V) (k : K) (charge : ℕ) (v : V) (o : Outcome K V) → HasCapacityFor old charge → Stands E old (ask.insert k charge v) o new → Stands E old (ask.insert_strictly k charge v) o new
   strictly_inserted old new k charge v (accepted (say.inserted s) out) has h = (has, h)
-  strictly_inserted old new k charge v (accepted (say.make s) out) has h = absurd h
-  strictly_inserted old new k charge v (accepted (say.wait s) out) has h = absurd h
-  strictly_inserted old new k charge v (accepted (say.hit s w) out) has h = absurd h
-  strictly_inserted old new k charge v (accepted say.done out) has h = absurd h
-  strictly_inserted old new k charge v (accepted say.left out) has h = absurd h
-  strictly_inserted old new k charge v (accepted (say.removed l) out) has h = absurd h
-  strictly_inserted old new k charge v (accepted say.missed out) has h = absurd h
-  strictly_inserted old new k charge v (accepted (say.sum n) out) has h = absurd h
-  strictly_inserted old new k charge v (accepted (say.read n w) out) has h = absurd h
-  strictly_inserted old new k charge v (accepted (say.pinned w) out) has h = absurd h
+  strictly_inserted old new k charge v (accepted reply out) has h = absurd h
   strictly_inserted old new k charge v (refused Overflow) has h = ((has, h.0), h.1)
   strictly_inserted old new k charge v (refused Memory) has h = ((has, h.0), h.1)
   strictly_inserted old new k charge v (refused Stale) has h = absurd h.0

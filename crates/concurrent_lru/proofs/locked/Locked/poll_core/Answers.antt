@@ -4,10 +4,7 @@ use Rattle.concurrent_lru.proofs.Steps.ReadyValues.{poll_kept, poll_hit}
 use Rattle.concurrent_lru.proofs.locked.Locked.poll_core.Goals as goal
 
 pub invariant_of-self : goal.invariant_of-self
-invariant_of-self g c = record {
-  lawful = c.poll.ensures.lawful;
-  kept = poll_kept _ _ _ _ _ _ c.poll.ensures.step c.self.invariant.kept;
-}
+invariant_of-self g c = record { lawful = c.poll.ensures.lawful; kept = poll_kept _ _ _ _ _ _ c.poll.ensures.step c.self.invariant.kept }
 
 pub returns-clause-hit : goal.returns-clause-hit
 returns-clause-hit g c =

@@ -86,9 +86,6 @@ returns-in-Untaken-clause-step g c =
 pub returns-in-Untaken-clause-lawful : goal.returns-in-Untaken-clause-lawful
 returns-in-Untaken-clause-lawful g c = joins_lawful _ _ _ _ _ _ _ _ c.self.invariant.lawful (takes g c)
 
-pub pin-requires-clause-ready : goal.pin-requires-clause-ready
-pin-requires-clause-ready g c = ap is_some c.node-node.ensures.value ∙ ap (λ q. is_some (value_in (phase_of q))) c.in-Ready.is
-
 pub invariant_of-self-in_err-value-in-Ready : goal.invariant_of-self-in_err-value-in-Ready
 invariant_of-self-in_err-value-in-Ready g c = subst (λ t. IsSound g.K.PartialEq.eq (cache_with c.self.inside.capacity c.self.inside.most_pins c.self.inside.next t)) (sym c.in_err-value-in-Ready.ensures.err) c.self.invariant
 
@@ -103,14 +100,11 @@ returns-in_err-value-in-Ready-clause-step g c =
     (has_room here c.self.invariant.lawful c.self.invariant.pins_above c.if-pins-self.false)
     (key_is here c.self.invariant.lawful c.args.key.now c.in-Some.ensures) (ap phase_of c.in-Ready.is))))))
 
-pub pin-requires-clause-place : goal.pin-requires-clause-place
-pin-requires-clause-place g c = ((entry_of c.node-node.result.now).stamp, c.node-node.ensures.entry.at)
-
-pub pin-requires-clause-room : goal.pin-requires-clause-room
-pin-requires-clause-room g c =
+pub pin-requires : goal.pin-requires
+pin-requires g c =
     let room = has_room c.node-node.ensures.entry c.self.invariant.lawful c.self.invariant.pins_above c.if-pins-self.false in
     let same = c.node-node.ensures.pins in
-    omega (arith, room, same)
+    record { place = ((entry_of c.node-node.result.now).stamp, c.node-node.ensures.entry.at); ready = ap is_some c.node-node.ensures.value ∙ ap (λ q. is_some (value_in (phase_of q))) c.in-Ready.is; room = omega (arith, room, same) }
 
 found : (g : _) (c : After-none-in-Ready g) → Hits g.K.PartialEq.eq (cache_with c.self.inside.capacity c.self.inside.most_pins c.self.inside.next c.self.inside.table) c.args.key.now (entry_of c.node-node.result.now).stamp c.in_ok-value-in-Ready.value [] (cache_with c.self.inside.capacity c.self.inside.most_pins c.self.inside.next c.pin.new.self)
 found g c =

@@ -4,7 +4,7 @@ use Rattle.concurrent_lru.specs.Steps.{Leaves, Removes}
 use Rattle.concurrent_lru.specs.NodeTable.{entry_of, phase_of}
 use Rattle.concurrent_lru.specs.Entries.{cache_with}
 use Rattle.concurrent_lru.proofs.Steps.LawfulAfterLeaving.{removes_lawful}
-use Rattle.concurrent_lru.proofs.Entries.EntryAtPlace.{held_is, held_place, unready_pinned}
+use Rattle.concurrent_lru.proofs.Entries.EntryAtPlace.{held_place, not_in_phase, unready_pinned}
 use Rattle.concurrent_lru.proofs.Steps.NotReady.{unready_not_ready}
 use Rattle.concurrent_lru.proofs.Steps.ReadyAndPoll.{phase_making}
 use Rattle.concurrent_lru.proofs.Steps.Release.{leaves_lawful}
@@ -16,16 +16,7 @@ pub returns-in_default-clause-step : goal.returns-in_default-clause-step
 returns-in_default-clause-step g c = (λ h holds. c.in_default.ensures h.key h.charge (inr (h, ap (λ k. held_at k.cache c.args.spot.now.stamp) c.self.view_is ∙ holds.at, refl, refl)), refl)
 
 pub returns-in_default-phase : goal.returns-in_default-phase
-returns-in_default-phase g c = record {
-  step = (
-    λ h holds.
-        let node = held_is c.node-node.ensures.entry c.self.invariant.lawful c.args.spot.now.stamp h c.in-Some.ensures (ap (λ k. held_at k.cache c.args.spot.now.stamp) c.self.view_is ∙ holds.at) in
-        c.in_default-phase.not-Making (phase_making _ (ap (λ x. x.phase) (sym node.1) ∙ holds.phase)),
-    refl,
-  );
-  work = refl;
-  lawful = subst (IsLawful _) (ap (λ x. x.cache) c.self.view_is) c.self.invariant.lawful;
-}
+returns-in_default-phase g c = record { step = (not_in_phase c.node-node.ensures.entry c.self.invariant.lawful making (ap (λ x. x.cache) c.self.view_is) c.args.spot.now.stamp c.in-Some.ensures (λ e. c.in_default-phase.not-Making (phase_making _ e)), refl); work = refl; lawful = subst (IsLawful _) (ap (λ x. x.cache) c.self.view_is) c.self.invariant.lawful }
 
 pub set_pins-requires-clause-held : goal.set_pins-requires-clause-held
 set_pins-requires-clause-held g c = let many = c.if-pins-gt1.true in held_place c.node-node.ensures.entry (λ none. omega (arith, none, many))

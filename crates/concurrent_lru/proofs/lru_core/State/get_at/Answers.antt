@@ -1,14 +1,14 @@
 use Rattle.std.proofs.Common.{[], refl, sym, ap, ◌∙◌, subst, arith}
 use Rattle.std.specs.Prelude.{is_some}
 use Rattle.concurrent_lru.specs.Cache.{IsLawful, IsSound}
-use Rattle.concurrent_lru.specs.Steps.{Hits, IsUnready}
+use Rattle.concurrent_lru.specs.Steps.{Hits}
 use Rattle.concurrent_lru.specs.NodeTable.{entry_of, phase_of, value_in}
 use Rattle.concurrent_lru.specs.Entries.{cache_with}
 use Rattle.concurrent_lru.specs.Request as ask
 use Rattle.concurrent_lru.specs.Runs.{Stands, Overflows, TakesMemory}
 use Rattle.concurrent_lru.specs.Results.{outcome_of_get_by, found_without_hint}
-use Rattle.concurrent_lru.proofs.Entries.EntryAtPlace.{key_is, found_is, has_room, unready_pinned, is_unready, would_hit, get_overflows, value_here}
-use Rattle.concurrent_lru.proofs.Steps.NotReady.{absent_unready, unready_phase, unready_not_ready}
+use Rattle.concurrent_lru.proofs.Entries.EntryAtPlace.{key_is, found_is, has_room, unready_found, would_hit, get_overflows, value_here}
+use Rattle.concurrent_lru.proofs.Steps.NotReady.{absent_missed, missed, unready_phase}
 use Rattle.concurrent_lru.proofs.Steps.StaysLawful.{hits_lawful}
 use Rattle.concurrent_lru.proofs.Steps.MemoryRefused.{got_memory}
 use Rattle.concurrent_lru.proofs.Entries.StepsOfEntries.{hits}
@@ -16,20 +16,10 @@ use Rattle.concurrent_lru.proofs.lru_core.State.get_at.Goals as goal
 use Rattle.concurrent_lru.proofs.lru_core.State.get_at.Goals.{After-to}
 
 pub returns-in_default-clause-step : goal.returns-in_default-clause-step
-returns-in_default-clause-step g c =
-    let unready = absent_unready g.K.PartialEq.eq (cache_with c.self.inside.capacity c.self.inside.most_pins c.self.inside.next c.self.inside.table) c.args.key.now c.in_default.ensures in
-    (subst (λ old. IsUnready g.K.PartialEq.eq old c.args.key.now) (ap (λ x. x.cache) c.self.view_is) unready, record { same = refl; none = refl })
+returns-in_default-clause-step g c = absent_missed g.K.PartialEq.eq c.args.key.now (ap (λ x. x.cache) c.self.view_is) c.in_default.ensures
 
 pub returns-in_default-phase : goal.returns-in_default-phase
-returns-in_default-phase g c =
-    let here = c.node-node.ensures.entry in
-    let phase = unready_phase _ c.in_default-phase.not-Ready in
-    let unready = is_unready here c.self.invariant.lawful c.args.key.now g.met.K.Eq.laws (key_is here c.self.invariant.lawful c.args.key.now c.in-Some.ensures) phase (unready_pinned here (unready_not_ready _ phase)) (found_is here c.self.invariant.lawful c.args.key.now c.in-Some.ensures) in
-    record {
-      step = (subst (λ old. IsUnready g.K.PartialEq.eq old c.args.key.now) (ap (λ x. x.cache) c.self.view_is) unready, record { same = refl; none = refl });
-      work = omega arith;
-      lawful = subst (IsLawful _) (ap (λ x. x.cache) c.self.view_is) c.self.invariant.lawful;
-    }
+returns-in_default-phase g c = record { step = missed g.K.PartialEq.eq c.args.key.now (ap (λ x. x.cache) c.self.view_is) (unready_found c.node-node.ensures.entry c.self.invariant.lawful c.args.key.now g.met.K.Eq.laws c.in-Some.ensures (unready_phase _ c.in_default-phase.not-Ready)); work = omega arith; lawful = subst (IsLawful _) (ap (λ x. x.cache) c.self.view_is) c.self.invariant.lawful }
 
 pub returns-then-pins-self-clause-step : goal.returns-then-pins-self-clause-step
 returns-then-pins-self-clause-step g c =
@@ -39,9 +29,6 @@ returns-then-pins-self-clause-step g c =
           (get_overflows here g.K.PartialEq.eq c.self.inside.capacity c.self.inside.most_pins c.self.inside.next c.args.key.now c.in-Ready.field-0 (found_is here c.self.invariant.lawful c.args.key.now c.in-Some.ensures) c.self.invariant.pins_above equal c.if-pins-self.true (ap phase_of c.in-Ready.is)),
       refl,
     )
-
-pub pin-requires-clause-ready : goal.pin-requires-clause-ready
-pin-requires-clause-ready g c = ap is_some c.node-node.ensures.value ∙ ap (λ q. is_some (value_in (phase_of q))) c.in-Ready.is
 
 pub invariant_of-self : goal.invariant_of-self
 invariant_of-self g c = subst (λ t. IsSound g.K.PartialEq.eq (cache_with c.self.inside.capacity c.self.inside.most_pins c.self.inside.next t)) (sym c.in_err-value.ensures.err) c.self.invariant
@@ -57,14 +44,11 @@ returns-in_err-value-clause-step g c =
     (has_room here c.self.invariant.lawful c.self.invariant.pins_above c.if-pins-self.false)
     (key_is here c.self.invariant.lawful c.args.key.now c.in-Some.ensures) (ap phase_of c.in-Ready.is)))))
 
-pub pin-requires-clause-place : goal.pin-requires-clause-place
-pin-requires-clause-place g c = ((entry_of c.node-node.result.now).stamp, c.node-node.ensures.entry.at)
-
-pub pin-requires-clause-room : goal.pin-requires-clause-room
-pin-requires-clause-room g c =
+pub pin-requires : goal.pin-requires
+pin-requires g c =
     let room = has_room c.node-node.ensures.entry c.self.invariant.lawful c.self.invariant.pins_above c.if-pins-self.false in
     let same = c.node-node.ensures.pins in
-    omega (arith, room, same)
+    record { place = ((entry_of c.node-node.result.now).stamp, c.node-node.ensures.entry.at); ready = ap is_some c.node-node.ensures.value ∙ ap (λ q. is_some (value_in (phase_of q))) c.in-Ready.is; room = omega (arith, room, same) }
 
 found : (g : _) (c : After-to g) → Hits g.K.PartialEq.eq (cache_with c.self.inside.capacity c.self.inside.most_pins c.self.inside.next c.self.inside.table) c.args.key.now (entry_of c.node-node.result.now).stamp c.in_ok-value.value [] (cache_with c.self.inside.capacity c.self.inside.most_pins c.self.inside.next c.pin.new.self)
 found g c =

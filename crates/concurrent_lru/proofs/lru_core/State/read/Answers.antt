@@ -1,34 +1,21 @@
 use Rattle.std.proofs.Common.{◌≡◌, refl, ap, subst, arith, rules, of_calls}
 use Rattle.concurrent_lru.specs.Cache.{IsLawful}
-use Rattle.concurrent_lru.specs.Steps.{IsUnready}
 use Rattle.concurrent_lru.specs.NodeTable.{entry_of, phase_of}
 use Rattle.concurrent_lru.specs.Entries.{cache_with}
 use Rattle.concurrent_lru.specs.Request as ask
 use Rattle.concurrent_lru.specs.Reads.{Finds, GetsAndReleases}
 use Rattle.concurrent_lru.specs.Runs.{Overflows}
-use Rattle.concurrent_lru.proofs.Entries.EntryAtPlace.{key_is, found_is, has_room, unready_pinned, is_unready, get_overflows}
+use Rattle.concurrent_lru.proofs.Entries.EntryAtPlace.{key_is, found_is, has_room, unready_found, get_overflows}
 use Rattle.concurrent_lru.proofs.Entries.ReadEntry.{finds, read_held, read_idle, read_lawful}
-use Rattle.concurrent_lru.proofs.Steps.NotReady.{absent_unready, unready_phase, unready_not_ready}
+use Rattle.concurrent_lru.proofs.Steps.NotReady.{absent_missed, missed, unready_phase}
 use Rattle.concurrent_lru.proofs.lru_core.State.read.Goals as goal
 use Rattle.concurrent_lru.proofs.lru_core.State.read.Goals.{After-renew}
 
 pub returns-in_default-clause-step : goal.returns-in_default-clause-step
-returns-in_default-clause-step g c =
-    let unready = absent_unready g.K.PartialEq.eq (cache_with c.self.inside.capacity c.self.inside.most_pins c.self.inside.next c.self.inside.table) c.args.key.now c.in_default.ensures in
-    (subst (λ old. IsUnready g.K.PartialEq.eq old c.args.key.now) (ap (λ x. x.cache) c.self.view_is) unready, record { same = refl; none = refl })
+returns-in_default-clause-step g c = absent_missed g.K.PartialEq.eq c.args.key.now (ap (λ x. x.cache) c.self.view_is) c.in_default.ensures
 
 pub returns-in_default-phase : goal.returns-in_default-phase
-returns-in_default-phase g c =
-    let here = c.node-node.ensures.entry in
-    let phase = unready_phase _ c.in_default-phase.not-Ready in
-    let unready = is_unready here c.self.invariant.lawful c.args.key.now g.met.K.Eq.laws (key_is here c.self.invariant.lawful c.args.key.now c.in-Some.ensures) phase (unready_pinned here (unready_not_ready _ phase)) (found_is here c.self.invariant.lawful c.args.key.now c.in-Some.ensures) in
-    record {
-      step = (subst (λ old. IsUnready g.K.PartialEq.eq old c.args.key.now) (ap (λ x. x.cache) c.self.view_is) unready, record { same = refl; none = refl });
-      work = omega arith;
-      refused = tt;
-      missed = λ _. refl;
-      lawful = subst (IsLawful _) (ap (λ x. x.cache) c.self.view_is) c.self.invariant.lawful;
-    }
+returns-in_default-phase g c = record { step = missed g.K.PartialEq.eq c.args.key.now (ap (λ x. x.cache) c.self.view_is) (unready_found c.node-node.ensures.entry c.self.invariant.lawful c.args.key.now g.met.K.Eq.laws c.in-Some.ensures (unready_phase _ c.in_default-phase.not-Ready)); work = omega arith; refused = tt; missed = λ _. refl; lawful = subst (IsLawful _) (ap (λ x. x.cache) c.self.view_is) c.self.invariant.lawful }
 
 pub returns-then-pins-self-clause-step : goal.returns-then-pins-self-clause-step
 returns-then-pins-self-clause-step g c =

@@ -1,9 +1,9 @@
-use Rattle.std.proofs.Common.{◌≡◌, ℕ, ◌<◌, [], refl, sym, ap, ◌∙◌, subst, arith, inl, inr}
+use Rattle.std.proofs.Common.{◌≡◌, ℕ, ◌<◌, [], refl, ap, ◌∙◌, subst, arith, inl, inr}
 use Rattle.concurrent_lru.specs.Cache.{ready, held_at}
 use Rattle.concurrent_lru.specs.Steps.{Leaves, Departs}
 use Rattle.concurrent_lru.specs.NodeTable.{entry_of, phase_of}
 use Rattle.concurrent_lru.specs.Entries.{cache_with}
-use Rattle.concurrent_lru.proofs.Steps.Release.{leaves_lawful}
+use Rattle.concurrent_lru.proofs.Steps.Release.{leaves_lawful, left_seen}
 use Rattle.concurrent_lru.proofs.Steps.LawfulAfterLeaving.{departs_lawful}
 use Rattle.concurrent_lru.proofs.Entries.StepsOfEntries.{leaves_as_it_is, departs}
 use Rattle.concurrent_lru.proofs.lru_core.State.release_and_evict_at.Goals as goal
@@ -19,11 +19,7 @@ pub invariant_of-self : goal.invariant_of-self
 invariant_of-self g c = record { lawful = leaves_lawful _ _ _ _ _ _ _ c.self.invariant.lawful (unpinned g c); pins_above = c.self.invariant.pins_above }
 
 pub returns-then-holders-gt1-clause-step : goal.returns-then-holders-gt1-clause-step
-returns-then-holders-gt1-clause-step g c =
-    let v = c.in-Ready.field-0 in
-    let new = cache_with c.self.inside.capacity c.self.inside.most_pins c.self.inside.next c.set_pins.new.self in
-    let step : Leaves g.K.PartialEq.eq c.args.self.now.cache c.args.spot.now.stamp (ready v) (ready v) [] new = subst (λ old. Leaves g.K.PartialEq.eq old c.args.spot.now.stamp (ready v) (ready v) [] new) (ap (λ x. x.cache) c.self.view_is) (unpinned g c) in
-    inl (v, subst (λ out. Leaves g.K.PartialEq.eq c.args.self.now.cache c.args.spot.now.stamp (ready v) (ready v) out new) (sym c.none.ensures) step)
+returns-then-holders-gt1-clause-step g c = inl (c.in-Ready.field-0, left_seen (ap (λ x. x.cache) c.self.view_is) c.none.ensures (unpinned g c))
 
 pub returns-then-holders-gt1-clause-lawful : goal.returns-then-holders-gt1-clause-lawful
 returns-then-holders-gt1-clause-lawful g c = leaves_lawful _ _ _ _ _ _ _ c.self.invariant.lawful (unpinned g c)

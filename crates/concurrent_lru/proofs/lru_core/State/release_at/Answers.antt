@@ -1,10 +1,10 @@
-use Rattle.std.proofs.Common.{◌≡◌, ℕ, ◌<◌, [], refl, sym, ap, ◌∙◌, subst, arith, inl, inr}
+use Rattle.std.proofs.Common.{◌≡◌, ℕ, ◌<◌, [], refl, ap, ◌∙◌, subst, arith, inl, inr}
 use Rattle.concurrent_lru.specs.Cache.{ready, IsLawful, held_at}
 use Rattle.concurrent_lru.specs.Steps.{Leaves, Rests, Ends}
 use Rattle.concurrent_lru.specs.NodeTable.{entry_of, phase_of}
 use Rattle.concurrent_lru.specs.Entries.{cache_with}
-use Rattle.concurrent_lru.proofs.Entries.EntryAtPlace.{held_is, held_place, ready_place}
-use Rattle.concurrent_lru.proofs.Steps.Release.{phase_ready, leaves_lawful, rests_lawful}
+use Rattle.concurrent_lru.proofs.Entries.EntryAtPlace.{held_is, held_place, not_in_phase, ready_place}
+use Rattle.concurrent_lru.proofs.Steps.Release.{phase_ready, leaves_lawful, left_seen, rests_lawful}
 use Rattle.concurrent_lru.proofs.Steps.LawfulAfterLeaving.{ends_lawful}
 use Rattle.concurrent_lru.proofs.Entries.StepsOfEntries.{leaves_as_it_is, rests, ends}
 use Rattle.concurrent_lru.proofs.lru_core.State.release_at.Goals as goal
@@ -14,17 +14,7 @@ pub returns-in_default-clause-step : goal.returns-in_default-clause-step
 returns-in_default-clause-step g c = (λ h v holds. c.in_default.ensures h.key h.charge (inr (h, ap (λ k. held_at k.cache c.args.spot.now.stamp) c.self.view_is ∙ holds.at, refl, refl)), refl)
 
 pub returns-in_default-phase : goal.returns-in_default-phase
-returns-in_default-phase g c = record {
-  step = (
-    λ h v holds.
-        let node = held_is c.node-node.ensures.entry c.self.invariant.lawful c.args.spot.now.stamp h c.in-Some.ensures (ap (λ k. held_at k.cache c.args.spot.now.stamp) c.self.view_is ∙ holds.at) in
-        let r = phase_ready _ v (ap (λ x. x.phase) (sym node.1) ∙ holds.phase) in
-        c.in_default-phase.not-Ready r.0 r.1,
-    refl,
-  );
-  work = refl;
-  lawful = subst (IsLawful _) (ap (λ x. x.cache) c.self.view_is) c.self.invariant.lawful;
-}
+returns-in_default-phase g c = record { step = (λ h v. not_in_phase c.node-node.ensures.entry c.self.invariant.lawful (ready v) (ap (λ x. x.cache) c.self.view_is) c.args.spot.now.stamp c.in-Some.ensures (λ e. let r = phase_ready _ v e in c.in_default-phase.not-Ready r.0 r.1) h, refl); work = refl; lawful = subst (IsLawful _) (ap (λ x. x.cache) c.self.view_is) c.self.invariant.lawful }
 
 pub returns-then-pins-eq0-clause-step : goal.returns-then-pins-eq0-clause-step
 returns-then-pins-eq0-clause-step g c = (
@@ -42,11 +32,7 @@ pub invariant_of-self : goal.invariant_of-self
 invariant_of-self g c = record { lawful = leaves_lawful _ _ _ _ _ _ _ c.self.invariant.lawful (unpinned g c); pins_above = c.self.invariant.pins_above }
 
 pub returns-then-pins-gt1-clause-step : goal.returns-then-pins-gt1-clause-step
-returns-then-pins-gt1-clause-step g c =
-    let v = c.in-Ready.field-0 in
-    let new = cache_with c.self.inside.capacity c.self.inside.most_pins c.self.inside.next c.set_pins.new.self in
-    let step : Leaves g.K.PartialEq.eq c.args.self.now.cache c.args.spot.now.stamp (ready v) (ready v) [] new = subst (λ old. Leaves g.K.PartialEq.eq old c.args.spot.now.stamp (ready v) (ready v) [] new) (ap (λ x. x.cache) c.self.view_is) (unpinned g c) in
-    inl (v, subst (λ out. Leaves g.K.PartialEq.eq c.args.self.now.cache c.args.spot.now.stamp (ready v) (ready v) out new) (sym c.none.ensures) step)
+returns-then-pins-gt1-clause-step g c = inl (c.in-Ready.field-0, left_seen (ap (λ x. x.cache) c.self.view_is) c.none.ensures (unpinned g c))
 
 pub returns-then-pins-gt1-clause-lawful : goal.returns-then-pins-gt1-clause-lawful
 returns-then-pins-gt1-clause-lawful g c = leaves_lawful _ _ _ _ _ _ _ c.self.invariant.lawful (unpinned g c)

@@ -1,11 +1,11 @@
-use Rattle.std.proofs.Common.{Some, refl, false, sym, ap, ◌∙◌, subst}
+use Rattle.std.proofs.Common.{refl, false, sym, ap, ◌∙◌, subst}
 use Rattle.std.specs.FinMap.{remove}
-use Rattle.concurrent_lru.specs.Cells.{cell_at}
-use Rattle.concurrent_lru.specs.NodeTable.{NodeTable, entry_of, chain_of}
+use Rattle.concurrent_lru.specs.NodeTable.{NodeTable}
 use Rattle.concurrent_lru.specs.SlotTable.{idle_of, IsEnd}
 use Rattle.concurrent_lru.specs.SlotPointers.{cells_of}
-use Rattle.concurrent_lru.proofs.Order.Appending.{some_cell, absent_from}
-use Rattle.concurrent_lru.proofs.Nodes.SlotViews.{present, entry_there, idle_there, table_else, entries_removed, hashes_removed, spare_kept}
+use Rattle.concurrent_lru.proofs.Order.Appending.{absent_from}
+use Rattle.concurrent_lru.proofs.Nodes.ShownChanges.{shown_node}
+use Rattle.concurrent_lru.proofs.Nodes.SlotViews.{present, idle_there, table_else, entries_removed, hashes_removed, spare_kept}
 use Rattle.concurrent_lru.proofs.node_table.Nodes.take.Goals as goal
 
 pub take-requires-clause-present : goal.take-requires-clause-present
@@ -23,16 +23,10 @@ invariant_of-self g c =
     )
 
 pub returns-clause-entry : goal.returns-clause-entry
-returns-clause-entry g c =
-    let i = c.self.inside in
-    let there = some_cell (cell_at (cells_of i.order.slots) c.place.inside.slot) (present i.order i.work.count c.args.self.now c.self.view_is c.place.inside.slot c.args.place c.place.view_is c.requires.within) in
-    entry_there i.order i.work.count c.args.self.now c.self.view_is c.place.inside.slot c.args.place there.0 c.place.view_is there.1 ∙ ap (λ n. Some (entry_of n)) (sym (c.take.ensures.value there.0 there.1))
+returns-clause-entry g c = (shown_node c.self.inside.order _ _ c.self.view_is c.place.view_is c.requires.within c.self.invariant.linked c.take.ensures.value).entry
 
 pub returns-clause-alone : goal.returns-clause-alone
-returns-clause-alone g c =
-    let i = c.self.inside in
-    let there = some_cell (cell_at (cells_of i.order.slots) c.place.inside.slot) (present i.order i.work.count c.args.self.now c.self.view_is c.place.inside.slot c.args.place c.place.view_is c.requires.within) in
-    ap chain_of (c.take.ensures.value there.0 there.1) ∙ subst IsEnd there.1 (c.self.invariant.linked.ends c.place.inside.slot)
+returns-clause-alone g c = (shown_node c.self.inside.order _ _ c.self.view_is c.place.view_is c.requires.within c.self.invariant.linked c.take.ensures.value).alone
 
 pub returns-clause-nodes : goal.returns-clause-nodes
 returns-clause-nodes g c =

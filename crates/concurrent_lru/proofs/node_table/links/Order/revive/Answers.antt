@@ -7,10 +7,11 @@ use Rattle.concurrent_lru.specs.SlotPointers.{cells_of}
 use Rattle.concurrent_lru.specs.SlotTable.{entry_in}
 use Rattle.concurrent_lru.proofs.Memory.CellSlots.{value_at_slot}
 use Rattle.concurrent_lru.proofs.Nodes.Listings.{looked_keeps, then_keeps}
-use Rattle.concurrent_lru.proofs.Nodes.NodeWrites.{only_looked, only_wrote, then_writes}
-use Rattle.concurrent_lru.proofs.Nodes.SlotViews.{written}
+use Rattle.concurrent_lru.proofs.Nodes.NodeWrites.{looked_and_wrote, only_looked, then_writes}
+use Rattle.concurrent_lru.proofs.Nodes.SlotViews.{IsWritten, written}
 use Rattle.concurrent_lru.proofs.Order.TakingOut.{present_in}
 use Rattle.concurrent_lru.proofs.node_table.links.Order.revive.Goals as goal
+use Rattle.concurrent_lru.proofs.node_table.links.Order.revive.Goals.{After-set_pins_by_link}
 
 pub look_near-own-requires-clause-present : goal.look_near-own-requires-clause-present
 look_near-own-requires-clause-present g c = present_in c.args.self.now c.args.slot c.requires.linked c.requires.idle
@@ -28,28 +29,21 @@ returns-in_err-value-clause-rest g c = only_looked c.args.self.now.slots c.look_
 pub returns-in_err-value-clause-listings : goal.returns-in_err-value-clause-listings
 returns-in_err-value-clause-listings g c = looked_keeps c.args.self.now.slots c.look_near-own.new.self (cells_of c.look_near-own.new.self) c.look_near-own.ensures.rest (λ k. (refl, refl))
 
-pub cut-requires-clause-linked : goal.cut-requires-clause-linked
-cut-requires-clause-linked g c = (written c.args.self.now c.look_near-own.new.self c.set_pins_by_link.new.self (entry_with_pins 1) (λ e. refl) c.requires.linked c.look_near-own.ensures.rest c.look_near-own.ensures.tied c.look_near-own.ensures.link c.set_pins_by_link.ensures.rest c.set_pins_by_link.ensures.entry).linked
+-- the node was looked up, and given a pin
+pinned : (g : _) (c : After-set_pins_by_link g) → IsWritten c.args.self.now (record c.args.self.now { slots = c.set_pins_by_link.new.self }) c.args.slot c.look_near-own.result (entry_with_pins 1)
+pinned g c = written c.args.self.now c.look_near-own.new.self c.set_pins_by_link.new.self (entry_with_pins 1) (λ e. refl) c.requires.linked c.look_near-own.ensures.rest c.look_near-own.ensures.tied c.look_near-own.ensures.link c.set_pins_by_link.ensures.rest c.set_pins_by_link.ensures.entry
 
-pub cut-requires-clause-idle : goal.cut-requires-clause-idle
-cut-requires-clause-idle g c =
-    let w = written c.args.self.now c.look_near-own.new.self c.set_pins_by_link.new.self (entry_with_pins 1) (λ e. refl) c.requires.linked c.look_near-own.ensures.rest c.look_near-own.ensures.tied c.look_near-own.ensures.link c.set_pins_by_link.ensures.rest c.set_pins_by_link.ensures.entry in
-    (c.args.slot, w.at, subst (λ ks. list_any (eqb c.args.slot) ks ≡ true) (sym w.idle) c.requires.idle)
+pub cut-requires : goal.cut-requires
+cut-requires g c = let w = pinned g (goal.at.cut-requires g c).After-set_pins_by_link in record { linked = w.linked; idle = (c.args.slot, w.at, subst (λ ks. list_any (eqb c.args.slot) ks ≡ true) (sym w.idle) c.requires.idle) }
 
 pub returns-clause-nodes : goal.returns-clause-nodes
-returns-clause-nodes g c = c.cut.ensures.nodes ∙ (written c.args.self.now c.look_near-own.new.self c.set_pins_by_link.new.self (entry_with_pins 1) (λ e. refl) c.requires.linked c.look_near-own.ensures.rest c.look_near-own.ensures.tied c.look_near-own.ensures.link c.set_pins_by_link.ensures.rest c.set_pins_by_link.ensures.entry).nodes
+returns-clause-nodes g c = c.cut.ensures.nodes ∙ (pinned g (goal.at.returns-clause-nodes g c).After-set_pins_by_link).nodes
 
 pub returns-clause-idle : goal.returns-clause-idle
-returns-clause-idle g c =
-    let w = written c.args.self.now c.look_near-own.new.self c.set_pins_by_link.new.self (entry_with_pins 1) (λ e. refl) c.requires.linked c.look_near-own.ensures.rest c.look_near-own.ensures.tied c.look_near-own.ensures.link c.set_pins_by_link.ensures.rest c.set_pins_by_link.ensures.entry in
-    c.cut.ensures.idle c.args.slot w.at ∙ ap (filter (λ q. not (eqb q c.args.slot))) w.idle
+returns-clause-idle g c = let w = pinned g (goal.at.returns-clause-idle g c).After-set_pins_by_link in c.cut.ensures.idle c.args.slot w.at ∙ ap (filter (λ q. not (eqb q c.args.slot))) w.idle
 
 pub returns-clause-rest : goal.returns-clause-rest
-returns-clause-rest g c =
-    let s = c.args.self.now.slots in let t = c.look_near-own.new.self in let u = c.set_pins_by_link.new.self in
-    then_writes s u c.cut.new.self.slots (then_writes s t u (only_looked s t c.look_near-own.ensures.rest) (only_wrote t u c.set_pins_by_link.ensures.rest)) c.cut.ensures.rest
+returns-clause-rest g c = then_writes c.args.self.now.slots c.set_pins_by_link.new.self c.cut.new.self.slots (looked_and_wrote c.args.self.now.slots c.look_near-own.new.self c.set_pins_by_link.new.self c.look_near-own.ensures.rest c.set_pins_by_link.ensures.rest) c.cut.ensures.rest
 
 pub returns-clause-listings : goal.returns-clause-listings
-returns-clause-listings g c =
-    let w = written c.args.self.now c.look_near-own.new.self c.set_pins_by_link.new.self (entry_with_pins 1) (λ e. refl) c.requires.linked c.look_near-own.ensures.rest c.look_near-own.ensures.tied c.look_near-own.ensures.link c.set_pins_by_link.ensures.rest c.set_pins_by_link.ensures.entry in
-    then_keeps (cells_of c.args.self.now.slots) (cells_of c.set_pins_by_link.new.self) (cells_of c.cut.new.self.slots) w.listings c.cut.ensures.listings
+returns-clause-listings g c = then_keeps (cells_of c.args.self.now.slots) (cells_of c.set_pins_by_link.new.self) (cells_of c.cut.new.self.slots) (pinned g (goal.at.returns-clause-listings g c).After-set_pins_by_link).listings c.cut.ensures.listings

@@ -25,14 +25,12 @@ use denote.Ref.{MutBor, MutRef}
 use denote.Builtin.{RefMutOf, unit}
 use denote.Signature.{plain}
 use denote.Steps.{nothing, opens, closes}
-use denote.Triple.Carry.{spared}
 use denote.Triple.Clauses.{Clauses, Ended, closing}
 use denote.Triple.Entry.{on_entry}
-use denote.Triple.Spec.{Meets, triple_of}
-use denote.Triple.Table.{entered, run_framed}
+use denote.Triple.Spec.{Meets}
 use denote.Triple.Walked.{needs, Stays, stay_ref, walk_of, ends_at, Goes-ref, walk_Meets}
 use Rattle.std_alloc.proofs.BoxSteps.Form.{Bx, args, R}
-use Rattle.concurrent_lru.proofs.Memory.Walks.{Mr, All, Mark, says_both, known}
+use Rattle.concurrent_lru.proofs.Memory.Walks.{meets_grown, Mr, All, Mark, says_both, known}
 use Rattle.concurrent_lru.specs.contracts.node_table.memory.Memory.apart.Key.{name as #self}
 use Rattle.concurrent_lru.proofs.node_table.memory.Memory.apart.Statement as stated
 use Rattle.concurrent_lru.proofs.node_table.memory.Memory.apart.Code as code
@@ -104,8 +102,4 @@ pub apart_spec : {M : Type 1} → stated.statement M
 unfolding tables_of
 apart_spec 𝓤 𝓛 𝓜 𝓡 wired Y Z L LZ g d dd met md y =
     let E : Bx = record { row = Y; laws = L; al = record { row = Z; laws = LZ; g = g; d = d; drops = dd } } in
-    let 𝓣 : Tables 𝓤 𝓛.H = tables_of 𝓤 𝓛.H 𝓜 (tables 𝓤 𝓛.H 𝓜 𝓡 𝓡.env) in
-    let k = #self (args E) in
-    spared 𝓛 (ended E).signature (𝓡.run (𝓡.env k)) (run_framed 𝓤 𝓛.H 𝓜 𝓡 (𝓡.env k)) 2 (Y.lives, (Z.lives, tt)) (closing 𝓛 (ended E) (spec E 𝓛))
-    (entered 𝓤 𝓛.H (triple_of 𝓛 (ended E).signature (closing 𝓛 (ended E) (spec E 𝓛))) 𝓣.C 𝓣.Λ k (function E) (code.unfolded 𝓤 𝓛.H 𝓜 𝓡 wired (Y, (Z, tt)) d dd) (meets E 𝓛 𝓜 𝓣))
-    ((y.0.0, y.0.1, tt, y.0.3, y.0.4), y.1)
+    meets_grown 𝓛 𝓜 𝓡 E (ended E) (spec E 𝓛) (#self (args E)) (function E) (code.unfolded 𝓤 𝓛.H 𝓜 𝓡 wired (Y, (Z, tt)) d dd) (meets E 𝓛 𝓜 (tables_of 𝓤 𝓛.H 𝓜 (tables 𝓤 𝓛.H 𝓜 𝓡 𝓡.env))) ((y.0.0, y.0.1, tt, y.0.3, y.0.4), y.1)

@@ -1,5 +1,5 @@
 -- `look` lends the value, and the memory follows it. Assumes `Logic`.
-use mathlib.Core.Path.{◌≡◌, refl, sym, ap, subst, ◌∙◌}
+use mathlib.Core.Path.{◌≡◌, refl, sym, subst, ◌∙◌}
 use Prim.Native.Nat.{ℕ}
 use mathlib.Core.List.{List, [], ◌∷◌, ◌++◌}
 use seplogic.Ra.Ura.{Ura}
@@ -29,11 +29,9 @@ use denote.Ref.{MutBor, MutRef}
 use denote.Builtin.{RefMutOf}
 use denote.Signature.{plain, mut_ref_to}
 use denote.Steps.{nothing, opens}
-use denote.Triple.Carry.{spared}
 use denote.Triple.Clauses.{Clauses, Ended, closing}
 use denote.Triple.Entry.{on_entry}
-use denote.Triple.Spec.{Meets, triple_of}
-use denote.Triple.Table.{entered, run_framed}
+use denote.Triple.Spec.{Meets}
 use denote.Triple.Walked.{says, needs, Stays, stay_dropped, walk_of, ends_at, Goes-dropped, Goes-spent_ref, walk_Meets}
 use denote.Follow.{follows, Part, lends_Part}
 use Rattle.std.specs.Prelude.{Option, None, Some, IsSome}
@@ -42,8 +40,8 @@ use Rattle.std_alloc.proofs.RcSteps.{word, word-Good}
 use Rattle.std_alloc.proofs.BoxSteps.Form.{Bx, args, R, X}
 use Rattle.concurrent_lru.specs.Cells.{cell, cell_at, put_at, slot_at, AtFirst}
 use Rattle.concurrent_lru.specs.CellLends.{with_value}
-use Rattle.concurrent_lru.proofs.Memory.Walks.{Mr, Ar, Mark, One, Owns, All, word_had, cell_out, cell_in}
-use Rattle.concurrent_lru.proofs.Memory.CellSlots.{slot_of_held, value_at_slot, put_same, put_twice, write_is_put}
+use Rattle.concurrent_lru.proofs.Memory.Walks.{meets_grown, Mr, Ar, Mark, One, Owns, All, word_had, cell_out, cell_in}
+use Rattle.concurrent_lru.proofs.Memory.CellSlots.{first_value, slot_of_held, value_at_slot, put_same, put_twice, write_is_put}
 use Rattle.concurrent_lru.specs.contracts.node_table.memory.Memory.lend.Key.{name as #self}
 use Rattle.concurrent_lru.proofs.node_table.memory.Memory.lend.Statement as stated
 use Rattle.concurrent_lru.proofs.node_table.memory.Memory.lend.Code as code
@@ -126,9 +124,7 @@ module _ (E : Bx) {M : Type 1} {𝓤 : Ura M} (𝓛 : Logic 𝓤) (C : Calls �
       move ! (2 ∷ 3 ∷ 4 ∷ []) $ fjoin3 ! $ move ! (2 ∷ 0 ∷ []) $ fjoin ! $ move ! (2 ∷ 3 ∷ 4 ∷ 1 ∷ 0 ∷ []) $ group ! 5 $
       use1 𝓛 (later (some (λ (δ : GName). raw (Part 𝓛 (Mr E) (R E) new (named 0) κ q rb ro b o γ (sem 𝓛 (Rest c vs b o slot)) way c.value δ))))
       (lends_Part 𝓛 (Mr E) (R E) new (named 0) κ q rb ro b o γ (sem 𝓛 (Rest c vs b o slot)) way code code c.value) $ await ! tt $ pick ! (λ δ.
-      returns ! (look_at ! 0 refl) $ free_all ! refl $ keep ! (0 ∷ []) $ by ! (exits (vptr b o) (record { ref_ptr = (b, o); ghost_name = δ; now = c.value }) (λ again other at_again is.
-      let slots : Some slot ≡ Some again = sym held.1 ∙ at_again in let one_slot : slot ≡ again = cc in
-      let same : Some c ≡ Some other = sym there.1 ∙ ap (cell_at d.cells) one_slot ∙ is in let one : c ≡ other = cc in ap (λ (k : One E). k.value) one))))))
+      returns ! (look_at ! 0 refl) $ free_all ! refl $ keep ! (0 ∷ []) $ by ! (exits (vptr b o) (record { ref_ptr = (b, o); ghost_name = δ; now = c.value }) (first_value d.cells at.ptr slot c held.1 there.1))))))
 
   entry : Asks E d at → ent 𝓤 (on_entry 𝓛 (ended E).signature (κ, tt) (q, tt) (self, (at, tt)) (us0, (us1, tt))) (WpFn 𝓤 H C Λ (function E) (us0 ++ (us1 ++ [])) Post)
   entry asked =
@@ -152,8 +148,4 @@ pub lend_spec : {M : Type 1} → stated.statement M
 unfolding tables_of
 lend_spec 𝓤 𝓛 𝓜 𝓡 wired Y Z L LZ g d dd met md y =
     let E : Bx = record { row = Y; laws = L; al = record { row = Z; laws = LZ; g = g; d = d; drops = dd } } in
-    let 𝓣 : Tables 𝓤 𝓛.H = tables_of 𝓤 𝓛.H 𝓜 (tables 𝓤 𝓛.H 𝓜 𝓡 𝓡.env) in
-    let k = #self (args E) in
-    spared 𝓛 (ended E).signature (𝓡.run (𝓡.env k)) (run_framed 𝓤 𝓛.H 𝓜 𝓡 (𝓡.env k)) 2 (Y.lives, (Z.lives, tt)) (closing 𝓛 (ended E) (spec E 𝓛))
-    (entered 𝓤 𝓛.H (triple_of 𝓛 (ended E).signature (closing 𝓛 (ended E) (spec E 𝓛))) 𝓣.C 𝓣.Λ k (function E) (code.unfolded 𝓤 𝓛.H 𝓜 𝓡 wired (Y, (Z, tt)) d dd) (meets E 𝓛 𝓣))
-    ((y.0.0, y.0.1, tt, y.0.3, y.0.4), y.1)
+    meets_grown 𝓛 𝓜 𝓡 E (ended E) (spec E 𝓛) (#self (args E)) (function E) (code.unfolded 𝓤 𝓛.H 𝓜 𝓡 wired (Y, (Z, tt)) d dd) (meets E 𝓛 (tables_of 𝓤 𝓛.H 𝓜 (tables 𝓤 𝓛.H 𝓜 𝓡 𝓡.env))) ((y.0.0, y.0.1, tt, y.0.3, y.0.4), y.1)

@@ -1,17 +1,14 @@
-use Rattle.std.proofs.Common.{sym, ap, subst}
+use Rattle.std.proofs.Common.{ap, subst}
 use Rattle.concurrent_lru.specs.Cells.{cell_at}
 use Rattle.concurrent_lru.specs.Listing.{listing_in}
 use Rattle.concurrent_lru.specs.NodeTable.{entry_detached}
 use Rattle.concurrent_lru.specs.Relinks.{Revalues}
-use Rattle.concurrent_lru.specs.SlotPointers.{HasNode, cells_of}
-use Rattle.concurrent_lru.proofs.Nodes.Listings.{but_kept, but_none, cell_unlisted, tied_unlisted}
+use Rattle.concurrent_lru.specs.SlotPointers.{cells_of}
+use Rattle.concurrent_lru.proofs.Nodes.Listings.{but_kept, but_none, cell_unlisted, unlisted}
 use Rattle.concurrent_lru.proofs.node_table.slots.Slots.set_detached.Goals as goal
 
-pub mark_detached-requires-clause-tied : goal.mark_detached-requires-clause-tied
-mark_detached-requires-clause-tied g c = tied_unlisted c.args.self.now c.unlist.new.self c.unlist.ensures.rest c.requires.tied
-
-pub mark_detached-requires-clause-present : goal.mark_detached-requires-clause-present
-mark_detached-requires-clause-present g c = subst (λ s. HasNode s c.args.slot) (sym c.unlist.ensures.rest) c.requires.present
+pub mark_detached-requires : goal.mark_detached-requires
+mark_detached-requires g c = unlisted c.args.self.now c.unlist.new.self c.args.slot c.unlist.ensures.rest c.requires.tied c.requires.present
 
 pub returns-clause-listed : goal.returns-clause-listed
 returns-clause-listed g c =

@@ -1,15 +1,12 @@
-use Rattle.std.proofs.Common.{sym, ap, ◌∙◌, subst}
+use Rattle.std.proofs.Common.{ap, ◌∙◌}
 use Rattle.concurrent_lru.specs.Cells.{cell_at}
 use Rattle.concurrent_lru.specs.Listing.{listing_in}
-use Rattle.concurrent_lru.specs.SlotPointers.{HasNode, cells_of}
-use Rattle.concurrent_lru.proofs.Nodes.Listings.{but_kept, but_none, tied_unlisted}
+use Rattle.concurrent_lru.specs.SlotPointers.{cells_of}
+use Rattle.concurrent_lru.proofs.Nodes.Listings.{but_kept, but_none, unlisted}
 use Rattle.concurrent_lru.proofs.node_table.slots.Slots.take.Goals as goal
 
-pub take_out-requires-clause-tied : goal.take_out-requires-clause-tied
-take_out-requires-clause-tied g c = tied_unlisted c.args.self.now c.unlist.new.self c.unlist.ensures.rest c.requires.tied
-
-pub take_out-requires-clause-present : goal.take_out-requires-clause-present
-take_out-requires-clause-present g c = subst (λ s. HasNode s c.args.slot) (sym c.unlist.ensures.rest) c.requires.present
+pub take_out-requires : goal.take_out-requires
+take_out-requires g c = unlisted c.args.self.now c.unlist.new.self c.args.slot c.unlist.ensures.rest c.requires.tied c.requires.present
 
 pub returns-clause-listed : goal.returns-clause-listed
 returns-clause-listed g c =
