@@ -3,14 +3,13 @@
 //!
 //! Each call is one step of the core. What it leaves to be done is returned as a debt, a type that
 //! is not `Drop`.
-ghost use Rattle.std.specs.Prelude.{◌≡◌, ◌≢◌, ◌<◌, [], Err, Some, None, IsTrue, IsFalse, IfOk, IfErr, IfSome, OnOk, OnErr, false};
+ghost use Rattle.std.specs.Prelude.{◌≡◌, ◌≢◌, ◌<◌, Err, Some, None, IsTrue, IsFalse, IfOk, IfErr, IfSome, false};
 ghost use Rattle.std.specs.Arc.{arc_value};
 ghost use Rattle.std.specs.Fn.{FnOnceReturnsAt, FnOnceTakesAt};
-ghost use Rattle.concurrent_lru.specs.Cache.{count_of, empty_cache, most_pins_by_default, sum_of, HasCapacityFor, IsLawful, CopiesAreEqual, HasNoOtherPin, IsSettled};
-ghost use Rattle.concurrent_lru.specs.CountedCalls.{counted, counted_look, replaced, AddUp};
-ghost use Rattle.concurrent_lru.specs.Counts.{counts_from, one_refusal};
+ghost use Rattle.concurrent_lru.specs.Cache.{count_of, empty_cache, most_pins_by_default, sum_of, IsLawful, CopiesAreEqual, HasNoOtherPin, IsSettled};
+ghost use Rattle.concurrent_lru.specs.CountedCalls.{counted, counted_look, AddUp};
+ghost use Rattle.concurrent_lru.specs.Counts.{counts_from};
 ghost use Rattle.concurrent_lru.specs.Debts.{outcome_of_locked_begin, outcome_of_locked_poll, outcome_of_locked_get, outcome_of_locked_repin, AsksOnEntry, AsksOnPoll, IfEntered, IfPolled};
-ghost use Rattle.concurrent_lru.specs.Inserts.{Replaces, RefusesToReplace, RefusesToReplaceStrictly};
 ghost use Rattle.concurrent_lru.specs.Reads.{Reads};
 ghost use Rattle.concurrent_lru.specs.Ready.{ValuesFit, HasEqualKeyAt};
 ghost use Rattle.concurrent_lru.specs.Request as ask;
@@ -18,6 +17,7 @@ ghost use Rattle.concurrent_lru.specs.Results.{outcome_of_begin, outcome_of_poll
 ghost use Rattle.concurrent_lru.specs.Runs.{Stands};
 ghost use Rattle.concurrent_lru.specs.ThreadedCalls.{IfHit};
 
+mod inserts;
 mod pins;
 mod waiters;
 
@@ -26,7 +26,7 @@ pub use self::waiters::Waiters;
 use crate::counted::CountedState;
 use crate::counts::Counts;
 use crate::fit::Fit;
-use crate::lru_core::{Begun, Evicted, Failed, Inserted, Refusal, State};
+use crate::lru_core::{Begun, Evicted, Failed, Refusal, State};
 use crate::sealed::Sealed;
 use crate::table::{Hint, Spot};
 use std::alloc::Global;
@@ -524,116 +524,6 @@ impl<K: Hash + Eq + Clone + Drop, V: Drop, F: Fit<K, V>> Locked<K, V, F> {
         ensures strict { self.new.strict ≡ self.old.strict }
     {
         Sealed::of(self.state.invalidate(key))
-    }
-
-    /// `insert`, or `insert_strictly` if the limit is strict.
-    pub fn put(
-        &mut self,
-        key: &K,
-        charge: u64,
-        stored: Arc<V>,
-        read: Arc<V>,
-    ) -> Result<
-        (HeldPin<K, V, F>, Sealed<(Evicted<K, V>, Evicted<K, V>)>),
-        (Refusal, Sealed<(Arc<V>, Arc<V>)>),
-    >
-        requires charged { 0 < charge }
-        requires fits { F.fits key.now (arc_value stored) }
-        requires same { arc_value read ≡ arc_value stored }
-        ensures step { IfOk result (λ r. Replaces K.eq self.old.cache key.now charge
-            (arc_value stored) r.0.stamp r.1.0 r.1.1 self.new.cache) }
-        ensures room { IsTrue self.old.strict → OnOk result (HasCapacityFor self.old.cache charge) }
-        ensures refused { IsFalse self.old.strict → IfErr result (λ e. RefusesToReplace K.eq
-            self.old.cache key.now charge e.0 self.new.cache) }
-        ensures refused_strictly { IsTrue self.old.strict → IfErr result
-            (λ e. RefusesToReplaceStrictly K.eq self.old.cache key.now charge e.0 self.new.cache) }
-        ensures pin { IfOk result (λ r. (r.0.key ≡ key.now) × (r.0.charge ≡ Some charge)
-            × (r.0.value ≡ arc_value stored)) }
-        ensures never_stale { IfErr result (λ e. e.0 ≢ Refusal.Stale) }
-        ensures strict { self.new.strict ≡ self.old.strict }
-    {
-        if self.strict {
-            return self.insert_strictly(key, charge, stored, read);
-        }
-        self.insert(key, charge, stored, read)
-    }
-
-    /// The core's `insert_strictly`, with pin and seals as `insert` has them.
-    ///
-    /// Returns `Full`, `Overflow` and `Memory` as there: then no entry changes, and both `Arc`s are
-    /// sealed.
-    pub fn insert_strictly(
-        &mut self,
-        key: &K,
-        charge: u64,
-        stored: Arc<V>,
-        read: Arc<V>,
-    ) -> Result<
-        (HeldPin<K, V, F>, Sealed<(Evicted<K, V>, Evicted<K, V>)>),
-        (Refusal, Sealed<(Arc<V>, Arc<V>)>),
-    >
-        requires charged { 0 < charge }
-        requires fits { F.fits key.now (arc_value stored) }
-        requires same { arc_value read ≡ arc_value stored }
-        ensures step { IfOk result (λ r. Replaces K.eq self.old.cache key.now charge
-            (arc_value stored) r.0.stamp r.1.0 r.1.1 self.new.cache) }
-        ensures room { OnOk result (HasCapacityFor self.old.cache charge) }
-        ensures refused { IfErr result (λ e. RefusesToReplaceStrictly K.eq self.old.cache key.now
-            charge e.0 self.new.cache) }
-        ensures inserted { IfOk result (λ r. self.new.counts
-            ≡ replaced r.1.0 r.1.1 charge self.old.counts) }
-        ensures counts { OnErr result (self.new.counts ≡ one_refusal self.old.counts) }
-        ensures pin { IfOk result (λ r. (r.0.key ≡ key.now) × (r.0.charge ≡ Some charge)
-            × (r.0.value ≡ arc_value stored)) }
-        ensures never_stale { IfErr result (λ e. e.0 ≢ Refusal.Stale) }
-        ensures strict { self.new.strict ≡ self.old.strict }
-    {
-        if let Err(refusal) = self.state.admit_insert(charge) {
-            return Err((refusal, Sealed::of((stored, read))));
-        }
-        self.insert(key, charge, stored, read)
-    }
-
-    /// The core's `insert`: the new entry of the key gets `stored`, and the pin holds `read`,
-    /// another `Arc` of the same value. What it replaced, and what its charge evicted, are sealed.
-    ///
-    /// Returns `Overflow` and `Memory` as there: then no entry changes, and both `Arc`s are sealed.
-    pub fn insert(
-        &mut self,
-        key: &K,
-        charge: u64,
-        stored: Arc<V>,
-        read: Arc<V>,
-    ) -> Result<
-        (HeldPin<K, V, F>, Sealed<(Evicted<K, V>, Evicted<K, V>)>),
-        (Refusal, Sealed<(Arc<V>, Arc<V>)>),
-    >
-        requires charged { 0 < charge }
-        requires fits { F.fits key.now (arc_value stored) }
-        requires same { arc_value read ≡ arc_value stored }
-        ensures step { IfOk result (λ r. Replaces K.eq self.old.cache key.now charge
-            (arc_value stored) r.0.stamp r.1.0 r.1.1 self.new.cache) }
-        ensures refused { IfErr result (λ e. RefusesToReplace K.eq self.old.cache key.now charge e.0
-            self.new.cache) }
-        ensures inserted { IfOk result (λ r. self.new.counts
-            ≡ replaced r.1.0 r.1.1 charge self.old.counts) }
-        ensures counts { OnErr result (self.new.counts ≡ one_refusal self.old.counts) }
-        ensures pin { IfOk result (λ r. (r.0.key ≡ key.now) × (r.0.charge ≡ Some charge)
-            × (r.0.value ≡ arc_value stored)) }
-        ensures never_stale { IfErr result (λ e. e.0 ≢ Refusal.Stale) }
-        ensures strict { self.new.strict ≡ self.old.strict }
-    {
-        let (inserted, hint) = match self.state.insert(key, charge, stored) {
-            Ok(inserted) => inserted,
-            Err((refusal, stored)) => return Err((refusal, Sealed::of((stored, read)))),
-        };
-        let Inserted {
-            stamp,
-            replaced,
-            evicted,
-        } = inserted;
-        let pin = HeldPin::of(Spot { stamp, hint }, key, Some(charge), read);
-        Ok((pin, Sealed::of((replaced, evicted))))
     }
 
     /// The core's `prune`. Takes no memory.
