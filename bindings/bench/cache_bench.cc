@@ -82,8 +82,9 @@ class Calls {
   }
 
   bool Hit(lru::Words block) {
+    const auto key = KeyOf(&block);
     mutex_.lock();
-    const lru_told told = C::get(&cache_, KeyOf(&block));
+    const lru_told told = C::get(&cache_, key);
     mutex_.unlock();
     if (told.code != LRU_HIT) return false;
     Release(told.pin);
@@ -91,8 +92,9 @@ class Calls {
   }
 
   bool Miss(lru::Words block) {
+    const auto key = KeyOf(&block);
     mutex_.lock();
-    const lru_told told = C::begin(&cache_, KeyOf(&block), 1, false, &gone_);
+    const lru_told told = C::begin(&cache_, key, 1, false, &gone_);
     mutex_.unlock();
     Pop();
     if (told.code != LRU_MAKE) return false;
@@ -104,11 +106,11 @@ class Calls {
   }
 
  private:
-  static Key KeyOf(const lru::Words* block) {
+  static typename C::Hashed KeyOf(const lru::Words* block) {
     if constexpr (std::is_same_v<Key, lru::Words>) {
       return *block;
     } else {
-      return Key(reinterpret_cast<const char*>(block), sizeof *block);
+      return C::hashed(Key(reinterpret_cast<const char*>(block), sizeof *block), lru::Seed(0));
     }
   }
 

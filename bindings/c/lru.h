@@ -22,7 +22,7 @@
  * The keys of a cache are of one of two kinds, which it is opened with: LRU_BYTES or LRU_WORDS. The
  * calls that take a key are there for each kind; all others are the same:
  *
- *     lru_bytes_*   keys are byte strings; the cache keeps its own copies
+ *     lru_bytes_*   keys are byte strings with a hash; the cache keeps its own copies
  *     lru_words_*   keys are 16 bytes, passed as two words, and faster to look up
  *     lru_cache_*   calls on a cache that take no key
  *     lru_chain_*   calls on a chain, which takes entries of any cache
@@ -61,18 +61,37 @@
  * the other kind, a chain that still holds entries, a buffer that is too small, and a pin of no
  * entry in the right state.
  *
- * SEEDS. A cache hashes its keys with the `seed` that it is opened with. Whoever knows the seed can
- * choose keys whose hashes are all equal. Each look-up of such a key then visits all of them, while
- * the caller holds the lock. So if keys come from outside the program, take a random seed for each
- * cache. With getrandom of <sys/random.h>:
+ * HASHES. The calls with a key of bytes take its hash, so that the bytes are hashed before the lock
+ * is taken, and not while other threads wait. Make it with lru_hash_bytes, or take another hash
+ * that the program has anyway, of the key alone:
+ *
+ *     uint64_t hash = lru_hash_bytes(key, length, seed);
+ *     pthread_mutex_lock(&lock);
+ *     lru_told told = lru_bytes_get(&cache, key, length, hash);
+ *
+ * The hash is a part of the key: two keys are equal if both their bytes and their hashes are. So
+ * all calls on a cache must pass the same hash for the same bytes. A call that passes another one
+ * names another key: it does not find the entry, and `begin` and `insert` add a second one for the
+ * same bytes. Nothing worse happens. Nor do equal hashes of different bytes change an answer; but
+ * each look-up of such a key visits all of them.
+ *
+ * One hash may also choose among several caches (shards), by any of its bits: within a cache it is
+ * hashed once more, with the seed of that cache.
+ *
+ * SEEDS. A cache hashes the words of its keys, or the hashes of its keys of bytes, with the `seed`
+ * that it is opened with. Whoever knows the seed can choose keys of words whose hashes are all
+ * equal, and whoever knows the seed that was passed to lru_hash_bytes, such keys of bytes. Each
+ * look-up of such a key then visits all of them, while the caller holds the lock. So if keys come
+ * from outside the program, take a random seed for each cache, and pass it to both. With getrandom
+ * of <sys/random.h>:
  *
  *     uint64_t seed;
  *     if (getrandom(&seed, sizeof seed, 0) != (ssize_t)sizeof seed)
  *         return false;
  *     lru_code code = lru_cache_new(LRU_BYTES, capacity, seed, &cache);
  *
- * Otherwise the seed may be 0. No answer depends on the seed, except for the hash of a pin, nor
- * does what is evicted, or its order.
+ * Otherwise the seed may be 0. No answer depends on the seed of a cache, except for the hash of a
+ * pin, nor does what is evicted, or its order.
  *
  * COMING FROM ANOTHER CACHE. Entries are evicted by `begin`, by the `release` of a last pin and by
  * `set_capacity`; many caches evict only when an entry is inserted. `begin` does not change the
@@ -90,6 +109,7 @@
 #include <stdbool.h>
 #include <stddef.h>
 #include <stdint.h>
+#include <string.h>
 
 #define LRU_VERSION "1.0.0"
 
@@ -241,8 +261,15 @@ lru_code lru_cache_new_with_limits(lru_kind keys, uint64_t capacity, uint64_t fi
 
 /* -------------------------------------------------------------------------------- keys of bytes */
 
-/* A key is `length` bytes. On a cache whose keys are two words, each of these calls answers
+/* A key is `length` bytes, and their `hash`, which is the same in each call for the same bytes
+ * (HASHES, above). On a cache whose keys are two words, each of these calls answers
  * LRU_OTHER_KEYS. */
+
+/* The hash of `length` bytes, for the calls below. It takes eight bytes at a time. The seed is one
+ * that nobody can guess, if keys come from outside the program (SEEDS, above). Needs no lock and no
+ * cache, and answers with some number for a null key. Programs must not store it: it may change
+ * with the version of this header and with the machine. */
+static inline uint64_t lru_hash_bytes(const void *key, size_t length, uint64_t seed);
 
 /* Asks for the value of a key and pins its entry, or adds an entry if there is none. `charge`,
  * above 0, is the charge of a new entry; an entry that exists keeps its charge, even if its maker
@@ -260,27 +287,30 @@ lru_code lru_cache_new_with_limits(lru_kind keys, uint64_t capacity, uint64_t fi
  * the call is strict and there is no room; LRU_MEMORY; LRU_NO_CHARGE if `charge` is 0, even if the
  * key has an entry; LRU_NULL_KEY; LRU_CLOSED; LRU_NOT_EMPTY. */
 static inline lru_told lru_bytes_begin(lru_cache *cache, const void *key, size_t length,
-                                       uint64_t charge, bool strict, lru_chain *gone);
+                                       uint64_t hash, uint64_t charge, bool strict,
+                                       lru_chain *gone);
 
 /* Finds the value of a key and pins its entry. Adds no entry if there is none.
  *
  * Allocates if the key is longer than any before. LRU_HIT with the pin and the value; LRU_MISSED;
  * LRU_OVERFLOW if the entry has as many pins as it may have; LRU_MEMORY; LRU_NULL_KEY;
  * LRU_CLOSED. */
-static inline lru_told lru_bytes_get(lru_cache *cache, const void *key, size_t length);
+static inline lru_told lru_bytes_get(lru_cache *cache, const void *key, size_t length,
+                                     uint64_t hash);
 
 /* Whether a key has a value that `get` would find. Pins nothing and does not change the order.
  *
  * Allocates if the key is longer than any before. LRU_DONE if it has one; LRU_MISSED; LRU_MEMORY;
  * LRU_NULL_KEY; LRU_CLOSED. */
-static inline lru_code lru_bytes_contains(lru_cache *cache, const void *key, size_t length);
+static inline lru_code lru_bytes_contains(lru_cache *cache, const void *key, size_t length,
+                                          uint64_t hash);
 
 /* Evicts the entry of a key into `gone` if it is idle. Otherwise nothing happens, now or later.
  *
  * Allocates if the key is longer than any before. LRU_DONE in either case; LRU_MEMORY;
  * LRU_NULL_KEY; LRU_CLOSED; LRU_NOT_EMPTY. */
 static inline lru_code lru_bytes_advice_evict(lru_cache *cache, const void *key, size_t length,
-                                              lru_chain *gone);
+                                              uint64_t hash, lru_chain *gone);
 
 /* Detaches the entry of a key, so that no call finds it by the key: the next `begin` adds a new
  * one. An idle entry is evicted into `gone`. A held one, with or without a value, is still found by
@@ -290,7 +320,7 @@ static inline lru_code lru_bytes_advice_evict(lru_cache *cache, const void *key,
  * Allocates if the key is longer than any before. LRU_DONE in each case; LRU_MEMORY; LRU_NULL_KEY;
  * LRU_CLOSED; LRU_NOT_EMPTY. */
 static inline lru_code lru_bytes_invalidate(lru_cache *cache, const void *key, size_t length,
-                                            lru_chain *gone);
+                                            uint64_t hash, lru_chain *gone);
 
 /* Gives a key a value, whatever it had before: detaches the entry of the key as `invalidate` does,
  * and adds a new one with this value and this charge, which is above 0. The caller has a pin of it,
@@ -307,10 +337,10 @@ static inline lru_code lru_bytes_invalidate(lru_cache *cache, const void *key, s
  * LRU_NULL_KEY; LRU_CLOSED; LRU_NOT_EMPTY. After a refusal the key keeps its entry, and the value
  * still belongs to the caller. */
 static inline lru_told lru_bytes_insert(lru_cache *cache, const void *key, size_t length,
-                                        uint64_t charge, uint64_t value, bool strict,
+                                        uint64_t hash, uint64_t charge, uint64_t value, bool strict,
                                         lru_chain *gone);
 
-/* Copies the key of an entry, held or idle, to the start of a buffer of `room` bytes.
+/* Copies the bytes of the key of an entry, held or idle, to the start of a buffer of `room` bytes.
  *
  * Does not allocate. LRU_NUMBER with the length of the key as the value; LRU_NO_ROOM with the
  * length of the key as the value if it is more than `room`; LRU_STALE if no entry has the stamp;
@@ -476,14 +506,16 @@ bool lru_chain_is_empty(lru_chain *chain);
 /* The functions behind the calls above that take a key of bytes or a buffer. The pointer must not
  * be null, even if the length is 0. A binding for a language whose slices are never null may call
  * them directly. */
-lru_told lru_bytes_begin_nonnull(lru_cache *cache, const uint8_t *key, size_t length,
+lru_told lru_bytes_begin_nonnull(lru_cache *cache, const uint8_t *key, size_t length, uint64_t hash,
                                  uint64_t charge, bool strict, lru_chain *gone);
-lru_told lru_bytes_get_nonnull(lru_cache *cache, const uint8_t *key, size_t length);
-lru_code lru_bytes_contains_nonnull(lru_cache *cache, const uint8_t *key, size_t length);
-lru_code lru_bytes_evict_nonnull(lru_cache *cache, const uint8_t *key, size_t length,
+lru_told lru_bytes_get_nonnull(lru_cache *cache, const uint8_t *key, size_t length, uint64_t hash);
+lru_code lru_bytes_contains_nonnull(lru_cache *cache, const uint8_t *key, size_t length,
+                                    uint64_t hash);
+lru_code lru_bytes_evict_nonnull(lru_cache *cache, const uint8_t *key, size_t length, uint64_t hash,
                                  bool even_held, lru_chain *gone);
 lru_told lru_bytes_insert_nonnull(lru_cache *cache, const uint8_t *key, size_t length,
-                                  uint64_t charge, uint64_t value, bool strict, lru_chain *gone);
+                                  uint64_t hash, uint64_t charge, uint64_t value, bool strict,
+                                  lru_chain *gone);
 lru_told lru_bytes_key_of_nonnull(lru_cache *cache, lru_pin pin, uint8_t *buffer, size_t room);
 lru_told lru_cache_entries_nonnull(lru_cache *cache, lru_entry *out, size_t room);
 
@@ -502,6 +534,37 @@ static inline lru_code lru_words_invalidate(lru_cache *cache, uint64_t first, ui
     return lru_words_evict(cache, first, second, true, gone);
 }
 
+/* Parts of lru_hash_bytes; these two names are internal. The first joins both halves of a product.
+ * Its factor is never 0, so that without the seed nobody can tell which keys have hashes in common.
+ * The second returns up to eight bytes as a word, by reads that may overlap. */
+static inline uint64_t lru_hash_step(uint64_t hash, uint64_t word, uint64_t length) {
+    __extension__ typedef unsigned __int128 product_of_words;
+    product_of_words product =
+        (product_of_words)(hash ^ word) * (0x9e3779b97f4a7c15 ^ 2 * length);
+    return (uint64_t)product ^ (uint64_t)(product >> 64);
+}
+
+static inline uint64_t lru_hash_word(const uint8_t *at, size_t length) {
+    uint32_t low, high;
+    if (length == 0)
+        return 0;
+    if (length < 4)
+        return at[0] | (uint64_t)at[length / 2] << 8 | (uint64_t)at[length - 1] << 16;
+    memcpy(&low, at, 4);
+    memcpy(&high, at + length - 4, 4);
+    return low | (uint64_t)high << 32;
+}
+
+static inline uint64_t lru_hash_bytes(const void *key, size_t length, uint64_t seed) {
+    const uint8_t *at = (const uint8_t *)key;
+    uint64_t hash = lru_hash_step(0x243f6a8885a308d3, seed, 8);
+    if (key == NULL)
+        length = 0;
+    for (; length > 8; at += 8, length -= 8)
+        hash = lru_hash_step(hash, lru_hash_word(at, 8), 8);
+    return lru_hash_step(hash, lru_hash_word(at, length), length);
+}
+
 /* The calls that also take a null pointer. These first three names are internal. */
 static const uint8_t lru_empty_key[1] = {0};
 
@@ -515,45 +578,49 @@ static inline lru_told lru_told_null_key(void) {
 }
 
 static inline lru_told lru_bytes_begin(lru_cache *cache, const void *key, size_t length,
-                                       uint64_t charge, bool strict, lru_chain *gone) {
+                                       uint64_t hash, uint64_t charge, bool strict,
+                                       lru_chain *gone) {
     if (key == NULL && length > 0)
         return lru_told_null_key();
-    return lru_bytes_begin_nonnull(cache, lru_key_or_empty(key), length, charge, strict, gone);
+    return lru_bytes_begin_nonnull(cache, lru_key_or_empty(key), length, hash, charge, strict,
+                                   gone);
 }
 
-static inline lru_told lru_bytes_get(lru_cache *cache, const void *key, size_t length) {
+static inline lru_told lru_bytes_get(lru_cache *cache, const void *key, size_t length,
+                                     uint64_t hash) {
     if (key == NULL && length > 0)
         return lru_told_null_key();
-    return lru_bytes_get_nonnull(cache, lru_key_or_empty(key), length);
+    return lru_bytes_get_nonnull(cache, lru_key_or_empty(key), length, hash);
 }
 
-static inline lru_code lru_bytes_contains(lru_cache *cache, const void *key, size_t length) {
+static inline lru_code lru_bytes_contains(lru_cache *cache, const void *key, size_t length,
+                                          uint64_t hash) {
     if (key == NULL && length > 0)
         return LRU_NULL_KEY;
-    return lru_bytes_contains_nonnull(cache, lru_key_or_empty(key), length);
+    return lru_bytes_contains_nonnull(cache, lru_key_or_empty(key), length, hash);
 }
 
 static inline lru_code lru_bytes_advice_evict(lru_cache *cache, const void *key, size_t length,
-                                              lru_chain *gone) {
+                                              uint64_t hash, lru_chain *gone) {
     if (key == NULL && length > 0)
         return LRU_NULL_KEY;
-    return lru_bytes_evict_nonnull(cache, lru_key_or_empty(key), length, false, gone);
+    return lru_bytes_evict_nonnull(cache, lru_key_or_empty(key), length, hash, false, gone);
 }
 
 static inline lru_code lru_bytes_invalidate(lru_cache *cache, const void *key, size_t length,
-                                            lru_chain *gone) {
+                                            uint64_t hash, lru_chain *gone) {
     if (key == NULL && length > 0)
         return LRU_NULL_KEY;
-    return lru_bytes_evict_nonnull(cache, lru_key_or_empty(key), length, true, gone);
+    return lru_bytes_evict_nonnull(cache, lru_key_or_empty(key), length, hash, true, gone);
 }
 
 static inline lru_told lru_bytes_insert(lru_cache *cache, const void *key, size_t length,
-                                        uint64_t charge, uint64_t value, bool strict,
+                                        uint64_t hash, uint64_t charge, uint64_t value, bool strict,
                                         lru_chain *gone) {
     if (key == NULL && length > 0)
         return lru_told_null_key();
-    return lru_bytes_insert_nonnull(cache, lru_key_or_empty(key), length, charge, value, strict,
-                                    gone);
+    return lru_bytes_insert_nonnull(cache, lru_key_or_empty(key), length, hash, charge, value,
+                                    strict, gone);
 }
 
 /* A null buffer has no room. */

@@ -54,9 +54,14 @@ static const void *bytes_of(uint64_t k) {
     return &kept[last];
 }
 
+/* The hash of those bytes. */
+static uint64_t hash_of(uint64_t k) {
+    return lru_hash_bytes(&k, sizeof k, 0);
+}
+
 #define FAMILY(name) lru_bytes_##name
 #define KIND LRU_BYTES
-#define KEY(k) bytes_of(k), sizeof(uint64_t)
+#define KEY(k) bytes_of(k), sizeof(uint64_t), hash_of(k)
 #include "rows.h"
 #undef FAMILY
 #undef KIND
@@ -70,7 +75,8 @@ static const void *bytes_of(uint64_t k) {
 #undef KIND
 #undef KEY
 
-/* Keys of bytes have any length, and null is the empty key if the length is 0. */
+/* Keys of bytes have any length, and null is the empty key if the length is 0. All have one hash
+ * here, which changes no answer. */
 static void keys_of_bytes(void) {
     lru_cache cache = {0};
     lru_chain gone = {0};
@@ -81,30 +87,30 @@ static void keys_of_bytes(void) {
     CHECK(lru_cache_new(LRU_BYTES, 10, 0, &cache), LRU_DONE);
     CHECK(lru_chain_new(&gone), LRU_DONE);
 
-    CHECK(lru_bytes_begin(&cache, NULL, 1, 1, false, &gone).code, LRU_NULL_KEY);
-    CHECK(lru_bytes_begin(&cache, NULL, 1, 1, true, &gone).code, LRU_NULL_KEY);
-    CHECK(lru_bytes_get(&cache, NULL, 1).code, LRU_NULL_KEY);
-    CHECK(lru_bytes_contains(&cache, NULL, 1), LRU_NULL_KEY);
-    CHECK(lru_bytes_advice_evict(&cache, NULL, 1, &gone), LRU_NULL_KEY);
-    CHECK(lru_bytes_invalidate(&cache, NULL, 1, &gone), LRU_NULL_KEY);
-    CHECK(lru_bytes_insert(&cache, NULL, 1, 1, 1, false, &gone).code, LRU_NULL_KEY);
-    CHECK(lru_bytes_insert(&cache, NULL, 1, 1, 1, true, &gone).code, LRU_NULL_KEY);
+    CHECK(lru_bytes_begin(&cache, NULL, 1, 7, 1, false, &gone).code, LRU_NULL_KEY);
+    CHECK(lru_bytes_begin(&cache, NULL, 1, 7, 1, true, &gone).code, LRU_NULL_KEY);
+    CHECK(lru_bytes_get(&cache, NULL, 1, 7).code, LRU_NULL_KEY);
+    CHECK(lru_bytes_contains(&cache, NULL, 1, 7), LRU_NULL_KEY);
+    CHECK(lru_bytes_advice_evict(&cache, NULL, 1, 7, &gone), LRU_NULL_KEY);
+    CHECK(lru_bytes_invalidate(&cache, NULL, 1, 7, &gone), LRU_NULL_KEY);
+    CHECK(lru_bytes_insert(&cache, NULL, 1, 7, 1, 1, false, &gone).code, LRU_NULL_KEY);
+    CHECK(lru_bytes_insert(&cache, NULL, 1, 7, 1, 1, true, &gone).code, LRU_NULL_KEY);
     CHECK(lru_cache_len(&cache).value, 0);
 
-    told = lru_bytes_begin(&cache, NULL, 0, 1, false, &gone);
+    told = lru_bytes_begin(&cache, NULL, 0, 7, 1, false, &gone);
     CHECK(told.code, LRU_MAKE);
     CHECK(lru_cache_ready(&cache, told.pin, 100), LRU_DONE);
-    CHECK(lru_bytes_get(&cache, "", 0).value, 100);
+    CHECK(lru_bytes_get(&cache, "", 0, 7).value, 100);
 
     /* the key is copied: its bytes may change */
     memcpy(key, "abc", 4);
-    told = lru_bytes_begin(&cache, key, 3, 1, false, &gone);
+    told = lru_bytes_begin(&cache, key, 3, 7, 1, false, &gone);
     CHECK(told.code, LRU_MAKE);
     memcpy(key, "xyz", 4);
     CHECK(lru_cache_ready(&cache, told.pin, 200), LRU_DONE);
-    CHECK(lru_bytes_get(&cache, "abc", 3).value, 200);
-    CHECK(lru_bytes_get(&cache, "abc\0", 4).code, LRU_MISSED);
-    CHECK(lru_bytes_get(&cache, "ab", 2).code, LRU_MISSED);
+    CHECK(lru_bytes_get(&cache, "abc", 3, 7).value, 200);
+    CHECK(lru_bytes_get(&cache, "abc\0", 4, 7).code, LRU_MISSED);
+    CHECK(lru_bytes_get(&cache, "ab", 2, 7).code, LRU_MISSED);
 
     told = lru_bytes_key_of(&cache, told.pin, key, sizeof key);
     CHECK(told.code, LRU_NUMBER);
@@ -131,6 +137,51 @@ static void keys_of_bytes(void) {
     CHECK(left.value, 300 - first);
     CHECK(lru_chain_free(&gone), LRU_DONE);
     CHECK(lru_bytes_key_of(&cache, pin_of(0), key, sizeof key).code, LRU_CLOSED);
+}
+
+/* The hash is a part of the key. */
+static void hashes_of_bytes(void) {
+    lru_cache cache = {0};
+    lru_chain gone = {0};
+    lru_told told, other;
+    lru_gone left;
+
+    CHECK(lru_cache_new(LRU_BYTES, 10, 0, &cache), LRU_DONE);
+    CHECK(lru_chain_new(&gone), LRU_DONE);
+    told = lru_bytes_insert(&cache, "abc", 3, 1, 1, 100, false, &gone);
+    CHECK(told.code, LRU_DONE);
+    CHECK(lru_bytes_get(&cache, "abc", 3, 2).code, LRU_MISSED);
+    CHECK(lru_bytes_contains(&cache, "abc", 3, 2), LRU_MISSED);
+    CHECK(lru_bytes_get(&cache, "abd", 3, 1).code, LRU_MISSED);
+    other = lru_bytes_begin(&cache, "abc", 3, UINT64_MAX, 1, false, &gone);
+    CHECK(other.code, LRU_MAKE);
+    CHECK(lru_cache_ready(&cache, other.pin, 200), LRU_DONE);
+    CHECK(lru_cache_len(&cache).value, 2);
+    CHECK(lru_bytes_invalidate(&cache, "abc", 3, 2, &gone), LRU_DONE);
+    CHECK(lru_bytes_contains(&cache, "abc", 3, 1), LRU_DONE);
+    CHECK(lru_bytes_contains(&cache, "abc", 3, UINT64_MAX), LRU_DONE);
+
+    CHECK(lru_cache_release(&cache, told.pin, &gone), LRU_DONE);
+    CHECK(lru_cache_release(&cache, other.pin, &gone), LRU_DONE);
+    CHECK(lru_chain_is_empty(&gone), true);
+    CHECK(lru_bytes_advice_evict(&cache, "abc", 3, UINT64_MAX, &gone), LRU_DONE);
+    CHECK(lru_chain_pop(&gone, &left), true);
+    CHECK(left.value, 200);
+    CHECK(lru_bytes_get(&cache, "abc", 3, 1).value, 100);
+    CHECK(lru_cache_free(&cache, &gone), LRU_DONE);
+    CHECK(lru_chain_pop(&gone, &left), true);
+    CHECK(lru_chain_free(&gone), LRU_DONE);
+
+    /* computed by another program, on a machine whose lowest byte comes first */
+    CHECK(lru_hash_bytes("", 0, 0), 0x19884c72f19a2e14);
+    CHECK(lru_hash_bytes("", 0, 7), 0xf3bb3b4bad4cb891);
+    CHECK(lru_hash_bytes("abc", 3, 7), 0xf87f6c295a7501e6);
+    CHECK(lru_hash_bytes("abcd", 4, 7), 0xb17eb49eee126225);
+    CHECK(lru_hash_bytes("abcdefgh", 8, 7), 0x0ce9c07d3d32611a);
+    CHECK(lru_hash_bytes("abcdefghi", 9, 7), 0x57a641bc679a14cc);
+    CHECK(lru_hash_bytes("abcdefghijklmnop", 16, 7), 0x2f8d84ac4fbc1633);
+    CHECK(lru_hash_bytes("abcdefghijklmnopqrs", 19, 7), 0xfff84c3228eeea95);
+    CHECK(lru_hash_bytes(NULL, 5, 7), lru_hash_bytes("", 0, 7));
 }
 
 /* Both words of a key count. */
@@ -303,7 +354,7 @@ static void keys_of_the_other_kind(void) {
     CHECK(lru_cache_new_with_limits(2, 10, 0, 1, 0, &neither), LRU_NO_KIND);
     CHECK(lru_cache_len(&neither).code, LRU_CLOSED);
     CHECK(lru_chain_new(&gone), LRU_DONE);
-    told = lru_bytes_insert(&bytes, "k", 1, 4, 100, false, &gone);
+    told = lru_bytes_insert(&bytes, "k", 1, 7, 4, 100, false, &gone);
     CHECK(told.code, LRU_DONE);
     other = lru_words_insert(&words, 1, 2, 5, 200, false, &gone);
     CHECK(other.code, LRU_DONE);
@@ -322,15 +373,15 @@ static void keys_of_the_other_kind(void) {
     CHECK(second, 8);
     CHECK_STATS(bytes, 0, 0, 0, 1, 0, 0, 1, 4, 4, 10);
 
-    CHECK(lru_bytes_begin(&words, "k", 1, 1, false, &gone).code, LRU_OTHER_KEYS);
-    CHECK(lru_bytes_begin(&words, "k", 1, 0, false, &gone).code, LRU_OTHER_KEYS);
-    CHECK(lru_bytes_begin(&words, "k", 1, 11, true, &gone).code, LRU_OTHER_KEYS);
-    CHECK(lru_bytes_get(&words, "k", 1).code, LRU_OTHER_KEYS);
-    CHECK(lru_bytes_contains(&words, "k", 1), LRU_OTHER_KEYS);
-    CHECK(lru_bytes_advice_evict(&words, "k", 1, &gone), LRU_OTHER_KEYS);
-    CHECK(lru_bytes_invalidate(&words, "k", 1, &gone), LRU_OTHER_KEYS);
-    CHECK(lru_bytes_insert(&words, "k", 1, 1, 1, false, &gone).code, LRU_OTHER_KEYS);
-    CHECK(lru_bytes_insert(&words, "k", 1, 11, 1, true, &gone).code, LRU_OTHER_KEYS);
+    CHECK(lru_bytes_begin(&words, "k", 1, 7, 1, false, &gone).code, LRU_OTHER_KEYS);
+    CHECK(lru_bytes_begin(&words, "k", 1, 7, 0, false, &gone).code, LRU_OTHER_KEYS);
+    CHECK(lru_bytes_begin(&words, "k", 1, 7, 11, true, &gone).code, LRU_OTHER_KEYS);
+    CHECK(lru_bytes_get(&words, "k", 1, 7).code, LRU_OTHER_KEYS);
+    CHECK(lru_bytes_contains(&words, "k", 1, 7), LRU_OTHER_KEYS);
+    CHECK(lru_bytes_advice_evict(&words, "k", 1, 7, &gone), LRU_OTHER_KEYS);
+    CHECK(lru_bytes_invalidate(&words, "k", 1, 7, &gone), LRU_OTHER_KEYS);
+    CHECK(lru_bytes_insert(&words, "k", 1, 7, 1, 1, false, &gone).code, LRU_OTHER_KEYS);
+    CHECK(lru_bytes_insert(&words, "k", 1, 7, 11, 1, true, &gone).code, LRU_OTHER_KEYS);
     CHECK(lru_bytes_key_of(&words, other.pin, buffer, sizeof buffer).code, LRU_OTHER_KEYS);
     CHECK(buffer[0], 9);
     CHECK_STATS(words, 0, 0, 0, 1, 0, 0, 1, 5, 5, 10);
@@ -354,6 +405,7 @@ int main(void) {
     lru_bytes_rows();
     lru_words_rows();
     keys_of_bytes();
+    hashes_of_bytes();
     keys_of_words();
     keys_of_the_other_kind();
     if (failures > 0) {

@@ -48,6 +48,7 @@
 #include <cstddef>
 #include <cstdint>
 #include <cstdlib>
+#include <cstring>
 #include <mutex>
 #include <new>
 #include <string_view>
@@ -58,6 +59,29 @@
 #include "lru_core.hpp"
 
 namespace lru {
+namespace detail {
+
+// The hash function of LevelDB's own cache.
+template <class Slice>
+std::uint32_t HashOf(const Slice& key) {
+  constexpr std::uint32_t kFactor = 0xc6a4a793;
+  const auto* at = reinterpret_cast<const std::uint8_t*>(key.data());
+  const std::uint8_t* const end = at + key.size();
+  std::uint32_t hash = static_cast<std::uint32_t>(key.size()) * kFactor;
+  for (; end - at >= 4; at += 4) {
+    std::uint32_t word;  // its lowest byte first, as x86-64 and aarch64 have it
+    std::memcpy(&word, at, sizeof word);
+    hash = (hash + word) * kFactor;
+    hash ^= hash >> 16;
+  }
+  if (at == end) return hash;
+  std::uint32_t rest = 0;
+  std::memcpy(&rest, at, static_cast<std::size_t>(end - at));
+  hash = (hash + rest) * kFactor;
+  return hash ^ hash >> 24;
+}
+
+}  // namespace detail
 
 // `Key` is how the library stores keys: std::string_view or Words.
 template <class Key>
@@ -100,25 +124,27 @@ class BasicLevelDBCache : public leveldb::Cache {
     if (entry == nullptr) std::abort();
     if (!CanStore(key)) return reinterpret_cast<Handle*>(entry);
     const std::uint64_t weight = charge == 0 ? 1 : charge;
+    const auto hashed = Hashed(key);
     Shard& shard = ShardOf(key);
     entry->shard = &shard;
     Evicted evicted;
     const std::lock_guard<std::mutex> lock(shard.mutex);
-    const lru_told told = shard.core.insert(Stored(key), weight, entry, &evicted);
+    const lru_told told = shard.core.insert(hashed, weight, entry, &evicted);
     entry->pin = told.pin;
     if (told.code != LRU_DONE) {
       entry->shard = nullptr;
       // The old entry must not be found either.
-      shard.core.invalidate(Stored(key), &evicted);
+      shard.core.invalidate(hashed, &evicted);
     }
     return reinterpret_cast<Handle*>(entry);
   }
 
   Handle* Lookup(const leveldb::Slice& key) override {
     if (!CanStore(key)) return nullptr;
+    const auto hashed = Hashed(key);
     Shard& shard = ShardOf(key);
     const std::lock_guard<std::mutex> lock(shard.mutex);
-    const lru_told told = shard.core.get(Stored(key));
+    const lru_told told = shard.core.get(hashed);
     // It is a miss too if the entry has 2^32 - 1 handles. If the key is longer than any before and
     // there is no memory for a copy, it has no entry.
     if (told.code != LRU_HIT) return nullptr;
@@ -141,11 +167,12 @@ class BasicLevelDBCache : public leveldb::Cache {
 
   void Erase(const leveldb::Slice& key) override {
     if (!CanStore(key)) return;
+    const auto hashed = Hashed(key);
     Shard& shard = ShardOf(key);
     Evicted evicted;
     const std::lock_guard<std::mutex> lock(shard.mutex);
     // This is refused only if the key is longer than any before, and then it has no entry.
-    shard.core.invalidate(Stored(key), &evicted);
+    shard.core.invalidate(hashed, &evicted);
   }
 
   std::uint64_t NewId() override { return ++last_id_; }
@@ -182,7 +209,10 @@ class BasicLevelDBCache : public leveldb::Cache {
   explicit BasicLevelDBCache(std::size_t shards) : shards_(shards) {}
 
   static bool CanStore(const leveldb::Slice& key) { return detail::CanStore<Key>(key); }
-  static Key Stored(const leveldb::Slice& key) { return detail::Stored<Key>(key); }
+
+  // Both of these come before the mutex of the shard is locked. The hash of LevelDB's own cache
+  // cannot serve the table too: it has no seed, so anybody can choose keys for which it is equal.
+  auto Hashed(const leveldb::Slice& key) const { return detail::Hashed<Key>(key, shards_.seed()); }
 
   // Of 16 shards, the one that LevelDB's own cache has for the key.
   Shard& ShardOf(const leveldb::Slice& key) { return shards_.Of(detail::HashOf(key)); }

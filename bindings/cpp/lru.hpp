@@ -227,9 +227,9 @@ class Handle {
 // A cache behind one lock.
 //
 // Keys are byte strings (std::string_view; the cache copies the bytes for each entry that it makes)
-// or lru::Words. Each call hashes its key with the lock held, and copies the bytes first, so long
-// keys make other threads wait. All members may be called from any thread at any time, except the
-// constructor and the destructor.
+// or lru::Words. Each call hashes the bytes before it takes the lock, but copies them with the lock
+// held, so very long keys make other threads wait. All members may be called from any thread at any
+// time, except the constructor and the destructor.
 //
 // No lock is held while `init` makes a value or a value is deleted. So both may take long, and may
 // call the cache. But `init` must not ask for the key whose value it makes, and must not wait for
@@ -247,7 +247,7 @@ class Cache {
       : Cache(capacity, Limit::kNotStrict, seed) {}
 
   // The same with a limit that may be strict.
-  Cache(std::uint64_t capacity, Limit limit, Seed seed = Seed::random()) {
+  Cache(std::uint64_t capacity, Limit limit, Seed seed = Seed::random()) : seed_(seed) {
     if (!core_.open(capacity, seed)) throw OutOfMemory();
     core_.set_strict_limit(limit == Limit::kStrict);
   }
@@ -263,8 +263,9 @@ class Cache {
   // Does not wait. Throws Overflow if the value has 2^32 - 1 handles, and OutOfMemory if the key is
   // longer than any before and there is no memory for a copy.
   Handle get(Key key) {
+    const Hashed hashed = hash(key);
     std::unique_lock<std::mutex> lock(mutex_);
-    const lru_told told = core_.get(key);
+    const lru_told told = core_.get(hashed);
     lock.unlock();
     if (told.code == LRU_MISSED) return Handle();
     if (told.code != LRU_HIT) detail::throw_refusal(told.code);
@@ -320,9 +321,10 @@ class Cache {
   template <class V>
   Handle insert(Key key, std::uint64_t charge, V&& value) {
     auto node = std::make_unique<Node>(std::forward<V>(value));
+    const Hashed hashed = hash(key);
     Evicted evicted;
     std::unique_lock<std::mutex> lock(mutex_);
-    const lru_told told = core_.insert(key, charge, node.get(), &evicted);
+    const lru_told told = core_.insert(hashed, charge, node.get(), &evicted);
     lock.unlock();
     if (told.code != LRU_DONE) detail::throw_refusal(told.code);
     return Handle(this, told.pin, std::addressof(node.release()->value));
@@ -332,9 +334,10 @@ class Cache {
   // the old value keep it, as with `insert`. Throws OutOfMemory if the key is longer than any
   // before and there is no memory for a copy.
   void invalidate(Key key) {
+    const Hashed hashed = hash(key);
     Evicted evicted;
     std::unique_lock<std::mutex> lock(mutex_);
-    const lru_code code = core_.invalidate(key, &evicted);
+    const lru_code code = core_.invalidate(hashed, &evicted);
     lock.unlock();
     if (code != LRU_DONE) detail::throw_refusal(code);
   }
@@ -342,9 +345,10 @@ class Cache {
   // Evicts the key's value if it is idle. If it is pinned, nothing happens, now or later. Throws
   // OutOfMemory if the key is longer than any before and there is no memory for a copy.
   void advice_evict(Key key) {
+    const Hashed hashed = hash(key);
     Evicted evicted;
     std::unique_lock<std::mutex> lock(mutex_);
-    const lru_code code = core_.advice_evict(key, &evicted);
+    const lru_code code = core_.advice_evict(hashed, &evicted);
     lock.unlock();
     if (code != LRU_DONE) detail::throw_refusal(code);
   }
@@ -359,8 +363,9 @@ class Cache {
   // Whether the key has a value, as `get` looks for it. Pins nothing, and does not count as a use.
   // Throws OutOfMemory if the key is longer than any before and there is no memory for a copy.
   bool contains(Key key) const {
+    const Hashed hashed = hash(key);
     std::unique_lock<std::mutex> lock(mutex_);
-    const lru_code code = core_.contains(key);
+    const lru_code code = core_.contains(hashed);
     lock.unlock();
     if (code != LRU_DONE && code != LRU_MISSED) detail::throw_refusal(code);
     return code == LRU_DONE;
@@ -461,6 +466,7 @@ class Cache {
   // Always declared before the lock is taken: it is destroyed, and the values with it, after the
   // lock is released.
   using Evicted = detail::Evicted<Node>;
+  using Hashed = typename detail::Calls<Key>::Hashed;
 
   // The duty to make a value. If it is destroyed before `end`, making the value has failed.
   class Making {
@@ -484,6 +490,9 @@ class Cache {
     lru_pin pin_;
   };
 
+  // Comes before the lock is taken.
+  Hashed hash(Key key) const noexcept { return detail::Calls<Key>::hashed(key, seed_); }
+
   Handle handle(const lru_told& told) {
     return Handle(this, told.pin, std::addressof(core_.node_of(told.value)->value));
   }
@@ -491,9 +500,10 @@ class Cache {
   // Finds the key's value, or waits until another caller has made it: LRU_HIT. Or begins to make
   // it: LRU_MAKE.
   lru_told begin(Key key, std::uint64_t charge) {
+    const Hashed hashed = hash(key);
     Evicted evicted;
     std::unique_lock<std::mutex> lock(mutex_);
-    lru_told told = core_.begin(key, charge, &evicted);
+    lru_told told = core_.begin(hashed, charge, &evicted);
     while (told.code == LRU_WAIT) {
       ended_.wait(lock);
       told = core_.poll(told.pin);
@@ -546,6 +556,7 @@ class Cache {
   mutable std::mutex mutex_;
   std::condition_variable ended_;  // notified when a caller has made a value, or has failed
   detail::Core<Node, Key> core_;
+  const Seed seed_;
 };
 
 // A good number of shards for a cache with this capacity whose values have about this charge: the

@@ -76,24 +76,10 @@ Key Stored(const Slice& key) {
   }
 }
 
-// The hash function of LevelDB's own cache.
-template <class Slice>
-std::uint32_t HashOf(const Slice& key) {
-  constexpr std::uint32_t kFactor = 0xc6a4a793;
-  const auto* at = reinterpret_cast<const std::uint8_t*>(key.data());
-  const std::uint8_t* const end = at + key.size();
-  std::uint32_t hash = static_cast<std::uint32_t>(key.size()) * kFactor;
-  for (; end - at >= 4; at += 4) {
-    std::uint32_t word;  // its lowest byte first, as x86-64 and aarch64 have it
-    std::memcpy(&word, at, sizeof word);
-    hash = (hash + word) * kFactor;
-    hash ^= hash >> 16;
-  }
-  if (at == end) return hash;
-  std::uint32_t rest = 0;
-  std::memcpy(&rest, at, static_cast<std::size_t>(end - at));
-  hash = (hash + rest) * kFactor;
-  return hash ^ hash >> 24;
+// A key of the database as the calls of a core take it.
+template <class Key, class Slice>
+auto Hashed(const Slice& key, Seed seed) {
+  return Calls<Key>::hashed(Stored<Key>(key), seed);
 }
 
 // The shards of a cache: from 1 to `kMost`. A `Shard` has a `core` and a `mutex`.
@@ -103,8 +89,10 @@ class Shards {
   // Another number counts as the nearest of these.
   explicit Shards(std::size_t count) : count_(std::clamp<std::size_t>(count, 1, kMost)) {}
 
-  // False if there is no memory. Each shard gets another seed.
+  // False if there is no memory. Each shard gets another seed. Comes before all other members, and
+  // only once.
   bool Open(std::size_t capacity, Seed seed) {
+    seed_ = seed;
     for (Shard& shard : *this) {
       if (!shard.core.open(Share(capacity), seed)) return false;
       seed.number++;
@@ -113,6 +101,9 @@ class Shards {
   }
 
   std::size_t count() const { return count_; }
+
+  // With this the keys of all shards are hashed, before a shard is chosen.
+  Seed seed() const { return seed_; }
 
   // The capacity of each shard if this is the capacity of the cache.
   std::size_t Share(std::size_t capacity) const {
@@ -140,6 +131,7 @@ class Shards {
 
  private:
   std::size_t count_;
+  Seed seed_{0};
   Shard shards_[kMost];
 };
 

@@ -56,40 +56,59 @@ struct std::hash<lru::Words> {
 namespace lru {
 namespace detail {
 
-// The functions of lru.h that take a key, for each kind of key.
+// A key of bytes with its hash.
+struct HashedBytes {
+  std::string_view bytes;
+  std::uint64_t hash;
+};
+
+// The functions of lru.h that take a key, for each kind of key. They take it as a `Hashed`, which
+// `hashed` makes of it, before the lock is taken. It is made with the same seed for all calls on a
+// cache.
 template <class Key>
 struct Calls {};
 
 template <>
 struct Calls<std::string_view> {
+  using Hashed = HashedBytes;
+
   static constexpr std::uint32_t kind = LRU_BYTES;
 
-  static lru_told begin(lru_cache* cache, std::string_view key, std::uint64_t charge, bool strict,
+  static HashedBytes hashed(std::string_view key, Seed seed) noexcept {
+    return {key, lru_hash_bytes(key.data(), key.size(), seed.number)};
+  }
+  static lru_told begin(lru_cache* cache, HashedBytes key, std::uint64_t charge, bool strict,
                         lru_chain* gone) {
-    return lru_bytes_begin(cache, key.data(), key.size(), charge, strict, gone);
+    return lru_bytes_begin(cache, key.bytes.data(), key.bytes.size(), key.hash, charge, strict,
+                           gone);
   }
-  static lru_told get(lru_cache* cache, std::string_view key) {
-    return lru_bytes_get(cache, key.data(), key.size());
+  static lru_told get(lru_cache* cache, HashedBytes key) {
+    return lru_bytes_get(cache, key.bytes.data(), key.bytes.size(), key.hash);
   }
-  static lru_code contains(lru_cache* cache, std::string_view key) {
-    return lru_bytes_contains(cache, key.data(), key.size());
+  static lru_code contains(lru_cache* cache, HashedBytes key) {
+    return lru_bytes_contains(cache, key.bytes.data(), key.bytes.size(), key.hash);
   }
-  static lru_code advice_evict(lru_cache* cache, std::string_view key, lru_chain* gone) {
-    return lru_bytes_advice_evict(cache, key.data(), key.size(), gone);
+  static lru_code advice_evict(lru_cache* cache, HashedBytes key, lru_chain* gone) {
+    return lru_bytes_advice_evict(cache, key.bytes.data(), key.bytes.size(), key.hash, gone);
   }
-  static lru_code invalidate(lru_cache* cache, std::string_view key, lru_chain* gone) {
-    return lru_bytes_invalidate(cache, key.data(), key.size(), gone);
+  static lru_code invalidate(lru_cache* cache, HashedBytes key, lru_chain* gone) {
+    return lru_bytes_invalidate(cache, key.bytes.data(), key.bytes.size(), key.hash, gone);
   }
-  static lru_told insert(lru_cache* cache, std::string_view key, std::uint64_t charge,
+  static lru_told insert(lru_cache* cache, HashedBytes key, std::uint64_t charge,
                          std::uint64_t value, bool strict, lru_chain* gone) {
-    return lru_bytes_insert(cache, key.data(), key.size(), charge, value, strict, gone);
+    return lru_bytes_insert(cache, key.bytes.data(), key.bytes.size(), key.hash, charge, value,
+                            strict, gone);
   }
 };
 
+// The library hashes the words, which takes no longer than to pass a hash.
 template <>
 struct Calls<Words> {
+  using Hashed = Words;
+
   static constexpr std::uint32_t kind = LRU_WORDS;
 
+  static Words hashed(Words key, Seed) noexcept { return key; }
   static lru_told begin(lru_cache* cache, Words key, std::uint64_t charge, bool strict,
                         lru_chain* gone) {
     return lru_words_begin(cache, key.first, key.second, charge, strict, gone);
@@ -141,7 +160,8 @@ class Evicted {
 // A cache of lru.h with its own chain of evicted entries. The caller holds a lock during each call.
 //
 // The value that the library stores is the address of a Node, which has a member `Node* next` for
-// the list of evicted nodes. Each member calls the function of lru.h with its name, and moves what
+// the list of evicted nodes. Keys are passed as Calls<Key>::hashed returns them, which needs no
+// lock. Each member calls the function of lru.h with its name, and moves what
 // that evicted to `evicted`.
 template <class Node, class Key>
 class Core {
@@ -149,6 +169,8 @@ class Core {
                 "lru: a key is a std::string_view or an lru::Words");
 
  public:
+  using Hashed = typename detail::Calls<Key>::Hashed;
+
   Core() = default;
 
   // Deletes all nodes that are left. Calls on handles that are not open do nothing.
@@ -174,7 +196,7 @@ class Core {
   void set_strict_limit(bool is_strict) noexcept { is_strict_ = is_strict; }
   bool is_limit_strict() const noexcept { return is_strict_; }
 
-  lru_told begin(Key key, std::uint64_t charge, Evicted<Node>* evicted) noexcept {
+  lru_told begin(Hashed key, std::uint64_t charge, Evicted<Node>* evicted) noexcept {
     const lru_told told = Calls::begin(&cache_, key, charge, is_strict_, &chain_);
     if (told.code == LRU_MAKE) take_evicted(evicted);
     return told;
@@ -185,8 +207,8 @@ class Core {
     return lru_cache_ready(&cache_, pin, word_of(node));
   }
   lru_code fail(lru_pin pin) noexcept { return lru_cache_fail(&cache_, pin); }
-  lru_told get(Key key) noexcept { return Calls::get(&cache_, key); }
-  lru_code contains(Key key) const noexcept { return Calls::contains(&cache_, key); }
+  lru_told get(Hashed key) noexcept { return Calls::get(&cache_, key); }
+  lru_code contains(Hashed key) const noexcept { return Calls::contains(&cache_, key); }
   lru_told repin(lru_pin pin) noexcept { return lru_cache_repin(&cache_, pin); }
   lru_code release(lru_pin pin, Evicted<Node>* evicted) noexcept {
     const lru_code code = lru_cache_release(&cache_, pin, &chain_);
@@ -198,18 +220,18 @@ class Core {
     take_evicted(evicted);
     return code;
   }
-  lru_code advice_evict(Key key, Evicted<Node>* evicted) noexcept {
+  lru_code advice_evict(Hashed key, Evicted<Node>* evicted) noexcept {
     const lru_code code = Calls::advice_evict(&cache_, key, &chain_);
     take_evicted(evicted);
     return code;
   }
-  lru_code invalidate(Key key, Evicted<Node>* evicted) noexcept {
+  lru_code invalidate(Hashed key, Evicted<Node>* evicted) noexcept {
     const lru_code code = Calls::invalidate(&cache_, key, &chain_);
     take_evicted(evicted);
     return code;
   }
   // After LRU_DONE the node is the core's; else it is still the caller's.
-  lru_told insert(Key key, std::uint64_t charge, Node* node, Evicted<Node>* evicted) noexcept {
+  lru_told insert(Hashed key, std::uint64_t charge, Node* node, Evicted<Node>* evicted) noexcept {
     const lru_told told = Calls::insert(&cache_, key, charge, word_of(node), is_strict_, &chain_);
     take_evicted(evicted);
     return told;

@@ -139,7 +139,7 @@ class BasicRocksDBCache : public rocksdb::Cache {
       return rocksdb::Status::MemoryLimit();
     }
     entry->charge = std::max<std::size_t>(charge, 1);
-    if (CanStore(key)) return InsertInto(&ShardOf(key), entry, handle);
+    if (CanStore(key)) return InsertInto(Hashed(key), entry, handle);
     if (handle == nullptr) {
       delete entry;
     } else {
@@ -151,9 +151,10 @@ class BasicRocksDBCache : public rocksdb::Cache {
   using rocksdb::Cache::Lookup;
   Handle* Lookup(const rocksdb::Slice& key, rocksdb::Statistics* = nullptr) override {
     if (!CanStore(key)) return nullptr;
-    Shard& shard = ShardOf(key);
+    const HashedKey hashed = Hashed(key);
+    Shard& shard = ShardOf(hashed);
     const std::lock_guard<std::mutex> lock(shard.mutex);
-    const lru_told told = shard.core.get(Stored(key));
+    const lru_told told = shard.core.get(hashed);
     // It is a miss too if the entry has 2^32 - 1 handles. If the key is longer than any before and
     // there is no memory for a copy, it has no entry.
     return told.code == LRU_HIT ? HandleOf(Core::node_of(told.value)) : nullptr;
@@ -181,7 +182,9 @@ class BasicRocksDBCache : public rocksdb::Cache {
   void* Value(Handle* handle) override { return EntryOf(handle)->value; }
 
   void Erase(const rocksdb::Slice& key) override {
-    if (CanStore(key)) Call(&ShardOf(key)).Detach(key);
+    if (!CanStore(key)) return;
+    const HashedKey hashed = Hashed(key);
+    Call(&ShardOf(hashed)).Detach(hashed, key);
   }
 
   std::uint64_t NewId() override { return ++last_id_; }
@@ -252,6 +255,7 @@ class BasicRocksDBCache : public rocksdb::Cache {
 
   using Entry = detail::BlockEntry<rocksdb::Slice, Shard, More>;
   using Core = detail::Core<Entry, Key>;
+  using HashedKey = typename Core::Hashed;
 
   // What a hit uses of a shard comes first.
   struct alignas(64) Shard {
@@ -282,9 +286,8 @@ class BasicRocksDBCache : public rocksdb::Cache {
 
     // Adds an entry for a key that has none, and pins it. If the library refuses it, the entry is
     // not in the cache.
-    void Add(Entry* entry) {
-      const lru_told told =
-          shard_.core.insert(Stored(entry->key()), entry->charge, entry, &evicted_);
+    void Add(const HashedKey& hashed, Entry* entry) {
+      const lru_told told = shard_.core.insert(hashed, entry->charge, entry, &evicted_);
       if (told.code != LRU_DONE) return;
       entry->pin = told.pin;
       entry->shard = &shard_;
@@ -304,11 +307,11 @@ class BasicRocksDBCache : public rocksdb::Cache {
     }
 
     // Makes the key find no entry, and returns whether it found one. One that is not pinned leaves.
-    bool Detach(const rocksdb::Slice& key) {
+    bool Detach(const HashedKey& hashed, const rocksdb::Slice& key) {
       // If the key is longer than any before and there is no memory for a copy, it has no entry.
-      const lru_told told = shard_.core.get(Stored(key));
+      const lru_told told = shard_.core.get(hashed);
       if (told.code != LRU_HIT && told.code != LRU_OVERFLOW) return false;
-      shard_.core.invalidate(Stored(key), &evicted_);
+      shard_.core.invalidate(hashed, &evicted_);
       if (told.code == LRU_HIT) {
         SetFound(Core::node_of(told.value), false);
         shard_.core.release(told.pin, &evicted_);
@@ -322,7 +325,7 @@ class BasicRocksDBCache : public rocksdb::Cache {
     }
 
     // Evicts the entry of a key if it is not pinned.
-    void EvictIdle(const rocksdb::Slice& key) { shard_.core.advice_evict(Stored(key), &evicted_); }
+    void EvictIdle(const HashedKey& hashed) { shard_.core.advice_evict(hashed, &evicted_); }
 
     // Evicts all entries that are not pinned.
     void EvictIdle() { shard_.core.prune(&evicted_); }
@@ -366,14 +369,19 @@ class BasicRocksDBCache : public rocksdb::Cache {
       : shards_(shards), capacity_(capacity), is_strict_(is_strict) {}
 
   static bool CanStore(const rocksdb::Slice& key) { return detail::CanStore<Key>(key); }
-  static Key Stored(const rocksdb::Slice& key) { return detail::Stored<Key>(key); }
 
-  // Two words have a hash that takes fewer instructions than that of bytes.
-  Shard& ShardOf(const rocksdb::Slice& key) {
+  // Both of these come before the mutex of the shard is locked.
+  HashedKey Hashed(const rocksdb::Slice& key) const {
+    return detail::Hashed<Key>(key, shards_.seed());
+  }
+
+  // The highest bits of the hash of bytes choose the shard. There it is hashed once more, with the
+  // seed of the shard, so that the entries of a shard do not have these bits in common.
+  Shard& ShardOf(const HashedKey& hashed) {
     if constexpr (std::is_same_v<Key, Words>) {
-      return shards_.Of(static_cast<std::uint32_t>(std::hash<Words>()(Stored(key))));
+      return shards_.Of(static_cast<std::uint32_t>(std::hash<Words>()(hashed)));
     } else {
-      return shards_.Of(detail::HashOf(key));
+      return shards_.Of(static_cast<std::uint32_t>(hashed.hash >> 32));
     }
   }
 
@@ -381,22 +389,22 @@ class BasicRocksDBCache : public rocksdb::Cache {
   static Entry* EntryOf(Handle* handle) { return reinterpret_cast<Entry*>(handle); }
 
   // Inserts an entry, or deletes it if there is no room for it. `*handle` is null before.
-  rocksdb::Status InsertInto(Shard* shard, Entry* entry, Handle** handle) {
-    Call call(shard);
+  rocksdb::Status InsertInto(const HashedKey& hashed, Entry* entry, Handle** handle) {
+    Call call(&ShardOf(hashed));
     const bool is_strict = is_strict_;
     if ((is_strict || handle == nullptr) && !call.HasRoom(entry->charge)) {
       if (handle != nullptr) {
         entry->deleter = nullptr;  // the value stays the caller's
       } else if (is_strict) {
-        call.EvictIdle(entry->key());
+        call.EvictIdle(hashed);
       } else {
         call.EvictIdle();
       }
       call.Delete(entry);
       return handle == nullptr ? rocksdb::Status::OK() : rocksdb::Status::MemoryLimit();
     }
-    const bool replaces = call.Detach(entry->key());
-    call.Add(entry);
+    const bool replaces = call.Detach(hashed, entry->key());
+    call.Add(hashed, entry);
     if (handle != nullptr) {
       *handle = HandleOf(entry);
     } else if (entry->shard != nullptr) {

@@ -63,7 +63,7 @@ static char key_bytes[1200];
 #define NAME(call) lru_bytes_##call
 #define CALL(call) "bytes_" call
 #define KIND LRU_BYTES
-#define KEY(n) key_bytes, (size_t)(n)
+#define KEY(n) key_bytes, (size_t)(n), (uint64_t)(n) % 7
 #define RUN run_bytes
 #include "no_memory_script.h"
 #undef NAME

@@ -76,10 +76,10 @@ static struct range of_bytes(size_t room) {
     if (lru_cache_reserve(&cache, room) != LRU_DONE) wrong("no room");
     /* The buffer for the key of a call grows at the first one. */
     uint64_t key = ENTRIES;
-    if (lru_bytes_get(&cache, &key, sizeof key).code != LRU_MISSED) wrong("a hit");
+    if (lru_bytes_get(&cache, &key, sizeof key, key).code != LRU_MISSED) wrong("a hit");
     for (key = 0; key < ENTRIES; key++) {
         unsigned before = requests;
-        lru_told told = lru_bytes_insert(&cache, &key, sizeof key, 1, key, false, &gone);
+        lru_told told = lru_bytes_insert(&cache, &key, sizeof key, key, 1, key, false, &gone);
         if (told.code != LRU_DONE) wrong("not inserted");
         note(&range, before);
     }

@@ -44,21 +44,42 @@ constexpr int kSteps = 2000;
 // The functions of lru.h that take a key, for each kind of key, and keys by number, some of which
 // begin alike.
 
+// A key of bytes is its bytes and their hash. All keys share their bytes with one other key, and
+// half of them their hash with all others of that half.
 struct Bytes : lru::detail::Calls<std::string_view> {
-  using Key = std::string;
+  using Key = std::pair<std::string, std::uint64_t>;
 
   static constexpr const char* name = "bytes";
 
-  static Key key(std::uint64_t n) { return std::string(n % 5 * 9, '\0') + std::string(n / 5, 'k'); }
-  static lru_code contains(lru_cache* cache, const Key& key) {
-    return lru_bytes_contains(cache, key.data(), key.size());
+  static Key key(std::uint64_t n) {
+    const std::string bytes = std::string(n / 2 % 3 * 9, '\0') + std::string(n / 6, 'k');
+    return {bytes, n % 2 == 0 ? 0 : lru_hash_bytes(bytes.data(), bytes.size(), 1)};
   }
-  static std::optional<Key> key_of(lru_cache* cache, lru_pin pin) {
+  static lru::detail::HashedBytes hashed(const Key& key) { return {key.first, key.second}; }
+  static lru_told begin(lru_cache* cache, const Key& key, std::uint64_t charge, bool strict,
+                        lru_chain* gone) {
+    return Calls::begin(cache, hashed(key), charge, strict, gone);
+  }
+  static lru_told get(lru_cache* cache, const Key& key) { return Calls::get(cache, hashed(key)); }
+  static lru_code advice_evict(lru_cache* cache, const Key& key, lru_chain* gone) {
+    return Calls::advice_evict(cache, hashed(key), gone);
+  }
+  static lru_code invalidate(lru_cache* cache, const Key& key, lru_chain* gone) {
+    return Calls::invalidate(cache, hashed(key), gone);
+  }
+  static lru_told insert(lru_cache* cache, const Key& key, std::uint64_t charge,
+                         std::uint64_t value, bool strict, lru_chain* gone) {
+    return Calls::insert(cache, hashed(key), charge, value, strict, gone);
+  }
+  static lru_code contains(lru_cache* cache, const Key& key) {
+    return Calls::contains(cache, hashed(key));
+  }
+  // Whether the library tells the bytes of this key, or that there is none.
+  static bool has_key(lru_cache* cache, lru_pin pin, const std::optional<Key>& key) {
     char buffer[64];
     const lru_told told = lru_bytes_key_of(cache, pin, buffer, sizeof buffer);
-    if (told.code == LRU_STALE) return std::nullopt;
-    if (told.code != LRU_NUMBER) return "no key of this test";
-    return std::string(buffer, static_cast<std::size_t>(told.value));
+    if (told.code != LRU_NUMBER) return told.code == LRU_STALE && !key;
+    return key && std::string(buffer, static_cast<std::size_t>(told.value)) == key->first;
   }
 };
 
@@ -87,10 +108,10 @@ struct Pairs : lru::detail::Calls<lru::Words> {
   static lru_code contains(lru_cache* cache, const Key& key) {
     return lru_words_contains(cache, key.first, key.second);
   }
-  static std::optional<Key> key_of(lru_cache* cache, lru_pin pin) {
-    Key key;
-    if (lru_words_key_of(cache, pin, &key.first, &key.second) != LRU_DONE) return std::nullopt;
-    return key;
+  static bool has_key(lru_cache* cache, lru_pin pin, const std::optional<Key>& key) {
+    Key told;
+    const lru_code code = lru_words_key_of(cache, pin, &told.first, &told.second);
+    return code == LRU_DONE ? key == told : code == LRU_STALE && !key;
   }
 };
 
@@ -370,7 +391,7 @@ class Run {
            number(lru_cache_len(&cache_)) == plain_.len() &&
            lru_cache_stats(&cache_, &stats) == LRU_DONE && stats == plain_.stats() &&
            Family::contains(&cache_, key) == plain_.contains(key) &&
-           Family::key_of(&cache_, pin) == plain_.key_of(pin.stamp) &&
+           Family::has_key(&cache_, pin, plain_.key_of(pin.stamp)) &&
            entry(pin) == plain_.entry(pin.stamp) && entries() == plain_.entries();
   }
 

@@ -9,6 +9,7 @@
 
 #include "lru.h"
 
+static uint64_t seed;   /* random, so that nobody can choose paths whose hashes are equal */
 static lru_cache cache; /* used only while the lock is held */
 static pthread_mutex_t lock = PTHREAD_MUTEX_INITIALIZER;
 static pthread_cond_t ended = PTHREAD_COND_INITIALIZER; /* after each ready and fail */
@@ -21,8 +22,10 @@ static void close_evicted(lru_chain *gone) {
 
 /* Finds or opens a file and pins it: the caller gives the pin back. Null if that fails. */
 static FILE *find_or_open(const char *path, lru_chain *gone, lru_pin *pin) {
+    size_t length = strlen(path);
+    uint64_t hash = lru_hash_bytes(path, length, seed);
     pthread_mutex_lock(&lock);
-    lru_told told = lru_bytes_begin(&cache, path, strlen(path), 1, false, gone);
+    lru_told told = lru_bytes_begin(&cache, path, length, hash, 1, false, gone);
     while (told.code == LRU_WAIT) {
         pthread_cond_wait(&ended, &lock);
         told = lru_cache_poll(&cache, told.pin);
@@ -69,7 +72,6 @@ int main(int argc, char **argv) {
     pthread_t threads[100];
     bool all = true;
     lru_chain gone = {0};
-    uint64_t seed; /* random, so that nobody can choose paths whose hashes are equal */
     if (getrandom(&seed, sizeof seed, 0) != (ssize_t)sizeof seed)
         return 1;
     if (lru_cache_new(LRU_BYTES, 20, seed, &cache) != LRU_DONE || lru_chain_new(&gone) != LRU_DONE)

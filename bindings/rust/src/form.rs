@@ -3,6 +3,7 @@
 use std::borrow::Cow;
 
 use crate::ffi::{self, Handle, Told};
+use crate::hash::hash_of;
 
 /// The form that a key is written in: [`Bytes`], [`CowBytes`] or [`Words`].
 ///
@@ -14,6 +15,9 @@ impl<F: sealed::Calls> Form for F {}
 /// A key as it is written: `&[u8]` for [`Bytes`], `Cow<[u8]>` for [`CowBytes`], `[u64; 2]` for
 /// [`Words`].
 pub type Written<'a, F> = <F as sealed::Calls>::Written<'a>;
+
+/// A key of this form with the hash that the library takes for it.
+pub(crate) type Hashed<'a, F> = <F as sealed::Calls>::Hashed<'a>;
 
 pub(crate) mod sealed {
     use super::{Handle, Told};
@@ -28,18 +32,24 @@ pub(crate) mod sealed {
         /// A key of this form.
         type Written<'a>;
 
+        /// A key of this form as the functions take it: bytes with their hash.
+        type Hashed<'a>: Copy;
+
         /// The kind of keys with which a cache is opened.
         const KIND: u32;
 
         /// Appends a key to the bytes of a longer one, so that different keys never begin alike.
         fn append(key: Self::Written<'_>, bytes: &mut Vec<u8>);
 
+        /// Hashes a key, before the lock is taken. The seed is the same for all calls on a cache.
+        fn hashed<'a>(key: &'a Self::Written<'_>, seed: u64) -> Self::Hashed<'a>;
+
         /// # Safety
         ///
         /// As for [`Calls`].
         unsafe fn begin(
             cache: *mut Handle,
-            key: Self::Written<'_>,
+            key: Self::Hashed<'_>,
             charge: u64,
             strict: bool,
             gone: *mut Handle,
@@ -48,12 +58,12 @@ pub(crate) mod sealed {
         /// # Safety
         ///
         /// As for [`Calls`].
-        unsafe fn get(cache: *mut Handle, key: Self::Written<'_>) -> Told;
+        unsafe fn get(cache: *mut Handle, key: Self::Hashed<'_>) -> Told;
 
         /// # Safety
         ///
         /// As for [`Calls`].
-        unsafe fn contains(cache: *mut Handle, key: Self::Written<'_>) -> u32;
+        unsafe fn contains(cache: *mut Handle, key: Self::Hashed<'_>) -> u32;
 
         /// Is `advice_evict`, or `invalidate` if `even_held` says so.
         ///
@@ -62,7 +72,7 @@ pub(crate) mod sealed {
         /// As for [`Calls`].
         unsafe fn evict(
             cache: *mut Handle,
-            key: Self::Written<'_>,
+            key: Self::Hashed<'_>,
             even_held: bool,
             gone: *mut Handle,
         ) -> u32;
@@ -72,7 +82,7 @@ pub(crate) mod sealed {
         /// As for [`Calls`].
         unsafe fn insert(
             cache: *mut Handle,
-            key: Self::Written<'_>,
+            key: Self::Hashed<'_>,
             charge: u64,
             value: u64,
             strict: bool,
@@ -90,16 +100,23 @@ unsafe extern "C" {
         cache: *mut Handle,
         key: *const u8,
         length: usize,
+        hash: u64,
         charge: u64,
         strict: bool,
         gone: *mut Handle,
     ) -> Told;
-    fn lru_bytes_get_nonnull(cache: *mut Handle, key: *const u8, length: usize) -> Told;
-    fn lru_bytes_contains_nonnull(cache: *mut Handle, key: *const u8, length: usize) -> u32;
+    fn lru_bytes_get_nonnull(cache: *mut Handle, key: *const u8, length: usize, hash: u64) -> Told;
+    fn lru_bytes_contains_nonnull(
+        cache: *mut Handle,
+        key: *const u8,
+        length: usize,
+        hash: u64,
+    ) -> u32;
     fn lru_bytes_evict_nonnull(
         cache: *mut Handle,
         key: *const u8,
         length: usize,
+        hash: u64,
         even_held: bool,
         gone: *mut Handle,
     ) -> u32;
@@ -107,6 +124,7 @@ unsafe extern "C" {
         cache: *mut Handle,
         key: *const u8,
         length: usize,
+        hash: u64,
         charge: u64,
         value: u64,
         strict: bool,
@@ -114,8 +132,16 @@ unsafe extern "C" {
     ) -> Told;
 }
 
+/// Bytes with their hash.
+#[derive(Clone, Copy, Debug)]
+pub struct HashedBytes<'a> {
+    bytes: &'a [u8],
+    hash: u64,
+}
+
 impl sealed::Calls for Bytes {
     type Written<'a> = &'a [u8];
+    type Hashed<'a> = HashedBytes<'a>;
 
     const KIND: u32 = ffi::BYTES;
 
@@ -124,44 +150,60 @@ impl sealed::Calls for Bytes {
         bytes.extend_from_slice(key);
     }
 
+    fn hashed<'a>(key: &'a &[u8], seed: u64) -> HashedBytes<'a> {
+        HashedBytes {
+            bytes: key,
+            hash: hash_of(key, seed),
+        }
+    }
+
     unsafe fn begin(
         cache: *mut Handle,
-        key: &[u8],
+        key: HashedBytes<'_>,
         charge: u64,
         strict: bool,
         gone: *mut Handle,
     ) -> Told {
+        let (at, length) = (key.bytes.as_ptr(), key.bytes.len());
         // SAFETY: the pointer of a slice is not null and points to its bytes, of which there are
         // fewer than 2^63. The caller guarantees the rest.
-        unsafe { lru_bytes_begin_nonnull(cache, key.as_ptr(), key.len(), charge, strict, gone) }
+        unsafe { lru_bytes_begin_nonnull(cache, at, length, key.hash, charge, strict, gone) }
     }
 
-    unsafe fn get(cache: *mut Handle, key: &[u8]) -> Told {
+    unsafe fn get(cache: *mut Handle, key: HashedBytes<'_>) -> Told {
         // SAFETY: as in `begin`.
-        unsafe { lru_bytes_get_nonnull(cache, key.as_ptr(), key.len()) }
+        unsafe { lru_bytes_get_nonnull(cache, key.bytes.as_ptr(), key.bytes.len(), key.hash) }
     }
 
-    unsafe fn contains(cache: *mut Handle, key: &[u8]) -> u32 {
+    unsafe fn contains(cache: *mut Handle, key: HashedBytes<'_>) -> u32 {
         // SAFETY: as in `begin`.
-        unsafe { lru_bytes_contains_nonnull(cache, key.as_ptr(), key.len()) }
+        unsafe { lru_bytes_contains_nonnull(cache, key.bytes.as_ptr(), key.bytes.len(), key.hash) }
     }
 
-    unsafe fn evict(cache: *mut Handle, key: &[u8], even_held: bool, gone: *mut Handle) -> u32 {
+    unsafe fn evict(
+        cache: *mut Handle,
+        key: HashedBytes<'_>,
+        even_held: bool,
+        gone: *mut Handle,
+    ) -> u32 {
+        let (at, length) = (key.bytes.as_ptr(), key.bytes.len());
         // SAFETY: as in `begin`.
-        unsafe { lru_bytes_evict_nonnull(cache, key.as_ptr(), key.len(), even_held, gone) }
+        unsafe { lru_bytes_evict_nonnull(cache, at, length, key.hash, even_held, gone) }
     }
 
     unsafe fn insert(
         cache: *mut Handle,
-        key: &[u8],
+        key: HashedBytes<'_>,
         charge: u64,
         value: u64,
         strict: bool,
         gone: *mut Handle,
     ) -> Told {
-        let (at, length) = (key.as_ptr(), key.len());
+        let (at, length) = (key.bytes.as_ptr(), key.bytes.len());
         // SAFETY: as in `begin`.
-        unsafe { lru_bytes_insert_nonnull(cache, at, length, charge, value, strict, gone) }
+        unsafe {
+            lru_bytes_insert_nonnull(cache, at, length, key.hash, charge, value, strict, gone)
+        }
     }
 }
 
@@ -173,6 +215,7 @@ pub enum CowBytes {}
 
 impl sealed::Calls for CowBytes {
     type Written<'a> = Cow<'a, [u8]>;
+    type Hashed<'a> = HashedBytes<'a>;
 
     const KIND: u32 = Bytes::KIND;
 
@@ -180,47 +223,54 @@ impl sealed::Calls for CowBytes {
         Bytes::append(&key, bytes);
     }
 
+    fn hashed<'a>(key: &'a Cow<'_, [u8]>, seed: u64) -> HashedBytes<'a> {
+        HashedBytes {
+            bytes: key,
+            hash: hash_of(key, seed),
+        }
+    }
+
     unsafe fn begin(
         cache: *mut Handle,
-        key: Cow<'_, [u8]>,
+        key: HashedBytes<'_>,
         charge: u64,
         strict: bool,
         gone: *mut Handle,
     ) -> Told {
         // SAFETY: the caller guarantees what the function requires.
-        unsafe { Bytes::begin(cache, &key, charge, strict, gone) }
+        unsafe { Bytes::begin(cache, key, charge, strict, gone) }
     }
 
-    unsafe fn get(cache: *mut Handle, key: Cow<'_, [u8]>) -> Told {
+    unsafe fn get(cache: *mut Handle, key: HashedBytes<'_>) -> Told {
         // SAFETY: as in `begin`.
-        unsafe { Bytes::get(cache, &key) }
+        unsafe { Bytes::get(cache, key) }
     }
 
-    unsafe fn contains(cache: *mut Handle, key: Cow<'_, [u8]>) -> u32 {
+    unsafe fn contains(cache: *mut Handle, key: HashedBytes<'_>) -> u32 {
         // SAFETY: as in `begin`.
-        unsafe { Bytes::contains(cache, &key) }
+        unsafe { Bytes::contains(cache, key) }
     }
 
     unsafe fn evict(
         cache: *mut Handle,
-        key: Cow<'_, [u8]>,
+        key: HashedBytes<'_>,
         even_held: bool,
         gone: *mut Handle,
     ) -> u32 {
         // SAFETY: as in `begin`.
-        unsafe { Bytes::evict(cache, &key, even_held, gone) }
+        unsafe { Bytes::evict(cache, key, even_held, gone) }
     }
 
     unsafe fn insert(
         cache: *mut Handle,
-        key: Cow<'_, [u8]>,
+        key: HashedBytes<'_>,
         charge: u64,
         value: u64,
         strict: bool,
         gone: *mut Handle,
     ) -> Told {
         // SAFETY: as in `begin`.
-        unsafe { Bytes::insert(cache, &key, charge, value, strict, gone) }
+        unsafe { Bytes::insert(cache, key, charge, value, strict, gone) }
     }
 }
 
@@ -257,14 +307,20 @@ unsafe extern "C" {
     ) -> Told;
 }
 
+// The library hashes the words, which takes no longer than to pass a hash.
 impl sealed::Calls for Words {
     type Written<'a> = [u64; 2];
+    type Hashed<'a> = [u64; 2];
 
     const KIND: u32 = ffi::WORDS;
 
     fn append([first, second]: [u64; 2], bytes: &mut Vec<u8>) {
         bytes.extend_from_slice(&first.to_ne_bytes());
         bytes.extend_from_slice(&second.to_ne_bytes());
+    }
+
+    fn hashed(key: &[u64; 2], _seed: u64) -> [u64; 2] {
+        *key
     }
 
     unsafe fn begin(

@@ -53,6 +53,7 @@ mod entry;
 mod error;
 mod ffi;
 mod form;
+mod hash;
 pub mod key;
 mod proved;
 pub mod sharded;

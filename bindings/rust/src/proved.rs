@@ -7,7 +7,7 @@ use std::ptr::{self, NonNull};
 use crate::entry::EntryRef;
 use crate::error::Refusal;
 use crate::ffi::{self, Gone, Handle, Pin, Told};
-use crate::form::Form;
+use crate::form::{Form, Hashed};
 
 /// Evicted values, oldest first. They must be dropped after the lock is released.
 pub(crate) type Evicted<V> = Vec<Box<V>>;
@@ -24,6 +24,8 @@ pub(crate) enum Begun<V> {
 
 /// A cache of the library for keys of one form, with values in boxes. The library stores the
 /// address of a box, which the core owns from `ready` or `insert` until the entry is evicted.
+///
+/// A key comes with its hash, which the caller makes before it takes the lock.
 ///
 /// A pin names its entry. The value stays until the pin is given back by `release` or `fail`.
 pub(crate) struct Core<F: Form, V> {
@@ -62,7 +64,7 @@ impl<F: Form, V> Core<F, V> {
     /// the capacity has no room for.
     pub(crate) fn begin(
         &mut self,
-        key: F::Written<'_>,
+        key: Hashed<'_, F>,
         charge: u64,
         evicted: &mut Evicted<V>,
     ) -> Result<Begun<V>, Refusal> {
@@ -98,10 +100,7 @@ impl<F: Form, V> Core<F, V> {
     }
 
     /// Finds the value of a key and pins its entry.
-    pub(crate) fn get(
-        &mut self,
-        key: F::Written<'_>,
-    ) -> Result<Option<(Pin, NonNull<V>)>, Refusal> {
+    pub(crate) fn get(&mut self, key: Hashed<'_, F>) -> Result<Option<(Pin, NonNull<V>)>, Refusal> {
         // SAFETY: this core has the only copy of the handle.
         let told = unsafe { F::get(&mut self.cache, key) };
         match told.code {
@@ -112,7 +111,7 @@ impl<F: Form, V> Core<F, V> {
     }
 
     /// Whether `get` would find a value of the key.
-    pub(crate) fn contains(&mut self, key: F::Written<'_>) -> Result<bool, Refusal> {
+    pub(crate) fn contains(&mut self, key: Hashed<'_, F>) -> Result<bool, Refusal> {
         // SAFETY: this core has the only copy of the handle.
         let code = unsafe { F::contains(&mut self.cache, key) };
         match code {
@@ -151,7 +150,7 @@ impl<F: Form, V> Core<F, V> {
     /// Evicts the entry of a key if it has no pin.
     pub(crate) fn advice_evict(
         &mut self,
-        key: F::Written<'_>,
+        key: Hashed<'_, F>,
         evicted: &mut Evicted<V>,
     ) -> Result<(), Refusal> {
         // SAFETY: this core has the only copies of both handles.
@@ -164,7 +163,7 @@ impl<F: Form, V> Core<F, V> {
     /// pin, and else with its last release.
     pub(crate) fn invalidate(
         &mut self,
-        key: F::Written<'_>,
+        key: Hashed<'_, F>,
         evicted: &mut Evicted<V>,
     ) -> Result<(), Refusal> {
         // SAFETY: this core has the only copies of both handles.
@@ -178,7 +177,7 @@ impl<F: Form, V> Core<F, V> {
     /// no room, returns the value, and nothing has changed.
     pub(crate) fn insert(
         &mut self,
-        key: F::Written<'_>,
+        key: Hashed<'_, F>,
         charge: u64,
         value: Box<V>,
         evicted: &mut Evicted<V>,

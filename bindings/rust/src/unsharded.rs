@@ -12,7 +12,8 @@ use std::sync::{Arc, Condvar, Mutex, MutexGuard, PoisonError};
 use crate::entry::EntryRef;
 use crate::error::{GetError, Refusal};
 use crate::ffi::Pin;
-use crate::form::{Form, Written};
+use crate::form::sealed::Calls;
+use crate::form::{Form, Hashed, Written};
 use crate::key::Key;
 use crate::proved::{Begun, Core, Evicted, random_seed};
 use crate::stats::Stats;
@@ -30,8 +31,8 @@ use crate::stats::Stats;
 /// `Drop` of a value that is evicted for the new one.
 ///
 /// Keys are passed by reference, as in [`HashMap`](std::collections::HashMap): a cache with keys of
-/// type `String` takes a `&str`. Each call hashes its key with the lock held, after copying it if
-/// it is written as bytes, so long keys make other threads wait.
+/// type `String` takes a `&str`. Each call hashes its key before it takes the lock. If the key is
+/// written as bytes, it is copied with the lock held, so very long keys make other threads wait.
 ///
 /// # Examples
 ///
@@ -67,6 +68,8 @@ use crate::stats::Stats;
 /// ```
 pub struct LruCache<K: Key + ?Sized, V> {
     shared: Mutex<Shared<K::Form, V>>,
+    /// With this, keys are hashed before the lock is taken.
+    seed: u64,
     /// Notified when a caller has made a value, or has failed to.
     ended: Condvar,
     keys: PhantomData<fn(&K)>,
@@ -123,6 +126,7 @@ impl<K: Key + ?Sized, V> LruCache<K, V> {
                 core: Core::new(capacity, seed)?,
                 waiting: 0,
             }),
+            seed,
             ended: Condvar::new(),
             keys: PhantomData,
             values: PhantomData,
@@ -142,7 +146,8 @@ impl<K: Key + ?Sized, V> LruCache<K, V> {
         Q: Key<Form = K::Form> + ?Sized,
     {
         let written = key.written();
-        let found = self.lock().core.get(written)?;
+        let hashed = self.hashed(&written);
+        let found = self.lock().core.get(hashed)?;
         Ok(found.map(|(pin, value)| self.handle(pin, value)))
     }
 
@@ -231,7 +236,7 @@ impl<K: Key + ?Sized, V> LruCache<K, V> {
         Q: Key<Form = K::Form> + ?Sized,
     {
         let mut evicted = Evicted::new();
-        let asked = self.begin(key.written(), charge, &mut evicted)?;
+        let asked = self.begin(self.hashed(&key.written()), charge, &mut evicted)?;
         // If the drop of a value panics, `asked` is dropped too, which gives its pin back.
         drop(evicted);
         match asked {
@@ -353,13 +358,11 @@ impl<K: Key + ?Sized, V> LruCache<K, V> {
         Q: Key<Form = K::Form> + ?Sized,
     {
         let written = key.written();
+        let hashed = self.hashed(&written);
         let value = Box::new(value);
         let mut evicted = Evicted::new();
         // The lock is released at the end of this statement, before any value is dropped.
-        let inserted = self
-            .lock()
-            .core
-            .insert(written, charge, value, &mut evicted);
+        let inserted = self.lock().core.insert(hashed, charge, value, &mut evicted);
         match inserted {
             Ok((pin, value)) => {
                 let handle = self.handle(pin, value);
@@ -384,8 +387,9 @@ impl<K: Key + ?Sized, V> LruCache<K, V> {
         Q: Key<Form = K::Form> + ?Sized,
     {
         let written = key.written();
+        let hashed = self.hashed(&written);
         let mut evicted = Evicted::new();
-        self.lock().core.invalidate(written, &mut evicted)
+        self.lock().core.invalidate(hashed, &mut evicted)
     }
 
     /// Evicts the key's value if it is idle. If it is pinned, nothing happens, now or later.
@@ -399,8 +403,9 @@ impl<K: Key + ?Sized, V> LruCache<K, V> {
         Q: Key<Form = K::Form> + ?Sized,
     {
         let written = key.written();
+        let hashed = self.hashed(&written);
         let mut evicted = Evicted::new();
-        self.lock().core.advice_evict(written, &mut evicted)
+        self.lock().core.advice_evict(hashed, &mut evicted)
     }
 
     /// Evicts every idle value.
@@ -421,7 +426,8 @@ impl<K: Key + ?Sized, V> LruCache<K, V> {
         Q: Key<Form = K::Form> + ?Sized,
     {
         let written = key.written();
-        self.lock().core.contains(written)
+        let hashed = self.hashed(&written);
+        self.lock().core.contains(hashed)
     }
 
     /// Returns the number of values, including those that are being made, and those that were
@@ -531,15 +537,20 @@ impl<K: Key + ?Sized, V> LruCache<K, V> {
         self.lock().core.is_limit_strict()
     }
 
+    /// Hashes a key. A call does so before it takes the lock.
+    fn hashed<'a>(&self, written: &'a Written<'_, K::Form>) -> Hashed<'a, K::Form> {
+        K::Form::hashed(written, self.seed)
+    }
+
     /// Finds the key's value, waiting for it while another caller makes it, or begins to make it.
     fn begin(
         &self,
-        written: Written<'_, K::Form>,
+        hashed: Hashed<'_, K::Form>,
         charge: u64,
         evicted: &mut Evicted<V>,
     ) -> Result<Asked<'_, K, V>, Refusal> {
         let mut shared = self.lock();
-        let mut begun = shared.core.begin(written, charge, evicted)?;
+        let mut begun = shared.core.begin(hashed, charge, evicted)?;
         loop {
             match begun {
                 Begun::Hit(pin, value) => return Ok(Asked::Found(self.handle(pin, value))),

@@ -102,9 +102,9 @@ abbrev pub AsksInto : ((K : Type 0) → Request K ℕ) → LruTold → AnyCache 
 AsksInto r t old gone new = IntoAny (λ K R E o out n. tells.Asks E o.state.cache (r K) t out n.state.cache × (n.counts ≡ o.counts)) old gone new
 
 module _ {K R : Type 0} (of_kind : Option AnyCache → Result (Inner K R) ℕ) where
-  -- A call by a key of one kind. If the handle leads to a cache with such keys, which of_kind tells,
-  -- Step holds of that before and after the call. Otherwise the call returned the reason, and
-  -- nothing changed.
+  -- A call by a key of one kind. If the handle leads to a cache with such keys, which of_kind
+  -- tells, Step holds of that before and after the call. Otherwise the call returned the reason,
+  -- and nothing changed.
   abbrev pub OnKind : Option AnyCache → LruTold → Option AnyCache → (Inner K R → Inner K R → Type 0) → Type 0
   OnKind old t new Step = MatchResult (of_kind old) (λ o. MatchResult (of_kind new) (Step o) (λ _. ⊥)) (λ reason. (t ≡ bare reason) × (new ≡ old))
 

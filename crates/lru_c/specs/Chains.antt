@@ -37,8 +37,8 @@ abbrev pub as_none : {K L : Type 0} → List (Idle K ℕ) → Option (List (Idle
 as_none [] = Some []
 as_none (x ∷ xs) = None
 
--- The entries of a chain, if they are entries with keys of bytes, or with keys of two words. A chain
--- of none has none of either kind.
+-- The entries of a chain, if they are entries with keys of bytes, or with keys of two words. A
+-- chain of none has none of either kind.
 abbrev pub bytes_in : AnyChain → Option (List (Idle Bytes ℕ))
 bytes_in (keys.Bytes c) = Some (entries_of c)
 bytes_in (keys.Words c) = as_none (entries_of c)

@@ -4,9 +4,9 @@ use Rattle.lru_c.specs.declared.bytes.key.Bytes.{Bytes}
 use Rattle.lru_c.specs.declared.words.key.Words.{Words}
 use Rattle.core.specs.Cmp.Lexicographic.{pointwise}
 
--- whether two keys are equal: they have the same bytes
+-- whether two keys are equal: they have the same hash and the same bytes
 abbrev pub bytes_eq : Bytes → Bytes → Bool
-bytes_eq a b = pointwise nat_eq a.bytes.items b.bytes.items
+bytes_eq a b = nat_eq a.hash b.hash && pointwise nat_eq a.bytes.items b.bytes.items
 
 -- whether two keys are equal: both their words are
 abbrev pub words_eq : Words → Words → Bool

@@ -1,4 +1,5 @@
-//! The calls of C on caches whose keys are bytes.
+//! The calls of C on caches whose keys are bytes. The caller hashes the bytes, so that it need not
+//! hold a lock meanwhile, and passes their hash, which is a part of the key.
 ghost use Rattle.std.specs.Prelude.{◌≡◌, ◌==◌, ⊤, MatchBool};
 ghost use Rattle.concurrent_lru.specs.Request as ask;
 ghost use Rattle.lru_c.specs.BytesCalls.{AsksByKey, Begins, Contains, Evicts, Inserts, IntoBytes, KeyOf};
@@ -26,16 +27,17 @@ use crate::told::{LruPin, LruTold};
 pub extern "C" fn lru_bytes_begin_nonnull(
     cache: &mut LruCache,
     key: &[u8],
+    hash: u64,
     charge: u64,
     strict: bool,
     gone: &mut LruChain,
 ) -> LruTold
     ensures { IntoBytes gone.old gone.new result cache.old cache.new
-        (Begins strict key.now charge result) }
+        (Begins strict key.now hash charge result) }
 {
     match empty_chain(gone) {
         Ok(chain) => match bytes_cache(cache) {
-            Ok(cache) => chain.take_bytes(cache.begin(key, charge, strict)),
+            Ok(cache) => chain.take_bytes(cache.begin(key, hash, charge, strict)),
             Err(code) => LruTold::bare(code),
         },
         Err(code) => LruTold::bare(code),
@@ -49,11 +51,12 @@ pub extern "C" fn lru_bytes_begin_nonnull(
 /// refused, `CLOSED` if the cache is not open, and `OTHER_KEYS` if its keys are not bytes; nothing
 /// changes then.
 #[unsafe(no_mangle)]
-pub extern "C" fn lru_bytes_get_nonnull(cache: &mut LruCache, key: &[u8]) -> LruTold
-    ensures { AsksByKey ask.get key.now cache.old.cache.held result cache.new.cache.held }
+pub extern "C" fn lru_bytes_get_nonnull(cache: &mut LruCache, key: &[u8], hash: u64) -> LruTold
+    ensures { AsksByKey ask.get key.now hash cache.old.cache.held result
+        cache.new.cache.held }
 {
     match bytes_cache(cache) {
-        Ok(cache) => cache.get(key),
+        Ok(cache) => cache.get(key, hash),
         Err(code) => LruTold::bare(code),
     }
 }
@@ -63,11 +66,11 @@ pub extern "C" fn lru_bytes_get_nonnull(cache: &mut LruCache, key: &[u8]) -> Lru
 /// Returns `MEMORY` if a copy of the key is refused, `CLOSED` if the cache is not open, and
 /// `OTHER_KEYS` if its keys are not bytes.
 #[unsafe(no_mangle)]
-pub extern "C" fn lru_bytes_contains_nonnull(cache: &mut LruCache, key: &[u8]) -> u32
-    ensures { Contains key.now cache.old.cache.held result cache.new.cache.held }
+pub extern "C" fn lru_bytes_contains_nonnull(cache: &mut LruCache, key: &[u8], hash: u64) -> u32
+    ensures { Contains key.now hash cache.old.cache.held result cache.new.cache.held }
 {
     match bytes_cache(cache) {
-        Ok(cache) => cache.contains(key),
+        Ok(cache) => cache.contains(key, hash),
         Err(code) => code,
     }
 }
@@ -83,15 +86,16 @@ pub extern "C" fn lru_bytes_contains_nonnull(cache: &mut LruCache, key: &[u8]) -
 pub extern "C" fn lru_bytes_evict_nonnull(
     cache: &mut LruCache,
     key: &[u8],
+    hash: u64,
     even_held: bool,
     gone: &mut LruChain,
 ) -> u32
     ensures { IntoBytes gone.old gone.new (bare result) cache.old cache.new
-        (Evicts (evict_by even_held) key.now (bare result)) }
+        (Evicts (evict_by even_held) key.now hash (bare result)) }
 {
     match empty_chain(gone) {
         Ok(chain) => match bytes_cache(cache) {
-            Ok(cache) => chain.take_bytes(cache.evict(key, even_held)),
+            Ok(cache) => chain.take_bytes(cache.evict(key, hash, even_held)),
             Err(code) => code,
         },
         Err(code) => code,
@@ -111,27 +115,29 @@ pub extern "C" fn lru_bytes_evict_nonnull(
 pub extern "C" fn lru_bytes_insert_nonnull(
     cache: &mut LruCache,
     key: &[u8],
+    hash: u64,
     charge: u64,
     value: u64,
     strict: bool,
     gone: &mut LruChain,
 ) -> LruTold
     ensures { IntoBytes gone.old gone.new result cache.old cache.new
-        (Inserts strict key.now charge value result) }
+        (Inserts strict key.now hash charge value result) }
 {
     match empty_chain(gone) {
         Ok(chain) => match bytes_cache(cache) {
-            Ok(cache) => chain.take_both_bytes(cache.insert(key, charge, value, strict)),
+            Ok(cache) => chain.take_both_bytes(cache.insert(key, hash, charge, value, strict)),
             Err(code) => LruTold::bare(code),
         },
         Err(code) => LruTold::bare(code),
     }
 }
 
-/// Copies the key of an entry, held or idle, to the start of a buffer: `NUMBER` with its length.
+/// Copies the bytes of the key of an entry, held or idle, to the start of a buffer: `NUMBER` with
+/// their number.
 ///
-/// Returns `NO_ROOM` with its length if the buffer is too small, `STALE` if no entry has the stamp,
-/// `CLOSED` if the cache is not open, and `OTHER_KEYS` if its keys are not bytes. Nothing is
+/// Returns `NO_ROOM` with their number if the buffer is too small, `STALE` if no entry has the
+/// stamp, `CLOSED` if the cache is not open, and `OTHER_KEYS` if its keys are not bytes. Nothing is
 /// written then.
 #[unsafe(no_mangle)]
 pub extern "C" fn lru_bytes_key_of_nonnull(

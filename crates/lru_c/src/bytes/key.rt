@@ -1,13 +1,18 @@
 //! Keys of bytes.
-ghost use Rattle.std.specs.Prelude.{◌≡◌, [], ◌∷◌};
+ghost use Rattle.std.specs.Hash as fed;
+ghost use Rattle.std.specs.Prelude.{◌≡◌, []};
+ghost use Rattle.std.specs.Cmp.Rules.{hashing};
 ghost use Rattle.std.proofs.Common.{rules};
 
 use std::alloc::Global;
 use std::hash::{Hash, Hasher};
 
-/// A key of bytes. Two keys are equal if they have the same bytes.
+/// A key of bytes, with the hash that the caller passed with it. Two keys are equal if they have
+/// the same hash and the same bytes.
 #[derive(Clone, PartialEq, Eq, Drop)]
 pub struct Bytes {
+    /// The hash. It is compared first, as it mostly tells different keys apart.
+    pub hash: u64,
     /// The bytes.
     pub bytes: Vec<u8>,
 }
@@ -18,18 +23,20 @@ impl Bytes {
         ensures { result.bytes.items ≡ [] }
     {
         Bytes {
+            hash: 0,
             bytes: Vec::new(alloc),
         }
     }
 }
 
-// All bytes in one write. The cache's hasher takes them eight at a time.
+// The bytes were hashed by the caller, before it took its lock. The cache mixes this word with its
+// seed, as it does any other, so a poor hash makes look-ups slow and nothing else.
 impl Hash for Bytes {
-    ghost hash_input = { λ key. key.bytes.items ∷ [] };
+    ghost hash_input = { λ key. fed.u64 key.hash };
 
-    ghost respects_eq = { Prim.search rules };
+    ghost respects_eq = { Prim.search (hashing, rules) };
 
     fn hash<H: Hasher>(&self, state: &mut H) {
-        state.write(&self.bytes);
+        state.write_u64(self.hash);
     }
 }

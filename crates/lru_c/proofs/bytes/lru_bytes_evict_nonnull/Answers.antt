@@ -8,5 +8,5 @@ use Rattle.lru_c.proofs.bytes.lru_bytes_evict_nonnull.Goals as goal
 
 pub returns-in-Ok-bytes_cache : goal.returns-in-Ok-bytes_cache
 returns-in-Ok-bytes_cache c =
-    into_kind bytes_cache cache.Bytes (λ _. refl) bytes_in (Evicts (λ k. evict_by c.args.even_held k) c.args.key.now) _ _ _ _ _ c.in-Ok.ensures.chain.0 c.in-Ok.ensures.chain.1 (c.empty_chain.follows.holds _ (ap is_ok c.in-Ok.is))
+    into_kind bytes_cache cache.Bytes (λ _. refl) bytes_in (Evicts (λ k. evict_by c.args.even_held k) c.args.key.now c.args.hash) _ _ _ _ _ c.in-Ok.ensures.chain.0 c.in-Ok.ensures.chain.1 (c.empty_chain.follows.holds _ (ap is_ok c.in-Ok.is))
     c.in-Ok-bytes_cache.ensures.cache (c.bytes_cache.follows.holds _ (ap is_ok c.in-Ok-bytes_cache.is)) c.take_bytes.ensures.chain (ap bare c.take_bytes.ensures.answer) (c.evict.ensures.asks, c.evict.ensures.counts)
