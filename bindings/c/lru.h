@@ -391,7 +391,7 @@ lru_told lru_cache_poll(lru_cache *cache, lru_pin pin);
  *
  * Does not allocate. LRU_DONE; LRU_STALE if no entry with the stamp has its value being made;
  * LRU_CLOSED. */
-lru_code lru_cache_ready(lru_cache *cache, lru_pin pin, uint64_t value);
+static inline lru_code lru_cache_ready(lru_cache *cache, lru_pin pin, uint64_t value);
 
 /* Gives up making a value, and gives back the pin.
  *
@@ -414,7 +414,7 @@ lru_told lru_cache_repin(lru_cache *cache, lru_pin pin);
  *
  * Does not allocate. LRU_DONE; LRU_STALE if no held entry with a value has the stamp; LRU_CLOSED;
  * LRU_NOT_EMPTY. */
-lru_code lru_cache_release(lru_cache *cache, lru_pin pin, lru_chain *gone);
+static inline lru_code lru_cache_release(lru_cache *cache, lru_pin pin, lru_chain *gone);
 
 /* Gives back one pin of an entry, as `release` does. But if it was the last, the entry is evicted
  * into `gone` at once, in place of becoming idle; no other entry is evicted. If the entry has more
@@ -518,6 +518,22 @@ lru_told lru_bytes_insert_nonnull(lru_cache *cache, const uint8_t *key, size_t l
                                   lru_chain *gone);
 lru_told lru_bytes_key_of_nonnull(lru_cache *cache, lru_pin pin, uint8_t *buffer, size_t room);
 lru_told lru_cache_entries_nonnull(lru_cache *cache, lru_entry *out, size_t room);
+
+/* The functions behind `ready` and `release`. They take the members of the pin one by one, in
+ * registers: a pin in memory is copied 16 bytes at a time, and a processor that reads as one what
+ * was just written as two words waits until all earlier writes have reached its cache. */
+lru_code lru_cache_ready_at(lru_cache *cache, uint64_t stamp, uint64_t hash, size_t place,
+                            uint64_t value);
+lru_code lru_cache_release_at(lru_cache *cache, uint64_t stamp, uint64_t hash, size_t place,
+                              lru_chain *gone);
+
+static inline lru_code lru_cache_ready(lru_cache *cache, lru_pin pin, uint64_t value) {
+    return lru_cache_ready_at(cache, pin.stamp, pin.hash, pin.place, value);
+}
+
+static inline lru_code lru_cache_release(lru_cache *cache, lru_pin pin, lru_chain *gone) {
+    return lru_cache_release_at(cache, pin.stamp, pin.hash, pin.place, gone);
+}
 
 /* The function behind `advice_evict` and `invalidate`, as lru_bytes_evict_nonnull is for keys of
  * bytes. It evicts an idle entry; if `even_held`, it also detaches a held one. */

@@ -130,7 +130,7 @@ class BasicLevelDBCache : public leveldb::Cache {
     Evicted evicted;
     const std::lock_guard<std::mutex> lock(shard.mutex);
     const lru_told told = shard.core.insert(hashed, weight, entry, &evicted);
-    entry->pin = told.pin;
+    entry->pin = detail::copy_of(told.pin);
     if (told.code != LRU_DONE) {
       entry->shard = nullptr;
       // The old entry must not be found either.

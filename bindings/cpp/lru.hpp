@@ -307,7 +307,7 @@ class Cache {
   Handle get_or_init(Key key, std::uint64_t charge, Init&& init) {
     const lru_told told = begin(key, charge);
     if (told.code == LRU_HIT) return handle(told);
-    Making making(this, told.pin);
+    Making making(this, detail::copy_of(told.pin));
     return making.end(std::make_unique<Node>(std::forward<Init>(init), key));
   }
 
@@ -327,7 +327,7 @@ class Cache {
     const lru_told told = core_.insert(hashed, charge, node.get(), &evicted);
     lock.unlock();
     if (told.code != LRU_DONE) detail::throw_refusal(told.code);
-    return Handle(this, told.pin, std::addressof(node.release()->value));
+    return Handle(this, detail::copy_of(told.pin), std::addressof(node.release()->value));
   }
 
   // Takes the key's value away: the next caller that asks for the key makes a new one. Handles of
@@ -494,7 +494,8 @@ class Cache {
   Hashed hash(Key key) const noexcept { return detail::Calls<Key>::hashed(key, seed_); }
 
   Handle handle(const lru_told& told) {
-    return Handle(this, told.pin, std::addressof(core_.node_of(told.value)->value));
+    return Handle(this, detail::copy_of(told.pin),
+                  std::addressof(core_.node_of(told.value)->value));
   }
 
   // Finds the key's value, or waits until another caller has made it: LRU_HIT. Or begins to make

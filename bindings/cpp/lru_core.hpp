@@ -62,6 +62,13 @@ struct HashedBytes {
   std::uint64_t hash;
 };
 
+// A copy of a pin that a call has just told. It is made word by word, as the library writes it: a
+// processor that reads two of these words as one waits until all earlier writes have reached its
+// cache. `volatile` keeps the compiler from joining the reads.
+inline lru_pin copy_of(const volatile lru_pin& told) noexcept {
+  return lru_pin{told.stamp, told.hash, told.place};
+}
+
 // The functions of lru.h that take a key, for each kind of key. They take it as a `Hashed`, which
 // `hashed` makes of it, before the lock is taken. It is made with the same seed for all calls on a
 // cache.

@@ -289,7 +289,7 @@ class BasicRocksDBCache : public rocksdb::Cache {
     void Add(const HashedKey& hashed, Entry* entry) {
       const lru_told told = shard_.core.insert(hashed, entry->charge, entry, &evicted_);
       if (told.code != LRU_DONE) return;
-      entry->pin = told.pin;
+      entry->pin = detail::copy_of(told.pin);
       entry->shard = &shard_;
       SetFound(entry, true);
     }

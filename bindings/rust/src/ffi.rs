@@ -112,10 +112,22 @@ unsafe extern "C" {
     pub fn lru_cache_new(keys: u32, capacity: u64, seed: u64, out: *mut Handle) -> u32;
     pub fn lru_cache_free(cache: *mut Handle, left: *mut Handle) -> u32;
     pub fn lru_cache_poll(cache: *mut Handle, pin: Pin) -> Told;
-    pub fn lru_cache_ready(cache: *mut Handle, pin: Pin, value: u64) -> u32;
+    pub fn lru_cache_ready_at(
+        cache: *mut Handle,
+        stamp: u64,
+        hash: u64,
+        place: usize,
+        value: u64,
+    ) -> u32;
     pub fn lru_cache_fail(cache: *mut Handle, pin: Pin) -> u32;
     pub fn lru_cache_repin(cache: *mut Handle, pin: Pin) -> Told;
-    pub fn lru_cache_release(cache: *mut Handle, pin: Pin, gone: *mut Handle) -> u32;
+    pub fn lru_cache_release_at(
+        cache: *mut Handle,
+        stamp: u64,
+        hash: u64,
+        place: usize,
+        gone: *mut Handle,
+    ) -> u32;
     pub fn lru_cache_release_and_evict(cache: *mut Handle, pin: Pin, gone: *mut Handle) -> u32;
     pub fn lru_cache_prune(cache: *mut Handle, gone: *mut Handle) -> u32;
     pub fn lru_cache_set_capacity(cache: *mut Handle, capacity: u64, gone: *mut Handle) -> u32;

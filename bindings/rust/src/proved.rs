@@ -87,7 +87,9 @@ impl<F: Form, V> Core<F, V> {
         // Every handle of this value gets the same pointer, made from this word.
         let word = word_of(Box::into_raw(value));
         // SAFETY: this core has the only copy of the handle.
-        let code = unsafe { ffi::lru_cache_ready(&mut self.cache, pin, word) };
+        let code = unsafe {
+            ffi::lru_cache_ready_at(&mut self.cache, pin.stamp, pin.hash, pin.place, word)
+        };
         debug_assert_eq!(code, ffi::DONE);
         value_of(word)
     }
@@ -133,7 +135,15 @@ impl<F: Form, V> Core<F, V> {
     /// Gives back a pin of an entry that has a value.
     pub(crate) fn release(&mut self, pin: Pin, evicted: &mut Evicted<V>) {
         // SAFETY: this core has the only copies of both handles.
-        let code = unsafe { ffi::lru_cache_release(&mut self.cache, pin, &mut self.chain) };
+        let code = unsafe {
+            ffi::lru_cache_release_at(
+                &mut self.cache,
+                pin.stamp,
+                pin.hash,
+                pin.place,
+                &mut self.chain,
+            )
+        };
         debug_assert_eq!(code, ffi::DONE);
         self.take_evicted(evicted);
     }

@@ -101,15 +101,22 @@ pub extern "C" fn lru_cache_poll(cache: &mut LruCache, pin: LruPin) -> LruTold
     cache.poll(pin)
 }
 
-/// Stores the value of an entry that is being made.
+/// Stores the value of an entry that is being made. Takes the fields of its pin.
 ///
 /// Returns `STALE` if no entry is being made under the stamp, and `CLOSED` if the cache is not
 /// open. Nothing changes then, and the value is not taken.
 #[unsafe(no_mangle)]
-pub extern "C" fn lru_cache_ready(cache: &mut LruCache, pin: LruPin, value: u64) -> u32
-    ensures { Asks cache.old.cache.held (λ K. ask.ready pin.stamp value) (bare result)
+pub extern "C" fn lru_cache_ready_at(
+    cache: &mut LruCache,
+    stamp: u64,
+    hash: u64,
+    place: usize,
+    value: u64,
+) -> u32
+    ensures { Asks cache.old.cache.held (λ K. ask.ready stamp value) (bare result)
         cache.new.cache.held }
 {
+    let pin = LruPin { stamp, hash, place };
     match cache.get_mut() {
         Some(cache) => cache.ready(pin, value),
         None => code::CLOSED,
@@ -147,16 +154,23 @@ pub extern "C" fn lru_cache_repin(cache: &mut LruCache, pin: LruPin) -> LruTold
 }
 
 /// Releases a pin of a ready entry. With its last pin the entry becomes the newest idle one, or is
-/// evicted if it is detached. What is evicted is put into a chain, oldest first.
+/// evicted if it is detached. What is evicted is put into a chain, oldest first. Takes the fields of
+/// the pin.
 ///
 /// Returns `STALE` if no held and ready entry has the stamp, `CLOSED` if the cache or chain is not
 /// open, and `NOT_EMPTY` if the chain has entries; nothing changes then.
 #[unsafe(no_mangle)]
-pub extern "C" fn lru_cache_release(cache: &mut LruCache, pin: LruPin, gone: &mut LruChain) -> u32
+pub extern "C" fn lru_cache_release_at(
+    cache: &mut LruCache,
+    stamp: u64,
+    hash: u64,
+    place: usize,
+    gone: &mut LruChain,
+) -> u32
     ensures { Into gone.old gone.new (bare result) cache.old cache.new
-        (AsksInto (λ K. ask.release pin.stamp) (bare result)) }
+        (AsksInto (λ K. ask.release stamp) (bare result)) }
 {
-    into_chain(cache, Step::Release(pin), gone)
+    into_chain(cache, Step::Release(LruPin { stamp, hash, place }), gone)
 }
 
 /// Releases a pin of a ready entry as `release` does, but with its last pin the entry is evicted
