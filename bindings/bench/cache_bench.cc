@@ -114,7 +114,7 @@ class Calls {
     }
   }
 
-  void Release(lru_pin pin) {
+  void Release(const lru_pin& pin) {
     mutex_.lock();
     lru_cache_release(&cache_, pin, &gone_);
     mutex_.unlock();
