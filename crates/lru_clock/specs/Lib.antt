@@ -3,5 +3,6 @@ pub mod Index
 pub mod Pins
 pub mod Turns
 pub mod Seats
+pub mod SeatStates
 pub mod SeatChanges
 pub mod Searches

@@ -2,8 +2,7 @@
 use Rattle.std.specs.Prelude.{◌≡◌, ℕ, Bool, true, false, List, Some, slice_get}
 use Rattle.concurrent_lru.proofs.Probing.Fills.{Ends}
 use Rattle.lru_clock.specs.Index.{word_of}
-use Rattle.lru_clock.specs.Seats.{HasKeyAt, LacksKey}
-use Rattle.lru_clock.specs.declared.store.seats.Seat.{Seat}
+use Rattle.lru_clock.specs.Seats.{Seat, HasKeyAt, LacksKey}
 use Rattle.lru_clock.specs.declared.store.search.Search.{Search}
 use Rattle.lru_clock.specs.declared.store.search.Search.TheVariants.{Found, Empty}
 

@@ -1,8 +1,7 @@
 -- What a change of the index does to the seats.
 use Rattle.std.specs.Prelude.{◌≡◌, ℕ, ◌+◌, ◌-◌, ◌<◌, ◌^◌, true, false, List, Some, slice_get, sum_by, MatchOption}
 use Rattle.std.proofs.Math.ListN.{set}
-use Rattle.lru_clock.specs.Seats.{listed_as}
-use Rattle.lru_clock.specs.declared.store.seats.Seat.{Seat}
+use Rattle.lru_clock.specs.Seats.{Seat, listed_as}
 
 module _ {K : Type 0} where
   -- an entry of this charge may be put at a place: it is there, the index has no entry there, and

@@ -4,7 +4,13 @@ use Rattle.std.specs.Coded.{Coded, code_by, coded×, coded_ℕ, coded_bool, code
 use Rattle.concurrent_lru.specs.Probing.Probes.{IsReached}
 use Rattle.concurrent_lru.specs.Probing.Entries.{count, entry, Has, AreApart}
 use Rattle.lru_clock.specs.Index.{IsSize, word_of}
-use Rattle.lru_clock.specs.declared.store.seats.Seat.{Seat}
+
+-- the charge of the entry, the tag of the hash of its key, whether the index has it, and its key
+pub record Seat (K : Type 0) : Type 0 where
+  pub charge : ℕ
+  pub tag : ℕ
+  pub is_listed : Bool
+  pub key : Option K
 
 module _ {K : Type 0} where
   abbrev pub seat_code : Coded K → Coded (Seat K)

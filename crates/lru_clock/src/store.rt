@@ -6,6 +6,7 @@
 ghost use Rattle.std.specs.Prelude.{◌≡◌, ◌≢◌, ◌<◌, true, IfErr, IfOk, IfSome};
 
 mod search;
+mod seat;
 mod seats;
 mod slot;
 

@@ -7,8 +7,7 @@ use Rattle.std.proofs.lemmas.List.{length-set}
 use Rattle.std.proofs.lemmas.Option.{slice_get_within}
 use Rattle.concurrent_lru.specs.Probing.Entries.{Has, entry}
 use Rattle.lru_clock.specs.Index.{IsSize, word_of, LacksWord, TakesOut, PutsIn}
-use Rattle.lru_clock.specs.Seats.{IsListed, LacksKey, IsIndex, listed_as}
-use Rattle.lru_clock.specs.declared.store.seats.Seat.{Seat}
+use Rattle.lru_clock.specs.Seats.{Seat, IsListed, LacksKey, IsIndex, listed_as}
 use Rattle.lru_clock.proofs.Words.Cells.{has_cell}
 use Rattle.lru_clock.proofs.Words.Homes.{same_place}
 use Rattle.lru_clock.proofs.Seating.Places.{got_same, got_other, got_one, count_set, listed_other}

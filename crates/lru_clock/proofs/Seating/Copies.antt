@@ -9,8 +9,7 @@ use Rattle.concurrent_lru.specs.Probing.Probes.{mark_at, HasEmpty, IsEmptyAt, Is
 use Rattle.concurrent_lru.specs.Probing.Entries.{Has, entry, count, AreApart}
 use Rattle.concurrent_lru.proofs.Probing.Contents.Copies.{none_held, none_counted}
 use Rattle.lru_clock.specs.Index.{IsSize, word_of, LacksWord, PutsIn}
-use Rattle.lru_clock.specs.Seats.{IsListed, IsIndex}
-use Rattle.lru_clock.specs.declared.store.seats.Seat.{Seat}
+use Rattle.lru_clock.specs.Seats.{Seat, IsListed, IsIndex}
 use Rattle.lru_clock.proofs.Words.Cells.{marks_cells, has_cell, has_empty}
 use Rattle.lru_clock.proofs.Words.Homes.{same_place}
 use Rattle.lru_clock.proofs.Seating.Places.{got_one}

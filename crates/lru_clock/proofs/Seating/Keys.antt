@@ -4,9 +4,8 @@ use Rattle.std.specs.Prelude.{slice_get}
 use Rattle.std.specs.Cmp.{IsEquivalence}
 use Rattle.std.proofs.lemmas.Bool.{cases_eq}
 use Rattle.std.proofs.lemmas.Option.{slice_get_within}
-use Rattle.lru_clock.specs.Seats.{IsListed, HasKeyAt, LacksKey, IsIndex, listed_as}
+use Rattle.lru_clock.specs.Seats.{Seat, IsListed, HasKeyAt, LacksKey, IsIndex, listed_as}
 use Rattle.lru_clock.specs.SeatChanges.{UnlistsAt}
-use Rattle.lru_clock.specs.declared.store.seats.Seat.{Seat}
 use Rattle.lru_clock.proofs.Seating.Places.{got_same, got_one, listed_other}
 
 not_true : (b : Bool) → (b ≡ true → ⊥) → b ≡ false

@@ -4,9 +4,8 @@ use Rattle.std.specs.Prelude.{slice_get, count_by, sum_by}
 use Rattle.std.proofs.lemmas.List.{set-get_or, set-set}
 use Rattle.std.proofs.lemmas.List.Sums.{sum_by-set, get_or-le-sum_by}
 use Rattle.std.proofs.lemmas.Option.{slice_get_within, slice_get_past, slice_get-get_or, get_or_from_slice_get}
-use Rattle.lru_clock.specs.Seats.{IsListed, listed_as}
+use Rattle.lru_clock.specs.Seats.{Seat, IsListed, listed_as}
 use Rattle.lru_clock.specs.SeatChanges.{UnlistsAt}
-use Rattle.lru_clock.specs.declared.store.seats.Seat.{Seat}
 
 module _ {X : Type 0} where
   pub got_same : (xs : List X) (k : ℕ) (x : X) → k < length xs → slice_get (set xs k x) k ≡ Some x

@@ -11,9 +11,8 @@ use Rattle.concurrent_lru.specs.Probing.Entries.{entry}
 use Rattle.concurrent_lru.proofs.Probing.Circle.{home_within}
 use Rattle.concurrent_lru.proofs.Probing.Fills.{Ends}
 use Rattle.lru_clock.specs.Index.{IsSize, word_of}
-use Rattle.lru_clock.specs.Seats.{LacksKey, HasKeyAt, IsIndex}
+use Rattle.lru_clock.specs.Seats.{Seat, LacksKey, HasKeyAt, IsIndex}
 use Rattle.lru_clock.specs.Searches.{SeatHas, SeatLacks}
-use Rattle.lru_clock.specs.declared.store.seats.Seat.{Seat}
 use Rattle.lru_clock.proofs.Words.Cells.{cell_holds, cell_word, has_empty}
 use Rattle.lru_clock.proofs.Words.Walks.{Walk, walk_on, before_next, shorter}
 use Rattle.lru_clock.proofs.Words.Homes.{home_is, size_pos, same_place}

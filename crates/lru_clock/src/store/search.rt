@@ -4,7 +4,7 @@ ghost use Rattle.lru_clock.specs.Seats.{IsIndex};
 ghost use Rattle.lru_clock.specs.Searches.{Searches, SeatHas, SeatLacks};
 
 use crate::index::{Words, past_place, tag_of};
-use crate::store::seats::Seat;
+use crate::store::seat::Seat;
 use concurrent_lru::linear_probing::{home_of, next_of};
 
 /// What a search ends with.
@@ -21,7 +21,7 @@ fn has_key<K: Eq>(seats: &[Seat<K>], place: u32, key: &K) -> bool
     ensures no { IsFalse result → SeatLacks K.eq seats.now place key.now }
 {
     match seats.get(place as usize) {
-        Some(seat) => match &seat.key {
+        Some(seat) => match seat.key() {
             Some(own) => *own == *key,
             None => false,
         },

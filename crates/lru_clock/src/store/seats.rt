@@ -1,5 +1,5 @@
-//! What a shard knows under its lock of each of its slots: the charge of the entry there, its key,
-//! and whether the index has it.
+//! What a shard knows under its lock of each of its slots, the words of the index, and which slots
+//! are vacant.
 ghost use Rattle.std.specs.Prelude.{◌≡◌, ◌+◌, ◌<◌, ℕ, [], sum_by, true, false};
 ghost use Rattle.std.specs.Prelude.{IfOk, IfSome, IsTrue, MatchBool, MatchOption, MatchResult, None};
 ghost use Rattle.std.specs.Prelude.{length, replicate, List, Some, IfNone};
@@ -10,6 +10,7 @@ ghost use Rattle.lru_clock.specs.SeatChanges.{IsFree, ListsAt, UnlistsAt};
 
 use crate::index::{Index, Words, word_of};
 use crate::store::search::{Search, find_key};
+use crate::store::seat::Seat;
 use crate::store::{Left, Taken};
 use concurrent_lru::fit::Fit;
 use concurrent_lru::sealed::Sealed;
@@ -24,33 +25,6 @@ const FIRST_WORDS: usize = 256;
 // The greatest number of words: as many as there are tags.
 const MOST_WORDS: usize = 0x1_0000_0000;
 
-/// A place under the lock.
-#[derive(Drop)]
-pub struct Seat<K> {
-    /// The charge of its entry, or 0 if there is none.
-    pub charge: u64,
-    /// The tag of the hash of its entry's key.
-    pub tag: u32,
-    /// Whether the index has its entry.
-    pub is_listed: bool,
-    /// A copy of its entry's key, unless that was invalidated before the entry came.
-    pub key: Option<K>,
-}
-
-impl<K> Seat<K> {
-    // Creates a seat whose entry the index does not have.
-    fn unlisted(charge: u64, tag: u32, key: Option<K>) -> Self
-        ensures { result ≡ seat_of charge tag key }
-    {
-        Seat {
-            charge,
-            tag,
-            is_listed: false,
-            key,
-        }
-    }
-}
-
 /// A debt: a place that was taken for an entry whose charge counts already. `Store::fill` takes it
 /// with an entry whose key equals the one that the seat has, or else `Seats::cancel`. So no entry
 /// is in a slot that does not count, or whose seat has another key.
@@ -59,21 +33,23 @@ pub struct Reservation<K> {
     pub(super) key: Shown<Option<K>>,
 }
 
-/// The seats of a shard in the order of their places, with the sum of their charges, the places
-/// that have no entry, and the words of the index. Clauses see the list of the seats.
+/// The seats of a shard in the order of their places, with the sum of their charges, the number of
+/// those that have an entry, the first one that is vacant, and the words of the index. Clauses see
+/// the list of the seats.
 #[derive(Drop)]
 pub struct Seats<K: Eq> {
     total: u64,
     seats: Vec<Seat<K>>,
-    vacant: Vec<u32>,
+    entries: usize,
+    // No place if none is vacant.
+    vacant: u32,
     words: Words,
 }
 
 impl<K: Eq> Model for Seats<K> {
     ghost use Rattle.std.specs.Prelude.{◌≡◌, List, sum_by};
     ghost use Rattle.std.specs.Coded.{coded_list};
-    ghost use Rattle.lru_clock.specs.declared.store.seats.Seat.{Seat as Seat_};
-    ghost use Rattle.lru_clock.specs.Seats.{seat_code, IsIndex};
+    ghost use Rattle.lru_clock.specs.Seats.{Seat as Seat_, seat_code, IsIndex};
 
     ghost Value = { List (Seat_ K) };
 
@@ -96,7 +72,8 @@ impl<K: Eq + Drop> Seats<K> {
         Ok(Seats {
             total: 0,
             seats: Vec::new(alloc),
-            vacant: Vec::new(alloc),
+            entries: 0,
+            vacant: u32::MAX,
             words,
         })
     }
@@ -129,13 +106,13 @@ impl<K: Eq + Drop> Seats<K> {
 
     /// Returns the number of seats that have an entry.
     pub fn entries(&self) -> usize {
-        self.seats.len().saturating_sub(self.vacant.len())
+        self.entries
     }
 
     /// Returns the charge of the entry at a place, or 0 if there is none.
     pub fn charge_at(&self, place: u32) -> u64 {
         match self.seats.get(place as usize) {
-            Some(seat) => seat.charge,
+            Some(seat) => seat.charge(),
             None => 0,
         }
     }
@@ -154,24 +131,29 @@ impl<K: Eq + Drop> Seats<K> {
         }
     }
 
-    /// Adds a seat without an entry, and room for its place among the vacant ones. Returns whether
-    /// that took a new index.
+    /// Adds the seat of a vacant place, the one that a further seat has. Returns whether that took a
+    /// new index.
     ///
     /// Returns `AllocError` if the allocator refuses.
     pub fn add(&mut self, place: u32) -> Result<bool, AllocError>
         ensures total { sum_by (λ seat. seat.charge) self.new
             ≡ sum_by (λ seat. seat.charge) self.old }
     {
-        // So that each place can be given back without memory.
-        self.vacant.reserve(self.seats.len().wrapping_add(1))?;
-        let is_new = self.push()?;
-        self.give_back(place);
-        Ok(is_new)
+        let wider = widened(&self.seats, self.words.count())?;
+        self.seats.push(Seat::vacant(self.vacant))?;
+        self.vacant = place;
+        match wider {
+            Some(words) => {
+                self.words = words;
+                Ok(true)
+            }
+            None => Ok(false),
+        }
     }
 
     /// Returns whether there is a place that has no entry.
     pub fn has_vacant(&self) -> bool {
-        !self.vacant.is_empty()
+        (self.vacant as usize) < self.seats.len()
     }
 
     /// Takes a vacant place for an entry, whose charge counts from now on, and keeps a copy of its
@@ -189,13 +171,12 @@ impl<K: Eq + Drop> Seats<K> {
             (λ r. (self.new ≡ set self.old r.place (seat_of charge tag key)) × (r.key.value ≡ key))
             (λ back. (self.new ≡ self.old) × (back ≡ key)) }
     {
-        let Some(place) = self.vacant.pop() else {
+        let place = self.vacant;
+        let Some(next) = self.vacant_after(place, charge) else {
             return Err(key);
         };
-        if !self.is_free(place, charge) {
-            self.give_back(place);
-            return Err(key);
-        }
+        self.vacant = next;
+        self.entries = self.entries.wrapping_add(1);
         let shown = Shown::of(&key);
         drop(self.put(place, Seat::unlisted(charge, tag, key)));
         Ok(Reservation { place, key: shown })
@@ -226,18 +207,18 @@ impl<K: Eq + Drop> Seats<K> {
         ensures { MatchBool result (ListsAt self.old place self.new) (self.new ≡ self.old) }
     {
         let at = place as usize;
-        if at >= self.seats.len() || self.seats[at].is_listed {
+        if at >= self.seats.len() || self.seats[at].is_listed() {
             return false;
         }
-        let tag = self.seats[at].tag;
-        let Some(key) = &self.seats[at].key else {
+        let tag = self.seats[at].tag();
+        let Some(key) = self.seats[at].key() else {
             return false;
         };
         match find_key(&mut self.words, &self.seats, tag, key) {
             Search::Found(_) => false,
             Search::Empty(to) => {
                 self.words.put(to, word_of(tag, place));
-                self.seats[at].is_listed = true;
+                self.seats[at].list();
                 true
             }
         }
@@ -250,22 +231,22 @@ impl<K: Eq + Drop> Seats<K> {
             → LacksKey K.eq self.new t k }
     {
         let at = place as usize;
-        if at < self.seats.len() && self.seats[at].is_listed {
-            self.words.remove(word_of(self.seats[at].tag, place));
-            self.seats[at].is_listed = false;
+        if at < self.seats.len() && self.seats[at].is_listed() {
+            self.words.remove(word_of(self.seats[at].tag(), place));
+            self.seats[at].unlist();
         }
     }
 
-    // Returns whether an entry of this charge may be put at a place: there is such a place, the
-    // index has no entry there, and the sum of the charges stays within a `u64`.
-    fn is_free(&self, place: u32, charge: u64) -> bool
-        ensures { IsTrue result → IsFree self.now place charge }
+    // Returns the vacant place after a place, if an entry of this charge may be put there: it is
+    // vacant, and the sum of the charges stays within a `u64`.
+    fn vacant_after(&self, place: u32, charge: u64) -> Option<u32>
+        ensures { IfSome result (λ _. IsFree self.now place charge) }
     {
-        match self.seats.get(place as usize) {
-            Some(seat) => {
-                !seat.is_listed && (self.total - seat.charge).checked_add(charge).is_some()
-            }
-            None => false,
+        let next = self.seats.get(place as usize)?.next()?;
+        if self.total.checked_add(charge).is_some() {
+            Some(next)
+        } else {
+            None
         }
     }
 
@@ -277,7 +258,7 @@ impl<K: Eq + Drop> Seats<K> {
         ensures { self.new ≡ set self.old place seat }
     {
         let at = place as usize;
-        self.total = self.total - self.seats[at].charge + seat.charge;
+        self.total = self.total - self.seats[at].charge() + seat.charge();
         std::mem::replace(&mut self.seats[at], seat)
     }
 
@@ -287,37 +268,15 @@ impl<K: Eq + Drop> Seats<K> {
         ensures { self.new ≡ set self.old place (seat_of 0 0 None) }
     {
         self.unlist(place);
-        self.give_back(place);
         let at = place as usize;
         if at >= self.seats.len() {
             return None;
         }
-        self.total -= self.seats[at].charge;
-        let seat = std::mem::replace(&mut self.seats[at], Seat::unlisted(0, 0, None));
-        seat.key
-    }
-
-    // Adds a seat without an entry. Returns whether that took a new index.
-    fn push(&mut self) -> Result<bool, AllocError>
-        ensures total { sum_by (λ seat. seat.charge) self.new
-            ≡ sum_by (λ seat. seat.charge) self.old }
-    {
-        let wider = widened(&self.seats, self.words.count())?;
-        self.seats.push(Seat::unlisted(0, 0, None))?;
-        match wider {
-            Some(words) => {
-                self.words = words;
-                Ok(true)
-            }
-            None => Ok(false),
-        }
-    }
-
-    // Gives a place back. There is room, which `add` has made.
-    fn give_back(&mut self, place: u32)
-        ensures { self.new ≡ self.old }
-    {
-        let _ = self.vacant.push(place);
+        self.total -= self.seats[at].charge();
+        let seat = std::mem::replace(&mut self.seats[at], Seat::vacant(self.vacant));
+        self.vacant = place;
+        self.entries = self.entries.wrapping_sub(1);
+        seat.into_key()
     }
 }
 
@@ -357,8 +316,8 @@ fn copy_listed<K: Eq>(seats: &[Seat<K>], words: &mut Words)
     ensures index { IsIndex K.eq seats.now words.new }
 {
     for at in 0..seats.len() {
-        if seats[at].is_listed {
-            let word = word_of(seats[at].tag, at as u32);
+        if seats[at].is_listed() {
+            let word = word_of(seats[at].tag(), at as u32);
             let to = words.find_empty(word);
             words.put(to, word);
         }

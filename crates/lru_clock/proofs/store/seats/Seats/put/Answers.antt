@@ -3,7 +3,7 @@ use Rattle.std.specs.Prelude.{slice_get}
 use Rattle.std.proofs.lemmas.List.Sums.{sum_by-set, get_or-le-sum_by}
 use Rattle.std.proofs.lemmas.Option.{slice_get_within, get_or_from_slice_get}
 use Rattle.lru_clock.specs.SeatChanges.{IsFree}
-use Rattle.lru_clock.specs.declared.store.seats.Seat.{Seat}
+use Rattle.lru_clock.specs.Seats.{Seat}
 use Rattle.lru_clock.proofs.Seating.Places.{got_one, seat_read}
 use Rattle.lru_clock.proofs.Seating.Changes.{index_kept}
 use Rattle.lru_clock.proofs.store.seats.Seats.put.Goals as goal
@@ -66,4 +66,4 @@ invariant_of-self g c =
     (here c.args.self.now items c.self.view_is c.args.place c.args.seat.charge c.requires.free c.index.result.now c.index.ensures)
     c.replace.new.dest c.requires.free.unlisted (ap (λ s. s.is_listed) c.replace.ensures.after ∙ c.requires.unlisted)
     (subst (λ s. s.tag < 4294967296) (sym c.replace.ensures.after) c.requires.tag) in
-    (ap (λ n. n - c.index.result.now.charge + c.args.seat.charge) c.self.invariant.0 ∙ sum, kept)
+    ((λ i. c.self.inside.total - c.charge.ensures i + c.charge-2.ensures i) ∙ ap (λ n. n - c.index.result.now.charge + c.args.seat.charge) c.self.invariant.0 ∙ sum, kept)

@@ -3,7 +3,7 @@ use Rattle.std.proofs.Common.{◌≡◌, ◌+◌, ◌<◌, ◌++◌, ◌∷◌, 
 use Rattle.std.proofs.lemmas.List.Sums.{sum_by_push}
 use Rattle.lru_clock.specs.Seats.{seat, IsIndex}
 use Rattle.lru_clock.proofs.Seating.Copies.{index_longer}
-use Rattle.lru_clock.proofs.store.seats.Seats.push.Goals as goal
+use Rattle.lru_clock.proofs.store.seats.Seats.add.Goals as goal
 
 pub invariant_of-self-in-Some : goal.invariant_of-self-in-Some
 invariant_of-self-in-Some g c =
@@ -11,7 +11,7 @@ invariant_of-self-in-Some g c =
     let items = c.self.inside.seats.items in
     let words = c.in-Some.words in
     let wider = subst (λ w. IfSome w (λ ws. IsIndex E items ws × (length items + 1 < length ws))) c.in-Some.is c.in_ok-wider.ensures.wider in
-    subst (λ l. (c.self.inside.total ≡ sum_by (λ s. s.charge) l) × IsIndex E l words) (sym (c.in_ok-push.ensures.items ∙ ap (λ t. items ++ t ∷ []) c.unlisted.ensures)) (
+    subst (λ l. (c.self.inside.total ≡ sum_by (λ s. s.charge) l) × IsIndex E l words) (sym (c.in_ok-push.ensures.items ∙ ap (λ t. items ++ t ∷ []) c.vacant.ensures)) (
       omega (arith, c.self.invariant.0, sum_by_push (λ s. s.charge) items (seat 0 0 None)),
       index_longer E items words (seat 0 0 None) wider.0 refl (omega arith) wider.1,
     )
@@ -22,7 +22,7 @@ invariant_of-self-in-None g c =
     let items = c.self.inside.seats.items in
     let words = c.self.inside.words in
     let room = subst (λ w. IfNone w (length items + 1 < c.count.result)) c.in-None.is c.in_ok-wider.ensures.room in
-    subst (λ l. (c.self.inside.total ≡ sum_by (λ s. s.charge) l) × IsIndex E l words) (sym (c.in_ok-push.ensures.items ∙ ap (λ t. items ++ t ∷ []) c.unlisted.ensures)) (
+    subst (λ l. (c.self.inside.total ≡ sum_by (λ s. s.charge) l) × IsIndex E l words) (sym (c.in_ok-push.ensures.items ∙ ap (λ t. items ++ t ∷ []) c.vacant.ensures)) (
       omega (arith, c.self.invariant.0, sum_by_push (λ s. s.charge) items (seat 0 0 None)),
       index_longer E items words (seat 0 0 None) c.self.invariant.1 refl (omega arith) (omega (arith, room, c.count.ensures.count)),
     )
