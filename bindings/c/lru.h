@@ -75,8 +75,8 @@
  * same bytes. Nothing worse happens. Nor do equal hashes of different bytes change an answer; but
  * each look-up of such a key visits all of them.
  *
- * One hash may also choose among several caches (shards), by any of its bits: within a cache it is
- * hashed once more, with the seed of that cache.
+ * One hash may also choose among several caches (shards), by lru_shard_of. Within a cache it is
+ * hashed once more, with the seed of that cache, so that equal shards do not make equal slots.
  *
  * SEEDS. A cache hashes the words of its keys, or the hashes of its keys of bytes, with the `seed`
  * that it is opened with. Whoever knows the seed can choose keys of words whose hashes are all
@@ -268,8 +268,13 @@ lru_code lru_cache_new_with_limits(lru_kind keys, uint64_t capacity, uint64_t fi
 /* The hash of `length` bytes, for the calls below. It takes eight bytes at a time. The seed is one
  * that nobody can guess, if keys come from outside the program (SEEDS, above). Needs no lock and no
  * cache, and answers with some number for a null key. Programs must not store it: it may change
- * with the version of this header and with the machine. */
+ * with the version of this header and with the machine. The last bytes are not mixed with the
+ * others, as a cache does that: for other uses take lru_shard_of. */
 static inline uint64_t lru_hash_bytes(const void *key, size_t length, uint64_t seed);
+
+/* Which of `count` caches a hash chooses, for programs that spread their keys over several: a
+ * number from 0 to count - 1. */
+static inline uint64_t lru_shard_of(uint64_t hash, uint64_t count);
 
 /* Asks for the value of a key and pins its entry, or adds an entry if there is none. `charge`,
  * above 0, is the charge of a new entry; an entry that exists keeps its charge, even if its maker
@@ -550,13 +555,12 @@ static inline lru_code lru_words_invalidate(lru_cache *cache, uint64_t first, ui
     return lru_words_evict(cache, first, second, true, gone);
 }
 
-/* Parts of lru_hash_bytes; these two names are internal. The first joins both halves of a product.
- * Its factor is never 0, so that without the seed nobody can tell which keys have hashes in common.
- * The second returns up to eight bytes as a word, by reads that may overlap. */
-static inline uint64_t lru_hash_step(uint64_t hash, uint64_t word, uint64_t length) {
-    __extension__ typedef unsigned __int128 product_of_words;
-    product_of_words product =
-        (product_of_words)(hash ^ word) * (0x9e3779b97f4a7c15 ^ 2 * length);
+/* Parts of the functions that hash; these names are internal. A product of two words, whose halves
+ * are joined; and up to eight bytes as a word, by reads that may overlap. */
+__extension__ typedef unsigned __int128 lru_product;
+
+static inline uint64_t lru_hash_multiply(uint64_t a, uint64_t b) {
+    lru_product product = (lru_product)a * b;
     return (uint64_t)product ^ (uint64_t)(product >> 64);
 }
 
@@ -571,14 +575,22 @@ static inline uint64_t lru_hash_word(const uint8_t *at, size_t length) {
     return low | (uint64_t)high << 32;
 }
 
+/* No factor is ever 0, so that without the seed nobody can tell which keys have hashes in common.
+ * The last word is left to the multiplication of the cache, which spreads a series of keys, such as
+ * the offsets of blocks, more evenly than two multiplications do. */
 static inline uint64_t lru_hash_bytes(const void *key, size_t length, uint64_t seed) {
     const uint8_t *at = (const uint8_t *)key;
-    uint64_t hash = lru_hash_step(0x243f6a8885a308d3, seed, 8);
+    uint64_t hash;
     if (key == NULL)
         length = 0;
+    hash = lru_hash_multiply(0x243f6a8885a308d3 ^ seed, 0x9e3779b97f4a7c15 ^ 2 * (uint64_t)length);
     for (; length > 8; at += 8, length -= 8)
-        hash = lru_hash_step(hash, lru_hash_word(at, 8), 8);
-    return lru_hash_step(hash, lru_hash_word(at, length), length);
+        hash = lru_hash_multiply(hash ^ lru_hash_word(at, 8), 0x9e3779b97f4a7c05);
+    return hash ^ lru_hash_word(at, length);
+}
+
+static inline uint64_t lru_shard_of(uint64_t hash, uint64_t count) {
+    return (uint64_t)((lru_product)lru_hash_multiply(hash, 0xbf58476d1ce4e5b9) * count >> 64);
 }
 
 /* The calls that also take a null pointer. These first three names are internal. */

