@@ -577,13 +577,14 @@ static inline uint64_t lru_hash_word(const uint8_t *at, size_t length) {
 
 /* No factor is ever 0, so that without the seed nobody can tell which keys have hashes in common.
  * The last word is left to the multiplication of the cache, which spreads a series of keys, such as
- * the offsets of blocks, more evenly than two multiplications do. */
+ * the offsets of blocks, more evenly than two multiplications do. The first two numbers are not
+ * those with which a cache begins, as equal seeds would cancel each other. */
 static inline uint64_t lru_hash_bytes(const void *key, size_t length, uint64_t seed) {
     const uint8_t *at = (const uint8_t *)key;
     uint64_t hash;
     if (key == NULL)
         length = 0;
-    hash = lru_hash_multiply(0x243f6a8885a308d3 ^ seed, 0x9e3779b97f4a7c15 ^ 2 * (uint64_t)length);
+    hash = lru_hash_multiply(0x13198a2e03707344 ^ seed, 0x94d049bb133111eb ^ 2 * (uint64_t)length);
     for (; length > 8; at += 8, length -= 8)
         hash = lru_hash_multiply(hash ^ lru_hash_word(at, 8), 0x9e3779b97f4a7c05);
     return hash ^ lru_hash_word(at, length);

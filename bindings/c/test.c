@@ -173,18 +173,18 @@ static void hashes_of_bytes(void) {
     CHECK(lru_chain_free(&gone), LRU_DONE);
 
     /* computed by another program, on a machine whose lowest byte comes first */
-    CHECK(lru_hash_bytes("", 0, 0), 0xe18485764ba03644);
-    CHECK(lru_hash_bytes("", 0, 7), 0x807f0b3fc4edb268);
-    CHECK(lru_hash_bytes("abc", 3, 7), 0x5bfdde0effc8eed1);
-    CHECK(lru_hash_bytes("abcd", 4, 7), 0xca10d51ad2660968);
-    CHECK(lru_hash_bytes("abcdefgh", 8, 7), 0x2c22d5e24add654f);
-    CHECK(lru_hash_bytes("abcdefghi", 9, 7), 0x86903274a537d106);
-    CHECK(lru_hash_bytes("abcdefghijklmnop", 16, 7), 0xb73380633bd6f29b);
-    CHECK(lru_hash_bytes("abcdefghijklmnopqrs", 19, 7), 0x84c1c0a55a8ae042);
+    CHECK(lru_hash_bytes("", 0, 0), 0xa9eb3014a738387f);
+    CHECK(lru_hash_bytes("", 0, 7), 0x053b7a5fb4692a92);
+    CHECK(lru_hash_bytes("abc", 3, 7), 0x3f4e06fbb32b2175);
+    CHECK(lru_hash_bytes("abcd", 4, 7), 0x1a2dcf4ef58eae1a);
+    CHECK(lru_hash_bytes("abcdefgh", 8, 7), 0x5cc4ff1aa7057cc4);
+    CHECK(lru_hash_bytes("abcdefghi", 9, 7), 0x8b35b0781ec3e4c1);
+    CHECK(lru_hash_bytes("abcdefghijklmnop", 16, 7), 0xccda765865135297);
+    CHECK(lru_hash_bytes("abcdefghijklmnopqrs", 19, 7), 0x033b2096655d1f1f);
     CHECK(lru_hash_bytes(NULL, 5, 7), lru_hash_bytes("", 0, 7));
     CHECK(lru_shard_of(0x0000000000000001, 16), 11);
     CHECK(lru_shard_of(0x8000000000000000, 16), 13);
-    CHECK(lru_shard_of(0x5bfdde0effc8eed1, 1000), 882);
+    CHECK(lru_shard_of(0x3f4e06fbb32b2175, 1000), 472);
     CHECK(lru_shard_of(UINT64_MAX, 1), 0);
 }
 

@@ -1,11 +1,12 @@
 //! The hash of keys of bytes, which the library takes with them.
 
 /// Hashes bytes with a seed, as `lru_hash_bytes` of `lru.h` does: eight at a time, except that the
-/// last ones are left to the multiplication of the library.
+/// last ones are left to the multiplication of the library. The first two numbers are not those
+/// with which the library begins, as equal seeds would cancel each other.
 pub(crate) fn hash_of(bytes: &[u8], seed: u64) -> u64 {
     let mut hash = multiply(
-        0x243f_6a88_85a3_08d3 ^ seed,
-        0x9e37_79b9_7f4a_7c15 ^ (2 * bytes.len() as u64),
+        0x1319_8a2e_0370_7344 ^ seed,
+        0x94d0_49bb_1331_11eb ^ (2 * bytes.len() as u64),
     );
     let mut rest = bytes;
     while rest.len() > 8 {
@@ -45,13 +46,13 @@ mod tests {
     /// As in `bindings/c/test.c`.
     #[test]
     fn equals_the_hash_of_the_header() {
-        assert_eq!(hash_of(b"", 0), 0xe184_8576_4ba0_3644);
-        assert_eq!(hash_of(b"", 7), 0x807f_0b3f_c4ed_b268);
-        assert_eq!(hash_of(b"abc", 7), 0x5bfd_de0e_ffc8_eed1);
-        assert_eq!(hash_of(b"abcd", 7), 0xca10_d51a_d266_0968);
-        assert_eq!(hash_of(b"abcdefgh", 7), 0x2c22_d5e2_4add_654f);
-        assert_eq!(hash_of(b"abcdefghi", 7), 0x8690_3274_a537_d106);
-        assert_eq!(hash_of(b"abcdefghijklmnop", 7), 0xb733_8063_3bd6_f29b);
-        assert_eq!(hash_of(b"abcdefghijklmnopqrs", 7), 0x84c1_c0a5_5a8a_e042);
+        assert_eq!(hash_of(b"", 0), 0xa9eb_3014_a738_387f);
+        assert_eq!(hash_of(b"", 7), 0x053b_7a5f_b469_2a92);
+        assert_eq!(hash_of(b"abc", 7), 0x3f4e_06fb_b32b_2175);
+        assert_eq!(hash_of(b"abcd", 7), 0x1a2d_cf4e_f58e_ae1a);
+        assert_eq!(hash_of(b"abcdefgh", 7), 0x5cc4_ff1a_a705_7cc4);
+        assert_eq!(hash_of(b"abcdefghi", 7), 0x8b35_b078_1ec3_e4c1);
+        assert_eq!(hash_of(b"abcdefghijklmnop", 7), 0xccda_7658_6513_5297);
+        assert_eq!(hash_of(b"abcdefghijklmnopqrs", 7), 0x033b_2096_655d_1f1f);
     }
 }
