@@ -10,29 +10,16 @@ use std::sync::Wait;
 use std::thread::Threads;
 use std::time::Duration;
 
-/// Runs the program on its arguments and returns the exit status.
+/// Runs the program on its arguments.
 ///
 /// `SEED MINUTES`, both in digits that fit a `u64`, runs the stress workload from this seed, the
 /// one after it, and so on, until this many minutes are over, and writes a line for each round and
-/// the number of rounds to `out`. The status is 0. A round that was started is completed. The first
-/// check that fails ends the run, with a line on `err` that shows the seed; the status is 1. If
-/// memory or a thread is refused, `refused 1` is written to `err`, and if the clock or a write
-/// fails, a line about it; the status is 1. Any other arguments write the usage line to `err`; the
-/// status is 2.
-pub fn program<R: Threads + Wait + Clock + Clone + Drop + Send + Sync, O: Write, E: Write>(
-    rt: &R,
-    alloc: Global,
-    words: &[String],
-    out: &mut O,
-    err: &mut E,
-) -> u8 {
-    match run(rt, alloc, words, out) {
-        Ok(()) => 0,
-        Err(failure) => failure.report(err),
-    }
-}
-
-fn run<R: Threads + Wait + Clock + Clone + Drop + Send + Sync, O: Write>(
+/// the number of rounds to `out`. A round that was started is completed.
+///
+/// Returns `Round` with the seed for the first check that fails, which ends the run, or if memory
+/// or a thread is refused to a round. Returns `System` if the clock or a write fails, and `Usage`
+/// for any other arguments.
+pub fn program<R: Threads + Wait + Clock + Clone + Drop + Send + Sync, O: Write>(
     rt: &R,
     alloc: Global,
     words: &[String],
