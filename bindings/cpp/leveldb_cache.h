@@ -128,7 +128,7 @@ class BasicLevelDBCache : public leveldb::Cache {
     Shard& shard = ShardOf(key);
     entry->shard = &shard;
     Evicted evicted;
-    const std::lock_guard<std::mutex> lock(shard.mutex);
+    const std::lock_guard<detail::Mutex> lock(shard.mutex);
     const lru_told told = shard.core.insert(hashed, weight, entry, &evicted);
     entry->pin = detail::copy_of(told.pin);
     if (told.code != LRU_DONE) {
@@ -143,7 +143,7 @@ class BasicLevelDBCache : public leveldb::Cache {
     if (!CanStore(key)) return nullptr;
     const auto hashed = Hashed(key);
     Shard& shard = ShardOf(key);
-    const std::lock_guard<std::mutex> lock(shard.mutex);
+    const std::lock_guard<detail::Mutex> lock(shard.mutex);
     const lru_told told = shard.core.get(hashed);
     // It is a miss too if the entry has 2^32 - 1 handles. If the key is longer than any before and
     // there is no memory for a copy, it has no entry.
@@ -159,7 +159,7 @@ class BasicLevelDBCache : public leveldb::Cache {
     }
     Shard& shard = *entry->shard;
     Evicted evicted;
-    const std::lock_guard<std::mutex> lock(shard.mutex);
+    const std::lock_guard<detail::Mutex> lock(shard.mutex);
     shard.core.release(entry->pin, &evicted);
   }
 
@@ -170,7 +170,7 @@ class BasicLevelDBCache : public leveldb::Cache {
     const auto hashed = Hashed(key);
     Shard& shard = ShardOf(key);
     Evicted evicted;
-    const std::lock_guard<std::mutex> lock(shard.mutex);
+    const std::lock_guard<detail::Mutex> lock(shard.mutex);
     // This is refused only if the key is longer than any before, and then it has no entry.
     shard.core.invalidate(hashed, &evicted);
   }
@@ -180,7 +180,7 @@ class BasicLevelDBCache : public leveldb::Cache {
   void Prune() override {
     for (Shard& shard : shards_) {
       Evicted evicted;
-      const std::lock_guard<std::mutex> lock(shard.mutex);
+      const std::lock_guard<detail::Mutex> lock(shard.mutex);
       shard.core.prune(&evicted);
     }
   }
@@ -203,7 +203,7 @@ class BasicLevelDBCache : public leveldb::Cache {
   // What each call uses of a shard lies in one line of memory.
   struct alignas(64) Shard {
     Core core;
-    mutable std::mutex mutex;
+    mutable detail::Mutex mutex;
   };
 
   explicit BasicLevelDBCache(std::size_t shards) : shards_(shards) {}

@@ -13,10 +13,58 @@
 #include <new>
 #include <type_traits>
 
+#if __has_include(<sys/single_threaded.h>)
+#include <sys/single_threaded.h>
+#endif
+
 #include "lru_core.hpp"
 
 namespace lru {
 namespace detail {
+
+// Whether no thread but this one has ever been started, as far as the C library tells.
+inline bool IsOnlyThread() {
+#if __has_include(<sys/single_threaded.h>)
+  return __libc_single_threaded != 0;
+#else
+  return false;
+#endif
+}
+
+// Waits a little, as a processor that tries a lock again should.
+inline void Pause() {
+#if defined(__x86_64__) || defined(__i386__)
+  __builtin_ia32_pause();
+#elif defined(__aarch64__)
+  __asm__ __volatile__("isb");
+#endif
+}
+
+// A mutex that each holder keeps for less time than it takes to put a thread to sleep and to wake
+// it. A thread that finds it held tries it again for a while, less and less often, before it
+// sleeps.
+class Mutex {
+ public:
+  void lock() {
+    // glibc needs no atomic instruction for this then, but one to try.
+    if (IsOnlyThread()) return mutex_.lock();
+    if (!mutex_.try_lock()) LockHeld();
+  }
+  void unlock() { mutex_.unlock(); }
+
+ private:
+  void LockHeld() {
+    for (int pauses = 1; pauses <= kMostPauses; pauses *= 2) {
+      for (int n = 0; n < pauses; n++) Pause();
+      if (mutex_.try_lock()) return;
+    }
+    mutex_.lock();
+  }
+
+  static constexpr int kMostPauses = 64;
+
+  std::mutex mutex_;
+};
 
 struct NothingMore {};
 
@@ -118,7 +166,7 @@ class Shards {
   std::size_t Sum(Number number) const {
     std::size_t sum = 0;
     for (const Shard& shard : *this) {
-      const std::lock_guard<std::mutex> lock(shard.mutex);
+      const std::lock_guard<Mutex> lock(shard.mutex);
       sum += static_cast<std::size_t>(number(shard));
     }
     return sum;

@@ -153,7 +153,7 @@ class BasicRocksDBCache : public rocksdb::Cache {
     if (!CanStore(key)) return nullptr;
     const HashedKey hashed = Hashed(key);
     Shard& shard = ShardOf(hashed);
-    const std::lock_guard<std::mutex> lock(shard.mutex);
+    const std::lock_guard<detail::Mutex> lock(shard.mutex);
     const lru_told told = shard.core.get(hashed);
     // It is a miss too if the entry has 2^32 - 1 handles. If the key is longer than any before and
     // there is no memory for a copy, it has no entry.
@@ -166,7 +166,7 @@ class BasicRocksDBCache : public rocksdb::Cache {
       entry->other_handles++;
       return true;
     }
-    const std::lock_guard<std::mutex> lock(entry->shard->mutex);
+    const std::lock_guard<detail::Mutex> lock(entry->shard->mutex);
     return entry->shard->core.repin(entry->pin).code == LRU_PINNED;
   }
 
@@ -260,7 +260,7 @@ class BasicRocksDBCache : public rocksdb::Cache {
   // What a hit uses of a shard comes first.
   struct alignas(64) Shard {
     Core core;
-    mutable std::mutex mutex;
+    mutable detail::Mutex mutex;
     std::size_t found = 0;  // how many entries their keys find
   };
 
@@ -362,7 +362,7 @@ class BasicRocksDBCache : public rocksdb::Cache {
 
     Shard& shard_;
     detail::Evicted<Entry> evicted_;  // destroyed after the lock
-    const std::lock_guard<std::mutex> lock_;
+    const std::lock_guard<detail::Mutex> lock_;
   };
 
   BasicRocksDBCache(std::size_t capacity, std::size_t shards, bool is_strict)
