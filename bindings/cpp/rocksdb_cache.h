@@ -212,7 +212,7 @@ class BasicRocksDBCache : public rocksdb::Cache {
     return shards_.Sum([](const Shard& shard) { return shard.core.pinned_charge(); });
   }
   std::size_t GetOccupancyCount() const override {
-    return shards_.Sum([](const Shard& shard) { return shard.found; });
+    return shards_.Sum([](const Shard& shard) { return shard.core.len() - shard.detached; });
   }
 
   std::size_t GetUsage(Handle* handle) const override { return EntryOf(handle)->charge; }
@@ -247,10 +247,10 @@ class BasicRocksDBCache : public rocksdb::Cache {
   struct Shard;
 
   struct More {
-    std::size_t charge = 0;
     // Of an entry that is not in the cache, how many handles it has besides one.
     std::atomic<std::size_t> other_handles{0};
-    bool is_found = false;  // whether its key finds it
+    bool is_detached = false;  // whether it is in the cache and its key does not find it
+    std::size_t charge = 0;    // last, as a hit reads it with what follows
   };
 
   using Entry = detail::BlockEntry<rocksdb::Slice, Shard, More>;
@@ -261,7 +261,7 @@ class BasicRocksDBCache : public rocksdb::Cache {
   struct alignas(64) Shard {
     Core core;
     mutable detail::Mutex mutex;
-    std::size_t found = 0;  // how many entries their keys find
+    std::size_t detached = 0;  // how many entries their keys do not find
   };
 
   // A call on a shard, which holds its mutex. The destructor unlocks it, and then runs the deleters
@@ -269,10 +269,6 @@ class BasicRocksDBCache : public rocksdb::Cache {
   class Call {
    public:
     explicit Call(Shard* shard) : shard_(*shard), lock_(shard->mutex) {}
-    ~Call() {
-      for (Entry* entry = evicted_.first(); entry != nullptr; entry = entry->next)
-        SetFound(entry, false);
-    }
 
     Call(const Call&) = delete;
     Call& operator=(const Call&) = delete;
@@ -291,7 +287,6 @@ class BasicRocksDBCache : public rocksdb::Cache {
       if (told.code != LRU_DONE) return;
       entry->pin = detail::copy_of(told.pin);
       entry->shard = &shard_;
-      SetFound(entry, true);
     }
 
     // Returns whether the entry has left the cache.
@@ -303,7 +298,10 @@ class BasicRocksDBCache : public rocksdb::Cache {
       }
       const Entry* left = evicted_.first();
       while (left != nullptr && left != entry) left = left->next;
-      return left == entry;
+      if (left == nullptr) return false;
+      // All others that were evicted were found, as idle entries are.
+      if (entry->is_detached) shard_.detached--;
+      return true;
     }
 
     // Makes the key find no entry, and returns whether it found one. One that is not pinned leaves.
@@ -311,16 +309,16 @@ class BasicRocksDBCache : public rocksdb::Cache {
       // If the key is longer than any before and there is no memory for a copy, it has no entry.
       const lru_told told = shard_.core.get(hashed);
       if (told.code != LRU_HIT && told.code != LRU_OVERFLOW) return false;
-      shard_.core.invalidate(hashed, &evicted_);
       if (told.code == LRU_HIT) {
-        SetFound(Core::node_of(told.value), false);
-        shard_.core.release(told.pin, &evicted_);
+        SetDetached(Core::node_of(told.value));
       } else {
         // The entry has 2^32 - 1 handles, and is not told.
         ForEachFound([&](Entry& entry) {
-          if (entry.key() == key) SetFound(&entry, false);
+          if (entry.key() == key) SetDetached(&entry);
         });
       }
+      shard_.core.invalidate(hashed, &evicted_);
+      if (told.code == LRU_HIT) Release(Core::node_of(told.value), false);
       return true;
     }
 
@@ -344,8 +342,7 @@ class BasicRocksDBCache : public rocksdb::Cache {
       if (entries == nullptr) return;
       const std::size_t count = shard_.core.entries(entries.get(), room);
       for (std::size_t n = 0; n < count; n++) {
-        Entry& entry = *Core::node_of(entries[n].value);
-        if (entry.is_found) visit(entry);
+        if (!entries[n].is_detached) visit(*Core::node_of(entries[n].value));
       }
     }
 
@@ -354,10 +351,9 @@ class BasicRocksDBCache : public rocksdb::Cache {
       void operator()(void* at) const { std::free(at); }
     };
 
-    void SetFound(Entry* entry, bool is_found) {
-      if (entry->is_found == is_found) return;
-      entry->is_found = is_found;
-      is_found ? shard_.found++ : shard_.found--;
+    void SetDetached(Entry* entry) {
+      entry->is_detached = true;
+      shard_.detached++;
     }
 
     Shard& shard_;
