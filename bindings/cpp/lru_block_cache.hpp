@@ -61,7 +61,7 @@ class Mutex {
     mutex_.lock();
   }
 
-  static constexpr int kMostPauses = 64;
+  static constexpr int kMostPauses = 256;
 
   std::mutex mutex_;
 };

@@ -290,9 +290,11 @@ class Core {
 
   // Empties the chain, as the next call needs it empty. Most calls evict nothing.
   void take_evicted(Evicted<Node>* evicted) noexcept {
-    if (lru_chain_is_empty(&chain_)) return;
     lru_gone gone;
-    while (lru_chain_pop(&chain_, &gone)) evicted->add(node_of(gone.value));
+    while (!lru_chain_is_empty(&chain_)) {
+      lru_chain_pop(&chain_, &gone);
+      evicted->add(node_of(gone.value));
+    }
   }
 
   // Mutable because the calls that only look take a pointer that is not const.

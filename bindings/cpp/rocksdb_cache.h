@@ -307,8 +307,8 @@ class BasicRocksDBCache : public rocksdb::Cache {
     // Makes the key find no entry, and returns whether it found one. One that is not pinned leaves.
     bool Detach(const HashedKey& hashed, const rocksdb::Slice& key) {
       // If the key is longer than any before and there is no memory for a copy, it has no entry.
+      if (shard_.core.contains(hashed) != LRU_DONE) return false;
       const lru_told told = shard_.core.get(hashed);
-      if (told.code != LRU_HIT && told.code != LRU_OVERFLOW) return false;
       if (told.code == LRU_HIT) {
         SetDetached(Core::node_of(told.value));
       } else {
