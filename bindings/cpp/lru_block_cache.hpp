@@ -53,7 +53,7 @@ class Mutex {
   void unlock() { mutex_.unlock(); }
 
  private:
-  void LockHeld() {
+  [[gnu::cold]] void LockHeld() {
     for (int pauses = 1; pauses <= kMostPauses; pauses *= 2) {
       for (int n = 0; n < pauses; n++) Pause();
       if (mutex_.try_lock()) return;
