@@ -280,13 +280,23 @@ class BasicRocksDBCache : public rocksdb::Cache {
       return pinned <= capacity && charge <= capacity - pinned;
     }
 
-    // Adds an entry for a key that has none, and pins it. If the library refuses it, the entry is
-    // not in the cache.
-    void Add(const HashedKey& hashed, Entry* entry) {
-      const lru_told told = shard_.core.insert(hashed, entry->charge, entry, &evicted_);
-      if (told.code != LRU_DONE) return;
-      entry->pin = detail::copy_of(told.pin);
-      entry->shard = &shard_;
+    // Adds an entry and pins it, and returns whether it takes the place of another one of the key.
+    // If the library refuses it, the entry is not in the cache.
+    bool Add(const HashedKey& hashed, Entry* entry) {
+      // Most keys have no entry, and are looked up only once.
+      lru_told told = shard_.core.begin(hashed, entry->charge, &evicted_);
+      bool replaces = false;
+      if (told.code == LRU_HIT || told.code == LRU_OVERFLOW) {
+        if (told.code == LRU_HIT) Release(Core::node_of(told.value), false);
+        replaces = Detach(hashed, entry->key());
+        told = shard_.core.begin(hashed, entry->charge, &evicted_);
+      }
+      if (told.code == LRU_MAKE) {
+        shard_.core.ready(told.pin, entry);
+        entry->pin = detail::copy_of(told.pin);
+        entry->shard = &shard_;
+      }
+      return replaces;
     }
 
     // Returns whether the entry has left the cache.
@@ -307,8 +317,8 @@ class BasicRocksDBCache : public rocksdb::Cache {
     // Makes the key find no entry, and returns whether it found one. One that is not pinned leaves.
     bool Detach(const HashedKey& hashed, const rocksdb::Slice& key) {
       // If the key is longer than any before and there is no memory for a copy, it has no entry.
-      if (shard_.core.contains(hashed) != LRU_DONE) return false;
       const lru_told told = shard_.core.get(hashed);
+      if (told.code != LRU_HIT && told.code != LRU_OVERFLOW) return false;
       if (told.code == LRU_HIT) {
         SetDetached(Core::node_of(told.value));
       } else {
@@ -400,8 +410,7 @@ class BasicRocksDBCache : public rocksdb::Cache {
       call.Delete(entry);
       return handle == nullptr ? rocksdb::Status::OK() : rocksdb::Status::MemoryLimit();
     }
-    const bool replaces = call.Detach(hashed, entry->key());
-    call.Add(hashed, entry);
+    const bool replaces = call.Add(hashed, entry);
     if (handle != nullptr) {
       *handle = HandleOf(entry);
     } else if (entry->shard != nullptr) {
