@@ -62,6 +62,15 @@ impl<C: Cached<CountedValue>> StressTarget for CheckedCache<C> {
     }
 }
 
+/// What is checked after all workers have ended. It has no associated type, since the checker covers
+/// no thread that is sent a type parameter with one.
+pub trait Finish {
+    /// Checks the cache, and returns what was counted. Its total may be at most `allowed`.
+    ///
+    /// Returns the first check that failed.
+    fn finish(&self, noted: Notes, allowed: u128) -> Result<Counts, Trouble>;
+}
+
 impl<C: Cached<CountedValue>> CheckedCache<C> {
     /// Creates a checked cache from an empty one, with a new book, to be asked as the plan says.
     ///
@@ -75,12 +84,10 @@ impl<C: Cached<CountedValue>> CheckedCache<C> {
             looks: plan.looks,
         })
     }
+}
 
-    /// Checks the cache after all workers have ended, and returns what was counted. Its total may
-    /// be at most `allowed`.
-    ///
-    /// Returns the first check that failed.
-    pub fn finish(&self, noted: Notes, allowed: u128) -> Result<Counts, Trouble> {
+impl<C: Cached<CountedValue>> Finish for CheckedCache<C> {
+    fn finish(&self, noted: Notes, allowed: u128) -> Result<Counts, Trouble> {
         let counts = Counts {
             makings: self.book.inits(),
             hits: noted.hits,

@@ -1,9 +1,10 @@
 //! The parts of a stress run: a cache behind one lock, a cache with shards, a twin, and a clock if
 //! the plan has one.
 
-use crate::checked::{Cache, CheckedCache, Clock, Shards};
+use crate::checked::{Cache, CheckedCache, Clock, Finish, KeyHasher, Shards};
 use crate::outcome::{Counts, Trouble};
 use crate::plan::Plan;
+use crate::workers::StressTarget;
 use crate::{twin, workers};
 use concurrent_lru::sharded::capacity_per_shard;
 use lru_journal::journal::Opening;
@@ -34,11 +35,26 @@ impl Part {
         alloc: Global,
         plan: &Plan,
     ) -> Result<Counts, Trouble> {
+        let (wait, allowed) = (rt.clone()?, allowed_in_shards(plan));
+        let (capacity, shards) = (plan.shards_capacity, plan.shards);
+        let hasher: KeyHasher = BuildHasherDefault::new();
         match self {
-            Part::OneLock => on_one_lock(rt, alloc, plan),
-            Part::Shards => in_shards(rt, alloc, plan),
+            Part::OneLock => {
+                let cache: Cache<R> = Cache::new(alloc, wait, plan.lock_capacity);
+                let checked = CheckedCache::of(alloc, plan, &cache)?;
+                share(rt, alloc, plan, &checked, u128::from(plan.lock_capacity))
+            }
+            Part::Shards => {
+                let cache = Shards::<R>::with_shards_hasher(alloc, wait, capacity, shards, hasher)?;
+                let checked = CheckedCache::of(alloc, plan, &cache)?;
+                share(rt, alloc, plan, &checked, allowed)
+            }
+            Part::Clock => {
+                let cache = Clock::<R>::with_shards_hasher(alloc, wait, capacity, shards, hasher)?;
+                let checked = CheckedCache::of(alloc, plan, &cache)?;
+                share(rt, alloc, plan, &checked, allowed)
+            }
             Part::Twin => on_a_twin(rt, alloc, plan),
-            Part::Clock => on_a_clock(rt, alloc, plan),
         }
     }
 }
@@ -68,51 +84,16 @@ pub fn run<R: Threads + Wait + Clone + Drop + Send + Sync>(
     }
 }
 
-fn on_one_lock<R: Threads + Wait + Clone + Drop + Send + Sync>(
+// Has the workers share a cache, checks it, and returns what was counted.
+fn share<R: Threads + Sync, C: StressTarget + Finish + Sync>(
     rt: &R,
     alloc: Global,
     plan: &Plan,
+    cache: &C,
+    allowed: u128,
 ) -> Result<Counts, Trouble> {
-    let cache: Cache<R> = Cache::new(alloc, rt.clone()?, plan.lock_capacity);
-    let checked = CheckedCache::of(alloc, plan, &cache)?;
-    let noted = workers::share(rt, alloc, plan, &checked)?;
-    checked.finish(noted, u128::from(plan.lock_capacity))
-}
-
-fn in_shards<R: Threads + Wait + Clone + Drop + Send + Sync>(
-    rt: &R,
-    alloc: Global,
-    plan: &Plan,
-) -> Result<Counts, Trouble> {
-    let made: Result<Shards<R>, _> = Shards::with_shards_hasher(
-        alloc,
-        rt.clone()?,
-        plan.shards_capacity,
-        plan.shards,
-        BuildHasherDefault::new(),
-    );
-    let cache = made?;
-    let checked = CheckedCache::of(alloc, plan, &cache)?;
-    let noted = workers::share(rt, alloc, plan, &checked)?;
-    checked.finish(noted, allowed_in_shards(plan))
-}
-
-fn on_a_clock<R: Threads + Wait + Clone + Drop + Send + Sync>(
-    rt: &R,
-    alloc: Global,
-    plan: &Plan,
-) -> Result<Counts, Trouble> {
-    let made: Result<Clock<R>, _> = Clock::with_shards_hasher(
-        alloc,
-        rt.clone()?,
-        plan.shards_capacity,
-        plan.shards,
-        BuildHasherDefault::new(),
-    );
-    let cache = made?;
-    let checked = CheckedCache::of(alloc, plan, &cache)?;
-    let noted = workers::share(rt, alloc, plan, &checked)?;
-    checked.finish(noted, allowed_in_shards(plan))
+    let noted = workers::share(rt, alloc, plan, cache)?;
+    cache.finish(noted, allowed)
 }
 
 // Returns the sum of the shards' capacities: each share is rounded up.

@@ -37,6 +37,24 @@ impl Accepted {
         }
     }
 
+    // Returns the counts of a making of this many calls.
+    fn of_making(calls: u64) -> Accepted {
+        Accepted {
+            calls,
+            makings: 1,
+            hits: 0,
+        }
+    }
+
+    // Returns the counts of a hit, whose pin was released.
+    fn of_hit() -> Accepted {
+        Accepted {
+            calls: 2,
+            makings: 0,
+            hits: 1,
+        }
+    }
+
     fn and(self, other: Accepted) -> Accepted {
         Accepted {
             calls: self.calls.wrapping_add(other.calls),
@@ -136,7 +154,8 @@ fn work<I: Identity, R: Wait + Drop>(
     Ok((tally, accepted))
 }
 
-// Begins on a key, and then does what the answer asks for.
+// Begins on a key, and then does what the answer asks for: gives up the making, makes the value, or
+// releases the pin of a hit.
 fn use_key<I: Identity, R: Wait + Drop>(
     cache: &Twin<u64, u64, R, I>,
     alloc: Global,
@@ -146,27 +165,20 @@ fn use_key<I: Identity, R: Wait + Drop>(
     ensures { tally.new.parts ≡ tally.old.parts }
 {
     match cache.begin(tally, &call.key, call.charge)? {
-        Started::Make(stamp) if call.fails => fail(cache, tally, stamp),
-        Started::Make(stamp) => make(cache, alloc, tally, stamp, call.key),
-        Started::Hit(pin) => hit(cache, tally, pin),
+        Started::Make(stamp) if call.fails => {
+            let _failed = cache.fail(tally, stamp)?;
+            Ok(Accepted::of_making(2))
+        }
+        Started::Make(stamp) => {
+            make(cache, alloc, tally, stamp, call.key)?;
+            Ok(Accepted::of_making(3))
+        }
+        Started::Hit(pin) => {
+            give_back(cache, tally, pin)?;
+            Ok(Accepted::of_hit())
+        }
         Started::Wait(_) => Err(Trouble::Failed(Check::TwinAnswers)),
     }
-}
-
-// Gives up a making.
-fn fail<I: Identity, R: Wait + Drop>(
-    cache: &Twin<u64, u64, R, I>,
-    tally: &mut Tally<u64, I>,
-    stamp: u64,
-) -> Result<Accepted, Trouble>
-    ensures { tally.new.parts ≡ tally.old.parts }
-{
-    let _failed = cache.fail(tally, stamp)?;
-    Ok(Accepted {
-        calls: 2,
-        makings: 1,
-        hits: 0,
-    })
 }
 
 // Makes the value, which is the key, and releases its pin.
@@ -176,7 +188,7 @@ fn make<I: Identity, R: Wait + Drop>(
     tally: &mut Tally<u64, I>,
     stamp: u64,
     key: u64,
-) -> Result<Accepted, Trouble>
+) -> Result<(), Trouble>
     ensures { tally.new.parts ≡ tally.old.parts }
 {
     let value = Arc::new(alloc, key)?;
@@ -184,32 +196,21 @@ fn make<I: Identity, R: Wait + Drop>(
     if let Err((refusal, _)) = cache.ready(tally, stamp, value) {
         return Err(Trouble::from(refusal));
     }
-    if let Err((refusal, _)) = cache.release(tally, Pin::new(stamp, own)) {
-        return Err(Trouble::from(refusal));
-    }
-    Ok(Accepted {
-        calls: 3,
-        makings: 1,
-        hits: 0,
-    })
+    give_back(cache, tally, Pin::new(stamp, own))
 }
 
-// Releases the pin of a hit.
-fn hit<I: Identity, R: Wait + Drop>(
+// Releases a pin.
+fn give_back<I: Identity, R: Wait + Drop>(
     cache: &Twin<u64, u64, R, I>,
     tally: &mut Tally<u64, I>,
     pin: Pin<u64>,
-) -> Result<Accepted, Trouble>
+) -> Result<(), Trouble>
     ensures { tally.new.parts ≡ tally.old.parts }
 {
-    if let Err((refusal, _)) = cache.release(tally, pin) {
-        return Err(Trouble::from(refusal));
+    match cache.release(tally, pin) {
+        Ok(_) => Ok(()),
+        Err((refusal, _)) => Err(Trouble::from(refusal)),
     }
-    Ok(Accepted {
-        calls: 2,
-        makings: 0,
-        hits: 1,
-    })
 }
 
 // Checks the journal of all workers, which made this many accepted calls.
