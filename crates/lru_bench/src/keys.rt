@@ -1,4 +1,5 @@
-//! The keys that a workload asks for. Drawing them costs next to nothing compared with what is timed.
+//! The keys that a workload asks for. Drawing them costs next to nothing compared with what is
+//! timed.
 ghost use Rattle.std.specs.Prelude.{◌<◌};
 
 use std::num::NonZeroU64;

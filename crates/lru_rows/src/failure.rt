@@ -4,9 +4,10 @@
 
 use concurrent_lru::lru_core::Refusal;
 use lru_stress::outcome::RoundFailure;
-use std::alloc::{AllocError, AllocFailed};
+use std::alloc::AllocError;
 use std::io;
 use std::io::Write;
+use std::process::ExitCode;
 
 /// Why the program fails.
 #[derive(Clone, Copy)]
@@ -21,29 +22,20 @@ pub enum Failure {
     Write(io::Error),
 }
 
-impl Failure {
-    /// Writes the failure to `err` in one line, and returns the exit status: 2 for invalid
-    /// arguments, otherwise 1.
-    pub fn report<E: Write>(self, err: &mut E) -> u8 {
-        let told = match self {
-            Failure::Usage => writeln!(err, "usage: rows | stress SEED"),
-            Failure::Refused(refusal) => writeln!(err, "refused {}", refusal.code()),
-            Failure::Stress(failure) => writeln!(err, "{failure}"),
-            Failure::Write(error) => {
-                writeln!(err, "lru_rows: cannot write standard output: {error}")
-            }
-        };
-        match (self, told) {
-            (Failure::Usage, Ok(())) => 2,
-            _ => 1,
+/// Writes to `err` why a run failed, if it did, in one line, and returns the exit status: 0 if it
+/// did not fail, 2 for invalid arguments, and otherwise 1.
+pub fn status<E: Write>(ended: Result<(), Failure>, err: &mut E) -> ExitCode {
+    let (told, status) = match ended {
+        Ok(()) => (Ok(()), 0),
+        Err(Failure::Usage) => (writeln!(err, "usage: rows | stress SEED"), 2),
+        Err(Failure::Refused(refusal)) => (writeln!(err, "refused {}", refusal.code()), 1),
+        Err(Failure::Stress(failure)) => (writeln!(err, "{failure}"), 1),
+        Err(Failure::Write(error)) => {
+            let told = writeln!(err, "lru_rows: cannot write standard output: {error}");
+            (told, 1)
         }
-    }
-}
-
-impl From<Refusal> for Failure {
-    fn from(refusal: Refusal) -> Failure {
-        Failure::Refused(refusal)
-    }
+    };
+    ExitCode::from(if told.is_ok() { status } else { 1 })
 }
 
 impl From<AllocError> for Failure {

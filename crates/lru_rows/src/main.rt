@@ -6,15 +6,13 @@ mod failure;
 mod program;
 mod rows;
 
-use failure::Failure;
+use failure::{Failure, status};
 use lru_support::words;
 use program::program;
 use std::process::ExitCode;
 
 fn main(rt: HostRuntime) -> ExitCode {
-    let status = match words::after_name(&rt, Failure::Usage) {
-        Ok(words) => program(&rt, rt.alloc(), &words, &mut rt.stdout(), &mut rt.stderr()),
-        Err(failure) => failure.report(&mut rt.stderr()),
-    };
-    ExitCode::from(status)
+    let words = words::after_name(&rt, Failure::Usage);
+    let ended = words.and_then(|words| program(&rt, rt.alloc(), &words, &mut rt.stdout()));
+    status(ended, &mut rt.stderr())
 }

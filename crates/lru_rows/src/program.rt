@@ -10,28 +10,17 @@ use std::io::Write;
 use std::sync::Wait;
 use std::thread::Threads;
 
-/// Runs the program on its arguments and returns the exit status.
+/// Runs the program on its arguments.
 ///
 /// `rows` writes the worked rows to `out`. `stress SEED`, with a `u64` in decimal digits, runs the
-/// stress workload from this seed and writes `stress ok` to `out`. The status is then 0. Any other
-/// arguments write the usage line to `err`, with status 2. The status is 1, after a line on `err`,
-/// if a check of the stress workload fails (the seed and the check), a call is refused though no
-/// row expects it or a thread cannot be started (`refused` and the code), or a write to `out` fails
-/// (the system's error). What was written before stays written.
-pub fn program<R: Threads + Wait + Clone + Drop + Send + Sync, O: Write, E: Write>(
-    rt: &R,
-    alloc: Global,
-    words: &[String],
-    out: &mut O,
-    err: &mut E,
-) -> u8 {
-    match run(rt, alloc, words, out) {
-        Ok(()) => 0,
-        Err(failure) => failure.report(err),
-    }
-}
-
-fn run<R: Threads + Wait + Clone + Drop + Send + Sync, O: Write>(
+/// stress workload from this seed and writes `stress ok` to `out`. What was written before a
+/// failure stays written.
+///
+/// Returns `Usage` for any other arguments, `Stress` with the seed if a check of the stress
+/// workload fails, or it is refused memory or a thread, `Refused` if a call is refused though no
+/// row expects it, or the thread of a row cannot be started, and `Write` with the system's error if
+/// a write to `out` fails.
+pub fn program<R: Threads + Wait + Clone + Drop + Send + Sync, O: Write>(
     rt: &R,
     alloc: Global,
     words: &[String],
@@ -80,7 +69,7 @@ fn write_row<R: Threads + Wait + Sync, O: Write>(
     row: Row,
     out: &mut O,
 ) -> Result<(), Failure> {
-    let text = row.text(rt, alloc)?;
+    let text = row.text(rt, alloc).map_err(Failure::Refused)?;
     writeln!(out, "row {number}: {text}")?;
     Ok(())
 }

@@ -10,10 +10,7 @@ use std::sync::Arc;
 
 /// A new cache, and the acts on it.
 #[derive(Clone, Copy)]
-pub struct Script {
-    pub cache: Cache,
-    pub acts: &'static [Act],
-}
+pub struct Script(pub Cache, pub &'static [Act]);
 
 /// A new, empty cache.
 #[derive(Clone, Copy)]
@@ -64,13 +61,13 @@ pub enum Act {
 
 /// Runs scripts, one after another.
 pub fn run(alloc: Global, scripts: &[Script], line: &mut Line) -> Result<(), Refusal> {
-    for script in scripts {
+    for Script(cache, acts) in scripts {
         let mut stage = Stage {
             alloc,
-            state: script.cache.new(alloc),
+            state: cache.new(alloc),
             evicted: Vec::new(alloc),
         };
-        stage.play(script.acts, line)?;
+        stage.play(acts, line)?;
     }
     Ok(())
 }
