@@ -46,7 +46,7 @@ inline void Pause() {
 class Mutex {
  public:
   void lock() {
-    // glibc needs no atomic instruction for this then, but one to try.
+    // With one thread, glibc locks without an atomic instruction, but does not try without one.
     if (IsOnlyThread()) return mutex_.lock();
     if (!mutex_.try_lock()) LockHeld();
   }
@@ -61,6 +61,8 @@ class Mutex {
     mutex_.lock();
   }
 
+  // With those before them 511 pauses, which take from 2 to some 25 microseconds on processors for
+  // x86-64.
   static constexpr int kMostPauses = 256;
 
   std::mutex mutex_;
