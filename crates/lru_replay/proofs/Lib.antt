@@ -1,5 +1,4 @@
 -- The lemmas of the replay.
 pub mod Entries
 pub mod Fates
-pub mod Inits
-pub mod Inserts
+pub mod Heads
