@@ -6,6 +6,7 @@ use Rattle.std.specs.Coded.{Coded, code_by, coded×, coded_bool}
 use Rattle.std.specs.declared.sync.Arc.{Arc}
 use Rattle.std.specs.declared.alloc.Global.{Global}
 use Rattle.concurrent_lru.specs.Cache.{Cache, Idle, charges, held_at, sum_of, count_of, cache_code, IsLawful}
+use Rattle.concurrent_lru.specs.Ready.{ValuesFit}
 use Rattle.concurrent_lru.specs.Counts.{counts_code, end_of_u64, inserted, one_failure, one_hit, one_making, one_miss, one_refusal, one_wait, removed, entries_in, charge_in}
 use Rattle.concurrent_lru.specs.Request as ask
 use Rattle.concurrent_lru.specs.Request.{Request}
@@ -16,11 +17,6 @@ use Rattle.concurrent_lru.specs.declared.refusal.Refusal.{Refusal}
 use Rattle.concurrent_lru.specs.declared.refusal.Refusal.TheVariants.{Memory, Overflow, Stale, Full}
 use Rattle.concurrent_lru.specs.declared.step.Begun.{Begun}
 use Rattle.concurrent_lru.specs.declared.step.Begun.TheVariants as begun
-
--- a cache and the counts of its calls
-pub record CountedCache (K V : Type 0) : Type 0 where
-  pub cache : Cache K V
-  pub counts : Counts
 
 -- the state under the lock of a cache: the cache, the counts of its calls, and whether its limit is
 -- strict
@@ -61,9 +57,6 @@ module _ {V : Type 0} where
   counted_repin (Err Full) n = n
 
 module _ {K V : Type 0} where
-  abbrev pub counted_cache_code : Coded K → Coded V → Coded (CountedCache K V)
-  counted_cache_code k v = code_by (Cache K V × Counts) (coded× (cache_code k v) counts_code) (λ c. (c.cache, c.counts)) (λ p. record { cache = p.0; counts = p.1 }) (λ _. refl)
-
   abbrev pub locked_cache_code : Coded K → Coded V → Coded (LockedCache K V)
   locked_cache_code k v =
       code_by (Cache K V × (Counts × Bool)) (coded× (cache_code k v) (coded× counts_code coded_bool))
@@ -129,10 +122,15 @@ module _ {K V : Type 0} where
     pub entries_fit : entries_in n ≤ c.next
     pub charge_fits : charge_in n ≤ c.next * end_of_u64
 
-  -- what holds of a cache with one owner and of its counts
+  -- a lawful cache, and counts that add up to it
   pub record IsSoundlyCounted (E : K → K → Bool) (c : Cache K V) (n : Counts) : Type 0 where
     pub lawful : IsLawful E c
     pub adds_up : AddUp c n
+
+  -- what holds of a cache and of its counts whenever the lock is acquired
+  pub record IsSoundUnderLock (E : K → K → Bool) (fits : K → V → Type 0) (c : Cache K V) (n : Counts) : Type 0 where
+    pub counted : IsSoundlyCounted E c n
+    pub kept : ValuesFit fits c
 
   -- the counts after a begin with this result, apart from an insertion
   abbrev pub counted_begin : Result (Begun (Arc V Global) × List (Idle K V)) Refusal → Counts → Counts

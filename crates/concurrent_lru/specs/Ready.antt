@@ -1,7 +1,7 @@
 -- Ready values: which ones a cache has, how steps change them, and that each fits its key.
 use Rattle.std.specs.Prelude.{◌≡◌, ℕ, ◌⊎◌, Bool, true, false, Some}
 use Rattle.std.specs.List.{Contains}
-use Rattle.concurrent_lru.specs.Cache.{Cache, Idle, Held, ready, held_at, HasKeyAt, IsLawful}
+use Rattle.concurrent_lru.specs.Cache.{Cache, Idle, Held, ready, held_at, HasKeyAt}
 
 -- equal keys fit the same values
 abbrev pub EqualKeysFit : {K V : Type 0} → (K → K → Bool) → (K → V → Type 0) → Type 0
@@ -44,8 +44,3 @@ module _ {K V : Type 0} where
   -- the value of every ready entry fits its key
   abbrev pub ValuesFit : (K → V → Type 0) → Cache K V → Type 0
   ValuesFit fits c = (k : K) (v : V) → HasReady c k v → fits k v
-
-  -- what holds of a cache under the lock
-  pub record IsSoundUnderLock (E : K → K → Bool) (fits : K → V → Type 0) (c : Cache K V) : Type 0 where
-    pub lawful : IsLawful E c
-    pub kept : ValuesFit fits c

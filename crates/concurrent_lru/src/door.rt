@@ -2,9 +2,8 @@
 //!
 //! Each call acquires the lock once, and again after each wait. What it took out is dropped after
 //! the lock is released, and whoever waits for what it did is woken.
-ghost use Rattle.std.specs.Prelude.{◌≡◌, ◌≢◌, ◌<◌, Some, None, IfOk, IfErr, IfSome};
+ghost use Rattle.std.specs.Prelude.{◌≡◌, ◌≢◌, ◌<◌, Some, IfOk, IfErr};
 ghost use Rattle.std.specs.Arc.{arc_value};
-ghost use Rattle.std.specs.Fn.{FnOnceReturnsAt, FnOnceTakesAt};
 ghost use Rattle.std.specs.Sync.Mutex.{mutex_guard_value};
 ghost use Rattle.concurrent_lru.specs.Cache.{IsLawful, CopiesAreEqual, IsSettled};
 ghost use Rattle.concurrent_lru.specs.CountedCalls.{AddUp};
@@ -90,7 +89,8 @@ impl<K: Hash + Eq + Clone + Drop, V: Drop, R: Wait, F: Fit<K, V>> Door<K, V, R, 
             Some(guard) => guard,
             None => self.lock_slow(),
         };
-        guard.show();
+        // For its clauses, which hold of what the lock guards.
+        let _ = guard.state();
         guard
     }
 
@@ -105,53 +105,6 @@ impl<K: Hash + Eq + Clone + Drop, V: Drop, R: Wait, F: Fit<K, V>> Door<K, V, R, 
             }
         }
         self.locked.lock(&self.rt)
-    }
-
-    /// `Locked::get`.
-    #[inline(always)]
-    pub fn get(&self, key: &K) -> Result<Option<CacheHandle<'_, K, V, R, F>>, Refusal>
-        ensures found { IfOk result (λ found. IfSome found
-            (λ h. IsHandleFor F.fits h key.now None)) }
-        ensures never_stale { IfErr result (λ e. e ≢ Refusal.Stale) }
-    {
-        let mut guard = self.lock();
-        match guard.get(key)? {
-            None => Ok(None),
-            Some(pin) => Ok(Some(CacheHandle::new(self, pin))),
-        }
-    }
-
-    /// `Locked::read`. `reader` runs under the lock.
-    #[inline(always)]
-    pub fn read<T, G>(&self, key: &K, reader: G) -> Result<Option<T>, Refusal>
-    where
-        G: FnOnce(&V) -> T + Drop,
-        requires callable { (v : V) → F.fits key.now v → FnOnceTakesAt G.FnOnce reader v }
-        ensures fits { IfOk result (λ found. IfSome found
-            (λ t. (v : V) × F.fits key.now v × FnOnceReturnsAt G.FnOnce reader v t)) }
-        ensures refused { IfErr result (λ e. e ≡ Refusal.Overflow) }
-    {
-        let mut guard = self.lock();
-        match guard.read(key, reader)? {
-            None => Ok(None),
-            Some((_, answer)) => Ok(Some(answer)),
-        }
-    }
-
-    /// Calls `f` with the key, the value, the charge and the pins of each entry that its key finds
-    /// and that has a value. `f` runs under the lock.
-    pub fn for_each<G>(&self, f: &mut G)
-    where
-        G: FnMut(&K, &V, u64, u32),
-        requires callable { G.IsAlwaysCallable f.old }
-        ensures callable { G.IsAlwaysCallable f.new }
-    {
-        let guard = self.lock();
-        for entry in guard.state().entries() {
-            if !entry.is_detached {
-                f(entry.key, entry.value, entry.charge, entry.pins);
-            }
-        }
     }
 
     /// `Locked::enter`. What it evicts is dropped without the lock. Waits while another caller
@@ -292,75 +245,6 @@ impl<K: Hash + Eq + Clone + Drop, V: Drop, R: Wait, F: Fit<K, V>> Door<K, V, R, 
                 Err(refusal)
             }
         }
-    }
-
-    /// `Locked::advice_evict`. What it evicts is dropped without the lock.
-    pub fn advice_evict(&self, key: &K) {
-        let mut guard = self.lock();
-        let evicted = guard.advice_evict(key);
-        drop(evicted.open(guard));
-    }
-
-    /// `Locked::invalidate`. What it evicts is dropped without the lock.
-    pub fn invalidate(&self, key: &K) {
-        let mut guard = self.lock();
-        let evicted = guard.invalidate(key);
-        drop(evicted.open(guard));
-    }
-
-    /// `Locked::put`. What it replaces and evicts, or both `Arc`s if it is refused, are dropped
-    /// without the lock.
-    pub fn insert(
-        &self,
-        key: &K,
-        charge: u64,
-        stored: Arc<V>,
-        read: Arc<V>,
-    ) -> Result<CacheHandle<'_, K, V, R, F>, Refusal>
-        requires charged { 0 < charge }
-        requires fits { F.fits key.now (arc_value stored) }
-        requires same { arc_value read ≡ arc_value stored }
-        ensures handle { IfOk result (λ h. IsHandleFor F.fits h key.now (Some charge)) }
-        ensures value { IfOk result (λ h. h.value ≡ arc_value stored) }
-        ensures never_stale { IfErr result (λ e. e ≢ Refusal.Stale) }
-    {
-        let mut guard = self.lock();
-        match guard.put(key, charge, stored, read) {
-            Ok((pin, gone)) => {
-                drop(gone.open(guard));
-                Ok(CacheHandle::new(self, pin))
-            }
-            Err((refusal, values)) => {
-                drop(values.open(guard));
-                Err(refusal)
-            }
-        }
-    }
-
-    /// `Locked::set_strict`.
-    pub fn set_strict(&self, strict: bool) {
-        let mut guard = self.lock();
-        guard.set_strict(strict);
-    }
-
-    /// `Locked::is_strict`.
-    pub fn is_strict(&self) -> bool {
-        let guard = self.lock();
-        guard.is_strict()
-    }
-
-    /// `Locked::prune`. What it evicts is dropped without the lock.
-    pub fn prune(&self) {
-        let mut guard = self.lock();
-        let evicted = guard.prune();
-        drop(evicted.open(guard));
-    }
-
-    /// `Locked::set_capacity`. What it evicts is dropped without the lock.
-    pub fn set_capacity(&self, capacity: u64) {
-        let mut guard = self.lock();
-        let evicted = guard.set_capacity(capacity);
-        drop(evicted.open(guard));
     }
 }
 

@@ -5,7 +5,6 @@
 //! nanoseconds each call of a function shows. What is rare (a making, a wait, a growth) is called.
 #![tactic(auto)]
 
-mod counted;
 pub mod counts;
 mod door;
 pub mod eviction;
@@ -19,7 +18,6 @@ pub mod lru_core;
 pub mod node_table;
 mod owned;
 mod refusal;
-mod route;
 pub mod sealed;
 pub mod shard_laws;
 pub mod sharded;

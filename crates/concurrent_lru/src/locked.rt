@@ -17,15 +17,17 @@ ghost use Rattle.concurrent_lru.specs.Results.{outcome_of_begin, outcome_of_poll
 ghost use Rattle.concurrent_lru.specs.Runs.{Stands};
 ghost use Rattle.concurrent_lru.specs.ThreadedCalls.{IfHit};
 
+mod counting;
+mod evictions;
 mod inserts;
 mod pins;
 mod waiters;
 
 pub use self::pins::{Entered, HeldPin, Making, Polled, Unread, Waiting, Woken};
 pub use self::waiters::Waiters;
-use crate::counted::CountedState;
 use crate::counts::Counts;
 use crate::fit::Fit;
+use crate::locked::counting::{count_begin, count_look, count_poll, count_repin, is_insertion};
 use crate::lru_core::{Begun, Evicted, Failed, Refusal, State};
 use crate::sealed::Sealed;
 use crate::table::{Hint, Spot};
@@ -50,23 +52,23 @@ use std::sync::Arc;
 /// Only a stamp from elsewhere, or one whose entry has left, costs a look at every entry.
 #[derive(Drop)]
 pub struct Locked<K: Hash + Eq + Clone, V, F: Fit<K, V>> {
-    state: CountedState<K, V>,
+    state: State<K, V>,
+    counts: Counts,
     // Whether begins and inserts are the core's strict ones.
     strict: bool,
     mark: PhantomData<F>,
 }
 
 impl<K: Hash + Eq + Clone, V, F: Fit<K, V>> Model for Locked<K, V, F> {
-    ghost use Rattle.concurrent_lru.specs.CountedCalls.{LockedCache, locked_cache_code};
-    ghost use Rattle.concurrent_lru.specs.Ready.{IsSoundUnderLock};
+    ghost use Rattle.concurrent_lru.specs.CountedCalls.{LockedCache, locked_cache_code, IsSoundUnderLock};
 
     ghost Value = { LockedCache K V };
 
     ghost coded = { locked_cache_code K.code V.code };
 
-    ghost view = { λ a. record { cache = a.state.cache; counts = a.state.counts; strict = a.strict } };
+    ghost view = { λ a. record { cache = a.state.cache; counts = a.counts; strict = a.strict } };
 
-    ghost invariant = { λ a. IsSoundUnderLock K.eq F.fits a.state.cache };
+    ghost invariant = { λ a. IsSoundUnderLock K.eq F.fits a.state.cache a.counts };
 }
 
 impl<K: Hash + Eq + Clone + Drop, V: Drop, F: Fit<K, V>> Locked<K, V, F> {
@@ -78,7 +80,8 @@ impl<K: Hash + Eq + Clone + Drop, V: Drop, F: Fit<K, V>> Locked<K, V, F> {
         ensures strict { result.strict ≡ false }
     {
         Locked {
-            state: CountedState::without_stamp_map(alloc, capacity, seed),
+            state: State::without_stamp_map(alloc, capacity, 0, u32::MAX, seed),
+            counts: Counts::from(0, 0),
             strict: false,
             mark: PhantomData,
         }
@@ -94,28 +97,23 @@ impl<K: Hash + Eq + Clone + Drop, V: Drop, F: Fit<K, V>> Locked<K, V, F> {
         self.state.reserve(entries)
     }
 
-    /// Does nothing. Its contract states what holds whenever the lock is acquired.
-    pub fn show(&self)
+    /// Returns the core's state, for calls that change nothing. Its other clauses state what holds
+    /// whenever the lock is acquired.
+    pub fn state(&self) -> &State<K, V>
+        ensures cache { result.now.cache ≡ self.now.cache }
         ensures lawful { IsLawful K.eq self.now.cache }
         ensures settled { IsSettled self.now.cache }
         ensures kept { ValuesFit F.fits self.now.cache }
         ensures adds_up { AddUp self.now.cache self.now.counts }
     {
-        self.state.show();
-    }
-
-    /// Returns the core's state, for calls that change nothing.
-    pub fn state(&self) -> &State<K, V>
-        ensures { result.now.cache ≡ self.now.cache }
-    {
-        self.state.state()
+        &self.state
     }
 
     /// Returns the counts.
     pub fn counts(&self) -> Counts
         ensures { result ≡ self.now.counts }
     {
-        self.state.counts()
+        self.counts
     }
 
     /// Returns the counts and starts the counting again.
@@ -126,7 +124,9 @@ impl<K: Hash + Eq + Clone + Drop, V: Drop, F: Fit<K, V>> Locked<K, V, F> {
         ensures cache { self.new.cache ≡ self.old.cache }
         ensures strict { self.new.strict ≡ self.old.strict }
     {
-        self.state.reset_counts()
+        let counted = self.counts;
+        self.counts = Counts::from(self.state.len() as u64, self.state.total());
+        counted
     }
 
     /// Sets whether the limit is strict.
@@ -177,7 +177,10 @@ impl<K: Hash + Eq + Clone + Drop, V: Drop, F: Fit<K, V>> Locked<K, V, F> {
         ensures never_stale { IfErr result (λ e. e ≢ Refusal.Stale) }
         ensures strict { self.new.strict ≡ self.old.strict }
     {
-        self.state.admit_begin(key, charge)?;
+        if self.state.is_full_for(key, charge) {
+            self.counts.refuse();
+            return Err(Refusal::Full);
+        }
         self.begin(key, charge)
     }
 
@@ -214,7 +217,7 @@ impl<K: Hash + Eq + Clone + Drop, V: Drop, F: Fit<K, V>> Locked<K, V, F> {
         }
     }
 
-    // The core's `begin`, with its own result, and a hint of the entry.
+    // The core's `begin`, counted, with its own result, and a hint of the entry.
     #[inline(always)]
     fn begin_core(
         &mut self,
@@ -230,7 +233,16 @@ impl<K: Hash + Eq + Clone + Drop, V: Drop, F: Fit<K, V>> Locked<K, V, F> {
         ensures never_stale { IfErr result (λ e. e ≢ Refusal.Stale) }
         ensures strict { self.new.strict ≡ self.old.strict }
     {
-        self.state.begin(key, charge)
+        let next = self.state.next_stamp();
+        let begun = self.state.begin_at(key, charge);
+        count_begin(&mut self.counts, &begun);
+        if !is_insertion(&begun, next) {
+            return begun;
+        }
+        self.counts.insert(charge);
+        self.counts
+            .evict(self.state.len() as u64, self.state.total());
+        begun
     }
 
     /// The core's `get`. The value found fits the key.
@@ -246,7 +258,9 @@ impl<K: Hash + Eq + Clone + Drop, V: Drop, F: Fit<K, V>> Locked<K, V, F> {
         ensures never_stale { IfErr result (λ e. e ≢ Refusal.Stale) }
         ensures strict { self.new.strict ≡ self.old.strict }
     {
-        match self.state.get(key)? {
+        let found = self.state.get_at(key);
+        count_look(&mut self.counts, &found);
+        match found? {
             None => Ok(None),
             Some((stamp, value, hint)) => {
                 let spot = Spot { stamp, hint };
@@ -269,26 +283,9 @@ impl<K: Hash + Eq + Clone + Drop, V: Drop, F: Fit<K, V>> Locked<K, V, F> {
         ensures refused { IfErr result (λ e. e ≡ Refusal.Overflow) }
         ensures strict { self.new.strict ≡ self.old.strict }
     {
-        self.state.read(key, reader)
-    }
-
-    // Returns the callers that may wait for the value of the spot's entry: those that have a pin in
-    // it besides its maker.
-    fn waiters(&self, spot: &Spot) -> Waiters
-        ensures { IsFalse result → HasNoOtherPin self.now.cache spot.now.stamp }
-    {
-        Waiters::of(self.state.is_shared(spot))
-    }
-
-    // Returns whether the spot's entry has this key. It is false if the entry has left.
-    fn has_key(&self, spot: &Spot, key: &K) -> bool
-        ensures yes { IsTrue result → HasEqualKeyAt K.eq self.now.cache spot.now.stamp key.now }
-        ensures no { IsFalse result → HasEqualKeyAt K.eq self.now.cache spot.now.stamp key.now → ⊥ }
-    {
-        match self.state.key_of(spot) {
-            Some(own) => *own == *key,
-            None => false,
-        }
+        let found = self.state.read(key, reader);
+        count_look(&mut self.counts, &found);
+        found
     }
 
     /// The core's `poll`, if the pin's entry has the key. The value of a hit fits the key.
@@ -355,10 +352,13 @@ impl<K: Hash + Eq + Clone + Drop, V: Drop, F: Fit<K, V>> Locked<K, V, F> {
         ensures hit { IfOk result (λ b. IfHit b (F.fits key.now)) }
         ensures strict { self.new.strict ≡ self.old.strict }
     {
-        if !self.has_key(spot, key) {
+        let (is_own, _) = self.state.has_key(spot, key);
+        if !is_own {
             return Err(Refusal::Stale);
         }
-        self.state.poll(spot)
+        let polled = self.state.poll_at(spot);
+        count_poll(&mut self.counts, &polled);
+        polled
     }
 
     /// The core's `ready`, if the making's entry has the key: the entry gets `stored`, and the pin
@@ -428,11 +428,33 @@ impl<K: Hash + Eq + Clone + Drop, V: Drop, F: Fit<K, V>> Locked<K, V, F> {
             asked: _,
             charge: _,
         } = making;
-        let heirs = self.waiters(&spot);
-        if !self.has_key(&spot, key) {
+        let (is_own, shared) = self.state.has_key(&spot, key);
+        let heirs = Waiters::of(shared);
+        if !is_own {
             return (Sealed::of(Err(Refusal::Stale)), heirs);
         }
-        (Sealed::of(self.state.fail(&spot)), heirs)
+        (Sealed::of(self.fail_core(&spot)), heirs)
+    }
+
+    // The core's `fail`, counted, with its own result.
+    fn fail_core(&mut self, spot: &Spot) -> Result<Failed<K>, Refusal>
+        ensures step { Stands K.eq self.old.cache (ask.fail spot.now.stamp) (outcome_of_fail result)
+            self.new.cache }
+        ensures counted { self.new.counts ≡ counted self.old.cache (ask.fail spot.now.stamp)
+            (outcome_of_fail result) self.old.counts }
+        ensures strict { self.new.strict ≡ self.old.strict }
+    {
+        match self.state.fail_at(spot)? {
+            Failed::Left => {
+                self.counts.fail();
+                Ok(Failed::Left)
+            }
+            Failed::Removed(key) => {
+                self.counts.fail();
+                self.counts.remove(self.state.total());
+                Ok(Failed::Removed(key))
+            }
+        }
     }
 
     /// The core's `release`. Takes no memory. Seals the pin's `Arc` of the value, followed by what
@@ -458,7 +480,7 @@ impl<K: Hash + Eq + Clone + Drop, V: Drop, F: Fit<K, V>> Locked<K, V, F> {
             value,
             mark: _,
         } = pin;
-        Sealed::of((value, self.state.release(&spot)))
+        Sealed::of((value, self.release_core(&spot)))
     }
 
     /// The core's `repin`, for another pin in the entry of `pin`. The new pin holds `read`, another
@@ -481,7 +503,9 @@ impl<K: Hash + Eq + Clone + Drop, V: Drop, F: Fit<K, V>> Locked<K, V, F> {
         ensures never_stale { IfErr result (λ e. e.0 ≢ Refusal.Stale) }
         ensures strict { self.new.strict ≡ self.old.strict }
     {
-        match self.state.repin(&pin.spot) {
+        let repinned = self.state.repin_at(&pin.spot);
+        count_repin(&mut self.counts, &repinned);
+        match repinned {
             Ok(shared) => Ok((pin.again(read), Sealed::of(Ok(shared)))),
             Err(Refusal::Stale) => Ok((pin.again(read), Sealed::of(Err(Refusal::Stale)))),
             Err(Refusal::Overflow) => Err((Refusal::Overflow, Sealed::of(read))),
@@ -501,51 +525,25 @@ impl<K: Hash + Eq + Clone + Drop, V: Drop, F: Fit<K, V>> Locked<K, V, F> {
         ensures strict { self.new.strict ≡ self.old.strict }
     {
         let Unread { spot } = unread;
-        Sealed::of(self.state.release(&spot))
+        Sealed::of(self.release_core(&spot))
     }
 
-    /// The core's `advice_evict`. Takes no memory.
-    pub fn advice_evict(&mut self, key: &K) -> Sealed<Evicted<K, V>>
-        ensures step { Stands K.eq self.old.cache (ask.advice_evict key.now)
-            (outcome_of_evictions result) self.new.cache }
-        ensures counted { self.new.counts ≡ counted self.old.cache (ask.advice_evict key.now)
-            (outcome_of_evictions result) self.old.counts }
+    // The core's `release`, counted, with its own result.
+    #[inline(always)]
+    fn release_core(&mut self, spot: &Spot) -> Result<Evicted<K, V>, Refusal>
+        ensures step { Stands K.eq self.old.cache (ask.release spot.now.stamp)
+            (outcome_of_release result) self.new.cache }
+        ensures counted { self.new.counts ≡ counted self.old.cache (ask.release spot.now.stamp)
+            (outcome_of_release result) self.old.counts }
         ensures strict { self.new.strict ≡ self.old.strict }
     {
-        Sealed::of(self.state.advice_evict(key))
-    }
-
-    /// The core's `invalidate`. Takes no memory.
-    pub fn invalidate(&mut self, key: &K) -> Sealed<Evicted<K, V>>
-        ensures step { Stands K.eq self.old.cache (ask.invalidate key.now)
-            (outcome_of_evictions result) self.new.cache }
-        ensures counted { self.new.counts ≡ counted self.old.cache (ask.invalidate key.now)
-            (outcome_of_evictions result) self.old.counts }
-        ensures strict { self.new.strict ≡ self.old.strict }
-    {
-        Sealed::of(self.state.invalidate(key))
-    }
-
-    /// The core's `prune`. Takes no memory.
-    pub fn prune(&mut self) -> Sealed<Evicted<K, V>>
-        ensures step { Stands K.eq self.old.cache ask.prune (outcome_of_evictions result)
-            self.new.cache }
-        ensures counted { self.new.counts ≡ counted self.old.cache ask.prune
-            (outcome_of_evictions result) self.old.counts }
-        ensures strict { self.new.strict ≡ self.old.strict }
-    {
-        Sealed::of(self.state.prune())
-    }
-
-    /// The core's `set_capacity`. Takes no memory.
-    pub fn set_capacity(&mut self, capacity: u64) -> Sealed<Evicted<K, V>>
-        ensures step { Stands K.eq self.old.cache (ask.set_capacity capacity)
-            (outcome_of_evictions result) self.new.cache }
-        ensures counted { self.new.counts ≡ counted self.old.cache (ask.set_capacity capacity)
-            (outcome_of_evictions result) self.old.counts }
-        ensures strict { self.new.strict ≡ self.old.strict }
-    {
-        Sealed::of(self.state.set_capacity(capacity))
+        let evicted = self.state.release_at(spot)?;
+        if evicted.is_empty() {
+            return Ok(evicted);
+        }
+        self.counts
+            .evict(self.state.len() as u64, self.state.total());
+        Ok(evicted)
     }
 }
 

@@ -7,13 +7,14 @@ ghost use Rattle.concurrent_lru.specs.Cache.{CopiesAreEqual};
 ghost use Rattle.concurrent_lru.specs.ThreadedCalls.{IfInit};
 
 mod owned;
+mod route;
 
 pub use self::owned::OwnedHandle;
 pub use crate::counts::Counts;
 pub use crate::fit::{Anything, Fit};
 pub use crate::get_error::GetError;
 pub use crate::lru_core::Refusal;
-use crate::route::Routes;
+use crate::sharded::route::Routes;
 use crate::shards::DEFAULT_SHARDS;
 pub use crate::shards::{ShardStep, Shards, capacity_per_shard};
 pub use crate::unsharded::CacheHandle;
@@ -122,18 +123,6 @@ impl<K: Hash + Eq + Clone + Drop, V: Drop, R: Wait, S: BuildHasher, F: Fit<K, V>
     S,
     F,
 > {
-    /// Reserves room in each shard for its share of `entries` entries, one shard after another. The
-    /// share is the quotient by the number of shards, rounded up. A hasher may give a shard more
-    /// keys than its share, and that shard then grows as needed.
-    ///
-    /// Returns `Memory` if the allocator refuses. No entry changes in either case, though some room
-    /// may have been reserved.
-    pub fn reserve(&self, entries: usize) -> Result<(), Refusal>
-        ensures { IfErr result (λ e. e ≡ Refusal.Memory) }
-    {
-        self.routes.reserve(entries)
-    }
-
     /// Returns a handle of the key's value if it is ready, and `None` if the key has no entry or
     /// its value is still being made. Never waits for a maker. `find` takes the key by reference.
     ///
@@ -320,90 +309,6 @@ impl<K: Hash + Eq + Clone + Drop, V: Drop, R: Wait, S: BuildHasher, F: Fit<K, V>
         ensures never_stale { IfErr result (λ e. e ≢ Refusal.Stale) }
     {
         self.routes.of(key).insert(key, charge, value)
-    }
-
-    /// Evicts every idle entry, one shard after another, so the call is not atomic. Takes no
-    /// memory.
-    pub fn prune(&self) {
-        self.routes.prune();
-    }
-
-    /// Sets the capacity of each shard to its share, `capacity_per_shard`, one shard after another,
-    /// so the call is not atomic. Each shard then evicts down to its share. Takes no memory.
-    pub fn set_capacity(&self, capacity: u64) {
-        self.routes.set_capacity(capacity);
-    }
-
-    /// Sets whether the capacity of each shard is a strict limit, as the unsharded cache's
-    /// `set_strict_limit` does, one shard after another, so the call is not atomic. The limit of a
-    /// new entry is then that of its key's shard. Takes no memory.
-    pub fn set_strict_limit(&self, strict: bool) {
-        self.routes.set_strict_limit(strict);
-    }
-
-    /// Returns whether the capacity of every shard is a strict limit, read one after another, so it
-    /// is no snapshot. Takes no memory.
-    pub fn is_limit_strict(&self) -> bool {
-        self.routes.is_limit_strict()
-    }
-
-    /// Returns the sum of the shards' capacities, read one after another. Each share is rounded up,
-    /// so the sum may be above the capacity that was set. Takes no memory.
-    pub fn capacity(&self) -> u128 {
-        self.routes.capacity()
-    }
-
-    /// Returns the sum of the shards' totals, read one after another, so it is no snapshot. Takes
-    /// no memory.
-    pub fn total_charge(&self) -> u128 {
-        self.routes.total_charge()
-    }
-
-    /// Returns the sum of the shards' pinned charges, read one after another, so it is no snapshot.
-    /// Takes no memory.
-    pub fn pinned_charge(&self) -> u128 {
-        self.routes.pinned_charge()
-    }
-
-    /// Returns the number of entries, including those held after an `invalidate`. The shards are
-    /// read one after another, so the cache need not have had that many at any one moment. Takes no
-    /// memory.
-    pub fn len(&self) -> usize {
-        self.routes.len()
-    }
-
-    /// Returns whether `len` is 0: no shard had an entry when its lock was acquired. Takes no
-    /// memory.
-    pub fn is_empty(&self) -> bool {
-        self.len() == 0
-    }
-
-    /// Calls `f` with the key, the value, the charge and the number of pins of each entry that its
-    /// key finds and that has a value, in an unspecified order, as the unsharded cache's `for_each`
-    /// does. Takes no memory.
-    ///
-    /// The shards are visited one after another, each under its lock, so the entries need not all
-    /// have been there at any one moment. `f` should be short, and must not use this cache, since
-    /// such a call could deadlock.
-    pub fn for_each<G>(&self, mut f: G)
-    where
-        G: FnMut(&K, &V, u64, u32) + Drop,
-        requires callable { G.IsAlwaysCallable f }
-    {
-        self.routes.for_each(&mut f);
-    }
-
-    /// Returns the sum of the shards' counts, read one after another. It is no snapshot, so the
-    /// counts need not add up while other threads use the cache. A sum saturates at the maximum of
-    /// its type. Takes no memory.
-    pub fn counts(&self) -> Counts {
-        self.routes.counts()
-    }
-
-    /// Resets the counts, one shard after another, and returns the sum of what each shard's
-    /// `reset_counts` returned. Takes no memory.
-    pub fn reset_counts(&self) -> Counts {
-        self.routes.reset_counts()
     }
 
     /// Returns whether the key has a ready value in its shard, as `unsharded::LruCache::contains`

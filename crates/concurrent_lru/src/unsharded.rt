@@ -113,7 +113,11 @@ impl<K: Hash + Eq + Clone + Drop, V: Drop, R: Wait, F: Fit<K, V>> LruCache<K, V,
         ensures fits { IfOk result (λ found. IfSome found (λ h. F.fits key.now h.value)) }
         ensures never_stale { IfErr result (λ e. e ≢ Refusal.Stale) }
     {
-        self.door.get(key)
+        let mut guard = self.door.lock();
+        match guard.get(key)? {
+            None => Ok(None),
+            Some(pin) => Ok(Some(CacheHandle::new(&self.door, pin))),
+        }
     }
 
     /// Calls `reader` with the key's value, if it is ready, and returns its result. Returns `None`
@@ -135,7 +139,11 @@ impl<K: Hash + Eq + Clone + Drop, V: Drop, R: Wait, F: Fit<K, V>> LruCache<K, V,
             (λ t. (v : V) × F.fits key.now v × FnOnceReturnsAt G.FnOnce reader v t)) }
         ensures refused { IfErr result (λ e. e ≡ Refusal.Overflow) }
     {
-        self.door.read(key, reader)
+        let mut guard = self.door.lock();
+        match guard.read(key, reader)? {
+            None => Ok(None),
+            Some((_, answer)) => Ok(Some(answer)),
+        }
     }
 
     /// Returns a handle of the key's value, which `init` makes if the key has no entry or if its
@@ -272,7 +280,9 @@ impl<K: Hash + Eq + Clone + Drop, V: Drop, R: Wait, F: Fit<K, V>> LruCache<K, V,
 
     /// `advice_evict` with the key by reference.
     pub fn advise(&self, key: &K) {
-        self.door.advice_evict(key);
+        let mut guard = self.door.lock();
+        let evicted = guard.advice_evict(key);
+        drop(evicted.open(guard));
     }
 
     /// Invalidates a key: whoever asks for it after this call gets a value that is made after it,
@@ -284,7 +294,9 @@ impl<K: Hash + Eq + Clone + Drop, V: Drop, R: Wait, F: Fit<K, V>> LruCache<K, V,
     /// last handle is dropped, and counts in `total_charge` and `len` until then. If the key has no
     /// entry, nothing happens.
     pub fn invalidate(&self, key: &K) {
-        self.door.invalidate(key);
+        let mut guard = self.door.lock();
+        let evicted = guard.invalidate(key);
+        drop(evicted.open(guard));
     }
 
     /// Inserts a value, replacing what the key has, and returns its handle. It invalidates the key
@@ -315,18 +327,32 @@ impl<K: Hash + Eq + Clone + Drop, V: Drop, R: Wait, F: Fit<K, V>> LruCache<K, V,
     {
         let stored = Arc::new(self.alloc, value)?;
         let read = Arc::try_clone(&stored)?;
-        self.door.insert(key, charge, stored, read)
+        let mut guard = self.door.lock();
+        match guard.put(key, charge, stored, read) {
+            Ok((pin, gone)) => {
+                drop(gone.open(guard));
+                Ok(CacheHandle::new(&self.door, pin))
+            }
+            Err((refusal, values)) => {
+                drop(values.open(guard));
+                Err(refusal)
+            }
+        }
     }
 
     /// Evicts every idle entry, oldest first. Takes no memory.
     pub fn prune(&self) {
-        self.door.prune();
+        let mut guard = self.door.lock();
+        let evicted = guard.prune();
+        drop(evicted.open(guard));
     }
 
     /// Sets the capacity, and evicts idle entries, oldest first, while the total is above it. Takes
     /// no memory.
     pub fn set_capacity(&self, capacity: u64) {
-        self.door.set_capacity(capacity);
+        let mut guard = self.door.lock();
+        let evicted = guard.set_capacity(capacity);
+        drop(evicted.open(guard));
     }
 
     /// Returns the capacity. Takes no memory.
@@ -345,12 +371,14 @@ impl<K: Hash + Eq + Clone + Drop, V: Drop, R: Wait, F: Fit<K, V>> LruCache<K, V,
     /// A call that finds an entry adds no charge, and is never refused in this way. A total that is
     /// above the capacity when the limit becomes strict only falls until it is no longer.
     pub fn set_strict_limit(&self, strict: bool) {
-        self.door.set_strict(strict);
+        let mut guard = self.door.lock();
+        guard.set_strict(strict);
     }
 
     /// Returns whether the capacity is a strict limit. Takes no memory.
     pub fn is_limit_strict(&self) -> bool {
-        self.door.is_strict()
+        let guard = self.door.lock();
+        guard.is_strict()
     }
 
     /// Returns the sum of the charges of all entries, including those still being made and those
@@ -411,7 +439,12 @@ impl<K: Hash + Eq + Clone + Drop, V: Drop, R: Wait, F: Fit<K, V>> LruCache<K, V,
         requires callable { G.IsAlwaysCallable f.old }
         ensures callable { G.IsAlwaysCallable f.new }
     {
-        self.door.for_each(f);
+        let guard = self.door.lock();
+        for entry in guard.state().entries() {
+            if !entry.is_detached {
+                f(entry.key, entry.value, entry.charge, entry.pins);
+            }
+        }
     }
 
     /// Returns the counts of this cache's calls since it was created or last reset. They are read

@@ -13,8 +13,8 @@ use Rattle.concurrent_lru.specs.Ready.{HasEqualKeyAt}
 use Rattle.concurrent_lru.specs.declared.step.Begun.{Begun}
 use Rattle.concurrent_lru.specs.declared.step.Begun.TheVariants as begun
 use Rattle.concurrent_lru.specs.Cache.{Cache, Idle, Held, Settles, IsLawful, charges, count_of, sum_of, empty_cache, most_pins_by_default, ready, making, untaken}
-use Rattle.concurrent_lru.specs.CountedCalls.{AddUp, CountedCache, IsSoundlyCounted, counted, counted_begin, counted_look, counted_poll, counted_repin, evicted, held_charge, is_insertion}
-use Rattle.concurrent_lru.specs.Counts.{counts_from, end_of_u64, inserted, one_failure, one_more, one_making, one_miss, one_refusal, removed}
+use Rattle.concurrent_lru.specs.CountedCalls.{AddUp, LockedCache, IsSoundlyCounted, counted, counted_begin, counted_look, counted_poll, counted_repin, evicted, held_charge, is_insertion}
+use Rattle.concurrent_lru.specs.Counts.{counts_from, end_of_u64, inserted, one_failure, one_more, one_making, one_miss, removed}
 use Rattle.concurrent_lru.specs.Reads.{Reads}
 use Rattle.concurrent_lru.specs.Request as ask
 use Rattle.concurrent_lru.specs.Request.{Request}
@@ -180,10 +180,6 @@ module _ {K V : Type 0} where
   refusal_adds_up old n ask.prune e a = a
   refusal_adds_up old n (ask.set_capacity m) e a = a
   refusal_adds_up old n ask.total e a = a
-
-  -- one more refusal is counted
-  pub refused_adds_up : (c : Cache K V) (n m : Counts) → AddUp c n → m ≡ one_refusal n → AddUp c m
-  refused_adds_up c n m a is = subst (AddUp c) (sym is) (with_others c n n.hits n.misses n.waits (one_more n.refusals) n.makings n.failures a)
 
   module _ {E : K → K → Bool} where
     pub inserts : (old new : Cache K V) (k : K) (charge s : ℕ) (out : List (Idle K V)) → IsLawful E old → Step E old (ask.begin k charge) (say.make s) out new → s ≡ old.next → Inserts old charge s out new
@@ -467,7 +463,7 @@ module _ {K V : Type 0} where
   pub can_count : {old new : Cache K V} {n : Counts} {entries charge : ℕ} (out : List (Idle K V)) → AddUp old n → Evicts old out new → entries ≡ count_of new → charge ≡ sum_of new → MayEvict n entries charge
   can_count {old} {new} {n} out a e is_count is_sum = can_evict (owed old new n (length out) (charges out) a e) refl is_count is_sum
 
-  pub counts_evicted : {old new : Cache K V} {n m : Counts} {seen : CountedCache K V} {entries charge : ℕ} (out : List (Idle K V)) → record { cache = old; counts = n } ≡ seen → AddUp old n → Evicts old out new → m ≡ left_evicted n entries charge → entries ≡ count_of new → charge ≡ sum_of new
+  pub counts_evicted : {old new : Cache K V} {n m : Counts} {seen : LockedCache K V} {strict : Bool} {entries charge : ℕ} (out : List (Idle K V)) → record { cache = old; counts = n; strict = strict } ≡ seen → AddUp old n → Evicts old out new → m ≡ left_evicted n entries charge → entries ≡ count_of new → charge ≡ sum_of new
       → m ≡ evicted out seen.counts
   counts_evicted {old} {new} {n} {m} out is a e told is_count is_sum = subst (λ x. m ≡ evicted out x.counts) is (told_evicted out (owed old new n (length out) (charges out) a e) refl told is_count is_sum)
 
@@ -476,7 +472,7 @@ module _ {K V : Type 0} where
       → m ≡ left_evicted n entries charge → entries ≡ count_of new → charge ≡ sum_of new → IsSoundlyCounted E new m
   soundly_evicted {old} {new} {n} {m} out sound e lawful told is_count is_sum = record {
     lawful = lawful;
-    adds_up = subst (AddUp new) (sym (counts_evicted out refl sound.adds_up e told is_count is_sum)) (evicting_adds_up old new n out sound.adds_up e);
+    adds_up = subst (AddUp new) (sym (counts_evicted {seen = record { cache = old; counts = n; strict = false }} out refl sound.adds_up e told is_count is_sum)) (evicting_adds_up old new n out sound.adds_up e);
   }
 
   pub soundly_kept : {E : K → K → Bool} {old new : Cache K V} {n : Counts} (out : List (Idle K V)) → IsSoundlyCounted E old n → Evicts old out new → IsLawful E new → out ≡ [] → IsSoundlyCounted E new n

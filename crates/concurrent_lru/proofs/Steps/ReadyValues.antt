@@ -11,7 +11,7 @@ use Rattle.std.proofs.lemmas.Bool.{true≢false}
 use Rattle.std.proofs.lemmas.Option.{none-some, same_Some}
 use Rattle.std.proofs.lemmas.List.Elements.{Contains-append_left, Contains-append_right, Contains-append_cases, Contains-push_cases}
 use Rattle.concurrent_lru.specs.Cache.{Cache, empty_cache, Idle, Held, Phase, making, untaken, ready, held_at, HasKeyAt, IsLawful, LacksStamp, Settles}
-use Rattle.concurrent_lru.specs.Ready.{IsSoundUnderLock, EqualKeysFit, HasReady, ReadyFor, FewerReady, OneMoreReady, HasEqualKeyAt, ValuesFit}
+use Rattle.concurrent_lru.specs.Ready.{EqualKeysFit, HasReady, ReadyFor, FewerReady, OneMoreReady, HasEqualKeyAt, ValuesFit}
 use Rattle.concurrent_lru.specs.Reply as say
 use Rattle.concurrent_lru.specs.Request as ask
 use Rattle.concurrent_lru.specs.Results.{outcome_of_begin, outcome_of_poll, outcome_of_ready, outcome_of_get, outcome_of_release, outcome_of_repin, begun_without_hint, found_without_hint}
@@ -24,7 +24,6 @@ use Rattle.concurrent_lru.specs.declared.step.Begun.{Begun}
 use Rattle.concurrent_lru.specs.declared.step.Begun.TheVariants as rust
 use Rattle.concurrent_lru.specs.declared.table.spot.Hint.{Hint}
 use Rattle.concurrent_lru.proofs.Entries.NodesOfSetAndAdd.{inserted_cases}
-use Rattle.concurrent_lru.proofs.Steps.EmptyCache.{empty_lawful}
 use Rattle.concurrent_lru.proofs.Lists.Removals.{removed_some}
 
 module _ {X : Type 0} where
@@ -352,11 +351,8 @@ module _ {K V : Type 0} (E : K → K → Bool) where
     poll_hit old new s k (Ok (rust.Hit t a)) law lawful kept at h = kept_for old k a.value law kept (polled_ready old new s k a.value [] lawful at h.1)
     poll_hit old new s k (Err e) law lawful kept at h = tt
 
-    pub empty_sound_under_lock : (capacity most next : ℕ) → IsSoundUnderLock E fits (empty_cache capacity most next)
-    empty_sound_under_lock capacity most next = record {
-      lawful = empty_lawful E capacity most next;
-      kept = λ k v h. elim h [
-        | inl i ↦ absurd (omega (arith, i.1.1))
-        | inr e ↦ absurd (none-some e.1 (sym (finmap.get-empty nat_cmp e.0) ∙ e.2))
-      ];
-    }
+    pub empty_kept : (capacity most next : ℕ) → ValuesFit fits (empty_cache capacity most next)
+    empty_kept capacity most next k v h = elim h [
+      | inl i ↦ absurd (omega (arith, i.1.1))
+      | inr e ↦ absurd (none-some e.1 (sym (finmap.get-empty nat_cmp e.0) ∙ e.2))
+    ]

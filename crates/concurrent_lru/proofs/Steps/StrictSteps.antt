@@ -1,18 +1,14 @@
 -- A strict begin or insert is granted only within the capacity. No other request raises the sum.
-use Rattle.std.proofs.Common.{◌≡◌, ℕ, ◌+◌, ◌≤◌, ◌⊎◌, inl, inr, Bool, false, List, [], length, Result, Ok, Err, sym, ap, ◌∙◌, subst, arith}
-use Rattle.std.specs.Result.{IsErrAnd}
-use Rattle.concurrent_lru.specs.Cache.{Cache, Idle, Held, IsLawful, Settles, HasCapacityFor, LacksCapacityFor, IsWithinCapacity, charges, making, ready, untaken, pinned_of, sum_of}
+use Rattle.std.proofs.Common.{◌≡◌, ℕ, ◌+◌, ◌≤◌, ◌⊎◌, inl, inr, Bool, false, List, [], length, ap, subst, arith}
+use Rattle.concurrent_lru.specs.Cache.{Cache, Idle, Held, IsLawful, Settles, HasCapacityFor, IsWithinCapacity, charges, making, ready, untaken, pinned_of, sum_of}
 use Rattle.concurrent_lru.specs.Representation.{held_charges}
 use Rattle.concurrent_lru.specs.Request as ask
 use Rattle.concurrent_lru.specs.Request.{Request}
 use Rattle.concurrent_lru.specs.Reply as say
 use Rattle.concurrent_lru.specs.Reply.{Reply}
-use Rattle.concurrent_lru.specs.Runs.{Outcome, accepted, refused, Refuses, Stands}
+use Rattle.concurrent_lru.specs.Runs.{Outcome, accepted, refused, Stands}
 use Rattle.concurrent_lru.specs.Steps.{with_held, held_detached, Makes, Invalidates, Stores, Step, IsAbsent}
 use Rattle.concurrent_lru.specs.StepLaws.{IsStrict, StrictRequestsKeepLimit, capacity_by}
-use Rattle.concurrent_lru.specs.Debts.{outcome_of_locked_begin}
-use Rattle.concurrent_lru.specs.declared.locked.pins.Entered.{Entered}
-use Rattle.concurrent_lru.specs.declared.refusal.Refusal.{Refusal}
 use Rattle.concurrent_lru.specs.declared.refusal.Refusal.TheVariants.{Memory, Overflow, Stale, Full}
 use Rattle.concurrent_lru.proofs.AddedUp.SizesOfSteps.{Resizes, same_size, settled_size, joined_size, left_size, phase_size, hit_size, removed_size, released_and_evicted_size, repinned_size, pruned_size}
 use Rattle.concurrent_lru.proofs.AddedUp.CountsOfSteps.{release_evicts, advice_evicts, invalidate_evicts, capacity_evicts, renewed_size}
@@ -134,11 +130,6 @@ module _ {K V : Type 0} (E : K → K → Bool) where
   strictly_inserted old new k charge v (refused Memory) has h = ((has, h.0), h.1)
   strictly_inserted old new k charge v (refused Stale) has h = absurd h.0
   strictly_inserted old new k charge v (refused Full) has h = absurd h.0
-
-  -- a strict begin under the lock that is refused as full
-  pub begun_full : {F : Type 0} (old new : Cache K V) (k : K) (charge : ℕ) (r : Result (Entered K V F) Refusal) (x : Refusal) → IsErrAnd r (λ e. e ≡ x) → x ≡ Full → LacksCapacityFor old charge × IsAbsent E old k → new ≡ old → Stands E old (ask.begin_strictly k charge) (outcome_of_locked_begin r) new
-  begun_full old new k charge (Ok entered) x h full lacks same = absurd h
-  begun_full old new k charge (Err e) x h full lacks same = (subst (λ y. Refuses E old (ask.begin_strictly k charge) y) (sym (h ∙ full)) lacks, same)
 
 pub strict_requests_keep_limit : (K V : Type 0) (E : K → K → Bool) → StrictRequestsKeepLimit K V E
 strict_requests_keep_limit K V E old new r o l strict h = outcome_within E old new r o l strict h

@@ -77,8 +77,9 @@ impl<K: Hash + Eq + Clone + Drop, V: Drop, F: Fit<K, V>> Locked<K, V, F> {
         ensures never_stale { IfErr result (λ e. e.0 ≢ Refusal.Stale) }
         ensures strict { self.new.strict ≡ self.old.strict }
     {
-        if let Err(refusal) = self.state.admit_insert(charge) {
-            return Err((refusal, Sealed::of((stored, read))));
+        if self.state.lacks_capacity_for(charge) {
+            self.counts.refuse();
+            return Err((Refusal::Full, Sealed::of((stored, read))));
         }
         self.insert(key, charge, stored, read)
     }
@@ -112,10 +113,16 @@ impl<K: Hash + Eq + Clone + Drop, V: Drop, F: Fit<K, V>> Locked<K, V, F> {
         ensures never_stale { IfErr result (λ e. e.0 ≢ Refusal.Stale) }
         ensures strict { self.new.strict ≡ self.old.strict }
     {
-        let (inserted, hint) = match self.state.insert(key, charge, stored) {
+        let (inserted, hint) = match self.state.insert_at(key, charge, stored) {
             Ok(inserted) => inserted,
-            Err((refusal, stored)) => return Err((refusal, Sealed::of((stored, read)))),
+            Err((refusal, stored)) => {
+                self.counts.refuse();
+                return Err((refusal, Sealed::of((stored, read))));
+            }
         };
+        self.counts.insert(charge);
+        self.counts
+            .evict(self.state.len() as u64, self.state.total());
         let Inserted {
             stamp,
             replaced,

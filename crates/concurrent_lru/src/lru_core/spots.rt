@@ -490,13 +490,20 @@ where
         Some(&self.table.node(place, near).key)
     }
 
-    // Returns whether the spot's entry has more than one pin.
-    pub(crate) fn is_shared(&self, spot: &Spot) -> bool
-        ensures { IsFalse result → HasNoOtherPin self.now.cache spot.now.stamp }
+    // Returns whether the spot's entry has this key, and whether it has more than one pin. Both are
+    // false if it has left.
+    pub(crate) fn has_key(&self, spot: &Spot, key: &K) -> (bool, bool)
+        ensures yes { IsTrue result.0 → HasEqualKeyAt K.eq self.now.cache spot.now.stamp key.now }
+        ensures no { IsFalse result.0
+            → HasEqualKeyAt K.eq self.now.cache spot.now.stamp key.now → ⊥ }
+        ensures quiet { IsFalse result.1 → HasNoOtherPin self.now.cache spot.now.stamp }
     {
         match self.table.find_stamp(spot) {
-            Some((place, near)) => self.table.node(place, near).pins > 1,
-            None => false,
+            Some((place, near)) => {
+                let node = self.table.node(place, near);
+                (node.key == *key, node.pins > 1)
+            }
+            None => (false, false),
         }
     }
 

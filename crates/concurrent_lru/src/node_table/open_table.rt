@@ -16,10 +16,9 @@ ghost use Rattle.concurrent_lru.specs.Probing.Probes.{mark_at, marks_of};
 ghost use Rattle.concurrent_lru.specs.Probing.Entries.{count, entry, Has, Holds, IsSame, Adds, Removes};
 ghost use Rattle.concurrent_lru.specs.Probing.OpenTable.{mark_of as mark_for, capacity, IsFilled, HasMark, walk, step_for};
 
-use crate::linear_probing::home_of;
+use crate::linear_probing::{home_of, next_of};
 use crate::node_table::probes::{
-    Probe, Slot, copy_all, empty_slots, find_mark, find_next, item_in, mark_in, mark_of, put,
-    take_out,
+    Probe, Slot, copy_all, empty_slots, find_mark, mark_of, put, take_out,
 };
 use std::alloc::{AllocError, Global};
 use std::marker::Model;
@@ -151,7 +150,9 @@ impl<T: Copy> OpenTable<T> {
         ensures mark { HasMark self.now (mark_at (marks_of self.now) cursor) result }
         ensures rest { walk self.now (Step.Item cursor) ≡ cursor ∷ walk self.now result }
     {
-        step_of(find_next(&self.slots, cursor.slot))
+        let mark = self.slots[cursor.slot].mark;
+        let next = next_of(self.slots.len(), cursor.slot);
+        step_of(find_mark(&self.slots, mark, next))
     }
 
     /// Returns whether an item lies at a cursor, which may be stale.
@@ -159,7 +160,7 @@ impl<T: Copy> OpenTable<T> {
     pub(super) fn is_filled(&self, cursor: Cursor) -> bool
         ensures { IsTrue result → IsFilled self.now cursor }
     {
-        cursor.slot < self.slots.len() && mark_in(&self.slots, cursor.slot) != 0
+        cursor.slot < self.slots.len() && self.slots[cursor.slot].mark != 0
     }
 
     /// Returns the item at a cursor.
@@ -168,7 +169,7 @@ impl<T: Copy> OpenTable<T> {
         requires { IsFilled self.now cursor }
         ensures { Holds self.now cursor (entry (mark_at (marks_of self.now) cursor) result) }
     {
-        item_in(&self.slots, cursor.slot)
+        self.slots[cursor.slot].item
     }
 
     /// Adds an item, for which there is room. Takes no memory.

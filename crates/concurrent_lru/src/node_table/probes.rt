@@ -1,6 +1,6 @@
 //! Slots that are probed one after another, from the home of a mark to the first empty slot.
 ghost use Rattle.std.specs.Prelude.{◌≡◌, ◌≢◌, ℕ, ◌+◌, ◌<◌, length, bit_or, IfOk, vec_len};
-ghost use Rattle.concurrent_lru.specs.Probing.Cycle.{next_of as next_in, home_of as home_in};
+ghost use Rattle.concurrent_lru.specs.Probing.Cycle.{next_of as next_in};
 ghost use Rattle.concurrent_lru.specs.Probing.Probes.{marks_of, mark_at, end_at, HasEmpty, IsEmptyAt, IsFilledAt, Finds, IsReached};
 ghost use Rattle.concurrent_lru.specs.Probing.Entries.{count, entry, AreApart, Has, IsSame, Adds, Removes, Holds};
 ghost use Rattle.concurrent_lru.specs.Probing.Gaps.{IsGap};
@@ -71,35 +71,12 @@ pub(super) fn find_mark<T: Copy>(slots: &[Slot<T>], mark: u64, from: usize) -> P
     }
 }
 
-/// Goes on with a search behind a slot with the mark.
-#[inline(always)]
-pub(super) fn find_next<T: Copy>(slots: &[Slot<T>], at: usize) -> Probe
-    requires within { at < length slots.now }
-    requires ends { HasEmpty (marks_of slots.now) }
-    requires filled { IsFilledAt (marks_of slots.now) at }
-    ensures { Finds (marks_of slots.now) (mark_at (marks_of slots.now) at)
-        (next_in (length slots.now) at) result }
-{
-    let mark = mark_in(slots, at);
-    let next = next_of(slots.len(), at);
-    find_mark(slots, mark, next)
-}
-
-/// Returns the item in a slot.
-#[inline(always)]
-pub(super) fn item_in<T: Copy>(slots: &[Slot<T>], at: usize) -> T
-    requires within { at < length slots.now }
-    requires filled { IsFilledAt (marks_of slots.now) at }
-    ensures { Holds slots.now at (entry (mark_at (marks_of slots.now) at) result) }
-{
-    slots[at].item
-}
-
 /// Returns the first empty slot from a slot on.
 pub(super) fn find_empty<T: Copy>(slots: &[Slot<T>], from: usize) -> usize
     requires within { from < length slots.now }
     requires ends { HasEmpty (marks_of slots.now) }
-    ensures { result ≡ end_at (marks_of slots.now) from }
+    ensures end { result ≡ end_at (marks_of slots.now) from }
+    ensures within { result < length slots.now }
 {
     let mut at = from;
     while slots[at].mark != 0 {
@@ -173,23 +150,6 @@ pub(super) fn take_out<T: Copy>(slots: &mut [Slot<T>], at: usize) -> T
     item
 }
 
-/// Puts an entry into the slot that its search ends with.
-pub(super) fn put_in<T: Copy>(slots: &mut [Slot<T>], at: usize, mark: u64, item: T)
-    requires within { at < length slots.old }
-    requires filled { mark ≢ 0 }
-    requires ends { HasEmpty (marks_of slots.old) }
-    requires vacant { at ≡ end_at (marks_of slots.old) (home_in (length slots.old) mark) }
-    requires reached { IsReached (marks_of slots.old) }
-    requires apart { AreApart slots.old }
-    requires absent { (s : _) → Has slots.old s → s.item ≢ item }
-    ensures reached { IsReached (marks_of slots.new) }
-    ensures apart { AreApart slots.new }
-    ensures adds { Adds slots.old slots.new (entry mark item) }
-    ensures count { count slots.new ≡ count slots.old + 1 }
-{
-    slots[at] = Slot { mark, item };
-}
-
 /// Adds an entry, for which a slot is empty, where the search for its mark ends.
 pub(super) fn put<T: Copy>(slots: &mut [Slot<T>], mark: u64, item: T)
     requires filled { mark ≢ 0 }
@@ -204,7 +164,7 @@ pub(super) fn put<T: Copy>(slots: &mut [Slot<T>], mark: u64, item: T)
 {
     let home = home_of(slots.len(), mark);
     let at = find_empty(slots, home);
-    put_in(slots, at, mark, item);
+    slots[at] = Slot { mark, item };
 }
 
 /// Copies each entry into slots that are empty.

@@ -11,18 +11,26 @@ use std::hash::{BuildHasher, Hash, Hasher};
 /// the number only if the seed is its own, so no caller can pass the hash of another table.
 #[derive(Clone, Copy)]
 pub struct KeyHash {
-    number: u64,
+    pub(super) number: u64,
     seed: u64,
 }
 
 impl KeyHash {
-    /// Hashes a key.
+    /// Hashes a key by a hasher that is fed the seed before the key: without the seed, nobody can
+    /// tell which keys have hashes in common.
+    // A table probes by the lowest bits of a hash, which begin at bit 24 of the hasher's number: a
+    // shard is chosen by the lowest bits of such a number, so all entries of a shard may share
+    // those.
     #[inline(always)]
     pub fn of<K: Hash>(seed: u64, key: &K) -> KeyHash
-        ensures { IsHashOf K.hash_input result key.now }
+        ensures hash { IsHashOf K.hash_input result key.now }
+        ensures seed { result.seed ≡ seed }
     {
+        let mut hasher = WordHasher::new();
+        hasher.write_u64(seed);
+        key.hash(&mut hasher);
         KeyHash {
-            number: number_of(seed, key),
+            number: hasher.finish().rotate_left(40),
             seed,
         }
     }
@@ -37,29 +45,8 @@ impl KeyHash {
         if self.seed == seed {
             return self.number;
         }
-        number_of(seed, key)
+        KeyHash::of(seed, key).number
     }
-
-    /// Returns the number.
-    #[inline(always)]
-    pub fn number(&self) -> u64 {
-        self.number
-    }
-}
-
-// Hashes a key by a hasher that is fed the seed before the key: without the seed, nobody can tell
-// which keys have hashes in common.
-//
-// A table probes by the lowest bits of a hash. Here they begin at bit 24 of the hasher's number: a
-// shard is chosen by the lowest bits of such a number, so all entries of a shard may share those.
-#[inline(always)]
-fn number_of<K: Hash>(seed: u64, key: &K) -> u64
-    ensures { result ≡ key_hash seed K.hash_input key.now }
-{
-    let mut hasher = WordHasher::new();
-    hasher.write_u64(seed);
-    key.hash(&mut hasher);
-    hasher.finish().rotate_left(40)
 }
 
 /// Returns the seed for the table of a shard. Without the hasher that chooses the shards of keys,

@@ -102,7 +102,7 @@ impl<K: Hash + Eq + Clone, V: Drop> Table<K, V> {
         ensures front { IsFront (charges_of self.old) capacity self.old.idle result self.new.idle }
         ensures work { self.new.work ≡ self.old.work + length result }
     {
-        if self.total() <= capacity {
+        if self.total <= capacity {
             return Evicted::none();
         }
         self.evict_down_to(capacity)

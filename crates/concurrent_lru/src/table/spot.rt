@@ -20,7 +20,7 @@ impl Hint {
     #[inline(always)]
     pub(crate) fn to(hash: KeyHash, place: Place) -> Hint {
         Hint {
-            hash: hash.number(),
+            hash: hash.number,
             place,
         }
     }

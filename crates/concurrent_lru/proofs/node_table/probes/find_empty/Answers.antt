@@ -13,7 +13,7 @@ loop-at-preserved g c =
     let on : GoesOn c.args.slots.now c.loop-at.at c.next_of-at.result = goes_on c.args.slots.now c.loop-at.at c.next_of-at.result c.index-slots-at.result c.requires.ends c.loop-at.invariant.within c.loop-at-test.true c.next_of-at.ensures.next in
     record { within = on.within; end = c.loop-at.invariant.end ∙ on.end }
 
-pub returns : goal.returns
-returns g c =
+pub returns-clause-end : goal.returns-clause-end
+returns-clause-end g c =
     let some : HasEmpty (marks_of c.args.slots.now) = c.requires.ends in
     sym (c.loop-at.invariant.end ∙ (at_end (marks_of c.args.slots.now) some.0 some.1 some.2 c.loop-at.at (mark_read c.args.slots.now c.loop-at.at c.index-slots-at.result c.loop-at.invariant.within ∙ c.loop-at-test.false)).1)

@@ -1,20 +1,25 @@
 -- A walk goes on with a search behind the cursor.
-use Rattle.concurrent_lru.proofs.Probing.Tables.Views.{filled_at, within_at, empty_at, on_mark, on_rest}
+use Rattle.std.proofs.Common.{◌≡◌, ◌∙◌, length, refl, sym, ap, subst, arith}
+use Rattle.concurrent_lru.specs.Probing.Cycle.{next_of}
+use Rattle.concurrent_lru.specs.Probing.Probes.{marks_of, mark_at, Finds}
+use Rattle.concurrent_lru.specs.declared.node_table.probes.Slot.{Slot}
+use Rattle.concurrent_lru.proofs.Probing.Marks.{mark_read}
+use Rattle.concurrent_lru.proofs.Probing.Tables.Views.{within_at, empty_at, on_rest}
 use Rattle.concurrent_lru.proofs.node_table.open_table.OpenTable.next.Goals as goal
 
-pub find_next-requires-clause-within : goal.find_next-requires-clause-within
-find_next-requires-clause-within g c = within_at c.self.inside.slots.items c.deref.result.now c.args.self.now c.deref.ensures.value c.self.view_is c.cursor.inside.slot c.args.cursor c.cursor.view_is c.requires
-
-pub find_next-requires-clause-ends : goal.find_next-requires-clause-ends
-find_next-requires-clause-ends g c = empty_at c.self.inside.slots.items c.deref.result.now c.args.self.now c.deref.ensures.value c.self.view_is c.cursor.inside.slot c.args.cursor c.cursor.view_is c.requires c.self.inside.len c.self.invariant
-
-pub find_next-requires-clause-filled : goal.find_next-requires-clause-filled
-find_next-requires-clause-filled g c = filled_at c.self.inside.slots.items c.deref.result.now c.args.self.now c.deref.ensures.value c.self.view_is c.cursor.inside.slot c.args.cursor c.cursor.view_is c.requires
-
-pub returns-clause-mark : goal.returns-clause-mark
-returns-clause-mark g c = on_mark c.self.inside.slots.items c.deref.result.now c.args.self.now c.self.inside.len c.cursor.inside.slot c.args.cursor c.self.invariant c.deref.ensures.value c.self.view_is c.cursor.view_is c.requires
-    c.find_next.result c.step_of.result c.step_of.ensures c.find_next.ensures
+pub find_mark-requires-clause-ends : goal.find_mark-requires-clause-ends
+find_mark-requires-clause-ends g c = empty_at c.self.inside.slots.items c.deref.result.now c.args.self.now c.deref.ensures.value c.self.view_is c.cursor.inside.slot c.args.cursor c.cursor.view_is c.requires c.self.inside.len c.self.invariant
 
 pub returns-clause-rest : goal.returns-clause-rest
-returns-clause-rest g c = on_rest c.self.inside.slots.items c.deref.result.now c.args.self.now c.self.inside.len c.cursor.inside.slot c.args.cursor c.self.invariant c.deref.ensures.value c.self.view_is c.cursor.view_is c.requires
-    c.find_next.result c.step_of.result c.step_of.ensures c.find_next.ensures
+returns-clause-rest g c =
+    let items = c.self.inside.slots.items in
+    let now = c.deref.result.now in
+    let slot = c.cursor.inside.slot in
+    let same = c.deref.ensures.value in
+    let lt = within_at items items c.args.self.now refl c.self.view_is slot c.args.cursor c.cursor.view_is c.requires in
+    let mark : c.index.result.now.mark ≡ mark_at (marks_of now) slot =
+    ap (λ (s : Slot g.row.T.Denot). s.mark) c.index.ensures ∙ sym (mark_read items slot c.index.result.now lt) ∙ ap (λ l. mark_at (marks_of l) slot) (sym same) in
+    let many : c.len.result ≡ length items = omega (arith, c.self.inside.slots.ok) in
+    let next : c.next_of-next.result ≡ next_of (length now) slot = c.next_of-next.ensures.next ∙ ap (λ n. next_of n slot) (many ∙ ap length (sym same)) in
+    let found = subst (λ n. Finds (marks_of now) (mark_at (marks_of now) slot) n c.find_mark.result) next (subst (λ m. Finds (marks_of now) m c.next_of-next.result c.find_mark.result) mark c.find_mark.ensures) in
+    on_rest items now c.args.self.now c.self.inside.len slot c.args.cursor c.self.invariant same c.self.view_is c.cursor.view_is c.requires c.find_mark.result c.step_of.result c.step_of.ensures found

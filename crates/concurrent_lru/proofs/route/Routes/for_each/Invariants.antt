@@ -1,4 +1,0 @@
-use Rattle.concurrent_lru.proofs.route.Routes.for_each.Given as goal
-
-abbrev pub invariant-loop-shard : goal.invariant-loop-shard
-invariant-loop-shard g l = goal.G-IsAlwaysCallable g l.f

@@ -1,0 +1,79 @@
+//! How the calls under the lock count the results of the core's steps.
+ghost use Rattle.std.specs.Prelude.{◌≡◌};
+ghost use Rattle.concurrent_lru.specs.CountedCalls.{counted_begin, counted_look, counted_poll, counted_repin, is_insertion};
+ghost use Rattle.concurrent_lru.specs.Results.{begun_without_hint};
+
+use crate::counts::Counts;
+use crate::lru_core::{Begun, Evicted, Refusal};
+use crate::table::Hint;
+use std::sync::Arc;
+
+// Counts the result of a lookup: a hit, a miss or a refusal.
+#[inline(always)]
+pub(super) fn count_look<T>(counts: &mut Counts, found: &Result<Option<T>, Refusal>)
+    ensures { counts.new ≡ counted_look found.now counts.old }
+{
+    match found {
+        Ok(Some(_)) => counts.hit(),
+        Ok(None) => counts.miss(),
+        Err(_) => counts.refuse(),
+    }
+}
+
+// Counts the result of a begin, except an insertion: a hit, a wait, a refusal, or a miss that
+// starts a making.
+#[inline(always)]
+pub(super) fn count_begin<K, V>(
+    counts: &mut Counts,
+    begun: &Result<(Begun<V>, Evicted<K, V>, Hint), Refusal>,
+)
+    ensures { counts.new ≡ counted_begin (begun_without_hint begun.now) counts.old }
+{
+    match begun {
+        Ok((Begun::Hit(_, _), _, _)) => counts.hit(),
+        Ok((Begun::Wait(_), _, _)) => counts.wait(),
+        Ok((Begun::Make(_), _, _)) => {
+            counts.miss();
+            counts.make();
+        }
+        Err(_) => counts.refuse(),
+    }
+}
+
+// Whether a begin inserted an entry, which then has the stamp that was the next one. A making that
+// is taken over has an earlier stamp.
+#[inline(always)]
+pub(super) fn is_insertion<K, V>(
+    begun: &Result<(Begun<V>, Evicted<K, V>, Hint), Refusal>,
+    next: u64,
+) -> bool
+    ensures { result ≡ is_insertion (begun_without_hint begun.now) next }
+{
+    match begun {
+        Ok((Begun::Make(stamp), _, _)) => *stamp == next,
+        _ => false,
+    }
+}
+
+// Counts the result of a poll: a making started, or a refusal for lack of memory.
+pub(super) fn count_poll<V>(counts: &mut Counts, polled: &Result<Begun<V>, Refusal>)
+    ensures { counts.new ≡ counted_poll polled.now counts.old }
+{
+    match polled {
+        Ok(Begun::Make(_)) => counts.make(),
+        Err(Refusal::Memory) => counts.refuse(),
+        Ok(_) => {}
+        Err(_) => {}
+    }
+}
+
+// Counts the result of a repin: a refusal, unless no entry has the stamp.
+pub(super) fn count_repin<V>(counts: &mut Counts, repinned: &Result<Arc<V>, Refusal>)
+    ensures { counts.new ≡ counted_repin repinned.now counts.old }
+{
+    match repinned {
+        Err(Refusal::Memory | Refusal::Overflow) => counts.refuse(),
+        Ok(_) => {}
+        Err(_) => {}
+    }
+}
