@@ -1,3 +1,4 @@
+mod Pasts
 mod Claims
 mod DistinctKeys
 mod Words

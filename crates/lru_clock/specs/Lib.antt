@@ -6,3 +6,9 @@ pub mod Seats
 pub mod SeatStates
 pub mod SeatChanges
 pub mod Searches
+pub mod History
+pub mod Arrivals
+pub mod HistoryRule
+pub mod Hits
+pub mod Books
+pub mod Shards

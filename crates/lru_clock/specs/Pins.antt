@@ -1,6 +1,17 @@
 -- What a pin shows.
+use Rattle.std.specs.Prelude.{List}
+use Rattle.logbook.specs.Pages.{Book}
+use Rattle.lru_clock.specs.declared.history.Event.{Event}
 
--- the key that was asked for, and the value
+-- whose history it is, the prefix after which entries must have come, and the prefix that was seen
+pub record PastOf (K V : Type 0) : Type 0 where
+  pub book : Book
+  pub since : List (Event K V)
+  pub seen : List (Event K V)
+
+-- the key that was asked for, the value, and what was seen of a history
 pub record PinOf (K V : Type 0) : Type 0 where
   pub key : K
   pub value : V
+  pub book : Book
+  pub log : List (Event K V)

@@ -3,21 +3,28 @@
 //! A hasher chooses the shard of a key. A hit pins its entry by one compare-exchange, and the drop
 //! of its handle is one subtraction. What is not a hit takes the lock of the key's shard.
 ghost use Rattle.std.specs.Prelude.{◌≡◌, ◌≢◌, ◌<◌, Some, None, Ok, Err, IfOk, IfErr, IfSome};
-ghost use Rattle.std.specs.Prelude.{vec_len};
+ghost use Rattle.std.specs.Prelude.{length, vec_len};
 ghost use Rattle.std.specs.Fn.{FnOnceReturnsAt, FnOnceTakesAt};
 ghost use Rattle.concurrent_lru.specs.Cache.{CopiesAreEqual};
 ghost use Rattle.concurrent_lru.specs.ThreadedCalls.{IfInit, IsNotInit};
+ghost use Rattle.lru_clock.specs.Hits.{Sees};
+ghost use Rattle.lru_clock.specs.Shards.{IsBookOf, IsShardOf};
+ghost use Rattle.concurrent_lru.specs.Sharded.{key_number};
+
+mod pasts;
 
 pub use crate::handle::CacheHandle;
+pub use crate::history::Past;
 use crate::shard::{Shard, Turn};
 pub use crate::shard_state::Counts;
-use crate::store::MOST_PINS;
+use crate::store::{MOST_PINS, Pin};
 pub use concurrent_lru::fit::{Anything, Fit};
 use concurrent_lru::sharded::capacity_per_shard;
 pub use concurrent_lru::sharded::{GetError, Refusal};
 use std::alloc::Global;
 use std::fmt;
 use std::hash::{BuildHasher, Hash, RandomState};
+use std::marker::Model;
 use std::sync::Wait;
 
 // The number of shards of a cache that is created without one.
@@ -27,6 +34,8 @@ const DEFAULT_SHARDS: usize = 16;
 /// the right to wait, `S` hashes the keys, and `F` is the mark, which relates values to keys.
 ///
 /// Whenever the lock of a shard is acquired, its total is the sum of the charges of its entries.
+///
+/// Clauses see the hasher, and a name for the history of each shard.
 #[derive(Drop)]
 pub struct Cache<
     K: Hash + Eq + Clone,
@@ -39,6 +48,19 @@ pub struct Cache<
     hasher: S,
     shards: Vec<Shard<K, V, F>>,
     ghost some: { 0 < vec_len shards },
+}
+
+impl<K: Hash + Eq + Clone, V, R: Wait, S: BuildHasher, F: Fit<K, V>> Model
+    for Cache<K, V, R, S, F> {
+    ghost use Rattle.std.specs.Prelude.{map};
+    ghost use Rattle.lru_clock.specs.Shards.{CacheOf};
+
+    ghost Value = { CacheOf S };
+
+    ghost view = { λ c. record {
+      hasher = c.hasher;
+      books = map (λ s. s.store.chronicle.first.book) c.shards.items;
+    } };
 }
 
 impl<K: Hash + Eq + Clone + Drop, V: Drop, R: Wait + Drop> Cache<K, V, R, RandomState, Anything> {
@@ -159,25 +181,19 @@ impl<K: Hash + Eq + Clone + Drop, V: Drop, R: Wait, S: BuildHasher, F: Fit<K, V>
     S,
     F,
 > {
-    // Returns the shard of a key and the tag by which its index knows the key. A shard is chosen by
-    // the low half of the hash, and the tag is the high half. For a power of two that is named here
-    // the compiler divides with a mask.
+    // Returns the shard of a key and the tag by which its index knows the key.
     #[inline(always)]
-    fn route(&self, key: &K) -> (&Shard<K, V, F>, u32) {
-        let hash = self.hasher.hash_one(key);
-        let at = match self.shards.len() {
-            1 => 0,
-            16 => hash % 16,
-            64 => hash % 64,
-            len => hash % len as u64,
-        };
-        (&self.shards[at as usize], (hash >> 32) as u32)
+    fn route(&self, key: &K) -> (&Shard<K, V, F>, u32)
+        ensures book { IsBookOf S.BuildHasher S.Hasher.Hasher K.hash_input self.now key.now
+            result.0.now.store.chronicle.first.book }
+    {
+        choose_shard(&self.hasher, &self.shards, key)
     }
 
     /// Reserves room in each shard for its share of `entries` entries, those present included, one
     /// shard after another. A shard that gets more grows under its lock as needed.
     ///
-    /// Returns `Memory` if the allocator refuses, and `Overflow` if a share is above 4,294,967,232.
+    /// Returns `Memory` if the allocator refuses, and `Overflow` if a share is above 4,294,966,784.
     /// No entry changes in either case, though some room may have been reserved.
     pub fn reserve(&self, entries: usize) -> Result<(), Refusal>
         ensures never_stale { IfErr result (λ e. e ≢ Refusal.Stale) }
@@ -215,13 +231,32 @@ impl<K: Hash + Eq + Clone + Drop, V: Drop, R: Wait, S: BuildHasher, F: Fit<K, V>
         ensures never_stale { IfErr result (λ e. e ≢ Refusal.Stale) }
     {
         let (shard, tag) = self.route(key);
-        let found = match shard.find(tag, key, true)? {
-            Some(found) => Some(found),
-            None => shard.find_locked(&self.rt, tag, key, true)?,
-        };
-        match found {
+        match self.pin(shard, tag, key, &None)? {
             Some((place, pin)) => Ok(Some(CacheHandle::new(&self.rt, shard, place, pin, None))),
             None => Ok(None),
+        }
+    }
+
+    // Pins the key's entry in its shard. A miss looks once more under the lock.
+    #[inline(always)]
+    fn pin<'a>(
+        &'a self,
+        shard: &'a Shard<K, V, F>,
+        tag: u32,
+        key: &K,
+        past: &Option<Past<K, V>>,
+    ) -> Result<Option<(u32, Pin<'a, K, V, F>)>, Refusal>
+        requires book { IfSome past.now
+            (λ past. past.book ≡ shard.now.store.chronicle.first.book) }
+        ensures pin { IfOk result (λ found. IfSome found
+            (λ f. (f.1.key ≡ key.now) × F.fits key.now f.1.value)) }
+        ensures since { IfSome past.now (λ past. IfOk result (λ found. IfSome found
+            (λ f. Sees K.eq past key.now f.1.value f.1.book f.1.log))) }
+        ensures refused { IfErr result (λ e. e ≡ Refusal.Overflow) }
+    {
+        match shard.find(tag, key, true, past)? {
+            Some(found) => Ok(Some(found)),
+            None => shard.find_locked(&self.rt, tag, key, true, past),
         }
     }
 
@@ -395,6 +430,7 @@ impl<K: Hash + Eq + Clone + Drop, V: Drop, R: Wait, S: BuildHasher, F: Fit<K, V>
         ensures key { IfOk result (λ h. h.key ≡ key.now) }
         ensures charge { IfOk result (λ h. h.charge ≡ Some charge) }
         ensures fits { IfOk result (λ h. F.fits key.now h.value) }
+        ensures value { IfOk result (λ h. h.value ≡ value) }
         ensures never_stale { IfErr result (λ e. e ≢ Refusal.Stale) }
     {
         let (shard, tag) = self.route(key);
@@ -513,6 +549,28 @@ impl<K: Hash + Eq + Clone + Drop, V: Drop, R: Wait, S: BuildHasher, F: Fit<K, V>
         }
         counts
     }
+}
+
+// Chooses the shard of a key by the low half of its hash, and returns it with the high half, which
+// is the tag. For a power of two that is named here the compiler divides with a mask.
+#[inline(always)]
+fn choose_shard<'a, K: Hash + Eq + Clone, V, S: BuildHasher, F: Fit<K, V>>(
+    hasher: &S,
+    shards: &'a [Shard<K, V, F>],
+    key: &K,
+) -> (&'a Shard<K, V, F>, u32)
+    requires some { 0 < length shards.now }
+    ensures shard { IsShardOf shards.now
+        (key_number S.BuildHasher S.Hasher.Hasher K.hash_input hasher.now key.now) result.0.now }
+{
+    let hash = hasher.hash_one(key);
+    let at = match shards.len() {
+        1 => 0,
+        16 => hash % 16,
+        64 => hash % 64,
+        len => hash % len as u64,
+    };
+    (&shards[at as usize], (hash >> 32) as u32)
 }
 
 // Converts a refusal of a call that takes no stamp.

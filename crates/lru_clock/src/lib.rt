@@ -5,12 +5,16 @@
 //! of a clock, which passes those that were used since it last came by. Misses, insertions and
 //! evictions take the lock of a shard.
 //!
+//! A caller that keeps a `Past` is proved to find no entry again that it found before its own
+//! invalidation, since a history of each shard, which exists in proofs, tells when entries came.
+//!
 //! It stands beside the caches of `concurrent_lru`, whose order of eviction is exact, and has their
 //! calls, their marks and their errors.
 #![tactic(auto)]
 
 pub mod clock;
 mod handle;
+mod history;
 mod index;
 mod makings;
 mod sent;

@@ -11,6 +11,7 @@ ghost use Rattle.std.proofs.Math.ListN.{set};
 mod changes;
 mod looks;
 
+use crate::history::Past;
 use crate::shard_state::ShardState;
 use crate::store::{Kept, Leaver, Left, Pin, Reservation, Slot, Store, Taken};
 use concurrent_lru::fit::Fit;
@@ -27,7 +28,7 @@ use std::sync::{Condvar, Mutex, MutexGuard, Wait};
 /// A shard of a cache.
 #[derive(Drop)]
 pub struct Shard<K: Hash + Eq + Clone, V, F: Fit<K, V>> {
-    store: Store<K, V, F>,
+    pub store: Store<K, V, F>,
     most_pins: u64,
     // Whether the total was above the capacity when the lock was last released.
     is_above: AtomicBool,
@@ -93,8 +94,18 @@ impl<K: Hash + Eq + Clone + Drop, V: Drop, F: Fit<K, V>> Shard<K, V, F> {
     }
 
     #[inline(always)]
-    fn slot(&self, place: u32) -> Option<&Slot<K, V, F>> {
+    fn slot(&self, place: u32) -> Option<&Slot<K, V, F>>
+        ensures book { IfSome result
+            (λ slot. slot.now.track.word.book ≡ self.now.store.chronicle.first.book) }
+    {
         self.store.slot(place)
+    }
+
+    /// Returns a past for which nothing was seen, and after which every entry came.
+    pub fn past(&self) -> Past<K, V>
+        ensures book { result.book ≡ self.now.store.chronicle.first.book }
+    {
+        self.store.past()
     }
 
     fn lock<R: Wait>(&self, rt: &R) -> MutexGuard<'_, ShardState<K>> {
@@ -234,6 +245,7 @@ impl<K: Hash + Eq + Clone + Drop, V: Drop, F: Fit<K, V>> Shard<K, V, F> {
         requires own { IfSome coming.own (λ own. K.eq own coming.kept.key ≡ true) }
         ensures pin { IfOk result.0
             (λ found. (found.1.key ≡ key.now) × F.fits key.now found.1.value) }
+        ensures value { IfOk result.0 (λ found. found.1.value ≡ coming.kept.value) }
         ensures never_stale { IfErr result.0 (λ e. e ≢ Refusal.Stale) }
     {
         let Coming {
@@ -247,15 +259,16 @@ impl<K: Hash + Eq + Clone + Drop, V: Drop, F: Fit<K, V>> Shard<K, V, F> {
             Ok(reservation) => reservation,
             Err((refusal, own)) => return (Err(refusal), Leftover::of(Some(kept), own)),
         };
-        let place = match self.store.fill(reservation, kept, !is_listed) {
-            Ok(place) => place,
+        let (place, pin) = match self.store.fill(reservation, key, kept, !is_listed) {
+            Ok(filled) => filled,
             Err((reservation, kept)) => {
                 let own = state.seats.cancel(reservation);
                 return (Err(Refusal::Overflow), Leftover::of(Some(kept), own));
             }
         };
-        // Nobody else can have pinned it so often, or taken it out under the lock.
-        let Ok(Some(pin)) = self.pin_new(place, key, is_listed) else {
+        // Always `Some`: under the lock nobody else takes it out, and nobody has pinned it so
+        // often.
+        let Some(pin) = pin else {
             return (Err(Refusal::Overflow), Leftover::of(None, None));
         };
         if is_listed {
@@ -270,28 +283,6 @@ impl<K: Hash + Eq + Clone + Drop, V: Drop, F: Fit<K, V>> Shard<K, V, F> {
             if let Some(slot) = self.slot(place) {
                 slot.mark();
             }
-        }
-    }
-
-    // Pins an entry that was just stored. A caller with an old word of the index may find its slot,
-    // so an entry that is not listed must be hidden from the start.
-    fn pin_new(
-        &self,
-        place: u32,
-        key: &K,
-        is_listed: bool,
-    ) -> Result<Option<Pin<'_, K, V, F>>, Refusal>
-        ensures pin { IfOk result (λ found. IfSome found
-            (λ p. (p.key ≡ key.now) × F.fits key.now p.value)) }
-        ensures refused { IfErr result (λ e. e ≡ Refusal.Overflow) }
-    {
-        let Some(slot) = self.slot(place) else {
-            return Ok(None);
-        };
-        if is_listed {
-            slot.pin(key, self.most_pins, false)
-        } else {
-            slot.pin_invalidated(key)
         }
     }
 

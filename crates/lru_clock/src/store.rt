@@ -1,18 +1,24 @@
 //! The slots of a shard and their index, which grow under the lock and are read without it.
 //!
-//! Slots lie in pages, each twice as large as the one before it, and never move. A new index is
-//! twice as large as the one before it. The old ones stay as they were: a reader that still has one
-//! finds too little, and asks again under the lock.
+//! Slots lie in pages, and never move. The first eight pages have the same size, the next eight
+//! twice that, and so on. So only slots of the last page may never have had an entry, which is
+//! about a ninth of all slots in a large shard. A new index is twice as large as the one before it.
+//! The old ones stay as they were: a reader that still has one finds too little, and asks again
+//! under the lock.
 ghost use Rattle.std.specs.Prelude.{◌≡◌, ◌≢◌, ◌<◌, true, IfErr, IfOk, IfSome};
+ghost use Rattle.lru_clock.specs.Books.{EachOf, numbers};
 
 mod search;
 mod seat;
 mod seats;
 mod slot;
 
+use crate::history::{Chronicle, Log, Past};
 use crate::index::Index;
 pub use crate::store::seats::{Reservation, Seats};
 pub use crate::store::slot::{Emptied, Kept, MOST_PINS, Pin, Released, Slot};
+use boxcar::slot::{OnceSlot, SlotRule};
+use boxcar::tag::{Names, Tag};
 use concurrent_lru::fit::Fit;
 use concurrent_lru::sealed::Sealed;
 use concurrent_lru::sharded::Refusal;
@@ -21,19 +27,43 @@ use std::sync::atomic::AtomicU64;
 use std::sync::atomic::Ordering::SeqCst;
 use std::sync::{Arc, OnceLock};
 
-// The number of slots in the first page.
+// The number of slots in each of the first eight pages.
 const FIRST_PAGE: usize = 64;
 
 // With so many pages, places still fit a `u32`.
-const PAGES: usize = 26;
+const PAGES: usize = 184;
 
-/// The slots of a shard and their index.
+// The most indexes that there can be.
+const LEVELS: usize = 26;
+
+/// The rule of a page: the tag of the page names the history of each of its slots.
+pub struct Told;
+
+impl<K: Eq, V, F: Fit<K, V>> SlotRule<Vec<Slot<K, V, F>>> for Told {
+    ghost use Rattle.std.specs.Prelude.{◌≡◌};
+    ghost use Rattle.lru_clock.specs.Books.{EachOf, numbers};
+
+    ghost holds = { λ tag page. EachOf (λ slot. numbers slot.track.word.book ≡ tag) page.items };
+}
+
+// How a tag names a history.
+struct Named;
+
+impl<K, V> Names<Log<K, V>> for Named {
+    ghost use Rattle.lru_clock.specs.Books.{numbers};
+
+    ghost numbers = { λ log. numbers log.book };
+}
+
+/// The slots of a shard, their history and their index.
 #[derive(Drop)]
 pub struct Store<K: Eq, V, F: Fit<K, V>> {
     // The number of the index in use.
     level: AtomicU64,
     indexes: Vec<OnceLock<Arc<Index>>>,
-    pages: Vec<OnceLock<Vec<Slot<K, V, F>>>>,
+    pages: Vec<OnceSlot<Vec<Slot<K, V, F>>, Told>>,
+    pub chronicle: Chronicle<K, V>,
+    ghost told: { EachOf (λ page. page.tag ≡ numbers chronicle.first.book) pages.items },
 }
 
 /// A debt: an entry that was taken out of its slot, and whose charge still counts. `Seats::vacate`
@@ -71,27 +101,59 @@ impl<K: Eq, V, F: Fit<K, V>> Left<K, V, F> {
 /// What an entry left, sealed until the lock is released, if one has left.
 pub type Leaver<K, V, F> = Option<Sealed<Left<K, V, F>>>;
 
-// Returns the page of a place, and where it is in the page.
+// Returns the page of a place, and where it is in the page. After as many more slots as the first
+// eight pages have, each page of 2^k slots would begin at a multiple of 2^k, the 8th to the 15th.
 #[inline(always)]
 fn page_of(place: u32) -> (usize, usize) {
-    let past = place as u64 + FIRST_PAGE as u64;
-    let page = (past / FIRST_PAGE as u64).ilog2();
-    let start = (FIRST_PAGE as u64).wrapping_shl(page);
-    (page as usize, past.wrapping_sub(start) as usize)
+    let past = place as u64 + 8 * FIRST_PAGE as u64;
+    let log = past.ilog2().wrapping_sub(3);
+    let multiple = past.wrapping_shr(log);
+    let sizes = log.wrapping_sub(FIRST_PAGE.ilog2()) as usize;
+    let page = sizes
+        .wrapping_mul(8)
+        .wrapping_add(multiple as usize)
+        .wrapping_sub(8);
+    (page, past.wrapping_sub(multiple.wrapping_shl(log)) as usize)
+}
+
+// Returns the number of slots in a page.
+fn page_len(page: usize) -> usize
+    requires { page < 184 }
+{
+    FIRST_PAGE << (page / 8)
 }
 
 fn new_page<K: Eq + Drop, V: Drop, F: Fit<K, V>>(
     alloc: Global,
     page: usize,
+    chronicle: &Chronicle<K, V>,
 ) -> Result<Vec<Slot<K, V, F>>, AllocError>
-    requires { page < 26 }
+    requires { page < 184 }
+    ensures { IfOk result (λ slots. EachOf
+        (λ slot. numbers slot.track.word.book ≡ numbers chronicle.now.first.book) slots.items) }
 {
-    let len = FIRST_PAGE << page;
+    let len = page_len(page);
     let mut slots = Vec::with_capacity(alloc, len)?;
     for _ in 0..len {
-        slots.push(Slot::new())?;
+        slots.push(Slot::new(chronicle))?;
     }
     Ok(slots)
+}
+
+// Creates room for pages, whose tag names a history.
+fn new_pages<K: Eq + Drop, V: Drop, F: Fit<K, V>>(
+    alloc: Global,
+    log: &Log<K, V>,
+) -> Result<Vec<OnceSlot<Vec<Slot<K, V, F>>, Told>>, AllocError>
+    ensures { IfOk result
+        (λ pages. EachOf (λ page. page.tag ≡ numbers log.now.book) pages.items) }
+{
+    let tag = Tag::of::<Log<K, V>, Named>(log);
+    let mut pages = Vec::with_capacity(alloc, PAGES)?;
+    for _ in 0..PAGES {
+        pages.push(OnceSlot::new(&tag))?;
+    }
+    Ok(pages)
 }
 
 impl<K: Eq + Drop, V: Drop, F: Fit<K, V>> Store<K, V, F> {
@@ -99,50 +161,72 @@ impl<K: Eq + Drop, V: Drop, F: Fit<K, V>> Store<K, V, F> {
     ///
     /// Returns `AllocError` if the allocator refuses.
     pub fn new(alloc: Global, index: Arc<Index>) -> Result<Self, AllocError> {
-        let mut pages = Vec::with_capacity(alloc, PAGES)?;
-        let mut indexes = Vec::with_capacity(alloc, PAGES)?;
-        for _ in 0..PAGES {
-            pages.push(OnceLock::new())?;
+        let mut indexes = Vec::with_capacity(alloc, LEVELS)?;
+        for _ in 0..LEVELS {
             indexes.push(OnceLock::new())?;
         }
+        let chronicle = Chronicle::new();
+        let pages = new_pages(alloc, &chronicle.first)?;
         let store = Store {
             level: AtomicU64::new(0),
             indexes,
             pages,
+            chronicle,
         };
         store.publish(index, 0);
         Ok(store)
     }
 
+    /// Returns a past for which nothing was seen, and after which every entry came.
+    #[inline(always)]
+    pub fn past(&self) -> Past<K, V>
+        ensures book { result.book ≡ self.now.chronicle.first.book }
+    {
+        self.chronicle.past()
+    }
+
     /// Returns the slot of a place.
     #[inline(always)]
-    pub fn slot(&self, place: u32) -> Option<&Slot<K, V, F>> {
+    pub fn slot(&self, place: u32) -> Option<&Slot<K, V, F>>
+        ensures book { IfSome result
+            (λ slot. slot.now.track.word.book ≡ self.now.chronicle.first.book) }
+    {
         let (page, at) = page_of(place);
         self.pages.get(page)?.get()?.get(at)
     }
 
-    /// Stores an entry in the slot whose place was reserved for it, and returns the place. One that
-    /// was invalidated before it came can be pinned by `Slot::pin_invalidated` alone.
+    /// Stores an entry in the slot whose place was reserved for it, and returns the place and a
+    /// pin. Nobody else can pin an entry that was invalidated before it came.
     ///
-    /// Returns both if the slot has an entry.
+    /// Returns the reservation and the entry if it cannot be stored, and no pin if it cannot be
+    /// pinned.
     pub fn fill(
         &self,
         reservation: Reservation<K>,
+        key: &K,
         kept: Kept<K, V, F>,
         is_invalidated: bool,
-    ) -> Result<u32, (Reservation<K>, Kept<K, V, F>)>
+    ) -> Result<(u32, Option<Pin<'_, K, V, F>>), (Reservation<K>, Kept<K, V, F>)>
         requires fits { F.fits kept.key kept.value }
         requires own { IfSome reservation.key.value (λ own. K.eq own kept.key ≡ true) }
-        ensures { IfOk result (λ place. place ≡ reservation.place) }
+        ensures place { IfOk result (λ filled. filled.0 ≡ reservation.place) }
+        ensures pin { IfOk result (λ filled. IfSome filled.1
+            (λ p. (p.key ≡ key.now) × F.fits key.now p.value)) }
+        ensures value { IfOk result (λ filled. IfSome filled.1 (λ p. p.value ≡ kept.value)) }
     {
         let Some(slot) = self.slot(reservation.place) else {
             return Err((reservation, kept));
         };
-        if let Err(kept) = slot.fill(kept, is_invalidated) {
+        // Always `Some`, since nobody draws a number without the lock.
+        let Some((number, seen)) = self.chronicle.draw() else {
             return Err((reservation, kept));
-        }
+        };
+        let pin = match slot.fill(key, kept, is_invalidated, number, &seen) {
+            Ok(pin) => pin,
+            Err(kept) => return Err((reservation, kept)),
+        };
         let Reservation { place, key: _ } = reservation;
-        Ok(place)
+        Ok((place, pin))
     }
 
     /// The hand of the clock comes to a place, as `Slot::pass` says.
@@ -184,7 +268,7 @@ impl<K: Eq + Drop, V: Drop, F: Fit<K, V>> Store<K, V, F> {
     /// Adds a slot, and a seat for it.
     ///
     /// Returns `Memory` if the allocator refuses, and `Overflow` if a shard can have no more slots
-    /// (4,294,967,232). No entry changes.
+    /// (4,294,966,784). No entry changes.
     pub fn grow(&self, alloc: Global, seats: &mut Seats<K>) -> Result<(), Refusal>
         ensures { IfErr result (λ e. e ≢ Refusal.Stale) }
     {
@@ -197,7 +281,8 @@ impl<K: Eq + Drop, V: Drop, F: Fit<K, V>> Store<K, V, F> {
             return Err(Refusal::Overflow);
         };
         if slots.get().is_none() {
-            let _ = slots.try_set(new_page(alloc, page)?);
+            seats.make_room(page_len(page))?;
+            let _ = slots.set_written(new_page(alloc, page, &self.chronicle)?);
         }
         if seats.add(place)? {
             let index = seats.share_index()?;

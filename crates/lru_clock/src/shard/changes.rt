@@ -1,8 +1,10 @@
 //! The calls that change a shard. Each holds the lock once for each entry that leaves, and once
 //! more for what it changes itself.
 ghost use Rattle.std.specs.Prelude.{◌≡◌, ◌≢◌, ◌<◌, true, IfErr, IfOk, IfSome};
+ghost use mathlib.Core.List.{IsPrefix};
 ghost use Rattle.lru_clock.specs.Seats.{LacksKey};
 
+use crate::history::Past;
 use crate::shard::{Coming, Shard};
 use crate::shard_state::ShardState;
 use crate::store::{Kept, Leaver, Pin};
@@ -10,7 +12,7 @@ use concurrent_lru::fit::Fit;
 use concurrent_lru::sharded::Refusal;
 use std::hash::Hash;
 use std::marker::PhantomData;
-use std::sync::Wait;
+use std::sync::{MutexGuard, Wait};
 
 // Returns the key of a making that ended, if it is the entry's. A key is made by one caller at a
 // time, so it is, unless the making was invalidated.
@@ -28,6 +30,7 @@ impl<K: Hash + Eq + Clone + Drop, V: Drop, F: Fit<K, V>> Shard<K, V, F> {
     fn new_entry(&self, key: &K, value: V) -> Result<Kept<K, V, F>, Refusal>
         requires fits { F.fits key.now value }
         ensures fits { IfOk result (λ kept. F.fits kept.key kept.value) }
+        ensures value { IfOk result (λ kept. kept.value ≡ value) }
         ensures err { IfErr result (λ e. e ≡ Refusal.Memory) }
     {
         Ok(Kept {
@@ -54,6 +57,7 @@ impl<K: Hash + Eq + Clone + Drop, V: Drop, F: Fit<K, V>> Shard<K, V, F> {
         requires fits { F.fits key.now value }
         ensures pin { IfOk result
             (λ found. (found.1.key ≡ key.now) × F.fits key.now found.1.value) }
+        ensures value { IfOk result (λ found. found.1.value ≡ value) }
         ensures never_stale { IfErr result (λ e. e ≢ Refusal.Stale) }
     {
         let kept = match self.new_entry(key, value) {
@@ -107,6 +111,7 @@ impl<K: Hash + Eq + Clone + Drop, V: Drop, F: Fit<K, V>> Shard<K, V, F> {
         requires fits { F.fits key.now value }
         ensures pin { IfOk result
             (λ found. (found.1.key ≡ key.now) × F.fits key.now found.1.value) }
+        ensures value { IfOk result (λ found. found.1.value ≡ value) }
         ensures never_stale { IfErr result (λ e. e ≢ Refusal.Stale) }
     {
         let kept = self.new_entry(key, value)?;
@@ -171,6 +176,29 @@ impl<K: Hash + Eq + Clone + Drop, V: Drop, F: Fit<K, V>> Shard<K, V, F> {
     pub fn invalidate<R: Wait>(&self, rt: &R, tag: u32, key: &K) {
         let mut guard = self.lock(rt);
         let leaver = self.invalidate_entry(&mut guard, tag, key);
+        self.end_invalidation(guard, key, leaver);
+    }
+
+    /// `invalidate`, after which only entries that come later came after `past.since`.
+    pub fn invalidate_since<R: Wait>(&self, rt: &R, tag: u32, key: &K, past: &mut Past<K, V>)
+        requires book { past.old.book ≡ self.now.store.chronicle.first.book }
+        ensures book { past.new.book ≡ past.old.book }
+        ensures later { IsPrefix past.old.seen past.new.since }
+    {
+        let mut guard = self.lock(rt);
+        let leaver = self.invalidate_entry(&mut guard, tag, key);
+        *past = self.store.chronicle.renew(past);
+        self.end_invalidation(guard, key, leaver);
+    }
+
+    // Invalidates the making of a key's value, and releases the lock.
+    fn end_invalidation(
+        &self,
+        guard: MutexGuard<'_, ShardState<K>>,
+        key: &K,
+        leaver: Leaver<K, V, F>,
+    ) {
+        let mut guard = guard;
         let making = guard.makings.invalidate(key);
         self.wake(&guard);
         self.unlock(guard, leaver);

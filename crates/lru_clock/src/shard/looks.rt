@@ -1,8 +1,10 @@
 //! The calls that look at a shard: hits, without the lock; and under it a second look, the start
 //! of a making, and sums.
 ghost use Rattle.std.specs.Prelude.{◌≡◌, ◌≢◌, ◌<◌, IfErr, IfOk, IfSome};
+ghost use Rattle.lru_clock.specs.Hits.{Sees};
 ghost use Rattle.lru_clock.specs.Turns.{IfHit};
 
+use crate::history::Past;
 use crate::shard::{Shard, Turn};
 use crate::shard_state::{Counts, Numbers, ShardState};
 use crate::store::Pin;
@@ -22,9 +24,14 @@ impl<K: Hash + Eq + Clone + Drop, V: Drop, F: Fit<K, V>> Shard<K, V, F> {
         tag: u32,
         key: &K,
         is_use: bool,
+        past: &Option<Past<K, V>>,
     ) -> Result<Option<(u32, Pin<'_, K, V, F>)>, Refusal>
+        requires book { IfSome past.now
+            (λ past. past.book ≡ self.now.store.chronicle.first.book) }
         ensures pin { IfOk result (λ found. IfSome found
             (λ f. (f.1.key ≡ key.now) × F.fits key.now f.1.value)) }
+        ensures since { IfSome past.now (λ past. IfOk result (λ found. IfSome found
+            (λ f. Sees K.eq past key.now f.1.value f.1.book f.1.log))) }
         ensures refused { IfErr result (λ e. e ≡ Refusal.Overflow) }
     {
         let Some(index) = self.store.index() else {
@@ -36,7 +43,7 @@ impl<K: Hash + Eq + Clone + Drop, V: Drop, F: Fit<K, V>> Shard<K, V, F> {
                 return Ok(None);
             };
             if let Some(slot) = self.slot(place) {
-                if let Some(pin) = slot.pin(key, self.most_pins, is_use)? {
+                if let Some(pin) = slot.pin(key, self.most_pins, is_use, past)? {
                     return Ok(Some((place, pin)));
                 }
                 // The pin that compared another key's entry may have kept it from leaving.
@@ -54,13 +61,18 @@ impl<K: Hash + Eq + Clone + Drop, V: Drop, F: Fit<K, V>> Shard<K, V, F> {
         tag: u32,
         key: &K,
         is_use: bool,
+        past: &Option<Past<K, V>>,
     ) -> Result<Option<(u32, Pin<'_, K, V, F>)>, Refusal>
+        requires book { IfSome past.now
+            (λ past. past.book ≡ self.now.store.chronicle.first.book) }
         ensures pin { IfOk result (λ found. IfSome found
             (λ f. (f.1.key ≡ key.now) × F.fits key.now f.1.value)) }
+        ensures since { IfSome past.now (λ past. IfOk result (λ found. IfSome found
+            (λ f. Sees K.eq past key.now f.1.value f.1.book f.1.log))) }
         ensures refused { IfErr result (λ e. e ≡ Refusal.Overflow) }
     {
         let mut guard = self.lock(rt);
-        let found = self.find_listed(&mut guard, tag, key, is_use);
+        let found = self.find_listed(&mut guard, tag, key, is_use, past);
         self.unlock(guard, None);
         found
     }
@@ -72,9 +84,14 @@ impl<K: Hash + Eq + Clone + Drop, V: Drop, F: Fit<K, V>> Shard<K, V, F> {
         tag: u32,
         key: &K,
         is_use: bool,
+        past: &Option<Past<K, V>>,
     ) -> Result<Option<(u32, Pin<'_, K, V, F>)>, Refusal>
+        requires book { IfSome past.now
+            (λ past. past.book ≡ self.now.store.chronicle.first.book) }
         ensures pin { IfOk result (λ found. IfSome found
             (λ f. (f.1.key ≡ key.now) × F.fits key.now f.1.value)) }
+        ensures since { IfSome past.now (λ past. IfOk result (λ found. IfSome found
+            (λ f. Sees K.eq past key.now f.1.value f.1.book f.1.log))) }
         ensures refused { IfErr result (λ e. e ≡ Refusal.Overflow) }
     {
         let Some(place) = state.seats.find(tag, key) else {
@@ -83,7 +100,7 @@ impl<K: Hash + Eq + Clone + Drop, V: Drop, F: Fit<K, V>> Shard<K, V, F> {
         let Some(slot) = self.slot(place) else {
             return Ok(None);
         };
-        match slot.pin(key, self.most_pins, is_use)? {
+        match slot.pin(key, self.most_pins, is_use, past)? {
             Some(pin) => Ok(Some((place, pin))),
             None => Ok(None),
         }
@@ -104,7 +121,7 @@ impl<K: Hash + Eq + Clone + Drop, V: Drop, F: Fit<K, V>> Shard<K, V, F> {
             (λ turn. IfHit turn (λ p. (p.key ≡ key.now) × F.fits key.now p.value)) }
         ensures never_stale { IfErr result (λ e. e ≢ Refusal.Stale) }
     {
-        match self.find(tag, key, true)? {
+        match self.find(tag, key, true, &None)? {
             Some((place, pin)) => Ok(Turn::Hit(place, pin)),
             None => self.begin(rt, tag, key, charge),
         }
@@ -149,7 +166,7 @@ impl<K: Hash + Eq + Clone + Drop, V: Drop, F: Fit<K, V>> Shard<K, V, F> {
     {
         let mut guard = self.lock(rt);
         for _ in rt.forever() {
-            match self.find_listed(&mut guard, tag, key, true) {
+            match self.find_listed(&mut guard, tag, key, true, &None) {
                 Ok(None) => {}
                 Ok(Some((place, pin))) => return (guard, Ok(Turn::Hit(place, pin))),
                 Err(refusal) => return (guard, Err(refusal)),

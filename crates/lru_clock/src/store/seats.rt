@@ -131,8 +131,17 @@ impl<K: Eq + Drop> Seats<K> {
         }
     }
 
-    /// Adds the seat of a vacant place, the one that a further seat has. Returns whether that took a
-    /// new index.
+    /// Makes room for exactly so many more seats: those of a page, whose slots are created at once.
+    ///
+    /// Returns `AllocError` if the allocator refuses.
+    pub fn make_room(&mut self, more: usize) -> Result<(), AllocError>
+        ensures { self.new ≡ self.old }
+    {
+        self.seats.reserve_exact(more)
+    }
+
+    /// Adds the seat of `place`, the first place without a seat. The place is vacant. Returns
+    /// whether that took a new index.
     ///
     /// Returns `AllocError` if the allocator refuses.
     pub fn add(&mut self, place: u32) -> Result<bool, AllocError>

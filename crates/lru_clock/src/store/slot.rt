@@ -3,15 +3,21 @@
 //! The low half of the word is that of the kit's `Counted`: two bits for the state, and 30 for the
 //! number of pins. The high half is the number of the entry's chances, so that a hit adds its pin
 //! and its chance in one compare-exchange.
-ghost use Rattle.std.specs.Prelude.{◌≡◌, ◌<◌, ◌%◌, IfErr, IfOk, IfSome, IsTrue};
+ghost use Rattle.std.specs.Prelude.{◌≡◌, ◌<◌, ◌≤◌, ◌%◌, IfErr, IfOk, IfSome, IsTrue};
 ghost use Rattle.counted_slot.specs.Counting.{readers, IsTurn};
+ghost use Rattle.lru_clock.specs.History.{turns};
+ghost use Rattle.lru_clock.specs.History.{entry};
+ghost use Rattle.lru_clock.specs.Arrivals.{Arrives};
+ghost use Rattle.lru_clock.specs.Hits.{Sees};
 
+use crate::history::{Arrival, Chronicle, Count, Log, Past, Track};
 use crate::sent::Sent;
-use concurrent_lru::fit::Fit;
+use concurrent_lru::fit::{Anything, Fit};
 use concurrent_lru::sharded::Refusal;
 use concurrent_lru::shown::Shown;
 use counted_slot::{Claim, Counted, FREE, Fits, MARKED, ONE_READER, PRESENT, TAKEN};
 use std::marker::{Model, PhantomData};
+use std::mem::size_of;
 
 /// The maximum of pins that an entry may have. One more fits its word: whoever finds the maximum
 /// takes that one for as long as it compares the key.
@@ -30,10 +36,22 @@ pub struct Kept<K: Eq, V, F: Fit<K, V>> {
     pub mark: PhantomData<F>,
 }
 
-impl<K: Eq, V, F: Fit<K, V>> Fits for Kept<K, V, F> {
-    type Tag = ();
+/// An entry in its slot, and how it came there.
+#[derive(Drop)]
+pub(super) struct Stored<K: Eq, V, F: Fit<K, V>> {
+    kept: Kept<K, V, F>,
+    arrival: Arrival<K, V>,
+}
 
-    ghost fits = { λ _ kept. F.fits kept.key kept.value };
+impl<K: Eq, V, F: Fit<K, V>> Fits for Stored<K, V, F> {
+    ghost use Rattle.lru_clock.specs.History.{entry};
+    ghost use Rattle.lru_clock.specs.Arrivals.{Arrives};
+
+    // The counter of the slot.
+    type Tag = Count<K, V>;
+
+    ghost fits = { λ word stored. F.fits stored.kept.key stored.kept.value
+        × Arrives word stored.arrival (entry stored.kept.key stored.kept.value) };
 }
 
 /// A debt: an entry that was taken out of its slot. `Seats::vacate` takes it, by way of a `Taken`.
@@ -45,16 +63,23 @@ pub struct Emptied<K: Eq, V, F: Fit<K, V>> {
 /// stays for those who have pinned it.
 #[derive(Drop)]
 pub struct Slot<K: Eq, V, F: Fit<K, V>> {
-    cell: Counted<Option<Kept<K, V, F>>>,
+    cell: Counted<Option<Stored<K, V, F>>>,
+    // Its part in the history.
+    pub track: Track<K, V>,
+    ghost same: { cell ≡ track.word },
 }
+
+const _: () = prove!(size_of::<Slot<u64, u64, Anything>>() == 48);
 
 /// A debt: a pin. `release` takes it; until then the entry is neither freed nor evicted.
 ///
-/// Clauses see the key that was asked for, and the value, which fits that key by the mark `F`.
+/// Clauses see the key that was asked for, the value, which fits that key by the mark `F`, and what
+/// was seen of the history.
 pub struct Pin<'a, K: Eq, V, F: Fit<K, V>> {
-    claim: Sent<'a, Option<Kept<K, V, F>>>,
+    claim: Sent<'a, Option<Stored<K, V, F>>>,
     asked: Shown<K>,
     shown: Shown<V>,
+    seen: Log<K, V>,
 }
 
 impl<'a, K: Eq, V, F: Fit<K, V>> Model for Pin<'a, K, V, F> {
@@ -63,10 +88,15 @@ impl<'a, K: Eq, V, F: Fit<K, V>> Model for Pin<'a, K, V, F> {
 
     ghost Value = { PinOf K V };
 
-    ghost view = { λ p. record { key = p.asked.value; value = p.shown.value } };
+    ghost view = { λ p. record {
+      key = p.asked.value;
+      value = p.shown.value;
+      book = p.seen.book;
+      log = p.seen.log;
+    } };
 
     ghost invariant = { λ p. IsSomeAnd p.claim (λ slot. IsSomeAnd slot
-        (λ kept. kept.value ≡ p.shown.value))
+        (λ stored. stored.kept.value ≡ p.shown.value))
         × F.fits p.asked.value p.shown.value };
 }
 
@@ -102,15 +132,22 @@ fn is_idle(word: u64) -> bool
 }
 
 impl<K: Eq + Drop, V: Drop, F: Fit<K, V>> Slot<K, V, F> {
-    /// Creates an empty slot.
-    pub(super) fn new() -> Self {
+    /// Creates an empty slot, and adds it to a history.
+    pub(super) fn new(chronicle: &Chronicle<K, V>) -> Self
+        ensures book { result.track.word.book ≡ chronicle.now.first.book }
+    {
+        let track = chronicle.begin();
         Slot {
-            cell: Counted::new(None, &()),
+            cell: Counted::new(None, &track.word),
+            track,
         }
     }
 
     /// Pins the entry if it is present and has this key. A use gives it one chance more, up to
     /// three.
+    ///
+    /// With a past, pins the entry only if it came after `since`. What was then seen extends what
+    /// the past has seen, and at its end the entry is in the slot.
     ///
     /// Returns `Overflow` if the entry has this key and the maximum of pins.
     #[inline(always)]
@@ -119,10 +156,14 @@ impl<K: Eq + Drop, V: Drop, F: Fit<K, V>> Slot<K, V, F> {
         key: &K,
         most_pins: u64,
         is_use: bool,
+        past: &Option<Past<K, V>>,
     ) -> Result<Option<Pin<'_, K, V, F>>, Refusal>
         requires limit { most_pins < 1073741823 }
+        requires book { IfSome past.now (λ p. p.book ≡ self.now.track.word.book) }
         ensures pin { IfOk result (λ found. IfSome found
             (λ p. (p.key ≡ key.now) × F.fits key.now p.value)) }
+        ensures since { IfSome past.now (λ past. IfOk result (λ found. IfSome found
+            (λ p. Sees K.eq past key.now p.value p.book p.log))) }
         ensures refused { IfErr result (λ e. e ≡ Refusal.Overflow) }
     {
         for _ in 0..u64::MAX {
@@ -141,7 +182,7 @@ impl<K: Eq + Drop, V: Drop, F: Fit<K, V>> Slot<K, V, F> {
                 };
                 let (found, claim) = self.cell.turn(seen, next);
                 if found == seen {
-                    let pinned = Pin::of_key(claim, key, pins == most_pins);
+                    let pinned = Pin::of_key(&self.track, claim, key, past, pins == most_pins);
                     if is_chance && matches!(&pinned, Ok(None)) {
                         self.lose_chance();
                     }
@@ -169,48 +210,78 @@ impl<K: Eq + Drop, V: Drop, F: Fit<K, V>> Slot<K, V, F> {
         pins_of(self.cell.load()) != 0
     }
 
-    /// Pins an invalidated entry of this key, for the caller that stored it under the lock.
-    pub fn pin_invalidated(&self, key: &K) -> Result<Option<Pin<'_, K, V, F>>, Refusal>
-        ensures pin { IfOk result (λ found. IfSome found
-            (λ p. (p.key ≡ key.now) × F.fits key.now p.value)) }
-        ensures refused { IfErr result (λ e. e ≡ Refusal.Overflow) }
+    // Pins the entry that the caller has just stored, which it knows again by the arrival.
+    fn pin_stored(
+        &self,
+        key: &K,
+        arrival: &Arrival<K, V>,
+        value: &Shown<V>,
+    ) -> Option<Pin<'_, K, V, F>>
+        requires came { (l : K)
+            × Arrives self.now.track.word arrival.now (entry l value.now.value) }
+        ensures pin { IfSome result (λ p. (p.key ≡ key.now) × F.fits key.now p.value) }
+        ensures value { IfSome result (λ p. p.value ≡ value.now.value) }
     {
-        let seen = self.cell.load();
-        if state_of(seen) != MARKED || pins_of(seen) > MOST_PINS {
-            return Ok(None);
-        }
-        let (found, claim) = self.cell.turn(seen, seen + ONE_READER);
-        if found != seen {
+        for _ in 0..u64::MAX {
+            let seen = self.cell.load();
+            let state = state_of(seen);
+            if (state != PRESENT && state != MARKED) || pins_of(seen) > MOST_PINS {
+                return None;
+            }
+            let (found, claim) = self.cell.turn(seen, seen + ONE_READER);
+            if found == seen {
+                return Pin::of_stored(claim, key, &self.track, arrival, value);
+            }
             claim.done();
-            return Ok(None);
         }
-        Pin::of_key(claim, key, false)
+        None
     }
 
-    /// Stores an entry in a free slot, or returns it. One that was invalidated before it came can
-    /// be pinned by `pin_invalidated` alone.
+    /// Stores an entry in a free slot, and pins it. One that was invalidated before it came leaves
+    /// the history at once, and nobody else can pin it.
+    ///
+    /// Returns the entry if it cannot be stored, and `None` if it cannot be pinned.
     pub(super) fn fill(
         &self,
+        key: &K,
         kept: Kept<K, V, F>,
         is_invalidated: bool,
-    ) -> Result<(), Kept<K, V, F>>
-        requires { F.fits kept.key kept.value }
+        number: u64,
+        seen: &Log<K, V>,
+    ) -> Result<Option<Pin<'_, K, V, F>>, Kept<K, V, F>>
+        requires fits { F.fits kept.key kept.value }
+        requires book { seen.now.book ≡ self.now.track.word.book }
+        requires drawn { number ≤ turns 1 seen.now.log }
+        ensures pin { IfOk result (λ found. IfSome found
+            (λ p. (p.key ≡ key.now) × F.fits key.now p.value)) }
+        ensures value { IfOk result (λ found. IfSome found (λ p. p.value ≡ kept.value)) }
     {
-        let seen = self.cell.load();
-        if state_of(seen) != FREE {
+        let word = self.cell.load();
+        if state_of(word) != FREE {
             return Err(kept);
         }
-        let (found, claim) = self.cell.turn(seen, TAKEN);
-        if found != seen {
+        let (found, claim) = self.cell.turn(word, TAKEN);
+        if found != word {
             claim.done();
             return Err(kept);
         }
+        // Always `Some`, since nobody changes a track without the lock.
+        let Some(arrival) = self.track.come(number, seen, &kept.key, &kept.value) else {
+            let _ = claim.put(None, FREE);
+            return Err(kept);
+        };
+        let value = Shown::of(&kept.value);
+        let stored = Stored {
+            kept,
+            arrival: arrival.again(),
+        };
         if is_invalidated {
-            let _ = claim.put(Some(kept), MARKED);
+            self.track.leave();
+            let _ = claim.put(Some(stored), MARKED);
         } else {
-            let _ = claim.put(Some(kept), PRESENT);
+            let _ = claim.put(Some(stored), PRESENT);
         }
-        Ok(())
+        Ok(self.pin_stored(key, &arrival, &value))
     }
 
     /// Invalidates the entry: nobody can pin it any more. It stays for those who have pinned it.
@@ -223,6 +294,7 @@ impl<K: Eq + Drop, V: Drop, F: Fit<K, V>> Slot<K, V, F> {
             let (found, claim) = self.cell.turn(seen, seen + 1);
             claim.done();
             if found == seen {
+                self.track.leave();
                 return;
             }
         }
@@ -272,38 +344,99 @@ impl<K: Eq + Drop, V: Drop, F: Fit<K, V>> Slot<K, V, F> {
             claim.done();
             return None;
         }
+        // One that was invalidated has left the history before.
+        if state_of(seen) == PRESENT {
+            self.track.leave();
+        }
         match claim.put(None, FREE) {
-            Some(kept) => Some(Emptied { kept }),
+            Some(stored) => Some(stored.emptied()),
             None => None,
         }
     }
 }
 
+impl<K: Eq, V, F: Fit<K, V>> Stored<K, V, F> {
+    fn emptied(self) -> Emptied<K, V, F> {
+        let Self { kept, arrival: _ } = self;
+        Emptied { kept }
+    }
+
+    // Shows the value and what was seen of the history, if the entry has this key. With a past, it
+    // must also have come after `since`, and must not have left.
+    #[inline(always)]
+    fn confirm(
+        &self,
+        key: &K,
+        track: &Track<K, V>,
+        past: &Option<Past<K, V>>,
+    ) -> Option<(Shown<V>, Log<K, V>)>
+        requires fits { F.fits self.now.kept.key self.now.kept.value }
+        requires stored { Arrives track.now.word self.now.arrival
+            (entry self.now.kept.key self.now.kept.value) }
+        requires book { IfSome past.now (λ p. p.book ≡ track.now.word.book) }
+        ensures value { IfSome result (λ found. found.0.value ≡ self.now.kept.value) }
+        ensures fits { IfSome result (λ found. F.fits key.now found.0.value) }
+        ensures since { IfSome past.now (λ past. IfSome result (λ found. Sees K.eq past key.now
+            found.0.value found.1.book found.1.log)) }
+    {
+        if self.kept.key == *key {
+            let seen = self.arrival.confirm(track, past)?;
+            return Some((Shown::of(&self.kept.value), seen));
+        }
+        None
+    }
+
+    // Shows the value, if the entry has this key and is the one of the arrival.
+    fn recognize(
+        &self,
+        key: &K,
+        track: &Track<K, V>,
+        arrival: &Arrival<K, V>,
+        value: &Shown<V>,
+    ) -> Option<Shown<V>>
+        requires fits { F.fits self.now.kept.key self.now.kept.value }
+        requires stored { Arrives track.now.word self.now.arrival
+            (entry self.now.kept.key self.now.kept.value) }
+        requires came { (l : K) × Arrives track.now.word arrival.now (entry l value.now.value) }
+        ensures value { IfSome result (λ found. found.value ≡ self.now.kept.value) }
+        ensures fits { IfSome result (λ found. F.fits key.now found.value) }
+        ensures same { IfSome result (λ found. found.value ≡ value.now.value) }
+    {
+        if self.kept.key == *key && self.arrival.is(arrival) {
+            let _ = value;
+            Some(Shown::of(&self.kept.value))
+        } else {
+            None
+        }
+    }
+}
+
 impl<'a, K: Eq, V, F: Fit<K, V>> Pin<'a, K, V, F> {
-    // Keeps a pin of an entry with this key, unless it is one too many, and gives any other back.
+    // Keeps a pin of an entry that `confirm` accepts, unless it is one too many, and gives any
+    // other back.
     #[inline(always)]
     fn of_key(
-        claim: Claim<'a, Option<Kept<K, V, F>>>,
+        track: &Track<K, V>,
+        claim: Claim<'a, Option<Stored<K, V, F>>>,
         key: &K,
+        past: &Option<Past<K, V>>,
         is_too_many: bool,
     ) -> Result<Option<Self>, Refusal>
-        requires { claim.right ≡ 1 }
+        requires read { claim.right ≡ 1 }
+        requires slot { claim.tag ≡ track.now.word }
+        requires book { IfSome past.now (λ p. p.book ≡ track.now.word.book) }
         ensures pin { IfOk result (λ found. IfSome found
             (λ p. (p.key ≡ key.now) × F.fits key.now p.value)) }
+        ensures since { IfSome past.now (λ past. IfOk result (λ found. IfSome found
+            (λ p. Sees K.eq past key.now p.value p.book p.log))) }
         ensures refused { IfErr result (λ e. e ≡ Refusal.Overflow) }
     {
         let found = match claim.get() {
-            Some(kept) => {
-                if kept.key == *key {
-                    Some(Shown::of(&kept.value))
-                } else {
-                    None
-                }
-            }
+            Some(stored) => stored.confirm(key, track, past),
             None => None,
         };
         match found {
-            Some(shown) => {
+            Some((shown, seen)) => {
                 if is_too_many {
                     claim.leave();
                     return Err(Refusal::Overflow);
@@ -312,11 +445,44 @@ impl<'a, K: Eq, V, F: Fit<K, V>> Pin<'a, K, V, F> {
                     claim: Sent::of(claim),
                     asked: Shown::of(key),
                     shown,
+                    seen,
                 }))
             }
             None => {
                 claim.leave();
                 Ok(None)
+            }
+        }
+    }
+
+    // Keeps a pin of the entry of the arrival, and gives any other back.
+    fn of_stored(
+        claim: Claim<'a, Option<Stored<K, V, F>>>,
+        key: &K,
+        track: &Track<K, V>,
+        arrival: &Arrival<K, V>,
+        value: &Shown<V>,
+    ) -> Option<Self>
+        requires read { claim.right ≡ 1 }
+        requires slot { claim.tag ≡ track.now.word }
+        requires came { (l : K) × Arrives track.now.word arrival.now (entry l value.now.value) }
+        ensures pin { IfSome result (λ p. (p.key ≡ key.now) × F.fits key.now p.value) }
+        ensures value { IfSome result (λ p. p.value ≡ value.now.value) }
+    {
+        let found = match claim.get() {
+            Some(stored) => stored.recognize(key, track, arrival, value),
+            None => None,
+        };
+        match found {
+            Some(shown) => Some(Pin {
+                claim: Sent::of(claim),
+                asked: Shown::of(key),
+                shown,
+                seen: arrival.log.again(),
+            }),
+            None => {
+                claim.leave();
+                None
             }
         }
     }
@@ -328,9 +494,17 @@ impl<'a, K: Eq, V, F: Fit<K, V>> Pin<'a, K, V, F> {
         ensures fits { F.fits self.now.key result.now }
     {
         match self.claim.get() {
-            Some(kept) => &kept.value,
+            Some(stored) => &stored.kept.value,
             None => unreachable!(),
         }
+    }
+
+    /// Returns what was seen of the history.
+    #[inline(always)]
+    pub fn seen(&self) -> Log<K, V>
+        ensures { (result.book ≡ self.now.book) × (result.log ≡ self.now.log) }
+    {
+        self.seen.again()
     }
 
     /// Gives the pin back.
@@ -340,6 +514,7 @@ impl<'a, K: Eq, V, F: Fit<K, V>> Pin<'a, K, V, F> {
             claim,
             asked: _,
             shown: _,
+            seen: _,
         } = self;
         let seen = claim.leave();
         if pins_of(seen) != 1 {

@@ -1,5 +1,5 @@
 -- The entry counts no more.
-use Rattle.std.proofs.Common.{◌≡◌, ◌-◌, ◌<◌, None, length, set, sym, ap, ◌∙◌, subst, arith}
+use Rattle.std.proofs.Common.{◌≡◌, ◌<◌, None, length, set, sym, ap, ◌∙◌, subst, arith}
 use Rattle.lru_clock.specs.Seats.{seat}
 use Rattle.lru_clock.specs.SeatChanges.{UnlistsAt}
 use Rattle.lru_clock.proofs.Seating.Places.{seat_read, sum_set, part_of_sum, unlisted, set_after}

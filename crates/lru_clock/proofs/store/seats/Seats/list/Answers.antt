@@ -1,5 +1,5 @@
 -- A word that leads to the entry is put in.
-use Rattle.std.proofs.Common.{◌≡◌, ◌<◌, Some, false, true, length, set, sym, ap, ◌∙◌, subst, arith, refl, sum_by}
+use Rattle.std.proofs.Common.{◌≡◌, ◌<◌, Some, true, length, set, sym, ap, ◌∙◌, subst, arith, refl, sum_by}
 use Rattle.std.specs.Prelude.{slice_get}
 use Rattle.concurrent_lru.proofs.Probing.Fills.{Ends}
 use Rattle.lru_clock.specs.Index.{LacksWord, AreOnce, PutsIn, word_of}

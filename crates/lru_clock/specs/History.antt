@@ -1,0 +1,44 @@
+-- The history of a shard.
+use Rattle.std.specs.Prelude.{◌≡◌, ℕ, ◌+◌, ◌==◌, if◌then◌else◌, true, List, [], ◌∷◌, ◌++◌, Option, None, Some}
+use mathlib.Core.List.{IsPrefix}
+use Rattle.std.specs.List.{sum_by}
+use Rattle.logbook.specs.Pages.{Book, Named}
+use Rattle.lru_clock.specs.declared.history.Entry.{Entry}
+use Rattle.lru_clock.specs.declared.history.Event.{Event}
+
+-- the word with this key in a book
+abbrev pub named : ℕ → Book → Named
+named k b = record { tracked = true; key = k; book = b }
+
+module _ {K V : Type 0} where
+  abbrev pub entry : K → V → Entry K V
+  entry k v = record { key = k; value = v }
+
+  abbrev pub event : ℕ → ℕ → Option (Entry K V) → Event K V
+  event p n e = record { place = p; skipped = n; entry = e }
+
+  -- by how much the event raises the counter of this place
+  abbrev pub of_place : ℕ → Event K V → ℕ
+  of_place p e = if e.place == p then e.skipped + 1 else 0
+
+  -- the counter of a place, which each of its events raises
+  abbrev pub turns : ℕ → List (Event K V) → ℕ
+  turns p log = sum_by (of_place p) log
+
+  -- what the slot at a place has after these events, if it had this before them
+  abbrev pub entry_after : ℕ → Option (Entry K V) → List (Event K V) → Option (Entry K V)
+  entry_after p had [] = had
+  entry_after p had (e ∷ es) = entry_after p (if e.place == p then e.entry else had) es
+
+  -- the entry that the slot at a place has
+  abbrev pub entry_at : ℕ → List (Event K V) → Option (Entry K V)
+  entry_at p log = entry_after p None log
+
+  -- after the first of these prefixes the entry came to the slot at a place, and it is there at the
+  -- end of the second
+  pub record HasCome (p : ℕ) (since : List (Event K V)) (e : Entry K V) (log : List (Event K V)) : Type 0 where
+    pub before : List (Event K V)
+    pub later : IsPrefix since before
+    pub skipped : ℕ
+    pub came : IsPrefix (before ++ event p skipped (Some e) ∷ []) log
+    pub there : entry_at p log ≡ Some e

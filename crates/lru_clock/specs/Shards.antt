@@ -1,0 +1,19 @@
+-- The shard of a key, what clauses see of a cache, and which history is that of a key's shard.
+use Rattle.std.specs.Prelude.{◌≡◌, ℕ, ◌%◌, List, length, Some, slice_get}
+use Rattle.std.specs.declared.hash.Hasher as hasher
+use Rattle.std.specs.declared.hash.BuildHasher as builder
+use Rattle.logbook.specs.Pages.{Book}
+use Rattle.concurrent_lru.specs.Sharded.{key_number}
+
+-- the hasher, and the books of the shards' histories
+pub record CacheOf (S : Type 0) : Type 0 where
+  pub hasher : S
+  pub books : List Book
+
+-- it is at the place of the shard of a key with this number
+abbrev pub IsShardOf : {A : Type 0} → List A → ℕ → A → Type 0
+IsShardOf shards number x = slice_get shards (number % length shards) ≡ Some x
+
+-- it is the book of the history of the key's shard
+abbrev pub IsBookOf : {K S H : Type 0} → builder.Ghosts S H → hasher.Ghosts H → (K → List (List ℕ)) → CacheOf S → K → Book → Type 0
+IsBookOf build run bytes c k book = IsShardOf c.books (key_number build run bytes c.hasher k) book

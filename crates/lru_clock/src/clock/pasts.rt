@@ -1,0 +1,77 @@
+//! The calls of a caller with a `Past`, which finds nothing from before its own invalidation.
+ghost use Rattle.std.specs.Prelude.{◌≡◌, ◌≢◌, None, IfOk, IfErr, IfSome};
+ghost use mathlib.Core.List.{IsPrefix};
+ghost use Rattle.lru_clock.specs.Hits.{IsFresh};
+ghost use Rattle.lru_clock.specs.Shards.{IsBookOf};
+
+use crate::clock::{Cache, CacheHandle};
+use crate::history::Past;
+use concurrent_lru::fit::Fit;
+use concurrent_lru::sharded::Refusal;
+use std::hash::{BuildHasher, Hash};
+use std::sync::Wait;
+
+impl<K: Hash + Eq + Clone + Drop, V: Drop, R: Wait, S: BuildHasher, F: Fit<K, V>> Cache<
+    K,
+    V,
+    R,
+    S,
+    F,
+> {
+    /// Returns a new past of the key's shard. Until the first `invalidate_since` with it,
+    /// `find_since` finds what `find` would. Takes no memory.
+    pub fn past(&self, key: &K) -> Past<K, V>
+        ensures book { IsBookOf S.BuildHasher S.Hasher.Hasher K.hash_input self.now key.now
+            result.book }
+    {
+        let (shard, _) = self.route(key);
+        shard.past()
+    }
+
+    /// `find`, limited to entries that came after the last `invalidate_since` with this past.
+    ///
+    /// So an entry that was found with it before that call is not found again. A hit extends what
+    /// the past has seen, at the end of which the entry is in the cache. A copy of a past starts
+    /// out with what the past had. Reads one word more than `find`.
+    ///
+    /// Returns `Overflow` as `get` does.
+    #[inline(always)]
+    pub fn find_since(
+        &self,
+        key: &K,
+        past: &mut Past<K, V>,
+    ) -> Result<Option<CacheHandle<'_, K, V, R, F>>, Refusal>
+        requires book { IsBookOf S.BuildHasher S.Hasher.Hasher K.hash_input self.now key.now
+            past.old.book }
+        ensures key { IfOk result (λ found. IfSome found (λ h. h.key ≡ key.now)) }
+        ensures charge { IfOk result (λ found. IfSome found (λ h. h.charge ≡ None)) }
+        ensures fits { IfOk result (λ found. IfSome found (λ h. F.fits key.now h.value)) }
+        ensures never_stale { IfErr result (λ e. e ≢ Refusal.Stale) }
+        ensures book { past.new.book ≡ past.old.book }
+        ensures since { past.new.since ≡ past.old.since }
+        ensures later { IsPrefix past.old.seen past.new.seen }
+        ensures come { IfOk result (λ found. IfSome found
+            (λ h. IsFresh K.eq past.old.since past.new.seen key.now h.value)) }
+    {
+        let (shard, tag) = self.route(key);
+        match self.pin(shard, tag, key, &Some(past.again()))? {
+            Some((place, pin)) => {
+                *past = past.after(pin.seen());
+                Ok(Some(CacheHandle::new(&self.rt, shard, place, pin, None)))
+            }
+            None => Ok(None),
+        }
+    }
+
+    /// `invalidate`, after which `find_since` with this past returns only entries that come later,
+    /// for every key of the shard.
+    pub fn invalidate_since(&self, key: &K, past: &mut Past<K, V>)
+        requires book { IsBookOf S.BuildHasher S.Hasher.Hasher K.hash_input self.now key.now
+            past.old.book }
+        ensures book { past.new.book ≡ past.old.book }
+        ensures later { IsPrefix past.old.seen past.new.since }
+    {
+        let (shard, tag) = self.route(key);
+        shard.invalidate_since(&self.rt, tag, key, past);
+    }
+}

@@ -1,0 +1,481 @@
+//! The history of a shard: which entries came to which slots, and when they left. It exists in
+//! proofs alone.
+//!
+//! At run time it leaves only numbers. Each slot has a counter, which every event of the slot
+//! raises. The kit's `logbook` ties the counters of a shard to one history: whoever loads a counter
+//! knows a prefix of the history in which the counter has this value.
+//!
+//! The shard has one counter more, from which each entry that comes draws a number greater than all
+//! before, to which the counter of its slot is then raised. So this number answers two questions.
+//! As long as the counter of the slot has it, the entry is still there. And an entry came after
+//! some moment if its number is greater than what the shard's counter was at that moment.
+ghost use Rattle.std.specs.Prelude.{◌≡◌, ◌<◌, ◌≤◌, true, IfSome, IsTrue};
+ghost use mathlib.Core.List.{IsPrefix};
+ghost use Rattle.logbook.specs.Pages.{Named};
+ghost use Rattle.crossbeam_utils.specs.Padded.{padded_value};
+ghost use Rattle.lru_clock.specs.History.{turns, entry, named, HasCome};
+ghost use Rattle.lru_clock.specs.Arrivals.{Arrives};
+ghost use Rattle.lru_clock.specs.declared.history.Entry.{Entry as Entry_};
+
+use concurrent_lru::shown::Shown;
+use crossbeam_utils::CachePadded;
+use logbook::{Gain, Offer, Plain, Play, Rule, Seen, Start, Word};
+use std::marker::Model;
+
+// No counter goes further. A billion entries a second would take 70 years to get there.
+const MOST_NUMBERS: u64 = 0x4000_0000_0000_0000;
+
+/// An entry, as the history has it. Only clauses see one.
+pub struct Entry<K, V> {
+    pub key: K,
+    pub value: V,
+}
+
+/// An event of a slot: an entry comes to it, or it has no entry from then on. Only clauses see one.
+pub struct Event<K, V> {
+    pub place: u64,
+    /// How many values the slot's counter skips.
+    pub skipped: u64,
+    pub entry: Option<Entry<K, V>>,
+}
+
+/// The rule that a history keeps.
+pub struct Law;
+
+impl<K, V> Rule<Event<K, V>, u64> for Law {
+    ghost use Rattle.std.specs.Prelude.{[], ◌∷◌, None};
+    ghost use base.Fml.{ftrue};
+    ghost use Rattle.lru_clock.specs.History.{event};
+    ghost use Rattle.lru_clock.specs.HistoryRule.{IsKept};
+
+    ghost holds = { λ cells log. IsKept cells log };
+
+    ghost first = { event 1 0 None ∷ [] };
+
+    ghost hinted = { λ n log. Unit {0} };
+
+    ghost shows = { λ log. [] };
+
+    ghost keeps = { λ names log. ftrue };
+
+    ghost moves = { λ ask before after answer. Unit {0} };
+}
+
+/// No caller gains anything by a step, but to know more of the history.
+struct Nothing;
+
+impl<K, V> Gain<Event<K, V>, u64> for Nothing {
+    ghost use base.Fml.{ftrue};
+
+    ghost after = { λ names about answer. ftrue };
+}
+
+/// A prefix of a history, which was seen.
+pub type Log<K, V> = Seen<Event<K, V>, u64, Law>;
+
+/// A counter.
+pub type Count<K, V> = Word<Event<K, V>, u64, Law>;
+
+type Ask<K, V> = Offer<Event<K, V>, u64, Law, Nothing>;
+
+/// A step that reads a counter.
+struct Look;
+
+impl<K, V> Play<Event<K, V>, u64> for Look {
+    ghost use Rattle.lru_clock.specs.HistoryRule.{Looks};
+
+    ghost then = { Looks };
+}
+
+/// A step that adds an event.
+struct Add;
+
+impl<K, V> Play<Event<K, V>, u64> for Add {
+    ghost use Rattle.lru_clock.specs.HistoryRule.{Adds};
+
+    ghost then = { Adds };
+}
+
+/// A step that adds the counter of a new slot.
+struct Widen;
+
+impl<K, V> Play<Event<K, V>, u64> for Widen {
+    ghost use Rattle.lru_clock.specs.HistoryRule.{Widens};
+
+    ghost then = { Widens };
+}
+
+/// A step that adds the first event of a slot, from which on the history has its counter.
+struct Begin;
+
+impl<K, V> Play<Event<K, V>, u64> for Begin {
+    ghost use Rattle.lru_clock.specs.HistoryRule.{Begins};
+
+    ghost then = { Begins };
+}
+
+/// The slot of this counter has no entry from now on.
+struct Leaves;
+
+impl<K, V> Plain<Count<K, V>, Event<K, V>, u64> for Leaves {
+    ghost use Rattle.std.specs.Prelude.{None};
+    ghost use Rattle.lru_clock.specs.History.{event};
+
+    ghost ask = { λ word. event word.key 0 None };
+
+    ghost state = { λ word. None };
+}
+
+/// A number is drawn, two greater than the last one: when the entry that has that one leaves, it
+/// raises the counter of its slot by one.
+struct Draws;
+
+impl<K, V> Plain<Count<K, V>, Event<K, V>, u64> for Draws {
+    ghost use Rattle.std.specs.Prelude.{None};
+    ghost use Rattle.lru_clock.specs.History.{event};
+
+    ghost ask = { λ word. event word.key 1 None };
+
+    ghost state = { λ word. None };
+}
+
+/// An entry that comes to a slot, whose counter skips so many values.
+#[derive(Drop)]
+struct Coming<K, V> {
+    word: Shown<Count<K, V>>,
+    skipped: u64,
+    key: Shown<K>,
+    value: Shown<V>,
+}
+
+/// The entry comes.
+struct Comes;
+
+impl<K, V> Plain<Coming<K, V>, Event<K, V>, u64> for Comes {
+    ghost use Rattle.std.specs.Prelude.{None, Some};
+    ghost use Rattle.lru_clock.specs.History.{event, entry};
+
+    ghost ask = { λ x. event x.word.value.key x.skipped
+        (Some (entry x.key.value x.value.value)) };
+
+    ghost state = { λ x. None };
+}
+
+/// A caller's record of what it has seen of a key's shard, by which it finds nothing again that it
+/// has invalidated.
+///
+/// After an `invalidate_since` with a past, `find_since` with that past returns only entries that
+/// came after the call, whatever other callers do, and so none that was found with it before.
+///
+/// Clauses see two prefixes of the shard's history: what the caller has seen (`seen`), and after
+/// which point entries must have come for it to find them (`since`). The `book` says whose history
+/// it is. At run time a past is one number.
+#[derive(Drop)]
+pub struct Past<K, V> {
+    // At least as great as any that was drawn in `since`.
+    number: u64,
+    since: Log<K, V>,
+    seen: Log<K, V>,
+}
+
+impl<K, V> Model for Past<K, V> {
+    ghost use Rattle.std.specs.Prelude.{◌≡◌, ◌≤◌};
+    ghost use mathlib.Core.List.{IsPrefix};
+    ghost use Rattle.lru_clock.specs.History.{turns};
+    ghost use Rattle.lru_clock.specs.Pins.{PastOf};
+
+    ghost Value = { PastOf K V };
+
+    ghost view = { λ p. record { book = p.seen.book; since = p.since.log; seen = p.seen.log } };
+
+    ghost invariant = { λ p. (p.since.book ≡ p.seen.book) × IsPrefix p.since.log p.seen.log
+        × (turns 1 p.since.log ≤ p.number) };
+}
+
+impl<K, V> Past<K, V> {
+    /// Returns a copy.
+    pub fn again(&self) -> Self
+        ensures { result ≡ self.now }
+    {
+        Past {
+            number: self.number,
+            since: self.since.again(),
+            seen: self.seen.again(),
+        }
+    }
+
+    /// Returns what has been seen.
+    #[inline(always)]
+    pub(crate) fn seen(&self) -> Log<K, V>
+        ensures { (result.book ≡ self.now.book) × (result.log ≡ self.now.seen) }
+    {
+        self.seen.again()
+    }
+
+    /// Returns a past with the same `since`, for which more was seen.
+    #[inline(always)]
+    pub(crate) fn after(&self, seen: Log<K, V>) -> Self
+        requires book { seen.book ≡ self.now.book }
+        requires later { IsPrefix self.now.seen seen.log }
+        ensures book { result.book ≡ self.now.book }
+        ensures since { result.since ≡ self.now.since }
+        ensures seen { result.seen ≡ seen.log }
+    {
+        Past {
+            number: self.number,
+            since: self.since.again(),
+            seen,
+        }
+    }
+
+    /// Returns what has then been seen, if the entry of this arrival came after `since` and is
+    /// still in its slot.
+    #[inline(always)]
+    pub(crate) fn find(&self, track: &Track<K, V>, arrival: &Arrival<K, V>) -> Option<Log<K, V>>
+        requires book { self.now.book ≡ track.now.word.book }
+        requires arrival { arrival.now.log.book ≡ track.now.word.book }
+        ensures book { IfSome result (λ seen. seen.book ≡ self.now.book) }
+        ensures later { IfSome result (λ seen. IsPrefix self.now.seen seen.log) }
+        ensures came { IfSome result (λ seen. (e : Entry_ K V)
+            → Arrives track.now.word arrival.now e
+            → HasCome track.now.word.key self.now.since e seen.log) }
+    {
+        let (number, seen) = track.look(&self.seen);
+        if number != arrival.number || arrival.number <= self.number {
+            return None;
+        }
+        let mut both = seen.again();
+        both.learn(&arrival.log);
+        Some(seen)
+    }
+}
+
+/// How an entry came to its slot: the number that it had drawn, and the prefix of the history that
+/// ends with its coming.
+#[derive(Drop)]
+pub struct Arrival<K, V> {
+    number: u64,
+    pub(crate) log: Log<K, V>,
+}
+
+impl<K, V> Arrival<K, V> {
+    /// Returns a copy.
+    pub(crate) fn again(&self) -> Self
+        ensures { result ≡ self.now }
+    {
+        Arrival {
+            number: self.number,
+            log: self.log.again(),
+        }
+    }
+
+    /// With a past, does what `Past::find` does. Without one, reads nothing, and returns the
+    /// history up to this arrival.
+    #[inline(always)]
+    pub(crate) fn confirm(
+        &self,
+        track: &Track<K, V>,
+        past: &Option<Past<K, V>>,
+    ) -> Option<Log<K, V>>
+        requires arrival { self.now.log.book ≡ track.now.word.book }
+        requires book { IfSome past.now (λ p. p.book ≡ track.now.word.book) }
+        ensures book { IfSome past.now (λ past. IfSome result (λ seen. seen.book ≡ past.book)) }
+        ensures later { IfSome past.now
+            (λ past. IfSome result (λ seen. IsPrefix past.seen seen.log)) }
+        ensures came { IfSome past.now (λ past. IfSome result (λ seen. (e : Entry_ K V)
+            → Arrives track.now.word self.now e
+            → HasCome track.now.word.key past.since e seen.log)) }
+    {
+        match past {
+            Some(past) => past.find(track, self),
+            None => Some(self.log.again()),
+        }
+    }
+
+    /// Returns whether two arrivals at one slot are of the same entry.
+    pub(crate) fn is(&self, other: &Self) -> bool
+        requires { self.now.log.book ≡ other.now.log.book }
+        ensures { IsTrue result → (w : Named) (e d : Entry_ K V)
+            → Arrives w self.now e → Arrives w other.now d → e ≡ d }
+    {
+        let mut both = self.log.again();
+        both.learn(&other.log);
+        self.number == other.number
+    }
+}
+
+/// A history, the word by which slots are added to it, and the counter from which entries draw
+/// their numbers.
+#[derive(Drop)]
+pub struct Chronicle<K, V> {
+    head: Count<K, V>,
+    // Each entry that comes writes it, while hits read what would lie beside it.
+    numbers: CachePadded<Track<K, V>>,
+    pub first: Log<K, V>,
+    ghost head_is: { head ≡ named 0 first.book },
+    ghost numbers_is: { (padded_value numbers).word ≡ named 1 first.book },
+    ghost one: { turns 1 first.log ≡ 1 },
+}
+
+impl<K, V> Chronicle<K, V> {
+    /// Opens a history without slots.
+    pub fn new() -> Self {
+        let (first, mut head, mut numbers) = Seen::open(Start::alone(), 0, 1);
+        Chronicle {
+            head: Word::tracked(0, &mut head),
+            numbers: CachePadded::new(Track {
+                word: Word::tracked(1, &mut numbers),
+                begun: first.again(),
+            }),
+            first,
+        }
+    }
+
+    /// Returns a past for which nothing was seen, and after which every entry came.
+    #[inline(always)]
+    pub fn past(&self) -> Past<K, V>
+        ensures book { result.book ≡ self.now.first.book }
+    {
+        Past {
+            number: 1,
+            since: self.first.again(),
+            seen: self.first.again(),
+        }
+    }
+
+    /// Draws a number, and returns it with what has then been seen.
+    ///
+    /// Returns `None` if another caller draws one at the same time, or if no number is left.
+    pub fn draw(&self) -> Option<(u64, Log<K, V>)>
+        ensures book { IfSome result (λ drawn. drawn.1.book ≡ self.now.first.book) }
+        ensures drawn { IfSome result (λ drawn. drawn.0 ≤ turns 1 drawn.1.log) }
+    {
+        self.numbers.draw(&self.first)
+    }
+
+    /// Returns a past whose `since` is the history up to this call, with all that this one has
+    /// seen.
+    pub fn renew(&self, past: &Past<K, V>) -> Past<K, V>
+        requires book { past.now.book ≡ self.now.first.book }
+        ensures book { result.book ≡ past.now.book }
+        ensures later { IsPrefix past.now.seen result.since }
+    {
+        let (number, since) = self.numbers.look(&past.seen);
+        let seen = since.again();
+        Past {
+            number,
+            since,
+            seen,
+        }
+    }
+
+    /// Adds a slot without an entry, and returns its track.
+    pub fn begin(&self) -> Track<K, V>
+        ensures book { result.word.book ≡ self.now.first.book }
+    {
+        let mut seen = self.first.again();
+        let mut pen = seen.no_pen();
+        let mut ask: Ask<K, V> = seen.plain::<Nothing, Count<K, V>, Leaves>(&self.head);
+        self.head
+            .compare_exchange::<Widen, Nothing>(0, 0, &mut seen, &mut ask, &mut pen);
+        let word = Word::tracked(1, &mut pen);
+        let mut ask: Ask<K, V> = seen.plain::<Nothing, Count<K, V>, Leaves>(&word);
+        self.head
+            .compare_exchange::<Begin, Nothing>(0, 0, &mut seen, &mut ask, &mut pen);
+        Track { word, begun: seen }
+    }
+}
+
+/// The counter of a slot, with a prefix of the history that has an event of the slot.
+#[derive(Drop)]
+pub struct Track<K, V> {
+    pub word: Count<K, V>,
+    begun: Log<K, V>,
+    pub ghost tracked: { word.tracked ≡ true },
+    pub ghost book: { begun.book ≡ word.book },
+    pub ghost begins: { 0 < turns word.key begun.log },
+}
+
+impl<K, V> Track<K, V> {
+    /// Reads the counter, and returns its value with what has then been seen.
+    #[inline(always)]
+    pub fn look(&self, past: &Log<K, V>) -> (u64, Log<K, V>)
+        requires book { past.now.book ≡ self.now.word.book }
+        ensures book { result.1.book ≡ past.now.book }
+        ensures later { IsPrefix past.now.log result.1.log }
+        ensures begun { 0 < turns self.now.word.key result.1.log }
+        ensures found { result.0 ≡ turns self.now.word.key result.1.log }
+    {
+        let mut seen = past.again();
+        seen.learn(&self.begun);
+        let mut ask: Ask<K, V> = seen.plain::<Nothing, Count<K, V>, Leaves>(&self.word);
+        let found = self.word.load::<Look, Nothing>(&mut seen, &mut ask);
+        (found, seen)
+    }
+
+    // Draws a number.
+    fn draw(&self, past: &Log<K, V>) -> Option<(u64, Log<K, V>)>
+        requires book { past.now.book ≡ self.now.word.book }
+        ensures book { IfSome result (λ drawn. drawn.1.book ≡ past.now.book) }
+        ensures drawn { IfSome result (λ drawn. drawn.0 ≡ turns self.now.word.key drawn.1.log) }
+    {
+        let (last, mut seen) = self.look(past);
+        if last >= MOST_NUMBERS {
+            return None;
+        }
+        let mut ask: Ask<K, V> = seen.plain::<Nothing, Count<K, V>, Draws>(&self.word);
+        let mut pen = seen.no_pen();
+        let found = self
+            .word
+            .compare_exchange::<Add, Nothing>(last, last + 2, &mut seen, &mut ask, &mut pen);
+        if found == last {
+            Some((last + 2, seen))
+        } else {
+            None
+        }
+    }
+
+    /// An entry comes to the slot, with a number that was drawn in what was seen.
+    ///
+    /// Returns `None` if the counter has reached the number, or if another caller changes it at the
+    /// same time.
+    pub fn come(&self, number: u64, seen: &Log<K, V>, key: &K, value: &V) -> Option<Arrival<K, V>>
+        requires book { seen.now.book ≡ self.now.word.book }
+        requires drawn { number ≤ turns 1 seen.now.log }
+        ensures arrives { IfSome result
+            (λ arrival. Arrives self.now.word arrival (entry key.now value.now)) }
+    {
+        let (last, mut log) = self.look(seen);
+        if last >= number {
+            return None;
+        }
+        let coming = Coming {
+            word: Shown::of(&self.word),
+            skipped: number - last - 1,
+            key: Shown::of(key),
+            value: Shown::of(value),
+        };
+        let mut ask: Ask<K, V> = log.plain::<Nothing, Coming<K, V>, Comes>(&coming);
+        let mut pen = log.no_pen();
+        let found = self
+            .word
+            .compare_exchange::<Add, Nothing>(last, number, &mut log, &mut ask, &mut pen);
+        if found == last {
+            Some(Arrival { number, log })
+        } else {
+            None
+        }
+    }
+
+    /// The slot has no entry from now on, unless another caller changes its counter at the same
+    /// time.
+    pub fn leave(&self) {
+        let (last, mut seen) = self.look(&self.begun);
+        if last < MOST_NUMBERS {
+            let mut ask: Ask<K, V> = seen.plain::<Nothing, Count<K, V>, Leaves>(&self.word);
+            let mut pen = seen.no_pen();
+            self.word
+                .compare_exchange::<Add, Nothing>(last, last + 1, &mut seen, &mut ask, &mut pen);
+        }
+    }
+}
