@@ -168,8 +168,8 @@ class Evicted {
 //
 // The value that the library stores is the address of a Node, which has a member `Node* next` for
 // the list of evicted nodes. Keys are passed as Calls<Key>::hashed returns them, which needs no
-// lock. Each member calls the function of lru.h with its name, and moves what
-// that evicted to `evicted`.
+// lock. Each member calls the function of lru.h with its name, and moves what that evicted to
+// `evicted`.
 template <class Node, class Key>
 class Core {
   static_assert(std::is_same_v<Key, std::string_view> || std::is_same_v<Key, Words>,

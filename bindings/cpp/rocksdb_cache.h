@@ -283,14 +283,10 @@ class BasicRocksDBCache : public rocksdb::Cache {
     // Adds an entry and pins it, and returns whether it takes the place of another one of the key.
     // If the library refuses it, the entry is not in the cache.
     bool Add(const HashedKey& hashed, Entry* entry) {
-      // Most keys have no entry, and are looked up only once.
       lru_told told = shard_.core.begin(hashed, entry->charge, &evicted_);
-      bool replaces = false;
-      if (told.code == LRU_HIT || told.code == LRU_OVERFLOW) {
-        if (told.code == LRU_HIT) Release(Core::node_of(told.value), false);
-        replaces = Detach(hashed, entry->key());
-        told = shard_.core.begin(hashed, entry->charge, &evicted_);
-      }
+      // Most keys have no entry, and are looked up only once.
+      const bool replaces = DetachFound(told, hashed, entry->key());
+      if (replaces) told = shard_.core.begin(hashed, entry->charge, &evicted_);
       if (told.code == LRU_MAKE) {
         shard_.core.ready(told.pin, entry);
         entry->pin = detail::copy_of(told.pin);
@@ -317,19 +313,7 @@ class BasicRocksDBCache : public rocksdb::Cache {
     // Makes the key find no entry, and returns whether it found one. One that is not pinned leaves.
     bool Detach(const HashedKey& hashed, const rocksdb::Slice& key) {
       // If the key is longer than any before and there is no memory for a copy, it has no entry.
-      const lru_told told = shard_.core.get(hashed);
-      if (told.code != LRU_HIT && told.code != LRU_OVERFLOW) return false;
-      if (told.code == LRU_HIT) {
-        SetDetached(Core::node_of(told.value));
-      } else {
-        // The entry has 2^32 - 1 handles, and is not told.
-        ForEachFound([&](Entry& entry) {
-          if (entry.key() == key) SetDetached(&entry);
-        });
-      }
-      shard_.core.invalidate(hashed, &evicted_);
-      if (told.code == LRU_HIT) Release(Core::node_of(told.value), false);
-      return true;
+      return DetachFound(shard_.core.get(hashed), hashed, key);
     }
 
     // Evicts the entry of a key if it is not pinned.
@@ -364,6 +348,22 @@ class BasicRocksDBCache : public rocksdb::Cache {
     void SetDetached(Entry* entry) {
       entry->is_detached = true;
       shard_.detached++;
+    }
+
+    // Detach, if this is what the library answered to a get or a begin of the key.
+    bool DetachFound(const lru_told& told, const HashedKey& hashed, const rocksdb::Slice& key) {
+      if (told.code != LRU_HIT && told.code != LRU_OVERFLOW) return false;
+      if (told.code == LRU_HIT) {
+        SetDetached(Core::node_of(told.value));
+      } else {
+        // The entry has 2^32 - 1 handles, and is not told.
+        ForEachFound([&](Entry& entry) {
+          if (entry.key() == key) SetDetached(&entry);
+        });
+      }
+      shard_.core.invalidate(hashed, &evicted_);
+      if (told.code == LRU_HIT) Release(Core::node_of(told.value), false);
+      return true;
     }
 
     Shard& shard_;

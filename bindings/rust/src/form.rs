@@ -139,6 +139,15 @@ pub struct HashedBytes<'a> {
     hash: u64,
 }
 
+impl<'a> HashedBytes<'a> {
+    fn of(bytes: &'a [u8], seed: u64) -> HashedBytes<'a> {
+        HashedBytes {
+            bytes,
+            hash: hash_of(bytes, seed),
+        }
+    }
+}
+
 impl sealed::Calls for Bytes {
     type Written<'a> = &'a [u8];
     type Hashed<'a> = HashedBytes<'a>;
@@ -151,10 +160,7 @@ impl sealed::Calls for Bytes {
     }
 
     fn hashed<'a>(key: &'a &[u8], seed: u64) -> HashedBytes<'a> {
-        HashedBytes {
-            bytes: key,
-            hash: hash_of(key, seed),
-        }
+        HashedBytes::of(key, seed)
     }
 
     unsafe fn begin(
@@ -224,10 +230,7 @@ impl sealed::Calls for CowBytes {
     }
 
     fn hashed<'a>(key: &'a Cow<'_, [u8]>, seed: u64) -> HashedBytes<'a> {
-        HashedBytes {
-            bytes: key,
-            hash: hash_of(key, seed),
-        }
+        HashedBytes::of(key, seed)
     }
 
     unsafe fn begin(
