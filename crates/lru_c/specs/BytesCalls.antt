@@ -41,8 +41,8 @@ abbrev pub BeginsByKey : Cache Key ℕ → Bool → List ℕ → ℕ → ℕ →
 BeginsByKey old strict bytes hash charge t gone new =
     MatchBool (charge == 0) ((t ≡ bare code.no_charge) × IsSame old gone new) (tells.AsksOf bytes_eq (IsKeyOf bytes hash) old (λ key. begin_by strict key charge) t gone new)
 
--- The call took one step with the key of these bytes and this hash, returned its outcome and counted
--- it, with the same counts for every key; or memory was refused, and nothing changed.
+-- The call took one step with the key of these bytes and this hash, returned its outcome and
+-- counted it, with the same counts for every key; or memory was refused, and nothing changed.
 abbrev pub TakesStepByKey : BytesCache → (Key → Request Key ℕ) → List ℕ → ℕ → LruTold → Entries → BytesCache → Type 0
 TakesStepByKey o r bytes hash t gone n = tells.AsksOf bytes_eq (IsKeyOf bytes hash) o.state.cache r t gone n.state.cache × ((key : Key) → n.counts ≡ counted (r key) t o.counts)
 

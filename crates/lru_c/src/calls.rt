@@ -154,8 +154,8 @@ pub extern "C" fn lru_cache_repin(cache: &mut LruCache, pin: LruPin) -> LruTold
 }
 
 /// Releases a pin of a ready entry. With its last pin the entry becomes the newest idle one, or is
-/// evicted if it is detached. What is evicted is put into a chain, oldest first. Takes the fields of
-/// the pin.
+/// evicted if it is detached. What is evicted is put into a chain, oldest first. Takes the fields
+/// of the pin.
 ///
 /// Returns `STALE` if no held and ready entry has the stamp, `CLOSED` if the cache or chain is not
 /// open, and `NOT_EMPTY` if the chain has entries; nothing changes then.

@@ -62,8 +62,8 @@ impl<C: Cached<CountedValue>> StressTarget for CheckedCache<C> {
     }
 }
 
-/// What is checked after all workers have ended. It has no associated type, since the checker covers
-/// no thread that is sent a type parameter with one.
+/// What is checked after all workers have ended. It has no associated type, since the checker
+/// covers no thread that is sent a type parameter with one.
 pub trait Finish {
     /// Checks the cache, and returns what was counted. Its total may be at most `allowed`.
     ///
