@@ -14,6 +14,9 @@ from html import escape
 from pathlib import Path
 from typing import NamedTuple
 
+sys.dont_write_bytecode = True
+from measured import least_of, ratios_of  # noqa: E402
+
 # The width of a picture, of the numbers left of its lines, and of the labels right of them.
 WIDTH, LEFT, RIGHT = 860, 64, 270
 
@@ -127,25 +130,6 @@ def lines_in(paths):
     for path in paths:
         for line in Path(path).read_text("utf-8").splitlines():
             yield line.split()
-
-
-def least_of(paths):
-    """The least nanoseconds of each (system, workload, entries, threads)."""
-    least = {}
-    for words in lines_in(paths):
-        if len(words) == 5 and words[0] != "#":
-            kind = (words[0], words[1], int(words[2]), int(words[3]))
-            least[kind] = min(float(words[4]), least.get(kind, math.inf))
-    return least
-
-
-def ratios_of(paths):
-    """The last hit ratio of each (system, workload, entries, threads)."""
-    ratios = {}
-    for words in lines_in(paths):
-        if len(words) == 7 and words[:2] == ["#", "hits"]:
-            ratios[words[2], words[3], int(words[4]), int(words[5])] = float(words[6])
-    return ratios
 
 
 def lines_of(points):
@@ -335,7 +319,8 @@ def picture(title, charts):
 def main():
     if len(sys.argv) < 3:
         sys.exit(__doc__)
-    folder, least, ratios = Path(sys.argv[1]), least_of(sys.argv[2:]), ratios_of(sys.argv[2:])
+    folder, lines = Path(sys.argv[1]), list(lines_in(sys.argv[2:]))
+    least, ratios = least_of(lines), ratios_of(lines)
     pictures = {
         "speed-threads.svg": ("Time of a call by threads", [by_threads(least)]),
         "speed-entries.svg": ("Time of a call by entries, with one thread and one lock", [
