@@ -73,10 +73,6 @@ module _ {K V : Type 0} where
   abbrev pub LacksKey : (K → K → Bool) → Slots K V → ℕ → K → Type 0
   LacksKey E s hash key = (slot : ℕ) (c : NodeCell K V) → cell_at (cells_of s) slot ≡ Some c → (entry_of c.value).detached ≡ false → hash_of c.value ≡ hash → E (entry_of c.value).key key ≡ false
 
-  -- the node in the slot has an equal key and is not detached
-  abbrev pub HasKeyIn : (K → K → Bool) → Slots K V → ℕ → K → Type 0
-  HasKeyIn E s slot key = (c : NodeCell K V) × (cell_at (cells_of s) slot ≡ Some c) × ((entry_of c.value).detached ≡ false) × (E (entry_of c.value).key key ≡ true)
-
-  -- the node in the slot has this stamp
-  abbrev pub HasStampIn : Slots K V → ℕ → ℕ → Type 0
-  HasStampIn s slot stamp = (c : NodeCell K V) × (cell_at (cells_of s) slot ≡ Some c) × ((entry_of c.value).stamp ≡ stamp)
+  -- the node n is in the slot
+  abbrev pub IsNodeIn : Slots K V → ℕ → Node K V → Type 0
+  IsNodeIn s slot n = (c : NodeCell K V) × (cell_at (cells_of s) slot ≡ Some c) × (n ≡ c.value)

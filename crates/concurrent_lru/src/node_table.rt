@@ -2,10 +2,10 @@
 //! a slab of pointers to them and a table from the hashes of their keys. No key is hashed and no
 //! charge added here. What a node stores as its value is a parameter.
 // What a hit calls is inlined, so that results stay in registers; rare paths are left as calls.
-ghost use Rattle.std.specs.Prelude.{◌≡◌, ℕ, ◌+◌, ◌<◌, ◌≤◌, ◌==◌, Some, None, [], ◌∷◌, ◌++◌, filter, not, IsSome, OnOk, OnErr, IfOk, IfErr, IfSome, IsTrue, IsFalse, slice_get, nat_eq};
+ghost use Rattle.std.specs.Prelude.{◌≡◌, ◌≢◌, ℕ, ◌+◌, ◌<◌, ◌≤◌, ◌^◌, ◌==◌, Some, None, [], ◌∷◌, ◌++◌, filter, not, IsSome, OnOk, OnErr, IfOk, IfErr, IfSome, IsTrue, IsFalse, MatchOption, slice_get, nat_eq};
 ghost use Rattle.std.specs.List.{IsDistinct};
 ghost use Rattle.std.specs.FinMap as map;
-ghost use Rattle.concurrent_lru.specs.NodeTable.{entry_of, hash_of, chain_of, value_of, update_at, entry_with_pins, entry_detached, entry_with_phase, pinned_once, new_entry, HasValue, GivesValue, ContainsNode, ContainsIdle, LacksIdle, HasStampAt, IsNewStamp, FindsStamp, FindsKey, KeepsNodes};
+ghost use Rattle.concurrent_lru.specs.NodeTable.{entry_of, hash_of, chain_of, value_of, update_at, entry_with_pins, entry_detached, entry_with_phase, new_entry, HasCharge, HasValue, GivesValue, ContainsNode, ContainsIdle, LacksIdle, GetsNode, HasStampAt, IsNewStamp, FindsStamp, HasKey, IsNewKey, KeepsNodes};
 
 mod links;
 mod memory;
@@ -232,6 +232,15 @@ impl Model for Place {
     ghost inverse = { λ n. record { slot = n } };
 }
 
+// What a lookup found.
+#[derive(Drop)]
+pub(crate) struct Found<'a, K, V> {
+    pub place: Place,
+    // The cursor with which the next calls find the node again.
+    pub near: Cursor,
+    pub node: &'a Node<K, V>,
+}
+
 /// Nodes by place, and the places of the idle ones, oldest first.
 ///
 /// Clauses see a map from places to entries, the list of idle places, `spare`, the number of
@@ -362,29 +371,37 @@ impl<K: Drop, V: Drop> Nodes<K, V> {
         self.order.slots.contains(place.slot) && self.order.slots.node(place.slot).stamp == stamp
     }
 
-    // Returns the place of the node with an equal key, among those with this hash that are not
-    // detached, and the cursor with which the next calls find it again.
+    // Returns the node with an equal key, among those with this hash that are not detached.
     #[inline(always)]
-    pub(crate) fn find_key(&self, hash: u64, key: &K) -> Option<(Place, Cursor)>
+    pub(crate) fn find_key(&self, hash: u64, key: &K) -> Option<Found<'_, K, V>>
     where
         K: Eq,
-        ensures { FindsKey K.eq self.now hash key.now result }
+        ensures found { MatchOption result (IsNewKey K.eq self.now hash key.now)
+            (λ found. HasKey K.eq found.node.now key.now) }
+        ensures node { IfSome result (λ found. GetsNode self.now found.place found.node.now) }
     {
-        match self.order.slots.find_key(hash, key) {
-            Some((slot, near)) => Some((Place { slot }, near)),
-            None => None,
-        }
+        self.order.slots.find_key(hash, key)
     }
 
-    // Returns the place of a node with this stamp, if it is among those with this hash that are not
-    // detached, and the cursor with which the next calls find it again.
+    // Returns a node with this stamp, if it is among those with this hash that are not detached.
     #[inline(always)]
-    pub(crate) fn find_stamp_by_hash(&self, hash: u64, stamp: u64) -> Option<(Place, Cursor)>
-        ensures { IfSome result (λ r. HasStampAt self.now r.0 stamp) }
+    pub(crate) fn find_stamp_by_hash(&self, hash: u64, stamp: u64) -> Option<Found<'_, K, V>>
+        ensures found { IfSome result (λ found. (entry_of found.node.now).stamp ≡ stamp) }
+        ensures node { IfSome result (λ found. GetsNode self.now found.place found.node.now) }
     {
-        match self.order.slots.find_stamp(hash, stamp) {
-            Some((slot, near)) => Some((Place { slot }, near)),
-            None => None,
+        self.order.slots.find_stamp(hash, stamp)
+    }
+
+    // Returns the node at a place as a lookup does, with a cursor that leads nowhere.
+    pub(crate) fn found(&self, place: Place) -> Found<'_, K, V>
+        requires { ContainsNode self.now place }
+        ensures place { result.place ≡ place }
+        ensures node { GetsNode self.now result.place result.node.now }
+    {
+        Found {
+            place,
+            near: Cursor::nowhere(),
+            node: self.node(place),
         }
     }
 
@@ -410,18 +427,6 @@ impl<K: Drop, V: Drop> Nodes<K, V> {
         self.order.slots.node(place.slot)
     }
 
-    // The calls named `.._near` do what the others do. Their lookup begins at a cursor, which may
-    // be any: one that leads to the node saves them a read of the slab.
-
-    #[inline(always)]
-    pub(crate) fn node_near(&self, place: Place, near: Cursor) -> &Node<K, V>
-        requires { ContainsNode self.now place }
-        ensures entry { map.get self.now.nodes place ≡ Some (entry_of result.now) }
-        ensures alone { chain_of result.now ≡ [] }
-    {
-        self.order.slots.node_near(place.slot, near)
-    }
-
     /// Sets the number of pins of a node. Takes no memory.
     pub fn set_pins(&mut self, place: Place, pins: u32)
         requires { ContainsNode self.old place }
@@ -433,6 +438,10 @@ impl<K: Drop, V: Drop> Nodes<K, V> {
     {
         self.set_pins_near(place, Cursor::nowhere(), pins);
     }
+
+    // The calls named `.._near` do what the others do. Their lookup, as that of all calls with a
+    // cursor, begins at the cursor, which may be any: one that leads to the node saves them a read
+    // of the slab.
 
     pub(crate) fn set_pins_near(&mut self, place: Place, near: Cursor, pins: u32)
         requires { ContainsNode self.old place }
@@ -495,20 +504,23 @@ impl<K: Drop, V: Drop> Nodes<K, V> {
         self.work.tick();
     }
 
-    // Removes the pins of a node and makes it the newest idle one. Takes no memory.
+    // Removes the pins of a node and makes it the newest idle one. Returns its charge. Takes no
+    // memory.
     #[inline(always)]
-    pub(crate) fn make_idle(&mut self, place: Place, near: Cursor)
+    pub(crate) fn make_idle(&mut self, place: Place, near: Cursor) -> u64
         requires within { ContainsNode self.old place }
         requires held { LacksIdle self.old place }
         ensures nodes { self.new.nodes ≡ update_at (entry_with_pins 0) self.old.nodes place }
         ensures hashes { self.new.hashes ≡ self.old.hashes }
         ensures idle { self.new.idle ≡ self.old.idle ++ place ∷ [] }
+        ensures charge { HasCharge (map.get self.old.nodes place) result }
         ensures spare { self.old.spare ≤ self.new.spare }
         ensures work { self.new.work ≡ self.old.work + 1 }
         ensures looks { self.new.looks ≤ self.old.looks + 1 }
     {
-        self.order.make_idle(place.slot, near);
+        let charge = self.order.make_idle(place.slot, near);
         self.work.tick();
+        charge
     }
 
     /// Removes a node from the idle order; it stays among the nodes. Takes no memory.
@@ -571,25 +583,34 @@ impl<K: Drop, V: Drop> Nodes<K, V> {
 }
 
 impl<K: Drop, V: Stores + Drop> Nodes<K, V> {
-    // Removes a ready node from the idle order, gives it one pin, and returns its value. Takes no
-    // memory except for the copy of the value. Returns `Memory` if that is refused, and then
-    // nothing changed.
+    // Pins a ready node, which has `pins` pins, once more. An idle one leaves the idle order.
+    // Returns its value and its charge. Takes no memory except for the copy of the value. Returns
+    // `Memory` if that is refused, and then nothing changed.
     #[inline(always)]
-    pub(crate) fn revive(&mut self, place: Place, near: Cursor) -> Result<V, Refusal>
-        requires idle { ContainsIdle self.old place }
+    pub(crate) fn pin(&mut self, place: Place, near: Cursor, pins: u32) -> Result<(V, u64), Refusal>
+        requires within { ContainsNode self.old place }
+        requires idle { pins ≡ 0 → ContainsIdle self.old place }
         requires ready { HasValue (map.get self.old.nodes place) }
+        requires room { pins + 1 < 2 ^ 32 }
         ensures value { GivesValue (map.get self.old.nodes place) result }
-        ensures nodes { OnOk result (self.new.nodes ≡ pinned_once self.old.nodes place) }
-        ensures idle { OnOk result (self.new.idle ≡ filter (λ p. not (p == place)) self.old.idle) }
+        ensures nodes { OnOk result (self.new.nodes
+            ≡ update_at (entry_with_pins (pins + 1)) self.old.nodes place) }
+        ensures revived { OnOk result (pins ≡ 0
+            → (self.new.idle ≡ filter (λ p. not (p == place)) self.old.idle)
+            × (self.new.work ≡ self.old.work + 1)) }
+        ensures held { OnOk result (pins ≢ 0 → (self.new.idle ≡ self.old.idle)
+            × (self.new.work ≡ self.old.work)) }
         ensures hashes { self.new.hashes ≡ self.old.hashes }
-        ensures work { OnOk result (self.new.work ≡ self.old.work + 1) }
         ensures same { OnErr result (KeepsNodes self.old self.new) }
         ensures refusal { IfErr result (λ e. e ≡ Refusal.Memory) }
         ensures spare { self.old.spare ≤ self.new.spare }
         ensures looks { self.new.looks ≤ self.old.looks + 1 }
     {
-        let value = self.order.revive(place.slot, near)?;
+        let pinned = self.order.pin(place.slot, near, pins)?;
+        if pins > 0 {
+            return Ok(pinned);
+        }
         self.work.tick();
-        Ok(value)
+        Ok(pinned)
     }
 }

@@ -4,12 +4,12 @@
 //!
 //! A key is hashed by `Table::hash_of`, once in a call of the core, which passes the hash on with
 //! the key.
-ghost use Rattle.std.specs.Prelude.{◌≡◌, ◌≢◌, ℕ, ◌+◌, ◌<◌, ◌≤◌, ◌^◌, Some, None, [], IsSome, OnOk, OnErr, IfOk, IfErr, MatchOption, true, cond, nat_eq};
+ghost use Rattle.std.specs.Prelude.{◌≡◌, ◌≢◌, ℕ, ◌+◌, ◌<◌, ◌≤◌, ◌^◌, Some, None, [], IsSome, OnOk, OnErr, IfOk, IfErr, IfSome, MatchOption, true, cond, nat_eq};
 ghost use Rattle.concurrent_lru.specs.Cache.{count_of, pinned_of, CopiesAreEqual};
 ghost use Rattle.std.specs.FinMap as map;
-ghost use Rattle.concurrent_lru.specs.NodeTable.{Entry, entry_of, hash_of as hash_in, new_entry, chain_of, phase_of, value_of, ContainsNode, LacksIdle, IsNewStamp};
+ghost use Rattle.concurrent_lru.specs.NodeTable.{Entry, entry_of, hash_of as hash_in, new_entry, chain_of, phase_of, ContainsNode, LacksIdle, IsNewStamp};
 ghost use Rattle.concurrent_lru.specs.Representation.{as_idle, GetsEntry};
-ghost use Rattle.concurrent_lru.specs.Entries.{cache_of, charges_of, ContainsNoStamp, ContainsNoKey, IsPlaceOfKey, ContainsPlace, ContainsIdleAt, ContainsHeldAt, ContainsFoundAt, GetsAt, IsReadyAt, Rewrites, RevivesAt, RestsAt, AddsOverHeld, AddsOverIdle, pins_at, value_at, held_with_pins, new_held};
+ghost use Rattle.concurrent_lru.specs.Entries.{cache_of, charges_of, ContainsNoStamp, ContainsNoKey, IsPlaceOfKey, ContainsPlace, ContainsIdleAt, ContainsHeldAt, ContainsFoundAt, GetsAt, GetsNodeAt, IsReadyAt, Rewrites, RevivesAt, RestsAt, AddsOverHeld, AddsOverIdle, pins_at, value_at, held_with_pins, new_held};
 ghost use Rattle.concurrent_lru.specs.KeyHashes.{IsHashOf};
 ghost use Rattle.concurrent_lru.specs.Reads.{RenewsAt};
 ghost use Rattle.concurrent_lru.specs.StampIndex.{keeps_map, mapped_place, HasRoomFor};
@@ -24,7 +24,7 @@ mod word_hasher;
 
 pub use self::key_hashes::{KeyHash, seed_of_shard};
 pub use self::spot::{Hint, Spot};
-use crate::node_table::{Cursor, Node, Nodes, Phase, Place, Refusal};
+use crate::node_table::{Cursor, Found, Node, Nodes, Phase, Place, Refusal};
 use crate::share::Stores;
 use crate::table::stamp_index::StampIndex;
 use std::alloc::Global;
@@ -139,12 +139,13 @@ impl<K: Hash + Eq + Clone, V: Drop> Table<K, V> {
         self.total - self.idle_charge
     }
 
-    /// Returns the place of the entry with this stamp, and the cursor with which the next calls
-    /// find it again. The lookup begins with the spot's hint, which may be any.
+    /// Returns the node of the entry with this stamp. The lookup begins with the spot's hint, which
+    /// may be any.
     #[inline(always)]
-    pub fn find_stamp(&self, spot: &Spot) -> Option<(Place, Cursor)>
-        ensures { MatchOption result (ContainsNoStamp self.now spot.now.stamp)
-            (λ r. map.get self.now.stamps r.0 ≡ Some spot.now.stamp) }
+    pub fn find_stamp(&self, spot: &Spot) -> Option<Found<'_, K, V>>
+        ensures found { MatchOption result (ContainsNoStamp self.now spot.now.stamp)
+            (λ found. map.get self.now.stamps found.place ≡ Some spot.now.stamp) }
+        ensures node { IfSome result (λ found. GetsNodeAt self.now found.place found.node.now) }
     {
         match self.nodes.find_stamp_by_hash(spot.hint.hash, spot.stamp) {
             Some(found) => Some(found),
@@ -152,18 +153,19 @@ impl<K: Hash + Eq + Clone, V: Drop> Table<K, V> {
         }
     }
 
-    // Returns the place of the entry with this stamp, which may be detached. The lookup begins at
+    // Returns the node of the entry with this stamp, which may be detached. The lookup begins at
     // `near`, which may be any place.
     #[inline(never)]
-    fn find_stamp_near(&self, near: Place, stamp: u64) -> Option<(Place, Cursor)>
-        ensures { MatchOption result (ContainsNoStamp self.now stamp)
-            (λ r. map.get self.now.stamps r.0 ≡ Some stamp) }
+    fn find_stamp_near(&self, near: Place, stamp: u64) -> Option<Found<'_, K, V>>
+        ensures found { MatchOption result (ContainsNoStamp self.now stamp)
+            (λ found. map.get self.now.stamps found.place ≡ Some stamp) }
+        ensures node { IfSome result (λ found. GetsNodeAt self.now found.place found.node.now) }
     {
         if self.nodes.has_stamp(near, stamp) {
-            return Some((near, Cursor::nowhere()));
+            return Some(self.nodes.found(near));
         }
         match self.by_stamp.find(&self.nodes, stamp) {
-            Some(place) => Some((place, Cursor::nowhere())),
+            Some(place) => Some(self.nodes.found(place)),
             None => None,
         }
     }
@@ -176,28 +178,15 @@ impl<K: Hash + Eq + Clone, V: Drop> Table<K, V> {
         KeyHash::of(self.seed, key)
     }
 
-    /// Returns the place of the entry with an equal key, and the cursor with which the next calls
-    /// find it again. `hash` is the hash of the key.
+    /// Returns the node of the entry with an equal key. `hash` is the hash of the key.
     #[inline(always)]
-    pub fn find_key(&self, hash: KeyHash, key: &K) -> Option<(Place, Cursor)>
+    pub fn find_key(&self, hash: KeyHash, key: &K) -> Option<Found<'_, K, V>>
         requires { IsHashOf K.hash_input hash key.now }
-        ensures { MatchOption result (ContainsNoKey K.eq self.now key.now)
-            (λ r. IsPlaceOfKey K.eq self.now r.0 key.now) }
+        ensures found { MatchOption result (ContainsNoKey K.eq self.now key.now)
+            (λ found. IsPlaceOfKey K.eq self.now found.place key.now) }
+        ensures node { IfSome result (λ found. GetsNodeAt self.now found.place found.node.now) }
     {
         self.nodes.find_key(hash.under(self.seed, key), key)
-    }
-
-    /// Returns the node at a place. The lookup begins at a cursor, here and in the calls below; any
-    /// will do, and one that leads to the node saves a read of the slab.
-    #[inline(always)]
-    pub fn node(&self, place: Place, near: Cursor) -> &Node<K, V>
-        requires { ContainsPlace self.now place }
-        ensures entry { GetsAt self.now place (entry_of result.now) }
-        ensures pins { pins_at self.now place ≡ (entry_of result.now).pins }
-        ensures value { value_at self.now place ≡ value_of (entry_of result.now) }
-        ensures alone { chain_of result.now ≡ [] }
-    {
-        self.nodes.node_near(place, near)
     }
 
     /// Adds a new entry, held by one pin, whose value is being made, and returns its place. `hash`
@@ -296,6 +285,9 @@ impl<K: Hash + Eq + Clone, V: Drop> Table<K, V> {
     }
 
     /// Sets the number of pins of a held entry, which stays held. Takes no memory.
+    ///
+    /// The lookup begins at a cursor, here and in the calls below; any will do, and one that leads
+    /// to the node saves a read of the slab.
     pub fn set_pins(&mut self, place: Place, near: Cursor, pins: u32)
         requires held { ContainsHeldAt self.old place }
         requires some { 0 < pins }
@@ -327,8 +319,7 @@ impl<K: Hash + Eq + Clone, V: Drop> Table<K, V> {
         requires { IsReadyAt self.old place }
         ensures { RestsAt self.old place self.new }
     {
-        let charge = self.nodes.node_near(place, near).charge;
-        self.nodes.make_idle(place, near);
+        let charge = self.nodes.make_idle(place, near);
         self.idle_charge += charge;
     }
 
@@ -343,43 +334,27 @@ impl<K: Hash + Eq + Clone, V: Drop> Table<K, V> {
 }
 
 impl<K: Hash + Eq + Clone, V: Stores + Drop> Table<K, V> {
-    /// Pins a ready entry once more and returns its value. An idle one leaves the idle order.
+    /// Pins a ready entry, which has `pins` pins, once more and returns its value. An idle one
+    /// leaves the idle order.
     ///
     /// Returns `Memory` if the copy of the value is refused; then nothing changes.
     #[inline(always)]
-    pub fn pin(&mut self, place: Place, near: Cursor) -> Result<V, Refusal>
+    pub fn pin(&mut self, place: Place, near: Cursor, pins: u32) -> Result<V, Refusal>
         requires place { ContainsPlace self.old place }
+        requires pins { pins_at self.old place ≡ pins }
         requires ready { IsSome (value_at self.old place) }
-        requires room { pins_at self.old place + 1 < 2 ^ 32 }
+        requires room { pins + 1 < 2 ^ 32 }
         ensures value { IfOk result (λ v. value_at self.old place ≡ Some v) }
-        ensures revived { OnOk result (pins_at self.old place ≡ 0
-            → RevivesAt self.old place self.new) }
-        ensures held { OnOk result (pins_at self.old place ≢ 0
-            → Rewrites (held_with_pins (pins_at self.old place + 1)) self.old place self.new) }
+        ensures revived { OnOk result (pins ≡ 0 → RevivesAt self.old place self.new) }
+        ensures held { OnOk result (pins ≢ 0
+            → Rewrites (held_with_pins (pins + 1)) self.old place self.new) }
         ensures err { OnErr result (self.new ≡ self.old) }
         ensures refusal { IfErr result (λ e. e ≡ Refusal.Memory) }
     {
-        let node = self.node(place, near);
-        let pins = node.pins;
-        if pins == 0 {
-            return self.revive(place, near);
+        let (value, charge) = self.nodes.pin(place, near, pins)?;
+        if pins > 0 {
+            return Ok(value);
         }
-        let value = node.share_value()?;
-        self.set_pins(place, near, pins + 1);
-        Ok(value)
-    }
-
-    // Pins an idle entry, which is then held, and returns its value.
-    #[inline(always)]
-    fn revive(&mut self, place: Place, near: Cursor) -> Result<V, Refusal>
-        requires { ContainsIdleAt self.old place }
-        ensures value { IfOk result (λ v. value_at self.old place ≡ Some v) }
-        ensures ok { OnOk result (RevivesAt self.old place self.new) }
-        ensures err { OnErr result (self.new ≡ self.old) }
-        ensures refusal { IfErr result (λ e. e ≡ Refusal.Memory) }
-    {
-        let charge = self.nodes.node_near(place, near).charge;
-        let value = self.nodes.revive(place, near)?;
         self.idle_charge -= charge;
         Ok(value)
     }

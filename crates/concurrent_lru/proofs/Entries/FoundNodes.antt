@@ -1,13 +1,14 @@
 -- What a look by a key, by the map of stamps, or at every node finds, in words of the entries.
 use Rattle.std.proofs.Common.{◌≡◌, ℕ, Bool, true, false, Option, Some, None, refl, sym, ap, ◌∙◌, subst}
-use Rattle.std.specs.Prelude.{MatchOption}
+use Rattle.std.specs.Prelude.{IfSome, MatchOption}
 use Rattle.std.specs.Option.{option_map}
 use Rattle.std.specs.FinMap.{get, keys}
 use Rattle.std.proofs.lemmas.Bool.{true≢false, false_from_ne_true}
 use Rattle.std.proofs.lemmas.Option.{none-some}
-use Rattle.concurrent_lru.specs.NodeTable.{Entry, NodeTable, HasStampAt, IsNewStamp, FindsKey}
+use Rattle.concurrent_lru.specs.NodeTable.{Entry, NodeTable, entry_of, GetsNode, HasStampAt, IsNewStamp, HasKey, IsNewKey}
 use Rattle.concurrent_lru.specs.Entries.{ContainsEntry, FindsEntry, ContainsNoStamp, ContainsNoKey, IsPlaceOfKey}
 use Rattle.concurrent_lru.specs.StampIndex.{keeps_map, mapped_place}
+use Rattle.concurrent_lru.specs.declared.node_table.Found.{Found}
 use Rattle.concurrent_lru.specs.declared.table.stamp_index.StampIndex.{StampIndex}
 use Rattle.concurrent_lru.specs.Indexes.{IsStored, entries_of}
 use Rattle.concurrent_lru.proofs.Steps.BeginOfAbsent.{entry_node, node_entry, node_found, found_node_of}
@@ -43,16 +44,18 @@ module _ {K V : Type 0} {C : K → K → Type 0} {E : K → K → Bool} {H : K �
   ] refl
 
   -- by the hash of a key, where equal keys have the same hash
-  pub found_key : ((k l : K) → E k l ≡ true → H k ≡ H l) → (h : ℕ) (k : K) (o : Option (ℕ × ℕ)) → h ≡ H k → FindsKey E t h k o → MatchOption o (ContainsNoKey E (entries_of t) k) (λ r. IsPlaceOfKey E (entries_of t) r.0 k)
-  found_key alike h k None hash none = λ s l m e.
+  pub found_key : ((k l : K) → E k l ≡ true → H k ≡ H l) → (h : ℕ) (k : K) (o : Option (Found K V)) → h ≡ H k → MatchOption o (IsNewKey E t h k) (λ f. HasKey E f.node.now k) → IfSome o (λ f. GetsNode t f.place f.node.now)
+      → MatchOption o (ContainsNoKey E (entries_of t) k) (λ f. IsPlaceOfKey E (entries_of t) f.place k)
+  found_key alike h k None hash none _ = λ s l m e.
       let w = found_node_of 0 0 0 t (keys t.nodes) s l m r.represents r.indexed.idle_kept e in
       let n = w.node in
       false_from_ne_true (E l k) (λ b.
       let equal : E n.entry.key k ≡ true = ap (λ x. E x k) n.key_is ∙ b in
       let hashed : get t.hashes n.place ≡ Some h = r.hashed n.place n.entry n.at ∙ ap Some (alike n.entry.key k equal ∙ sym hash) in
       true≢false (sym equal ∙ none n.place n.entry n.at w.found hashed))
-  found_key alike h k (Some (p, _)) hash n =
-      record { stamp = n.0.stamp; key = n.0.key; charge = n.0.charge; at = get_stamps t.nodes p ∙ ap (option_map (λ x. x.stamp)) n.1; entry = found_at p n.0 n.1 n.2; same_key = n.3 }
+  found_key alike h k (Some f) hash has got =
+      let e = entry_of f.node.now in
+      record { stamp = e.stamp; key = e.key; charge = e.charge; at = get_stamps t.nodes f.place ∙ ap (option_map (λ x. x.stamp)) got.entry; entry = found_at f.place e got.entry has.0; same_key = has.1 }
 
   -- no node has a stamp that no entry has
   pub fresh_among : (s : ℕ) → ContainsNoStamp (entries_of t) s → IsNewStamp t s

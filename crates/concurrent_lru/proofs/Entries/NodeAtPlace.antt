@@ -5,9 +5,10 @@ use Rattle.std.specs.FinMap.{get, keys}
 use Rattle.std.proofs.lemmas.Bool.{true≢false, eqb-true, eq-eqb, ne_eqb}
 use Rattle.std.proofs.lemmas.Option.{none-some, same_Some}
 use Rattle.concurrent_lru.specs.Cache.{Idle, Held, ready, idle_at, held_at}
-use Rattle.concurrent_lru.specs.NodeTable.{Entry, NodeTable, value_in, value_of}
+use Rattle.concurrent_lru.specs.NodeTable.{Entry, NodeTable, entry_of, value_in, value_of, GetsNode}
 use Rattle.concurrent_lru.specs.Representation.{as_idle, held_entry, held_in, idle_in, idle_at_place}
-use Rattle.concurrent_lru.specs.Entries.{ContainsPlace, ContainsIdleAt, ContainsHeldAt, ContainsFoundAt, GetsAt, IsReadyAt, ContainsNoStamp, cache_of, pins_at, value_at}
+use Rattle.concurrent_lru.specs.Entries.{ContainsPlace, ContainsIdleAt, ContainsHeldAt, ContainsFoundAt, GetsAt, GetsNodeAt, IsReadyAt, ContainsNoStamp, cache_of, pins_at, value_at}
+use Rattle.concurrent_lru.specs.declared.node_table.Node.{Node}
 use Rattle.concurrent_lru.specs.declared.table.stamp_index.StampIndex.{StampIndex}
 use Rattle.concurrent_lru.specs.Indexes.{IsStored, entries_of}
 use Rattle.concurrent_lru.proofs.Entries.NodesOfSetAndAdd.{held_in-get, held_in-found}
@@ -176,6 +177,10 @@ module _ {K V : Type 0} {C : K → K → Type 0} {E : K → K → Bool} {H : K �
         ∙ ap (option_map (λ x. x.value)) ((idle_found p e at m).1 ∙ as_idle-ready e l.0 l.2) ∙ sym (ap value_in l.2)
     | false ↦ λ b. value_by p e.stamp (Some (held_entry e)) (place_at p e at) (held_found p e at b)
   ] refl
+
+  -- a node is that of the entry at its place
+  pub node_got : (p : ℕ) (n : Node K V) → GetsNode t p n → GetsNodeAt (entries_of t) p n
+  node_got p n got = record { entry = node_is_at p (entry_of n) got.entry; pins = node_pins p (entry_of n) got.entry; value = node_value p (entry_of n) got.entry; alone = got.alone }
 
   -- the stamp of a place is its node's
   pub same_stamp : (p s : ℕ) (e : Entry K V) → get (entries_of t).stamps p ≡ Some s → get t.nodes p ≡ Some e → s ≡ e.stamp

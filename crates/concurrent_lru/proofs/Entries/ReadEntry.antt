@@ -9,7 +9,7 @@ use Rattle.concurrent_lru.specs.Cache.{ready, Idle, IsFront, IsLawful, idle_at}
 use Rattle.concurrent_lru.specs.Steps.{Hits, Rests, Leaves, held_by_one, idle_again, without}
 use Rattle.concurrent_lru.specs.NodeTable.{Entry, entry_with_pins}
 use Rattle.concurrent_lru.specs.Representation.{held_entry}
-use Rattle.concurrent_lru.specs.Entries.{Entries, cache_with, cache_of, charges_of, GetsAt, RevivesAt, pins_at, held_with_pins}
+use Rattle.concurrent_lru.specs.Entries.{Entries, cache_with, cache_of, charges_of, GetsAt, RevivesAt, held_with_pins}
 use Rattle.concurrent_lru.specs.Reads.{RenewsAt, Finds, GetsAndReleases}
 use Rattle.concurrent_lru.proofs.Entries.NodesOfSetAndAdd.{inserted_at}
 use Rattle.concurrent_lru.proofs.Entries.EntryAtPlace.{stamp_is, idle_here}
@@ -35,14 +35,14 @@ module _ {K V : Type 0} (E : K → K → Bool) (capacity most next : ℕ) {t : E
   abbrev revived : Entries K V
   revived = record t { idle = without e.stamp t.idle; held = insert t.held e.stamp (held_by_one shown); work = t.work + 1 }
 
-  found_idle : (u : Entries K V) → pins_at t p ≡ e.pins → e.pins ≡ 0 → RevivesAt t p u → Hits E (cache_with capacity most next t) k e.stamp v [] (cache_with capacity most next u)
-  found_idle u same none w = hits E capacity most next here u k v found equal room phase same (λ _. w) (λ some. absurd (some (same ∙ none)))
+  found_idle : (u : Entries K V) → e.pins ≡ 0 → RevivesAt t p u → Hits E (cache_with capacity most next t) k e.stamp v [] (cache_with capacity most next u)
+  found_idle u none w = hits E capacity most next here u k v found equal room phase (λ _. w) (λ some. absurd (some none))
 
-  pub finds : pins_at t p ≡ e.pins → Finds E (cache_with capacity most next t) k v
-  finds same = elim (e.pins == 0) as (λ b. (e.pins == 0) ≡ b → Finds E (cache_with capacity most next t) k v) [
+  pub finds : Finds E (cache_with capacity most next t) k v
+  finds = elim (e.pins == 0) as (λ b. (e.pins == 0) ≡ b → Finds E (cache_with capacity most next t) k v) [
     | true ↦ λ b.
         let none = eqb-true e.pins 0 b in
-        (e.stamp, cache_with capacity most next revived, found_idle revived same none (record { stamp = e.stamp; entry = shown; at = here.at; idle = idle_here here v phase none; changed = refl }))
+        (e.stamp, cache_with capacity most next revived, found_idle revived none (record { stamp = e.stamp; entry = shown; at = here.at; idle = idle_here here v phase none; changed = refl }))
     | false ↦ λ b. (e.stamp, cache_with capacity most next joined, joins (λ none. true≢false (sym (eq-eqb e.pins 0 none) ∙ b)))
   ] refl
 
@@ -84,10 +84,10 @@ module _ {K V : Type 0} (E : K → K → Bool) (capacity most next : ℕ) {t : E
         let front : IsFront (charges_of u) capacity u.idle [] u.idle = record { parts = refl; suffices = inl (omega (arith, first, second, few)); shortest = λ x y parts less. absurd (omega (arith, less)) } in
         rests E capacity most next there u u e.stamp [] at refl b refl front
 
-    pub read_idle : (u : Entries K V) → pins_at t p ≡ e.pins → e.pins ≡ 0 → RenewsAt t p u → GetsAndReleases E (cache_with capacity most next t) k e.stamp v (cache_with capacity most next u)
-    read_idle u same none w = (cache_with capacity most next w.mid, found_idle w.mid same none w.revived, (cache_with capacity most next u, inr (inl (rested u none w)), refl))
+    pub read_idle : (u : Entries K V) → e.pins ≡ 0 → RenewsAt t p u → GetsAndReleases E (cache_with capacity most next t) k e.stamp v (cache_with capacity most next u)
+    read_idle u none w = (cache_with capacity most next w.mid, found_idle w.mid none w.revived, (cache_with capacity most next u, inr (inl (rested u none w)), refl))
 
-    pub read_lawful : (u : Entries K V) → IsEquivalence E → pins_at t p ≡ e.pins → e.pins ≡ 0 → RenewsAt t p u → IsLawful E (cache_with capacity most next u)
-    read_lawful u laws same none w =
-        let mid = hits_lawful E laws (cache_with capacity most next t) l (omega (arith, room)) k e.stamp v [] (cache_with capacity most next w.mid) (found_idle w.mid same none w.revived) in
+    pub read_lawful : (u : Entries K V) → IsEquivalence E → e.pins ≡ 0 → RenewsAt t p u → IsLawful E (cache_with capacity most next u)
+    read_lawful u laws none w =
+        let mid = hits_lawful E laws (cache_with capacity most next t) l (omega (arith, room)) k e.stamp v [] (cache_with capacity most next w.mid) (found_idle w.mid none w.revived) in
         rests_lawful E (cache_with capacity most next w.mid) (cache_with capacity most next u) e.stamp [] mid (rested u none w)

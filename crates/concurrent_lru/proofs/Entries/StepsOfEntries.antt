@@ -11,7 +11,7 @@ use Rattle.concurrent_lru.specs.Cache.{Phase, making, ready, Idle, Held, IsFront
 use Rattle.concurrent_lru.specs.Steps.{ChangesPhase, held_in_phase, held_detached, Departs, Ends, PinsAgain, Repins, Detaches, IsAbsent, Makes, Joins, Revives, Hits, Leaves, Removes, Rests, Drops, held_by_one, without, with_capacity}
 use Rattle.concurrent_lru.specs.NodeTable.{Entry}
 use Rattle.concurrent_lru.specs.Representation.{held_entry, as_idle}
-use Rattle.concurrent_lru.specs.Entries.{Entries, cache_with, cache_of, charges_of, new_held, GetsAt, ContainsHeldAt, Rewrites, RevivesAt, RestsAt, pins_at, held_with_pins}
+use Rattle.concurrent_lru.specs.Entries.{Entries, cache_with, cache_of, charges_of, new_held, GetsAt, ContainsHeldAt, Rewrites, RevivesAt, RestsAt, held_with_pins}
 use Rattle.concurrent_lru.proofs.Steps.BeginOfAbsent.{as_idle-ready}
 use Rattle.concurrent_lru.proofs.Entries.NodesOfSetAndAdd.{inserted_at}
 use Rattle.concurrent_lru.proofs.Lists.DistinctEntries.{same}
@@ -102,13 +102,13 @@ module _ {K V : Type 0} (E : K → K → Bool) (capacity most next : ℕ) where
         }
 
     -- on a ready key
-    pub hits : (u : Entries K V) (k : K) (v : V) → (e.pins ≢ 0 → e.detached ≡ false) → E e.key k ≡ true → e.pins < most → e.phase ≡ ready v → pins_at t p ≡ e.pins → (pins_at t p ≡ 0 → RevivesAt t p u) → (pins_at t p ≢ 0 → Rewrites (held_with_pins (pins_at t p + 1)) t p u)
+    pub hits : (u : Entries K V) (k : K) (v : V) → (e.pins ≢ 0 → e.detached ≡ false) → E e.key k ≡ true → e.pins < most → e.phase ≡ ready v → (e.pins ≡ 0 → RevivesAt t p u) → (e.pins ≢ 0 → Rewrites (held_with_pins (e.pins + 1)) t p u)
         → Hits E (cache_with capacity most next t) k e.stamp v [] (cache_with capacity most next u)
-    hits u k v found equal room phase pinned revived held = elim (e.pins == 0) as (λ b. (e.pins == 0) ≡ b → Hits E (cache_with capacity most next t) k e.stamp v [] (cache_with capacity most next u)) [
-      | true ↦ λ b. let none = eqb-true e.pins 0 b in inr (revives u k v equal none phase (revived (pinned ∙ none)))
+    hits u k v found equal room phase revived held = elim (e.pins == 0) as (λ b. (e.pins == 0) ≡ b → Hits E (cache_with capacity most next t) k e.stamp v [] (cache_with capacity most next u)) [
+      | true ↦ λ b. let none = eqb-true e.pins 0 b in inr (revives u k v equal none phase (revived none))
       | false ↦ λ b.
           let some : e.pins ≢ 0 = λ none. true≢false (sym (eq-eqb e.pins 0 none) ∙ b) in
-          inl (joins_as_it_is u k (ready v) (found some) equal some room phase (subst (λ n. Rewrites (held_with_pins (n + 1)) t p u) pinned (held (λ none. some (sym pinned ∙ none)))))
+          inl (joins_as_it_is u k (ready v) (found some) equal some room phase (held some))
     ] refl
 
     -- repin
@@ -123,15 +123,15 @@ module _ {K V : Type 0} (E : K → K → Bool) (capacity most next : ℕ) where
           none = refl;
         }
 
-    pub repins : IsEquivalence E → (u : Entries K V) (s : ℕ) (v : V) → get t.stamps p ≡ Some s → e.pins < most → e.phase ≡ ready v → pins_at t p ≡ e.pins → (pins_at t p ≡ 0 → RevivesAt t p u) → (pins_at t p ≢ 0 → Rewrites (held_with_pins (pins_at t p + 1)) t p u)
+    pub repins : IsEquivalence E → (u : Entries K V) (s : ℕ) (v : V) → get t.stamps p ≡ Some s → e.pins < most → e.phase ≡ ready v → (e.pins ≡ 0 → RevivesAt t p u) → (e.pins ≢ 0 → Rewrites (held_with_pins (e.pins + 1)) t p u)
         → Repins E (cache_with capacity most next t) s v [] (cache_with capacity most next u)
-    repins laws u s v at room phase pinned revived held = elim (e.pins == 0) as (λ b. (e.pins == 0) ≡ b → Repins E (cache_with capacity most next t) s v [] (cache_with capacity most next u)) [
+    repins laws u s v at room phase revived held = elim (e.pins == 0) as (λ b. (e.pins == 0) ≡ b → Repins E (cache_with capacity most next t) s v [] (cache_with capacity most next u)) [
       | true ↦ λ b.
           let none = eqb-true e.pins 0 b in
-          inr (e.key, subst (λ q. Revives E (cache_with capacity most next t) e.key q v [] (cache_with capacity most next u)) (stamp_is here s at) (revives u e.key v (laws.refl e.key) none phase (revived (pinned ∙ none))))
+          inr (e.key, subst (λ q. Revives E (cache_with capacity most next t) e.key q v [] (cache_with capacity most next u)) (stamp_is here s at) (revives u e.key v (laws.refl e.key) none phase (revived none)))
       | false ↦ λ b.
           let some : e.pins ≢ 0 = λ none. true≢false (sym (eq-eqb e.pins 0 none) ∙ b) in
-          inl (pins_again u s v at some room phase (subst (λ n. Rewrites (held_with_pins (n + 1)) t p u) pinned (held (λ none. some (sym pinned ∙ none)))))
+          inl (pins_again u s v at some room phase (held some))
     ] refl
 
     -- poll and ready

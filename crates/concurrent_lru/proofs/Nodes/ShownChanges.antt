@@ -1,11 +1,11 @@
 -- What the value of a `Nodes` shows of a node that is read, and of a change of the order or of an
 -- entry.
-use Rattle.std.proofs.Common.{◌≡◌, ℕ, ◌+◌, ◌≤◌, List, [], Some, IsSome, sym, ap, ◌∙◌, subst, arith}
+use Rattle.std.proofs.Common.{◌≡◌, ℕ, ◌+◌, ◌≤◌, List, [], Some, IsSome, refl, sym, ap, ◌∙◌, subst, arith}
 use Rattle.std.specs.FinMap.{FinMap, get}
 use Rattle.std.specs.Ordering.{nat_cmp}
 use Rattle.concurrent_lru.specs.Cells.{cell_at}
-use Rattle.concurrent_lru.specs.Listing.{KeepsListings, spare_of}
-use Rattle.concurrent_lru.specs.NodeTable.{NodeTable, Entry, entry_of, chain_of, update_at}
+use Rattle.concurrent_lru.specs.Listing.{KeepsListings, IsNodeIn, spare_of}
+use Rattle.concurrent_lru.specs.NodeTable.{NodeTable, Entry, entry_of, chain_of, update_at, GetsNode}
 use Rattle.concurrent_lru.specs.SlotPointers.{cells_of, IsNodeAt}
 use Rattle.concurrent_lru.specs.SlotTable.{IsEnd, IsWellLinked, IsWhole, hashes_of, idle_of, node_table_of, nodes_of}
 use Rattle.concurrent_lru.specs.SlotWrites.{OnlyLooksAndWrites, Rewrites}
@@ -22,6 +22,13 @@ module _ {K V : Type 0} where
       let there = some_cell (cell_at (cells_of o.slots) k) (present o w v e k p is has) in
       let same : n ≡ there.0.value = found there.0 there.1 in
       record { entry = entry_there o w v e k p there.0 is there.1 ∙ ap (λ m. Some (entry_of m)) (sym same); alone = ap chain_of same ∙ subst IsEnd there.1 (linked.ends k) }
+
+  -- a node in its slot is at its place
+  pub shown_found : (o : Order K V) (w k : ℕ) {v : NodeTable K V} (n : Node K V) → node_table_of o w ≡ v → IsWellLinked o → IsNodeIn o.slots k n → GetsNode v k n
+  shown_found o w k {v} n e linked there = record {
+    entry = entry_there o w v e k k there.0 refl there.1 ∙ ap (λ m. Some (entry_of m)) (sym there.2);
+    alone = ap chain_of there.2 ∙ subst IsEnd there.1 (linked.ends k);
+  }
 
   -- Where the nodes and the idle ones changed by f and h at a slot, they did so at its place. The
   -- order was written `more` times.

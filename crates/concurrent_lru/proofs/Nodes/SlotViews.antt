@@ -4,11 +4,13 @@ use Rattle.std.proofs.Common.{◌≡◌, ◌≢◌, ℕ, List, [], ◌∷◌, ma
 use Rattle.std.proofs.Common.{is_some}
 use Rattle.std.specs.List.{list_any}
 use Rattle.std.proofs.lemmas.Bool.{cases_eq}
+use Rattle.std.proofs.lemmas.Option.{same_Some}
 use Rattle.std.specs.FinMap as fin
 use denote.RawPtr.{Ptr}
+use Rattle.concurrent_lru.specs.declared.node_table.Node.{Node}
 use Rattle.concurrent_lru.specs.declared.node_table.links.Order.{Order}
 use Rattle.concurrent_lru.specs.declared.node_table.slots.Slots.{Slots}
-use Rattle.concurrent_lru.specs.Cells.{cell_at, ptr_in, slot_at}
+use Rattle.concurrent_lru.specs.Cells.{cell_at, ptr_in, slot_at, AtFirst}
 use Rattle.concurrent_lru.specs.SlotPointers.{IsTied, ptr_of, place_in, cells_of, HasNode, LeadsTo, KeepsOthers}
 use Rattle.concurrent_lru.specs.Order.{Link, link, first_or, last_or, Absent, Linked, IsOrder}
 use Rattle.concurrent_lru.specs.Slots.{map_of_slots}
@@ -215,6 +217,14 @@ module _ {K V : Type 0} where
     nodes_written v w p e is =
         let at : fin.get v.nodes p ≡ Some (entry_of r.old.value) = node_had o w v e slot p is ∙ ap entry_in r.was in
         entries_inserted cs ds slot (f (entry_of r.old.value)) r.others (ap entry_in r.now ∙ ap Some r.node.entry) ∙ (λ n. fin.insert (e n).nodes (is n) (f (entry_of r.old.value))) ∙ ap (λ x. option_map_or (λ d. fin.insert v.nodes p (f d)) x v.nodes) (sym at)
+
+  -- the node n at p, where a look led, has the entry of the slot
+  pub looked_entry : (o : Order K V) (u : Slots K V) (p : Ptr) (k : ℕ) {n : Node K V} → u ≡ record o.slots { looks = u.looks } → LeadsTo o.slots p k → AtFirst (cells_of u) p (λ _ c. n ≡ c.value) → (e : Entry K V) → entry_at o k ≡ Some e → entry_of n ≡ e
+  looked_entry o u p k rest link value e h =
+      let same : cells_of u ≡ cells_of o.slots = ap (λ x. x.memory.cells) rest in
+      let at : LeadsTo u p k = ap (λ l. slot_at l p) same ∙ link in
+      let there = value_at_slot (cells_of u) p k at in
+      ap entry_of (value k there.0 at there.1) ∙ same_Some (entry_of there.0.value) e (sym (ap entry_in there.1) ∙ ap (λ l. entry_in (cell_at l k)) same ∙ h)
 
   -- a node was looked at, at p, and its entry written
   pub record IsWritten (old new : Order K V) (k : ℕ) (p : Ptr) (f : Entry K V → Entry K V) : Type 0 where

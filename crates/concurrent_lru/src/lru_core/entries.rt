@@ -121,7 +121,7 @@ where
             (λ entry. ready_at self.now.cache spot.now.stamp ≡ Some (entry_of_ref entry)) }
     {
         match self.table.find_stamp(spot) {
-            Some((place, _near)) => ready_at_place(&self.table, place),
+            Some(found) => ready_at_place(&self.table, found.place),
             None => None,
         }
     }

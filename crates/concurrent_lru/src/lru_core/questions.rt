@@ -56,11 +56,11 @@ where
         ensures yes { IsTrue result → HasReadyKey K.eq self.now.cache key.now }
         ensures no { IsFalse result → IsUnready K.eq self.now.cache key.now }
     {
-        let Some((place, near)) = self.table.find_key(self.table.hash_of(key), key) else {
+        let hash = self.table.hash_of(key);
+        let Some(found) = self.table.find_key(hash, key) else {
             return false;
         };
-        let node = self.table.node(place, near);
-        let Phase::Ready(_) = &node.phase else {
+        let Phase::Ready(_) = &found.node.phase else {
             return false;
         };
         true

@@ -13,7 +13,7 @@ ghost use Rattle.concurrent_lru.specs.Runs.{Stands};
 ghost use Rattle.concurrent_lru.specs.Steps.{IsAbsent};
 
 use crate::lru_core::{Evicted, Failed, Inserted, Refusal, State};
-use crate::node_table::{Node, Phase};
+use crate::node_table::{Found, Node, Phase};
 use crate::share::{Sharing, Stored, Stores};
 use crate::step::Begun;
 use crate::table::{Hint, KeyHash, Spot};
@@ -40,10 +40,10 @@ where
         // A proved program does not run this. One that `rt try` runs stops here at a charge of 0.
         prove!(charge > 0);
         let hash = self.table.hash_of(key);
-        let Some((place, near)) = self.table.find_key(hash, key) else {
+        let Some(found) = self.table.find_key(hash, key) else {
             return self.make(hash, key, charge);
         };
-        let node = self.table.node(place, near);
+        let Found { place, near, node } = found;
         let (stamp, pins) = (node.stamp, node.pins);
         if pins == self.most_pins {
             return Err(Refusal::Overflow);
@@ -60,7 +60,7 @@ where
                 Ok((Begun::Make(stamp), Evicted::none(), hint))
             }
             Phase::Ready(_) => {
-                let value = self.table.pin(place, near)?;
+                let value = self.table.pin(place, near, pins)?;
                 let share = value.into_share();
                 Ok((Begun::Hit(stamp, share), Evicted::none(), hint))
             }
@@ -160,10 +160,10 @@ where
         ensures work { self.new.work ≡ self.old.work }
         ensures lawful { IsLawful K.eq self.new.cache }
     {
-        let Some((place, near)) = self.table.find_stamp(spot) else {
+        let Some(found) = self.table.find_stamp(spot) else {
             return Err(Refusal::Stale);
         };
-        let node = self.table.node(place, near);
+        let Found { place, near, node } = found;
         if node.pins == 0 {
             return Err(Refusal::Stale);
         }
@@ -185,10 +185,10 @@ where
         ensures back { IfErr result (λ a. M.seen a ≡ M.seen value) }
         ensures lawful { IsLawful K.eq self.new.cache }
     {
-        let Some((place, near)) = self.table.find_stamp(spot) else {
+        let Some(found) = self.table.find_stamp(spot) else {
             return Err(value);
         };
-        let node = self.table.node(place, near);
+        let Found { place, near, node } = found;
         let Phase::Making = &node.phase else {
             return Err(value);
         };
@@ -215,10 +215,10 @@ where
         ensures quiet { IsFalse result.1 → HasNoOtherPin self.old.cache spot.now.stamp }
         ensures lawful { IsLawful K.eq self.new.cache }
     {
-        let Some((place, near)) = self.table.find_stamp(spot) else {
+        let Some(found) = self.table.find_stamp(spot) else {
             return (Err(value), false);
         };
-        let node = self.table.node(place, near);
+        let Found { place, near, node } = found;
         let shared = node.pins > 1;
         if node.key != *key {
             return (Err(value), shared);
@@ -238,10 +238,10 @@ where
         ensures work { self.new.work ≡ self.old.work }
         ensures lawful { IsLawful K.eq self.new.cache }
     {
-        let Some((place, near)) = self.table.find_stamp(spot) else {
+        let Some(found) = self.table.find_stamp(spot) else {
             return Err(Refusal::Stale);
         };
-        let node = self.table.node(place, near);
+        let Found { place, near, node } = found;
         let pins = node.pins;
         let Phase::Making = &node.phase else {
             return Err(Refusal::Stale);
@@ -275,10 +275,10 @@ where
         ensures lawful { IsLawful K.eq self.new.cache }
     {
         let hash = self.table.hash_of(key);
-        let Some((place, near)) = self.table.find_key(hash, key) else {
+        let Some(found) = self.table.find_key(hash, key) else {
             return Ok(None);
         };
-        let node = self.table.node(place, near);
+        let Found { place, near, node } = found;
         let (stamp, pins) = (node.stamp, node.pins);
         let Phase::Ready(_) = &node.phase else {
             return Ok(None);
@@ -286,7 +286,7 @@ where
         if pins == self.most_pins {
             return Err(Refusal::Overflow);
         }
-        let value = self.table.pin(place, near)?;
+        let value = self.table.pin(place, near, pins)?;
         let share = value.into_share();
         Ok(Some((stamp, share, Hint::to(hash, place))))
     }
@@ -299,10 +299,10 @@ where
         ensures work { WritesAtMostOneMore self.old (outcome_of_release result) self.new }
         ensures lawful { IsLawful K.eq self.new.cache }
     {
-        let Some((place, near)) = self.table.find_stamp(spot) else {
+        let Some(found) = self.table.find_stamp(spot) else {
             return Err(Refusal::Stale);
         };
-        let node = self.table.node(place, near);
+        let Found { place, near, node } = found;
         let (pins, detached) = (node.pins, node.detached);
         let Phase::Ready(_) = &node.phase else {
             return Err(Refusal::Stale);
@@ -328,10 +328,10 @@ where
         ensures work { self.new.work ≡ self.old.work }
         ensures lawful { IsLawful K.eq self.new.cache }
     {
-        let Some((place, near)) = self.table.find_stamp(spot) else {
+        let Some(found) = self.table.find_stamp(spot) else {
             return Err(Refusal::Stale);
         };
-        let node = self.table.node(place, near);
+        let Found { place, near, node } = found;
         let holders = node.pins;
         let Phase::Ready(_) = &node.phase else {
             return Err(Refusal::Stale);
@@ -355,10 +355,10 @@ where
         ensures work { WritesAtMostOneMore self.old (outcome_of_repin_by M.seen result) self.new }
         ensures lawful { IsLawful K.eq self.new.cache }
     {
-        let Some((place, near)) = self.table.find_stamp(spot) else {
+        let Some(found) = self.table.find_stamp(spot) else {
             return Err(Refusal::Stale);
         };
-        let node = self.table.node(place, near);
+        let Found { place, near, node } = found;
         let holders = node.pins;
         let Phase::Ready(_) = &node.phase else {
             return Err(Refusal::Stale);
@@ -366,7 +366,7 @@ where
         if holders == self.most_pins {
             return Err(Refusal::Overflow);
         }
-        let stored = self.table.pin(place, near)?;
+        let stored = self.table.pin(place, near, holders)?;
         Ok(stored.into_share())
     }
 
@@ -449,11 +449,11 @@ where
     {
         let stamp = self.next;
         let hash = self.table.hash_of(key);
-        let Some((place, near)) = self.table.find_key(hash, key) else {
+        let Some(found) = self.table.find_key(hash, key) else {
             let (_begun, evicted, hint) = self.make(hash, key, charge)?;
             return Ok((Spot { stamp, hint }, Evicted::none(), evicted));
         };
-        let node = self.table.node(place, near);
+        let Found { place, node, .. } = found;
         let (pins, own) = (node.pins, node.charge);
         if pins > 0 {
             if charge > u64::MAX - self.table.total() || stamp == u64::MAX {
@@ -486,8 +486,10 @@ where
         ensures { MatchOption result (LacksStamp self.now.cache spot.now.stamp)
             (λ key. HasKeyAt self.now.cache spot.now.stamp key.now) }
     {
-        let (place, near) = self.table.find_stamp(spot)?;
-        Some(&self.table.node(place, near).key)
+        match self.table.find_stamp(spot) {
+            Some(found) => Some(&found.node.key),
+            None => None,
+        }
     }
 
     // Returns whether the spot's entry has this key, and whether it has more than one pin. Both are
@@ -499,10 +501,7 @@ where
         ensures quiet { IsFalse result.1 → HasNoOtherPin self.now.cache spot.now.stamp }
     {
         match self.table.find_stamp(spot) {
-            Some((place, near)) => {
-                let node = self.table.node(place, near);
-                (node.key == *key, node.pins > 1)
-            }
+            Some(found) => (found.node.key == *key, found.node.pins > 1),
             None => (false, false),
         }
     }

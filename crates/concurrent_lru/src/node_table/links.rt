@@ -1,6 +1,6 @@
 //! The idle order as links among nodes: each idle one points to its neighbours.
-ghost use Rattle.std.specs.Prelude.{◌≡◌, ◌+◌, ◌∷◌, [], ◌++◌, OnOk, OnErr, IfErr};
-ghost use Rattle.concurrent_lru.specs.NodeTable.{HasValue, GivesValue, pinned_once, update_at, entry_with_pins};
+ghost use Rattle.std.specs.Prelude.{◌≡◌, ◌≢◌, ◌+◌, ◌<◌, ◌^◌, ◌∷◌, [], ◌++◌, OnOk, OnErr, IfErr};
+ghost use Rattle.concurrent_lru.specs.NodeTable.{HasCharge, HasValue, GivesValue, update_at, entry_with_pins};
 ghost use Rattle.concurrent_lru.specs.SlotPointers.{IsTied, cells_of, HasNode, LeadsTo};
 ghost use Rattle.concurrent_lru.specs.SlotWrites.{OnlyWrites, OnlyLooksAndWrites};
 ghost use Rattle.concurrent_lru.specs.Listing.{IsListed, KeepsListings};
@@ -52,8 +52,9 @@ impl<K: Drop, V: Drop> Order<K, V> {
     }
 
     // Removes the pins of the node in a slot and makes it the newest idle one, with one lookup.
+    // Returns its charge.
     #[inline(always)]
-    pub(super) fn make_idle(&mut self, slot: usize, near: Cursor)
+    pub(super) fn make_idle(&mut self, slot: usize, near: Cursor) -> u64
         requires linked { IsWellLinked self.old }
         requires listed { IsListed self.old.slots }
         requires present { HasNode self.old.slots slot }
@@ -61,13 +62,16 @@ impl<K: Drop, V: Drop> Order<K, V> {
         ensures linked { IsWellLinked self.new }
         ensures nodes { nodes_of self.new ≡ update_at (entry_with_pins 0) (nodes_of self.old) slot }
         ensures idle { idle_of self.new ≡ idle_of self.old ++ slot ∷ [] }
+        ensures charge { HasCharge (entry_at self.old slot) result }
         ensures rest { OnlyLooksAndWrites self.old.slots self.new.slots }
         ensures listings { KeepsListings (cells_of self.old.slots) (cells_of self.new.slots) }
         ensures looks { self.new.slots.looks.count ≡ self.old.slots.looks.count + 1 }
     {
         let own = self.slots.look_near(slot, near);
+        let charge = self.slots.follow(own).charge;
         self.slots.set_pins_by_link(own, 0);
         self.push(own, slot);
+        charge
     }
 
     // Makes the node at the end of a link the newest idle one. The slot is the node's own.
@@ -184,19 +188,23 @@ impl<K: Drop, V: Drop> Order<K, V> {
 }
 
 impl<K: Drop, V: Stores + Drop> Order<K, V> {
-    // Removes the node in a slot from the idle order, with one pin, and copies its value. The
-    // node is looked up once, before the copy, since a processor starts no later read until an
-    // atomic instruction has completed.
+    // Pins the node in a slot, which has `pins` pins, once more. An idle one leaves the idle order.
+    // Returns a copy of its value, and its charge. The node is looked up once, before the copy,
+    // since a processor starts no later read until an atomic instruction has completed.
     #[inline(always)]
-    pub(super) fn revive(&mut self, slot: usize, near: Cursor) -> Result<V, Refusal>
+    pub(super) fn pin(&mut self, slot: usize, near: Cursor, pins: u32) -> Result<(V, u64), Refusal>
         requires linked { IsWellLinked self.old }
         requires listed { IsListed self.old.slots }
-        requires idle { Lists self.old slot }
+        requires present { HasNode self.old.slots slot }
+        requires idle { pins ≡ 0 → Lists self.old slot }
         requires ready { HasValue (entry_at self.old slot) }
+        requires room { pins + 1 < 2 ^ 32 }
         ensures linked { IsWellLinked self.new }
         ensures value { GivesValue (entry_at self.old slot) result }
-        ensures nodes { OnOk result (nodes_of self.new ≡ pinned_once (nodes_of self.old) slot) }
-        ensures idle { OnOk result (idle_of self.new ≡ idle_without self.old slot) }
+        ensures nodes { OnOk result (nodes_of self.new
+            ≡ update_at (entry_with_pins (pins + 1)) (nodes_of self.old) slot) }
+        ensures revived { OnOk result (pins ≡ 0 → idle_of self.new ≡ idle_without self.old slot) }
+        ensures held { OnOk result (pins ≢ 0 → idle_of self.new ≡ idle_of self.old) }
         ensures same { OnErr result (OnlyLooked self.old self.new) }
         ensures refusal { IfErr result (λ e. e ≡ Refusal.Memory) }
         ensures rest { OnlyLooksAndWrites self.old.slots self.new.slots }
@@ -204,9 +212,14 @@ impl<K: Drop, V: Stores + Drop> Order<K, V> {
         ensures looks { self.new.slots.looks.count ≡ self.old.slots.looks.count + 1 }
     {
         let own = self.slots.look_near(slot, near);
-        let value = self.slots.follow(own).share_value()?;
-        self.slots.set_pins_by_link(own, 1);
+        let node = self.slots.follow(own);
+        let charge = node.charge;
+        let value = node.share_value()?;
+        self.slots.set_pins_by_link(own, pins + 1);
+        if pins > 0 {
+            return Ok((value, charge));
+        }
         self.cut(own);
-        Ok(value)
+        Ok((value, charge))
     }
 }

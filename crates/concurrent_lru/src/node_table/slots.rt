@@ -7,16 +7,16 @@ ghost use Rattle.std.specs.Prelude.{◌≡◌, ℕ, ◌+◌, ◌<◌, ◌≤◌,
 ghost use Rattle.std.specs.Borrow.{sem};
 ghost use Rattle.slab.specs.Slab.{HasRoomFor, slab_len};
 ghost use Rattle.concurrent_lru.specs.Cells.{cell_at, ptr_in, AtFirst};
-ghost use Rattle.concurrent_lru.specs.NodeTable.{entry_of, hash_of, chain_of};
+ghost use Rattle.concurrent_lru.specs.NodeTable.{entry_of, hash_of, chain_of, HasKey};
 ghost use Rattle.concurrent_lru.specs.Relinks.{slot_in};
 ghost use Rattle.concurrent_lru.specs.SlotPointers.{IsTied, cells_of, HasNode, LeadsToNode, LeadsTo, IsNodeAt, KeepsOthers};
 ghost use Rattle.concurrent_lru.specs.SlotTable.{entry_in, IsEnd, IsGood};
-ghost use Rattle.concurrent_lru.specs.Listing.{IsListed, IsListedBut, LeadsToCandidate, HoldsSlot, LacksSlot, LacksKey, HasKeyIn, HasStampIn, listing_at, hash_in, spare_of};
+ghost use Rattle.concurrent_lru.specs.Listing.{IsListed, IsListedBut, LeadsToCandidate, HoldsSlot, LacksSlot, LacksKey, IsNodeIn, listing_at, hash_in, spare_of};
 ghost use Rattle.concurrent_lru.specs.Probing.OpenTable.{IsFilled};
 
-use crate::node_table::Node;
 use crate::node_table::memory::{At, Memory};
 use crate::node_table::open_table::{Cursor, OpenTable, Step};
+use crate::node_table::{Found, Node, Place};
 use crate::work::Work;
 use slab::Slab;
 use std::alloc::{AllocError, Global};
@@ -213,41 +213,49 @@ impl<K: Drop, V: Drop> Slots<K, V> {
         None
     }
 
-    // Returns the slot of the node with an equal key, among those with this hash that are not
-    // detached, and where it lies in the table.
+    // Returns the node with an equal key, among those with this hash that are not detached.
     #[inline(always)]
-    pub(super) fn find_key(&self, hash: u64, key: &K) -> Option<(usize, Cursor)>
+    pub(super) fn find_key(&self, hash: u64, key: &K) -> Option<Found<'_, K, V>>
     where
         K: Eq,
         requires tied { IsTied self.now }
         requires listed { IsListed self.now }
-        ensures { MatchOption result (LacksKey K.eq self.now hash key.now)
-            (λ r. HasKeyIn K.eq self.now r.0 key.now) }
+        ensures found { MatchOption result (LacksKey K.eq self.now hash key.now)
+            (λ found. HasKey K.eq found.node.now key.now) }
+        ensures node { IfSome result (λ found. IsNodeIn self.now found.place found.node.now) }
     {
         let mut at = self.by_hash.first(hash);
         'walk: while let Step::Item(cursor) = at {
             let node = self.candidate(cursor);
             if node.key == *key {
-                return Some((node.slot, cursor));
+                return Some(Found {
+                    place: Place { slot: node.slot },
+                    near: cursor,
+                    node,
+                });
             }
             at = self.by_hash.next(cursor);
         }
         None
     }
 
-    // Returns the slot of a node with this stamp, if it is among those with this hash that are not
-    // detached, and where it lies in the table.
+    // Returns a node with this stamp, if it is among those with this hash that are not detached.
     #[inline(always)]
-    pub(super) fn find_stamp(&self, hash: u64, stamp: u64) -> Option<(usize, Cursor)>
+    pub(super) fn find_stamp(&self, hash: u64, stamp: u64) -> Option<Found<'_, K, V>>
         requires tied { IsTied self.now }
         requires listed { IsListed self.now }
-        ensures { IfSome result (λ r. HasStampIn self.now r.0 stamp) }
+        ensures found { IfSome result (λ found. (entry_of found.node.now).stamp ≡ stamp) }
+        ensures node { IfSome result (λ found. IsNodeIn self.now found.place found.node.now) }
     {
         let mut at = self.by_hash.first(hash);
         'walk: while let Step::Item(cursor) = at {
             let node = self.candidate(cursor);
             if node.stamp == stamp {
-                return Some((node.slot, cursor));
+                return Some(Found {
+                    place: Place { slot: node.slot },
+                    near: cursor,
+                    node,
+                });
             }
             at = self.by_hash.next(cursor);
         }
@@ -261,33 +269,6 @@ impl<K: Drop, V: Drop> Slots<K, V> {
         ensures { IsNodeAt self.now slot result.now }
     {
         self.memory.get(self.pointers[slot])
-    }
-
-    // Returns the address of the node in a slot. If `near`, which may be any cursor, leads to the
-    // node, the slab is not read.
-    #[inline(always)]
-    fn address(&self, slot: usize, near: Cursor) -> At<Node<K, V>>
-        requires tied { IsTied self.now }
-        requires listed { IsListed self.now }
-        requires present { HasNode self.now slot }
-        ensures { LeadsTo self.now result.ptr slot }
-    {
-        if self.by_hash.is_filled(near) && self.candidate(near).slot == slot {
-            return self.by_hash.item(near);
-        }
-        self.pointers[slot]
-    }
-
-    // Returns the node in a slot for reading, as `node` does; the lookup begins at a cursor, which
-    // may be any.
-    #[inline(always)]
-    pub(super) fn node_near(&self, slot: usize, near: Cursor) -> &Node<K, V>
-        requires tied { IsTied self.now }
-        requires listed { IsListed self.now }
-        requires present { HasNode self.now slot }
-        ensures { IsNodeAt self.now slot result.now }
-    {
-        self.memory.get(self.address(slot, near))
     }
 
     // Returns the number of nodes.
@@ -327,8 +308,8 @@ impl<K: Drop, V: Drop> Slots<K, V> {
         self.pointers[slot].ptr
     }
 
-    // Returns a pointer to the node in a slot, as `look` does; the lookup begins at a cursor, which
-    // may be any.
+    // Returns a pointer to the node in a slot, as `look` does. If `near`, which may be any cursor,
+    // leads to the node, the slab is not read.
     #[inline(always)]
     pub(super) fn look_near(&mut self, slot: usize, near: Cursor) -> *mut Node<K, V>
         requires tied { IsTied self.old }
@@ -339,9 +320,11 @@ impl<K: Drop, V: Drop> Slots<K, V> {
         ensures rest { self.new ≡ record self.old { looks = self.new.looks } }
         ensures looks { self.new.looks.count ≡ self.old.looks.count + 1 }
     {
-        let at = self.address(slot, near);
-        self.looks.tick();
-        at.ptr
+        if self.by_hash.is_filled(near) && self.candidate(near).slot == slot {
+            self.looks.tick();
+            return self.by_hash.item(near).ptr;
+        }
+        self.look(slot)
     }
 
     // Returns the node at the end of a link for reading.

@@ -5,5 +5,5 @@ use Rattle.concurrent_lru.proofs.lru_core.State.entry_at.Goals as goal
 
 pub returns-in-None : goal.returns-in-None
 returns-in-None g c =
-    let lacks = subst (λ k. LacksStamp k c.args.spot.now.stamp) (ap (λ x. x.cache) c.self.view_is) c.in-None.ensures in
+    let lacks = subst (λ k. LacksStamp k c.args.spot.now.stamp) (ap (λ x. x.cache) c.self.view_is) c.in-None.ensures.found in
     unready c.args.self.now.cache c.args.spot.now.stamp lacks

@@ -11,16 +11,16 @@ use Rattle.concurrent_lru.proofs.lru_core.State.ready_at.Goals as goal
 use Rattle.concurrent_lru.proofs.lru_core.State.ready_at.Goals.{After-set_phase}
 
 pub returns-in_default-clause-step : goal.returns-in_default-clause-step
-returns-in_default-clause-step g c = (λ h holds. c.in_default.ensures h.key h.charge (inr (h, ap (λ k. held_at k.cache c.args.spot.now.stamp) c.self.view_is ∙ holds.at, refl, refl)), refl)
+returns-in_default-clause-step g c = (λ h holds. c.in_default.ensures.found h.key h.charge (inr (h, ap (λ k. held_at k.cache c.args.spot.now.stamp) c.self.view_is ∙ holds.at, refl, refl)), refl)
 
 pub returns-in_default-phase-clause-step : goal.returns-in_default-phase-clause-step
-returns-in_default-phase-clause-step g c = (not_in_phase c.node-node.ensures.entry c.self.invariant.lawful making (ap (λ x. x.cache) c.self.view_is) c.args.spot.now.stamp c.in-Some.ensures (λ e. c.in_default-phase.not-Making (phase_making _ e)), refl)
+returns-in_default-phase-clause-step g c = (not_in_phase c.in-Some.ensures.node.entry c.self.invariant.lawful making (ap (λ x. x.cache) c.self.view_is) c.args.spot.now.stamp c.in-Some.ensures.found (λ e. c.in_default-phase.not-Making (phase_making _ e)), refl)
 
 pub set_phase-requires : goal.set_phase-requires
-set_phase-requires g c = let here = c.node-node.ensures.entry in held_place here (unready_pinned here (unready_not_ready _ (inl (ap phase_of c.in-Making.is))))
+set_phase-requires g c = let here = c.in-Some.ensures.node.entry in held_place here (unready_pinned here (unready_not_ready _ (inl (ap phase_of c.in-Making.is))))
 
 stores : (g : _) (c : After-set_phase g) → ChangesPhase g.K.PartialEq.eq (cache_with c.self.inside.capacity c.self.inside.most_pins c.self.inside.next c.self.inside.table) c.args.spot.now.stamp making (ready c.new.result) [] (cache_with c.self.inside.capacity c.self.inside.most_pins c.self.inside.next c.set_phase.new.self)
-stores g c = changes_phase g.K.PartialEq.eq c.self.inside.capacity c.self.inside.most_pins c.self.inside.next c.node-node.ensures.entry c.set_phase.new.self c.args.spot.now.stamp making (ready c.new.result) c.in-Some.ensures (unready_pinned c.node-node.ensures.entry (unready_not_ready _ (inl (ap phase_of c.in-Making.is)))) (ap phase_of c.in-Making.is) c.set_phase.ensures
+stores g c = changes_phase g.K.PartialEq.eq c.self.inside.capacity c.self.inside.most_pins c.self.inside.next c.in-Some.ensures.node.entry c.set_phase.new.self c.args.spot.now.stamp making (ready c.new.result) c.in-Some.ensures.found (unready_pinned c.in-Some.ensures.node.entry (unready_not_ready _ (inl (ap phase_of c.in-Making.is)))) (ap phase_of c.in-Making.is) c.set_phase.ensures
 
 pub invariant_of-self : goal.invariant_of-self
 invariant_of-self g c = record { lawful = changes_phase_lawful _ _ _ _ _ _ _ c.self.invariant.lawful (stores g c); pins_above = c.self.invariant.pins_above }

@@ -10,10 +10,10 @@ use Rattle.concurrent_lru.proofs.lru_core.State.release_and_evict_at.Goals as go
 use Rattle.concurrent_lru.proofs.lru_core.State.release_and_evict_at.Goals.{After-none, After-one-last}
 
 pub returns-in_default-clause-step : goal.returns-in_default-clause-step
-returns-in_default-clause-step g c = (λ h v holds. c.in_default.ensures h.key h.charge (inr (h, ap (λ k. held_at k.cache c.args.spot.now.stamp) c.self.view_is ∙ holds.at, refl, refl)), refl)
+returns-in_default-clause-step g c = (λ h v holds. c.in_default.ensures.found h.key h.charge (inr (h, ap (λ k. held_at k.cache c.args.spot.now.stamp) c.self.view_is ∙ holds.at, refl, refl)), refl)
 
 unpinned : (g : _) (c : After-none g) → Leaves g.K.PartialEq.eq (cache_with c.self.inside.capacity c.self.inside.most_pins c.self.inside.next c.self.inside.table) c.args.spot.now.stamp (ready c.in-Ready.field-0) (ready c.in-Ready.field-0) [] (cache_with c.self.inside.capacity c.self.inside.most_pins c.self.inside.next c.set_pins.new.self)
-unpinned g c = leaves_as_it_is g.K.PartialEq.eq c.self.inside.capacity c.self.inside.most_pins c.self.inside.next c.node-node.ensures.entry c.set_pins.new.self c.args.spot.now.stamp (ready c.in-Ready.field-0) c.in-Some.ensures c.if-holders-gt1.true (ap phase_of c.in-Ready.is) c.set_pins.ensures
+unpinned g c = leaves_as_it_is g.K.PartialEq.eq c.self.inside.capacity c.self.inside.most_pins c.self.inside.next c.in-Some.ensures.node.entry c.set_pins.new.self c.args.spot.now.stamp (ready c.in-Ready.field-0) c.in-Some.ensures.found c.if-holders-gt1.true (ap phase_of c.in-Ready.is) c.set_pins.ensures
 
 pub invariant_of-self : goal.invariant_of-self
 invariant_of-self g c = record { lawful = leaves_lawful _ _ _ _ _ _ _ c.self.invariant.lawful (unpinned g c); pins_above = c.self.invariant.pins_above }
@@ -30,8 +30,8 @@ one n some few = omega arith
 departed : (g : _) (c : After-one-last g) → Departs g.K.PartialEq.eq (cache_with c.self.inside.capacity c.self.inside.most_pins c.self.inside.next c.self.inside.table) c.args.spot.now.stamp c.one-last.result (cache_with c.self.inside.capacity c.self.inside.most_pins c.self.inside.next c.take_held.new.self)
 departed g c =
     let few = c.if-holders-gt1.false in
-    departs g.K.PartialEq.eq c.self.inside.capacity c.self.inside.most_pins c.self.inside.next c.node-node.ensures.entry c.take_held.new.self c.args.spot.now.stamp c.in-Ready.field-0 (entry_of c.take_held.result.value) c.one-last.result c.in-Some.ensures
-    (ap phase_of c.in-Ready.is) (one (entry_of c.node-node.result.now).pins c.if-holders-eq0.false (λ many. omega (arith, many, few))) c.take_held.ensures.at c.take_held.ensures.entry c.take_held.ensures.idle c.take_held.ensures.held c.one-last.ensures
+    departs g.K.PartialEq.eq c.self.inside.capacity c.self.inside.most_pins c.self.inside.next c.in-Some.ensures.node.entry c.take_held.new.self c.args.spot.now.stamp c.in-Ready.field-0 (entry_of c.take_held.result.value) c.one-last.result c.in-Some.ensures.found
+    (ap phase_of c.in-Ready.is) (one (entry_of c.in-Some.found.node.now).pins c.if-holders-eq0.false (λ many. omega (arith, many, few))) c.take_held.ensures.at c.take_held.ensures.entry c.take_held.ensures.idle c.take_held.ensures.held c.one-last.ensures
 
 pub invariant_of-self-2 : goal.invariant_of-self-2
 invariant_of-self-2 g c = record { lawful = departs_lawful _ _ _ _ _ c.self.invariant.lawful (departed g c); pins_above = c.self.invariant.pins_above }

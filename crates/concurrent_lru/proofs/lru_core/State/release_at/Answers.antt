@@ -11,22 +11,22 @@ use Rattle.concurrent_lru.proofs.lru_core.State.release_at.Goals as goal
 use Rattle.concurrent_lru.proofs.lru_core.State.release_at.Goals.{After-none, After-settle, After-one}
 
 pub returns-in_default-clause-step : goal.returns-in_default-clause-step
-returns-in_default-clause-step g c = (λ h v holds. c.in_default.ensures h.key h.charge (inr (h, ap (λ k. held_at k.cache c.args.spot.now.stamp) c.self.view_is ∙ holds.at, refl, refl)), refl)
+returns-in_default-clause-step g c = (λ h v holds. c.in_default.ensures.found h.key h.charge (inr (h, ap (λ k. held_at k.cache c.args.spot.now.stamp) c.self.view_is ∙ holds.at, refl, refl)), refl)
 
 pub returns-in_default-phase : goal.returns-in_default-phase
-returns-in_default-phase g c = record { step = (λ h v. not_in_phase c.node-node.ensures.entry c.self.invariant.lawful (ready v) (ap (λ x. x.cache) c.self.view_is) c.args.spot.now.stamp c.in-Some.ensures (λ e. let r = phase_ready _ v e in c.in_default-phase.not-Ready r.0 r.1) h, refl); work = refl; lawful = subst (IsLawful _) (ap (λ x. x.cache) c.self.view_is) c.self.invariant.lawful }
+returns-in_default-phase g c = record { step = (λ h v. not_in_phase c.in-Some.ensures.node.entry c.self.invariant.lawful (ready v) (ap (λ x. x.cache) c.self.view_is) c.args.spot.now.stamp c.in-Some.ensures.found (λ e. let r = phase_ready _ v e in c.in_default-phase.not-Ready r.0 r.1) h, refl); work = refl; lawful = subst (IsLawful _) (ap (λ x. x.cache) c.self.view_is) c.self.invariant.lawful }
 
 pub returns-then-pins-eq0-clause-step : goal.returns-then-pins-eq0-clause-step
 returns-then-pins-eq0-clause-step g c = (
-  λ h v holds. (held_is c.node-node.ensures.entry c.self.invariant.lawful c.args.spot.now.stamp h c.in-Some.ensures (ap (λ k. held_at k.cache c.args.spot.now.stamp) c.self.view_is ∙ holds.at)).0 c.if-pins-eq0.true,
+  λ h v holds. (held_is c.in-Some.ensures.node.entry c.self.invariant.lawful c.args.spot.now.stamp h c.in-Some.ensures.found (ap (λ k. held_at k.cache c.args.spot.now.stamp) c.self.view_is ∙ holds.at)).0 c.if-pins-eq0.true,
   refl,
 )
 
 pub set_pins-requires-clause-held : goal.set_pins-requires-clause-held
-set_pins-requires-clause-held g c = held_place c.node-node.ensures.entry c.if-pins-eq0.false
+set_pins-requires-clause-held g c = held_place c.in-Some.ensures.node.entry c.if-pins-eq0.false
 
 unpinned : (g : _) (c : After-none g) → Leaves g.K.PartialEq.eq (cache_with c.self.inside.capacity c.self.inside.most_pins c.self.inside.next c.self.inside.table) c.args.spot.now.stamp (ready c.in-Ready.field-0) (ready c.in-Ready.field-0) [] (cache_with c.self.inside.capacity c.self.inside.most_pins c.self.inside.next c.set_pins.new.self)
-unpinned g c = leaves_as_it_is g.K.PartialEq.eq c.self.inside.capacity c.self.inside.most_pins c.self.inside.next c.node-node.ensures.entry c.set_pins.new.self c.args.spot.now.stamp (ready c.in-Ready.field-0) c.in-Some.ensures c.if-pins-gt1.true (ap phase_of c.in-Ready.is) c.set_pins.ensures
+unpinned g c = leaves_as_it_is g.K.PartialEq.eq c.self.inside.capacity c.self.inside.most_pins c.self.inside.next c.in-Some.ensures.node.entry c.set_pins.new.self c.args.spot.now.stamp (ready c.in-Ready.field-0) c.in-Some.ensures.found c.if-pins-gt1.true (ap phase_of c.in-Ready.is) c.set_pins.ensures
 
 pub invariant_of-self : goal.invariant_of-self
 invariant_of-self g c = record { lawful = leaves_lawful _ _ _ _ _ _ _ c.self.invariant.lawful (unpinned g c); pins_above = c.self.invariant.pins_above }
@@ -38,7 +38,7 @@ pub returns-then-pins-gt1-clause-lawful : goal.returns-then-pins-gt1-clause-lawf
 returns-then-pins-gt1-clause-lawful g c = leaves_lawful _ _ _ _ _ _ _ c.self.invariant.lawful (unpinned g c)
 
 pub make_idle-requires : goal.make_idle-requires
-make_idle-requires g c = ready_place c.node-node.ensures.entry c.in-Ready.field-0 (ap phase_of c.in-Ready.is) c.if-pins-eq0.false c.if-detached.false
+make_idle-requires g c = ready_place c.in-Some.ensures.node.entry c.in-Ready.field-0 (ap phase_of c.in-Ready.is) c.if-pins-eq0.false c.if-detached.false
 
 one : (n : ℕ) → (n ≡ 0 → ⊥) → (1 < n → ⊥) → n ≡ 1
 one n some few = omega arith
@@ -46,8 +46,8 @@ one n some few = omega arith
 ended : (g : _) (c : After-one g) → Ends g.K.PartialEq.eq (cache_with c.self.inside.capacity c.self.inside.most_pins c.self.inside.next c.self.inside.table) c.args.spot.now.stamp c.one.result (cache_with c.self.inside.capacity c.self.inside.most_pins c.self.inside.next c.take_held.new.self)
 ended g c =
     let few = c.if-pins-gt1.false in
-    ends g.K.PartialEq.eq c.self.inside.capacity c.self.inside.most_pins c.self.inside.next c.node-node.ensures.entry c.take_held.new.self c.args.spot.now.stamp c.in-Ready.field-0 (entry_of c.take_held.result.value) c.one.result c.in-Some.ensures
-    (ap phase_of c.in-Ready.is) c.if-detached.true (one (entry_of c.node-node.result.now).pins c.if-pins-eq0.false (λ many. omega (arith, many, few))) c.take_held.ensures.at c.take_held.ensures.entry c.take_held.ensures.idle c.take_held.ensures.held c.one.ensures
+    ends g.K.PartialEq.eq c.self.inside.capacity c.self.inside.most_pins c.self.inside.next c.in-Some.ensures.node.entry c.take_held.new.self c.args.spot.now.stamp c.in-Ready.field-0 (entry_of c.take_held.result.value) c.one.result c.in-Some.ensures.found
+    (ap phase_of c.in-Ready.is) c.if-detached.true (one (entry_of c.in-Some.found.node.now).pins c.if-pins-eq0.false (λ many. omega (arith, many, few))) c.take_held.ensures.at c.take_held.ensures.entry c.take_held.ensures.idle c.take_held.ensures.held c.one.ensures
 
 pub invariant_of-self-then-detached : goal.invariant_of-self-then-detached
 invariant_of-self-then-detached g c = record { lawful = ends_lawful _ _ _ _ _ c.self.invariant.lawful (ended g c); pins_above = c.self.invariant.pins_above }
@@ -61,8 +61,8 @@ returns-then-detached-clause-lawful g c = ends_lawful _ _ _ _ _ c.self.invariant
 rested : (g : _) (c : After-settle g) → Rests g.K.PartialEq.eq (cache_with c.self.inside.capacity c.self.inside.most_pins c.self.inside.next c.self.inside.table) c.args.spot.now.stamp c.settle.result (cache_with c.self.inside.capacity c.self.inside.most_pins c.self.inside.next c.settle.new.self)
 rested g c =
     let few = c.if-pins-gt1.false in
-    rests g.K.PartialEq.eq c.self.inside.capacity c.self.inside.most_pins c.self.inside.next c.node-node.ensures.entry c.make_idle.new.self c.settle.new.self c.args.spot.now.stamp c.settle.result c.in-Some.ensures
-    (one (entry_of c.node-node.result.now).pins c.if-pins-eq0.false (λ many. omega (arith, many, few))) c.make_idle.ensures c.settle.ensures.held c.settle.ensures.front
+    rests g.K.PartialEq.eq c.self.inside.capacity c.self.inside.most_pins c.self.inside.next c.in-Some.ensures.node.entry c.make_idle.new.self c.settle.new.self c.args.spot.now.stamp c.settle.result c.in-Some.ensures.found
+    (one (entry_of c.in-Some.found.node.now).pins c.if-pins-eq0.false (λ many. omega (arith, many, few))) c.make_idle.ensures c.settle.ensures.held c.settle.ensures.front
 
 pub invariant_of-self-2 : goal.invariant_of-self-2
 invariant_of-self-2 g c = record { lawful = rests_lawful _ _ _ _ _ c.self.invariant.lawful (rested g c); pins_above = c.self.invariant.pins_above }

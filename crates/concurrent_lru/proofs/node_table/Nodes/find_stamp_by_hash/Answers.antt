@@ -1,9 +1,6 @@
-use Rattle.std.proofs.Common.{refl}
-use Rattle.concurrent_lru.specs.NodeTable.{entry_of}
-use Rattle.concurrent_lru.proofs.Nodes.SlotViews.{entry_there}
+use Rattle.std.proofs.lemmas.Option.{IfSome_then}
+use Rattle.concurrent_lru.proofs.Nodes.ShownChanges.{shown_found}
 use Rattle.concurrent_lru.proofs.node_table.Nodes.find_stamp_by_hash.Goals as goal
 
-pub returns-in-Some : goal.returns-in-Some
-returns-in-Some g c =
-    let i = c.self.inside in let has = c.in-Some.ensures in
-    (entry_of has.0.value, entry_there i.order i.work.count c.args.self.now c.self.view_is c.in-Some.slot c.in-Some.slot has.0 refl has.1, has.2)
+pub returns-clause-node : goal.returns-clause-node
+returns-clause-node g c = IfSome_then c.find_stamp.result c.find_stamp.ensures.node (λ f there. shown_found c.self.inside.order _ _ f.node.now c.self.view_is c.self.invariant.linked there)

@@ -4,7 +4,7 @@ use Rattle.concurrent_lru.specs.NodeTable.{entry_with_pins}
 use Rattle.concurrent_lru.specs.SlotPointers.{cells_of}
 use Rattle.concurrent_lru.proofs.Nodes.Listings.{then_keeps}
 use Rattle.concurrent_lru.proofs.Nodes.NodeWrites.{looked_and_wrote, then_writes}
-use Rattle.concurrent_lru.proofs.Nodes.SlotViews.{IsWritten, written}
+use Rattle.concurrent_lru.proofs.Nodes.SlotViews.{IsWritten, written, looked_entry}
 use Rattle.concurrent_lru.proofs.node_table.links.Order.make_idle.Goals as goal
 use Rattle.concurrent_lru.proofs.node_table.links.Order.make_idle.Goals.{After-set_pins_by_link}
 
@@ -20,6 +20,9 @@ returns-clause-nodes g c = c.push.ensures.nodes ∙ (rested g (goal.at.returns-c
 
 pub returns-clause-idle : goal.returns-clause-idle
 returns-clause-idle g c = c.push.ensures.idle ∙ ap (λ ks. ks ++ c.args.slot ∷ []) (rested g (goal.at.returns-clause-idle g c).After-set_pins_by_link).idle
+
+pub returns-clause-charge : goal.returns-clause-charge
+returns-clause-charge g c e h = ap (λ x. x.charge) (looked_entry c.args.self.now c.look_near-own.new.self c.look_near-own.result c.args.slot c.look_near-own.ensures.rest c.look_near-own.ensures.link c.follow.ensures e h)
 
 pub returns-clause-rest : goal.returns-clause-rest
 returns-clause-rest g c = then_writes c.args.self.now.slots c.set_pins_by_link.new.self c.push.new.self.slots (looked_and_wrote c.args.self.now.slots c.look_near-own.new.self c.set_pins_by_link.new.self c.look_near-own.ensures.rest c.set_pins_by_link.ensures.rest) c.push.ensures.rest

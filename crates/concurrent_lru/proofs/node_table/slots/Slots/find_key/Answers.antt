@@ -41,13 +41,14 @@ walk-preserved g c =
       ];
     }
 
-pub returns-then-eq : goal.returns-then-eq
-returns-then-eq g c =
-    let s = c.args.self.now in let to = c.candidate-node.ensures in
-    (to.cell, candidate_there s c.in-Item.cursor c.candidate-node.result.now c.requires.tied to, to.found, ap (λ x. g.K.PartialEq.eq (entry_of x).key c.args.key.now) (sym to.is) ∙ sym c.eq.ensures ∙ c.if-eq.true)
+pub returns-then-eq-clause-found : goal.returns-then-eq-clause-found
+returns-then-eq-clause-found g c = let to = c.candidate-node.ensures in (ap (λ x. (entry_of x).detached) to.is ∙ to.found, sym c.eq.ensures ∙ c.if-eq.true)
 
-pub returns : goal.returns
-returns g c = λ slot d at found hash.
+pub returns-then-eq-clause-node : goal.returns-then-eq-clause-node
+returns-then-eq-clause-node g c = let to = c.candidate-node.ensures in (to.cell, candidate_there c.args.self.now c.in-Item.cursor c.candidate-node.result.now c.requires.tied to, to.is)
+
+pub returns-clause-found : goal.returns-clause-found
+returns-clause-found g c = λ slot d at found hash.
     let s = c.args.self.now in
     let h = c.requires.listed.listed slot (listing d) (cell_listed (cell_at s.memory.cells slot) d at found) in
     elim (g.K.PartialEq.eq (entry_of d.value).key c.args.key.now) as (λ b. g.K.PartialEq.eq (entry_of d.value).key c.args.key.now ≡ b → b ≡ false) [

@@ -1,5 +1,4 @@
-use Rattle.std.proofs.Common.{◌≡◌, sym, ap, ◌∙◌, subst}
-use Rattle.concurrent_lru.specs.NodeTable.{entry_of}
+use Rattle.std.proofs.Common.{◌≡◌, subst}
 use Rattle.concurrent_lru.specs.Probing.OpenTable.{mark_of, HasMark}
 use Rattle.concurrent_lru.specs.Probing.Probes.{marks_of, mark_at}
 use Rattle.concurrent_lru.proofs.Nodes.Listings.{candidate_there}
@@ -22,7 +21,5 @@ walk-preserved g c =
     let mark : mark_at (marks_of s.by_hash) c.in-Item.cursor ≡ mark_of c.args.hash = item_mark s.by_hash (mark_of c.args.hash) (mark_filled c.args.hash) c.walk.at c.in-Item.cursor c.in-Item.is c.walk.invariant in
     subst (λ m. HasMark s.by_hash m c.next-at.result) mark c.next-at.ensures.mark
 
-pub returns-then-node-stamp : goal.returns-then-node-stamp
-returns-then-node-stamp g c =
-    let to = c.candidate-node.ensures in
-    (to.cell, candidate_there c.args.self.now c.in-Item.cursor c.candidate-node.result.now c.requires.tied to, ap (λ x. (entry_of x).stamp) (sym to.is) ∙ c.if-node-stamp.true)
+pub returns-then-node-stamp-clause-node : goal.returns-then-node-stamp-clause-node
+returns-then-node-stamp-clause-node g c = let to = c.candidate-node.ensures in (to.cell, candidate_there c.args.self.now c.in-Item.cursor c.candidate-node.result.now c.requires.tied to, to.is)
