@@ -1,5 +1,5 @@
 -- A journal: a cache with the records of its accepted steps, and what each of its calls does.
-use Rattle.std.specs.Prelude.{◌≡◌, ℕ, ◌⊎◌, Bool, List, [], ◌∷◌, ◌++◌, Option, Result, Ok, Err, IfOk, OnErr}
+use Rattle.std.specs.Prelude.{◌≡◌, ℕ, ◌⊎◌, Bool, true, List, [], ◌∷◌, ◌++◌, Option, Result, Ok, Err, IfOk, OnErr}
 use Rattle.std.specs.declared.sync.Arc.{Arc}
 use Rattle.std.specs.declared.alloc.Global.{Global}
 use Rattle.concurrent_lru.specs.Cache.{Cache, empty_cache, most_pins_by_default, IsLawful, CopiesAreEqual}
@@ -47,6 +47,11 @@ module _ {K V : Type 0} where
       Step E old.cache r reply evicted new.cache
       × (new ≡ record { cache = new.cache; records = old.records ++ record_of (request_by no_value r) (told_of r reply) ∷ []; began = old.began })
   Journals E old r (refused e) new = ((e ≡ Memory) ⊎ Refuses E old.cache r e) × (new ≡ old)
+
+  -- the same of a request with a key, which is made with a copy of it
+  abbrev pub JournalsOfCopy : (K → K → Bool) → K → Journaled K V → (K → Request K V) → Outcome K V → Journaled K V → Type 0
+  JournalsOfCopy E key old request_of (accepted reply evicted) new = (copy : K) × (E copy key ≡ true) × Journals E old (request_of copy) (accepted reply evicted) new
+  JournalsOfCopy E key old request_of (refused e) new = ((e ≡ Memory) ⊎ ((copy : K) × (E copy key ≡ true) × Refuses E old.cache (request_of copy) e)) × (new ≡ old)
 
   -- From old, a journal may read the key: an accepted read is one of the cache and adds its record;
   -- one refused by the cache or for lack of memory changes nothing.

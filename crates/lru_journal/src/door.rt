@@ -1,17 +1,12 @@
 //! The lock of a twin. Each call acquires it once, for one call of the journal, and releases it.
 //! What this took out of the cache is dropped after that.
-ghost use Rattle.std.specs.Prelude.{◌≡◌, ◌≢◌, IfErr, IfOk, IfSome};
-ghost use Rattle.std.specs.Fn.{FnOnceReturnsAt, FnOnceTakesAt};
-ghost use Rattle.concurrent_lru.specs.Request as ask;
-ghost use Rattle.lru_journal.specs.Records.{record_of};
-ghost use Rattle.lru_journal.specs.Replay.{told_of_found, IsOfCopy};
+ghost use Rattle.std.specs.Prelude.{◌≡◌, IfErr};
 ghost use Rattle.lru_journal.specs.Tallies.{all_parts, AreExactly, IsTallied};
 
 use crate::journal::Journal;
 use crate::tally::{Cell, Identity, Tally};
 use crate::twin_state::TwinState;
 use crate::twin_state::calls::JournalCall;
-use concurrent_lru::lru_core::Refusal;
 use std::hash::Hash;
 use std::sync::{Mutex, MutexGuard, Wait};
 
@@ -79,6 +74,7 @@ impl<'a, K: Hash + Eq + Clone, V: Drop, R: Wait + Drop, I: Identity> Guard<'a, K
         tally: &mut Tally<K, I>,
         call: C,
     ) -> Result<C::Answer, C::Refused>
+        requires { C.can_apply call }
         ensures tallied { IsTallied tally.old (C.is_record call) result tally.new }
         ensures parts { tally.new.parts ≡ tally.old.parts }
         ensures refusal { IfErr result (C.may_refuse call) }
@@ -86,28 +82,5 @@ impl<'a, K: Hash + Eq + Clone, V: Drop, R: Wait + Drop, I: Identity> Guard<'a, K
         let Self { door, mut guard } = self;
         let answer = guard.call(&door.rt, &door.cell, tally, call);
         answer.open(guard)
-    }
-
-    /// Reads from the journal, as `TwinState::read` does. `reader` runs under the lock.
-    pub(crate) fn read<T, G>(
-        self,
-        tally: &mut Tally<K, I>,
-        key: &K,
-        reader: G,
-    ) -> Result<Option<(u64, T)>, Refusal>
-    where
-        G: FnOnce(&V) -> T + Drop,
-        requires callable { (v : V) → FnOnceTakesAt G.FnOnce reader v }
-        ensures tallied { IsTallied tally.old
-            (λ found. IsOfCopy K.eq key.now (λ copy. record_of (ask.read copy)
-            (told_of_found found))) result tally.new }
-        ensures parts { tally.new.parts ≡ tally.old.parts }
-        ensures answered { IfOk result (λ found. IfSome found
-            (λ r. (v : V) × FnOnceReturnsAt G.FnOnce reader v r.1)) }
-        ensures never_stale { IfErr result (λ e. e ≢ Refusal.Stale) }
-    {
-        let Self { door, mut guard } = self;
-        let found = guard.read(&door.rt, &door.cell, tally, key, reader);
-        found.open(guard)
     }
 }

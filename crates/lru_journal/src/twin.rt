@@ -201,7 +201,7 @@ impl<K: Hash + Eq + Clone + Send + Sync, V: Drop + Send + Sync, R: Wait + Drop, 
             (λ r. (v : V) × FnOnceReturnsAt G.FnOnce reader v r.1)) }
         ensures never_stale { IfErr result (λ e. e ≢ Refusal.Stale) }
     {
-        self.door.lock().read(tally, key, reader)
+        self.door.lock().call(tally, calls::Read { key, reader })
     }
 
     /// Releases a pin. A refusal returns the pin.

@@ -2,13 +2,9 @@
 //!
 //! Each call makes one call of the journal, whose receipt goes to the caller's tally. What this
 //! took out is sealed.
-ghost use Rattle.std.specs.Prelude.{◌≡◌, ◌≢◌, ◌++◌, ◌∷◌, [], IfErr, IfOk, IfSome};
-ghost use Rattle.std.specs.Fn.{FnOnceReturnsAt, FnOnceTakesAt};
+ghost use Rattle.std.specs.Prelude.{◌≡◌, ◌++◌, ◌∷◌, [], IfErr};
 ghost use Rattle.crossbeam_utils.specs.Seq.{cell_view};
-ghost use Rattle.concurrent_lru.specs.Request as ask;
 ghost use Rattle.lru_journal.specs.Journals.{IsRecorded};
-ghost use Rattle.lru_journal.specs.Records.{record_of};
-ghost use Rattle.lru_journal.specs.Replay.{told_of_found, IsOfCopy};
 ghost use Rattle.lru_journal.specs.Tallies.{knower, all_parts, AreExactly, Receives, IsTallied};
 
 pub mod calls;
@@ -17,7 +13,6 @@ use self::calls::JournalCall;
 use crate::journal::Journal;
 use crate::record::Record;
 use crate::tally::{Cell, CellPass, CheckRecords, Identity, Tally, add_tally, append, take_tally};
-use concurrent_lru::lru_core::Refusal;
 use concurrent_lru::sealed::Sealed;
 use std::hash::Hash;
 use std::marker::{Brand, Model, PhantomData};
@@ -84,7 +79,8 @@ impl<K: Hash + Eq + Clone, V: Drop, I: Identity> TwinState<K, V, I> {
         tally: &mut Tally<K, I>,
         call: C,
     ) -> Sealed<Result<C::Answer, C::Refused>>
-        requires { cell.now.table.shared.table_id ≡ I.name.table }
+        requires cell { cell.now.table.shared.table_id ≡ I.name.table }
+        requires callable { C.can_apply call }
         ensures recorded { IsRecorded self.old (C.is_record call) result self.new }
         ensures tallied { IsTallied tally.old (C.is_record call) result tally.new }
         ensures parts { tally.new.parts ≡ tally.old.parts }
@@ -96,39 +92,6 @@ impl<K: Hash + Eq + Clone, V: Drop, I: Identity> TwinState<K, V, I> {
                 Sealed::of(Ok(answer))
             }
             Err(refused) => Sealed::of(Err(refused)),
-        }
-    }
-
-    /// Reads from the journal, with a record and a receipt as `call` adds them.
-    pub(crate) fn read<T, G, R: Wait>(
-        &mut self,
-        rt: &R,
-        cell: &Cell<K>,
-        tally: &mut Tally<K, I>,
-        key: &K,
-        reader: G,
-    ) -> Sealed<Result<Option<(u64, T)>, Refusal>>
-    where
-        G: FnOnce(&V) -> T + Drop,
-        requires cell { cell.now.table.shared.table_id ≡ I.name.table }
-        requires callable { (v : V) → FnOnceTakesAt G.FnOnce reader v }
-        ensures recorded { IsRecorded self.old
-            (λ found. IsOfCopy K.eq key.now (λ copy. record_of (ask.read copy)
-            (told_of_found found))) result self.new }
-        ensures tallied { IsTallied tally.old
-            (λ found. IsOfCopy K.eq key.now (λ copy. record_of (ask.read copy)
-            (told_of_found found))) result tally.new }
-        ensures parts { tally.new.parts ≡ tally.old.parts }
-        ensures answered { IfOk result (λ found. IfSome found
-            (λ r. (v : V) × FnOnceReturnsAt G.FnOnce reader v r.1)) }
-        ensures never_stale { IfErr result (λ e. e ≢ Refusal.Stale) }
-    {
-        match self.journal.read(key, reader) {
-            Ok(found) => {
-                note(rt, cell, &mut self.records_pass, tally, &self.journal);
-                Sealed::of(Ok(found))
-            }
-            Err(refusal) => Sealed::of(Err(refusal)),
         }
     }
 

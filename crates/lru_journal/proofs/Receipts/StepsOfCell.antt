@@ -61,39 +61,32 @@ module _ {K : Type 0} where
         (refl, subst (λ (n : ℕ). AllBelow n v.receipts) (sym same) (stand_below log v.receipts fits.1)),
       )
 
-  -- a tally's parts and receipts are given away
-  pub gives : (by : ℕ) (v : View K) → Forks IsCounted by v (without_tally v) (only_tally v)
-  gives by v words views h at =
-      let fits = h.fits by v at in
-      let left = without_tally v in let right = only_tally v in
+  -- a view in two parts, which have its parts and receipts
+  forks : (by : ℕ) (v left right : View K) → left.parts + right.parts ≡ v.parts → ((n : ℕ) → receipt_count_at n left.receipts + receipt_count_at n right.receipts ≡ receipt_count_at n v.receipts)
+      → ((seat : ℕ) (log : List (Record K)) → Fits seat log by v → Fits seat log by left × ((j : ℕ) → Fits seat log j right)) → Forks IsCounted by v left right
+  forks by v left right parts receipts fit words views h at =
+      let fits = fit h.seat h.log (h.fits by v at) in
       record {
         seat = h.seat;
         log = h.log;
         count = h.count;
-        parts = (let s = sum_over_set (λ (u : View K). u.parts) views by v left at in let t = sum_over_snoc (λ (u : View K). u.parts) (set views by left) right in omega (arith, s, t, h.parts));
-        positions = λ n. let s = sum_over_set (λ (u : View K). receipt_count_at n u.receipts) views by v left at in let t = sum_over_snoc (λ (u : View K). receipt_count_at n u.receipts) (set views by left) right in omega (arith, s, t, h.positions n);
+        parts = (let s = sum_over_set (λ (u : View K). u.parts) views by v left at in let t = sum_over_snoc (λ (u : View K). u.parts) (set views by left) right in omega (arith, s, t, h.parts, parts));
+        positions = λ n. let s = sum_over_set (λ (u : View K). receipt_count_at n u.receipts) views by v left at in let t = sum_over_snoc (λ (u : View K). receipt_count_at n u.receipts) (set views by left) right in omega (arith, s, t, h.positions n, receipts n);
         fits = λ j u e. ⊎_elim
-            (λ was. fits_set h.seat h.log views by left (λ i x _ e'. h.fits i x e') (fits.0, tt, (λ _. refl)) j u was)
-            (λ (is : right ≡ u). subst (Fits h.seat h.log j) is ((λ k. absurd (off k)), fits.1, fits.2))
+            (λ was. fits_set h.seat h.log views by left (λ i x _ e'. h.fits i x e') fits.0 j u was)
+            (λ (is : right ≡ u). subst (Fits h.seat h.log j) is (fits.1 j))
             (at_snoc (set views by left) right u j e);
       }
 
+  -- a tally's parts and receipts are given away
+  pub gives : (by : ℕ) (v : View K) → Forks IsCounted by v (without_tally v) (only_tally v)
+  gives by v = forks by v (without_tally v) (only_tally v) (omega arith) (λ n. omega arith)
+      (λ seat log fits. ((fits.0, tt, (λ _. refl)), (λ j. ((λ k. absurd (off k)), fits.1, fits.2))))
+
   -- one part is cut off
   pub cuts : (by : ℕ) (v : View K) → 1 < v.parts → Forks IsCounted by v (less_one v) (one_part v)
-  cuts by v more words views h at =
-      let fits = h.fits by v at in
-      let left = less_one v in let right = one_part v in
-      record {
-        seat = h.seat;
-        log = h.log;
-        count = h.count;
-        parts = (let s = sum_over_set (λ (u : View K). u.parts) views by v left at in let t = sum_over_snoc (λ (u : View K). u.parts) (set views by left) right in omega (arith, s, t, h.parts, more));
-        positions = λ n. let s = sum_over_set (λ (u : View K). receipt_count_at n u.receipts) views by v left at in let t = sum_over_snoc (λ (u : View K). receipt_count_at n u.receipts) (set views by left) right in omega (arith, s, t, h.positions n);
-        fits = λ j u e. ⊎_elim
-            (λ was. fits_set h.seat h.log views by left (λ i x _ e'. h.fits i x e') (fits.0, fits.1, (λ none. absurd (omega (arith, more, none)))) j u was)
-            (λ (is : right ≡ u). subst (Fits h.seat h.log j) is ((λ k. absurd (off k)), tt, (λ _. refl)))
-            (at_snoc (set views by left) right u j e);
-      }
+  cuts by v more = forks by v (less_one v) (one_part v) (omega (arith, more)) (λ n. omega arith)
+      (λ seat log fits. ((fits.0, fits.1, (λ none. absurd (omega (arith, more, none)))), (λ j. ((λ k. absurd (off k)), tt, (λ _. refl)))))
 
   both_none : (xs ys : List (ℕ × Record K)) → xs ≡ [] → ys ≡ [] → xs ++ ys ≡ []
   both_none xs ys e e' = rw (e, e') refl

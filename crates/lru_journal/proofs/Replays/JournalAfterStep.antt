@@ -1,6 +1,5 @@
--- What a journal is after a step that it records, and after one that it refuses.
-use Rattle.std.proofs.Common.{◌≡◌, ℕ, inl, inr, Bool, List, [], ◌∷◌, ◌++◌, Option, Some, None, Result, Ok, Err, refl, sym, ap, ◌∙◌, subst}
-use Rattle.std.specs.Result.{IsErrAnd}
+-- What a journal is after a step that it records.
+use Rattle.std.proofs.Common.{◌≡◌, ℕ, Bool, List, [], ◌∷◌, ◌++◌, Option, Some, None, Ok, refl, sym, ap, ◌∙◌, subst}
 use Rattle.std.specs.declared.sync.Arc.{Arc}
 use Rattle.std.specs.declared.alloc.Global.{Global}
 use Rattle.std.specs.FinMap.{FinMap}
@@ -11,10 +10,8 @@ use Rattle.concurrent_lru.specs.Request as ask
 use Rattle.concurrent_lru.specs.Request.{Request}
 use Rattle.concurrent_lru.specs.Reply.{Reply}
 use Rattle.concurrent_lru.specs.Results.{reply_of_begun, reply_of_failed, reply_of_found}
-use Rattle.concurrent_lru.specs.Runs.{Outcome, refused, accepted, Refuses}
+use Rattle.concurrent_lru.specs.Runs.{accepted}
 use Rattle.concurrent_lru.specs.Steps.{Step}
-use Rattle.concurrent_lru.specs.declared.refusal.Refusal.{Refusal}
-use Rattle.concurrent_lru.specs.declared.refusal.Refusal.TheVariants.{Memory}
 use Rattle.concurrent_lru.specs.declared.step.Begun.{Begun}
 use Rattle.concurrent_lru.specs.declared.step.Begun.TheVariants as begun
 use Rattle.concurrent_lru.specs.declared.step.Failed.{Failed}
@@ -22,7 +19,7 @@ use Rattle.concurrent_lru.specs.declared.step.Failed.TheVariants as fails
 use Rattle.lru_journal.specs.Records.{Answered, record_of}
 use Rattle.lru_journal.specs.Values.{request_by}
 use Rattle.lru_journal.specs.Replay.{no_value, without_values, told_of, told_of_begun, told_of_failed, told_of_found, start}
-use Rattle.lru_journal.specs.Journals.{Journaled, IsSoundJournal, Journals}
+use Rattle.lru_journal.specs.Journals.{Journaled, IsRecorded, IsSoundJournal, Journals}
 use Rattle.lru_journal.proofs.Replays.OneRecordMore.{goes_on}
 use Rattle.lru_journal.proofs.Replays.WithOtherValues.{empty_by}
 
@@ -74,34 +71,27 @@ module _ {K V : Type 0} where
     };
   }
 
-  -- the recorded step, as the journal is seen
-  pub accepts : (E : K → K → Bool) {j : Journaled K V} {old new : Cache K V} {rs mid all : List (Answered K)} {began : ℕ} {rec : Answered K} (r : Request K V) (p : Reply K V) (out : List (Idle K V))
-      → record { cache = old; records = rs; began = began } ≡ j → Step E old r p out new → mid ≡ rs → all ≡ mid ++ rec ∷ [] → rec ≡ record_of (request_by no_value r) (told_of r p)
-      → Journals E j r (accepted p out) (record { cache = new; records = all; began = began })
-  accepts E {j} {old} {new} {rs} {mid} {all} {began} {rec} r p out is_j s same is told =
-      subst (λ (x : Journaled K V). Journals E x r (accepted p out) (record { cache = new; records = all; began = began })) is_j
-      (s, ap (λ (l : List (Answered K)). record { cache = new; records = l; began = began }) (is ∙ ap (λ (l : List (Answered K)). l ++ rec ∷ []) same ∙ ap (λ (x : Answered K). rs ++ x ∷ []) told))
+  -- an accepted step that adds the record rec: the journal stays sound, and the call is such a step
+  pub record Adds (is_clone : K → K → Type 0) (E : K → K → Bool) (j : Journaled K V) (r : Request K V) (p : Reply K V) (out : List (Idle K V)) (rec : Answered K) (new : Journaled K V) : Type 0 where
+    pub sound : IsSoundJournal is_clone E new.cache new.records new.began
+    pub step : Journals E j r (accepted p out) new
+    pub began : new.began ≡ j.began
+    pub records : new.records ≡ j.records ++ rec ∷ []
 
-  -- a call that found no room
-  pub no_room : (E : K → K → Bool) {j now : Journaled K V} {R : Type 0} (r : Request K V) (outcome : Result R Refusal → Outcome K V) (result : Result R Refusal) (e : Refusal)
-      → ((x : Refusal) → outcome (Err x) ≡ refused x) → IsErrAnd result (λ x. x ≡ e) → e ≡ Memory → now ≡ j → Journals E j r (outcome result) now
-  no_room E r outcome (Ok v) e says h is same = absurd h
-  no_room E {j} {now} {R} r outcome (Err x) e says h is same = subst (λ (o : Outcome K V). Journals E j r o now) (sym (says x)) (inl (h ∙ is), same)
+  pub adds : {is_clone : K → K → Type 0} {E : K → K → Bool} {j : Journaled K V} {old new : Cache K V} {rs mid all : List (Answered K)} {began : ℕ} {rec : Answered K} (r : Request K V) (p : Reply K V) (out : List (Idle K V))
+      → IsSoundJournal is_clone E old rs began → record { cache = old; records = rs; began = began } ≡ j → IsLawful E new → Step E old r p out new → mid ≡ rs → all ≡ mid ++ rec ∷ [] → rec ≡ record_of (request_by no_value r) (told_of r p)
+      → Adds is_clone E j r p out rec (record { cache = new; records = all; began = began })
+  adds {is_clone} {E} {j} {old} {new} {rs} {mid} {all} {began} {rec} r p out sound is_j lawful s same is told =
+      let added : all ≡ rs ++ rec ∷ [] = is ∙ ap (λ (l : List (Answered K)). l ++ rec ∷ []) same in
+      record {
+        sound = keeps_on r p out sound lawful s same is told;
+        step = subst (λ (x : Journaled K V). Journals E x r (accepted p out) (record { cache = new; records = all; began = began })) is_j
+            (s, ap (λ (l : List (Answered K)). record { cache = new; records = l; began = began }) (added ∙ ap (λ (x : Answered K). rs ++ x ∷ []) told));
+        began = ap (λ (x : Journaled K V). x.began) is_j;
+        records = added ∙ ap (λ (x : Journaled K V). x.records ++ rec ∷ []) is_j;
+      }
 
-  -- a call that the cache refused
-  pub refuses : (E : K → K → Bool) {j : Journaled K V} {old new : Cache K V} {rs mid : List (Answered K)} {began : ℕ} {R : Type 0} (r : Request K V) (outcome : Result R Refusal → Outcome K V) (result : Result R Refusal) (e : Refusal)
-      → ((x : Refusal) → outcome (Err x) ≡ refused x) → IsErrAnd result (λ x. x ≡ e) → record { cache = old; records = rs; began = began } ≡ j → Refuses E old r e × (new ≡ old) → mid ≡ rs
-      → Journals E j r (outcome result) (record { cache = new; records = mid; began = began })
-  refuses E r outcome (Ok v) e says h is_j s same = absurd h
-  refuses E {j} {old} {new} {rs} {mid} {began} {R} r outcome (Err x) e says h is_j s same =
-      let now : Journaled K V = record { cache = new; records = mid; began = began } in
-      subst (λ (o : Outcome K V). Journals E j r o now) (sym (says x))
-      (inr (subst (λ (y : Journaled K V × Refusal). Refuses E y.0.cache r y.1) (λ i. (is_j i, sym h i)) s.0), (λ i. record { cache = s.1 i; records = same i; began = began }) ∙ is_j)
-
-  -- the same of a call whose refusal returns a value too
-  pub refuses_with : (E : K → K → Bool) {j : Journaled K V} {old new : Cache K V} {rs mid : List (Answered K)} {began : ℕ} (r : Request K V) (e : Refusal)
-      → record { cache = old; records = rs; began = began } ≡ j → Refuses E old r e × (new ≡ old) → mid ≡ rs → Journals E j r (refused e) (record { cache = new; records = mid; began = began })
-  refuses_with E {j} {old} {new} {rs} {mid} {began} r e is_j s same = (
-    inr (subst (λ (y : Journaled K V). Refuses E y.cache r e) is_j s.0),
-    (λ i. record { cache = s.1 i; records = same i; began = began }) ∙ is_j,
-  )
+  -- such a call is recorded, if rec may be the record of its answer
+  pub is_recorded : {T R : Type 0} {is_clone : K → K → Type 0} {E : K → K → Bool} {j new : Journaled K V} {r : Request K V} {p : Reply K V} {out : List (Idle K V)} {rec : Answered K} {is_record : T → Answered K → Type 0} {answer : T}
+      → Adds is_clone E j r p out rec new → is_record answer rec → IsRecorded {E = R} j is_record (Ok answer) new
+  is_recorded {rec = rec} a of_answer = record { began = a.began; accepted = (rec, of_answer, a.records); refused = tt }

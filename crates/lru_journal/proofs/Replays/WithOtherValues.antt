@@ -10,7 +10,7 @@ use Rattle.std.specs.FinMap.Entries.{is_sorted, below_all}
 use Rattle.std.specs.FinMap.Entries.{find as find_entry}
 use Rattle.std.proofs.lemmas.Option.{same_Some, none-some}
 use Rattle.concurrent_lru.specs.Cache.{Cache, Idle, Held, Phase, making, untaken, ready, charges, pinned_of, sum_of, HasCapacityFor, IsFront, Suffices, Settles, held_at, idle_at, IsFound}
-use Rattle.concurrent_lru.specs.Steps.{IsAbsent, Holds, Makes, Joins, Revives, Hits, ChangesPhase, Leaves, Removes, Rests, Stays, Drops, Ends, Departs, PinsAgain, ReleasesAndEvicts, Repins, Detaches, IsUnready, IsNotIdle, Releases, Invalidates, Stores, Renews, Step, with_held, without}
+use Rattle.concurrent_lru.specs.Steps.{IsAbsent, Holds, Makes, Joins, Revives, Hits, ChangesPhase, Leaves, Removes, Rests, Stays, Drops, Ends, Departs, PinsAgain, ReleasesAndEvicts, Repins, Detaches, IsUnready, IsNotIdle, Releases, Invalidates, Stores, Renews, Step, with_held, without, without_held}
 use Rattle.concurrent_lru.specs.Request as ask
 use Rattle.concurrent_lru.specs.Request.{Request}
 use Rattle.concurrent_lru.specs.Reply as say
@@ -155,8 +155,11 @@ module _ {K V W : Type 0} (f : V → W) where
   make_on : (old : Cache K V) (s : ℕ) (k : K) (charge : ℕ) → cache_by f (record (with_held old s (record { key = k; charge = charge; pins = 1; detached = false; phase = making })) { next = old.next + 1 }) ≡ record (with_held (cache_by f old) s (record { key = k; charge = charge; pins = 1; detached = false; phase = making })) { next = old.next + 1 }
   make_on old s k charge = ap (λ m. record { capacity = old.capacity; most_pins = old.most_pins; next = old.next + 1; idle = map (idle_by f) old.idle; held = m }) (insert_by old.held s (record { key = k; charge = charge; pins = 1; detached = false; phase = making }))
 
-  held_on : (old : Cache K V) (s : ℕ) (e : Held K V) → cache_by f (with_held old s e) ≡ with_held (cache_by f old) s (held_by f e)
-  held_on old s e = ap (λ m. record (cache_by f old) { held = m }) (insert_by old.held s e)
+  held_on : {new : Cache K V} (old : Cache K V) (s : ℕ) (e : Held K V) → new ≡ with_held old s e → cache_by f new ≡ with_held (cache_by f old) s (held_by f e)
+  held_on old s e h = ap (cache_by f) h ∙ ap (λ m. record (cache_by f old) { held = m }) (insert_by old.held s e)
+
+  removed_on : {new : Cache K V} (old : Cache K V) (s : ℕ) → new ≡ without_held old s → cache_by f new ≡ without_held (cache_by f old) s
+  removed_on old s h = ap (cache_by f) h ∙ ap (λ m. record (cache_by f old) { held = m }) (remove_by old.held s)
 
   without_by : (s : ℕ) (xs : List (Idle K V)) → map (idle_by f) (without s xs) ≡ without s (map (idle_by f) xs)
   without_by s [] = refl
@@ -183,7 +186,7 @@ module _ {K V W : Type 0} (f : V → W) where
       found = h.found;
       same_key = h.same_key;
       room = h.room;
-      changed = ap (cache_by f) h.changed ∙ held_on old s _;
+      changed = held_on old s _ h.changed;
       none = ap (map (idle_by f)) h.none;
     }
 
@@ -202,7 +205,7 @@ module _ {K V W : Type 0} (f : V → W) where
     changes_phase_by old s p q out new h = record {
       entry = held_by f h.entry;
       holds = holds_by old s h.entry p h.holds;
-      changed = ap (cache_by f) h.changed ∙ held_on old s _;
+      changed = held_on old s _ h.changed;
       none = ap (map (idle_by f)) h.none;
     }
 
@@ -211,19 +214,12 @@ module _ {K V W : Type 0} (f : V → W) where
       entry = held_by f h.entry;
       holds = holds_by old s h.entry p h.holds;
       others = h.others;
-      changed = ap (cache_by f) h.changed ∙ held_on old s _;
+      changed = held_on old s _ h.changed;
       none = ap (map (idle_by f)) h.none;
     }
 
     removes_by : (old : Cache K V) (s : ℕ) (k : K) (out : List (Idle K V)) (new : Cache K V) → Removes E old s k out new → Removes E (cache_by f old) s k (map (idle_by f) out) (cache_by f new)
-    removes_by old s k out new h = record {
-      entry = held_by f h.entry;
-      holds = holds_by old s h.entry making h.holds;
-      last = h.last;
-      key = h.key;
-      changed = ap (cache_by f) h.changed ∙ ap (λ m. record (cache_by f old) { held = m }) (remove_by old.held s);
-      none = ap (map (idle_by f)) h.none;
-    }
+    removes_by old s k out new h = record { entry = held_by f h.entry; holds = holds_by old s h.entry making h.holds; last = h.last; key = h.key; changed = removed_on old s h.changed; none = ap (map (idle_by f)) h.none }
 
     rests_by : (old : Cache K V) (s : ℕ) (out : List (Idle K V)) (new : Cache K V) → Rests E old s out new → Rests E (cache_by f old) s (map (idle_by f) out) (cache_by f new)
     rests_by old s out new h = record {
@@ -239,32 +235,17 @@ module _ {K V W : Type 0} (f : V → W) where
     }
 
     ends_by : (old : Cache K V) (s : ℕ) (out : List (Idle K V)) (new : Cache K V) → Ends E old s out new → Ends E (cache_by f old) s (map (idle_by f) out) (cache_by f new)
-    ends_by old s out new h = record {
-      entry = held_by f h.entry;
-      value = f h.value;
-      holds = holds_by old s h.entry (ready h.value) h.holds;
-      lost = h.lost;
-      last = h.last;
-      changed = ap (cache_by f) h.changed ∙ ap (λ m. record (cache_by f old) { held = m }) (remove_by old.held s);
-      one = ap (map (idle_by f)) h.one;
-    }
+    ends_by old s out new h = record { entry = held_by f h.entry; value = f h.value; holds = holds_by old s h.entry (ready h.value) h.holds; lost = h.lost; last = h.last; changed = removed_on old s h.changed; one = ap (map (idle_by f)) h.one }
 
     departs_by : (old : Cache K V) (s : ℕ) (out : List (Idle K V)) (new : Cache K V) → Departs E old s out new → Departs E (cache_by f old) s (map (idle_by f) out) (cache_by f new)
-    departs_by old s out new h = record {
-      entry = held_by f h.entry;
-      value = f h.value;
-      holds = holds_by old s h.entry (ready h.value) h.holds;
-      last = h.last;
-      changed = ap (cache_by f) h.changed ∙ ap (λ m. record (cache_by f old) { held = m }) (remove_by old.held s);
-      one = ap (map (idle_by f)) h.one;
-    }
+    departs_by old s out new h = record { entry = held_by f h.entry; value = f h.value; holds = holds_by old s h.entry (ready h.value) h.holds; last = h.last; changed = removed_on old s h.changed; one = ap (map (idle_by f)) h.one }
 
     pins_again_by : (old : Cache K V) (s : ℕ) (v : V) (out : List (Idle K V)) (new : Cache K V) → PinsAgain E old s v out new → PinsAgain E (cache_by f old) s (f v) (map (idle_by f) out) (cache_by f new)
     pins_again_by old s v out new h = record {
       entry = held_by f h.entry;
       holds = holds_by old s h.entry (ready v) h.holds;
       room = h.room;
-      changed = ap (cache_by f) h.changed ∙ held_on old s _;
+      changed = held_on old s _ h.changed;
       none = ap (map (idle_by f)) h.none;
     }
 
@@ -275,7 +256,7 @@ module _ {K V W : Type 0} (f : V → W) where
       at = get_by old.held h.stamp ∙ ap (option_map (held_by f)) h.at;
       found = h.found;
       same_key = h.same_key;
-      changed = ap (cache_by f) h.changed ∙ held_on old h.stamp _;
+      changed = held_on old h.stamp _ h.changed;
       none = ap (map (idle_by f)) h.none;
     }
 

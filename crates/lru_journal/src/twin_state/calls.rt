@@ -1,7 +1,8 @@
-//! The calls of a journal as values, each with what is recorded of it and how it may be refused.
+//! The calls of a journal as values, each with what it requires, what is recorded of it, and how it
+//! may be refused.
 //!
 //! A call's answer is returned as it is, to be sealed.
-ghost use Rattle.std.specs.Prelude.{◌<◌, IfErr};
+ghost use Rattle.std.specs.Prelude.{IfErr};
 ghost use Rattle.lru_journal.specs.Journals.{IsRecorded};
 
 use crate::journal::Journal;
@@ -17,7 +18,10 @@ pub trait JournalCall<K: Hash + Eq + Clone, V> {
     /// The answer of a refused call.
     type Refused;
 
+    ghost use Rattle.std.specs.Prelude.{⊤};
     ghost use Rattle.lru_journal.specs.declared.record.Record.{Record};
+
+    ghost can_apply: { Self → Type 0 } = { λ _. ⊤ };
 
     ghost is_record: { Self → Self.Answer → Record K → Type 0 };
 
@@ -25,6 +29,7 @@ pub trait JournalCall<K: Hash + Eq + Clone, V> {
 
     /// Makes the call.
     fn apply(self, journal: &mut Journal<K, V>) -> Result<Self::Answer, Self::Refused>
+        requires { can_apply self }
         ensures recorded { IsRecorded journal.old (is_record self) result journal.new }
         ensures refusal { IfErr result (may_refuse self) };
 }
@@ -34,7 +39,6 @@ pub trait JournalCall<K: Hash + Eq + Clone, V> {
 pub struct Begin<'a, K> {
     pub(crate) key: &'a K,
     pub(crate) charge: u64,
-    ghost charged: { 0 < charge },
 }
 
 impl<'a, K: Hash + Eq + Clone, V: Drop> JournalCall<K, V> for Begin<'a, K> {
@@ -42,11 +46,13 @@ impl<'a, K: Hash + Eq + Clone, V: Drop> JournalCall<K, V> for Begin<'a, K> {
 
     type Refused = Refusal;
 
-    ghost use Rattle.std.specs.Prelude.{◌≢◌};
+    ghost use Rattle.std.specs.Prelude.{◌≢◌, ◌<◌};
     ghost use Rattle.concurrent_lru.specs.declared.refusal.Refusal.TheVariants.{Stale};
     ghost use Rattle.lru_journal.specs.Records.{record_of};
     ghost use Rattle.lru_journal.specs.Replay.{told_of_begun, IsOfCopy};
     ghost use Rattle.concurrent_lru.specs.Request as ask;
+
+    ghost can_apply = { λ s. 0 < s.charge };
 
     ghost is_record = { λ s begun. IsOfCopy K.eq s.key.now (λ copy. record_of (ask.begin copy s.charge) (told_of_begun begun.0)) };
 
@@ -62,7 +68,6 @@ impl<'a, K: Hash + Eq + Clone, V: Drop> JournalCall<K, V> for Begin<'a, K> {
 pub struct BeginStrictly<'a, K> {
     pub(crate) key: &'a K,
     pub(crate) charge: u64,
-    ghost charged: { 0 < charge },
 }
 
 impl<'a, K: Hash + Eq + Clone, V: Drop> JournalCall<K, V> for BeginStrictly<'a, K> {
@@ -70,11 +75,13 @@ impl<'a, K: Hash + Eq + Clone, V: Drop> JournalCall<K, V> for BeginStrictly<'a, 
 
     type Refused = Refusal;
 
-    ghost use Rattle.std.specs.Prelude.{◌≢◌};
+    ghost use Rattle.std.specs.Prelude.{◌≢◌, ◌<◌};
     ghost use Rattle.concurrent_lru.specs.declared.refusal.Refusal.TheVariants.{Stale};
     ghost use Rattle.lru_journal.specs.Records.{record_of};
     ghost use Rattle.lru_journal.specs.Replay.{told_of_begun, IsOfCopy};
     ghost use Rattle.concurrent_lru.specs.Request as ask;
+
+    ghost can_apply = { λ s. 0 < s.charge };
 
     ghost is_record = { λ s begun. IsOfCopy K.eq s.key.now (λ copy. record_of (ask.begin_strictly copy s.charge) (told_of_begun begun.0)) };
 
@@ -188,6 +195,40 @@ impl<'a, K: Hash + Eq + Clone, V: Drop> JournalCall<K, V> for Get<'a, K> {
 
     fn apply(self, journal: &mut Journal<K, V>) -> Result<Option<(u64, Arc<V>)>, Refusal> {
         journal.get(self.key)
+    }
+}
+
+/// `Journal::read`.
+#[derive(Drop)]
+pub struct Read<'a, K, G> {
+    pub(crate) key: &'a K,
+    pub(crate) reader: G,
+}
+
+impl<'a, K: Hash + Eq + Clone, V: Drop, T, G> JournalCall<K, V> for Read<'a, K, G>
+where
+    G: FnOnce(&V) -> T + Drop,
+{
+    type Answer = Option<(u64, T)>;
+
+    type Refused = Refusal;
+
+    ghost use Rattle.std.specs.Prelude.{◌≢◌, IfSome};
+    ghost use Rattle.std.specs.Fn.{FnOnceReturnsAt, FnOnceTakesAt};
+    ghost use Rattle.concurrent_lru.specs.declared.refusal.Refusal.TheVariants.{Stale};
+    ghost use Rattle.lru_journal.specs.Records.{record_of};
+    ghost use Rattle.lru_journal.specs.Replay.{told_of_found, IsOfCopy};
+    ghost use Rattle.concurrent_lru.specs.Request as ask;
+
+    ghost can_apply = { λ s. (v : V) → FnOnceTakesAt G.FnOnce s.reader v };
+
+    // What is found is what the reader returned for some value.
+    ghost is_record = { λ s found r. IsOfCopy K.eq s.key.now (λ copy. record_of (ask.read copy) (told_of_found found)) r × IfSome found (λ x. (v : V) × FnOnceReturnsAt G.FnOnce s.reader v x.1) };
+
+    ghost may_refuse = { λ s e. e ≢ Stale };
+
+    fn apply(self, journal: &mut Journal<K, V>) -> Result<Option<(u64, T)>, Refusal> {
+        journal.read(self.key, self.reader)
     }
 }
 
@@ -328,7 +369,6 @@ pub struct Insert<'a, K, V> {
     pub(crate) key: &'a K,
     pub(crate) charge: u64,
     pub(crate) value: Arc<V>,
-    ghost charged: { 0 < charge },
 }
 
 impl<'a, K: Hash + Eq + Clone, V: Drop> JournalCall<K, V> for Insert<'a, K, V> {
@@ -336,12 +376,14 @@ impl<'a, K: Hash + Eq + Clone, V: Drop> JournalCall<K, V> for Insert<'a, K, V> {
 
     type Refused = (Refusal, Arc<V>);
 
-    ghost use Rattle.std.specs.Prelude.{◌≡◌, ◌≢◌};
+    ghost use Rattle.std.specs.Prelude.{◌≡◌, ◌≢◌, ◌<◌};
     ghost use Rattle.concurrent_lru.specs.declared.refusal.Refusal.TheVariants.{Stale};
     ghost use Rattle.lru_journal.specs.Records.{record_of};
     ghost use Rattle.lru_journal.specs.Replay.{IsOfCopy};
     ghost use Rattle.concurrent_lru.specs.Request as ask;
     ghost use Rattle.lru_journal.specs.declared.record.Told.TheVariants as told;
+
+    ghost can_apply = { λ s. 0 < s.charge };
 
     ghost is_record = { λ s inserted. IsOfCopy K.eq s.key.now (λ copy. record_of (ask.insert copy s.charge tt) (told.Inserted inserted.stamp)) };
 
@@ -358,7 +400,6 @@ pub struct InsertStrictly<'a, K, V> {
     pub(crate) key: &'a K,
     pub(crate) charge: u64,
     pub(crate) value: Arc<V>,
-    ghost charged: { 0 < charge },
 }
 
 impl<'a, K: Hash + Eq + Clone, V: Drop> JournalCall<K, V> for InsertStrictly<'a, K, V> {
@@ -366,12 +407,14 @@ impl<'a, K: Hash + Eq + Clone, V: Drop> JournalCall<K, V> for InsertStrictly<'a,
 
     type Refused = (Refusal, Arc<V>);
 
-    ghost use Rattle.std.specs.Prelude.{◌≡◌, ◌≢◌};
+    ghost use Rattle.std.specs.Prelude.{◌≡◌, ◌≢◌, ◌<◌};
     ghost use Rattle.concurrent_lru.specs.declared.refusal.Refusal.TheVariants.{Stale};
     ghost use Rattle.lru_journal.specs.Records.{record_of};
     ghost use Rattle.lru_journal.specs.Replay.{IsOfCopy};
     ghost use Rattle.concurrent_lru.specs.Request as ask;
     ghost use Rattle.lru_journal.specs.declared.record.Told.TheVariants as told;
+
+    ghost can_apply = { λ s. 0 < s.charge };
 
     ghost is_record = { λ s inserted. IsOfCopy K.eq s.key.now (λ copy. record_of (ask.insert_strictly copy s.charge tt) (told.Inserted inserted.stamp)) };
 
