@@ -14,6 +14,7 @@ mod invalidations;
 mod keys;
 mod list;
 mod plain;
+mod play;
 mod reads;
 mod rows;
 mod seeded;

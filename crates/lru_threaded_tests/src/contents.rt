@@ -2,13 +2,19 @@
 //! that tests of both make.
 ghost use Rattle.std.specs.Prelude.{◌<◌};
 
+use concurrent_lru::counts::Counts;
 use concurrent_lru::lru_core::Refusal;
 use concurrent_lru::{sharded, unsharded};
 use lru_support::cached::{Cached, CountingCached};
+use lru_support::makings::{MakingCache, value_beside_total, values_of_two};
 use lru_support::threaded::make_value;
+use lru_support::workers::stays_right;
+use std::alloc::Global;
 use std::hash::BuildHasher;
 use std::process::Abort;
 use std::sync::Wait;
+use std::thread;
+use std::thread::Threads;
 
 /// A reference to a cache of numbers whose contents can be read.
 pub(crate) trait Contents: CountingCached<u64> {
@@ -111,6 +117,82 @@ pub(crate) fn make_each<R: Abort, C: Cached<u64>>(rt: &R, cache: C, keys: &[u64]
     for key in keys {
         drop(make(rt, cache, *key, 1, key.wrapping_mul(10)));
     }
+}
+
+/// What two callers of key 1 get, and then its value and the total, each read by a thread of its
+/// own.
+pub(crate) type TwoCallers = ((Option<u64>, Option<u64>), (Option<u64>, u128));
+
+/// The result of `two_callers` in an empty cache. The charge is the maker's.
+pub(crate) const ONE_MADE: TwoCallers = ((Some(5), Some(5)), (Some(5), 3));
+
+/// Has two callers ask for key 1, the second of which comes while the first makes it.
+pub(crate) fn two_callers<T: Threads, C: MakingCache + Sync>(rt: &T, cache: &C) -> TwoCallers {
+    (values_of_two(rt, cache), value_beside_total(rt, cache))
+}
+
+/// Returns the total once another thread has dropped a handle.
+pub(crate) fn let_go_by_another<T: Threads, C: MakingCache + Sync, H: Send + Drop>(
+    rt: &T,
+    cache: &C,
+    handle: H,
+) -> u128 {
+    let (total, _) = thread::join(
+        rt,
+        move || {
+            drop(handle);
+            cache.charged()
+        },
+        || (),
+    );
+    total
+}
+
+/// A cache as readers use it. It has no associated type, since the checker supports no closure of a
+/// thread over a type that has one.
+pub(crate) trait ReadCache {
+    /// Calls `stays_right`.
+    fn stay_right(&self) -> bool;
+
+    /// Calls `prune`, and returns the totals before and after it.
+    fn totals_around_a_prune(&self) -> [u128; 2];
+}
+
+impl<C: Cached<u64>> ReadCache for C {
+    fn stay_right(&self) -> bool {
+        stays_right(*self)
+    }
+
+    fn totals_around_a_prune(&self) -> [u128; 2] {
+        let before = self.total_charge();
+        self.prune();
+        [before, self.total_charge()]
+    }
+}
+
+/// Has four threads read what they make, and prunes. Returns whether each read was right, and the
+/// totals before and after the prune.
+pub(crate) fn four_read<T: Threads + Sync, C: ReadCache + Sync>(
+    rt: &T,
+    alloc: Global,
+    cache: &C,
+) -> (Option<Vec<bool>>, [u128; 2]) {
+    let right = thread::map_indices(rt, alloc, 4, &|_| cache.stay_right());
+    (right.ok(), cache.totals_around_a_prune())
+}
+
+/// Returns hits, misses, refusals, makings, failures, insertions, evictions and removals.
+pub(crate) fn numbers(counts: &Counts) -> [u64; 8] {
+    [
+        counts.hits,
+        counts.misses,
+        counts.refusals,
+        counts.makings,
+        counts.failures,
+        counts.insertions,
+        counts.evictions,
+        counts.removals,
+    ]
 }
 
 /// The answer of a `read`.

@@ -2,7 +2,7 @@
 
 use concurrent_lru::{sharded, unsharded};
 use lru_support::hashers::ByOwnNumber;
-use std::alloc::AllocError;
+use std::alloc::{AllocError, Global};
 use std::hash::BuildHasher;
 use std::sync::Wait;
 use std::sync::atomic::{AtomicU64, Ordering};
@@ -72,16 +72,31 @@ fn in_shards<'c, R: Wait, S: BuildHasher>(
     )
 }
 
+// Returns what `in_one_lock` and then `in_shards` return of new caches, which share the count.
+fn in_new_caches<'c, R: Wait + Copy + Drop>(
+    alloc: Global,
+    rt: R,
+    copies: &'c AtomicU64,
+) -> Option<[Copies; 2]> {
+    let cache: unsharded::LruCache<Counted<'c>, u64, R> = unsharded::LruCache::new(alloc, rt, 10);
+    let first = in_one_lock(&cache, copies);
+    drop(cache);
+    Some([first, in_new_shards(alloc, rt, copies)?])
+}
+
+fn in_new_shards<'c, R: Wait + Clone + Drop>(
+    alloc: Global,
+    rt: R,
+    copies: &'c AtomicU64,
+) -> Option<Copies> {
+    let made = sharded::LruCache::with_shards_hasher(alloc, rt, 10, 3, ByOwnNumber);
+    let cache: sharded::LruCache<Counted<'c>, u64, R, ByOwnNumber> = made.ok()?;
+    Some(in_shards(&cache, copies))
+}
+
 #[test]
 fn an_invalidate_copies_no_key(rt: HostRuntime) {
-    let alloc = rt.alloc();
     let copies = AtomicU64::new(0);
-    let cache: unsharded::LruCache<Counted<'_>, u64, &HostRuntime> = unsharded::LruCache::new(
-        alloc, &rt, 10,
-    );
-    assert_eq!(rt; in_one_lock(&cache, &copies), ([2, 2], false));
-    let made: Result<sharded::LruCache<Counted<'_>, u64, &HostRuntime, _>, _> =
-        sharded::LruCache::with_shards_hasher(alloc, &rt, 10, 3, ByOwnNumber);
-    let cache = made.expect(&rt, "memory");
-    assert_eq!(rt; in_shards(&cache, &copies), ([4, 4], false));
+    let told = in_new_caches(rt.alloc(), &rt, &copies).expect(&rt, "memory");
+    assert_eq!(rt; told, [([2, 2], false), ([4, 4], false)]);
 }

@@ -3,7 +3,6 @@
 use lru_journal::journal::Journal;
 use std::process::Abort;
 use std::sync::Arc;
-use std::test::Fail;
 
 // Half of the keys are released. An idle key leaves three records and a held one two, so there are
 // more records than the stack would hold if the drop were recursive.
@@ -16,20 +15,23 @@ fn hold(rt: &impl Abort, journal: &mut Journal<u64, u64>, key: u64, value: &Arc<
     assert!(rt; journal.ready(key, value).is_ok());
 }
 
-#[test]
-fn ends_with_a_hundred_thousand_records(rt: HostRuntime) -> Result<(), Fail> {
-    let alloc = rt.alloc();
-    let value = Arc::new(alloc, 7u64)?;
-    let mut journal: Journal<u64, u64> = Journal::new(alloc, KEYS);
+// Makes all keys, and releases every second one.
+fn hold_all(rt: &impl Abort, journal: &mut Journal<u64, u64>, value: &Arc<u64>) {
     for key in 0..KEYS {
-        hold(&rt, &mut journal, key, &value);
+        hold(rt, journal, key, value);
         if key % 2 == 0 {
             assert!(rt; journal.release(key).is_ok());
         }
     }
+}
+
+#[test]
+fn ends_with_a_hundred_thousand_records(rt: HostRuntime) {
+    let value = Arc::new(rt.alloc(), 7u64).expect(&rt, "memory");
+    let mut journal: Journal<u64, u64> = Journal::new(rt.alloc(), KEYS);
+    hold_all(&rt, &mut journal, &value);
     assert_eq!(rt; journal.records().len(), 100_000);
     assert_eq!(rt; Arc::strong_count(&value), 40_001);
     drop(journal);
     assert_eq!(rt; Arc::strong_count(&value), 1);
-    Ok(())
 }

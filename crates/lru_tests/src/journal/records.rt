@@ -2,38 +2,41 @@
 
 use crate::journal::lines::lines;
 use lru_journal::journal::{Record, Recorded, Told};
-use std::test::Fail;
+use std::alloc::{AllocError, Global};
+
+fn record(step: Recorded<u64>, reply: Told) -> Record<u64> {
+    Record { step, reply }
+}
+
+// Returns a record of each kind.
+fn kinds(alloc: Global) -> Result<Vec<Record<u64>>, AllocError> {
+    Ok(vec![in alloc;
+        record(Recorded::Begin(7, 3), Told::Make(0)),
+        record(Recorded::Begin(7, 3), Told::Wait(1)),
+        record(Recorded::BeginStrictly(7, 3), Told::Make(2)),
+        record(Recorded::Poll(1), Told::Hit(1)),
+        record(Recorded::Ready(2), Told::Done),
+        record(Recorded::Fail(3), Told::Left),
+        record(Recorded::Fail(4), Told::Removed),
+        record(Recorded::Get(8), Told::Found(5)),
+        record(Recorded::Get(9), Told::Missed),
+        record(Recorded::Release(6), Told::Done),
+        record(Recorded::ReleaseAndEvict(6), Told::Done),
+        record(Recorded::Repin(6), Told::Done),
+        record(Recorded::AdviceEvict(8), Told::Done),
+        record(Recorded::Invalidate(8), Told::Done),
+        record(Recorded::Insert(8, 18446744073709551615), Told::Inserted(7)),
+        record(Recorded::InsertStrictly(8, 2), Told::Inserted(8)),
+        record(Recorded::Read(8), Told::Found(7)),
+        record(Recorded::Read(9), Told::Missed),
+        record(Recorded::Prune, Told::Done),
+        record(Recorded::SetCapacity(18446744073709551615), Told::Done),
+        record(Recorded::Total, Told::Total(18446744073709551615)),
+    ]?)
+}
 
 #[test]
-fn each_kind_of_record_has_its_text(rt: HostRuntime) -> Result<(), Fail> {
-    let alloc = rt.alloc();
-    let kinds = vec![in alloc;
-        (Recorded::Begin(7, 3), Told::Make(0)),
-        (Recorded::Begin(7, 3), Told::Wait(1)),
-        (Recorded::BeginStrictly(7, 3), Told::Make(2)),
-        (Recorded::Poll(1), Told::Hit(1)),
-        (Recorded::Ready(2), Told::Done),
-        (Recorded::Fail(3), Told::Left),
-        (Recorded::Fail(4), Told::Removed),
-        (Recorded::Get(8), Told::Found(5)),
-        (Recorded::Get(9), Told::Missed),
-        (Recorded::Release(6), Told::Done),
-        (Recorded::ReleaseAndEvict(6), Told::Done),
-        (Recorded::Repin(6), Told::Done),
-        (Recorded::AdviceEvict(8), Told::Done),
-        (Recorded::Invalidate(8), Told::Done),
-        (Recorded::Insert(8, 18446744073709551615), Told::Inserted(7)),
-        (Recorded::InsertStrictly(8, 2), Told::Inserted(8)),
-        (Recorded::Read(8), Told::Found(7)),
-        (Recorded::Read(9), Told::Missed),
-        (Recorded::Prune, Told::Done),
-        (Recorded::SetCapacity(18446744073709551615), Told::Done),
-        (Recorded::Total, Told::Total(18446744073709551615)),
-    ]?;
-    let mut records = Vec::new(alloc);
-    for (step, reply) in kinds {
-        records.push(Record { step, reply })?;
-    }
+fn each_kind_of_record_has_its_text(rt: HostRuntime) {
     let expected = "begin 7 3 -> make 0\n\
         begin 7 3 -> wait 1\n\
         begin_strictly 7 3 -> make 2\n\
@@ -55,6 +58,7 @@ fn each_kind_of_record_has_its_text(rt: HostRuntime) -> Result<(), Fail> {
         prune -> done\n\
         capacity 18446744073709551615 -> done\n\
         total -> total 18446744073709551615\n";
-    assert_eq!(rt; lines(alloc, &records)?.as_str(), expected);
-    Ok(())
+    let records = kinds(rt.alloc()).expect(&rt, "memory");
+    let text = lines(rt.alloc(), &records).expect(&rt, "memory");
+    assert_eq!(rt; text.as_str(), expected);
 }

@@ -5,7 +5,7 @@ ghost use Rattle.std.specs.Prelude.{◌≡◌};
 
 use crate::journal::answer::Answer;
 use crate::journal::{caller, owner};
-use lru_journal::journal::{Identity, Journal, Opening, Record, Told, Twin};
+use lru_journal::journal::{Identity, Journal, Opening, Record, Tally, Told, Twin};
 use lru_support::tables::Call;
 use rand_core::{Rng, SeedableRng};
 use rand_xoshiro::Xoshiro256PlusPlus;
@@ -124,16 +124,40 @@ fn compare<I: Identity, R: Wait + Abort>(
 {
     let mut journal = Journal::new(alloc, CAPACITY);
     let (cache, mut tally) = Twin::<u64, u64, &R, I>::new(alloc, rt, opening);
+    answer_alike(rt, alloc, &cache, &mut tally, &mut journal, seed);
+    let recorded = cache.into_journal(tally);
+    compare_records(rt, alloc, recorded.records(), journal.records(), seed)
+}
+
+// Makes 300 calls on a twin and on a journal, and compares the answers.
+fn answer_alike<I: Identity, R: Wait + Abort>(
+    rt: &R,
+    alloc: Global,
+    cache: &Twin<u64, u64, &R, I>,
+    tally: &mut Tally<u64, I>,
+    journal: &mut Journal<u64, u64>,
+    seed: u64,
+)
+    ensures { tally.new.parts ≡ tally.old.parts }
+{
     let mut draws = Draws::from_seed(seed);
     for number in 0..300u32 {
         let call = draws.next();
-        let answer = caller::ask(alloc, &cache, &mut tally, call)?;
-        let wanted = owner::ask(alloc, &mut journal, call)?.answer;
+        let answer = caller::ask(alloc, cache, tally, call).expect(rt, "memory");
+        let wanted = answer_of(rt, alloc, journal, call);
         assert_eq!(rt; answer, wanted, "at call {number} of seed {seed}, {call:?}");
         draws.note(call, answer);
     }
-    let recorded = cache.into_journal(tally);
-    compare_records(rt, alloc, recorded.records(), journal.records(), seed)
+}
+
+// Returns the answer of the journal. Aborts if a value's memory is refused.
+fn answer_of<R: Abort>(
+    rt: &R,
+    alloc: Global,
+    journal: &mut Journal<u64, u64>,
+    call: Call,
+) -> Answer {
+    owner::ask(alloc, journal, call).expect(rt, "memory").answer
 }
 
 // Compares the records one by one, as text.

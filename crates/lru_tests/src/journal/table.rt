@@ -4,7 +4,7 @@ ghost use Rattle.std.specs.Prelude.{◌≡◌};
 
 use crate::journal::answer::Answer;
 use crate::journal::{caller, owner};
-use lru_journal::journal::{Identity, Journal, Opening, Record, Twin};
+use lru_journal::journal::{Identity, Journal, Opening, Record, Tally, Twin};
 use lru_support::tables::Call;
 use std::alloc::Global;
 use std::marker::Brand;
@@ -35,10 +35,14 @@ fn ask_journal<R: Abort>(
     mut journal: Journal<u64, u64>,
     rows: &[Row],
 ) -> Result<(), Fail> {
-    for (number, row) in rows.iter().enumerate() {
-        ask_row(rt, alloc, &mut journal, number, row)?;
-    }
+    ask_owner(rt, alloc, &mut journal, rows);
     read_records(rt, alloc, journal.records(), rows)
+}
+
+fn ask_owner<R: Abort>(rt: &R, alloc: Global, journal: &mut Journal<u64, u64>, rows: &[Row]) {
+    for (number, row) in rows.iter().enumerate() {
+        ask_row(rt, alloc, journal, number, row);
+    }
 }
 
 fn ask_row<R: Abort>(
@@ -47,17 +51,16 @@ fn ask_row<R: Abort>(
     journal: &mut Journal<u64, u64>,
     number: usize,
     row: &Row,
-) -> Result<(), Fail> {
+) {
     let (call, wanted, left, _) = row;
-    let heard = owner::ask(alloc, journal, *call)?;
-    let (answer, gone) = (heard.answer, heard.gone(alloc)?);
+    let heard = owner::ask(alloc, journal, *call).expect(rt, "memory");
+    let (answer, gone) = (heard.answer, heard.gone(alloc).expect(rt, "memory"));
     assert_eq!(rt; answer, *wanted, "at row {number} of the journal, {call:?}");
     assert_eq!(rt;
         gone.as_slice(),
         *left,
         "what left at row {number}, {call:?}"
     );
-    Ok(())
 }
 
 fn ask_twin<I: Identity, R: Wait + Abort>(
@@ -69,12 +72,24 @@ fn ask_twin<I: Identity, R: Wait + Abort>(
     requires { opening ≡ I.name }
 {
     let (cache, mut tally) = Twin::<u64, u64, &R, I>::new(alloc, rt, opening);
-    for (number, (call, wanted, _, _)) in rows.iter().enumerate() {
-        let answer = caller::ask(alloc, &cache, &mut tally, *call)?;
-        assert_eq!(rt; answer, *wanted, "at row {number} of the twin, {call:?}");
-    }
+    ask_caller(rt, alloc, &cache, &mut tally, rows);
     let journal = cache.into_journal(tally);
     read_records(rt, alloc, journal.records(), rows)
+}
+
+fn ask_caller<I: Identity, R: Wait + Abort>(
+    rt: &R,
+    alloc: Global,
+    cache: &Twin<u64, u64, &R, I>,
+    tally: &mut Tally<u64, I>,
+    rows: &[Row],
+)
+    ensures { tally.new.parts ≡ tally.old.parts }
+{
+    for (number, (call, wanted, _, _)) in rows.iter().enumerate() {
+        let answer = caller::ask(alloc, cache, tally, *call).expect(rt, "memory");
+        assert_eq!(rt; answer, *wanted, "at row {number} of the twin, {call:?}");
+    }
 }
 
 // Compares the records with the texts of the rows that have one.

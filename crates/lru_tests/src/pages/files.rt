@@ -4,12 +4,14 @@ use crate::pages::scratch;
 use concurrent_lru::unsharded::GetError;
 use lru_pages::{Fault, FileBlocks, OpenError, PageCache, ReadAt};
 use std::alloc::{AllocError, Global};
-use std::fs::{File, OpenOptions};
+use std::fs::{File, Files, OpenOptions};
 use std::io::ErrorKind;
 use std::num::NonZeroU64;
+use std::path::AsPath;
+use std::process::Abort;
 use std::sync::Wait;
 use std::sync::atomic::{AtomicU64, Ordering};
-use std::test::Fail;
+use std::thread::Threads;
 use std::{env, fs, io, thread};
 
 // The number of bytes of a block.
@@ -44,17 +46,26 @@ fn stay_right<R: Wait>(pages: &PageCache<'_, FileBlocks, R>, whole: &[u8]) -> bo
     true
 }
 
-#[test]
-fn four_threads_read_a_file(rt: HostRuntime) {
-    let alloc = rt.alloc();
-    let whole = bytes(alloc, 63 * 32 + 5).expect(&rt, "memory");
-    let path = scratch::file(&rt, "lru_tests_four", &whole).expect(&rt, "a file");
-    let reader = FileBlocks::open(alloc, &rt, path.as_path(), 32).expect(&rt, "blocks");
-    let pages = PageCache::new(alloc, &rt, &reader, 3);
-    let right = thread::map_indices(&rt, alloc, 4, &|_| stay_right(&pages, &whole));
-    let right = right.expect(&rt, "four threads");
+// Reads all blocks of a reader on four threads, which share a cache of three pages.
+fn read_on_four_threads<R: Threads + Wait + Abort + Send + Sync>(
+    rt: &R,
+    alloc: Global,
+    reader: &FileBlocks,
+    whole: &[u8],
+) {
+    let pages = PageCache::new(alloc, rt, reader, 3);
+    let right = thread::map_indices(rt, alloc, 4, &|_| stay_right(&pages, whole));
+    let right = right.expect(rt, "four threads");
     assert_eq!(rt; right.as_slice(), [true; 4].as_slice());
     assert!(rt; pages.total_charge() <= 3);
+}
+
+#[test]
+fn four_threads_read_a_file(rt: HostRuntime) {
+    let whole = bytes(rt.alloc(), 63 * 32 + 5).expect(&rt, "memory");
+    let path = scratch::file(&rt, "lru_tests_four", &whole).expect(&rt, "a file");
+    let reader = FileBlocks::open(rt.alloc(), &rt, path.as_path(), 32).expect(&rt, "blocks");
+    read_on_four_threads(&rt, rt.alloc(), &reader, &whole);
     fs::remove_file(&rt, path.as_path()).expect(&rt, "the file is there");
 }
 
@@ -168,30 +179,32 @@ fn told_at<R: Wait>(file: &File, pages: &PageCache<'_, FileBlocks, R>, len: u64)
     }
 }
 
+// The lengths of a file of zeros, in order: for each, the answer and the number of pages then.
+const CUTS: [(u64, Told, u64); 3] = [
+    (40, Told::Short, 0),
+    (64, Told::Bytes(32, Some(0)), 1),
+    // The page is still in the cache.
+    (40, Told::Bytes(32, Some(0)), 1),
+];
+
+// Cuts the file of a reader as `CUTS` says.
+fn cut<R: Wait + Abort>(rt: &R, alloc: Global, reader: &FileBlocks, file: &File) {
+    let pages = PageCache::new(alloc, rt, reader, 3);
+    for (len, told, total) in CUTS {
+        assert_eq!(rt; told_at(file, &pages, len), (told, total), "at {len} bytes");
+    }
+}
+
 #[test]
 fn a_file_that_was_cut_short_gives_no_page(rt: HostRuntime) {
-    let alloc = rt.alloc();
     let zeros = [0u8; 64];
     let path = scratch::file(&rt, "lru_tests_cut", &zeros).expect(&rt, "a file");
-    let reader = FileBlocks::open(alloc, &rt, path.as_path(), 32).expect(&rt, "blocks");
-    let pages = PageCache::new(alloc, &rt, &reader, 3);
+    let reader = FileBlocks::open(rt.alloc(), &rt, path.as_path(), 32).expect(&rt, "blocks");
     let file = OpenOptions::new()
         .write(true)
         .open(&rt, path.as_path())
         .expect(&rt, "the file again");
-    let steps = [
-        (40, Told::Short, 0),
-        (64, Told::Bytes(32, Some(0)), 1),
-        // The page is still in the cache.
-        (40, Told::Bytes(32, Some(0)), 1),
-    ];
-    for (len, told, total) in steps {
-        assert_eq!(rt;
-            told_at(&file, &pages, len),
-            (told, total),
-            "at {len} bytes"
-        );
-    }
+    cut(&rt, rt.alloc(), &reader, &file);
     let _removed = fs::remove_file(&rt, path.as_path());
 }
 
@@ -214,43 +227,57 @@ impl ReadAt for Worn {
     }
 }
 
+// The answers to the requests for one page of such a source, in order, and the number of pages
+// then.
+const READS: [(Told, u64); 3] = [
+    (Told::Failed(ErrorKind::TimedOut), 0),
+    (Told::Short, 0),
+    (Told::Bytes(4, Some(7)), 1),
+];
+
+fn wear<R: Wait + Abort>(rt: &R, alloc: Global, reader: &FileBlocks<Worn>) {
+    let pages = PageCache::new(alloc, rt, reader, 3);
+    for (told, total) in READS {
+        assert_eq!(rt; Told::of(&pages, 0), told);
+        assert_eq!(rt; pages.total_charge(), total);
+    }
+}
+
 #[test]
 fn a_read_that_fails_leaves_nothing(rt: HostRuntime) {
     let worn = Worn {
         reads: AtomicU64::new(0),
     };
     let reader = FileBlocks::new(rt.alloc(), worn, 4, 4);
-    let pages = PageCache::new(rt.alloc(), &rt, &reader, 3);
-    let steps = [
-        (Told::Failed(ErrorKind::TimedOut), 0),
-        (Told::Short, 0),
-        (Told::Bytes(4, Some(7)), 1),
-    ];
-    for (told, total) in steps {
-        assert_eq!(rt; Told::of(&pages, 0), told);
-        assert_eq!(rt; pages.total_charge(), total);
-    }
+    wear(&rt, rt.alloc(), &reader);
     assert_eq!(rt; reader.source().reads.load(Ordering::SeqCst), 3);
 }
 
-#[test]
-fn what_is_no_file_is_not_opened(rt: HostRuntime) -> Result<(), Fail> {
-    let alloc = rt.alloc();
-    let folder = env::temp_dir(&rt)?;
-    let opened = FileBlocks::open(alloc, &rt, folder.as_path(), 32);
-    assert!(rt; matches!(&opened, Err(OpenError::Folder)));
-    let opened = FileBlocks::open(alloc, &rt, "/dev/null", 32);
-    assert!(rt; matches!(&opened, Err(OpenError::Special)));
-    let missing = match FileBlocks::open(alloc, &rt, "no_such_file", 32) {
-        Err(OpenError::System(error)) => Some(error.kind()),
-        _ => None,
-    };
-    assert_eq!(rt; missing, Some(ErrorKind::NotFound));
-    Ok(())
+// Returns why a path is not opened, or `None` if it is.
+fn open_error<F: Files<File = File>, P: AsPath + Copy>(
+    alloc: Global,
+    files: &F,
+    path: P,
+) -> Option<OpenError> {
+    FileBlocks::open(alloc, files, path, 32).err()
 }
 
 #[test]
-fn a_fault_has_a_text(rt: HostRuntime) -> Result<(), Fail> {
+fn what_is_no_file_is_not_opened(rt: HostRuntime) {
+    let folder = env::temp_dir(&rt).expect(&rt, "a folder");
+    let error = open_error(rt.alloc(), &rt, folder.as_path());
+    assert!(rt; matches!(error, Some(OpenError::Folder)));
+    let error = open_error(rt.alloc(), &rt, "/dev/null");
+    assert!(rt; matches!(error, Some(OpenError::Special)));
+    let missing = match open_error(rt.alloc(), &rt, "no_such_file") {
+        Some(OpenError::System(error)) => Some(error.kind()),
+        _ => None,
+    };
+    assert_eq!(rt; missing, Some(ErrorKind::NotFound));
+}
+
+#[test]
+fn a_fault_has_a_text(rt: HostRuntime) {
     let faults = [
         (Fault::PastEnd, "the block is past the end"),
         (Fault::Memory, "there is no memory for the block"),
@@ -261,8 +288,7 @@ fn a_fault_has_a_text(rt: HostRuntime) -> Result<(), Fail> {
         ),
     ];
     for (fault, text) in faults {
-        let told = format!(in rt.alloc(); "{fault}")?;
+        let told = format!(in rt.alloc(); "{fault}").expect(&rt, "memory");
         assert_eq!(rt; told.as_str(), text);
     }
-    Ok(())
 }

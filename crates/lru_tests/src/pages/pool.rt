@@ -6,9 +6,9 @@ use std::fs::{File, Files};
 use std::io::ErrorKind;
 use std::os::unix::fs::FileExt;
 use std::path::{Path, PathBuf};
+use std::process::Abort;
 use std::rt::Env;
 use std::sync::Wait;
-use std::test::Fail;
 use std::{env, fs, io};
 
 /// Open files by path: one that is being read stays open, and an unused one does while at most
@@ -78,27 +78,62 @@ fn two_files<F: Files + Env + AllocGlobal>(rt: &F) -> io::Result<(PathBuf, PathB
     Ok((fruit, roots))
 }
 
-#[test]
-fn a_pool_of_open_files(rt: HostRuntime) -> Result<(), Fail> {
-    let (fruit, roots) = two_files(&rt)?;
-    let pool = Pool::new(rt.alloc(), &rt, &rt, 1);
-    let held = pool.file(fruit.as_path())?;
-    assert_eq!(rt; pool.first(roots.as_path()), Some(b'c'));
+// Holds the first file while the second is read.
+fn hold_one<A: Abort, F: Files<File = File>, R: Wait>(
+    rt: &A,
+    pool: &Pool<'_, F, R>,
+    fruit: Path<'_>,
+    roots: Path<'_>,
+) {
+    let held = pool.file(fruit).expect(rt, "the file is there");
+    assert_eq!(rt; pool.first(roots), Some(b'c'));
     // The other was closed when it was released; the held one is there for the next read.
     assert_eq!(rt; pool.open.total_charge(), 1);
     assert_eq!(rt; first(held.value()), Some(b'a'));
-    drop(held);
+}
 
+// Gives the second file the path of the first.
+fn rename_one<A: Abort, F: Files<File = File>, R: Wait>(
+    rt: &A,
+    pool: &Pool<'_, F, R>,
+    fruit: Path<'_>,
+    roots: Path<'_>,
+) {
     // A renamed file: the pool has the one that had the path before, until it is invalidated.
-    fs::rename(&rt, roots.as_path(), fruit.as_path())?;
-    assert_eq!(rt; pool.first(fruit.as_path()), Some(b'a'));
-    pool.forget(fruit.as_path())?;
-    assert_eq!(rt; pool.first(fruit.as_path()), Some(b'c'));
+    fs::rename(pool.files, roots, fruit).expect(rt, "both are there");
+    assert_eq!(rt; pool.first(fruit), Some(b'a'));
+    pool.forget(fruit).expect(rt, "memory");
+    assert_eq!(rt; pool.first(fruit), Some(b'c'));
+}
 
+// Asks for a file that is not there.
+fn miss_one<A: Abort, F: Files<File = File>, R: Wait>(
+    rt: &A,
+    pool: &Pool<'_, F, R>,
+    roots: Path<'_>,
+) {
     // Room was made before the open that fails, so nothing is open now.
-    let missing = pool.file(roots.as_path()).err();
+    let missing = pool.file(roots).err();
     assert!(rt; matches!(&missing, Some(GetError::Init(e)) if e.kind() == ErrorKind::NotFound));
     assert_eq!(rt; pool.open.total_charge(), 0);
-    fs::remove_file(&rt, fruit.as_path())?;
-    Ok(())
+}
+
+// Reads two files by a pool that keeps one of them open.
+fn read_two<R: Abort + Files<File = File> + Wait>(
+    rt: &R,
+    alloc: Global,
+    fruit: Path<'_>,
+    roots: Path<'_>,
+) {
+    let pool = Pool::new(alloc, rt, rt, 1);
+    hold_one(rt, &pool, fruit, roots);
+    rename_one(rt, &pool, fruit, roots);
+    miss_one(rt, &pool, roots);
+}
+
+#[test]
+fn a_pool_of_open_files(rt: HostRuntime) {
+    let (fruit, roots) = two_files(&rt).expect(&rt, "two files");
+    read_two(&rt, rt.alloc(), fruit.as_path(), roots.as_path());
+    fs::remove_file(&rt, fruit.as_path()).expect(&rt, "the file is there");
 }

@@ -6,7 +6,6 @@ use lru_sizing::refusal::Refusal;
 use lru_sizing::replay::{has_charges, replay};
 use lru_sizing::reuse_weights::reuse_weights;
 use std::alloc::Global;
-use std::test::Fail;
 
 // Returns the curve of a trace, or its refusal.
 fn curve_of(alloc: Global, trace: &[(u64, u64)]) -> Result<Curve, Refusal> {
@@ -27,54 +26,54 @@ fn count_hits(alloc: Global, trace: &[(u64, u64)], capacity: u64) -> Result<usiz
 }
 
 #[test]
-fn of_no_uses(rt: HostRuntime) -> Result<(), Fail> {
-    let curve = curve_of(rt.alloc(), &[]).map_err(|_| "refused")?;
-    assert_eq!(rt; curve.uses(), 0);
-    assert_eq!(rt; curve.hits(u64::MAX), 0);
-    assert_eq!(rt; curve.misses(0), 0);
-    assert_eq!(rt; curve.charge_made(0), 0);
-    assert_eq!(rt; curve.most_hits(), 0);
-    assert_eq!(rt; curve.least_capacity(0), Some(0));
-    assert_eq!(rt; curve.least_capacity(1), None);
+fn of_no_uses(rt: HostRuntime) {
+    let curve = curve_of(rt.alloc(), &[]).expect(&rt, "no refusal");
+    let uses = (curve.uses(), curve.hits(u64::MAX), curve.misses(0));
+    let most = (curve.charge_made(0), curve.most_hits());
+    let least = (curve.least_capacity(0), curve.least_capacity(1));
+    drop(curve);
+    assert_eq!(rt; (uses, most, least), ((0, 0, 0), (0, 0), (Some(0), None)));
     assert_eq!(rt; count_hits(rt.alloc(), &[], 3), Ok(0));
     let none: [(u64, u64); 0] = [];
-    let estimate = Estimate::new(rt.alloc(), Sample::one_in(10), &none, 0).map_err(|_| "refused")?;
-    assert_eq!(rt; estimate.hits(1), 0);
-    assert_eq!(rt; estimate.least_capacity(1), None);
-    Ok(())
+    let estimate = Estimate::new(rt.alloc(), Sample::one_in(10), &none, 0).expect(
+        &rt,
+        "no refusal",
+    );
+    assert_eq!(rt; (estimate.hits(1), estimate.least_capacity(1)), (0, None));
 }
 
 #[test]
-fn of_one_key(rt: HostRuntime) -> Result<(), Fail> {
+fn of_one_key(rt: HostRuntime) {
     let trace = [(8, 3), (8, 3), (8, 3)];
-    let curve = curve_of(rt.alloc(), &trace).map_err(|_| "refused")?;
-    assert_eq!(rt; [2, 3].map(|capacity| curve.hits(capacity)), [0, 2]);
-    assert_eq!(rt; [2, 3].map(|capacity| curve.charge_made(capacity)), [9, 3]);
-    assert_eq!(rt; curve.least_capacity(2), Some(3));
-    assert_eq!(rt;
-        [2, 3].map(|capacity| count_hits(rt.alloc(), &trace, capacity)),
-        [Ok(0), Ok(2)]
+    let curve = curve_of(rt.alloc(), &trace).expect(&rt, "no refusal");
+    let hits = (curve.hits(2), curve.hits(3));
+    let made = (curve.charge_made(2), curve.charge_made(3));
+    let least = curve.least_capacity(2);
+    drop(curve);
+    assert_eq!(rt; (hits, made, least), ((0, 2), (9, 3), Some(3)));
+    let counted = (
+        count_hits(rt.alloc(), &trace, 2),
+        count_hits(rt.alloc(), &trace, 3),
     );
-    Ok(())
+    assert_eq!(rt; counted, (Ok(0), Ok(2)));
 }
 
 #[test]
-fn at_the_end_of_a_sum(rt: HostRuntime) -> Result<(), Fail> {
+fn at_the_end_of_a_sum(rt: HostRuntime) {
     let most = [(1, u64::MAX), (1, u64::MAX), (1, u64::MAX)];
-    let curve = curve_of(rt.alloc(), &most).map_err(|_| "refused")?;
+    let curve = curve_of(rt.alloc(), &most).expect(&rt, "no refusal");
     let hits = (curve.hits(u64::MAX - 1), curve.hits(u64::MAX));
-    assert_eq!(rt;
-        (hits, curve.charge_made(0)),
-        ((0, 2), 3 * u128::from(u64::MAX))
-    );
+    let made = curve.charge_made(0);
+    drop(curve);
+    assert_eq!(rt; (hits, made), ((0, 2), 3 * u128::from(u64::MAX)));
     let past = [(1, u64::MAX), (1, u64::MAX), (2, 1)];
     assert!(rt; matches!(curve_of(rt.alloc(), &past), Err(Refusal::Overflow(2))));
     // A cache that keeps the first key refuses the second; one that does not accepts all uses.
-    assert_eq!(rt;
-        [u64::MAX, 7].map(|capacity| count_hits(rt.alloc(), &past, capacity)),
-        [Err(Refusal::Overflow(2)), Ok(0)]
+    let counted = (
+        count_hits(rt.alloc(), &past, u64::MAX),
+        count_hits(rt.alloc(), &past, 7),
     );
-    Ok(())
+    assert_eq!(rt; counted, (Err(Refusal::Overflow(2)), Ok(0)));
 }
 
 #[test]
@@ -88,19 +87,19 @@ fn with_two_charges_of_one_key(rt: HostRuntime) {
 }
 
 #[test]
-fn without_a_charge(rt: HostRuntime) -> Result<(), Fail> {
+fn without_a_charge(rt: HostRuntime) {
     let trace = [(1, 2), (2, 0), (1, 2), (2, 0)];
     assert!(rt; !has_charges(&trace));
     // A use of charge 0 hits at any capacity.
-    let curve = curve_of(rt.alloc(), &trace).map_err(|_| "refused")?;
-    assert_eq!(rt; curve.least_capacity(1), Some(2));
-    assert_eq!(rt; curve.hits(1), 0);
-    assert_eq!(rt; curve.hits(2), 2);
-    Ok(())
+    let curve = curve_of(rt.alloc(), &trace).expect(&rt, "no refusal");
+    assert_eq!(rt;
+        (curve.least_capacity(1), curve.hits(1), curve.hits(2)),
+        (Some(2), 0, 2)
+    );
 }
 
 #[test]
-fn are_told_in_words(rt: HostRuntime) -> Result<(), Fail> {
+fn are_told_in_words(rt: HostRuntime) {
     let cases = [
         (Refusal::Memory, "there is no memory"),
         (
@@ -113,8 +112,7 @@ fn are_told_in_words(rt: HostRuntime) -> Result<(), Fail> {
         ),
     ];
     for (refusal, text) in cases {
-        let told = format!(in rt.alloc(); "{refusal}")?;
+        let told = format!(in rt.alloc(); "{refusal}").expect(&rt, "memory");
         assert_eq!(rt; told.as_str(), text);
     }
-    Ok(())
 }

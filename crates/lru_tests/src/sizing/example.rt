@@ -10,22 +10,20 @@ use std::test::Fail;
 const TRACE: [(u64, u64); 7] = [(1, 2), (2, 3), (1, 2), (3, 2), (2, 3), (4, 7), (3, 2)];
 
 #[test]
-fn has_three_reuse_weights(rt: HostRuntime) -> Result<(), Fail> {
-    let weights = reuse_weights(rt.alloc(), &TRACE).map_err(|_| "refused")?;
+fn has_three_reuse_weights(rt: HostRuntime) {
+    let weights = reuse_weights(rt.alloc(), &TRACE).expect(&rt, "no refusal");
     let wanted = [None, None, Some(5), None, Some(7), None, Some(12)];
     assert_eq!(rt; weights.as_slice(), &wanted[..]);
-    Ok(())
 }
 
 #[test]
 fn hits_once_twice_and_three_times(rt: HostRuntime) -> Result<(), Fail> {
-    let weights = reuse_weights(rt.alloc(), &TRACE).map_err(|_| "refused")?;
+    let weights = reuse_weights(rt.alloc(), &TRACE).expect(&rt, "no refusal");
     if weights.len() != TRACE.len() {
         return Err(Fail::from("a weight for each use"));
     }
-    let curve = Curve::new(rt.alloc(), &TRACE, &weights)?;
-    assert_eq!(rt; curve.uses(), 7);
-    assert_eq!(rt; curve.most_hits(), 3);
+    let curve = Curve::new(rt.alloc(), &TRACE, &weights).expect(&rt, "memory");
+    assert_eq!(rt; (curve.uses(), curve.most_hits()), (7, 3));
     // Capacity, hits, and the charge made: all of 21 except what hits.
     let rows = [
         (0, 0, 21),
@@ -37,9 +35,12 @@ fn hits_once_twice_and_three_times(rt: HostRuntime) -> Result<(), Fail> {
         (12, 3, 14),
     ];
     for (capacity, hits, made) in rows {
-        assert_eq!(rt; curve.hits(capacity), hits, "at {capacity}");
-        assert_eq!(rt; curve.misses(capacity), 7 - hits, "at {capacity}");
-        assert_eq!(rt; curve.charge_made(capacity), made, "at {capacity}");
+        let told = (
+            curve.hits(capacity),
+            curve.misses(capacity),
+            curve.charge_made(capacity),
+        );
+        assert_eq!(rt; told, (hits, 7 - hits, made), "at {capacity}");
     }
     for (hits, least) in [
         (0, Some(0)),
@@ -58,11 +59,11 @@ fn is_replayed_as_told(rt: HostRuntime) -> Result<(), Fail> {
     if !has_charges(&TRACE) {
         return Err(Fail::from("each charge is above 0"));
     }
-    let hits = replay(rt.alloc(), &TRACE, 7).map_err(|_| "refused")?;
+    let hits = replay(rt.alloc(), &TRACE, 7).expect(&rt, "no refusal");
     let wanted = [false, false, true, false, true, false, false];
     assert_eq!(rt; hits.as_slice(), &wanted[..]);
     let capacities = [0, 1, 2, 3, 4, 5, 6, 7, 8, 9, 10, 11, 12, 13, 14, u64::MAX];
-    let differs = first_difference(rt.alloc(), &TRACE, &capacities).map_err(|_| "refused")?;
+    let differs = first_difference(rt.alloc(), &TRACE, &capacities).expect(&rt, "no refusal");
     assert_eq!(rt; differs, None);
     Ok(())
 }

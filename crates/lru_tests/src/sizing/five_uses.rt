@@ -1,9 +1,9 @@
 //! Every trace of five uses of three keys, at every capacity up to one more than that of all keys.
 
 use crate::sizing::model::{first_difference, weight_by_definition};
+use lru_sizing::refusal::Refusal;
 use lru_sizing::reuse_weights::reuse_weights;
-use std::alloc::Global;
-use std::test::Fail;
+use std::alloc::{AllocError, Global};
 
 // The charges of the three keys.
 const CHARGES: [u64; 3] = [1, 2, 4];
@@ -27,11 +27,18 @@ fn five_uses(number: u64) -> [(u64, u64); 5] {
 }
 
 // Returns the first index at which a reuse weight is not the one by definition, if there is one.
-fn wrong_weight(alloc: Global, trace: &[(u64, u64)]) -> Result<Option<usize>, &'static str> {
-    let weights = reuse_weights(alloc, trace).map_err(|_| "refused")?;
+fn wrong_weight(alloc: Global, trace: &[(u64, u64)]) -> Result<Option<usize>, Refusal> {
+    let weights = reuse_weights(alloc, trace)?;
+    Ok(wrong_among(alloc, trace, &weights)?)
+}
+
+fn wrong_among(
+    alloc: Global,
+    trace: &[(u64, u64)],
+    weights: &[Option<u64>],
+) -> Result<Option<usize>, AllocError> {
     for (place, weight) in weights.iter().enumerate() {
-        let wanted = weight_by_definition(alloc, trace, place).map_err(|_| "no memory")?;
-        if *weight != wanted {
+        if *weight != weight_by_definition(alloc, trace, place)? {
             return Ok(Some(place));
         }
     }
@@ -39,20 +46,18 @@ fn wrong_weight(alloc: Global, trace: &[(u64, u64)]) -> Result<Option<usize>, &'
 }
 
 #[test]
-fn have_the_weights_of_the_definition(rt: HostRuntime) -> Result<(), Fail> {
+fn have_the_weights_of_the_definition(rt: HostRuntime) {
     for number in 0..243 {
         let trace = five_uses(number);
-        assert_eq!(rt; wrong_weight(rt.alloc(), &trace)?, None, "{trace:?}");
+        assert_eq!(rt; wrong_weight(rt.alloc(), &trace), Ok(None), "{trace:?}");
     }
-    Ok(())
 }
 
 #[test]
-fn are_answered_alike_by_all(rt: HostRuntime) -> Result<(), Fail> {
+fn are_answered_alike_by_all(rt: HostRuntime) {
     for number in 0..243 {
         let trace = five_uses(number);
-        let differs = first_difference(rt.alloc(), &trace, &CAPACITIES).map_err(|_| "refused")?;
-        assert_eq!(rt; differs, None, "{trace:?}");
+        let differs = first_difference(rt.alloc(), &trace, &CAPACITIES);
+        assert_eq!(rt; differs, Ok(None), "{trace:?}");
     }
-    Ok(())
 }

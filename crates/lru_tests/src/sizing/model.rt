@@ -17,13 +17,23 @@ pub fn hits_of_a_list(
     let mut resident: Vec<(u64, u64)> = Vec::new(alloc);
     let mut hits = Vec::new(alloc);
     for used in trace {
-        let before = resident.len();
-        resident.retain(|other| other.0 != used.0);
-        hits.push(resident.len() < before)?;
-        resident.push(*used)?;
-        shrink(&mut resident, capacity);
+        hits.push(use_once(&mut resident, *used, capacity)?)?;
     }
     Ok(hits)
+}
+
+// Uses a key, and returns whether it was resident.
+fn use_once(
+    resident: &mut Vec<(u64, u64)>,
+    used: (u64, u64),
+    capacity: u64,
+) -> Result<bool, AllocError> {
+    let before = resident.len();
+    resident.retain(|other| other.0 != used.0);
+    let hit = resident.len() < before;
+    resident.push(used)?;
+    shrink(resident, capacity);
+    Ok(hit)
 }
 
 // Drops the oldest while the charges exceed the capacity.
@@ -76,19 +86,43 @@ pub fn first_difference(
     capacities: &[u64],
 ) -> Result<Option<u64>, Refusal> {
     let weights = reuse_weights(alloc, trace)?;
-    if weights.len() != trace.len() || !has_charges(trace) {
+    if weights.len() != trace.len() {
         return Ok(Some(0));
     }
     let curve = Curve::new(alloc, trace, &weights)?;
+    first_differing(alloc, trace, &weights, &curve, capacities)
+}
+
+fn first_differing(
+    alloc: Global,
+    trace: &[(u64, u64)],
+    weights: &[Option<u64>],
+    curve: &Curve,
+    capacities: &[u64],
+) -> Result<Option<u64>, Refusal> {
     for capacity in capacities {
-        let hits = hits_of_a_list(alloc, trace, *capacity)?;
-        let told = told_hits(alloc, &weights, *capacity)?;
-        let run = replay(alloc, trace, *capacity)?;
-        if told != hits || run != hits || !is_told(&curve, trace, &hits, *capacity) {
+        if differs(alloc, trace, weights, curve, *capacity)? {
             return Ok(Some(*capacity));
         }
     }
     Ok(None)
+}
+
+// Returns whether they do not agree at a capacity, or the trace has no charges.
+fn differs(
+    alloc: Global,
+    trace: &[(u64, u64)],
+    weights: &[Option<u64>],
+    curve: &Curve,
+    capacity: u64,
+) -> Result<bool, Refusal> {
+    if !has_charges(trace) {
+        return Ok(true);
+    }
+    let run = replay(alloc, trace, capacity)?;
+    let told = told_hits(alloc, weights, capacity)?;
+    let hits = hits_of_a_list(alloc, trace, capacity)?;
+    Ok(told != hits || run != hits || !is_told(curve, trace, &hits, capacity))
 }
 
 // Returns whether each use hits, by its reuse weight.

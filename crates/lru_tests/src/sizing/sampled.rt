@@ -8,7 +8,6 @@ use lru_sizing::reuse_weights::reuse_weights;
 use rand_core::{Rng, SeedableRng};
 use rand_xoshiro::Xoshiro256PlusPlus;
 use std::alloc::{AllocError, Global};
-use std::test::Fail;
 
 const KEYS: u64 = 10_000;
 
@@ -65,9 +64,19 @@ fn errors(alloc: Global, trace: &[(u64, u64)], one_in: u64) -> Result<(u64, u64)
         return Ok((u64::MAX, u64::MAX));
     }
     let curve = Curve::new(alloc, trace, &weights)?;
+    let estimate = estimate_of(alloc, trace, one_in)?;
+    Ok(errors_of(&curve, &estimate, trace.len() as u64))
+}
+
+// Returns an estimate of one key in `one_in`.
+fn estimate_of(alloc: Global, trace: &[(u64, u64)], one_in: u64) -> Result<Estimate, Refusal> {
     let sample = Sample::one_in(one_in);
     let uses = sample_uses(alloc, trace, sample)?;
-    let estimate = Estimate::new(alloc, sample, &uses, trace.len() as u64)?;
+    Ok(Estimate::new(alloc, sample, &uses, trace.len() as u64)?)
+}
+
+// Compares an estimate with the curve of a trace of this many uses, as `errors` does.
+fn errors_of(curve: &Curve, estimate: &Estimate, uses: u64) -> (u64, u64) {
     let (mut sum, mut most) = (0u64, 0u64);
     for step in 1..=20u64 {
         let capacity = step * 1_250;
@@ -76,29 +85,27 @@ fn errors(alloc: Global, trace: &[(u64, u64)], one_in: u64) -> Result<(u64, u64)
             .hits(capacity)
             .abs_diff(exact)
             .saturating_mul(10_000)
-            / (trace.len() as u64).max(1);
+            / uses.max(1);
         sum = sum.saturating_add(wrong);
         most = most.max(wrong);
     }
-    Ok((sum / 20, most))
+    (sum / 20, most)
 }
 
 #[test]
-fn are_near_the_exact_curve(rt: HostRuntime) -> Result<(), Fail> {
+fn are_near_the_exact_curve(rt: HostRuntime) {
     for seed in 1..=3 {
-        let trace = zipf(rt.alloc(), seed, USES)?;
-        let (mean, most) = errors(rt.alloc(), &trace, 10).map_err(|_| "refused")?;
+        let trace = zipf(rt.alloc(), seed, USES).expect(&rt, "memory");
+        let (mean, most) = errors(rt.alloc(), &trace, 10).expect(&rt, "no refusal");
         assert!(rt;
             mean <= 100 && most <= 200,
             "seed {seed}: {mean} and {most} in 10,000"
         );
     }
-    Ok(())
 }
 
 #[test]
-fn are_exact_where_all_keys_are_sampled(rt: HostRuntime) -> Result<(), Fail> {
-    let trace = zipf(rt.alloc(), 4, FEW_USES)?;
+fn are_exact_where_all_keys_are_sampled(rt: HostRuntime) {
+    let trace = zipf(rt.alloc(), 4, FEW_USES).expect(&rt, "memory");
     assert_eq!(rt; errors(rt.alloc(), &trace, 1), Ok((0, 0)));
-    Ok(())
 }

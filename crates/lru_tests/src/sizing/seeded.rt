@@ -6,6 +6,7 @@ use rand_core::{Rng, SeedableRng};
 use rand_xoshiro::Xoshiro256PlusPlus;
 use std::alloc::{AllocError, Global};
 use std::ops::RangeInclusive;
+use std::process::Abort;
 
 const CAPACITIES: [u64; 12] = [0, 1, 2, 5, 10, 20, 50, 100, 150, 200, 300, 1_000];
 
@@ -37,52 +38,57 @@ fn first_seed(alloc: Global, seeds: RangeInclusive<u64>) -> Result<Option<u64>, 
     Ok(None)
 }
 
+// Ends the test if the trace of one of these seeds gives different results.
+fn are_alike(rt: &impl Abort, alloc: Global, seeds: RangeInclusive<u64>) {
+    assert_eq!(rt; first_seed(alloc, seeds), Ok(None));
+}
+
 #[test]
 fn one_and_two_are_answered_alike_by_all(rt: HostRuntime) {
-    assert_eq!(rt; first_seed(rt.alloc(), 1..=2), Ok(None));
+    are_alike(&rt, rt.alloc(), 1..=2);
 }
 
 #[test]
 fn three_and_four_are_answered_alike_by_all(rt: HostRuntime) {
-    assert_eq!(rt; first_seed(rt.alloc(), 3..=4), Ok(None));
+    are_alike(&rt, rt.alloc(), 3..=4);
 }
 
 #[test]
 fn five_and_six_are_answered_alike_by_all(rt: HostRuntime) {
-    assert_eq!(rt; first_seed(rt.alloc(), 5..=6), Ok(None));
+    are_alike(&rt, rt.alloc(), 5..=6);
 }
 
 #[test]
 fn seven_and_eight_are_answered_alike_by_all(rt: HostRuntime) {
-    assert_eq!(rt; first_seed(rt.alloc(), 7..=8), Ok(None));
+    are_alike(&rt, rt.alloc(), 7..=8);
 }
 
 #[test]
 fn nine_and_ten_are_answered_alike_by_all(rt: HostRuntime) {
-    assert_eq!(rt; first_seed(rt.alloc(), 9..=10), Ok(None));
+    are_alike(&rt, rt.alloc(), 9..=10);
 }
 
 #[test]
 fn eleven_and_twelve_are_answered_alike_by_all(rt: HostRuntime) {
-    assert_eq!(rt; first_seed(rt.alloc(), 11..=12), Ok(None));
+    are_alike(&rt, rt.alloc(), 11..=12);
 }
 
 #[test]
 fn thirteen_and_fourteen_are_answered_alike_by_all(rt: HostRuntime) {
-    assert_eq!(rt; first_seed(rt.alloc(), 13..=14), Ok(None));
+    are_alike(&rt, rt.alloc(), 13..=14);
 }
 
 #[test]
 fn fifteen_and_sixteen_are_answered_alike_by_all(rt: HostRuntime) {
-    assert_eq!(rt; first_seed(rt.alloc(), 15..=16), Ok(None));
+    are_alike(&rt, rt.alloc(), 15..=16);
 }
 
 #[test]
 fn seventeen_and_eighteen_are_answered_alike_by_all(rt: HostRuntime) {
-    assert_eq!(rt; first_seed(rt.alloc(), 17..=18), Ok(None));
+    are_alike(&rt, rt.alloc(), 17..=18);
 }
 
 #[test]
 fn nineteen_and_twenty_are_answered_alike_by_all(rt: HostRuntime) {
-    assert_eq!(rt; first_seed(rt.alloc(), 19..=20), Ok(None));
+    are_alike(&rt, rt.alloc(), 19..=20);
 }

@@ -1,9 +1,9 @@
 //! A capacity that is set later: what is evicted at once, what stays, and what comes back.
 
-use concurrent_lru::lru_core::{State, Step};
+use crate::state::play::{plays, runs, shared};
+use concurrent_lru::lru_core::Step;
+use lru_support::tables::Call;
 use lru_support::tables::Call::{Begin, Capacity, Prune, Ready, Release, SetCapacity};
-use lru_support::tables::{Call, answers_as_expected, says};
-use std::sync::Arc;
 use std::test::Fail;
 
 // Uses of the keys 1, 2 and 3, whose charges are 3, 2 and 4, between changes of the capacity.
@@ -38,14 +38,13 @@ const CHANGES: [(Call, &str); 20] = [
 
 #[test]
 fn a_change_evicts_at_once_what_no_longer_fits(rt: HostRuntime) -> Result<(), Fail> {
-    let alloc = rt.alloc();
-    answers_as_expected(alloc, &mut State::new(alloc, 9), &CHANGES)
+    plays(rt.alloc(), 9, &CHANGES)
 }
 
 #[test]
 fn what_is_pinned_outlives_a_change(rt: HostRuntime) -> Result<(), Fail> {
     let alloc = rt.alloc();
-    let value = Arc::new(alloc, 7)?;
+    let value = shared(&rt, alloc, 7);
     let steps = vec![in alloc;
         Step::Begin(1, 2),
         Step::Ready(0, value),
@@ -53,10 +52,10 @@ fn what_is_pinned_outlives_a_change(rt: HostRuntime) -> Result<(), Fail> {
         Step::Total,
         Step::Release(0),
     ]?;
-    let mut state: State<u64, u64> = State::new(alloc, 5);
-    says(
+    runs(
         alloc,
-        &state.run(steps),
+        5,
+        steps,
         "Ok([Begun(Make(0), []), Done, Gone([]), Total(2), \
          Released([Gone { stamp: 0, key: 1, charge: 2, value: 7 }])])",
     )

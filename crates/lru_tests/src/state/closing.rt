@@ -1,10 +1,12 @@
 //! A cache that is closed while there are still pins.
 
-use concurrent_lru::lru_core::State;
+use concurrent_lru::lru_core::{Evicted, State};
 use lru_support::tables::Call::{
     Begin, Capacity, Fail, Get, Invalidate, KeyOf, Poll, Ready, Release, Show, Total,
 };
-use lru_support::tables::{Call, answers_as_expected, says};
+use lru_support::tables::{Call, answers_as_expected, says, text_of};
+use std::alloc::{AllocError, Global};
+use std::process::Abort;
 use std::test;
 
 // Idle are 1 and 0. Held are 2, which is ready, 3 and 4, which were invalidated, 3 with a value and
@@ -48,33 +50,57 @@ const AFTER: [(Call, &str); 12] = [
     (Begin(1, 1), "Ok((Make(7), []))"),
 ];
 
-#[test]
-fn hands_out_every_value(rt: HostRuntime) -> Result<(), test::Fail> {
-    let alloc = rt.alloc();
-    let mut state = State::new(alloc, 100);
-    answers_as_expected(alloc, &mut state, &BEFORE)?;
+// Returns the text of the first two entries, which are the idle ones.
+fn text_of_idle(alloc: Global, taken: &mut Evicted<u64, u64>) -> Result<String, AllocError> {
+    text_of(alloc, &(taken.pop(), taken.pop()))
+}
+
+// Adds the stamp, the key, the charge and the value of each entry.
+fn push_all(
+    all: &mut Vec<(u64, u64, u64, u64)>,
+    taken: Evicted<u64, u64>,
+) -> Result<(), AllocError> {
+    for gone in taken {
+        all.push((gone.stamp, gone.key, gone.charge, *gone.value))?;
+    }
+    Ok(())
+}
+
+// Takes what the cache has after `BEFORE`.
+fn takes_all(rt: &impl Abort, alloc: Global, state: &mut State<u64, u64>) {
     let mut taken = state.take_all();
-    let idle = (taken.pop(), taken.pop());
-    says(
-        alloc,
-        &idle,
+    let idle = text_of_idle(alloc, &mut taken).expect(rt, "memory");
+    assert_eq!(rt;
+        idle.as_str(),
         "(Some(Gone { stamp: 1, key: 2, charge: 2, value: 11 }), \
-         Some(Gone { stamp: 0, key: 1, charge: 1, value: 10 }))",
-    )?;
+         Some(Gone { stamp: 0, key: 1, charge: 1, value: 10 }))"
+    );
     // The order of the held ones is unspecified.
     let mut held = Vec::new(alloc);
-    for gone in taken {
-        held.push((gone.stamp, gone.key, gone.charge, *gone.value))?;
-    }
-    held.sort()?;
-    says(alloc, &held, "[(2, 3, 3, 12), (3, 4, 4, 13)]")?;
-    answers_as_expected(alloc, &mut state, &AFTER)
+    push_all(&mut held, taken).expect(rt, "memory");
+    held.sort().expect(rt, "memory");
+    assert_eq!(rt; held.as_slice(), [(2, 3, 3, 12), (3, 4, 4, 13)].as_slice());
+}
+
+fn closes(rt: &impl Abort, alloc: Global, state: &mut State<u64, u64>) -> Result<(), test::Fail> {
+    answers_as_expected(alloc, state, &BEFORE)?;
+    takes_all(rt, alloc, state);
+    answers_as_expected(alloc, state, &AFTER)
+}
+
+#[test]
+fn hands_out_every_value(rt: HostRuntime) -> Result<(), test::Fail> {
+    closes(&rt, rt.alloc(), &mut State::new(rt.alloc(), 100))
+}
+
+const NEXT: [(Call, &str); 1] = [(Begin(1, 1), "Ok((Make(0), []))")];
+
+fn closes_empty(alloc: Global, state: &mut State<u64, u64>) -> Result<(), test::Fail> {
+    says(alloc, &state.take_all(), "[]")?;
+    answers_as_expected(alloc, state, &NEXT)
 }
 
 #[test]
 fn an_empty_cache_has_nothing_to_hand_out(rt: HostRuntime) -> Result<(), test::Fail> {
-    let alloc = rt.alloc();
-    let mut state: State<u64, u64> = State::new(alloc, 10);
-    says(alloc, &state.take_all(), "[]")?;
-    answers_as_expected(alloc, &mut state, &[(Begin(1, 1), "Ok((Make(0), []))")])
+    closes_empty(rt.alloc(), &mut State::new(rt.alloc(), 10))
 }

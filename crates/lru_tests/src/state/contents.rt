@@ -8,6 +8,7 @@ use lru_support::tables::Call::{
 };
 use lru_support::tables::{Answers, Call};
 use std::alloc::{AllocError, Global};
+use std::process::Abort;
 use std::sync::Arc;
 
 // Calls on a cache of the capacity 3, in order: after each, the number of entries, and whether the
@@ -57,13 +58,16 @@ fn seen_after(
     ))
 }
 
-#[test]
-fn entries_are_counted_and_values_found(rt: HostRuntime) {
-    let mut state: State<u64, u64> = State::new(rt.alloc(), 3);
+fn see_all(rt: &impl Abort, alloc: Global, state: &mut State<u64, u64>) {
     for (call, len, values) in STATES {
-        let seen = seen_after(rt.alloc(), &mut state, call).expect(&rt, "memory");
+        let seen = seen_after(alloc, state, call).expect(rt, "memory");
         assert_eq!(rt; seen, (len, len == 0, values), "after {call:?}");
     }
+}
+
+#[test]
+fn entries_are_counted_and_values_found(rt: HostRuntime) {
+    see_all(&rt, rt.alloc(), &mut State::new(rt.alloc(), 3));
 }
 
 // Calls on a cache of the capacity 9, in order: after each, the total and its pinned part.
@@ -102,40 +106,57 @@ fn charges_after(
     Ok((state.total(), state.pinned_charge()))
 }
 
-#[test]
-fn pinned_charges_are_summed(rt: HostRuntime) {
-    let mut state: State<u64, u64> = State::new(rt.alloc(), 9);
+fn sum_all(rt: &impl Abort, alloc: Global, state: &mut State<u64, u64>) {
     for (call, total, pinned) in PINNED {
-        let seen = charges_after(rt.alloc(), &mut state, call).expect(&rt, "memory");
+        let seen = charges_after(alloc, state, call).expect(rt, "memory");
         assert_eq!(rt; seen, (total, pinned), "after {call:?}");
     }
+}
+
+#[test]
+fn pinned_charges_are_summed(rt: HostRuntime) {
+    sum_all(&rt, rt.alloc(), &mut State::new(rt.alloc(), 9));
 }
 
 // Creates a cache with three idle entries, of the keys 7, 8 and 9.
 fn with_three(alloc: Global) -> Result<State<u64, u64>, Refusal> {
     let mut state = State::new(alloc, 3);
     for key in [7, 8, 9] {
-        make(&mut state, &key, 1, Arc::new(alloc, key)?)?;
+        make_one(alloc, &mut state, key)?;
     }
     Ok(state)
+}
+
+// Makes the value of a key, which is the key itself.
+fn make_one(alloc: Global, state: &mut State<u64, u64>, key: u64) -> Result<u64, Refusal> {
+    make(state, &key, 1, Arc::new(alloc, key)?)
+}
+
+/// Sets the capacity. Returns the key of the first entry that this evicts.
+pub(crate) fn first_evicted(state: &mut State<u64, u64>, capacity: u64) -> Option<u64> {
+    Some(state.set_capacity(capacity).pop()?.key)
 }
 
 #[test]
 fn a_look_for_a_value_is_no_use_of_it(rt: HostRuntime) {
     let mut state = with_three(rt.alloc()).expect(&rt, "three entries");
     let found = state.contains(&7);
-    let oldest = state.set_capacity(2).pop().map(|gone| gone.key);
+    let oldest = first_evicted(&mut state, 2);
     assert_eq!(rt; (found, oldest, state.len()), (true, Some(7), 2));
+}
+
+// Takes three entries out one by one.
+fn count_down(rt: &impl Abort, mut evicted: Evicted<u64, u64>) {
+    for left in [3, 2, 1, 0] {
+        assert_eq!(rt; evicted.len(), left);
+        let _gone = evicted.pop();
+    }
 }
 
 #[test]
 fn evicted_entries_are_counted(rt: HostRuntime) {
     let mut state = with_three(rt.alloc()).expect(&rt, "three entries");
-    let mut evicted = state.prune();
-    for left in [3, 2, 1, 0] {
-        assert_eq!(rt; evicted.len(), left);
-        let _gone = evicted.pop();
-    }
+    count_down(&rt, state.prune());
     assert_eq!(rt; state.len(), 0);
 }
 

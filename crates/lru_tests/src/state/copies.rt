@@ -3,9 +3,9 @@
 ghost use Rattle.std.specs.Prelude.{◌<◌};
 
 use crate::state::entries::{Seen, seen_in};
-use concurrent_lru::lru_core::{Hint, Place, Spot, State};
+use concurrent_lru::lru_core::{Evicted, Hint, Place, Refusal, Spot, State};
 use concurrent_lru::share::ByCopy;
-use concurrent_lru::step::Begun;
+use concurrent_lru::step::{Begun, Inserted};
 use lru_support::tables::{Answers, Call, answer_without_shares, text_of};
 use std::alloc::{AllocError, Global};
 use std::collections::HashMap;
@@ -58,52 +58,55 @@ impl Copies {
         };
         Spot { stamp, hint }
     }
-}
 
-// The texts show the values themselves, as those of a cache that shares them do.
-impl Answers<Call> for Copies {
-    fn answer(&mut self, alloc: Global, call: Call) -> Result<String, AllocError> {
+    // Keeps the hint that a begin returned, and returns the text of the rest of its answer.
+    fn begun(
+        &mut self,
+        alloc: Global,
+        told: Result<(Begun<u64>, Evicted<u64, u64, ByCopy>, Hint), Refusal>,
+    ) -> Result<String, AllocError> {
+        let answer = match told {
+            Ok((begun, evicted, hint)) => {
+                self.keep(stamp_of(&begun), hint)?;
+                Ok((begun, evicted))
+            }
+            Err(refusal) => Err(refusal),
+        };
+        text_of(alloc, &answer)
+    }
+
+    // As `begun`, for an insert.
+    fn inserted(
+        &mut self,
+        alloc: Global,
+        told: Result<(Inserted<u64, u64, ByCopy>, Hint), (Refusal, u64)>,
+    ) -> Result<String, AllocError> {
+        let answer = match told {
+            Ok((inserted, hint)) => {
+                self.keep(inserted.stamp, hint)?;
+                Ok(inserted)
+            }
+            Err(refused) => Err(refused),
+        };
+        text_of(alloc, &answer)
+    }
+
+    // As `begun`, for a get.
+    fn got(&mut self, alloc: Global, key: u64) -> Result<String, AllocError> {
+        let answer = match self.state.get_at(&key) {
+            Ok(Some((stamp, value, hint))) => {
+                self.keep(stamp, hint)?;
+                Ok(Some((stamp, value)))
+            }
+            Ok(None) => Ok(None),
+            Err(refusal) => Err(refusal),
+        };
+        text_of(alloc, &answer)
+    }
+
+    // Makes a call on the entry of a stamp, or one that has no share of a value.
+    fn answer_of_spot(&mut self, alloc: Global, call: Call) -> Result<String, AllocError> {
         match call {
-            Call::Begin(key, charge) if charge > 0 => {
-                let answer = match self.state.begin_at(&key, charge) {
-                    Ok((begun, evicted, hint)) => {
-                        self.keep(stamp_of(&begun), hint)?;
-                        Ok((begun, evicted))
-                    }
-                    Err(refusal) => Err(refusal),
-                };
-                text_of(alloc, &answer)
-            }
-            Call::BeginStrictly(key, charge) if charge > 0 => {
-                let answer = match self.state.begin_strictly_at(&key, charge) {
-                    Ok((begun, evicted, hint)) => {
-                        self.keep(stamp_of(&begun), hint)?;
-                        Ok((begun, evicted))
-                    }
-                    Err(refusal) => Err(refusal),
-                };
-                text_of(alloc, &answer)
-            }
-            Call::Insert(key, charge, value) if charge > 0 => {
-                let answer = match self.state.insert_at(&key, charge, value) {
-                    Ok((inserted, hint)) => {
-                        self.keep(inserted.stamp, hint)?;
-                        Ok(inserted)
-                    }
-                    Err(refused) => Err(refused),
-                };
-                text_of(alloc, &answer)
-            }
-            Call::InsertStrictly(key, charge, value) if charge > 0 => {
-                let answer = match self.state.insert_strictly_at(&key, charge, value) {
-                    Ok((inserted, hint)) => {
-                        self.keep(inserted.stamp, hint)?;
-                        Ok(inserted)
-                    }
-                    Err(refused) => Err(refused),
-                };
-                text_of(alloc, &answer)
-            }
             Call::Poll(stamp) => {
                 let spot = self.spot(stamp);
                 text_of(alloc, &self.state.poll_at(&spot))
@@ -115,17 +118,6 @@ impl Answers<Call> for Copies {
             Call::Fail(stamp) => {
                 let spot = self.spot(stamp);
                 text_of(alloc, &self.state.fail_at(&spot))
-            }
-            Call::Get(key) => {
-                let answer = match self.state.get_at(&key) {
-                    Ok(Some((stamp, value, hint))) => {
-                        self.keep(stamp, hint)?;
-                        Ok(Some((stamp, value)))
-                    }
-                    Ok(None) => Ok(None),
-                    Err(refusal) => Err(refusal),
-                };
-                text_of(alloc, &answer)
             }
             Call::Release(stamp) => {
                 let spot = self.spot(stamp);
@@ -144,6 +136,32 @@ impl Answers<Call> for Copies {
                 text_of(alloc, &self.state.key_at(&spot))
             }
             other => answer_without_shares(alloc, &mut self.state, other),
+        }
+    }
+}
+
+// The texts show the values themselves, as those of a cache that shares them do.
+impl Answers<Call> for Copies {
+    fn answer(&mut self, alloc: Global, call: Call) -> Result<String, AllocError> {
+        match call {
+            Call::Begin(key, charge) if charge > 0 => {
+                let told = self.state.begin_at(&key, charge);
+                self.begun(alloc, told)
+            }
+            Call::BeginStrictly(key, charge) if charge > 0 => {
+                let told = self.state.begin_strictly_at(&key, charge);
+                self.begun(alloc, told)
+            }
+            Call::Insert(key, charge, value) if charge > 0 => {
+                let told = self.state.insert_at(&key, charge, value);
+                self.inserted(alloc, told)
+            }
+            Call::InsertStrictly(key, charge, value) if charge > 0 => {
+                let told = self.state.insert_strictly_at(&key, charge, value);
+                self.inserted(alloc, told)
+            }
+            Call::Get(key) => self.got(alloc, key),
+            other => self.answer_of_spot(alloc, other),
         }
     }
 }

@@ -1,11 +1,14 @@
 //! Capacities, charges and stamps at the limits of their numbers, in all combinations: one list of
 //! calls, whose answers are compared with those of a plain cache.
+ghost use Rattle.std.specs.Prelude.{◌<◌};
 
 use crate::state::both::Both;
 use lru_support::tables::Call;
 use lru_support::tables::Call::{
     AdviceEvict, Begin, Capacity, Fail, Get, KeyOf, Poll, Prune, Ready, Release, SetCapacity, Total,
 };
+use std::alloc::Global;
+use std::process::Abort;
 
 const ENDS: [u64; 4] = [0, 1, u64::MAX - 1, u64::MAX];
 
@@ -102,20 +105,20 @@ impl Corner {
     }
 }
 
+// Makes the calls of a corner on empty caches.
+fn take_all(rt: &impl Abort, alloc: Global, corner: Corner, most_pins: u32)
+    requires { 0 < most_pins }
+{
+    let mut both = Both::with_limits(alloc, corner.capacity, corner.first_stamp, most_pins);
+    for call in corner.calls() {
+        both.take(rt, &(corner, most_pins), call);
+    }
+}
+
 #[test]
 fn answers_at_every_corner_as_a_plain_cache_does(rt: HostRuntime) {
     for number in 0..2 * CORNERS {
-        let corner = Corner::of(number);
         // An entry takes one or two pins.
-        let most_pins = 1 + number / CORNERS;
-        let mut both = Both::with_limits(
-            rt.alloc(),
-            corner.capacity,
-            corner.first_stamp,
-            most_pins,
-        );
-        for call in corner.calls() {
-            both.take(&rt, &(corner, most_pins), call);
-        }
+        take_all(&rt, rt.alloc(), Corner::of(number), 1 + number / CORNERS);
     }
 }

@@ -3,7 +3,9 @@
 
 use concurrent_lru::lru_core::State;
 use lru_support::makes::make;
+use std::alloc::Global;
 use std::cell::Cell;
+use std::process::Abort;
 use std::sync::Arc;
 
 // More entries than the stack would hold if the drop were recursive.
@@ -25,19 +27,25 @@ impl Drop for InOrder<'_> {
     }
 }
 
+// Makes all values, each at its position.
+fn make_all<'a>(
+    rt: &impl Abort,
+    alloc: Global,
+    state: &mut State<u64, InOrder<'a>>,
+    dropped: &'a Cell<u64>,
+) {
+    for place in 0..MANY {
+        let value = InOrder { place, dropped };
+        let value = Arc::new(alloc, value).expect(rt, "memory for the value");
+        assert_eq!(rt; make(state, &place, 1, value), Ok(place));
+    }
+}
+
 #[test]
 fn drops_a_long_chain_value_by_value(rt: HostRuntime) {
-    let alloc = rt.alloc();
     let dropped = Cell::new(0);
-    let mut state: State<u64, InOrder<'_>> = State::new(alloc, MANY);
-    for place in 0..MANY {
-        let value = InOrder {
-            place,
-            dropped: &dropped,
-        };
-        let value = Arc::new(alloc, value).expect(&rt, "memory for the value");
-        assert_eq!(rt; make(&mut state, &place, 1, value), Ok(place));
-    }
+    let mut state: State<u64, InOrder<'_>> = State::new(rt.alloc(), MANY);
+    make_all(&rt, rt.alloc(), &mut state, &dropped);
     let evicted = state.prune();
     assert_eq!(rt; dropped.get(), 0, "the chain has the values");
     assert_eq!(rt; state.total(), 0);

@@ -1,10 +1,10 @@
 //! The limits of numbers, and stamps of no entry.
 
-use concurrent_lru::lru_core::State;
+use crate::state::play::{plays, plays_within};
+use lru_support::tables::Call;
 use lru_support::tables::Call::{
     AdviceEvict, Begin, Fail, Get, Poll, Prune, Ready, Release, Reserve, Total,
 };
-use lru_support::tables::{Call, answers_as_expected};
 use std::test;
 
 const LAST_STAMP: u64 = u64::MAX - 1;
@@ -20,9 +20,7 @@ const LAST_STAMPS: [(Call, &str); 6] = [
 
 #[test]
 fn gives_the_last_stamp_once(rt: HostRuntime) -> Result<(), test::Fail> {
-    let alloc = rt.alloc();
-    let mut state = State::with_limits(alloc, u64::MAX, LAST_STAMP, 2);
-    answers_as_expected(alloc, &mut state, &LAST_STAMPS)
+    plays_within(rt.alloc(), u64::MAX, LAST_STAMP, 2, &LAST_STAMPS)
 }
 
 const TOTALS: [(Call, &str); 7] = [
@@ -37,8 +35,7 @@ const TOTALS: [(Call, &str); 7] = [
 
 #[test]
 fn takes_a_total_up_to_the_greatest_number(rt: HostRuntime) -> Result<(), test::Fail> {
-    let alloc = rt.alloc();
-    answers_as_expected(alloc, &mut State::new(alloc, 5), &TOTALS)
+    plays(rt.alloc(), 5, &TOTALS)
 }
 
 const ROOMS: [(Call, &str); 7] = [
@@ -53,8 +50,7 @@ const ROOMS: [(Call, &str); 7] = [
 
 #[test]
 fn a_room_past_all_memory_is_refused(rt: HostRuntime) -> Result<(), test::Fail> {
-    let alloc = rt.alloc();
-    answers_as_expected(alloc, &mut State::new(alloc, 9), &ROOMS)
+    plays(rt.alloc(), 9, &ROOMS)
 }
 
 const PINS: [(Call, &str); 12] = [
@@ -74,9 +70,7 @@ const PINS: [(Call, &str); 12] = [
 
 #[test]
 fn pins_an_entry_up_to_its_limit(rt: HostRuntime) -> Result<(), test::Fail> {
-    let alloc = rt.alloc();
-    let mut state = State::with_limits(alloc, 10, 0, 2);
-    answers_as_expected(alloc, &mut state, &PINS)
+    plays_within(rt.alloc(), 10, 0, 2, &PINS)
 }
 
 // Key 1 is given up by its maker while another waits, and made by a third. The charge stays the
@@ -105,6 +99,5 @@ const UNTAKEN: [(Call, &str); 19] = [
 
 #[test]
 fn hands_an_untaken_making_to_the_next(rt: HostRuntime) -> Result<(), test::Fail> {
-    let alloc = rt.alloc();
-    answers_as_expected(alloc, &mut State::new(alloc, 10), &UNTAKEN)
+    plays(rt.alloc(), 10, &UNTAKEN)
 }

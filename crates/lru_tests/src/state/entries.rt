@@ -1,6 +1,7 @@
 //! The entries that have a value, in a walk over all of them and one by one: which ones are shown,
 //! and what is said of each.
 
+use crate::state::contents::first_evicted;
 use concurrent_lru::lru_core::{EntryRef, Refusal, State};
 use concurrent_lru::share::Sharing;
 use lru_support::makes::{hold, make};
@@ -10,6 +11,7 @@ use lru_support::tables::Call::{
 };
 use lru_support::tables::{Answers, Call, text_of};
 use std::alloc::{AllocError, Global};
+use std::process::Abort;
 use std::sync::Arc;
 
 /// What is shown of an entry: stamp, key, charge, pins, whether it is detached, and value.
@@ -130,14 +132,17 @@ fn seen_after(
     Ok((walked, found))
 }
 
-#[test]
-fn entries_with_a_value_are_shown(rt: HostRuntime) {
-    let mut state: State<u64, u64> = State::new(rt.alloc(), 9);
+fn see_all(rt: &impl Abort, alloc: Global, state: &mut State<u64, u64>) {
     for (call, wanted) in STATES {
-        let (walked, found) = seen_after(rt.alloc(), &mut state, call).expect(&rt, "memory");
+        let (walked, found) = seen_after(alloc, state, call).expect(rt, "memory");
         assert_eq!(rt; walked.as_str(), wanted, "after {call:?}");
         assert_eq!(rt; found.as_str(), wanted, "after {call:?}");
     }
+}
+
+#[test]
+fn entries_with_a_value_are_shown(rt: HostRuntime) {
+    see_all(&rt, rt.alloc(), &mut State::new(rt.alloc(), 9));
 }
 
 // Inserts a key. Returns the hint that the call gives, and the one that is shown of the entry.
@@ -161,13 +166,16 @@ fn hints_of(
     ])
 }
 
-#[test]
-fn hints_lead_to_the_entries(rt: HostRuntime) {
-    let mut state: State<u64, u64> = State::new(rt.alloc(), 10);
+fn insert_all(rt: &impl Abort, alloc: Global, state: &mut State<u64, u64>) {
     for key in [3u64, 1, 2] {
-        let [given, shown] = hints_of(rt.alloc(), &mut state, key).expect(&rt, "inserted");
+        let [given, shown] = hints_of(alloc, state, key).expect(rt, "inserted");
         assert_eq!(rt; shown, given);
     }
+}
+
+#[test]
+fn hints_lead_to_the_entries(rt: HostRuntime) {
+    insert_all(&rt, rt.alloc(), &mut State::new(rt.alloc(), 10));
 }
 
 // Creates a cache with 1,000 entries, of the keys from 0 to 999. Each key has the charge of 1 plus
@@ -176,17 +184,23 @@ fn hints_lead_to_the_entries(rt: HostRuntime) {
 fn with_a_thousand(alloc: Global) -> Result<State<u64, u64>, Refusal> {
     let mut state = State::new(alloc, 10_000);
     for key in 0..1_000u64 {
-        let value = Arc::new(alloc, key * 10)?;
-        if key % 3 == 0 {
-            hold(&mut state, &key, 1 + key % 7, value)?;
-        } else {
-            make(&mut state, &key, 1 + key % 7, value)?;
-        }
-        if key % 9 == 0 {
-            drop(state.invalidate(&key));
-        }
+        put(alloc, &mut state, key)?;
     }
     Ok(state)
+}
+
+// Puts one of them in.
+fn put(alloc: Global, state: &mut State<u64, u64>, key: u64) -> Result<(), Refusal> {
+    let value = Arc::new(alloc, key.saturating_mul(10))?;
+    if key % 3 == 0 {
+        hold(state, &key, 1 + key % 7, value)?;
+    } else {
+        make(state, &key, 1 + key % 7, value)?;
+    }
+    if key % 9 == 0 {
+        drop(state.invalidate(&key));
+    }
+    Ok(())
 }
 
 // Returns what a walk over those entries is to show.
@@ -225,10 +239,7 @@ fn a_walk_changes_nothing(rt: HostRuntime) {
     let before = (state.len(), state.total(), state.pinned_charge());
     let charge = charge_of_found(&state);
     let after = (state.len(), state.total(), state.pinned_charge());
-    let oldest = state
-        .set_capacity(before.1.saturating_sub(1))
-        .pop()
-        .map(|gone| gone.key);
+    let oldest = first_evicted(&mut state, before.1.saturating_sub(1));
     assert_eq!(rt; after, before);
     assert_eq!(rt; (charge, oldest), (3_549, Some(1)));
 }

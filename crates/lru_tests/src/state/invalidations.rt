@@ -1,12 +1,12 @@
 //! Entries that are detached from their keys while they are held.
 
+use crate::state::play::{plays, plays_within};
 use concurrent_lru::list::Node;
-use concurrent_lru::lru_core::State;
+use lru_support::tables::Call;
 use lru_support::tables::Call::{
     AdviceEvict, Begin, Fail, Get, Insert, Invalidate, KeyOf, Poll, Prune, Ready, Release,
     SetCapacity, Show, Total,
 };
-use lru_support::tables::{Call, answers_as_expected};
 use std::test;
 
 // No entry, an idle one, and again none.
@@ -27,8 +27,7 @@ const IDLE: [(Call, &str); 9] = [
 
 #[test]
 fn an_idle_entry_is_evicted(rt: HostRuntime) -> Result<(), test::Fail> {
-    let alloc = rt.alloc();
-    answers_as_expected(alloc, &mut State::new(alloc, 10), &IDLE)
+    plays(rt.alloc(), 10, &IDLE)
 }
 
 // A detached entry is not found by its key; calls by its stamp find it until its last pin is
@@ -55,8 +54,7 @@ const READY: [(Call, &str); 14] = [
 
 #[test]
 fn a_ready_entry_is_detached(rt: HostRuntime) -> Result<(), test::Fail> {
-    let alloc = rt.alloc();
-    answers_as_expected(alloc, &mut State::new(alloc, 10), &READY)
+    plays(rt.alloc(), 10, &READY)
 }
 
 // Two entries of one key are held at once, and the old one is released first.
@@ -82,8 +80,7 @@ const OLD_FIRST: [(Call, &str); 14] = [
 
 #[test]
 fn the_old_entry_is_released_first(rt: HostRuntime) -> Result<(), test::Fail> {
-    let alloc = rt.alloc();
-    answers_as_expected(alloc, &mut State::new(alloc, 10), &OLD_FIRST)
+    plays(rt.alloc(), 10, &OLD_FIRST)
 }
 
 // The new one is released first, and evicted while the old one is held, whose charge still counts.
@@ -112,8 +109,7 @@ const NEW_FIRST: [(Call, &str); 14] = [
 
 #[test]
 fn the_new_entry_is_released_first(rt: HostRuntime) -> Result<(), test::Fail> {
-    let alloc = rt.alloc();
-    answers_as_expected(alloc, &mut State::new(alloc, 10), &NEW_FIRST)
+    plays(rt.alloc(), 10, &NEW_FIRST)
 }
 
 // Entries that are detached while their value is made, and while nobody makes it: one of the
@@ -145,8 +141,7 @@ const MAKINGS: [(Call, &str); 19] = [
 
 #[test]
 fn a_making_is_detached(rt: HostRuntime) -> Result<(), test::Fail> {
-    let alloc = rt.alloc();
-    answers_as_expected(alloc, &mut State::new(alloc, 10), &MAKINGS)
+    plays(rt.alloc(), 10, &MAKINGS)
 }
 
 // A detached entry is evicted at its last release, whatever the capacity, and evicts nothing else;
@@ -176,8 +171,7 @@ const CROWDED: [(Call, &str); 14] = [
 
 #[test]
 fn a_detached_entry_counts_while_it_is_held(rt: HostRuntime) -> Result<(), test::Fail> {
-    let alloc = rt.alloc();
-    answers_as_expected(alloc, &mut State::new(alloc, 9), &CROWDED)
+    plays(rt.alloc(), 9, &CROWDED)
 }
 
 // At the capacity 0 nothing becomes idle; a detached entry is evicted once.
@@ -194,8 +188,7 @@ const NO_CAPACITY: [(Call, &str); 5] = [
 
 #[test]
 fn a_cache_of_no_capacity_detaches(rt: HostRuntime) -> Result<(), test::Fail> {
-    let alloc = rt.alloc();
-    answers_as_expected(alloc, &mut State::new(alloc, 0), &NO_CAPACITY)
+    plays(rt.alloc(), 0, &NO_CAPACITY)
 }
 
 // The maximum number of pins is for each entry: a new entry of the key begins at one again.
@@ -211,8 +204,7 @@ const PINS: [(Call, &str); 7] = [
 
 #[test]
 fn a_new_entry_has_pins_of_its_own(rt: HostRuntime) -> Result<(), test::Fail> {
-    let alloc = rt.alloc();
-    answers_as_expected(alloc, &mut State::with_limits(alloc, 10, 0, 1), &PINS)
+    plays_within(rt.alloc(), 10, 0, 1, &PINS)
 }
 
 // A value is inserted if there is none, over an idle one, over a held one, and over a making.
@@ -250,8 +242,7 @@ const INSERTS: [(Call, &str); 14] = [
 
 #[test]
 fn a_value_is_put_in_over_another(rt: HostRuntime) -> Result<(), test::Fail> {
-    let alloc = rt.alloc();
-    answers_as_expected(alloc, &mut State::new(alloc, 10), &INSERTS)
+    plays(rt.alloc(), 10, &INSERTS)
 }
 
 // The charge of an idle entry makes room for the new one, and that of a held one does not. After a
@@ -276,8 +267,7 @@ const OVERFLOWS: [(Call, &str); 9] = [
 
 #[test]
 fn an_insert_is_judged_after_what_it_replaces(rt: HostRuntime) -> Result<(), test::Fail> {
-    let alloc = rt.alloc();
-    answers_as_expected(alloc, &mut State::new(alloc, u64::MAX), &OVERFLOWS)
+    plays(rt.alloc(), u64::MAX, &OVERFLOWS)
 }
 
 #[test]

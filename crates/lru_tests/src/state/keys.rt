@@ -3,7 +3,8 @@
 use concurrent_lru::lru_core::{Refusal, State};
 use lru_support::makes::make;
 use lru_support::tables::text_of;
-use std::alloc::Global;
+use std::alloc::{AllocError, Global};
+use std::process::Abort;
 use std::sync::Arc;
 
 // Makes the keys "one" and "two", of the values 10 and 20, in a cache of capacity 1. Returns their
@@ -19,21 +20,38 @@ fn make_two(
     Ok((first, second))
 }
 
-#[test]
-fn keeps_keys_of_text(rt: HostRuntime) {
-    let alloc = rt.alloc();
-    let one = String::from_str(alloc, "one").expect(&rt, "memory");
-    let two = String::from_str(alloc, "two").expect(&rt, "memory");
+// Returns the text of the keys of both stamps.
+fn text_of_keys(alloc: Global, state: &State<String, u64>) -> Result<String, AllocError> {
+    text_of(alloc, &(state.key_of(0), state.key_of(1)))
+}
+
+// Returns the text of what a get of a key finds, and then of what is evicted.
+fn text_of_rest(
+    alloc: Global,
+    state: &mut State<String, u64>,
+    key: &String,
+) -> Result<String, AllocError> {
+    text_of(alloc, &(state.get(key), state.prune()))
+}
+
+fn keeps_two(rt: &impl Abort, alloc: Global, one: &String, two: &String) {
     let mut state: State<String, u64> = State::new(alloc, 1);
-    let made = make_two(alloc, &mut state, &one, &two);
+    let made = make_two(alloc, &mut state, one, two);
     assert_eq!(rt; made, Ok((0, 1)));
-    let keys = text_of(alloc, &(state.key_of(0), state.key_of(1))).expect(&rt, "memory");
+    let keys = text_of_keys(alloc, &state).expect(rt, "memory");
     assert_eq!(rt; keys.as_str(), "(None, Some(\"two\"))");
-    let left = text_of(alloc, &(state.get(&one), state.prune())).expect(&rt, "memory");
+    let left = text_of_rest(alloc, &mut state, one).expect(rt, "memory");
     assert_eq!(rt;
         left.as_str(),
         "(Ok(None), [Gone { stamp: 1, key: \"two\", charge: 1, value: 20 }])"
     );
+}
+
+#[test]
+fn keeps_keys_of_text(rt: HostRuntime) {
+    let one = String::from_str(rt.alloc(), "one").expect(&rt, "memory");
+    let two = String::from_str(rt.alloc(), "two").expect(&rt, "memory");
+    keeps_two(&rt, rt.alloc(), &one, &two);
 }
 
 // As many entries as a map can have in reasonable time if all its keys have the same hash.
@@ -47,22 +65,31 @@ struct Careless {
     number: u64,
 }
 
-#[test]
-fn tells_keys_of_one_hash_apart(rt: HostRuntime) {
-    let alloc = rt.alloc();
-    let mut state: State<Careless, u64> = State::new(alloc, MANY);
+// Makes all keys.
+fn make_all(rt: &impl Abort, alloc: Global, state: &mut State<Careless, u64>) {
     for number in 0..MANY {
-        let value = Arc::new(alloc, number).expect(&rt, "memory for the value");
-        let stamp = make(&mut state, &Careless { number }, 1, value);
+        let value = Arc::new(alloc, number).expect(rt, "memory for the value");
+        let stamp = make(state, &Careless { number }, 1, value);
         assert_eq!(rt; stamp, Ok(number));
     }
+}
+
+// Finds all keys.
+fn get_all(rt: &impl Abort, state: &mut State<Careless, u64>) {
     for number in 0..MANY {
         let found = state
             .get(&Careless { number })
-            .expect(&rt, "room for the copy");
-        let (stamp, value) = found.expect(&rt, "all keys fit");
+            .expect(rt, "room for the copy");
+        let (stamp, value) = found.expect(rt, "all keys fit");
         assert_eq!(rt; (stamp, *value), (number, number));
     }
+}
+
+#[test]
+fn tells_keys_of_one_hash_apart(rt: HostRuntime) {
+    let mut state: State<Careless, u64> = State::new(rt.alloc(), MANY);
+    make_all(&rt, rt.alloc(), &mut state);
+    get_all(&rt, &mut state);
 }
 
 // A key whose hash is that of its group.
@@ -94,25 +121,38 @@ fn agrees(state: &State<Grouped, u64>, model: &[bool; 64]) -> bool {
     state.len() == model.iter().filter(|there| **there).count()
 }
 
-// Equal hashes beside others, growth, and removals from every part of a run of entries, against a
-// plain model.
-#[test]
-fn a_model_agrees_on_keys_of_few_hashes(rt: HostRuntime) {
-    let alloc = rt.alloc();
+// Removes a key that is there, and makes one that is not.
+fn turn(
+    rt: &impl Abort,
+    alloc: Global,
+    state: &mut State<Grouped, u64>,
+    key: &Grouped,
+    is_there: bool,
+) {
+    if is_there {
+        let _old = state.invalidate(key);
+    } else {
+        let value = Arc::new(alloc, 0).expect(rt, "memory for the value");
+        let _stamp = make(state, key, 1, value);
+    }
+}
+
+// Turns 1,000 keys, and compares with a plain model after each.
+fn turn_all(rt: &impl Abort, alloc: Global, state: &mut State<Grouped, u64>) {
     let mut model = [false; 64];
-    let mut state: State<Grouped, u64> = State::with_seed(alloc, 64, 77);
     let mut x = 12345u32;
     for _ in 0..1000 {
         x = x.wrapping_mul(1664525).wrapping_add(1013904223);
         let number = (x >> 16) as usize % 64;
-        let key = Grouped::of(number);
-        if model[number] {
-            let _old = state.invalidate(&key);
-        } else {
-            let value = Arc::new(alloc, 0).expect(&rt, "memory for the value");
-            let _stamp = make(&mut state, &key, 1, value);
-        }
+        turn(rt, alloc, state, &Grouped::of(number), model[number]);
         model[number] = !model[number];
-        assert!(rt; agrees(&state, &model));
+        assert!(rt; agrees(state, &model));
     }
+}
+
+// Equal hashes beside others, growth, and removals from every part of a run of entries, against a
+// plain model.
+#[test]
+fn a_model_agrees_on_keys_of_few_hashes(rt: HostRuntime) {
+    turn_all(&rt, rt.alloc(), &mut State::with_seed(rt.alloc(), 64, 77));
 }

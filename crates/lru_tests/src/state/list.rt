@@ -4,6 +4,7 @@
 use concurrent_lru::list::{Node, Nodes, Phase, Refusal};
 use concurrent_lru::lru_core::State;
 use lru_support::makes::{hold, make};
+use std::alloc::Global;
 use std::process::Abort;
 use std::sync::Arc;
 use std::test::Fail;
@@ -55,10 +56,13 @@ fn gives_a_free_place_out_again(rt: HostRuntime) -> Result<(), Fail> {
 
 #[test]
 fn numbers_its_refusals(rt: HostRuntime) {
-    assert_eq!(rt; Refusal::Memory.code(), 1);
-    assert_eq!(rt; Refusal::Overflow.code(), 2);
-    assert_eq!(rt; Refusal::Full.code(), 5);
-    assert_eq!(rt; Refusal::Stale.code(), 3);
+    let codes = [
+        Refusal::Memory.code(),
+        Refusal::Overflow.code(),
+        Refusal::Full.code(),
+        Refusal::Stale.code(),
+    ];
+    assert_eq!(rt; codes, [1, 2, 5, 3]);
 }
 
 // Makes the keys below `keys`, all with one value, and releases each pin.
@@ -80,27 +84,31 @@ fn hold_all(rt: &impl Abort, state: &mut State<u64, u64>, keys: u64, value: &Arc
 // More nodes of each kind than the stack would hold if the drop were recursive.
 const MANY: u64 = 100_000;
 
-#[test]
-fn frees_idle_and_held_nodes_at_its_end(rt: HostRuntime) -> Result<(), Fail> {
-    let alloc = rt.alloc();
-    let value = Arc::new(alloc, 7u64)?;
+// Returns the number of the value's owners while the nodes of a cache are among them.
+fn owners_of_all(rt: &impl Abort, alloc: Global, value: &Arc<u64>) -> usize {
     let mut state: State<u64, u64> = State::new(alloc, 2 * MANY);
-    make_all(&rt, &mut state, MANY, &value);
-    hold_all(&rt, &mut state, MANY, &value);
-    assert_eq!(rt; Arc::strong_count(&value), 200_001);
-    drop(state);
-    assert_eq!(rt; Arc::strong_count(&value), 1);
-    Ok(())
+    make_all(rt, &mut state, MANY, value);
+    hold_all(rt, &mut state, MANY, value);
+    Arc::strong_count(value)
 }
 
 #[test]
-fn frees_what_its_slots_held_before(rt: HostRuntime) -> Result<(), Fail> {
-    let alloc = rt.alloc();
-    let value = Arc::new(alloc, 7u64)?;
-    let mut state: State<u64, u64> = State::new(alloc, 4);
-    make_all(&rt, &mut state, 304, &value);
-    assert_eq!(rt; Arc::strong_count(&value), 5);
-    drop(state);
+fn frees_idle_and_held_nodes_at_its_end(rt: HostRuntime) {
+    let value = Arc::new(rt.alloc(), 7u64).expect(&rt, "memory");
+    assert_eq!(rt; owners_of_all(&rt, rt.alloc(), &value), 200_001);
     assert_eq!(rt; Arc::strong_count(&value), 1);
-    Ok(())
+}
+
+// As `owners_of_all`, of a cache that keeps four of the nodes that it had.
+fn owners_of_few(rt: &impl Abort, alloc: Global, value: &Arc<u64>) -> usize {
+    let mut state: State<u64, u64> = State::new(alloc, 4);
+    make_all(rt, &mut state, 304, value);
+    Arc::strong_count(value)
+}
+
+#[test]
+fn frees_what_its_slots_held_before(rt: HostRuntime) {
+    let value = Arc::new(rt.alloc(), 7u64).expect(&rt, "memory");
+    assert_eq!(rt; owners_of_few(&rt, rt.alloc(), &value), 5);
+    assert_eq!(rt; Arc::strong_count(&value), 1);
 }

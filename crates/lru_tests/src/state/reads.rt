@@ -1,10 +1,12 @@
 //! Reads of a single owner: their results in each phase of an entry, and what is evicted after
 //! them.
 
+use crate::state::play::{plays, plays_within};
 use concurrent_lru::lru_core::{Begun, Evicted, Refusal, State};
 use lru_support::tables::Call::{Begin, Get, Poll, Prune, Read, Ready, Release, SetCapacity};
 use lru_support::tables::{Call, answers_as_expected};
 use std::alloc::{AllocError, Global};
+use std::process::Abort;
 use std::sync::Arc;
 use std::test::Fail;
 
@@ -26,10 +28,16 @@ fn make(alloc: Global, state: &mut State<u64, u64>, key: u64) -> Result<u64, Ref
 fn three_idle(alloc: Global) -> Result<State<u64, u64>, Refusal> {
     let mut state = State::new(alloc, 3);
     for key in [1, 2, 3] {
-        let stamp = make(alloc, &mut state, key)?;
-        let _evicted = state.release(stamp)?;
+        make_idle(alloc, &mut state, key)?;
     }
     Ok(state)
+}
+
+// Makes the value of an absent key, as `make` does, and releases the pin.
+fn make_idle(alloc: Global, state: &mut State<u64, u64>, key: u64) -> Result<(), Refusal> {
+    let stamp = make(alloc, state, key)?;
+    let _evicted = state.release(stamp)?;
+    Ok(())
 }
 
 // Returns the keys of evicted entries in order.
@@ -54,15 +62,19 @@ const ORDERS: [(u64, [u64; 3]); 4] = [
     (4, [1, 2, 3]),
 ];
 
+// Reads a key of a new cache, and compares the order in which the three are evicted then.
+fn reads_one(rt: &impl Abort, alloc: Global, key: u64, order: [u64; 3]) {
+    let mut state = three_idle(alloc).expect(rt, "three entries");
+    assert!(rt; value_read(&mut state, key).is_ok());
+    assert_eq!(rt; state.total(), 3);
+    let gone = keys_of(alloc, state.prune()).expect(rt, "memory");
+    assert_eq!(rt; gone.as_slice(), order.as_slice(), "after a read of {key}");
+}
+
 #[test]
 fn a_read_makes_an_idle_entry_the_newest(rt: HostRuntime) {
-    let alloc = rt.alloc();
     for (key, order) in ORDERS {
-        let mut state = three_idle(alloc).expect(&rt, "three entries");
-        assert!(rt; value_read(&mut state, key).is_ok());
-        assert_eq!(rt; state.total(), 3);
-        let gone = keys_of(alloc, state.prune()).expect(&rt, "memory");
-        assert_eq!(rt; gone.as_slice(), order.as_slice(), "after a read of {key}");
+        reads_one(&rt, rt.alloc(), key, order);
     }
 }
 
@@ -102,14 +114,18 @@ const RELEASED: [(Call, &str); 3] = [
     (Prune, "[Gone { stamp: 0, key: 1, charge: 1, value: 10 }]"),
 ];
 
-#[test]
-fn a_read_leaves_a_held_entry_as_it_is(rt: HostRuntime) -> Result<(), Fail> {
-    let alloc = rt.alloc();
-    let mut state = three_idle(alloc).expect(&rt, "three entries");
-    answers_as_expected(alloc, &mut state, &HELD)?;
+// Reads key 1 while it is held, on a cache with three idle entries.
+fn reads_held(rt: &impl Abort, alloc: Global, state: &mut State<u64, u64>) -> Result<(), Fail> {
+    answers_as_expected(alloc, state, &HELD)?;
     let read = state.read(&1, |value| value.wrapping_add(1));
     assert_eq!(rt; read, Ok(Some((0, 11))));
-    answers_as_expected(alloc, &mut state, &RELEASED)
+    answers_as_expected(alloc, state, &RELEASED)
+}
+
+#[test]
+fn a_read_leaves_a_held_entry_as_it_is(rt: HostRuntime) -> Result<(), Fail> {
+    let mut state = three_idle(rt.alloc()).expect(&rt, "three entries");
+    reads_held(&rt, rt.alloc(), &mut state)
 }
 
 const READY_ALONE: [(Call, &str); 10] = [
@@ -128,8 +144,7 @@ const READY_ALONE: [(Call, &str); 10] = [
 
 #[test]
 fn a_read_finds_ready_values_alone(rt: HostRuntime) -> Result<(), Fail> {
-    let alloc = rt.alloc();
-    answers_as_expected(alloc, &mut State::new(alloc, 3), &READY_ALONE)
+    plays(rt.alloc(), 3, &READY_ALONE)
 }
 
 // Returns whether a read of key 1 finds a value, and whether its reader was called.
@@ -163,6 +178,5 @@ const TWO_PINS: [(Call, &str); 8] = [
 
 #[test]
 fn a_read_overflows_where_a_get_does(rt: HostRuntime) -> Result<(), Fail> {
-    let alloc = rt.alloc();
-    answers_as_expected(alloc, &mut State::with_limits(alloc, 3, 0, 2), &TWO_PINS)
+    plays_within(rt.alloc(), 3, 0, 2, &TWO_PINS)
 }

@@ -58,12 +58,19 @@ fn answer_alike(rt: &impl Abort, alloc: Global, kinds: u64)
     requires { 0 < kinds }
 {
     for seed in 1..=20u64 {
-        let mut both = both_of_ten(alloc);
-        let mut generator = Xoshiro256PlusPlus::seed_from_u64(seed);
-        for number in 0..2_000u32 {
-            let call = draw(&mut generator, kinds, both.plain.next);
-            both.take(rt, &("seed", seed, "call", number), call);
-        }
+        answer_alike_from(rt, alloc, kinds, seed);
+    }
+}
+
+// Makes those from one seed.
+fn answer_alike_from(rt: &impl Abort, alloc: Global, kinds: u64, seed: u64)
+    requires { 0 < kinds }
+{
+    let mut both = both_of_ten(alloc);
+    let mut generator = Xoshiro256PlusPlus::seed_from_u64(seed);
+    for number in 0..2_000u32 {
+        let call = draw(&mut generator, kinds, both.plain.next);
+        both.take(rt, &("seed", seed, "call", number), call);
     }
 }
 
@@ -79,43 +86,71 @@ fn answers_alike_to_the_first_kinds(rt: HostRuntime) {
     answer_alike(&rt, rt.alloc(), FIRST_KINDS);
 }
 
-// Once three pins are held, the oldest is released, so that there are idle entries to choose from.
-#[test]
-fn answers_alike_where_pins_are_given_back(rt: HostRuntime) {
-    for seed in 1..=20u64 {
-        let mut both = both_of_ten(rt.alloc());
-        let mut generator = Xoshiro256PlusPlus::seed_from_u64(seed);
-        let mut held = [None, None];
-        for number in 0..2_000u32 {
-            let call = draw(&mut generator, KINDS, both.plain.next);
-            both.take(&rt, &("seed", seed, "call", number), call);
-            let Some(pinned) = both.plain.pinned else {
-                continue;
-            };
-            if let Some(oldest) = held[0] {
-                both.take(&rt, &("seed", seed, "call", number), Call::Poll(oldest));
-                both.take(
-                    &rt,
-                    &("seed", seed, "call", number),
-                    Call::Ready(oldest, oldest),
-                );
-                both.take(&rt, &("seed", seed, "call", number), Call::Release(oldest));
-            }
-            held = [held[1], Some(pinned)];
-        }
+// The words that tell where a run is: its seed and the number of its call.
+type Place = (&'static str, u64, &'static str, u32);
+
+// Releases the pin of a stamp.
+fn give_back(rt: &impl Abort, both: &mut Both, place: &Place, stamp: u64) {
+    for call in [
+        Call::Poll(stamp),
+        Call::Ready(stamp, stamp),
+        Call::Release(stamp),
+    ] {
+        both.take(rt, place, call);
     }
 }
 
-// A walk after each call shows what it left.
+// Releases the oldest pin if the last call took a third one. Returns the pins that are held then.
+fn hold_two(
+    rt: &impl Abort,
+    both: &mut Both,
+    place: &Place,
+    held: [Option<u64>; 2],
+) -> [Option<u64>; 2] {
+    let Some(pinned) = both.plain.pinned else {
+        return held;
+    };
+    if let Some(oldest) = held[0] {
+        give_back(rt, both, place, oldest);
+    }
+    [held[1], Some(pinned)]
+}
+
+// Makes 2,000 calls from a seed. Once three pins are held, the oldest is released, so that there
+// are idle entries to choose from.
+fn give_back_from(rt: &impl Abort, alloc: Global, seed: u64) {
+    let mut both = both_of_ten(alloc);
+    let mut generator = Xoshiro256PlusPlus::seed_from_u64(seed);
+    let mut held = [None, None];
+    for number in 0..2_000u32 {
+        let place = ("seed", seed, "call", number);
+        let call = draw(&mut generator, KINDS, both.plain.next);
+        both.take(rt, &place, call);
+        held = hold_two(rt, &mut both, &place, held);
+    }
+}
+
+#[test]
+fn answers_alike_where_pins_are_given_back(rt: HostRuntime) {
+    for seed in 1..=20u64 {
+        give_back_from(&rt, rt.alloc(), seed);
+    }
+}
+
+// Makes 1,000 calls from a seed. A walk after each call shows what it left.
+fn show_from(rt: &impl Abort, alloc: Global, seed: u64) {
+    let mut both = both_of_ten(alloc);
+    let mut generator = Xoshiro256PlusPlus::seed_from_u64(seed);
+    for number in 0..1_000u32 {
+        let call = draw(&mut generator, KINDS, both.plain.next);
+        both.take(rt, &("seed", seed, "call", number), call);
+        both.walk(rt, &("seed", seed, "call", number));
+    }
+}
+
 #[test]
 fn shows_the_entries_of_a_plain_cache(rt: HostRuntime) {
     for seed in 1..=5u64 {
-        let mut both = both_of_ten(rt.alloc());
-        let mut generator = Xoshiro256PlusPlus::seed_from_u64(seed);
-        for number in 0..1_000u32 {
-            let call = draw(&mut generator, KINDS, both.plain.next);
-            both.take(&rt, &("seed", seed, "call", number), call);
-            both.walk(&rt, &("seed", seed, "call", number));
-        }
+        show_from(&rt, rt.alloc(), seed);
     }
 }

@@ -1,11 +1,11 @@
 //! Each public call of the core succeeding, and the text of a cache.
 
+use crate::state::play::{plays, plays_within, runs, runs_on, shared};
 use concurrent_lru::lru_core::{State, Step};
+use lru_support::tables::Call;
 use lru_support::tables::Call::{
     AdviceEvict, Begin, Capacity, Fail, Get, KeyOf, Poll, Prune, Ready, Release, Show, Total,
 };
-use lru_support::tables::{Call, answers_as_expected, says};
-use std::sync::Arc;
 use std::test;
 
 const MAKES: [(Call, &str); 7] = [
@@ -20,8 +20,7 @@ const MAKES: [(Call, &str); 7] = [
 
 #[test]
 fn makes_what_is_absent(rt: HostRuntime) -> Result<(), test::Fail> {
-    let alloc = rt.alloc();
-    answers_as_expected(alloc, &mut State::new(alloc, 10), &MAKES)
+    plays(rt.alloc(), 10, &MAKES)
 }
 
 const HITS: [(Call, &str); 6] = [
@@ -35,8 +34,7 @@ const HITS: [(Call, &str); 6] = [
 
 #[test]
 fn hits_what_is_ready(rt: HostRuntime) -> Result<(), test::Fail> {
-    let alloc = rt.alloc();
-    answers_as_expected(alloc, &mut State::new(alloc, 10), &HITS)
+    plays(rt.alloc(), 10, &HITS)
 }
 
 const ADVICES: [(Call, &str); 7] = [
@@ -54,8 +52,7 @@ const ADVICES: [(Call, &str); 7] = [
 
 #[test]
 fn evicts_by_advice_what_nobody_pins(rt: HostRuntime) -> Result<(), test::Fail> {
-    let alloc = rt.alloc();
-    answers_as_expected(alloc, &mut State::new(alloc, 10), &ADVICES)
+    plays(rt.alloc(), 10, &ADVICES)
 }
 
 const FAILS: [(Call, &str); 5] = [
@@ -68,8 +65,7 @@ const FAILS: [(Call, &str); 5] = [
 
 #[test]
 fn gives_a_making_up(rt: HostRuntime) -> Result<(), test::Fail> {
-    let alloc = rt.alloc();
-    answers_as_expected(alloc, &mut State::new(alloc, 10), &FAILS)
+    plays(rt.alloc(), 10, &FAILS)
 }
 
 const LIMITS: [(Call, &str); 4] = [
@@ -81,8 +77,7 @@ const LIMITS: [(Call, &str); 4] = [
 
 #[test]
 fn starts_with_its_limits(rt: HostRuntime) -> Result<(), test::Fail> {
-    let alloc = rt.alloc();
-    answers_as_expected(alloc, &mut State::with_limits(alloc, 4, 7, 2), &LIMITS)
+    plays_within(rt.alloc(), 4, 7, 2, &LIMITS)
 }
 
 const SHOWS: [(Call, &str); 5] = [
@@ -96,14 +91,13 @@ const SHOWS: [(Call, &str); 5] = [
 
 #[test]
 fn shows_what_is_ready(rt: HostRuntime) -> Result<(), test::Fail> {
-    let alloc = rt.alloc();
-    answers_as_expected(alloc, &mut State::new(alloc, 10), &SHOWS)
+    plays(rt.alloc(), 10, &SHOWS)
 }
 
 #[test]
 fn runs_the_uses_of_a_key(rt: HostRuntime) -> Result<(), test::Fail> {
     let alloc = rt.alloc();
-    let value = Arc::new(alloc, 7)?;
+    let value = shared(&rt, alloc, 7);
     let steps = vec![in alloc;
         Step::Begin(1, 1),
         Step::Ready(0, value),
@@ -111,10 +105,10 @@ fn runs_the_uses_of_a_key(rt: HostRuntime) -> Result<(), test::Fail> {
         Step::Release(0),
         Step::Get(1),
     ]?;
-    let mut state: State<u64, u64> = State::new(alloc, 1);
-    says(
+    runs(
         alloc,
-        &state.run(steps),
+        1,
+        steps,
         "Ok([Begun(Make(0), []), Done, Polled(Hit(0, 7)), Released([]), Got(Some((0, 7)))])",
     )
 }
@@ -122,7 +116,7 @@ fn runs_the_uses_of_a_key(rt: HostRuntime) -> Result<(), test::Fail> {
 #[test]
 fn runs_what_clears_a_cache(rt: HostRuntime) -> Result<(), test::Fail> {
     let alloc = rt.alloc();
-    let value = Arc::new(alloc, 2)?;
+    let value = shared(&rt, alloc, 2);
     let steps = vec![in alloc;
         Step::Begin(1, 3),
         Step::Ready(0, value),
@@ -132,10 +126,10 @@ fn runs_what_clears_a_cache(rt: HostRuntime) -> Result<(), test::Fail> {
         Step::Total,
         Step::Fail(0),
     ]?;
-    let mut state: State<u64, u64> = State::new(alloc, 10);
-    says(
+    runs(
         alloc,
-        &state.run(steps),
+        10,
+        steps,
         "Ok([Begun(Make(0), []), Done, Gone([]), Released([]), \
          Gone([Gone { stamp: 0, key: 1, charge: 3, value: 2 }]), Total(0), Refused(Stale)])",
     )
@@ -148,26 +142,26 @@ fn runs_inserts_and_reads(rt: HostRuntime) -> Result<(), test::Fail> {
     let alloc = rt.alloc();
     let steps = vec![in alloc;
         Step::Read(1),
-        Step::Insert(1, 1, Arc::new(alloc, 10)?),
+        Step::Insert(1, 1, shared(&rt, alloc, 10)),
         Step::Read(1),
-        Step::Insert(1, 2, Arc::new(alloc, 11)?),
+        Step::Insert(1, 2, shared(&rt, alloc, 11)),
         Step::Release(0),
         Step::Release(1),
-        Step::Insert(1, 1, Arc::new(alloc, 12)?),
+        Step::Insert(1, 1, shared(&rt, alloc, 12)),
         Step::Release(2),
         Step::Begin(2, 3),
         Step::Read(2),
-        Step::Insert(2, 1, Arc::new(alloc, 20)?),
+        Step::Insert(2, 1, shared(&rt, alloc, 20)),
         Step::Fail(3),
-        Step::Insert(3, u64::MAX, Arc::new(alloc, 30)?),
+        Step::Insert(3, u64::MAX, shared(&rt, alloc, 30)),
         Step::Release(4),
         Step::Read(2),
         Step::Total,
     ]?;
-    let mut state: State<u64, u64> = State::new(alloc, 4);
-    says(
+    runs(
         alloc,
-        &state.run(steps),
+        4,
+        steps,
         "Ok([Read(None), Inserted(Inserted { stamp: 0, replaced: [], evicted: [] }), \
          Read(Some((0, 10))), Inserted(Inserted { stamp: 1, replaced: [], evicted: [] }), \
          Released([Gone { stamp: 0, key: 1, charge: 1, value: 10 }]), Released([]), \
@@ -187,7 +181,7 @@ fn runs_repins_and_releases_that_evict(rt: HostRuntime) -> Result<(), test::Fail
     let steps = vec![in alloc;
         Step::Begin(1, 1),
         Step::Repin(0),
-        Step::Ready(0, Arc::new(alloc, 10)?),
+        Step::Ready(0, shared(&rt, alloc, 10)),
         Step::Repin(0),
         Step::ReleaseAndEvict(0),
         Step::Release(0),
@@ -198,14 +192,14 @@ fn runs_repins_and_releases_that_evict(rt: HostRuntime) -> Result<(), test::Fail
         Step::Release(0),
         Step::ReleaseAndEvict(0),
         Step::Repin(0),
-        Step::Insert(2, 1, Arc::new(alloc, 20)?),
+        Step::Insert(2, 1, shared(&rt, alloc, 20)),
         Step::ReleaseAndEvict(1),
         Step::Total,
     ]?;
-    let mut state: State<u64, u64> = State::new(alloc, 4);
-    says(
+    runs(
         alloc,
-        &state.run(steps),
+        4,
+        steps,
         "Ok([Begun(Make(0), []), Refused(Stale), Done, Repinned(10), Released([]), Released([]), \
          Refused(Stale), Repinned(10), Gone([]), Repinned(10), Released([]), \
          Released([Gone { stamp: 0, key: 1, charge: 1, value: 10 }]), Refused(Stale), \
@@ -218,15 +212,15 @@ fn runs_repins_and_releases_that_evict(rt: HostRuntime) -> Result<(), test::Fail
 fn a_full_entry_is_not_repinned(rt: HostRuntime) -> Result<(), test::Fail> {
     let alloc = rt.alloc();
     let steps = vec![in alloc;
-        Step::Insert(1, 1, Arc::new(alloc, 10)?),
+        Step::Insert(1, 1, shared(&rt, alloc, 10)),
         Step::Repin(0),
         Step::Release(0),
         Step::Repin(0),
     ]?;
-    let mut state: State<u64, u64> = State::with_limits(alloc, 4, 0, 1);
-    says(
+    runs_on(
         alloc,
-        &state.run(steps),
+        State::with_limits(alloc, 4, 0, 1),
+        steps,
         "Ok([Inserted(Inserted { stamp: 0, replaced: [], evicted: [] }), Refused(Overflow), \
          Released([]), Repinned(10)])",
     )

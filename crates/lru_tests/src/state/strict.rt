@@ -1,13 +1,13 @@
 //! Strict begins and inserts: what is refused where the held entries leave no room, and what is
 //! evicted where they do.
 
-use concurrent_lru::lru_core::{State, Step};
+use crate::state::play::{plays, runs, shared};
+use concurrent_lru::lru_core::Step;
+use lru_support::tables::Call;
 use lru_support::tables::Call::{
     Begin, BeginStrictly, Fail, Get, InsertStrictly, Invalidate, Prune, Ready, Release,
     SetCapacity, Total,
 };
-use lru_support::tables::{Call, answers_as_expected, says};
-use std::sync::Arc;
 use std::test;
 
 // A charge of exactly the capacity fits an empty cache, and one more does not. Then the cache is
@@ -27,8 +27,7 @@ const FULL: [(Call, &str); 10] = [
 
 #[test]
 fn a_full_cache_grants_hits_and_waits_alone(rt: HostRuntime) -> Result<(), test::Fail> {
-    let alloc = rt.alloc();
-    answers_as_expected(alloc, &mut State::new(alloc, 4), &FULL)
+    plays(rt.alloc(), 4, &FULL)
 }
 
 // Idle entries leave no further than the charge needs, oldest first, and none leaves at a refusal.
@@ -67,8 +66,7 @@ const EVICTS: [(Call, &str); 14] = [
 
 #[test]
 fn evicts_what_the_charge_needs(rt: HostRuntime) -> Result<(), test::Fail> {
-    let alloc = rt.alloc();
-    answers_as_expected(alloc, &mut State::new(alloc, 4), &EVICTS)
+    plays(rt.alloc(), 4, &EVICTS)
 }
 
 // An idle entry of the key leaves with its charge. A held one is detached and keeps counting, until
@@ -105,8 +103,7 @@ const INSERTS: [(Call, &str); 14] = [
 
 #[test]
 fn an_insert_counts_what_it_detaches(rt: HostRuntime) -> Result<(), test::Fail> {
-    let alloc = rt.alloc();
-    answers_as_expected(alloc, &mut State::new(alloc, 4), &INSERTS)
+    plays(rt.alloc(), 4, &INSERTS)
 }
 
 // A making that was invalidated counts as well. A capacity below the held charges refuses all new
@@ -130,8 +127,7 @@ const DETACHED: [(Call, &str); 11] = [
 
 #[test]
 fn detached_entries_count(rt: HostRuntime) -> Result<(), test::Fail> {
-    let alloc = rt.alloc();
-    answers_as_expected(alloc, &mut State::new(alloc, 4), &DETACHED)
+    plays(rt.alloc(), 4, &DETACHED)
 }
 
 // The largest numbers: the charge fits the capacity, and the next one would overflow the total.
@@ -145,8 +141,7 @@ const ENDS: [(Call, &str); 5] = [
 
 #[test]
 fn full_precedes_overflow(rt: HostRuntime) -> Result<(), test::Fail> {
-    let alloc = rt.alloc();
-    answers_as_expected(alloc, &mut State::new(alloc, u64::MAX), &ENDS)
+    plays(rt.alloc(), u64::MAX, &ENDS)
 }
 
 #[test]
@@ -154,16 +149,16 @@ fn runs_strict_steps(rt: HostRuntime) -> Result<(), test::Fail> {
     let alloc = rt.alloc();
     let steps = vec![in alloc;
         Step::BeginStrictly(1, 2),
-        Step::InsertStrictly(2, 3, Arc::new(alloc, 20)?),
-        Step::InsertStrictly(2, 2, Arc::new(alloc, 20)?),
+        Step::InsertStrictly(2, 3, shared(&rt, alloc, 20)),
+        Step::InsertStrictly(2, 2, shared(&rt, alloc, 20)),
         Step::BeginStrictly(3, 1),
         Step::BeginStrictly(2, 1),
         Step::Total,
     ]?;
-    let mut state: State<u64, u64> = State::new(alloc, 4);
-    says(
+    runs(
         alloc,
-        &state.run(steps),
+        4,
+        steps,
         "Ok([Begun(Make(0), []), NotInserted(Full, 20), \
          Inserted(Inserted { stamp: 1, replaced: [], evicted: [] }), Refused(Full), \
          Begun(Hit(1, 20), []), Total(4)])",

@@ -75,11 +75,20 @@ const IDLE: [(usize, &str); 7] = [
 fn evicts_as_the_table_says(rt: HostRuntime) -> Result<(), Fail> {
     let alloc = rt.alloc();
     for (rows, idle) in IDLE {
-        let mut state = State::new(alloc, 6);
-        answers_as_expected(alloc, &mut state, &USES[..rows.min(USES.len())])?;
-        says(alloc, &state.prune(), idle)?;
+        leaves_idle(alloc, &mut State::new(alloc, 6), rows, idle)?;
     }
     Ok(())
+}
+
+// Makes this many calls of the table. Fails if anything else is idle then.
+fn leaves_idle(
+    alloc: Global,
+    state: &mut State<u64, u64>,
+    rows: usize,
+    idle: &str,
+) -> Result<(), Fail> {
+    answers_as_expected(alloc, state, &USES[..rows.min(USES.len())])?;
+    says(alloc, &state.prune(), idle)
 }
 
 // Returns the charge of each of the keys 1, 2 and 3.
@@ -147,57 +156,6 @@ fn use_once(rt: &impl Abort, alloc: Global, state: &mut State<u64, u64>, key: u6
     assert!(rt; make(state, &key, charge, value).is_ok());
 }
 
-#[test]
-fn holds_the_longest_tail_that_fits(rt: HostRuntime) {
-    let alloc = rt.alloc();
-    for number in 0..243 {
-        let uses = five_uses(number);
-        for capacity in 0..=7 {
-            let mut state = State::new(alloc, capacity);
-            for key in uses {
-                use_once(&rt, alloc, &mut state, key, charge_of(key));
-            }
-            let held = keys_of(&rt, state.prune());
-            let tail = longest_tail(&uses, capacity);
-            assert_eq!(rt; held, tail, "{uses:?} at capacity {capacity}");
-        }
-    }
-}
-
-#[test]
-fn a_removal_brings_no_evicted_key_back(rt: HostRuntime) {
-    let alloc = rt.alloc();
-    let mut state = State::new(alloc, 2);
-    for key in 1..=3 {
-        use_once(&rt, alloc, &mut state, key, 1);
-    }
-    assert_eq!(rt; state.advice_evict(&3).len(), 1);
-    assert_eq!(rt; keys_of(&rt, state.prune()), [2, 0, 0]);
-}
-
-#[test]
-fn a_removal_makes_room_for_later_uses(rt: HostRuntime) {
-    let alloc = rt.alloc();
-    let mut state = State::new(alloc, 2);
-    use_once(&rt, alloc, &mut state, 1, 1);
-    use_once(&rt, alloc, &mut state, 2, 1);
-    assert_eq!(rt; state.invalidate(&2).len(), 1);
-    use_once(&rt, alloc, &mut state, 3, 1);
-    assert_eq!(rt; keys_of(&rt, state.prune()), [3, 1, 0]);
-}
-
-#[test]
-fn a_prune_makes_room_for_later_uses(rt: HostRuntime) {
-    let alloc = rt.alloc();
-    let mut state = State::new(alloc, 2);
-    use_once(&rt, alloc, &mut state, 1, 1);
-    use_once(&rt, alloc, &mut state, 2, 1);
-    assert_eq!(rt; state.prune().len(), 2);
-    use_once(&rt, alloc, &mut state, 3, 1);
-    use_once(&rt, alloc, &mut state, 1, 1);
-    assert_eq!(rt; keys_of(&rt, state.prune()), [1, 3, 0]);
-}
-
 // Takes a step: 1, 2 and 3 are uses of these keys, 4 and 5 remove the keys 2 and 1, and 6 prunes.
 fn take(rt: &impl Abort, alloc: Global, state: &mut State<u64, u64>, step: u64) {
     match step {
@@ -212,6 +170,74 @@ fn take(rt: &impl Abort, alloc: Global, state: &mut State<u64, u64>, step: u64) 
         }
         key => use_once(rt, alloc, state, key, charge_of(key)),
     }
+}
+
+// Takes all steps in order.
+fn take_all(rt: &impl Abort, alloc: Global, state: &mut State<u64, u64>, steps: &[u64; 5]) {
+    for step in steps {
+        take(rt, alloc, state, *step);
+    }
+}
+
+// Takes the steps on an empty cache. Returns the keys that are idle then, as `keys_of` does.
+fn held_after(rt: &impl Abort, alloc: Global, steps: &[u64; 5], capacity: u64) -> [u64; 3] {
+    let mut state = State::new(alloc, capacity);
+    take_all(rt, alloc, &mut state, steps);
+    keys_of(rt, state.prune())
+}
+
+#[test]
+fn holds_the_longest_tail_that_fits(rt: HostRuntime) {
+    for number in 0..243 {
+        let uses = five_uses(number);
+        for capacity in 0..=7 {
+            let held = held_after(&rt, rt.alloc(), &uses, capacity);
+            let tail = longest_tail(&uses, capacity);
+            assert_eq!(rt; held, tail, "{uses:?} at capacity {capacity}");
+        }
+    }
+}
+
+// Uses each of these keys once, at the charge 1.
+fn use_at_one(rt: &impl Abort, alloc: Global, state: &mut State<u64, u64>, keys: &[u64]) {
+    for key in keys {
+        use_once(rt, alloc, state, *key, 1);
+    }
+}
+
+fn advise(rt: &impl Abort, alloc: Global, state: &mut State<u64, u64>) {
+    use_at_one(rt, alloc, state, &[1, 2, 3]);
+    assert_eq!(rt; state.advice_evict(&3).len(), 1);
+    assert_eq!(rt; keys_of(rt, state.prune()), [2, 0, 0]);
+}
+
+#[test]
+fn a_removal_brings_no_evicted_key_back(rt: HostRuntime) {
+    advise(&rt, rt.alloc(), &mut State::new(rt.alloc(), 2));
+}
+
+fn remove(rt: &impl Abort, alloc: Global, state: &mut State<u64, u64>) {
+    use_at_one(rt, alloc, state, &[1, 2]);
+    assert_eq!(rt; state.invalidate(&2).len(), 1);
+    use_at_one(rt, alloc, state, &[3]);
+    assert_eq!(rt; keys_of(rt, state.prune()), [3, 1, 0]);
+}
+
+#[test]
+fn a_removal_makes_room_for_later_uses(rt: HostRuntime) {
+    remove(&rt, rt.alloc(), &mut State::new(rt.alloc(), 2));
+}
+
+fn prune(rt: &impl Abort, alloc: Global, state: &mut State<u64, u64>) {
+    use_at_one(rt, alloc, state, &[1, 2]);
+    assert_eq!(rt; state.prune().len(), 2);
+    use_at_one(rt, alloc, state, &[3, 1]);
+    assert_eq!(rt; keys_of(rt, state.prune()), [1, 3, 0]);
+}
+
+#[test]
+fn a_prune_makes_room_for_later_uses(rt: HostRuntime) {
+    prune(&rt, rt.alloc(), &mut State::new(rt.alloc(), 2));
 }
 
 // Returns the list of five steps with this number, below 6 to the fifth.
@@ -287,15 +313,10 @@ fn idle_after(steps: &[u64; 5], capacity: u64) -> [u64; 3] {
 
 #[test]
 fn holds_what_always_fitted_of_the_uses_that_remain(rt: HostRuntime) {
-    let alloc = rt.alloc();
     for number in 0..7776 {
         let steps = five_steps(number);
         for capacity in 0..=6 {
-            let mut state = State::new(alloc, capacity);
-            for step in steps {
-                take(&rt, alloc, &mut state, step);
-            }
-            let held = keys_of(&rt, state.prune());
+            let held = held_after(&rt, rt.alloc(), &steps, capacity);
             let idle = idle_after(&steps, capacity);
             assert_eq!(rt; held, idle, "{steps:?} at capacity {capacity}");
         }

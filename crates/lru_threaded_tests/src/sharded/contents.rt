@@ -2,7 +2,7 @@
 //! value.
 
 use crate::contents::{Contents, NO_USE, charges, looks_for_the_oldest, make};
-use crate::sharded::shares::in_shards;
+use crate::sharded::shares::in_new;
 use concurrent_lru::sharded::{LruCache, Shards};
 use lru_support::hashers::ByOwnNumber;
 use lru_support::tables::shards::ShardCall;
@@ -73,8 +73,8 @@ fn holds_two_shards<R: Abort, C: Contents>(rt: &R, cache: C) -> ((u128, u128), u
 #[test]
 fn pinned_charges_of_all_shards_are_summed(rt: HostRuntime) {
     let most = u128::from(u64::MAX);
-    let cache = in_shards(rt.alloc(), &rt, 6, 3).expect(&rt, "memory");
-    assert_eq!(rt; holds_two_shards(&rt, &cache), ((3 + most, 1 + most), 1, 0));
+    let told = in_new(rt.alloc(), &rt, 6, 3, |cache| holds_two_shards(&rt, cache));
+    assert_eq!(rt; told, Some(((3 + most, 1 + most), 1, 0)));
 }
 
 // Returns the pinned charge while key 2 is made with the charge 1, and leaves the entry idle.
@@ -118,13 +118,13 @@ fn holds_three_shards<C: Contents>(cache: C) -> [(u128, u128); 5] {
 // shard that is held.
 #[test]
 fn pinned_charges_are_those_of_each_state(rt: HostRuntime) {
-    let cache = in_shards(rt.alloc(), &rt, 90, 3).expect(&rt, "memory");
-    let before = cache.pinned_charge();
-    assert_eq!(rt; (before, pinned_in_a_making(&cache)), (0, Some(1)));
-    assert_eq!(rt;
-        holds_three_shards(&cache),
-        [(31, 15), (31, 11), (29, 9), (29, 1), (29, 0)]
-    );
+    let told = in_new(rt.alloc(), &rt, 90, 3, |cache| {
+        let making = (cache.pinned_charge(), pinned_in_a_making(cache));
+        (making, holds_three_shards(cache))
+    });
+    let (making, held) = told.expect(&rt, "memory");
+    assert_eq!(rt; making, (0, Some(1)));
+    assert_eq!(rt; held, [(31, 15), (31, 11), (29, 9), (29, 1), (29, 0)]);
 }
 
 // What is seen of three shards: how many entries there are, whether there are none, and which of
@@ -163,9 +163,9 @@ fn asks_each_key<R: Abort, C: Contents>(rt: &R, cache: C) -> [Seen; 7] {
 
 #[test]
 fn each_shard_is_asked_of_its_own_keys(rt: HostRuntime) {
-    let cache = in_shards(rt.alloc(), &rt, 6, 3).expect(&rt, "memory");
+    let told = in_new(rt.alloc(), &rt, 6, 3, |cache| asks_each_key(&rt, cache));
     assert_eq!(rt;
-        asks_each_key(&rt, &cache),
+        told.expect(&rt, "memory"),
         [
             (0, true, [false, false, false, false]),
             (1, false, [true, false, false, false]),
@@ -181,7 +181,8 @@ fn each_shard_is_asked_of_its_own_keys(rt: HostRuntime) {
 // In each of two shards, which keep two entries each.
 #[test]
 fn a_look_for_a_value_is_no_use_of_it(rt: HostRuntime) {
-    let cache = in_shards(rt.alloc(), &rt, 4, 2).expect(&rt, "memory");
-    assert_eq!(rt; looks_for_the_oldest(&rt, &cache, [0, 2, 4]), NO_USE);
-    assert_eq!(rt; looks_for_the_oldest(&rt, &cache, [1, 3, 5]), NO_USE);
+    let looks = in_new(rt.alloc(), &rt, 4, 2, |cache| {
+        [[0, 2, 4], [1, 3, 5]].map(|keys| looks_for_the_oldest(&rt, cache, keys))
+    });
+    assert_eq!(rt; looks, Some([NO_USE, NO_USE]));
 }

@@ -1,15 +1,17 @@
 //! Counts of all shards: their sum, and a reset of each, also while other threads use the cache.
 
 use crate::contents::{Contents, make};
-use crate::sharded::shares::in_shards;
+use crate::sharded::shares::in_new;
 use concurrent_lru::sharded::Counts;
 use lru_support::threaded::{make_value, try_make_value};
 use lru_support::workers::{EACH_ONCE, lookups_between_resets};
 use std::process::Abort;
 
 // Makes two entries of each of three shards, and a third of the shard 1, which evicts one. Then
-// three calls hit, one misses, and one making fails.
-fn asks_all_shards<R: Abort, C: Contents>(rt: &R, cache: C) {
+// three calls hit, one misses, and one making fails. Returns the counts before and after, and the
+// number of entries and the total then.
+fn asks_all_shards<R: Abort, C: Contents>(rt: &R, cache: C) -> ([Counts; 2], usize, u128) {
+    let before = cache.counts();
     for key in [0, 1, 2, 3, 4, 5, 7] {
         drop(make(rt, cache, key, 1, key));
     }
@@ -17,6 +19,7 @@ fn asks_all_shards<R: Abort, C: Contents>(rt: &R, cache: C) {
         drop(cache.get(key));
     }
     drop(try_make_value(cache, 8, 1, None, &mut None));
+    ([before, cache.counts()], cache.len(), cache.total_charge())
 }
 
 // What these calls count in all.
@@ -55,24 +58,19 @@ fn resets_around_a_prune<C: Contents>(cache: C) -> ([Counts; 2], (u64, u128), Co
 
 #[test]
 fn the_counts_of_all_shards_are_summed(rt: HostRuntime) {
-    let cache = in_shards(rt.alloc(), &rt, 6, 3).expect(&rt, "memory");
-    assert_eq!(rt; cache.counts(), Counts::default());
-    asks_all_shards(&rt, &cache);
-    assert_eq!(rt;
-        (cache.counts(), cache.len(), cache.total_charge()),
-        (SUMMED, 5, 5)
-    );
-    assert_eq!(rt; SUMMED.hit_ratio(), Some(0.25));
+    let told = in_new(rt.alloc(), &rt, 6, 3, |cache| {
+        (asks_all_shards(&rt, cache), resets_around_a_prune(cache))
+    });
+    let (asked, reset) = told.expect(&rt, "memory");
+    assert_eq!(rt; asked, ([Counts::default(), SUMMED], 5, 5));
     // Each shard returns what it had, and starts again from what it has.
     let anew = Counts {
         entries_before: 5,
         charge_before: 5,
         ..Counts::default()
     };
-    assert_eq!(rt;
-        resets_around_a_prune(&cache),
-        ([SUMMED, anew], (5, 5), Counts::default())
-    );
+    assert_eq!(rt; reset, ([SUMMED, anew], (5, 5), Counts::default()));
+    assert_eq!(rt; SUMMED.hit_ratio(), Some(0.25));
 }
 
 // Each shard refuses, replaces and invalidates independently. Returns the counts once the shard 0
@@ -96,7 +94,7 @@ fn fills_one_shard<C: Contents>(cache: C) -> ([Counts; 4], bool) {
 
 #[test]
 fn what_each_shard_is_asked_is_counted_there(rt: HostRuntime) {
-    let cache = in_shards(rt.alloc(), &rt, 30, 3).expect(&rt, "memory");
+    let told = in_new(rt.alloc(), &rt, 30, 3, |cache| fills_one_shard(cache));
     let full = Counts {
         refusals: 3,
         insertions: 2,
@@ -114,16 +112,14 @@ fn what_each_shard_is_asked_is_counted_there(rt: HostRuntime) {
         evicted_charge: full.inserted_charge,
         ..full
     };
-    assert_eq!(rt;
-        fills_one_shard(&cache),
-        ([full, full, evicted, dropped], true)
-    );
+    assert_eq!(rt; told, Some(([full, full, evicted, dropped], true)));
 }
 
 // No call is missed between two resets, and none is counted twice.
 #[test]
 fn each_call_is_counted_in_one_reset(rt: HostRuntime) {
-    let cache = in_shards(rt.alloc(), &rt, 6, 3).expect(&rt, "memory");
-    let asked = lookups_between_resets(&rt, rt.alloc(), &&cache);
-    assert_eq!(rt; asked, Ok(EACH_ONCE));
+    let asked = in_new(rt.alloc(), &rt, 6, 3, |cache| {
+        lookups_between_resets(&rt, rt.alloc(), &cache)
+    });
+    assert_eq!(rt; asked, Some(Ok(EACH_ONCE)));
 }

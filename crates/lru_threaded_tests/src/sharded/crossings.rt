@@ -1,9 +1,14 @@
 //! Caches in shards, and their handles, across threads.
 
+use crate::contents::{let_go_by_another, make};
 use concurrent_lru::sharded::{CacheHandle, Fit, LruCache};
+use std::alloc::Global;
 use std::hash::{BuildHasher, BuildHasherDefault, FoldHasher, Hash};
+use std::process::Abort;
 use std::sync::Wait;
-use std::thread;
+use std::thread::Threads;
+
+type Cache<R> = LruCache<u64, u64, R, BuildHasherDefault<FoldHasher>>;
 
 // Accepts what may be sent to another thread and shared with it.
 fn crosses<T: Send + Sync>(_value: &T) {}
@@ -20,23 +25,30 @@ fn caches_cross<
     crosses(handle);
 }
 
+// Has another thread release the pin of an entry, which evicts it, while this one waits for it.
+// Returns the total then.
+fn crosses_and_is_let_go<R: Wait + Send + Sync, T: Threads + Abort>(
+    rt: &T,
+    cache: &Cache<R>,
+) -> u128 {
+    let handle = make(rt, cache, 1, 3, 5);
+    caches_cross(cache, &handle);
+    let_go_by_another(rt, &cache, handle)
+}
+
+// Does this in a new cache. Returns `None` if memory for the cache is refused.
+fn crosses_anew<R: Wait + Clone + Drop + Send + Sync, T: Threads + Abort>(
+    rt: &T,
+    alloc: Global,
+    own: R,
+) -> Option<u128> {
+    let made = LruCache::with_shards_hasher(alloc, own, 1, 1, BuildHasherDefault::new());
+    let cache: Cache<R> = made.ok()?;
+    Some(crosses_and_is_let_go(rt, &cache))
+}
+
 #[test]
 fn sharded_caches_and_handles_cross_threads(rt: HostRuntime) {
     let own = rt.clone().expect(&rt, "memory");
-    let made: Result<LruCache<u64, u64, HostRuntime, BuildHasherDefault<FoldHasher>>, _> =
-        LruCache::with_shards_hasher(rt.alloc(), own, 1, 1, BuildHasherDefault::new());
-    let cache = made.expect(&rt, "memory");
-    let handle = cache.get_or_init(1, 3, |_| 5).expect(&rt, "memory");
-    caches_cross(&cache, &handle);
-    let shared = &cache;
-    // One thread releases the pin, which evicts the entry, while this one waits for it.
-    let (total, _) = thread::join(
-        &rt,
-        move || {
-            drop(handle);
-            shared.total_charge()
-        },
-        || (),
-    );
-    assert_eq!(rt; total, 0);
+    assert_eq!(rt; crosses_anew(&rt, rt.alloc(), own), Some(0));
 }

@@ -3,7 +3,7 @@
 //! All entries are in one shard, so what such a call finds or does is found or done there.
 
 use crate::contents::{Contents, make};
-use crate::sharded::shares::in_shards;
+use crate::sharded::shares::in_new;
 use concurrent_lru::sharded::Refusal;
 use std::process::Abort;
 
@@ -54,9 +54,11 @@ fn asks_in_one_shard<R: Abort, C: Contents>(rt: &R, cache: C, shard: u64) -> Vis
 #[test]
 fn no_shard_is_left_out(rt: HostRuntime) {
     for shard in 0..3u64 {
-        let cache = in_shards(rt.alloc(), &rt, 30, 3).expect(&rt, "memory");
+        let visits = in_new(rt.alloc(), &rt, 30, 3, |cache| {
+            asks_in_one_shard(&rt, cache, shard)
+        });
         assert_eq!(rt;
-            asks_in_one_shard(&rt, &cache, shard),
+            visits.expect(&rt, "memory"),
             Visits {
                 len: 3,
                 is_empty: false,
@@ -71,6 +73,6 @@ fn no_shard_is_left_out(rt: HostRuntime) {
     }
     // Only a refusal shows where room was reserved: the first shard that refuses ends the call, so
     // there is but one here.
-    let cache = in_shards(rt.alloc(), &rt, 30, 1).expect(&rt, "memory");
-    assert_eq!(rt; cache.reserve(usize::MAX), Err(Refusal::Memory));
+    let reserved = in_new(rt.alloc(), &rt, 30, 1, |cache| cache.reserve(usize::MAX));
+    assert_eq!(rt; reserved, Some(Err(Refusal::Memory)));
 }

@@ -1,56 +1,70 @@
 //! What runs without the lock of a shard: makers, drops, and the reading of a handle.
 //! In each gate two threads have to meet; where one held the lock, a limit of looks would end it.
 
-use crate::sharded::shares::in_shards;
+use crate::sharded::shares::in_new;
 use concurrent_lru::sharded::LruCache;
-use lru_support::gates::{CAUSES, Slow, total_in_drop};
+use lru_support::gates::{CAUSES, Cause, Slow, total_in_drop};
 use lru_support::hashers::ByOwnNumber;
 use lru_support::meetings::{Shown, makers_meet, text_while_read};
+use std::alloc::Global;
+use std::sync::Wait;
+use std::thread::Threads;
 
 type Cache<V, R> = LruCache<u64, V, R, ByOwnNumber>;
 
 #[test]
 fn makers_run_without_the_lock_of_their_shard(rt: HostRuntime) {
-    let cache = in_shards(rt.alloc(), &rt, 20, 2).expect(&rt, "memory");
     // Keys of one shard, and of two.
-    for keys in [(1, 3), (5, 6)] {
-        assert_eq!(rt; makers_meet(&rt, &&cache, keys), (true, true), "{keys:?}");
-    }
+    let met = in_new(rt.alloc(), &rt, 20, 2, |cache| {
+        [(1, 3), (5, 6)].map(|keys| makers_meet(&rt, &cache, keys))
+    });
+    assert_eq!(rt; met, Some([(true, true); 2]));
+}
+
+// Creates a cache of two shards, each with this share of the capacity.
+fn in_two_shards<V: Drop, R: Wait + Clone + Drop>(
+    rt: &R,
+    alloc: Global,
+    share: u64,
+) -> Option<Cache<V, R>> {
+    let own = rt.clone().ok()?;
+    LruCache::with_shards_hasher(alloc, own, share.saturating_mul(2), 2, ByOwnNumber).ok()
+}
+
+// Returns the total while a new cache, whose shards have this share, drops a value.
+fn total_of<R: Wait + Threads + Clone + Drop + Sync + Send>(
+    rt: &R,
+    alloc: Global,
+    cause: Cause,
+    share: u64,
+) -> Option<u128> {
+    let cache: Cache<Slow, R> = in_two_shards(rt, alloc, share)?;
+    total_in_drop(rt, alloc, &&cache, cause)
 }
 
 #[test]
 fn drops_run_without_the_lock_of_their_shard(rt: HostRuntime) {
     for (cause, share, total) in CAUSES {
-        let own = rt.clone().expect(&rt, "memory");
-        // Two shards, each with this share of the capacity.
-        let made: Result<Cache<Slow, HostRuntime>, _> = LruCache::with_shards_hasher(
-            rt.alloc(),
-            own,
-            share.saturating_mul(2),
-            2,
-            ByOwnNumber,
-        );
-        let cache = made.expect(&rt, "memory");
         assert_eq!(rt;
-            total_in_drop(&rt, rt.alloc(), &&cache, cause),
+            total_of(&rt, rt.alloc(), cause, share),
             Some(total),
             "{cause:?}"
         );
     }
 }
 
+// Returns the text of a new cache, and the number that is read while it is printed.
+fn text_of_new<R: Wait + Threads + Clone + Drop + Sync + Send>(
+    rt: &R,
+    alloc: Global,
+) -> Option<(String, u64)> {
+    let cache: Cache<Shown, R> = in_two_shards(rt, alloc, 10)?;
+    text_while_read(rt, alloc, &cache)
+}
+
 #[test]
 fn a_handle_is_read_without_the_lock_of_its_shard(rt: HostRuntime) {
-    let own = rt.clone().expect(&rt, "memory");
-    let made: Result<Cache<Shown, HostRuntime>, _> = LruCache::with_shards_hasher(
-        rt.alloc(),
-        own,
-        20,
-        2,
-        ByOwnNumber,
-    );
-    let cache = made.expect(&rt, "memory");
-    let read = text_while_read(&rt, rt.alloc(), &cache);
+    let read = text_of_new(&rt, rt.alloc());
     let (text, number) = read.expect(&rt, "a meeting");
     assert_eq!(rt; (text.as_str(), number), ("[{}, {1: 7}]", 7));
 }

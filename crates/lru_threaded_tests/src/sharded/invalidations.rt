@@ -1,7 +1,7 @@
 //! Values of shards that are invalidated while they are held.
 ghost use Rattle.std.specs.Prelude.{◌<◌};
 
-use crate::sharded::shares::in_shards;
+use crate::sharded::shares::in_new;
 use crate::sharded::{pure, threaded};
 use lru_support::hashers::ByOwnNumber;
 use lru_support::makings::reads_around;
@@ -107,7 +107,10 @@ fn a_present_key_is_replaced(rt: HostRuntime) -> Result<(), test::Fail> {
 
 #[test]
 fn a_handle_reads_its_own_value(rt: HostRuntime) {
-    let cache = in_shards(rt.alloc(), &rt, 10, 2).expect(&rt, "memory");
-    assert_eq!(rt; reads_around(&cache), Some((5, None, false, 6)));
-    assert_eq!(rt; (cache.total_charge(), cache.len()), (1, 1));
+    let told = in_new(rt.alloc(), &rt, 10, 2, |cache| {
+        (reads_around(cache), (cache.total_charge(), cache.len()))
+    });
+    let (read, left) = told.expect(&rt, "memory");
+    assert_eq!(rt; read, Some((5, None, false, 6)));
+    assert_eq!(rt; left, (1, 1));
 }

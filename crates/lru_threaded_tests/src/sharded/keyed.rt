@@ -17,22 +17,28 @@ fn found<R: Wait>(alloc: Global, cache: &ByText<R>, key: &str) -> Option<u64> {
     }
 }
 
+// Makes the value of a text in a new cache, and prunes it. Returns what is found before and after,
+// or `None` if memory for the cache is refused.
+fn found_around_a_prune<R: Wait + Clone + Drop>(
+    alloc: Global,
+    rt: R,
+    key: String,
+) -> Option<[Option<u64>; 2]> {
+    let made = LruCache::with_shards_hasher(alloc, rt, 10, 16, BuildHasherDefault::new());
+    let cache: ByText<R> = made.ok()?;
+    drop(cache.get_or_init(key, 1, |_| 7));
+    let before = found(alloc, &cache, "foo");
+    cache.prune();
+    Some([before, found(alloc, &cache, "foo")])
+}
+
 #[test]
 fn a_value_is_found_until_it_is_pruned(rt: HostRuntime) {
-    let alloc = rt.alloc();
-    let made: Result<ByText<&HostRuntime>, _> = LruCache::with_shards_hasher(
-        alloc,
-        &rt,
-        10,
-        16,
-        BuildHasherDefault::new(),
+    let key = String::from_str(rt.alloc(), "foo").expect(&rt, "memory");
+    assert_eq!(rt;
+        found_around_a_prune(rt.alloc(), &rt, key),
+        Some([Some(7), None])
     );
-    let cache = made.expect(&rt, "memory");
-    let key = String::from_str(alloc, "foo").expect(&rt, "memory");
-    drop(cache.get_or_init(key, 1, |_| 7));
-    assert_eq!(rt; found(alloc, &cache, "foo"), Some(7));
-    cache.prune();
-    assert_eq!(rt; found(alloc, &cache, "foo"), None);
 }
 
 // Returns whether the value of each key below 100 could be made, as the key.
@@ -46,14 +52,24 @@ fn makes_hundred<C: Cached<u64>>(cache: C) -> bool {
     true
 }
 
+// Returns the text of a new cache, whether `makes_hundred` succeeds in it, and the total then, or
+// `None` if memory is refused.
+fn by_random_numbers<R: Wait + Clone + Drop>(
+    alloc: Global,
+    rt: R,
+    hasher: RandomState,
+) -> Option<(Option<String>, bool, u128)> {
+    let cache: LruCache<u64, u64, R> = LruCache::new(alloc, rt, 32, hasher).ok()?;
+    let text = format!(in alloc; "{cache:?}").ok();
+    Some((text, makes_hundred(&cache), cache.total_charge()))
+}
+
 #[test]
 fn sixteen_shards_by_random_numbers(rt: HostRuntime) {
-    let alloc = rt.alloc();
     let hasher = RandomState::new(&rt).expect(&rt, "random numbers");
-    let made: Result<LruCache<u64, u64, &HostRuntime>, _> = LruCache::new(alloc, &rt, 32, hasher);
-    let cache = made.expect(&rt, "memory");
-    let text = format!(in alloc; "{cache:?}").expect(&rt, "memory");
-    assert_eq!(rt; text.matches("{}").count(), 16);
-    assert!(rt; makes_hundred(&cache));
-    assert!(rt; cache.total_charge() <= 32);
+    let told = by_random_numbers(rt.alloc(), &rt, hasher);
+    let (text, succeeds, total) = told.expect(&rt, "memory");
+    let text = text.expect(&rt, "memory");
+    assert_eq!(rt; (text.matches("{}").count(), succeeds), (16, true));
+    assert!(rt; total <= 32);
 }

@@ -1,19 +1,16 @@
 //! Two callers of one value in a sharded cache: the second waits for what the first makes.
 
-use crate::sharded::shares::in_shards;
-use lru_support::makings::{value_beside_total, values_of_two};
+use crate::contents::{ONE_MADE, two_callers};
+use crate::sharded::shares::in_new;
 
 #[test]
 fn one_value_for_two_callers(rt: HostRuntime) {
-    let cache = in_shards(rt.alloc(), &rt, 10, 2).expect(&rt, "memory");
-    assert_eq!(rt; values_of_two(&rt, &&cache), (Some(5), Some(5)));
-    // The charge is the maker's.
-    assert_eq!(rt; value_beside_total(&rt, &&cache), (Some(5), 3));
+    let told = in_new(rt.alloc(), &rt, 10, 2, |cache| {
+        (two_callers(&rt, &cache), cache.counts())
+    });
+    let (told, counts) = told.expect(&rt, "memory");
     // The second waited, or came later and hit; the third hit.
-    let counts = cache.counts();
-    assert_eq!(rt;
-        (counts.misses, counts.makings, counts.insertions),
-        (1, 1, 1)
-    );
-    assert_eq!(rt; counts.hits.wrapping_add(counts.waits), 2);
+    let hits = counts.hits.wrapping_add(counts.waits);
+    let numbers = [counts.misses, counts.makings, counts.insertions, hits];
+    assert_eq!(rt; (told, numbers), (ONE_MADE, [1, 1, 1, 2]));
 }

@@ -1,6 +1,6 @@
 //! Makers that use the cache for other keys, three deep, in the same shard and in another.
 
-use crate::sharded::shares::in_shards;
+use crate::sharded::shares::in_new;
 use concurrent_lru::sharded::LruCache;
 use lru_support::hashers::ByOwnNumber;
 use lru_support::makings::value_found;
@@ -47,10 +47,15 @@ const LEFT: [(u64, [Option<u64>; 3]); 3] = [
 #[test]
 fn makers_use_the_cache_three_deep(rt: HostRuntime) {
     for (capacity, left) in LEFT {
-        let cache = in_shards(rt.alloc(), &rt, capacity, 2).expect(&rt, "memory");
-        assert_eq!(rt; makes_three_deep(&cache), 111);
-        assert_eq!(rt; cache.total_charge(), u128::from(capacity.min(3)));
-        let values = [1, 2, 3].map(|key| value_found(&cache, key));
-        assert_eq!(rt; values, left, "at capacity {capacity}");
+        let told = in_new(rt.alloc(), &rt, capacity, 2, |cache| {
+            let made = makes_three_deep(cache);
+            let total = cache.total_charge();
+            (made, total, [1, 2, 3].map(|key| value_found(cache, key)))
+        });
+        assert_eq!(rt;
+            told,
+            Some((111, u128::from(capacity.min(3)), left)),
+            "at capacity {capacity}"
+        );
     }
 }

@@ -1,16 +1,15 @@
 //! Reads in shards: each counts as a use in its own shard, and threads that read find their values.
 
-use crate::contents::{Read, make_each, value_read};
-use crate::sharded::shares::in_shards;
+use crate::contents::{Read, four_read, make_each, value_read};
+use crate::sharded::shares::in_new;
 use concurrent_lru::lru_core::Begun;
 use concurrent_lru::sharded::{Refusal, Shards};
 use lru_support::cached::Cached;
 use lru_support::hashers::ByOwnNumber;
-use lru_support::workers::{CAPACITY, stays_right};
+use lru_support::workers::CAPACITY;
 use std::alloc::Global;
 use std::process::Abort;
 use std::sync::Arc;
-use std::thread;
 
 // Makes the value of an absent key, ten times the key, and leaves it idle.
 fn make(
@@ -97,9 +96,9 @@ fn reads_keep<R: Abort, C: Cached<u64>>(rt: &R, cache: C) -> (Read, [Read; 4], R
 
 #[test]
 fn a_read_keeps_the_entry_in_its_shard(rt: HostRuntime) {
-    let cache = in_shards(rt.alloc(), &rt, 4, 2).expect(&rt, "memory");
+    let told = in_new(rt.alloc(), &rt, 4, 2, |cache| reads_keep(&rt, cache));
     assert_eq!(rt;
-        reads_keep(&rt, &cache),
+        told.expect(&rt, "memory"),
         (
             Ok(Some(10)),
             [Ok(None), Ok(Some(10)), Ok(Some(50)), Ok(None)],
@@ -110,11 +109,15 @@ fn a_read_keeps_the_entry_in_its_shard(rt: HostRuntime) {
 
 #[test]
 fn four_threads_read_what_they_make(rt: HostRuntime) {
-    let cache = in_shards(rt.alloc(), &rt, CAPACITY, 2).expect(&rt, "memory");
-    let right = thread::map_indices(&rt, rt.alloc(), 4, &|_| stays_right(&cache));
+    let told = in_new(
+        rt.alloc(),
+        &rt,
+        CAPACITY,
+        2,
+        |cache| four_read(&rt, rt.alloc(), &cache),
+    );
+    let (right, totals) = told.expect(&rt, "memory");
     let right = right.expect(&rt, "four threads");
     assert_eq!(rt; right.as_slice(), [true; 4].as_slice());
-    assert_eq!(rt; cache.total_charge(), u128::from(CAPACITY));
-    cache.prune();
-    assert_eq!(rt; cache.total_charge(), 0);
+    assert_eq!(rt; totals, [u128::from(CAPACITY), 0]);
 }

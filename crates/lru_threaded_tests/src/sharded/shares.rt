@@ -19,6 +19,24 @@ pub(crate) fn in_shards<R: Wait + Clone + Drop>(
     LruCache::with_shards_hasher(alloc, rt, capacity, shards, ByOwnNumber).ok()
 }
 
+/// Returns what a closure answers of such a cache, or `None` if memory is refused. The cache is
+/// proved here once, for any right to wait, and not in each test.
+pub(crate) fn in_new<R: Wait + Clone + Drop, T, F>(
+    alloc: Global,
+    rt: R,
+    capacity: u64,
+    shards: usize,
+    asks: F,
+) -> Option<T>
+where
+    F: FnOnce(&LruCache<u64, u64, R, ByOwnNumber>) -> T + Drop,
+    requires shards { 0 < shards }
+    requires callable { F.IsAlwaysCallable asks }
+{
+    let cache = in_shards(alloc, rt, capacity, shards)?;
+    Some(asks(&cache))
+}
+
 #[test]
 fn shares_are_rounded_up(rt: HostRuntime) {
     assert_eq!(rt;

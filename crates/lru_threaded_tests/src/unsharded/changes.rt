@@ -1,5 +1,7 @@
 //! A capacity that is set while values are held, made and waited for.
 
+use crate::contents::make;
+use crate::unsharded::play::in_new;
 use concurrent_lru::unsharded::LruCache;
 use lru_support::cached::Cached;
 use lru_support::drops::{DropLog, Logged};
@@ -87,22 +89,33 @@ fn shrinks_meanwhile<C: Cached<u64>>(
     Some(total)
 }
 
-#[test]
-fn makers_and_waiters_outlive_a_change(rt: HostRuntime) {
-    let cache: LruCache<u64, u64, &HostRuntime> = LruCache::new(rt.alloc(), &rt, 10);
-    drop(cache.get_or_init(2, 4, |key| *key));
+// Makes key 2 and leaves it idle. Then one caller makes key 1, another waits for it, and a third
+// sets the capacity to 0 meanwhile. Returns the values of the first two, and the total then.
+fn shrinks_at_a_meeting<R: Wait + Send + Sync, T: Threads + Abort + Sync>(
+    rt: &T,
+    cache: &LruCache<u64, u64, R>,
+) -> (Option<u64>, (Option<u64>, Option<u128>)) {
+    drop(make(rt, cache, 2, 4, 2));
     let meeting = Meeting::new();
     let shrunk = AtomicU64::new(0);
-    let (made, (waited, total)) = thread::join(
-        &rt,
-        || makes_meanwhile(&cache, &meeting, &shrunk),
+    thread::join(
+        rt,
+        || makes_meanwhile(cache, &meeting, &shrunk),
         || thread::join(
-            &rt,
-            || comes_second(&cache, &meeting),
-            || shrinks_meanwhile(&cache, &meeting, &shrunk),
+            rt,
+            || comes_second(cache, &meeting),
+            || shrinks_meanwhile(cache, &meeting, &shrunk),
         ),
-    );
-    assert_eq!(rt; (made, waited, total), (Some(5), Some(5), Some(3)));
+    )
+}
+
+#[test]
+fn makers_and_waiters_outlive_a_change(rt: HostRuntime) {
+    let (told, left) = in_new(rt.alloc(), &rt, 10, |cache| {
+        let told = shrinks_at_a_meeting(&rt, cache);
+        (told, (cache.total_charge(), value_found(cache, 1)))
+    });
+    assert_eq!(rt; told, (Some(5), (Some(5), Some(3))));
     // The last of the two handles was dropped at capacity 0.
-    assert_eq!(rt; (cache.total_charge(), value_found(&cache, 1)), (0, None));
+    assert_eq!(rt; left, (0, None));
 }

@@ -2,6 +2,7 @@
 //! cache that threads share.
 
 use crate::contents::{Contents, NO_USE, charges, looks_for_the_oldest, make};
+use crate::unsharded::play::in_new;
 use concurrent_lru::unsharded::LruCache;
 use std::process::Abort;
 use std::sync::Wait;
@@ -46,10 +47,14 @@ fn holds_one<R: Abort, C: Contents>(rt: &R, cache: C) -> [View; 5] {
 
 #[test]
 fn entries_are_counted_and_values_found(rt: HostRuntime) {
-    let cache: LruCache<u64, u64, &HostRuntime> = LruCache::new(rt.alloc(), &rt, 2);
-    let before = view(&cache);
-    // An entry, and no value yet.
-    let made = seen_in_a_making(&cache, 1);
+    // While it is made, an entry, and no value yet.
+    let (before, made, held) = in_new(rt.alloc(), &rt, 2, |cache| {
+        (
+            view(cache),
+            seen_in_a_making(cache, 1),
+            holds_one(&rt, cache),
+        )
+    });
     assert_eq!(rt;
         (before, made),
         (
@@ -58,7 +63,7 @@ fn entries_are_counted_and_values_found(rt: HostRuntime) {
         )
     );
     assert_eq!(rt;
-        holds_one(&rt, &cache),
+        held,
         [
             (1, false, [true, false]),
             (2, false, [true, true]),
@@ -86,22 +91,25 @@ fn holds_two_of_a_key<R: Abort, C: Contents>(rt: &R, cache: C) -> [(u128, u128);
 
 #[test]
 fn pinned_charges_are_summed(rt: HostRuntime) {
-    let cache: LruCache<u64, u64, &HostRuntime> = LruCache::new(rt.alloc(), &rt, 9);
-    let before = charges(&cache);
-    let made = seen_in_a_making(&cache, 3);
+    let (before, made, held) = in_new(rt.alloc(), &rt, 9, |cache| {
+        (
+            charges(cache),
+            seen_in_a_making(cache, 3),
+            holds_two_of_a_key(&rt, cache),
+        )
+    });
     assert_eq!(rt;
         (before, made),
         ((0, 0), Some(((1, false, [false, false]), 3)))
     );
     // An invalidated entry counts until its last handle is dropped.
-    assert_eq!(rt;
-        holds_two_of_a_key(&rt, &cache),
-        [(5, 3), (9, 7), (9, 3), (6, 0)]
-    );
+    assert_eq!(rt; held, [(5, 3), (9, 7), (9, 3), (6, 0)]);
 }
 
 #[test]
 fn a_look_for_a_value_is_no_use_of_it(rt: HostRuntime) {
-    let cache: LruCache<u64, u64, &HostRuntime> = LruCache::new(rt.alloc(), &rt, 2);
-    assert_eq!(rt; looks_for_the_oldest(&rt, &cache, [1, 2, 3]), NO_USE);
+    let looks = in_new(rt.alloc(), &rt, 2, |cache| {
+        looks_for_the_oldest(&rt, cache, [1, 2, 3])
+    });
+    assert_eq!(rt; looks, NO_USE);
 }

@@ -1,8 +1,9 @@
 //! Counts of what calls did: each kind of call, that they add up, and what a reset returns, also
 //! while other threads use the cache.
 
-use crate::contents::{Contents, charges, make, value_read};
+use crate::contents::{Contents, charges, make, numbers, value_read};
 use crate::unsharded::makings::{MEETINGS, one_fails_and_one_makes};
+use crate::unsharded::play::in_new;
 use concurrent_lru::unsharded::{Counts, LruCache};
 use lru_support::cached::Cached;
 use lru_support::makings::values_of_two;
@@ -80,20 +81,6 @@ fn look<C: Contents>(cache: C, key: u64) {
     let _ = (charges(cache), cache.capacity());
 }
 
-// Returns hits, misses, refusals, makings, failures, insertions, evictions and removals.
-fn numbers(counts: &Counts) -> [u64; 8] {
-    [
-        counts.hits,
-        counts.misses,
-        counts.refusals,
-        counts.makings,
-        counts.failures,
-        counts.insertions,
-        counts.evictions,
-        counts.removals,
-    ]
-}
-
 // Makes calls in order. Fails at the first after which the counts have other numbers, or do not add
 // up.
 fn counts_each<C: Contents>(cache: C, calls: &[(CountedCall, [u64; 8])]) -> Result<(), Fail> {
@@ -150,8 +137,7 @@ fn charges_after<C: Contents>(
 
 #[test]
 fn each_call_counts_what_it_answers(rt: HostRuntime) -> Result<(), Fail> {
-    let cache: LruCache<u64, u64, &HostRuntime> = LruCache::new(rt.alloc(), &rt, 6);
-    let charges = charges_after(&cache, &CALLS)?;
+    let charges = in_new(rt.alloc(), &rt, 6, |cache| charges_after(cache, &CALLS))?;
     assert_eq!(rt; charges, (15, 12, 3));
     Ok(())
 }
@@ -175,8 +161,7 @@ const PUT_IN: [(CountedCall, [u64; 8]); 10] = [
 
 #[test]
 fn a_value_that_is_put_in_is_inserted_alone(rt: HostRuntime) -> Result<(), Fail> {
-    let cache: LruCache<u64, u64, &HostRuntime> = LruCache::new(rt.alloc(), &rt, 6);
-    let charges = charges_after(&cache, &PUT_IN)?;
+    let charges = in_new(rt.alloc(), &rt, 6, |cache| charges_after(cache, &PUT_IN))?;
     assert_eq!(rt; charges, (18, 18, 0));
     Ok(())
 }
@@ -212,21 +197,27 @@ fn replaces_a_held_value<C: Contents>(cache: C) -> ([(u64, u128); 3], [bool; 2])
 
 #[test]
 fn a_held_value_that_is_replaced_is_evicted_once(rt: HostRuntime) {
-    let cache: LruCache<u64, u64, &HostRuntime> = LruCache::new(rt.alloc(), &rt, 100);
     assert_eq!(rt;
-        replaces_a_held_value(&cache),
+        in_new(rt.alloc(), &rt, 100, |cache| replaces_a_held_value(cache)),
         ([(2, 8), (0, 0), (1, 3)], [true, true])
     );
 }
 
+// Returns the text of a cache of one entry, and whether printing it left the counts as they were.
+fn prints_one<R: Wait>(alloc: Global, cache: &LruCache<u64, u64, R>) -> (Option<String>, bool) {
+    make_call(cache, CountedCall::Make(1, 1));
+    let counts = cache.counts();
+    let text = text_of(alloc, cache).ok();
+    (text, cache.counts() == counts)
+}
+
 #[test]
 fn a_cache_that_is_printed_counts_nothing(rt: HostRuntime) {
-    let cache: LruCache<u64, u64, &HostRuntime> = LruCache::new(rt.alloc(), &rt, 100);
-    make_call(&cache, CountedCall::Make(1, 1));
-    let counts = cache.counts();
-    let text = text_of(rt.alloc(), &cache).expect(&rt, "memory");
-    assert_eq!(rt; text.as_str(), "{1: 1}");
-    assert_eq!(rt; cache.counts(), counts);
+    let (text, counts_nothing) = in_new(rt.alloc(), &rt, 100, |cache| {
+        prints_one(rt.alloc(), cache)
+    });
+    let text = text.expect(&rt, "memory");
+    assert_eq!(rt; (text.as_str(), counts_nothing), ("{1: 1}", true));
 }
 
 // Prunes beside a held value, and drops its handle at the capacity 0. Returns what was evicted
@@ -246,9 +237,13 @@ fn prunes_beside_a_held_value<R: Abort, C: Contents>(rt: &R, cache: C) -> [((u64
 
 #[test]
 fn a_prune_counts_each_entry_that_it_evicts(rt: HostRuntime) {
-    let cache: LruCache<u64, u64, &HostRuntime> = LruCache::new(rt.alloc(), &rt, 100);
     assert_eq!(rt;
-        prunes_beside_a_held_value(&rt, &cache),
+        in_new(
+            rt.alloc(),
+            &rt,
+            100,
+            |cache| prunes_beside_a_held_value(&rt, cache)
+        ),
         [((5, 15), true), ((6, 22), true)]
     );
 }
@@ -282,15 +277,12 @@ fn invalidates_idle_and_held<R: Abort, C: Contents>(
 // An idle entry is evicted at once, and a held one when its last handle is dropped.
 #[test]
 fn an_invalidated_entry_is_evicted_once(rt: HostRuntime) {
-    let cache: LruCache<u64, u64, &HostRuntime> = LruCache::new(rt.alloc(), &rt, 100);
-    assert_eq!(rt;
-        invalidates_idle_and_held(&rt, &cache),
-        ([(1, 3), (1, 3), (1, 3), (2, 8)], [true, true])
-    );
-    assert_eq!(rt;
-        (inserted(&cache), cache.len(), cache.total_charge()),
-        ((3, 15), 1, 7)
-    );
+    let (told, left) = in_new(rt.alloc(), &rt, 100, |cache| {
+        let told = invalidates_idle_and_held(&rt, cache);
+        (told, (inserted(cache), cache.len(), cache.total_charge()))
+    });
+    assert_eq!(rt; told, ([(1, 3), (1, 3), (1, 3), (2, 8)], [true, true]));
+    assert_eq!(rt; left, ((3, 15), 1, 7));
 }
 
 // Counts three calls and resets the counts. Returns the counts before, what the reset returns and
@@ -313,11 +305,10 @@ fn resets_twice<C: Contents>(cache: C) -> ([Counts; 3], (u64, u128), [bool; 2]) 
 
 #[test]
 fn a_reset_answers_what_was_counted(rt: HostRuntime) {
-    let cache: LruCache<u64, u64, &HostRuntime> = LruCache::new(rt.alloc(), &rt, 100);
-    assert_eq!(rt;
-        [cache.counts(), cache.reset_counts()],
-        [Counts::default(); 2]
-    );
+    let (empty, told) = in_new(rt.alloc(), &rt, 100, |cache| {
+        ([cache.counts(), cache.reset_counts()], resets_twice(cache))
+    });
+    assert_eq!(rt; empty, [Counts::default(); 2]);
     let counted = Counts {
         hits: 1,
         misses: 2,
@@ -332,10 +323,7 @@ fn a_reset_answers_what_was_counted(rt: HostRuntime) {
         charge_before: 20,
         ..Counts::default()
     };
-    assert_eq!(rt;
-        resets_twice(&cache),
-        ([counted, counted, anew], (1, 10), [true, true])
-    );
+    assert_eq!(rt; told, ([counted, counted, anew], (1, 10), [true, true]));
 }
 
 // Returns the text of the counts of two makings of which the second evicts, and of those after a
@@ -352,8 +340,13 @@ fn lines_of_counts<C: Contents>(alloc: Global, cache: C) -> Option<(String, Stri
 
 #[test]
 fn counts_are_told_in_one_line(rt: HostRuntime) {
-    let cache: LruCache<u64, u64, &HostRuntime> = LruCache::new(rt.alloc(), &rt, 5);
-    let (told, anew) = lines_of_counts(rt.alloc(), &cache).expect(&rt, "memory");
+    let lines = in_new(
+        rt.alloc(),
+        &rt,
+        5,
+        |cache| lines_of_counts(rt.alloc(), cache),
+    );
+    let (told, anew) = lines.expect(&rt, "memory");
     assert_eq!(rt;
         told.as_str(),
         "hits 1, misses 2, waits 0, refusals 0, makings 2, failures 0, \
@@ -459,14 +452,25 @@ fn works<C: Cached<u64>>(cache: C, seed: u64) -> bool {
     true
 }
 
+// Has four threads work. Returns whether the calls of each succeeded, the counts, and whether these
+// add up.
+fn four_work<R: Wait + Send + Sync, T: Threads + Sync>(
+    rt: &T,
+    alloc: Global,
+    cache: &LruCache<u64, u64, R>,
+) -> (Option<Vec<bool>>, Counts, bool) {
+    let answered = thread::map_indices(rt, alloc, 4, &|seed| works(cache, seed as u64));
+    (answered.ok(), cache.counts(), adds_up(cache))
+}
+
 #[test]
 fn four_threads_counts_add_up(rt: HostRuntime) {
-    let cache: LruCache<u64, u64, &HostRuntime> = LruCache::new(rt.alloc(), &rt, 8);
-    let answered = thread::map_indices(&rt, rt.alloc(), 4, &|seed| works(&cache, seed as u64));
+    let (answered, counts, adds_up) = in_new(rt.alloc(), &rt, 8, |cache| {
+        four_work(&rt, rt.alloc(), cache)
+    });
     let answered = answered.expect(&rt, "four threads");
     assert_eq!(rt; answered.as_slice(), [true; 4].as_slice());
-    assert!(rt; adds_up(&cache));
-    let counts = cache.counts();
+    assert!(rt; adds_up);
     let asked = counts
         .hits
         .wrapping_add(counts.misses)
@@ -477,7 +481,8 @@ fn four_threads_counts_add_up(rt: HostRuntime) {
 // No call is missed between two resets, and none is counted twice.
 #[test]
 fn each_call_is_counted_in_one_reset(rt: HostRuntime) {
-    let cache: LruCache<u64, u64, &HostRuntime> = LruCache::new(rt.alloc(), &rt, 8);
-    let asked = lookups_between_resets(&rt, rt.alloc(), &&cache);
+    let asked = in_new(rt.alloc(), &rt, 8, |cache| {
+        lookups_between_resets(&rt, rt.alloc(), &cache)
+    });
     assert_eq!(rt; asked, Ok(EACH_ONCE));
 }

@@ -2,6 +2,7 @@
 //!
 //! In each test two threads have to meet; if one held the lock, a limit would end the wait.
 
+use crate::unsharded::play::in_new;
 use concurrent_lru::unsharded::LruCache;
 use lru_support::gates::{CAUSES, Cause, Slow, total_in_drop};
 use lru_support::meetings::{Shown, makers_meet, text_while_read};
@@ -11,8 +12,13 @@ use std::thread::Threads;
 
 #[test]
 fn makers_run_without_the_lock(rt: HostRuntime) {
-    let cache: LruCache<u64, u64, &HostRuntime> = LruCache::new(rt.alloc(), &rt, 10);
-    assert_eq!(rt; makers_meet(&rt, &&cache, (1, 2)), (true, true));
+    let met = in_new(
+        rt.alloc(),
+        &rt,
+        10,
+        |cache| makers_meet(&rt, &cache, (1, 2)),
+    );
+    assert_eq!(rt; met, (true, true));
 }
 
 // Returns the total while a new cache of this capacity drops a value.
@@ -37,11 +43,18 @@ fn drops_run_without_the_lock(rt: HostRuntime) {
     }
 }
 
+// Returns the text of a new cache, and the number that is read while it is printed.
+fn text_of_new<R: Wait + Threads + Clone + Drop + Sync + Send>(
+    rt: &R,
+    alloc: Global,
+) -> Option<(String, u64)> {
+    let cache: LruCache<u64, Shown, R> = LruCache::new(alloc, rt.clone().ok()?, 10);
+    text_while_read(rt, alloc, &cache)
+}
+
 #[test]
 fn a_handle_is_read_without_the_lock(rt: HostRuntime) {
-    let own = rt.clone().expect(&rt, "memory");
-    let cache: LruCache<u64, Shown, HostRuntime> = LruCache::new(rt.alloc(), own, 10);
-    let read = text_while_read(&rt, rt.alloc(), &cache);
+    let read = text_of_new(&rt, rt.alloc());
     let (text, number) = read.expect(&rt, "a meeting");
     assert_eq!(rt; (text.as_str(), number), ("{1: 7}", 7));
 }

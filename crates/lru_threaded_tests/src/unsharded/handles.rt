@@ -1,11 +1,13 @@
 //! Forgotten handles, the code of an error, and how a cache is printed.
 
-use crate::unsharded::play::plays;
+use crate::contents::make;
+use crate::unsharded::play::{in_new, plays};
 use concurrent_lru::unsharded::{GetError, LruCache};
 use lru_support::threaded::Then::{AtOnce, Forget, Keep};
 use lru_support::threaded::ThreadedCall;
 use lru_support::threaded::ThreadedCall::{Get, Init, Prune, Show, Total};
 use std::alloc::Global;
+use std::process::Abort;
 use std::sync::Wait;
 use std::test;
 
@@ -23,19 +25,25 @@ fn a_forgotten_handle_keeps_its_pin(rt: HostRuntime) -> Result<(), test::Fail> {
     plays(&rt, rt.alloc(), 1, &FORGOTTEN)
 }
 
+// Clones a handle, invalidates its key, and clones the clone. Returns what the last handle reads,
+// and the total while only it is held.
+fn clones_twice<A: Abort, R: Wait>(rt: &A, cache: &LruCache<u64, u64, R>) -> (u64, u64) {
+    let first = make(rt, cache, 1, 3, 5);
+    let second = first.try_clone().expect(rt, "memory");
+    cache.invalidate(&1);
+    drop(first);
+    let third = second.try_clone().expect(rt, "memory");
+    drop(second);
+    (*third, cache.total_charge())
+}
+
 // Each clone has a pin of its own, even one that is made once the key was invalidated.
 #[test]
 fn a_handle_is_cloned(rt: HostRuntime) {
-    let cache: LruCache<u64, u64, &HostRuntime> = LruCache::new(rt.alloc(), &rt, 0);
-    let first = cache.get_or_init(1, 3, |_| 5).expect(&rt, "memory");
-    let second = first.try_clone().expect(&rt, "memory");
-    cache.invalidate(&1);
-    drop(first);
-    let third = second.try_clone().expect(&rt, "memory");
-    drop(second);
-    assert_eq!(rt; (*third, cache.total_charge()), (5, 3));
-    drop(third);
-    assert_eq!(rt; cache.total_charge(), 0);
+    let told = in_new(rt.alloc(), &rt, 0, |cache| {
+        (clones_twice(&rt, cache), cache.total_charge())
+    });
+    assert_eq!(rt; told, ((5, 3), 0));
 }
 
 const PRINTED: [(ThreadedCall, &str); 5] = [
@@ -64,15 +72,23 @@ fn text_in_a_making<R: Wait>(alloc: Global, cache: &LruCache<u64, u64, R>) -> Op
 
 #[test]
 fn prints_no_entry_in_the_making(rt: HostRuntime) {
-    let cache: LruCache<u64, u64, &HostRuntime> = LruCache::new(rt.alloc(), &rt, 10);
-    let text = text_in_a_making(rt.alloc(), &cache).expect(&rt, "memory");
+    let text = in_new(
+        rt.alloc(),
+        &rt,
+        10,
+        |cache| text_in_a_making(rt.alloc(), cache),
+    );
+    let text = text.expect(&rt, "memory");
     assert_eq!(rt; text.as_str(), "{}");
 }
 
 #[test]
 fn an_error_has_a_code(rt: HostRuntime) {
-    assert_eq!(rt; GetError::<u8>::Memory.code(), 1);
-    assert_eq!(rt; GetError::<u8>::Overflow.code(), 2);
-    assert_eq!(rt; GetError::Init(9u8).code(), 4);
-    assert_eq!(rt; GetError::<u8>::Full.code(), 5);
+    let codes = [
+        GetError::<u8>::Memory.code(),
+        GetError::<u8>::Overflow.code(),
+        GetError::Init(9u8).code(),
+        GetError::<u8>::Full.code(),
+    ];
+    assert_eq!(rt; codes, [1, 2, 4, 5]);
 }

@@ -1,6 +1,6 @@
 //! Values that are invalidated while handles read them, and while callers wait for them.
 
-use crate::unsharded::play::plays;
+use crate::unsharded::play::{in_new, plays};
 use concurrent_lru::unsharded::LruCache;
 use lru_support::cached::Cached;
 use lru_support::flags::{meets, pause, raise};
@@ -11,6 +11,7 @@ use lru_support::threaded::ThreadedCall::{
 };
 use lru_support::threaded::{ThreadedCall, make_value};
 use std::sync::Wait;
+use std::thread::Threads;
 use std::{test, thread};
 
 // Two values of one key are held at the same time, and the old one is released first.
@@ -180,9 +181,11 @@ fn a_cache_of_no_capacity_keeps_nothing(rt: HostRuntime) -> Result<(), test::Fai
 
 #[test]
 fn a_handle_reads_its_own_value(rt: HostRuntime) {
-    let cache: LruCache<u64, u64, &HostRuntime> = LruCache::new(rt.alloc(), &rt, 10);
-    assert_eq!(rt; reads_around(&cache), Some((5, None, false, 6)));
-    assert_eq!(rt; (cache.total_charge(), cache.len()), (1, 1));
+    let (read, left) = in_new(rt.alloc(), &rt, 10, |cache| {
+        (reads_around(cache), (cache.total_charge(), cache.len()))
+    });
+    assert_eq!(rt; read, Some((5, None, false, 6)));
+    assert_eq!(rt; left, (1, 1));
 }
 
 // Returns the value of key 1, made as 5 and invalidated before it is ready.
@@ -215,31 +218,34 @@ fn comes_meanwhile<C: Cached<u64>>(cache: C, meeting: &Meeting) -> Option<(u64, 
     }
 }
 
+// Returns what the two callers get.
+fn takes_back_at_a_meeting<R: Wait + Send + Sync, T: Threads>(
+    rt: &T,
+    cache: &LruCache<u64, u64, R>,
+) -> (Option<u64>, Option<(u64, bool)>) {
+    let meeting = Meeting::new();
+    thread::join(
+        rt,
+        || makes_and_takes_back(cache, &meeting),
+        || comes_meanwhile(cache, &meeting),
+    )
+}
+
 // A caller that waited for the old making has its value, which does not stay; a caller that came
 // later made a new value, which does.
 #[test]
 fn a_waiter_has_the_outcome_of_its_making(rt: HostRuntime) {
     for _ in 0..50u32 {
-        let cache: LruCache<u64, u64, &HostRuntime> = LruCache::new(rt.alloc(), &rt, 10);
-        let meeting = Meeting::new();
-        let (made, came) = thread::join(
-            &rt,
-            || makes_and_takes_back(&cache, &meeting),
-            || comes_meanwhile(&cache, &meeting),
-        );
+        let ((made, came), left) = in_new(rt.alloc(), &rt, 10, |cache| {
+            let told = takes_back_at_a_meeting(&rt, cache);
+            (told, (value_found(cache, 1), cache.total_charge()))
+        });
         assert_eq!(rt; made, Some(5));
-        match came {
-            Some((5, false)) => assert_eq!(rt;
-                (value_found(&cache, 1), cache.total_charge()),
-                (None, 0)
-            ),
-            other => {
-                assert_eq!(rt; other, Some((6, true)));
-                assert_eq!(rt;
-                    (value_found(&cache, 1), cache.total_charge()),
-                    (Some(6), 7)
-                );
-            }
-        }
+        let wanted = if came == Some((5, false)) {
+            (Some((5, false)), (None, 0))
+        } else {
+            (Some((6, true)), (Some(6), 7))
+        };
+        assert_eq!(rt; (came, left), wanted);
     }
 }

@@ -1,9 +1,11 @@
 //! Two callers of one value: the second waits, takes over, or finds what the first made.
 
+use crate::contents::{ONE_MADE, two_callers};
+use crate::unsharded::play::in_new;
 use concurrent_lru::unsharded::{GetError, LruCache};
 use lru_support::cached::Cached;
 use lru_support::flags::{meets, pause, raise};
-use lru_support::makings::{Meeting, value_beside_total, values_of_two};
+use lru_support::makings::Meeting;
 use lru_support::threaded::{NoHandle, try_make_value};
 use std::alloc::Global;
 use std::sync::Wait;
@@ -12,10 +14,8 @@ use std::thread::Threads;
 
 #[test]
 fn one_value_for_two_callers(rt: HostRuntime) {
-    let cache: LruCache<u64, u64, &HostRuntime> = LruCache::new(rt.alloc(), &rt, 10);
-    assert_eq!(rt; values_of_two(&rt, &&cache), (Some(5), Some(5)));
-    // The charge is the maker's.
-    assert_eq!(rt; value_beside_total(&rt, &&cache), (Some(5), 3));
+    let told = in_new(rt.alloc(), &rt, 10, |cache| two_callers(&rt, &cache));
+    assert_eq!(rt; told, ONE_MADE);
 }
 
 /// Fails to make key 1 once the other caller comes, and returns whether it did.
@@ -100,7 +100,8 @@ fn makes_by_another_key<R: Wait>(cache: &LruCache<u64, u64, R>) -> Option<u64> {
 
 #[test]
 fn a_maker_may_use_the_cache(rt: HostRuntime) {
-    let cache: LruCache<u64, u64, &HostRuntime> = LruCache::new(rt.alloc(), &rt, 10);
-    assert_eq!(rt; makes_by_another_key(&cache), Some(6));
-    assert_eq!(rt; cache.total_charge(), 2);
+    let told = in_new(rt.alloc(), &rt, 10, |cache| {
+        (makes_by_another_key(cache), cache.total_charge())
+    });
+    assert_eq!(rt; told, (Some(6), 2));
 }

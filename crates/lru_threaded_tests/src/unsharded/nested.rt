@@ -1,5 +1,6 @@
 //! Makers that use the cache for other keys, three deep.
 
+use crate::unsharded::play::in_new;
 use concurrent_lru::unsharded::LruCache;
 use lru_support::makings::value_found;
 use lru_support::threaded::make_value;
@@ -44,10 +45,15 @@ const LEFT: [(u64, [Option<u64>; 3]); 4] = [
 #[test]
 fn makers_use_the_cache_three_deep(rt: HostRuntime) {
     for (capacity, left) in LEFT {
-        let cache: LruCache<u64, u64, &HostRuntime> = LruCache::new(rt.alloc(), &rt, capacity);
-        assert_eq!(rt; makes_three_deep(&cache), 111);
-        assert_eq!(rt; cache.total_charge(), capacity);
-        let values = [1, 2, 3].map(|key| value_found(&cache, key));
-        assert_eq!(rt; values, left, "at capacity {capacity}");
+        let (made, total, values) = in_new(rt.alloc(), &rt, capacity, |cache| {
+            let made = makes_three_deep(cache);
+            let total = cache.total_charge();
+            (made, total, [1, 2, 3].map(|key| value_found(cache, key)))
+        });
+        assert_eq!(rt;
+            (made, total, values),
+            (111, capacity, left),
+            "at capacity {capacity}"
+        );
     }
 }

@@ -3,6 +3,8 @@
 
 use concurrent_lru::lru_core::Refusal;
 use concurrent_lru::unsharded::{GetError, LruCache};
+use std::alloc::Global;
+use std::process::Abort;
 use std::sync::Wait;
 
 /// Something that is expensive to open.
@@ -52,18 +54,32 @@ fn web_and_mail<R: Wait>(pool: &LruCache<u64, Connection, R>) -> Result<(u64, u6
     Ok((web.value().port, mail.value().port))
 }
 
-#[test]
-fn a_pool_of_connections(rt: HostRuntime) -> Result<(), Failure> {
+// Returns whether a connection is open.
+fn is_open<R: Wait>(pool: &LruCache<u64, Connection, R>, port: u64) -> Result<bool, Refusal> {
+    Ok(pool.get(port)?.is_some())
+}
+
+// Returns whether a connection to the port 0 fails because nobody listens there.
+fn is_closed<R: Wait>(pool: &LruCache<u64, Connection, R>) -> bool {
+    let closed = pool.get_or_try_init(0, 1, |port| open(*port)).err();
+    matches!(&closed, Some(GetError::Init(Failure::Closed(0))))
+}
+
+fn opens_on_demand<R: Wait + Abort>(rt: &R, alloc: Global) {
     // Keeps idle connections while at most one is open in all.
-    let pool = LruCache::new(rt.alloc(), &rt, 1);
+    let pool = LruCache::new(alloc, rt, 1);
     assert_eq!(rt; web_and_mail(&pool), Ok((80, 25)));
     // In use, both were open; the one that was released first was closed to make room.
-    assert!(rt; pool.get(25)?.is_none());
-    assert!(rt; pool.get(80)?.is_some());
+    assert_eq!(rt;
+        [is_open(&pool, 25), is_open(&pool, 80)],
+        [Ok(false), Ok(true)]
+    );
     assert_eq!(rt; web_and_mail(&pool), Ok((80, 25)));
     // Room is made before the connection is opened, so one that fails may close another.
-    let closed = pool.get_or_try_init(0, 1, |port| open(*port)).err();
-    assert!(rt; matches!(&closed, Some(GetError::Init(Failure::Closed(0)))));
-    assert_eq!(rt; pool.total_charge(), 0);
-    Ok(())
+    assert_eq!(rt; (is_closed(&pool), pool.total_charge()), (true, 0));
+}
+
+#[test]
+fn a_pool_of_connections(rt: HostRuntime) {
+    opens_on_demand(&rt, rt.alloc());
 }

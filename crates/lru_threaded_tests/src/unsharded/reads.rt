@@ -1,13 +1,14 @@
 //! Reads without a handle: they count as uses, see the value under its mark, and leave no pin.
 
-use crate::contents::{Read, make, make_each, value_read};
+use crate::contents::{Read, four_read, make, make_each, value_read};
+use crate::unsharded::play::in_new;
 use concurrent_lru::unsharded::LruCache;
 use lru_support::cached::Cached;
 use lru_support::marks::Twice;
-use lru_support::workers::{CAPACITY, stays_right};
+use lru_support::workers::CAPACITY;
+use std::alloc::Global;
 use std::process::Abort;
 use std::sync::Wait;
-use std::thread;
 
 // Reads in an empty cache that keeps two entries of charge 1. Returns what a read of key 1 finds
 // before and after it and key 2 are made, what reads of several keys find after key 3 is made, and
@@ -33,10 +34,10 @@ fn reads_as_uses<R: Abort, C: Cached<u64>>(rt: &R, cache: C) -> ([Read; 2], [Rea
 
 #[test]
 fn a_read_counts_as_a_use(rt: HostRuntime) {
-    let cache: LruCache<u64, u64, &HostRuntime> = LruCache::new(rt.alloc(), &rt, 2);
+    let told = in_new(rt.alloc(), &rt, 2, |cache| reads_as_uses(&rt, cache));
     // A read leaves no pin, so the prune evicts all.
     assert_eq!(rt;
-        reads_as_uses(&rt, &cache),
+        told,
         (
             [Ok(None), Ok(Some(10))],
             [Ok(None), Ok(Some(10)), Ok(Some(30))],
@@ -70,32 +71,38 @@ fn made_unread<R: Wait>(cache: &LruCache<u64, u64, R>) -> Option<u64> {
 
 #[test]
 fn a_read_sees_a_held_value_and_none_that_is_being_made(rt: HostRuntime) {
-    let cache: LruCache<u64, u64, &HostRuntime> = LruCache::new(rt.alloc(), &rt, 0);
-    assert_eq!(rt; reads_while_held(&rt, &cache), (Ok(Some(25)), 1, Ok(None)));
-    assert_eq!(rt; made_unread(&cache), Some(60));
+    let (held, made) = in_new(rt.alloc(), &rt, 0, |cache| {
+        (reads_while_held(&rt, cache), made_unread(cache))
+    });
+    assert_eq!(rt; held, (Ok(Some(25)), 1, Ok(None)));
+    assert_eq!(rt; made, Some(60));
+}
+
+// Returns the double of 7, made with a handle and then read.
+fn reads_a_double<A: Abort, R: Wait>(rt: &A, cache: &LruCache<u64, u64, R, Twice>) -> u64 {
+    drop(cache.get_or_init(7, 1, |key| *key * 2).expect(rt, "memory"));
+    let found = cache.read(&7, |value| *value).expect(rt, "no pins");
+    let value = found.expect(rt, "it is there");
+    prove!(value == 14);
+    value
+}
+
+fn reads_a_new_double<R: Wait + Abort>(rt: &R, alloc: Global) -> u64 {
+    let cache: LruCache<u64, u64, &R, Twice> = LruCache::marked(alloc, rt, 10);
+    reads_a_double(rt, &cache)
 }
 
 #[test]
 fn a_read_proves_its_answer(rt: HostRuntime) {
-    let cache: LruCache<u64, u64, &HostRuntime, Twice> = LruCache::marked(rt.alloc(), &rt, 10);
-    drop(
-        cache
-            .get_or_init(7, 1, |key| *key * 2)
-            .expect(&rt, "memory"),
-    );
-    let found = cache.read(&7, |value| *value).expect(&rt, "no pins");
-    let value = found.expect(&rt, "it is there");
-    prove!(value == 14);
-    assert_eq!(rt; value, 14);
+    assert_eq!(rt; reads_a_new_double(&rt, rt.alloc()), 14);
 }
 
 #[test]
 fn four_threads_read_what_they_make(rt: HostRuntime) {
-    let cache: LruCache<u64, u64, &HostRuntime> = LruCache::new(rt.alloc(), &rt, CAPACITY);
-    let right = thread::map_indices(&rt, rt.alloc(), 4, &|_| stays_right(&cache));
+    let (right, totals) = in_new(rt.alloc(), &rt, CAPACITY, |cache| {
+        four_read(&rt, rt.alloc(), &cache)
+    });
     let right = right.expect(&rt, "four threads");
     assert_eq!(rt; right.as_slice(), [true; 4].as_slice());
-    assert_eq!(rt; cache.total_charge(), CAPACITY);
-    cache.prune();
-    assert_eq!(rt; cache.total_charge(), 0);
+    assert_eq!(rt; totals, [u128::from(CAPACITY), 0]);
 }

@@ -1,13 +1,14 @@
 //! `for_each`: which entries it shows, and what it says of each.
 
 use crate::contents::{Contents, Sums, WALKS, walks};
+use crate::unsharded::play::in_new;
 use concurrent_lru::unsharded::LruCache;
 use std::sync::Wait;
 
 #[test]
 fn entries_that_keys_find_are_shown(rt: HostRuntime) {
-    let cache: LruCache<u64, u64, &HostRuntime> = LruCache::new(rt.alloc(), &rt, 1_000);
-    assert_eq!(rt; walks(&rt, &cache), WALKS);
+    let told = in_new(rt.alloc(), &rt, 1_000, |cache| walks(&rt, cache));
+    assert_eq!(rt; told, WALKS);
 }
 
 // Returns what `for_each` shows while key 5 is made.
@@ -23,7 +24,11 @@ fn sums_in_a_making<R: Wait>(cache: &LruCache<u64, u64, R>) -> Option<Sums> {
 
 #[test]
 fn an_entry_is_shown_once_it_has_a_value(rt: HostRuntime) {
-    let cache: LruCache<u64, u64, &HostRuntime> = LruCache::new(rt.alloc(), &rt, 1_000);
-    let before = sums_in_a_making(&cache);
-    assert_eq!(rt; (before, cache.sums()), (Some([0; 5]), [1, 5, 5, 50, 0]));
+    let told = in_new(
+        rt.alloc(),
+        &rt,
+        1_000,
+        |cache| (sums_in_a_making(cache), cache.sums()),
+    );
+    assert_eq!(rt; told, (Some([0; 5]), [1, 5, 5, 50, 0]));
 }

@@ -1,5 +1,5 @@
 use Rattle.std.proofs.Common.{◌≡◌}
-use Rattle.lru_tests.proofs.journal.table.ask_twin.Given as goal
+use Rattle.lru_tests.proofs.journal.table.ask_caller.Given as goal
 
 -- the parts of the tally stay
 abbrev pub invariant-loop-number : goal.invariant-loop-number
