@@ -256,7 +256,8 @@ impl<K: Hash + Eq + Clone + Drop, V: Drop, R: Wait, S: BuildHasher, F: Fit<K, V>
     {
         match shard.find(tag, key, true, past)? {
             Some(found) => Ok(Some(found)),
-            None => shard.find_locked(&self.rt, tag, key, true, past),
+            // A copy, so that the compiler knows that the first look has no past, if there is none.
+            None => shard.find_locked(&self.rt, tag, key, true, &Past::copied(past)),
         }
     }
 

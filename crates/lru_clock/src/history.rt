@@ -204,6 +204,17 @@ impl<K, V> Past<K, V> {
         }
     }
 
+    /// Returns a copy, if there is a past.
+    #[inline(always)]
+    pub(crate) fn copied(past: &Option<Self>) -> Option<Self>
+        ensures { result ≡ past.now }
+    {
+        match past {
+            Some(past) => Some(past.again()),
+            None => None,
+        }
+    }
+
     /// Returns what has been seen.
     #[inline(always)]
     pub(crate) fn seen(&self) -> Log<K, V>

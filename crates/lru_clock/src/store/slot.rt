@@ -28,6 +28,9 @@ const ONE_CHANCE: u64 = 0x1_0000_0000;
 // The least word that has the maximum of chances.
 const MOST_CHANCES: u64 = 0x3_0000_0000;
 
+// The word of an entry that was used often and that nobody has pinned.
+const MOST_USED: u64 = MOST_CHANCES + PRESENT;
+
 /// A key and its value, which fits it by the mark `F`.
 #[derive(Drop)]
 pub struct Kept<K: Eq, V, F: Fit<K, V>> {
@@ -166,30 +169,61 @@ impl<K: Eq + Drop, V: Drop, F: Fit<K, V>> Slot<K, V, F> {
             (λ p. Sees K.eq past key.now p.value p.book p.log))) }
         ensures refused { IfErr result (λ e. e ≡ Refusal.Overflow) }
     {
+        // A load before the compare-exchange would have the word's cache line sent twice, if
+        // another thread wrote it last. So the word is guessed.
+        let (found, claim) = self.cell.turn(MOST_USED, MOST_USED + ONE_READER);
+        if found == MOST_USED {
+            return Pin::of_key(&self.track, claim, key, past, most_pins == 0);
+        }
+        claim.done();
+        self.pin_from(found, key, most_pins, is_use, past)
+    }
+
+    // Does what `pin` does, after a look that found this word.
+    #[inline(always)]
+    fn pin_from(
+        &self,
+        seen: u64,
+        key: &K,
+        most_pins: u64,
+        is_use: bool,
+        past: &Option<Past<K, V>>,
+    ) -> Result<Option<Pin<'_, K, V, F>>, Refusal>
+        requires limit { most_pins < 1073741823 }
+        requires book { IfSome past.now (λ p. p.book ≡ self.now.track.word.book) }
+        ensures pin { IfOk result (λ found. IfSome found
+            (λ p. (p.key ≡ key.now) × F.fits key.now p.value)) }
+        ensures since { IfSome past.now (λ past. IfOk result (λ found. IfSome found
+            (λ p. Sees K.eq past key.now p.value p.book p.log))) }
+        ensures refused { IfErr result (λ e. e ≡ Refusal.Overflow) }
+    {
+        let mut seen = seen;
         for _ in 0..u64::MAX {
-            let seen = self.cell.load();
             if state_of(seen) != PRESENT {
                 return Ok(None);
             }
             let pins = pins_of(seen);
             // Above the maximum, another caller is comparing its key.
-            if pins <= most_pins {
-                let is_chance = is_use && seen < MOST_CHANCES;
-                let next = if is_chance {
-                    seen + ONE_CHANCE + ONE_READER
-                } else {
-                    seen + ONE_READER
-                };
-                let (found, claim) = self.cell.turn(seen, next);
-                if found == seen {
-                    let pinned = Pin::of_key(&self.track, claim, key, past, pins == most_pins);
-                    if is_chance && matches!(&pinned, Ok(None)) {
-                        self.lose_chance();
-                    }
-                    return pinned;
-                }
-                claim.done();
+            if pins > most_pins {
+                seen = self.cell.load();
+                continue;
             }
+            let is_chance = is_use && seen < MOST_CHANCES;
+            let next = if is_chance {
+                seen + ONE_CHANCE + ONE_READER
+            } else {
+                seen + ONE_READER
+            };
+            let (found, claim) = self.cell.turn(seen, next);
+            if found == seen {
+                let pinned = Pin::of_key(&self.track, claim, key, past, pins == most_pins);
+                if is_chance && matches!(&pinned, Ok(None)) {
+                    self.lose_chance();
+                }
+                return pinned;
+            }
+            claim.done();
+            seen = found;
         }
         Ok(None)
     }
