@@ -23,9 +23,11 @@ plans sizes "$all" "entries 1000 10000 100000 1000000" "threads 1"
 printf '\1\0\0\0\0\2\0\0\377\377\377\377' > three
 printf '\1\2\3\4' > one
 plans "read_mostly three" workloads "$usual" "threads 1" \
-    "read_mostly 3 keys from 1 to 4294967295"
+    "read_mostly 3 keys from 1 to 4294967295, capacity 100000"
+plans "read_mostly three 7" workloads "$usual" "threads 1" \
+    "read_mostly 3 keys from 1 to 4294967295, capacity 7"
 plans "stress miss_evict read_mostly one" "workloads stress miss_evict" "$usual" "threads 1" \
-    "read_mostly 1 keys from 67305985 to 67305985"
+    "read_mostly 1 keys from 67305985 to 67305985, capacity 100000"
 for bytes in "" 123 12345; do
     ends 1 "" "the file has no keys of four bytes"$'\n' \
         "printf '$bytes' > cut && lru_bench time read_mostly cut"
@@ -41,11 +43,13 @@ done
 
 known="hit_get, hit_read, hit_init, miss_evict, stress, threads, sizes"
 for word in 0 +8 -1 "''" "' 8'" few 10000001 18446744073709551615 "8 0" "8 few" "threads hits" \
-    read_mostly "read_mostly empty 8" "few read_mostly empty"; do
-    ends 2 "" "lru_bench: WORD is $known, or a number of entries from 1 to 10000000"$'\n' \
+    read_mostly "read_mostly empty 0" "read_mostly empty few" "read_mostly empty 8 8" \
+    "few read_mostly empty" "few read_mostly empty 8"; do
+    ends 2 "" "lru_bench: WORD is $known, or a number of entries from 1 to 10000000; \
+CAPACITY is such a number"$'\n' \
         "lru_bench time $word"
 done
-usage="usage: lru_bench check | (plan | time) [WORD ..] [read_mostly FILE] | \
+usage="usage: lru_bench check | (plan | time) [WORD ..] [read_mostly FILE [CAPACITY]] | \
 run (lock | clock) WORKLOAD ENTRIES CALLS | \
 attack (chosen | drawn) (known | seeded | shards) KEYS"$'\n'
 for words in "" times "check 8" "read_mostly empty" "time \$'\xff'" "run lock hit_get 8" \
@@ -55,6 +59,7 @@ for words in "" times "check 8" "read_mostly empty" "time \$'\xff'" "run lock hi
     "attack chosen known" "attack made known 8" "attack chosen unknown 8" "attack drawn shards 0"; do
     ends 2 "" "$usage" "lru_bench $words"
 done
+ends 1 "" "the file has no keys of four bytes"$'\n' "lru_bench time read_mostly empty 8"
 ends 1 "" "$system" "lru_bench time 8 hit_get read_mostly none"
 ends 1 "" "$system" "lru_bench time read_mostly /"
 ends 1 "" "$system" "lru_bench plan > /dev/full"

@@ -4,9 +4,11 @@ Draws three pictures of measured lines, `SYSTEM WORKLOAD ENTRIES THREADS NANOSEC
 stand in one or more files; of several lines of one kind the least counts. In FOLDER:
 speed-threads.svg  the time of a call of read_mostly by the number of threads
 speed-entries.svg  the time of a hit and of a miss by the number of entries, of one thread
-speed-hits.svg     the time of a call of read_mostly by the hit ratio, of four threads
-What was measured at one number of threads or of entries alone has no picture. Hit ratios are those
-of lines `# hits SYSTEM WORKLOAD ENTRIES THREADS RATIO`; of several of one kind the last counts."""
+speed-hits.svg     the time of a call of read_mostly by the hit ratio, of four threads, in a chart
+                   for each capacity
+What was measured at one number of threads or of entries alone has no picture, and speed-threads.svg
+shows the largest capacity. Hit ratios are those of lines `# hits SYSTEM WORKLOAD ENTRIES THREADS
+RATIO`; of several of one kind the last counts."""
 import collections
 import math
 import sys
@@ -140,12 +142,18 @@ def lines_of(points):
     return dict(lines)
 
 
+def capacities(least):
+    """The capacities of read_mostly, the largest first."""
+    return sorted({kind[2] for kind in least if kind[1] == "read_mostly"}, reverse=True)
+
+
 def by_threads(least):
-    """The chart of read_mostly, by threads."""
+    """The chart of read_mostly at its largest capacity, by threads."""
+    largest = next(iter(capacities(least)), None)
     points = [
         (system, threads, ns)
-        for (system, work, _, threads), ns in least.items()
-        if work == "read_mostly" and system not in CLOSE
+        for (system, work, entries, threads), ns in least.items()
+        if work == "read_mostly" and entries == largest and system not in CLOSE
     ]
     return Chart("read_mostly", "threads", lines_of(points), "")
 
@@ -160,18 +168,19 @@ def by_entries(least, title, works):
     return Chart(title, "entries", lines_of(points), "one lock")
 
 
-def by_hits(least, ratios):
-    """The chart of read_mostly, by hit ratios, of four threads."""
+def by_hits(least, ratios, capacity):
+    """The chart of read_mostly at a capacity, by hit ratios, of four threads."""
     points = [
         (kind[0], ratios[kind], ns)
         for kind, ns in least.items()
-        if kind in ratios and kind[1] == "read_mostly" and kind[3] == 4 and kind[0] not in CLOSE
+        if kind in ratios and kind[1:] == ("read_mostly", capacity, 4) and kind[0] not in CLOSE
     ]
     across = [ratio for _, ratio, _ in points]
     first = math.floor(min(across, default=0) * 100)
     last = math.ceil(max(across, default=0) * 100)
     shown = tuple(percent / 100 for percent in range(first, last + 1))
-    return Chart("read_mostly, four threads", "hit ratio", lines_of(points), "", shown)
+    title = f"read_mostly, capacity {capacity:,}, four threads"
+    return Chart(title, "hit ratio", lines_of(points), "", shown)
 
 
 def split(system):
@@ -327,10 +336,12 @@ def main():
             by_entries(least, "Hit", {"hit_get": "", "hit_read": "-read"}),
             by_entries(least, "Miss that evicts an entry", {"miss_evict": ""}),
         ]),
-        "speed-hits.svg": ("Time of a call and hit ratio", [by_hits(least, ratios)]),
+        "speed-hits.svg": ("Time of a call and hit ratio", [
+            by_hits(least, ratios, capacity) for capacity in capacities(least)
+        ]),
     }
     for name, (title, charts) in pictures.items():
-        if all(len(chart.marks) > 1 for chart in charts):
+        if charts and all(len(chart.marks) > 1 for chart in charts):
             (folder / name).write_text(picture(title, charts), encoding="utf-8")
         else:
             print(f"{name} is not drawn: too few lines of it", file=sys.stderr)

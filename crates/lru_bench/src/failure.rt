@@ -14,7 +14,8 @@ use std::io::Write;
 pub enum Failure {
     /// The arguments are invalid.
     Usage,
-    /// A word after `time` is no workload, and no number of entries within bounds.
+    /// A word after `time` is no workload, and no number of entries within bounds, or the capacity
+    /// is no such number.
     Word,
     /// A call of the cache was refused, or memory for the program's own data.
     Refused(Refusal),
@@ -33,14 +34,15 @@ impl Failure {
         let told = match self {
             Failure::Usage => writeln!(
                 err,
-                "usage: lru_bench check | (plan | time) [WORD ..] [read_mostly FILE] | \
+                "usage: lru_bench check | \
+                 (plan | time) [WORD ..] [read_mostly FILE [CAPACITY]] | \
                  run (lock | clock) WORKLOAD ENTRIES CALLS | \
                  attack (chosen | drawn) (known | seeded | shards) KEYS"
             ),
             Failure::Word => writeln!(
                 err,
                 "lru_bench: WORD is hit_get, hit_read, hit_init, miss_evict, stress, threads, \
-                 sizes, or a number of entries from 1 to {MOST_ENTRIES}"
+                 sizes, or a number of entries from 1 to {MOST_ENTRIES}; CAPACITY is such a number"
             ),
             Failure::Refused(refusal) => writeln!(err, "refused {}", refusal.code()),
             Failure::Keys => writeln!(err, "the file has no keys of four bytes"),

@@ -81,7 +81,7 @@ impl fmt::Display for Plan {
         f.write_str("\nthreads 1")?;
         write_each(f, &self.threads)?;
         match &self.mostly {
-            Some(mostly) => write!(f, "\n{} {}", Workload::ReadMostly, mostly.draws),
+            Some(mostly) => write!(f, "\n{mostly}"),
             None => Ok(()),
         }
     }
@@ -120,11 +120,12 @@ impl Mostly {
         })
     }
 
-    /// Returns a workload on these keys that is long enough to be timed.
-    pub fn time(draws: Draws) -> Mostly {
+    /// Returns a workload on these keys that is long enough to be timed. Without a capacity it is
+    /// 100,000.
+    pub fn time(draws: Draws, capacity: Option<NonZeroU64>) -> Mostly {
         Mostly {
             draws,
-            capacity: 100_000,
+            capacity: capacity.map_or(100_000, |capacity| capacity.get()),
             operations: 300_000,
         }
     }
@@ -138,5 +139,12 @@ impl Mostly {
             threads,
             operations: self.operations,
         }
+    }
+}
+
+impl fmt::Display for Mostly {
+    fn fmt<W: fmt::Write>(&self, f: &mut fmt::Formatter<W>) -> fmt::Result {
+        let (name, capacity) = (Workload::ReadMostly, self.capacity);
+        write!(f, "{name} {}, capacity {capacity}", self.draws)
     }
 }

@@ -5,16 +5,20 @@ use crate::bench;
 use crate::draws::Draws;
 use crate::failure::Failure;
 use crate::plan::{Mostly, Plan};
-use crate::request::Request;
+use crate::request::{Request, number};
 use crate::single::Single;
 use std::alloc::Global;
 use std::fs::Files;
 use std::io::Write;
+use std::num::NonZeroU64;
 use std::random::RandomSource;
 use std::rt::Clock;
 use std::sync::Wait;
 use std::thread;
 use std::thread::Threads;
+
+// The word before the path of a file of keys.
+const READ_MOSTLY: &str = "read_mostly";
 
 /// Runs the program on the words after its name and returns the status to end with.
 ///
@@ -22,9 +26,10 @@ use std::thread::Threads;
 ///   values that it read, which never changes. Status 0.
 /// - `time` runs workloads long, and writes how many nanoseconds a call took to `out`, and how many
 ///   processors there are to `err`. The words after it say which workloads, on how many entries,
-///   and whether in more threads than one, as `Request::of_words` reads them. The last two may be
-///   `read_mostly` and the path of a file of keys, for reads that mostly hit, whose hit ratios go
-///   to `err`. Status 0, or 2 after a line on `err` if it does not know a word: then nothing runs.
+///   and whether in more threads than one, as `Request::of_words` reads them. The last ones may be
+///   `read_mostly`, the path of a file of keys and perhaps the capacity, for reads that mostly hit,
+///   whose hit ratios go to `err`. Status 0, or 2 after a line on `err` if it does not know a word:
+///   then nothing runs.
 /// - `plan` writes to `out` what `time` would run with the same words, and runs nothing. Status 0.
 /// - `run`, `lock` or `clock`, a workload of hits or misses, a number of entries and a number of
 ///   calls make these calls in one thread, on a cache of one lock or on a clock of one shard, and
@@ -91,13 +96,28 @@ fn run<R: Threads + Wait + Clock + RandomSource + Files + Sync, O: Write, E: Wri
 // What the words after `plan` or `time` ask for.
 fn timed<R: Files>(rt: &R, alloc: Global, words: &[String]) -> Result<Plan, Failure> {
     match words {
-        [rest @ .., word, path] if word.as_str() == "read_mostly" => {
-            let request = Request::of_words(alloc, rest, true)?;
-            let draws = Draws::of_file(rt, alloc, path.as_str())?;
-            Ok(Plan::time(request, Some(Mostly::time(draws))))
+        [rest @ .., word, path] if word.as_str() == READ_MOSTLY => {
+            timed_mostly(rt, alloc, rest, path.as_str(), None)
+        }
+        [rest @ .., word, path, capacity] if word.as_str() == READ_MOSTLY => {
+            let capacity = number(capacity.as_str()).ok_or(Failure::Word)?;
+            timed_mostly(rt, alloc, rest, path.as_str(), Some(capacity))
         }
         _ => Ok(Plan::time(Request::of_words(alloc, words, false)?, None)),
     }
+}
+
+// What the words ask for beside reads that mostly hit, and these.
+fn timed_mostly<R: Files>(
+    rt: &R,
+    alloc: Global,
+    words: &[String],
+    path: &str,
+    capacity: Option<NonZeroU64>,
+) -> Result<Plan, Failure> {
+    let request = Request::of_words(alloc, words, true)?;
+    let draws = Draws::of_file(rt, alloc, path)?;
+    Ok(Plan::time(request, Some(Mostly::time(draws, capacity))))
 }
 
 // Writes the number of processors, if the system reports it.
