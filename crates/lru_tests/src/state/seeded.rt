@@ -89,6 +89,9 @@ fn answers_alike_to_the_first_kinds(rt: HostRuntime) {
 // The words that tell where a run is: its seed and the number of its call.
 type Place = (&'static str, u64, &'static str, u32);
 
+// The stamps of up to two pins, the oldest first.
+type Held = (Option<u64>, Option<u64>);
+
 // Releases the pin of a stamp.
 fn give_back(rt: &impl Abort, both: &mut Both, place: &Place, stamp: u64) {
     for call in [
@@ -101,19 +104,14 @@ fn give_back(rt: &impl Abort, both: &mut Both, place: &Place, stamp: u64) {
 }
 
 // Releases the oldest pin if the last call took a third one. Returns the pins that are held then.
-fn hold_two(
-    rt: &impl Abort,
-    both: &mut Both,
-    place: &Place,
-    held: [Option<u64>; 2],
-) -> [Option<u64>; 2] {
+fn hold_two(rt: &impl Abort, both: &mut Both, place: &Place, held: Held) -> Held {
     let Some(pinned) = both.plain.pinned else {
         return held;
     };
-    if let Some(oldest) = held[0] {
+    if let Some(oldest) = held.0 {
         give_back(rt, both, place, oldest);
     }
-    [held[1], Some(pinned)]
+    (held.1, Some(pinned))
 }
 
 // Makes 2,000 calls from a seed. Once three pins are held, the oldest is released, so that there
@@ -121,7 +119,7 @@ fn hold_two(
 fn give_back_from(rt: &impl Abort, alloc: Global, seed: u64) {
     let mut both = both_of_ten(alloc);
     let mut generator = Xoshiro256PlusPlus::seed_from_u64(seed);
-    let mut held = [None, None];
+    let mut held = (None, None);
     for number in 0..2_000u32 {
         let place = ("seed", seed, "call", number);
         let call = draw(&mut generator, KINDS, both.plain.next);
