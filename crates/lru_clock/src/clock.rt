@@ -1,7 +1,7 @@
 //! A cache in shards whose hits take no lock, for any number of threads.
 //!
-//! A hasher chooses the shard of a key. A hit pins its entry by one compare-exchange, and the drop
-//! of its handle is one subtraction. What is not a hit takes the lock of the key's shard.
+//! A hasher chooses the shard of a key. A hit pins its entry by a compare-exchange, and the drop of
+//! its handle is one subtraction. What is not a hit takes the lock of the key's shard.
 ghost use Rattle.std.specs.Prelude.{◌≡◌, ◌≢◌, ◌<◌, Some, None, Ok, Err, IfOk, IfErr, IfSome};
 ghost use Rattle.std.specs.Prelude.{length, vec_len};
 ghost use Rattle.std.specs.Fn.{FnOnceReturnsAt, FnOnceTakesAt};
