@@ -48,6 +48,13 @@ fn draw(generator: &mut Xoshiro256PlusPlus, kinds: u64, next: u64) -> Call
     }
 }
 
+// Where a run is: its seed and the number of its call, with words for them.
+type Place = (&'static str, u64, &'static str, u32);
+
+fn place_of(seed: u64, number: u32) -> Place {
+    ("seed", seed, "call", number)
+}
+
 // Creates two empty caches at capacity 10, whose entries have at most three pins.
 fn both_of_ten(alloc: Global) -> Both {
     Both::with_limits(alloc, 10, 0, 3)
@@ -57,7 +64,7 @@ fn both_of_ten(alloc: Global) -> Both {
 fn answer_alike(rt: &impl Abort, alloc: Global, kinds: u64)
     requires { 0 < kinds }
 {
-    for seed in 1..=20u64 {
+    for seed in 1..=8u64 {
         answer_alike_from(rt, alloc, kinds, seed);
     }
 }
@@ -70,7 +77,7 @@ fn answer_alike_from(rt: &impl Abort, alloc: Global, kinds: u64, seed: u64)
     let mut generator = Xoshiro256PlusPlus::seed_from_u64(seed);
     for number in 0..2_000u32 {
         let call = draw(&mut generator, kinds, both.plain.next);
-        both.take(rt, &("seed", seed, "call", number), call);
+        both.take(rt, &place_of(seed, number), call);
     }
 }
 
@@ -85,9 +92,6 @@ fn answers_as_a_plain_cache_does(rt: HostRuntime) {
 fn answers_alike_to_the_first_kinds(rt: HostRuntime) {
     answer_alike(&rt, rt.alloc(), FIRST_KINDS);
 }
-
-// The words that tell where a run is: its seed and the number of its call.
-type Place = (&'static str, u64, &'static str, u32);
 
 // The stamps of up to two pins, the oldest first.
 type Held = (Option<u64>, Option<u64>);
@@ -121,7 +125,7 @@ fn give_back_from(rt: &impl Abort, alloc: Global, seed: u64) {
     let mut generator = Xoshiro256PlusPlus::seed_from_u64(seed);
     let mut held = (None, None);
     for number in 0..2_000u32 {
-        let place = ("seed", seed, "call", number);
+        let place = place_of(seed, number);
         let call = draw(&mut generator, KINDS, both.plain.next);
         both.take(rt, &place, call);
         held = hold_two(rt, &mut both, &place, held);
@@ -130,7 +134,7 @@ fn give_back_from(rt: &impl Abort, alloc: Global, seed: u64) {
 
 #[test]
 fn answers_alike_where_pins_are_given_back(rt: HostRuntime) {
-    for seed in 1..=20u64 {
+    for seed in 1..=8u64 {
         give_back_from(&rt, rt.alloc(), seed);
     }
 }
@@ -141,14 +145,15 @@ fn show_from(rt: &impl Abort, alloc: Global, seed: u64) {
     let mut generator = Xoshiro256PlusPlus::seed_from_u64(seed);
     for number in 0..1_000u32 {
         let call = draw(&mut generator, KINDS, both.plain.next);
-        both.take(rt, &("seed", seed, "call", number), call);
-        both.walk(rt, &("seed", seed, "call", number));
+        let place = place_of(seed, number);
+        both.take(rt, &place, call);
+        both.walk(rt, &place);
     }
 }
 
 #[test]
 fn shows_the_entries_of_a_plain_cache(rt: HostRuntime) {
-    for seed in 1..=5u64 {
+    for seed in 1..=3u64 {
         show_from(&rt, rt.alloc(), seed);
     }
 }
