@@ -1,6 +1,7 @@
 //! Runs the workloads of a plan one after another.
 
 use crate::failure::Failure;
+use crate::host::{Host, Waiter};
 use crate::plan::{Mostly, Plan};
 use crate::report::Report;
 use crate::size::Size;
@@ -46,12 +47,7 @@ pub struct Bench<'a, R, W, O, E> {
     pub report: Report<'a, R, O, E>,
 }
 
-impl<
-    R: Threads + Wait + Clock + RandomSource + Sync,
-    W: Wait + Clone + Drop + Sync,
-    O: Write,
-    E: Write,
-> Bench<'_, R, W, O, E> {
+impl<R: Host, W: Waiter, O: Write, E: Write> Bench<'_, R, W, O, E> {
     fn run(&mut self, plan: &Plan) -> Result<(), Failure> {
         self.run_alone(plan)?;
         for threads in &plan.threads {

@@ -3,20 +3,12 @@ ghost use Rattle.std.specs.Prelude.{◌<◌};
 
 use crate::bench::Bench;
 use crate::failure::Failure;
+use crate::host::{Host, Waiter};
 use concurrent_lru::{sharded, unsharded};
 use std::hash::RandomState;
 use std::io::Write;
-use std::random::RandomSource;
-use std::rt::Clock;
-use std::sync::Wait;
-use std::thread::Threads;
 
-impl<
-    R: Threads + Wait + Clock + RandomSource + Sync,
-    W: Wait + Clone + Drop + Sync,
-    O: Write,
-    E: Write,
-> Bench<'_, R, W, O, E> {
+impl<R: Host, W: Waiter, O: Write, E: Write> Bench<'_, R, W, O, E> {
     /// A cache of one lock.
     pub fn on_one_lock(&self, capacity: u64) -> Result<unsharded::LruCache<u64, u64, W>, Failure> {
         Ok(unsharded::LruCache::new(self.alloc, self.wait.clone()?, capacity))

@@ -4,6 +4,7 @@ ghost use Rattle.std.specs.Prelude.{◌<◌};
 use crate::bench::Bench;
 use crate::failure::Failure;
 use crate::hits::mix;
+use crate::host::{Host, Waiter};
 use crate::operation::{Get, Init, Make, Read};
 use crate::plan::Mostly;
 use crate::size::Size;
@@ -13,17 +14,9 @@ use crate::workers;
 use lru_clock::clock::Cache;
 use std::hash::RandomState;
 use std::io::Write;
-use std::random::RandomSource;
 use std::rt::Clock;
-use std::sync::Wait;
-use std::thread::Threads;
 
-impl<
-    R: Threads + Wait + Clock + RandomSource + Sync,
-    W: Wait + Clone + Drop + Sync,
-    O: Write,
-    E: Write,
-> Bench<'_, R, W, O, E> {
+impl<R: Host, W: Waiter, O: Write, E: Write> Bench<'_, R, W, O, E> {
     // A clock cache in so many shards, over which its hasher spreads the keys at random.
     fn on_clock(&self, capacity: u64, shards: usize) -> Result<Cache<u64, u64, W>, Failure>
         requires { 0 < shards }

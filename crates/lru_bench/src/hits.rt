@@ -3,6 +3,7 @@ ghost use Rattle.std.specs.Prelude.{◌<◌};
 
 use crate::bench::Bench;
 use crate::failure::Failure;
+use crate::host::{Host, Waiter};
 use crate::operation::{Get, Init, Make, Operation, Read};
 use crate::report::Work;
 use crate::size::Size;
@@ -13,17 +14,8 @@ use crate::workload::Workload;
 use concurrent_lru::{sharded, unsharded};
 use lru_support::cached::Cached;
 use std::io::Write;
-use std::random::RandomSource;
-use std::rt::Clock;
-use std::sync::Wait;
-use std::thread::Threads;
 
-impl<
-    R: Threads + Wait + Clock + RandomSource + Sync,
-    W: Wait + Clone + Drop + Sync,
-    O: Write,
-    E: Write,
-> Bench<'_, R, W, O, E> {
+impl<R: Host, W: Waiter, O: Write, E: Write> Bench<'_, R, W, O, E> {
     /// On one lock: the hits, and then the misses on the same cache, whose oldest entries then lie
     /// anywhere in memory.
     pub fn use_one_lock(&mut self, size: &Size<'_>) -> Result<(), Failure> {

@@ -9,6 +9,7 @@ mod clock;
 mod draws;
 mod failure;
 mod hits;
+mod host;
 mod keys;
 mod mostly;
 mod operation;

@@ -4,6 +4,7 @@ ghost use Rattle.std.specs.Prelude.{◌<◌};
 
 use crate::bench::Bench;
 use crate::failure::Failure;
+use crate::host::{Host, Waiter};
 use crate::operation::{Make, Operation, ReadOrMake};
 use crate::plan::Mostly;
 use crate::report::Work;
@@ -11,17 +12,8 @@ use crate::system::System;
 use crate::workers;
 use crate::workers::WorkloadKeys;
 use std::io::Write;
-use std::random::RandomSource;
-use std::rt::Clock;
-use std::sync::Wait;
-use std::thread::Threads;
 
-impl<
-    R: Threads + Wait + Clock + RandomSource + Sync,
-    W: Wait + Clone + Drop + Sync,
-    O: Write,
-    E: Write,
-> Bench<'_, R, W, O, E> {
+impl<R: Host, W: Waiter, O: Write, E: Write> Bench<'_, R, W, O, E> {
     /// On one lock, asked each way.
     pub fn read_on_one_lock(&mut self, mostly: &Mostly, threads: u16) -> Result<(), Failure> {
         let cache = self.on_one_lock(mostly.capacity)?;

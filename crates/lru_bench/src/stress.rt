@@ -2,6 +2,7 @@
 
 use crate::bench::Bench;
 use crate::failure::Failure;
+use crate::host::{Host, Waiter};
 use crate::report::Work;
 use crate::system::{SHARDS, System};
 use crate::workload::Workload;
@@ -10,10 +11,6 @@ use lru_stress::workers::{Answer, StressTarget, Unmade, share};
 use lru_support::cached::Cached;
 use lru_support::calls::WorkerCall;
 use std::io::Write;
-use std::random::RandomSource;
-use std::rt::Clock;
-use std::sync::Wait;
-use std::thread::Threads;
 
 // The seed of all calls.
 const SEED: u64 = 1;
@@ -74,12 +71,7 @@ fn make(call: &WorkerCall) -> Result<u64, Unmade> {
     }
 }
 
-impl<
-    R: Threads + Wait + Clock + RandomSource + Sync,
-    W: Wait + Clone + Drop + Sync,
-    O: Write,
-    E: Write,
-> Bench<'_, R, W, O, E> {
+impl<R: Host, W: Waiter, O: Write, E: Write> Bench<'_, R, W, O, E> {
     /// A cache of one lock, and one in shards.
     pub fn stress_caches(&mut self, load: Load) -> Result<(), Failure> {
         let cache = self.on_one_lock(LOCK_CAPACITY)?;
