@@ -4,8 +4,8 @@ Draws three pictures of measured lines, `SYSTEM WORKLOAD ENTRIES THREADS NANOSEC
 stand in one or more files; of several lines of one kind the least counts. In FOLDER:
 speed-threads.svg  the time of a call of read_mostly by the number of threads
 speed-entries.svg  the time of a hit and of a miss by the number of entries, of one thread
-speed-hits.svg     the time of a call of read_mostly by the hit ratio, of four threads, in a chart
-                   for each capacity
+speed-hits.svg     the time of a call of read_mostly by the hit ratio, in a chart for each capacity:
+                   of four threads at the largest, and of one thread at the others
 What was measured at one number of threads or of entries alone has no picture, and speed-threads.svg
 shows the largest capacity. Hit ratios are those of lines `# hits SYSTEM WORKLOAD ENTRIES THREADS
 RATIO`; of several of one kind the last counts."""
@@ -24,6 +24,8 @@ WIDTH, LEFT, RIGHT = 860, 64, 270
 
 # The heights of the titles, of a chart with its title, and of what is above and below its lines.
 HEAD, CHART, ABOVE, BELOW = 74, 480, 16, 72
+
+THREADS = {1: "one thread", 4: "four threads"}
 
 # How near a label may be to the next one.
 STEP = 17
@@ -168,19 +170,36 @@ def by_entries(least, title, works):
     return Chart(title, "entries", lines_of(points), "one lock")
 
 
-def by_hits(least, ratios, capacity):
-    """The chart of read_mostly at a capacity, by hit ratios, of four threads."""
+def hundredths(ratios):
+    """Marks of an axis on which all these ratios are, at most nine."""
+    low, high = min(ratios, default=0) * 100, max(ratios, default=0) * 100
+    for step in (1, 2, 5, 10, 20):
+        first, last = math.floor(low / step), math.ceil(high / step)
+        if last - first <= 8:
+            break
+    return tuple(number * step / 100 for number in range(first, last + 1))
+
+
+def by_hits(least, ratios, capacity, threads):
+    """The chart of read_mostly at a capacity, by hit ratios, of so many threads."""
+    kinds = ("read_mostly", capacity, threads)
     points = [
         (kind[0], ratios[kind], ns)
         for kind, ns in least.items()
-        if kind in ratios and kind[1:] == ("read_mostly", capacity, 4) and kind[0] not in CLOSE
+        if kind in ratios and kind[1:] == kinds and kind[0] not in CLOSE
     ]
-    across = [ratio for _, ratio, _ in points]
-    first = math.floor(min(across, default=0) * 100)
-    last = math.ceil(max(across, default=0) * 100)
-    shown = tuple(percent / 100 for percent in range(first, last + 1))
-    title = f"read_mostly, capacity {capacity:,}, four threads"
+    shown = hundredths([ratio for _, ratio, _ in points])
+    title = f"read_mostly, capacity {capacity:,}, {THREADS[threads]}"
     return Chart(title, "hit ratio", lines_of(points), "", shown)
+
+
+def every_by_hits(least, ratios):
+    """A chart by hit ratios for each capacity: of four threads at the largest, and of one thread at
+    the others, since with several the hit ratio of a short trace depends on how far they are apart
+    in it."""
+    first, *others = capacities(least) or [0]
+    charts = [by_hits(least, ratios, first, 4)]
+    return charts + [by_hits(least, ratios, capacity, 1) for capacity in others]
 
 
 def split(system):
@@ -258,7 +277,8 @@ def axes(chart, frame):
         out += [level(y, "grid"), text(LEFT - 8, y + 4, f"{tick:,}", kind="right")]
     out.append(level(frame.bottom, "axis"))
     for mark in frame.marks:
-        out.append(text(frame.x(mark), frame.bottom + 20, f"{mark:,}", kind="middle"))
+        shown = f"{mark:.2f}" if chart.shown else f"{mark:,}"
+        out.append(text(frame.x(mark), frame.bottom + 20, shown, kind="middle"))
     middle = (LEFT + WIDTH - RIGHT) / 2
     return out + [text(middle, frame.bottom + 40, chart.axis, kind="middle")]
 
@@ -336,9 +356,7 @@ def main():
             by_entries(least, "Hit", {"hit_get": "", "hit_read": "-read"}),
             by_entries(least, "Miss that evicts an entry", {"miss_evict": ""}),
         ]),
-        "speed-hits.svg": ("Time of a call and hit ratio", [
-            by_hits(least, ratios, capacity) for capacity in capacities(least)
-        ]),
+        "speed-hits.svg": ("Time of a call and hit ratio", every_by_hits(least, ratios)),
     }
     for name, (title, charts) in pictures.items():
         if charts and all(len(chart.marks) > 1 for chart in charts):
