@@ -44,11 +44,11 @@ fn are_alike(rt: &impl Abort, alloc: Global, seeds: RangeInclusive<u64>) {
 }
 
 #[test]
-fn five_traces_are_answered_alike_by_all(rt: HostRuntime) {
-    are_alike(&rt, rt.alloc(), 1..=5);
+fn ten_traces_are_answered_alike_by_all(rt: HostRuntime) {
+    are_alike(&rt, rt.alloc(), 1..=10);
 }
 
 #[test]
-fn five_more_traces_are_answered_alike_by_all(rt: HostRuntime) {
-    are_alike(&rt, rt.alloc(), 6..=10);
+fn ten_more_traces_are_answered_alike_by_all(rt: HostRuntime) {
+    are_alike(&rt, rt.alloc(), 11..=20);
 }

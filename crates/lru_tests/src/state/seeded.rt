@@ -64,7 +64,7 @@ fn both_of_ten(alloc: Global) -> Both {
 fn answer_alike(rt: &impl Abort, alloc: Global, kinds: u64)
     requires { 0 < kinds }
 {
-    for seed in 1..=8u64 {
+    for seed in 1..=20u64 {
         answer_alike_from(rt, alloc, kinds, seed);
     }
 }
@@ -134,7 +134,7 @@ fn give_back_from(rt: &impl Abort, alloc: Global, seed: u64) {
 
 #[test]
 fn answers_alike_where_pins_are_given_back(rt: HostRuntime) {
-    for seed in 1..=8u64 {
+    for seed in 1..=20u64 {
         give_back_from(&rt, rt.alloc(), seed);
     }
 }
@@ -153,7 +153,7 @@ fn show_from(rt: &impl Abort, alloc: Global, seed: u64) {
 
 #[test]
 fn shows_the_entries_of_a_plain_cache(rt: HostRuntime) {
-    for seed in 1..=3u64 {
+    for seed in 1..=5u64 {
         show_from(&rt, rt.alloc(), seed);
     }
 }

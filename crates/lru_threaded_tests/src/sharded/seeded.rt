@@ -25,7 +25,7 @@ fn agrees<R: Wait + Clone + Drop>(rt: &R, alloc: Global, seed: u64) -> Result<()
 
 #[test]
 fn one_thread_is_answered_as_one_owner(rt: HostRuntime) -> Result<(), Fail> {
-    for seed in 1..=8u64 {
+    for seed in 1..=20u64 {
         agrees(&rt, rt.alloc(), seed)?;
     }
     Ok(())

@@ -12,7 +12,7 @@ use std::sync::atomic::{AtomicU64, Ordering};
 use std::thread;
 use std::thread::Threads;
 
-const ROUNDS: u64 = 200;
+const ROUNDS: u64 = 500;
 
 // A round: this many callers ask for one value at the same time, one of which makes it, and the
 // first makings fail. The number determines how often each yields.
