@@ -1,6 +1,7 @@
 //! Caches and handles that cross threads.
 ghost use Rattle.std.specs.Prelude.{◌<◌};
 
+use crate::assertions::assert_equal;
 use lru_clock::clock::{Cache, CacheHandle, Fit, Refusal};
 use lru_support::hashers::ByOwnNumber;
 use std::alloc::Global;
@@ -40,10 +41,10 @@ fn a_thread_reads_and_drops_the_handle_of_another(rt: HostRuntime) {
     let cache = numbers(own, rt.alloc(), 2).expect(&rt, "memory");
     let handle = cache.get_or_init(1, 3, |_| 5).expect(&rt, "memory");
     let read = AtomicU64::new(0);
-    assert_eq!(rt; cache.total_charge(), 3);
+    assert_equal(&rt, cache.total_charge(), 3);
     // The total is above the capacity, so the entry leaves with its last pin.
-    assert_eq!(rt; total_once_read(&rt, &cache, handle, &read), 0);
-    assert_eq!(rt; read.load(SeqCst), 5);
+    assert_equal(&rt, total_once_read(&rt, &cache, handle, &read), 0);
+    assert_equal(&rt, read.load(SeqCst), 5);
 }
 
 // Returns the sum of what four threads read of a handle that they share.
@@ -68,10 +69,10 @@ fn threads_share_a_handle(rt: HostRuntime) {
     let own = rt.clone().expect(&rt, "memory");
     let cache = numbers(own, rt.alloc(), 10).expect(&rt, "memory");
     let handle = cache.get_or_init(1, 3, |_| 5).expect(&rt, "memory");
-    assert_eq!(rt; read_by_four(&rt, &handle), 20);
-    assert_eq!(rt; cache.pinned_charge(), 3);
+    assert_equal(&rt, read_by_four(&rt, &handle), 20);
+    assert_equal(&rt, cache.pinned_charge(), 3);
     drop(handle);
-    assert_eq!(rt; cache.pinned_charge(), 0);
+    assert_equal(&rt, cache.pinned_charge(), 0);
 }
 
 // Accepts what may be sent to another thread and shared with it.

@@ -1,6 +1,7 @@
 //! Callers that make a value and callers that wait for it.
 ghost use Rattle.std.specs.Prelude.{◌<◌};
 
+use crate::assertions::assert_equal;
 use lru_clock::clock::{Cache, GetError};
 use lru_support::flags::pause;
 use std::hash::RandomState;
@@ -65,8 +66,8 @@ fn callers<R: Threads + Wait + Sync>(rt: &R, cache: &Cache<u64, u64, &R>) -> (u6
 fn one_fails_and_one_makes_for_the_others(rt: HostRuntime) {
     let hasher = RandomState::new(&rt).expect(&rt, "memory");
     let cache = Cache::with_shards(rt.alloc(), &rt, 10, 2, hasher).expect(&rt, "memory");
-    assert_eq!(rt; callers(&rt, &cache), (2, 1, 3));
-    assert_eq!(rt; (cache.len(), cache.total_charge()), (1, 1));
+    assert_equal(&rt, callers(&rt, &cache), (2, 1, 3));
+    assert_equal(&rt, (cache.len(), cache.total_charge()), (1, 1));
 }
 
 #[test]
@@ -85,12 +86,13 @@ fn an_invalidated_making_is_for_its_maker_alone(rt: HostRuntime) {
             5
         })
         .expect(&rt, "memory");
-    assert_eq!(rt;
+    assert_equal(
+        &rt,
         (*handle, cache.contains(&1), cache.total_charge()),
-        (5, false, 3)
+        (5, false, 3),
     );
     let next = cache.get_or_init(1, 1, |_| 6).expect(&rt, "memory");
-    assert_eq!(rt; (*handle, *next, cache.total_charge()), (5, 6, 4));
+    assert_equal(&rt, (*handle, *next, cache.total_charge()), (5, 6, 4));
     drop(handle);
-    assert_eq!(rt; (cache.len(), cache.total_charge()), (1, 1));
+    assert_equal(&rt, (cache.len(), cache.total_charge()), (1, 1));
 }

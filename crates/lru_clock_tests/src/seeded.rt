@@ -2,6 +2,7 @@
 //! with those of a plain cache.
 ghost use Rattle.std.specs.Prelude.{◌<◌};
 
+use crate::assertions::assert_equal_at;
 use crate::plain::Plain;
 use lru_clock::clock::{Cache, CacheHandle};
 use lru_support::drops::{DropLog, Logged};
@@ -234,6 +235,6 @@ fn one_thread_is_answered_as_by_a_plain_clock(rt: HostRuntime) {
             &rt, "memory",
         );
         let difference = first_difference(rt.alloc(), &cache, &log, capacity, seed);
-        assert_eq!(rt; difference, None, "at this call of seed {seed}");
+        assert_equal_at(&rt, difference, None, ("this call of seed", seed));
     }
 }

@@ -2,6 +2,7 @@
 //! what runs without a lock, drops that use the cache, and makers that do.
 ghost use Rattle.std.specs.Prelude.{◌<◌};
 
+use crate::assertions::{assert_equal, assert_equal_at};
 use lru_clock::clock::Cache;
 use lru_support::errands::{Outcome, Sent, causes, outcome_in};
 use lru_support::gates::{CAUSES, Cause, Slow, total_in_drop};
@@ -32,10 +33,10 @@ fn in_shards<V: Drop, R: Wait + Drop>(
 #[test]
 fn one_value_for_two_callers(rt: HostRuntime) {
     let cache: Shards<u64, &HostRuntime> = in_shards(rt.alloc(), &rt, 10, 2).expect(&rt, "memory");
-    assert_eq!(rt; values_of_two(&rt, &&cache), (Some(5), Some(5)));
+    assert_equal(&rt, values_of_two(&rt, &&cache), (Some(5), Some(5)));
     // The charge is the maker's.
-    assert_eq!(rt; value_beside_total(&rt, &&cache), (Some(5), 3));
-    assert_eq!(rt; cache.counts().makings, 1);
+    assert_equal(&rt, value_beside_total(&rt, &&cache), (Some(5), 3));
+    assert_equal(&rt, cache.counts().makings, 1);
 }
 
 #[test]
@@ -43,7 +44,7 @@ fn makers_run_without_the_lock_of_their_shard(rt: HostRuntime) {
     let cache: Shards<u64, &HostRuntime> = in_shards(rt.alloc(), &rt, 20, 2).expect(&rt, "memory");
     // Keys of one shard, and of two.
     for keys in [(1, 3), (5, 6)] {
-        assert_eq!(rt; makers_meet(&rt, &&cache, keys), (true, true), "{keys:?}");
+        assert_equal_at(&rt, makers_meet(&rt, &&cache, keys), (true, true), keys);
     }
 }
 
@@ -62,10 +63,11 @@ fn drops_run_without_the_lock_of_their_shard(rt: HostRuntime) {
             2,
         );
         let cache = made.expect(&rt, "memory");
-        assert_eq!(rt;
+        assert_equal_at(
+            &rt,
             total_in_drop(&rt, rt.alloc(), &&cache, cause),
             Some(total),
-            "{cause:?}"
+            cause,
         );
     }
 }
@@ -97,10 +99,11 @@ fn drops_may_use_the_cache(rt: HostRuntime) {
         let own = rt.clone().expect(&rt, "memory");
         let made: Option<Shards<Sent, HostRuntime>> = in_shards(rt.alloc(), own, capacity, 2);
         let cache = made.expect(&rt, "memory");
-        assert_eq!(rt;
+        assert_equal_at(
+            &rt,
             outcome_in(&rt, rt.alloc(), &&cache, cause),
             Some(wanted_of(cause, wanted)),
-            "{cause:?}"
+            cause,
         );
     }
 }
@@ -144,10 +147,10 @@ fn makers_use_the_cache_three_deep(rt: HostRuntime) {
     for (capacity, left) in LEFT {
         let made: Option<Shards<u64, &HostRuntime>> = in_shards(rt.alloc(), &rt, capacity, 2);
         let cache = made.expect(&rt, "memory");
-        assert_eq!(rt; makes_three_deep(&cache), 111);
-        assert_eq!(rt; cache.total_charge(), u128::from(capacity.min(3)));
+        assert_equal(&rt, makes_three_deep(&cache), 111);
+        assert_equal(&rt, cache.total_charge(), u128::from(capacity.min(3)));
         let values = [1, 2, 3].map(|key| value_found(&cache, key));
-        assert_eq!(rt; values, left, "at capacity {capacity}");
+        assert_equal_at(&rt, values, left, ("at capacity", capacity));
     }
 }
 
@@ -158,6 +161,6 @@ fn four_threads_read_what_was_made(rt: HostRuntime) {
     );
     let right = thread::map_indices(&rt, rt.alloc(), 4, &|_| stays_right(&cache));
     let right = right.expect(&rt, "four threads");
-    assert_eq!(rt; right.as_slice(), [true; 4].as_slice());
+    assert_equal(&rt, right.as_slice(), [true; 4].as_slice());
     assert!(rt; cache.total_charge() <= u128::from(CAPACITY));
 }

@@ -2,6 +2,7 @@
 //! carries its key and a version, by which a thread tells a value that it has invalidated.
 ghost use Rattle.std.specs.Prelude.{◌<◌};
 
+use crate::assertions::{assert_equal, assert_equal_at};
 use lru_clock::clock::Cache;
 use rand_core::{Rng, SeedableRng};
 use rand_xoshiro::Xoshiro256PlusPlus;
@@ -125,14 +126,14 @@ fn threads_share_a_cache(rt: HostRuntime) {
     for threads in THREADS {
         let hasher = RandomState::new(&rt).expect(&rt, "memory");
         let cache = Cache::with_shards(rt.alloc(), &rt, CAPACITY, 2, hasher).expect(&rt, "memory");
-        assert_eq!(rt; storm(&rt, &cache, threads), 0, "{threads} threads");
+        assert_equal_at(&rt, storm(&rt, &cache, threads), 0, (threads, "threads"));
         // No call is running, so what is above the capacity would be pinned.
         assert!(rt;
             cache.total_charge() <= u128::from(CAPACITY),
             "{threads} threads"
         );
-        assert_eq!(rt; cache.pinned_charge(), 0);
+        assert_equal(&rt, cache.pinned_charge(), 0);
         cache.prune();
-        assert_eq!(rt; (cache.len(), cache.total_charge()), (0, 0));
+        assert_equal(&rt, (cache.len(), cache.total_charge()), (0, 0));
     }
 }

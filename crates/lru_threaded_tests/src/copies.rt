@@ -1,5 +1,6 @@
 //! Keys that count their copies: a value is taken back without one.
 
+use crate::assertions::assert_equal;
 use concurrent_lru::{sharded, unsharded};
 use lru_support::hashers::ByOwnNumber;
 use std::alloc::{AllocError, Global};
@@ -98,5 +99,5 @@ fn in_new_shards<'c, R: Wait + Clone + Drop>(
 fn an_invalidate_copies_no_key(rt: HostRuntime) {
     let copies = AtomicU64::new(0);
     let told = in_new_caches(rt.alloc(), &rt, &copies).expect(&rt, "memory");
-    assert_eq!(rt; told, [([2, 2], false), ([4, 4], false)]);
+    assert_equal(&rt, told, [([2, 2], false), ([4, 4], false)]);
 }

@@ -1,5 +1,6 @@
 //! The drop of a journal of many records, and of its entries, idle and held.
 
+use crate::assertions::assert_equal;
 use lru_journal::journal::Journal;
 use std::process::Abort;
 use std::sync::Arc;
@@ -30,8 +31,8 @@ fn ends_with_a_hundred_thousand_records(rt: HostRuntime) {
     let value = Arc::new(rt.alloc(), 7u64).expect(&rt, "memory");
     let mut journal: Journal<u64, u64> = Journal::new(rt.alloc(), KEYS);
     hold_all(&rt, &mut journal, &value);
-    assert_eq!(rt; journal.records().len(), 100_000);
-    assert_eq!(rt; Arc::strong_count(&value), 40_001);
+    assert_equal(&rt, journal.records().len(), 100_000);
+    assert_equal(&rt, Arc::strong_count(&value), 40_001);
     drop(journal);
-    assert_eq!(rt; Arc::strong_count(&value), 1);
+    assert_equal(&rt, Arc::strong_count(&value), 1);
 }

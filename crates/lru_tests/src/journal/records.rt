@@ -1,5 +1,6 @@
 //! The text of each kind of record.
 
+use crate::assertions::assert_equal;
 use crate::journal::lines::lines;
 use lru_journal::journal::{Record, Recorded, Told};
 use std::alloc::{AllocError, Global};
@@ -60,5 +61,5 @@ fn each_kind_of_record_has_its_text(rt: HostRuntime) {
         total -> total 18446744073709551615\n";
     let records = kinds(rt.alloc()).expect(&rt, "memory");
     let text = lines(rt.alloc(), &records).expect(&rt, "memory");
-    assert_eq!(rt; text.as_str(), expected);
+    assert_equal(&rt, text.as_str(), expected);
 }

@@ -3,6 +3,7 @@
 //! The twin's answers are the journal's, and so are its records.
 ghost use Rattle.std.specs.Prelude.{◌≡◌};
 
+use crate::assertions::assert_equal_at;
 use crate::journal::answer::Answer;
 use crate::journal::{caller, owner};
 use lru_journal::journal::{Identity, Journal, Opening, Record, Tally, Told, Twin};
@@ -145,7 +146,7 @@ fn answer_alike<I: Identity, R: Wait + Abort>(
         let call = draws.next();
         let answer = caller::ask(alloc, cache, tally, call).expect(rt, "memory");
         let wanted = answer_of(rt, alloc, journal, call);
-        assert_eq!(rt; answer, wanted, "at call {number} of seed {seed}, {call:?}");
+        assert_equal_at(rt, answer, wanted, ("call", number, "of seed", seed, call));
         draws.note(call, answer);
     }
 }
@@ -169,12 +170,13 @@ fn compare_records<R: Abort>(
     seed: u64,
 ) -> Result<(), Fail> {
     for (number, (record, wanted)) in records.iter().zip(wanted).enumerate() {
-        assert_eq!(rt;
+        assert_equal_at(
+            rt,
             format!(in alloc; "{record}")?,
             format!(in alloc; "{wanted}")?,
-            "record {number} of seed {seed}"
+            ("record", number, "of seed", seed),
         );
     }
-    assert_eq!(rt; records.len(), wanted.len(), "records of seed {seed}");
+    assert_equal_at(rt, records.len(), wanted.len(), ("records of seed", seed));
     Ok(())
 }

@@ -2,6 +2,7 @@
 //! compared.
 ghost use Rattle.std.specs.Prelude.{◌≡◌};
 
+use crate::assertions::assert_equal_at;
 use crate::journal::answer::Answer;
 use crate::journal::{caller, owner};
 use lru_journal::journal::{Identity, Journal, Opening, Record, Tally, Twin};
@@ -55,11 +56,12 @@ fn ask_row<R: Abort>(
     let (call, wanted, left, _) = row;
     let heard = owner::ask(alloc, journal, *call).expect(rt, "memory");
     let (answer, gone) = (heard.answer, heard.gone(alloc).expect(rt, "memory"));
-    assert_eq!(rt; answer, *wanted, "at row {number} of the journal, {call:?}");
-    assert_eq!(rt;
+    assert_equal_at(rt, answer, *wanted, ("row", number, "of the journal", call));
+    assert_equal_at(
+        rt,
         gone.as_slice(),
         *left,
-        "what left at row {number}, {call:?}"
+        ("what left at row", number, call),
     );
 }
 
@@ -88,7 +90,7 @@ fn ask_caller<I: Identity, R: Wait + Abort>(
 {
     for (number, (call, wanted, _, _)) in rows.iter().enumerate() {
         let answer = caller::ask(alloc, cache, tally, *call).expect(rt, "memory");
-        assert_eq!(rt; answer, *wanted, "at row {number} of the twin, {call:?}");
+        assert_equal_at(rt, answer, *wanted, ("row", number, "of the twin", call));
     }
 }
 
@@ -106,9 +108,9 @@ fn read_records<R: Abort>(
         }
         assert!(rt; read < records.len(), "row {number} has no record");
         let record = format!(in alloc; "{}", records[read])?;
-        assert_eq!(rt; record.as_str(), *wanted, "the record of row {number}");
+        assert_equal_at(rt, record.as_str(), *wanted, ("the record of row", number));
         read += 1;
     }
-    assert_eq!(rt; read, records.len(), "more records than rows with one");
+    assert_equal_at(rt, read, records.len(), "more records than rows with one");
     Ok(())
 }

@@ -1,6 +1,7 @@
 //! The twin under two callers, each with a part of the tally.
 ghost use Rattle.std.specs.Prelude.{◌≡◌, ◌<◌, IfOk};
 
+use crate::assertions::assert_equal;
 use crate::journal::answer::Answer;
 use crate::journal::caller::ask;
 use concurrent_lru::lru_core::Refusal;
@@ -101,12 +102,12 @@ fn use_twenty_keys<I: Identity + Send + Sync, R: Threads + Wait + Abort + Sync>(
     whole.join(&cache, two.expect(rt, "the second caller's answers"));
     let mut journal = cache.into_journal(whole);
     has_twenty_uses(rt, journal.records());
-    assert_eq!(rt; journal.total(), Ok(CAPACITY));
+    assert_equal(rt, journal.total(), Ok(CAPACITY));
 }
 
 // Ends the test unless these are the records of twenty uses.
 fn has_twenty_uses<R: Abort>(rt: &R, records: &[Record<u64>]) {
-    assert_eq!(rt; counts_of(records), [20, 20, 20, 20, 60, 0]);
+    assert_equal(rt, counts_of(records), [20, 20, 20, 20, 60, 0]);
     for key in 0..20u64 {
         assert!(rt; has_use_of(records, key), "key {key}");
     }

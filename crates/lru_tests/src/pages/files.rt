@@ -1,5 +1,6 @@
 //! Files as blocks: the last one, the end, files that change or fail, and threads that read one.
 
+use crate::assertions::{assert_equal, assert_equal_at};
 use crate::pages::scratch;
 use concurrent_lru::unsharded::GetError;
 use lru_pages::{Fault, FileBlocks, OpenError, PageCache, ReadAt};
@@ -56,7 +57,7 @@ fn read_on_four_threads<R: Threads + Wait + Abort + Send + Sync>(
     let pages = PageCache::new(alloc, rt, reader, 3);
     let right = thread::map_indices(rt, alloc, 4, &|_| stay_right(&pages, whole));
     let right = right.expect(rt, "four threads");
-    assert_eq!(rt; right.as_slice(), [true; 4].as_slice());
+    assert_equal(rt, right.as_slice(), [true; 4].as_slice());
     assert!(rt; pages.total_charge() <= 3);
 }
 
@@ -154,19 +155,21 @@ fn the_last_block_is_short(rt: HostRuntime) {
             Told::Bytes(..) => 1,
             _ => 0,
         };
-        assert_eq!(rt;
+        assert_equal_at(
+            &rt,
             told_of(rt.alloc(), &rt, len, size, number),
             (told, total),
-            "block {number} of {len} bytes"
+            ("block", number, "of", len, "bytes"),
         );
     }
 }
 
 #[test]
 fn a_block_past_all_memory_leaves_nothing(rt: HostRuntime) {
-    assert_eq!(rt;
+    assert_equal(
+        &rt,
         told_of(rt.alloc(), &rt, u64::MAX, NonZeroU64::MAX, 0),
-        (Told::NoMemory, 0)
+        (Told::NoMemory, 0),
     );
 }
 
@@ -191,7 +194,12 @@ const CUTS: [(u64, Told, u64); 3] = [
 fn cut<R: Wait + Abort>(rt: &R, alloc: Global, reader: &FileBlocks, file: &File) {
     let pages = PageCache::new(alloc, rt, reader, 3);
     for (len, told, total) in CUTS {
-        assert_eq!(rt; told_at(file, &pages, len), (told, total), "at {len} bytes");
+        assert_equal_at(
+            rt,
+            told_at(file, &pages, len),
+            (told, total),
+            (len, "bytes"),
+        );
     }
 }
 
@@ -238,8 +246,8 @@ const READS: [(Told, u64); 3] = [
 fn wear<R: Wait + Abort>(rt: &R, alloc: Global, reader: &FileBlocks<Worn>) {
     let pages = PageCache::new(alloc, rt, reader, 3);
     for (told, total) in READS {
-        assert_eq!(rt; Told::of(&pages, 0), told);
-        assert_eq!(rt; pages.total_charge(), total);
+        assert_equal(rt, Told::of(&pages, 0), told);
+        assert_equal(rt, pages.total_charge(), total);
     }
 }
 
@@ -250,7 +258,7 @@ fn a_read_that_fails_leaves_nothing(rt: HostRuntime) {
     };
     let reader = FileBlocks::new(rt.alloc(), worn, 4, 4);
     wear(&rt, rt.alloc(), &reader);
-    assert_eq!(rt; reader.source().reads.load(Ordering::SeqCst), 3);
+    assert_equal(&rt, reader.source().reads.load(Ordering::SeqCst), 3);
 }
 
 // Returns why a path is not opened, or `None` if it is.
@@ -273,7 +281,7 @@ fn what_is_no_file_is_not_opened(rt: HostRuntime) {
         Some(OpenError::System(error)) => Some(error.kind()),
         _ => None,
     };
-    assert_eq!(rt; missing, Some(ErrorKind::NotFound));
+    assert_equal(&rt, missing, Some(ErrorKind::NotFound));
 }
 
 #[test]
@@ -289,6 +297,6 @@ fn a_fault_has_a_text(rt: HostRuntime) {
     ];
     for (fault, text) in faults {
         let told = format!(in rt.alloc(); "{fault}").expect(&rt, "memory");
-        assert_eq!(rt; told.as_str(), text);
+        assert_equal(&rt, told.as_str(), text);
     }
 }

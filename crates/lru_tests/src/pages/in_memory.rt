@@ -1,5 +1,6 @@
 //! Pages of readers over memory: which blocks are read, which are found, and what a fault leaves.
 
+use crate::assertions::assert_equal;
 use crate::pages::fours::{Fault, Fours};
 use concurrent_lru::unsharded::{Counts, GetError};
 use lru_pages::PageCache;
@@ -132,10 +133,14 @@ fn reads_and_finds_are_counted(rt: HostRuntime) {
     goes_all(&rt, &pages, &steps);
     // Each block that the reader was asked for is a making; a read that finds no page is not.
     assert!(rt; reader.was_asked([1, 2, 9, 3].as_slice()));
-    assert_eq!(rt; numbers(&pages.counts()), [2, 5, 0, 4, 1, 4, 1, 1]);
-    assert_eq!(rt; numbers(&pages.reset_counts()), [2, 5, 0, 4, 1, 4, 1, 1]);
-    assert_eq!(rt; numbers(&pages.counts()), [0; 8]);
-    assert_eq!(rt; pages.counts().entries_before, pages.total_charge());
+    assert_equal(&rt, numbers(&pages.counts()), [2, 5, 0, 4, 1, 4, 1, 1]);
+    assert_equal(
+        &rt,
+        numbers(&pages.reset_counts()),
+        [2, 5, 0, 4, 1, 4, 1, 1],
+    );
+    assert_equal(&rt, numbers(&pages.counts()), [0; 8]);
+    assert_equal(&rt, pages.counts().entries_before, pages.total_charge());
 }
 
 // Returns hits, misses, waits, makings, failures, insertions, evictions and removals.
@@ -240,7 +245,7 @@ fn pages_that_are_held_pass_the_capacity(rt: HostRuntime) {
     let reader = Fours::new(rt.alloc(), &rt, 0);
     let pages = PageCache::new(rt.alloc(), &rt, &reader, 1);
     // Each is evicted when it is released, until there are no more than the capacity.
-    assert_eq!(rt; totals_of_three(&pages), Some([3, 3, 2, 1, 1]));
+    assert_equal(&rt, totals_of_three(&pages), Some([3, 3, 2, 1, 1]));
     assert!(rt; gives(&pages, 3, 3));
     assert!(rt; reader.was_asked([1, 2, 3].as_slice()));
 }
@@ -328,9 +333,10 @@ fn pages_are_printed_by_their_numbers(rt: HostRuntime) -> Result<(), Fail> {
     let reader = Fours::new(rt.alloc(), &rt, 0);
     let pages = PageCache::new(rt.alloc(), &rt, &reader, 2);
     let (empty, held) = texts(rt.alloc(), &pages)?;
-    assert_eq!(rt;
+    assert_equal(
+        &rt,
         (empty.as_str(), held.as_str()),
-        ("{}", "{5: Page { number: 5, len: 4 }}")
+        ("{}", "{5: Page { number: 5, len: 4 }}"),
     );
     Ok(())
 }

@@ -1,5 +1,6 @@
 //! An example of a loader that returns the system's errors: a pool of open files by path.
 
+use crate::assertions::assert_equal;
 use concurrent_lru::unsharded::{CacheHandle, GetError, LruCache};
 use std::alloc::{AllocError, Global};
 use std::fs::{File, Files};
@@ -86,10 +87,10 @@ fn hold_one<A: Abort, F: Files<File = File>, R: Wait>(
     roots: Path<'_>,
 ) {
     let held = pool.file(fruit).expect(rt, "the file is there");
-    assert_eq!(rt; pool.first(roots), Some(b'c'));
+    assert_equal(rt, pool.first(roots), Some(b'c'));
     // The other was closed when it was released; the held one is there for the next read.
-    assert_eq!(rt; pool.open.total_charge(), 1);
-    assert_eq!(rt; first(held.value()), Some(b'a'));
+    assert_equal(rt, pool.open.total_charge(), 1);
+    assert_equal(rt, first(held.value()), Some(b'a'));
 }
 
 // Gives the second file the path of the first.
@@ -101,9 +102,9 @@ fn rename_one<A: Abort, F: Files<File = File>, R: Wait>(
 ) {
     // A renamed file: the pool has the one that had the path before, until it is invalidated.
     fs::rename(pool.files, roots, fruit).expect(rt, "both are there");
-    assert_eq!(rt; pool.first(fruit), Some(b'a'));
+    assert_equal(rt, pool.first(fruit), Some(b'a'));
     pool.forget(fruit).expect(rt, "memory");
-    assert_eq!(rt; pool.first(fruit), Some(b'c'));
+    assert_equal(rt, pool.first(fruit), Some(b'c'));
 }
 
 // Asks for a file that is not there.
@@ -115,7 +116,7 @@ fn miss_one<A: Abort, F: Files<File = File>, R: Wait>(
     // Room was made before the open that fails, so nothing is open now.
     let missing = pool.file(roots).err();
     assert!(rt; matches!(&missing, Some(GetError::Init(e)) if e.kind() == ErrorKind::NotFound));
-    assert_eq!(rt; pool.open.total_charge(), 0);
+    assert_equal(rt, pool.open.total_charge(), 0);
 }
 
 // Reads two files by a pool that keeps one of them open.

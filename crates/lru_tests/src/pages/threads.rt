@@ -1,5 +1,6 @@
 //! Threads that share a cache of pages: each reads all pages again and again, and compares.
 
+use crate::assertions::assert_equal;
 use crate::pages::fours::{COUNT, Fours};
 use crate::pages::in_memory::gives;
 use lru_pages::PageCache;
@@ -36,7 +37,7 @@ fn four_threads_read_blocks_of_their_numbers(rt: HostRuntime) -> Result<(), Fail
     let reader = Fours::new(alloc, &rt, 0);
     let pages = PageCache::new(alloc, &rt, &reader, 3);
     let right = thread::map_indices(&rt, alloc, 4, &|_| stay_right(&pages))?;
-    assert_eq!(rt; right.as_slice(), [true; 4].as_slice());
+    assert_equal(&rt, right.as_slice(), [true; 4].as_slice());
     assert!(rt; pages.total_charge() <= 3);
     Ok(())
 }

@@ -1,5 +1,6 @@
 //! The trace of docs/PROMISES.md, "For a user who sizes a cache".
 
+use crate::assertions::{assert_equal, assert_equal_at};
 use crate::sizing::model::first_difference;
 use lru_sizing::curve::Curve;
 use lru_sizing::replay::{has_charges, replay};
@@ -13,7 +14,7 @@ const TRACE: [(u64, u64); 7] = [(1, 2), (2, 3), (1, 2), (3, 2), (2, 3), (4, 7), 
 fn has_three_reuse_weights(rt: HostRuntime) {
     let weights = reuse_weights(rt.alloc(), &TRACE).expect(&rt, "no refusal");
     let wanted = [None, None, Some(5), None, Some(7), None, Some(12)];
-    assert_eq!(rt; weights.as_slice(), &wanted[..]);
+    assert_equal(&rt, weights.as_slice(), &wanted[..]);
 }
 
 #[test]
@@ -23,7 +24,7 @@ fn hits_once_twice_and_three_times(rt: HostRuntime) -> Result<(), Fail> {
         return Err(Fail::from("a weight for each use"));
     }
     let curve = Curve::new(rt.alloc(), &TRACE, &weights).expect(&rt, "memory");
-    assert_eq!(rt; (curve.uses(), curve.most_hits()), (7, 3));
+    assert_equal(&rt, (curve.uses(), curve.most_hits()), (7, 3));
     // Capacity, hits, and the charge made: all of 21 except what hits.
     let rows = [
         (0, 0, 21),
@@ -40,7 +41,7 @@ fn hits_once_twice_and_three_times(rt: HostRuntime) -> Result<(), Fail> {
             curve.misses(capacity),
             curve.charge_made(capacity),
         );
-        assert_eq!(rt; told, (hits, 7 - hits, made), "at {capacity}");
+        assert_equal_at(&rt, told, (hits, 7 - hits, made), capacity);
     }
     for (hits, least) in [
         (0, Some(0)),
@@ -49,7 +50,12 @@ fn hits_once_twice_and_three_times(rt: HostRuntime) -> Result<(), Fail> {
         (3, Some(12)),
         (4, None),
     ] {
-        assert_eq!(rt; curve.least_capacity(hits), least, "for {hits} hits");
+        assert_equal_at(
+            &rt,
+            curve.least_capacity(hits),
+            least,
+            ("for", hits, "hits"),
+        );
     }
     Ok(())
 }
@@ -61,9 +67,9 @@ fn is_replayed_as_told(rt: HostRuntime) -> Result<(), Fail> {
     }
     let hits = replay(rt.alloc(), &TRACE, 7).expect(&rt, "no refusal");
     let wanted = [false, false, true, false, true, false, false];
-    assert_eq!(rt; hits.as_slice(), &wanted[..]);
+    assert_equal(&rt, hits.as_slice(), &wanted[..]);
     let capacities = [0, 1, 2, 3, 4, 5, 6, 7, 8, 9, 10, 11, 12, 13, 14, u64::MAX];
     let differs = first_difference(rt.alloc(), &TRACE, &capacities).expect(&rt, "no refusal");
-    assert_eq!(rt; differs, None);
+    assert_equal(&rt, differs, None);
     Ok(())
 }

@@ -1,5 +1,6 @@
 //! Every trace of five uses of three keys, at every capacity up to one more than that of all keys.
 
+use crate::assertions::assert_equal_at;
 use crate::sizing::model::{first_difference, weight_by_definition};
 use lru_sizing::refusal::Refusal;
 use lru_sizing::reuse_weights::reuse_weights;
@@ -49,7 +50,7 @@ fn wrong_among(
 fn have_the_weights_of_the_definition(rt: HostRuntime) {
     for number in 0..243 {
         let trace = five_uses(number);
-        assert_eq!(rt; wrong_weight(rt.alloc(), &trace), Ok(None), "{trace:?}");
+        assert_equal_at(&rt, wrong_weight(rt.alloc(), &trace), Ok(None), trace);
     }
 }
 
@@ -58,6 +59,6 @@ fn are_answered_alike_by_all(rt: HostRuntime) {
     for number in 0..243 {
         let trace = five_uses(number);
         let differs = first_difference(rt.alloc(), &trace, &CAPACITIES);
-        assert_eq!(rt; differs, Ok(None), "{trace:?}");
+        assert_equal_at(&rt, differs, Ok(None), trace);
     }
 }

@@ -1,6 +1,7 @@
 //! Estimates from a sample of the keys, compared with the exact curve of a trace whose keys are
 //! used according to Zipf's law: the k-th about 1/k times as often as the first.
 
+use crate::assertions::assert_equal;
 use lru_sizing::curve::Curve;
 use lru_sizing::estimate::{Estimate, Sample};
 use lru_sizing::refusal::Refusal;
@@ -107,5 +108,5 @@ fn are_near_the_exact_curve(rt: HostRuntime) {
 #[test]
 fn are_exact_where_all_keys_are_sampled(rt: HostRuntime) {
     let trace = zipf(rt.alloc(), 4, FEW_USES).expect(&rt, "memory");
-    assert_eq!(rt; errors(rt.alloc(), &trace, 1), Ok((0, 0)));
+    assert_equal(&rt, errors(rt.alloc(), &trace, 1), Ok((0, 0)));
 }

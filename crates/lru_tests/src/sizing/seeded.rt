@@ -1,5 +1,6 @@
 //! Traces drawn from seeds, each at 12 capacities.
 
+use crate::assertions::assert_equal;
 use crate::sizing::model::first_difference;
 use lru_sizing::refusal::Refusal;
 use rand_core::{Rng, SeedableRng};
@@ -40,7 +41,7 @@ fn first_seed(alloc: Global, seeds: RangeInclusive<u64>) -> Result<Option<u64>, 
 
 // Ends the test if the trace of one of these seeds gives different results.
 fn are_alike(rt: &impl Abort, alloc: Global, seeds: RangeInclusive<u64>) {
-    assert_eq!(rt; first_seed(alloc, seeds), Ok(None));
+    assert_equal(rt, first_seed(alloc, seeds), Ok(None));
 }
 
 #[test]

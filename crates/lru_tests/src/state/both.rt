@@ -2,6 +2,7 @@
 //! also made on a second cache, which copies its values.
 ghost use Rattle.std.specs.Prelude.{◌<◌};
 
+use crate::assertions::assert_equal_at;
 use crate::state::copies::Copies;
 use crate::state::entries::seen_in;
 use crate::state::plain::Plain;
@@ -47,13 +48,9 @@ impl Both {
     pub(crate) fn take(&mut self, rt: &impl Abort, place: &impl Debug, call: Call) {
         let answer = self.state.answer(self.alloc, call).expect(rt, "memory");
         let wanted = self.plain.answer(self.alloc, call).expect(rt, "memory");
-        assert_eq!(rt; answer, wanted, "at {place:?}, {call:?}");
+        assert_equal_at(rt, &answer, &wanted, (place, call));
         let copied = self.copies.answer(self.alloc, call).expect(rt, "memory");
-        assert_eq!(rt;
-            copied,
-            wanted,
-            "with copied values, at {place:?}, {call:?}"
-        );
+        assert_equal_at(rt, &copied, &wanted, ("with copied values", place, call));
     }
 
     /// Walks over the entries of both. If the walks show other entries, or say anything else of
@@ -61,8 +58,8 @@ impl Both {
     pub(crate) fn walk(&self, rt: &impl Abort, place: &impl Debug) {
         let seen = seen_in(self.alloc, &self.state).expect(rt, "memory");
         let wanted = self.plain.seen(self.alloc).expect(rt, "memory");
-        assert_eq!(rt; seen, wanted, "at {place:?}");
+        assert_equal_at(rt, &seen, &wanted, place);
         let copied = self.copies.seen(self.alloc).expect(rt, "memory");
-        assert_eq!(rt; copied, wanted, "with copied values, at {place:?}");
+        assert_equal_at(rt, &copied, &wanted, ("with copied values", place));
     }
 }

@@ -1,5 +1,6 @@
 //! A cache that is closed while there are still pins.
 
+use crate::assertions::assert_equal;
 use concurrent_lru::lru_core::{Evicted, State};
 use lru_support::tables::Call::{
     Begin, Capacity, Fail, Get, Invalidate, KeyOf, Poll, Ready, Release, Show, Total,
@@ -70,16 +71,21 @@ fn push_all(
 fn takes_all(rt: &impl Abort, alloc: Global, state: &mut State<u64, u64>) {
     let mut taken = state.take_all();
     let idle = text_of_idle(alloc, &mut taken).expect(rt, "memory");
-    assert_eq!(rt;
+    assert_equal(
+        rt,
         idle.as_str(),
         "(Some(Gone { stamp: 1, key: 2, charge: 2, value: 11 }), \
-         Some(Gone { stamp: 0, key: 1, charge: 1, value: 10 }))"
+         Some(Gone { stamp: 0, key: 1, charge: 1, value: 10 }))",
     );
     // The order of the held ones is unspecified.
     let mut held = Vec::new(alloc);
     push_all(&mut held, taken).expect(rt, "memory");
     held.sort().expect(rt, "memory");
-    assert_eq!(rt; held.as_slice(), [(2, 3, 3, 12), (3, 4, 4, 13)].as_slice());
+    assert_equal(
+        rt,
+        held.as_slice(),
+        [(2, 3, 3, 12), (3, 4, 4, 13)].as_slice(),
+    );
 }
 
 fn closes(rt: &impl Abort, alloc: Global, state: &mut State<u64, u64>) -> Result<(), test::Fail> {

@@ -1,6 +1,7 @@
 //! The number of entries, the pinned part of the total, and which keys have a value, in each state
 //! of an entry.
 
+use crate::assertions::{assert_equal, assert_equal_at};
 use concurrent_lru::lru_core::{Evicted, Refusal, State};
 use lru_support::makes::make;
 use lru_support::tables::Call::{
@@ -61,7 +62,7 @@ fn seen_after(
 fn see_all(rt: &impl Abort, alloc: Global, state: &mut State<u64, u64>) {
     for (call, len, values) in STATES {
         let seen = seen_after(alloc, state, call).expect(rt, "memory");
-        assert_eq!(rt; seen, (len, len == 0, values), "after {call:?}");
+        assert_equal_at(rt, seen, (len, len == 0, values), ("after", call));
     }
 }
 
@@ -109,7 +110,7 @@ fn charges_after(
 fn sum_all(rt: &impl Abort, alloc: Global, state: &mut State<u64, u64>) {
     for (call, total, pinned) in PINNED {
         let seen = charges_after(alloc, state, call).expect(rt, "memory");
-        assert_eq!(rt; seen, (total, pinned), "after {call:?}");
+        assert_equal_at(rt, seen, (total, pinned), ("after", call));
     }
 }
 
@@ -142,13 +143,13 @@ fn a_look_for_a_value_is_no_use_of_it(rt: HostRuntime) {
     let mut state = with_three(rt.alloc()).expect(&rt, "three entries");
     let found = state.contains(&7);
     let oldest = first_evicted(&mut state, 2);
-    assert_eq!(rt; (found, oldest, state.len()), (true, Some(7), 2));
+    assert_equal(&rt, (found, oldest, state.len()), (true, Some(7), 2));
 }
 
 // Takes three entries out one by one.
 fn count_down(rt: &impl Abort, mut evicted: Evicted<u64, u64>) {
     for left in [3, 2, 1, 0] {
-        assert_eq!(rt; evicted.len(), left);
+        assert_equal(rt, evicted.len(), left);
         let _gone = evicted.pop();
     }
 }
@@ -157,7 +158,7 @@ fn count_down(rt: &impl Abort, mut evicted: Evicted<u64, u64>) {
 fn evicted_entries_are_counted(rt: HostRuntime) {
     let mut state = with_three(rt.alloc()).expect(&rt, "three entries");
     count_down(&rt, state.prune());
-    assert_eq!(rt; state.len(), 0);
+    assert_equal(&rt, state.len(), 0);
 }
 
 // A chain may move to another thread, so that a caller can drop it elsewhere.
@@ -169,5 +170,5 @@ fn crosses<T: Send>(value: T) -> T {
 fn a_chain_without_entries_crosses_threads(rt: HostRuntime) {
     let chain: Evicted<u64, u64> = crosses(Evicted::none());
     assert!(rt; chain.is_empty());
-    assert_eq!(rt; chain.len(), 0);
+    assert_equal(&rt, chain.len(), 0);
 }

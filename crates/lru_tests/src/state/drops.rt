@@ -1,6 +1,7 @@
 //! What was evicted is a chain: it keeps its values until it is dropped, and drops them oldest
 //! first, however long it is.
 
+use crate::assertions::{assert_equal, assert_equal_at};
 use concurrent_lru::lru_core::State;
 use lru_support::makes::make;
 use std::alloc::Global;
@@ -37,7 +38,7 @@ fn make_all<'a>(
     for place in 0..MANY {
         let value = InOrder { place, dropped };
         let value = Arc::new(alloc, value).expect(rt, "memory for the value");
-        assert_eq!(rt; make(state, &place, 1, value), Ok(place));
+        assert_equal(rt, make(state, &place, 1, value), Ok(place));
     }
 }
 
@@ -47,8 +48,8 @@ fn drops_a_long_chain_value_by_value(rt: HostRuntime) {
     let mut state: State<u64, InOrder<'_>> = State::new(rt.alloc(), MANY);
     make_all(&rt, rt.alloc(), &mut state, &dropped);
     let evicted = state.prune();
-    assert_eq!(rt; dropped.get(), 0, "the chain has the values");
-    assert_eq!(rt; state.total(), 0);
+    assert_equal_at(&rt, dropped.get(), 0, "the chain has the values");
+    assert_equal(&rt, state.total(), 0);
     drop(evicted);
-    assert_eq!(rt; dropped.get(), MANY);
+    assert_equal(&rt, dropped.get(), MANY);
 }

@@ -1,6 +1,7 @@
 //! The entries that have a value, in a walk over all of them and one by one: which ones are shown,
 //! and what is said of each.
 
+use crate::assertions::{assert_equal, assert_equal_at};
 use crate::state::contents::first_evicted;
 use concurrent_lru::lru_core::{EntryRef, Refusal, State};
 use concurrent_lru::share::Sharing;
@@ -135,8 +136,8 @@ fn seen_after(
 fn see_all(rt: &impl Abort, alloc: Global, state: &mut State<u64, u64>) {
     for (call, wanted) in STATES {
         let (walked, found) = seen_after(alloc, state, call).expect(rt, "memory");
-        assert_eq!(rt; walked.as_str(), wanted, "after {call:?}");
-        assert_eq!(rt; found.as_str(), wanted, "after {call:?}");
+        assert_equal_at(rt, walked.as_str(), wanted, ("after", call));
+        assert_equal_at(rt, found.as_str(), wanted, ("after", call));
     }
 }
 
@@ -169,7 +170,7 @@ fn hints_of(
 fn insert_all(rt: &impl Abort, alloc: Global, state: &mut State<u64, u64>) {
     for key in [3u64, 1, 2] {
         let [given, shown] = hints_of(alloc, state, key).expect(rt, "inserted");
-        assert_eq!(rt; shown, given);
+        assert_equal(rt, shown, given);
     }
 }
 
@@ -240,6 +241,6 @@ fn a_walk_changes_nothing(rt: HostRuntime) {
     let charge = charge_of_found(&state);
     let after = (state.len(), state.total(), state.pinned_charge());
     let oldest = first_evicted(&mut state, before.1.saturating_sub(1));
-    assert_eq!(rt; after, before);
-    assert_eq!(rt; (charge, oldest), (3_549, Some(1)));
+    assert_equal(&rt, after, before);
+    assert_equal(&rt, (charge, oldest), (3_549, Some(1)));
 }

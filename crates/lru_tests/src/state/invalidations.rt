@@ -1,5 +1,6 @@
 //! Entries that are detached from their keys while they are held.
 
+use crate::assertions::assert_equal;
 use crate::state::play::{plays, plays_within};
 use concurrent_lru::list::Node;
 use lru_support::tables::Call;
@@ -272,5 +273,5 @@ fn an_insert_is_judged_after_what_it_replaces(rt: HostRuntime) -> Result<(), tes
 
 #[test]
 fn a_node_takes_96_bytes(rt: HostRuntime) {
-    assert_eq!(rt; size_of::<Node<u64, u64>>(), 96);
+    assert_equal(&rt, size_of::<Node<u64, u64>>(), 96);
 }

@@ -1,5 +1,6 @@
 //! Keys of other kinds: text, whose copies allocate, and keys that share hashes.
 
+use crate::assertions::assert_equal;
 use concurrent_lru::lru_core::{Refusal, State};
 use lru_support::makes::make;
 use lru_support::tables::text_of;
@@ -37,13 +38,14 @@ fn text_of_rest(
 fn keeps_two(rt: &impl Abort, alloc: Global, one: &String, two: &String) {
     let mut state: State<String, u64> = State::new(alloc, 1);
     let made = make_two(alloc, &mut state, one, two);
-    assert_eq!(rt; made, Ok((0, 1)));
+    assert_equal(rt, made, Ok((0, 1)));
     let keys = text_of_keys(alloc, &state).expect(rt, "memory");
-    assert_eq!(rt; keys.as_str(), "(None, Some(\"two\"))");
+    assert_equal(rt, keys.as_str(), "(None, Some(\"two\"))");
     let left = text_of_rest(alloc, &mut state, one).expect(rt, "memory");
-    assert_eq!(rt;
+    assert_equal(
+        rt,
         left.as_str(),
-        "(Ok(None), [Gone { stamp: 1, key: \"two\", charge: 1, value: 20 }])"
+        "(Ok(None), [Gone { stamp: 1, key: \"two\", charge: 1, value: 20 }])",
     );
 }
 
@@ -70,7 +72,7 @@ fn make_all(rt: &impl Abort, alloc: Global, state: &mut State<Careless, u64>) {
     for number in 0..MANY {
         let value = Arc::new(alloc, number).expect(rt, "memory for the value");
         let stamp = make(state, &Careless { number }, 1, value);
-        assert_eq!(rt; stamp, Ok(number));
+        assert_equal(rt, stamp, Ok(number));
     }
 }
 
@@ -81,7 +83,7 @@ fn get_all(rt: &impl Abort, state: &mut State<Careless, u64>) {
             .get(&Careless { number })
             .expect(rt, "room for the copy");
         let (stamp, value) = found.expect(rt, "all keys fit");
-        assert_eq!(rt; (stamp, *value), (number, number));
+        assert_equal(rt, (stamp, *value), (number, number));
     }
 }
 

@@ -1,6 +1,7 @@
 //! Nodes by place and the order of the idle ones: each public call succeeding, and the drop of many
 //! nodes, idle and held.
 
+use crate::assertions::assert_equal;
 use concurrent_lru::list::{Node, Nodes, Phase, Refusal};
 use concurrent_lru::lru_core::State;
 use lru_support::makes::{hold, make};
@@ -17,9 +18,10 @@ fn keeps_a_node_from_its_insert_to_its_end(rt: HostRuntime) -> Result<(), Fail> 
     nodes.reserve(1)?;
     let place = nodes.insert_reserved(Box::new(alloc, Node::new(5, 1, 1, 3))?);
     let node = nodes.node(place);
-    assert_eq!(rt;
+    assert_equal(
+        &rt,
         (node.stamp, node.key, node.charge, node.pins),
-        (5, 1, 3, 1)
+        (5, 1, 3, 1),
     );
     assert!(rt; matches!(node.phase, Phase::Making));
 
@@ -31,12 +33,12 @@ fn keeps_a_node_from_its_insert_to_its_end(rt: HostRuntime) -> Result<(), Fail> 
     let Phase::Ready(value) = &node.phase else {
         return Err(Fail::new("the value was written"));
     };
-    assert_eq!(rt; (node.stamp, node.pins, **value), (5, 0, 7));
+    assert_equal(&rt, (node.stamp, node.pins, **value), (5, 0, 7));
 
     nodes.remove(place);
     assert!(rt; nodes.oldest().is_none());
     let taken = Box::into_inner(nodes.take(place));
-    assert_eq!(rt; (taken.stamp, taken.key), (5, 1));
+    assert_equal(&rt, (taken.stamp, taken.key), (5, 1));
     Ok(())
 }
 
@@ -62,7 +64,7 @@ fn numbers_its_refusals(rt: HostRuntime) {
         Refusal::Full.code(),
         Refusal::Stale.code(),
     ];
-    assert_eq!(rt; codes, [1, 2, 5, 3]);
+    assert_equal(&rt, codes, [1, 2, 5, 3]);
 }
 
 // Makes the keys below `keys`, all with one value, and releases each pin.
@@ -95,8 +97,8 @@ fn owners_of_all(rt: &impl Abort, alloc: Global, value: &Arc<u64>) -> usize {
 #[test]
 fn frees_idle_and_held_nodes_at_its_end(rt: HostRuntime) {
     let value = Arc::new(rt.alloc(), 7u64).expect(&rt, "memory");
-    assert_eq!(rt; owners_of_all(&rt, rt.alloc(), &value), 200_001);
-    assert_eq!(rt; Arc::strong_count(&value), 1);
+    assert_equal(&rt, owners_of_all(&rt, rt.alloc(), &value), 200_001);
+    assert_equal(&rt, Arc::strong_count(&value), 1);
 }
 
 // As `owners_of_all`, of a cache that keeps four of the nodes that it had.
@@ -109,6 +111,6 @@ fn owners_of_few(rt: &impl Abort, alloc: Global, value: &Arc<u64>) -> usize {
 #[test]
 fn frees_what_its_slots_held_before(rt: HostRuntime) {
     let value = Arc::new(rt.alloc(), 7u64).expect(&rt, "memory");
-    assert_eq!(rt; owners_of_few(&rt, rt.alloc(), &value), 5);
-    assert_eq!(rt; Arc::strong_count(&value), 1);
+    assert_equal(&rt, owners_of_few(&rt, rt.alloc(), &value), 5);
+    assert_equal(&rt, Arc::strong_count(&value), 1);
 }

@@ -1,6 +1,7 @@
 //! Reads of a single owner: their results in each phase of an entry, and what is evicted after
 //! them.
 
+use crate::assertions::{assert_equal, assert_equal_at};
 use crate::state::play::{plays, plays_within};
 use concurrent_lru::lru_core::{Begun, Evicted, Refusal, State};
 use lru_support::tables::Call::{Begin, Get, Poll, Prune, Read, Ready, Release, SetCapacity};
@@ -66,9 +67,14 @@ const ORDERS: [(u64, [u64; 3]); 4] = [
 fn reads_one(rt: &impl Abort, alloc: Global, key: u64, order: [u64; 3]) {
     let mut state = three_idle(alloc).expect(rt, "three entries");
     assert!(rt; value_read(&mut state, key).is_ok());
-    assert_eq!(rt; state.total(), 3);
+    assert_equal(rt, state.total(), 3);
     let gone = keys_of(alloc, state.prune()).expect(rt, "memory");
-    assert_eq!(rt; gone.as_slice(), order.as_slice(), "after a read of {key}");
+    assert_equal_at(
+        rt,
+        gone.as_slice(),
+        order.as_slice(),
+        ("after a read of", key),
+    );
 }
 
 #[test]
@@ -118,7 +124,7 @@ const RELEASED: [(Call, &str); 3] = [
 fn reads_held(rt: &impl Abort, alloc: Global, state: &mut State<u64, u64>) -> Result<(), Fail> {
     answers_as_expected(alloc, state, &HELD)?;
     let read = state.read(&1, |value| value.wrapping_add(1));
-    assert_eq!(rt; read, Ok(Some((0, 11))));
+    assert_equal(rt, read, Ok(Some((0, 11))));
     answers_as_expected(alloc, state, &RELEASED)
 }
 
@@ -159,7 +165,7 @@ fn read_and_called(state: &mut State<u64, u64>) -> (Result<bool, Refusal>, bool)
 #[test]
 fn a_reader_is_not_called_where_nothing_is_found(rt: HostRuntime) {
     let mut state: State<u64, u64> = State::with_limits(rt.alloc(), 3, 0, 1);
-    assert_eq!(rt; read_and_called(&mut state), (Ok(false), false));
+    assert_equal(&rt, read_and_called(&mut state), (Ok(false), false));
     assert!(rt; make(rt.alloc(), &mut state, 1).is_ok());
     let (found, called) = read_and_called(&mut state);
     assert!(rt; found.is_err() && !called);

@@ -2,6 +2,7 @@
 //! table and plain functions.
 ghost use Rattle.std.specs.Prelude.{◌<◌};
 
+use crate::assertions::{assert_equal, assert_equal_at};
 use concurrent_lru::lru_core::{Evicted, State};
 use lru_support::makes::make;
 use lru_support::tables::Call::{Begin, Prune, Ready, Release};
@@ -193,7 +194,7 @@ fn holds_the_longest_tail_that_fits(rt: HostRuntime) {
         for capacity in 0..=7 {
             let held = held_after(&rt, rt.alloc(), &uses, capacity);
             let tail = longest_tail(&uses, capacity);
-            assert_eq!(rt; held, tail, "{uses:?} at capacity {capacity}");
+            assert_equal_at(&rt, held, tail, (uses, "at capacity", capacity));
         }
     }
 }
@@ -207,8 +208,8 @@ fn use_at_one(rt: &impl Abort, alloc: Global, state: &mut State<u64, u64>, keys:
 
 fn advise(rt: &impl Abort, alloc: Global, state: &mut State<u64, u64>) {
     use_at_one(rt, alloc, state, &[1, 2, 3]);
-    assert_eq!(rt; state.advice_evict(&3).len(), 1);
-    assert_eq!(rt; keys_of(rt, state.prune()), [2, 0, 0]);
+    assert_equal(rt, state.advice_evict(&3).len(), 1);
+    assert_equal(rt, keys_of(rt, state.prune()), [2, 0, 0]);
 }
 
 #[test]
@@ -218,9 +219,9 @@ fn a_removal_brings_no_evicted_key_back(rt: HostRuntime) {
 
 fn remove(rt: &impl Abort, alloc: Global, state: &mut State<u64, u64>) {
     use_at_one(rt, alloc, state, &[1, 2]);
-    assert_eq!(rt; state.invalidate(&2).len(), 1);
+    assert_equal(rt, state.invalidate(&2).len(), 1);
     use_at_one(rt, alloc, state, &[3]);
-    assert_eq!(rt; keys_of(rt, state.prune()), [3, 1, 0]);
+    assert_equal(rt, keys_of(rt, state.prune()), [3, 1, 0]);
 }
 
 #[test]
@@ -230,9 +231,9 @@ fn a_removal_makes_room_for_later_uses(rt: HostRuntime) {
 
 fn prune(rt: &impl Abort, alloc: Global, state: &mut State<u64, u64>) {
     use_at_one(rt, alloc, state, &[1, 2]);
-    assert_eq!(rt; state.prune().len(), 2);
+    assert_equal(rt, state.prune().len(), 2);
     use_at_one(rt, alloc, state, &[3, 1]);
-    assert_eq!(rt; keys_of(rt, state.prune()), [1, 3, 0]);
+    assert_equal(rt, keys_of(rt, state.prune()), [1, 3, 0]);
 }
 
 #[test]
@@ -318,7 +319,7 @@ fn holds_what_always_fitted_of_the_uses_that_remain(rt: HostRuntime) {
         for capacity in 0..=6 {
             let held = held_after(&rt, rt.alloc(), &steps, capacity);
             let idle = idle_after(&steps, capacity);
-            assert_eq!(rt; held, idle, "{steps:?} at capacity {capacity}");
+            assert_equal_at(&rt, held, idle, (steps, "at capacity", capacity));
         }
     }
 }

@@ -1,5 +1,6 @@
 //! The answers and refusals of a cache, as text.
 
+use crate::assertions::assert_equal;
 use concurrent_lru::lru_core::{Refusal, State};
 use concurrent_lru::unsharded::GetError;
 use lru_support::makes::make;
@@ -41,7 +42,7 @@ fn evicted_entries_are_printed_oldest_first(rt: HostRuntime) -> Result<(), Fail>
 // Ends the test unless an error has this text.
 fn has_text(rt: &impl Abort, alloc: Global, error: GetError<Refusal>, wanted: &str) {
     let text = text_of(alloc, error).expect(rt, "memory");
-    assert_eq!(rt; text.as_str(), wanted);
+    assert_equal(rt, text.as_str(), wanted);
 }
 
 #[test]

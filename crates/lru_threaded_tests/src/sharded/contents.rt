@@ -1,6 +1,7 @@
 //! The number of entries of all shards, the pinned part of their totals, and which keys have a
 //! value.
 
+use crate::assertions::{assert_equal, assert_equal_at};
 use crate::contents::{Contents, NO_USE, charges, looks_for_the_oldest, make};
 use crate::sharded::shares::in_new;
 use concurrent_lru::sharded::{LruCache, Shards};
@@ -51,10 +52,10 @@ fn entries_of_all_shards_are_counted(rt: HostRuntime) {
     let mut shards = made.expect(&rt, "memory");
     for (call, len, pinned, values) in STATES {
         let seen = seen_after(alloc, &mut shards, call).expect(&rt, "memory");
-        assert_eq!(rt; seen, (len, len == 0, pinned, values), "after {call:?}");
+        assert_equal_at(&rt, seen, (len, len == 0, pinned, values), ("after", call));
     }
     let text = text_of(alloc, &shards).expect(&rt, "memory");
-    assert_eq!(rt; text.as_str(), "[{}, {3: 3}]");
+    assert_equal(&rt, text.as_str(), "[{}, {3: 3}]");
 }
 
 // Holds an entry of the shard 0 and the largest of the shard 1. Returns the total and the pinned
@@ -74,7 +75,7 @@ fn holds_two_shards<R: Abort, C: Contents>(rt: &R, cache: C) -> ((u128, u128), u
 fn pinned_charges_of_all_shards_are_summed(rt: HostRuntime) {
     let most = u128::from(u64::MAX);
     let told = in_new(rt.alloc(), &rt, 6, 3, |cache| holds_two_shards(&rt, cache));
-    assert_eq!(rt; told, Some(((3 + most, 1 + most), 1, 0)));
+    assert_equal(&rt, told, Some(((3 + most, 1 + most), 1, 0)));
 }
 
 // Returns the pinned charge while key 2 is made with the charge 1, and leaves the entry idle.
@@ -123,8 +124,8 @@ fn pinned_charges_are_those_of_each_state(rt: HostRuntime) {
         (making, holds_three_shards(cache))
     });
     let (making, held) = told.expect(&rt, "memory");
-    assert_eq!(rt; making, (0, Some(1)));
-    assert_eq!(rt; held, [(31, 15), (31, 11), (29, 9), (29, 1), (29, 0)]);
+    assert_equal(&rt, making, (0, Some(1)));
+    assert_equal(&rt, held, [(31, 15), (31, 11), (29, 9), (29, 1), (29, 0)]);
 }
 
 // What is seen of three shards: how many entries there are, whether there are none, and which of
@@ -164,7 +165,8 @@ fn asks_each_key<R: Abort, C: Contents>(rt: &R, cache: C) -> [Seen; 7] {
 #[test]
 fn each_shard_is_asked_of_its_own_keys(rt: HostRuntime) {
     let told = in_new(rt.alloc(), &rt, 6, 3, |cache| asks_each_key(&rt, cache));
-    assert_eq!(rt;
+    assert_equal(
+        &rt,
         told.expect(&rt, "memory"),
         [
             (0, true, [false, false, false, false]),
@@ -174,7 +176,7 @@ fn each_shard_is_asked_of_its_own_keys(rt: HostRuntime) {
             (4, false, [true, true, true, true]),
             (3, false, [true, true, false, true]),
             (0, true, [false, false, false, false]),
-        ]
+        ],
     );
 }
 
@@ -184,5 +186,5 @@ fn a_look_for_a_value_is_no_use_of_it(rt: HostRuntime) {
     let looks = in_new(rt.alloc(), &rt, 4, 2, |cache| {
         [[0, 2, 4], [1, 3, 5]].map(|keys| looks_for_the_oldest(&rt, cache, keys))
     });
-    assert_eq!(rt; looks, Some([NO_USE, NO_USE]));
+    assert_equal(&rt, looks, Some([NO_USE, NO_USE]));
 }

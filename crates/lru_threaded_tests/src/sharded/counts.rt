@@ -1,5 +1,6 @@
 //! Counts of all shards: their sum, and a reset of each, also while other threads use the cache.
 
+use crate::assertions::assert_equal;
 use crate::contents::{Contents, make};
 use crate::sharded::shares::in_new;
 use concurrent_lru::sharded::Counts;
@@ -62,15 +63,15 @@ fn the_counts_of_all_shards_are_summed(rt: HostRuntime) {
         (asks_all_shards(&rt, cache), resets_around_a_prune(cache))
     });
     let (asked, reset) = told.expect(&rt, "memory");
-    assert_eq!(rt; asked, ([Counts::default(), SUMMED], 5, 5));
+    assert_equal(&rt, asked, ([Counts::default(), SUMMED], 5, 5));
     // Each shard returns what it had, and starts again from what it has.
     let anew = Counts {
         entries_before: 5,
         charge_before: 5,
         ..Counts::default()
     };
-    assert_eq!(rt; reset, ([SUMMED, anew], (5, 5), Counts::default()));
-    assert_eq!(rt; SUMMED.hit_ratio(), Some(0.25));
+    assert_equal(&rt, reset, ([SUMMED, anew], (5, 5), Counts::default()));
+    assert_equal(&rt, SUMMED.hit_ratio(), Some(0.25));
 }
 
 // Each shard refuses, replaces and invalidates independently. Returns the counts once the shard 0
@@ -112,7 +113,7 @@ fn what_each_shard_is_asked_is_counted_there(rt: HostRuntime) {
         evicted_charge: full.inserted_charge,
         ..full
     };
-    assert_eq!(rt; told, Some(([full, full, evicted, dropped], true)));
+    assert_equal(&rt, told, Some(([full, full, evicted, dropped], true)));
 }
 
 // No call is missed between two resets, and none is counted twice.
@@ -121,5 +122,5 @@ fn each_call_is_counted_in_one_reset(rt: HostRuntime) {
     let asked = in_new(rt.alloc(), &rt, 6, 3, |cache| {
         lookups_between_resets(&rt, rt.alloc(), &cache)
     });
-    assert_eq!(rt; asked, Some(Ok(EACH_ONCE)));
+    assert_equal(&rt, asked, Some(Ok(EACH_ONCE)));
 }

@@ -1,5 +1,6 @@
 //! Caches in shards, and their handles, across threads.
 
+use crate::assertions::assert_equal;
 use crate::contents::{let_go_by_another, make};
 use concurrent_lru::sharded::{CacheHandle, Fit, LruCache};
 use std::alloc::Global;
@@ -50,5 +51,5 @@ fn crosses_anew<R: Wait + Clone + Drop + Send + Sync, T: Threads + Abort>(
 #[test]
 fn sharded_caches_and_handles_cross_threads(rt: HostRuntime) {
     let own = rt.clone().expect(&rt, "memory");
-    assert_eq!(rt; crosses_anew(&rt, rt.alloc(), own), Some(0));
+    assert_equal(&rt, crosses_anew(&rt, rt.alloc(), own), Some(0));
 }

@@ -2,6 +2,7 @@
 //!
 //! All entries are in one shard, so what such a call finds or does is found or done there.
 
+use crate::assertions::{assert_equal, assert_equal_at};
 use crate::contents::{Contents, make};
 use crate::sharded::shares::in_new;
 use concurrent_lru::sharded::Refusal;
@@ -57,7 +58,8 @@ fn no_shard_is_left_out(rt: HostRuntime) {
         let visits = in_new(rt.alloc(), &rt, 30, 3, |cache| {
             asks_in_one_shard(&rt, cache, shard)
         });
-        assert_eq!(rt;
+        assert_equal_at(
+            &rt,
             visits.expect(&rt, "memory"),
             Visits {
                 len: 3,
@@ -68,11 +70,11 @@ fn no_shard_is_left_out(rt: HostRuntime) {
                 shrunk: (12, [false, true, true]),
                 pruned: [false, false, true],
             },
-            "in shard {shard}"
+            ("in shard", shard),
         );
     }
     // Only a refusal shows where room was reserved: the first shard that refuses ends the call, so
     // there is but one here.
     let reserved = in_new(rt.alloc(), &rt, 30, 1, |cache| cache.reserve(usize::MAX));
-    assert_eq!(rt; reserved, Some(Err(Refusal::Memory)));
+    assert_equal(&rt, reserved, Some(Err(Refusal::Memory)));
 }

@@ -1,6 +1,7 @@
 //! Values whose drops use a sharded cache, and other shards than their own: whatever evicts them,
 //! no lock is held, and the totals are right afterwards.
 
+use crate::assertions::assert_equal_at;
 use concurrent_lru::sharded::LruCache;
 use lru_support::errands::{Outcome, Sent, causes, outcome_in};
 use lru_support::hashers::ByOwnNumber;
@@ -20,10 +21,11 @@ fn drops_may_use_the_cache(rt: HostRuntime) {
         let made: Result<LruCache<u64, Sent, HostRuntime, ByOwnNumber>, _> =
             LruCache::with_shards_hasher(rt.alloc(), own, capacity, 2, ByOwnNumber);
         let cache = made.expect(&rt, "memory");
-        assert_eq!(rt;
+        assert_equal_at(
+            &rt,
             outcome_in(&rt, rt.alloc(), &&cache, cause),
             Some(wanted),
-            "{cause:?}"
+            cause,
         );
     }
 }

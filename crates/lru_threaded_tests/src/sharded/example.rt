@@ -1,5 +1,6 @@
 //! An example of a sharded cache: the source of its hasher, and its capacity.
 
+use crate::assertions::assert_equal;
 use concurrent_lru::sharded::{LruCache, Refusal};
 use std::alloc::Global;
 use std::hash::RandomState;
@@ -26,8 +27,8 @@ fn in_sixteen_shards<R: Wait + Clone + Drop>(
 fn sixteen_shards_share_a_capacity(rt: HostRuntime) -> Result<(), Fail> {
     let hasher = RandomState::new(&rt)?;
     let (value, capacity) = in_sixteen_shards(rt.alloc(), &rt, hasher)?;
-    assert_eq!(rt; value?, 14);
+    assert_equal(&rt, value?, 14);
     // Each shard has a sixteenth of 1,000, rounded up to 63.
-    assert_eq!(rt; capacity, 16 * 63);
+    assert_equal(&rt, capacity, 16 * 63);
     Ok(())
 }

@@ -1,6 +1,7 @@
 //! A pool of open files: each is opened once, stays open while it is pinned or idle, and is closed
 //! by a prune.
 
+use crate::assertions::assert_equal;
 use concurrent_lru::sharded::LruCache;
 use std::alloc::Global;
 use std::fs::{File, Files};
@@ -73,8 +74,8 @@ fn a_pool_of_files_opens_on_demand(rt: HostRuntime) -> Result<(), Fail> {
     let told = opens_and_prunes(rt.alloc(), &rt, &rt, hasher, path.as_path());
     let (line, is_open) = told.expect(&rt, "memory");
     let line = line.expect(&rt, "a line");
-    assert_eq!(rt; line.as_str(), "the first line\n");
-    assert_eq!(rt; is_open, [Some(true), Some(false)]);
+    assert_equal(&rt, line.as_str(), "the first line\n");
+    assert_equal(&rt, is_open, [Some(true), Some(false)]);
     fs::remove_file(&rt, path.as_path())?;
     Ok(())
 }

@@ -1,6 +1,7 @@
 //! What runs without the lock of a shard: makers, drops, and the reading of a handle.
 //! In each gate two threads have to meet; where one held the lock, a limit of looks would end it.
 
+use crate::assertions::{assert_equal, assert_equal_at};
 use crate::sharded::shares::in_new;
 use concurrent_lru::sharded::LruCache;
 use lru_support::gates::{CAUSES, Cause, Slow, total_in_drop};
@@ -18,7 +19,7 @@ fn makers_run_without_the_lock_of_their_shard(rt: HostRuntime) {
     let met = in_new(rt.alloc(), &rt, 20, 2, |cache| {
         [(1, 3), (5, 6)].map(|keys| makers_meet(&rt, &cache, keys))
     });
-    assert_eq!(rt; met, Some([(true, true); 2]));
+    assert_equal(&rt, met, Some([(true, true); 2]));
 }
 
 // Creates a cache of two shards, each with this share of the capacity.
@@ -45,10 +46,11 @@ fn total_of<R: Wait + Threads + Clone + Drop + Sync + Send>(
 #[test]
 fn drops_run_without_the_lock_of_their_shard(rt: HostRuntime) {
     for (cause, share, total) in CAUSES {
-        assert_eq!(rt;
+        assert_equal_at(
+            &rt,
             total_of(&rt, rt.alloc(), cause, share),
             Some(total),
-            "{cause:?}"
+            cause,
         );
     }
 }
@@ -66,5 +68,5 @@ fn text_of_new<R: Wait + Threads + Clone + Drop + Sync + Send>(
 fn a_handle_is_read_without_the_lock_of_its_shard(rt: HostRuntime) {
     let read = text_of_new(&rt, rt.alloc());
     let (text, number) = read.expect(&rt, "a meeting");
-    assert_eq!(rt; (text.as_str(), number), ("[{}, {1: 7}]", 7));
+    assert_equal(&rt, (text.as_str(), number), ("[{}, {1: 7}]", 7));
 }

@@ -1,6 +1,7 @@
 //! Values of shards that are invalidated while they are held.
 ghost use Rattle.std.specs.Prelude.{◌<◌};
 
+use crate::assertions::assert_equal;
 use crate::sharded::shares::in_new;
 use crate::sharded::{pure, threaded};
 use lru_support::hashers::ByOwnNumber;
@@ -111,6 +112,6 @@ fn a_handle_reads_its_own_value(rt: HostRuntime) {
         (reads_around(cache), (cache.total_charge(), cache.len()))
     });
     let (read, left) = told.expect(&rt, "memory");
-    assert_eq!(rt; read, Some((5, None, false, 6)));
-    assert_eq!(rt; left, (1, 1));
+    assert_equal(&rt, read, Some((5, None, false, 6)));
+    assert_equal(&rt, left, (1, 1));
 }

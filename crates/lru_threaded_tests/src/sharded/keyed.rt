@@ -1,5 +1,6 @@
 //! Keys of text, and hashes that no test chose.
 
+use crate::assertions::assert_equal;
 use concurrent_lru::sharded::LruCache;
 use lru_support::cached::Cached;
 use lru_support::threaded::make_value;
@@ -35,9 +36,10 @@ fn found_around_a_prune<R: Wait + Clone + Drop>(
 #[test]
 fn a_value_is_found_until_it_is_pruned(rt: HostRuntime) {
     let key = String::from_str(rt.alloc(), "foo").expect(&rt, "memory");
-    assert_eq!(rt;
+    assert_equal(
+        &rt,
         found_around_a_prune(rt.alloc(), &rt, key),
-        Some([Some(7), None])
+        Some([Some(7), None]),
     );
 }
 
@@ -70,6 +72,6 @@ fn sixteen_shards_by_random_numbers(rt: HostRuntime) {
     let told = by_random_numbers(rt.alloc(), &rt, hasher);
     let (text, succeeds, total) = told.expect(&rt, "memory");
     let text = text.expect(&rt, "memory");
-    assert_eq!(rt; (text.matches("{}").count(), succeeds), (16, true));
+    assert_equal(&rt, (text.matches("{}").count(), succeeds), (16, true));
     assert!(rt; total <= 32);
 }

@@ -1,5 +1,6 @@
 //! Keys by reference, in the shard that serves them.
 
+use crate::assertions::assert_equal;
 use crate::sharded::shares::in_new;
 use concurrent_lru::sharded::{CacheHandle, LruCache};
 use lru_support::hashers::ByOwnNumber;
@@ -52,5 +53,5 @@ fn a_key_by_reference_is_asked_at_its_shard(rt: HostRuntime) {
         4,
         |cache| asks_by_reference(&rt, cache),
     );
-    assert_eq!(rt; told, Some(((13, 27), [3, 1], [None, Some(27)])));
+    assert_equal(&rt, told, Some(((13, 27), [3, 1], [None, Some(27)])));
 }

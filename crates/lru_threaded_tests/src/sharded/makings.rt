@@ -1,5 +1,6 @@
 //! Two callers of one value in a sharded cache: the second waits for what the first makes.
 
+use crate::assertions::assert_equal;
 use crate::contents::{ONE_MADE, two_callers};
 use crate::sharded::shares::in_new;
 
@@ -12,5 +13,5 @@ fn one_value_for_two_callers(rt: HostRuntime) {
     // The second waited, or came later and hit; the third hit.
     let hits = counts.hits.wrapping_add(counts.waits);
     let numbers = [counts.misses, counts.makings, counts.insertions, hits];
-    assert_eq!(rt; (told, numbers), (ONE_MADE, [1, 1, 1, 2]));
+    assert_equal(&rt, (told, numbers), (ONE_MADE, [1, 1, 1, 2]));
 }

@@ -1,5 +1,6 @@
 //! Makers that use the cache for other keys, three deep, in the same shard and in another.
 
+use crate::assertions::assert_equal_at;
 use crate::sharded::shares::in_new;
 use concurrent_lru::sharded::LruCache;
 use lru_support::hashers::ByOwnNumber;
@@ -52,10 +53,11 @@ fn makers_use_the_cache_three_deep(rt: HostRuntime) {
             let total = cache.total_charge();
             (made, total, [1, 2, 3].map(|key| value_found(cache, key)))
         });
-        assert_eq!(rt;
+        assert_equal_at(
+            &rt,
             told,
             Some((111, u128::from(capacity.min(3)), left)),
-            "at capacity {capacity}"
+            ("at capacity", capacity),
         );
     }
 }

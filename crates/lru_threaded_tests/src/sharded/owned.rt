@@ -1,6 +1,7 @@
 //! Owned handles of a sharded cache: each keeps the cache alive, and releases its pin in its own
 //! shard.
 
+use crate::assertions::assert_equal;
 use crate::contents::numbers;
 use crate::sharded::shares::in_shards;
 use concurrent_lru::sharded::{LruCache, OwnedHandle};
@@ -35,7 +36,7 @@ where
 #[test]
 fn an_entry_stays_until_its_owned_handles_are_dropped(rt: HostRuntime) {
     let told = in_shared(rt.alloc(), &rt, |shared| drops_two_handles(shared));
-    assert_eq!(rt; told, Some(Some(DROPPED_IN_TURN)));
+    assert_equal(&rt, told, Some(Some(DROPPED_IN_TURN)));
 }
 
 // Holds a handle of each shard, and drops those of the keys 1, 2 and 0 in this order. Returns which
@@ -63,13 +64,14 @@ fn each_owned_handle_gives_its_pin_back_at_its_own_shard(rt: HostRuntime) {
         (drops_one_per_shard(&rt, shared), shared.is_empty())
     });
     let (left, is_empty) = told.expect(&rt, "memory");
-    assert_eq!(rt;
+    assert_equal(
+        &rt,
         left,
         [
             [true, false, true],
             [true, false, false],
             [false, false, false],
-        ]
+        ],
     );
     assert!(rt; is_empty);
 }
@@ -88,7 +90,7 @@ fn drops_a_clone_last<A: Abort, R: Wait + Drop>(rt: &A, shared: &Shared<R>) -> (
 #[test]
 fn a_clone_of_an_owned_handle_has_a_pin_of_its_own(rt: HostRuntime) {
     let told = in_shared(rt.alloc(), &rt, |shared| drops_a_clone_last(&rt, shared));
-    assert_eq!(rt; told, Some(((5, true), true)));
+    assert_equal(&rt, told, Some(((5, true), true)));
 }
 
 #[test]
@@ -96,7 +98,7 @@ fn an_owned_init_may_fail(rt: HostRuntime) {
     let told = in_shared(rt.alloc(), &rt, |shared| {
         (fails_once(shared), Arc::strong_count(shared))
     });
-    assert_eq!(rt; told, Some(((Some(9), 0, Some(4)), 1)));
+    assert_equal(&rt, told, Some(((Some(9), 0, Some(4)), 1)));
 }
 
 // Returns a handle whose cache has no other owner.
@@ -123,7 +125,7 @@ fn value_and_text<R: Wait + Clone + Drop>(alloc: Global, rt: R) -> Option<(u64, 
 #[test]
 fn an_owned_handle_keeps_its_cache_alive(rt: HostRuntime) {
     let (value, text) = value_and_text(rt.alloc(), &rt).expect(&rt, "memory");
-    assert_eq!(rt; (value, text.as_str()), (5, "5"));
+    assert_equal(&rt, (value, text.as_str()), (5, "5"));
 }
 
 // Reads a handle and drops it.
@@ -145,7 +147,7 @@ fn read_elsewhere<R: Wait + Clone + Drop + Send + Sync + 'static, T: Threads + A
 #[test]
 fn an_owned_handle_ends_on_another_thread(rt: HostRuntime) {
     let own = rt.clone().expect(&rt, "memory");
-    assert_eq!(rt; read_elsewhere(&rt, rt.alloc(), own), 5);
+    assert_equal(&rt, read_elsewhere(&rt, rt.alloc(), own), 5);
 }
 
 // Drops the two owners of a handle. Returns the total after each drop.
@@ -170,7 +172,7 @@ fn owners_of_a_value_share_its_handle(rt: HostRuntime) {
         &rt,
         |shared| drops_two_owners(&rt, rt.alloc(), shared),
     );
-    assert_eq!(rt; totals, Some([3, 0]));
+    assert_equal(&rt, totals, Some([3, 0]));
 }
 
 // Each call counts as the one that it is named after, in the shard of its key.
@@ -178,6 +180,6 @@ fn owners_of_a_value_share_its_handle(rt: HostRuntime) {
 fn owned_calls_are_counted(rt: HostRuntime) {
     let told = in_shared(rt.alloc(), &rt, |shared| counts_of_calls(shared));
     let (held, dropped) = told.expect(&rt, "memory").expect(&rt, "no other answer");
-    assert_eq!(rt; numbers(&held), [2, 3, 0, 2, 1, 2, 0, 1]);
-    assert_eq!(rt; (dropped.evictions, dropped.evicted_charge), (1, 3));
+    assert_equal(&rt, numbers(&held), [2, 3, 0, 2, 1, 2, 0, 1]);
+    assert_equal(&rt, (dropped.evictions, dropped.evicted_charge), (1, 3));
 }

@@ -1,5 +1,6 @@
 //! Reads in shards: each counts as a use in its own shard, and threads that read find their values.
 
+use crate::assertions::assert_equal;
 use crate::contents::{Read, four_read, make_each, value_read};
 use crate::sharded::shares::in_new;
 use concurrent_lru::lru_core::Begun;
@@ -68,13 +69,14 @@ fn a_read_counts_in_the_shard_of_its_key(rt: HostRuntime) {
         read_in(&mut shards, 5),
         read_in(&mut shards, 7),
     ];
-    assert_eq!(rt; read, [Ok(Some((0, 10))), Ok(Some((1, 50))), Ok(None)]);
+    assert_equal(&rt, read, [Ok(Some((0, 10))), Ok(Some((1, 50))), Ok(None)]);
     let gone = prune_three(rt.alloc(), &mut shards).expect(&rt, "memory");
-    assert_eq!(rt;
+    assert_equal(
+        &rt,
         gone.as_slice(),
-        [(0, 0), (0, 3), (1, 4), (1, 1), (2, 2), (2, 5)].as_slice()
+        [(0, 0), (0, 3), (1, 4), (1, 1), (2, 2), (2, 5)].as_slice(),
     );
-    assert_eq!(rt; read_in(&mut shards, 1), Ok(None));
+    assert_equal(&rt, read_in(&mut shards, 1), Ok(None));
 }
 
 // Reads in an empty cache of two shards, each of which keeps two entries. Returns what a read of
@@ -97,13 +99,14 @@ fn reads_keep<R: Abort, C: Cached<u64>>(rt: &R, cache: C) -> (Read, [Read; 4], R
 #[test]
 fn a_read_keeps_the_entry_in_its_shard(rt: HostRuntime) {
     let told = in_new(rt.alloc(), &rt, 4, 2, |cache| reads_keep(&rt, cache));
-    assert_eq!(rt;
+    assert_equal(
+        &rt,
         told.expect(&rt, "memory"),
         (
             Ok(Some(10)),
             [Ok(None), Ok(Some(10)), Ok(Some(50)), Ok(None)],
-            Ok(None)
-        )
+            Ok(None),
+        ),
     );
 }
 
@@ -118,6 +121,6 @@ fn four_threads_read_what_they_make(rt: HostRuntime) {
     );
     let (right, totals) = told.expect(&rt, "memory");
     let right = right.expect(&rt, "four threads");
-    assert_eq!(rt; right.as_slice(), [true; 4].as_slice());
-    assert_eq!(rt; totals, [u128::from(CAPACITY), 0]);
+    assert_equal(&rt, right.as_slice(), [true; 4].as_slice());
+    assert_equal(&rt, totals, [u128::from(CAPACITY), 0]);
 }

@@ -1,6 +1,7 @@
 //! Caches of numbers whose keys show their shards, and the share of each shard.
 ghost use Rattle.std.specs.Prelude.{◌<◌};
 
+use crate::assertions::assert_equal;
 use concurrent_lru::sharded::{LruCache, capacity_per_shard};
 use lru_support::hashers::ByOwnNumber;
 use std::alloc::Global;
@@ -39,7 +40,8 @@ where
 
 #[test]
 fn shares_are_rounded_up(rt: HostRuntime) {
-    assert_eq!(rt;
+    assert_equal(
+        &rt,
         [
             capacity_per_shard(10, 16),
             capacity_per_shard(128, 16),
@@ -47,6 +49,6 @@ fn shares_are_rounded_up(rt: HostRuntime) {
             capacity_per_shard(0, 4),
             capacity_per_shard(u64::MAX, 16),
         ],
-        [1, 8, 3, 0, 1152921504606846976]
+        [1, 8, 3, 0, 1152921504606846976],
     );
 }

@@ -1,5 +1,6 @@
 //! The capacity of each shard as a strict limit.
 
+use crate::assertions::{assert_equal, assert_equal_at};
 use crate::sharded::shares::in_new;
 use concurrent_lru::lru_core::Refusal;
 use concurrent_lru::sharded::LruCache;
@@ -18,10 +19,11 @@ fn fits_and_is_full<R: Wait>(cache: &Cache<R>, key: u64) -> (bool, bool) {
 
 fn inserts_into_each_shard<A: Abort, R: Wait>(rt: &A, cache: &Cache<R>) {
     for key in 1..=9u64 {
-        assert_eq!(rt;
+        assert_equal_at(
+            rt,
             fits_and_is_full(cache, key),
             (key % 3 != 1, true),
-            "key {key}"
+            ("key", key),
         );
     }
 }
@@ -40,5 +42,5 @@ fn fills_one_shard<A: Abort, R: Wait>(rt: &A, cache: &Cache<R>) -> (bool, bool, 
 #[test]
 fn each_shard_has_a_strict_limit(rt: HostRuntime) {
     let told = in_new(rt.alloc(), &rt, 30, 3, |cache| fills_one_shard(&rt, cache));
-    assert_eq!(rt; told, Some((false, true, 5)));
+    assert_equal(&rt, told, Some((false, true, 5)));
 }

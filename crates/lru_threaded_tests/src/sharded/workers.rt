@@ -1,5 +1,6 @@
 //! Four threads that use one sharded cache with a mark, each of which proves what it reads.
 
+use crate::assertions::assert_equal;
 use concurrent_lru::sharded::LruCache;
 use lru_support::marks::{Twice, reads_doubles};
 use std::alloc::Global;
@@ -48,7 +49,7 @@ fn four_threads_read_doubles(rt: HostRuntime) {
     let told = four_read_anew(&rt, rt.alloc());
     let (read, is_there, [total, pruned]) = told.expect(&rt, "memory");
     let read = read.expect(&rt, "four threads");
-    assert_eq!(rt; read.as_slice(), [true; 4].as_slice());
+    assert_equal(&rt, read.as_slice(), [true; 4].as_slice());
     assert!(rt; total <= 32);
-    assert_eq!(rt; (is_there, pruned), (true, 0));
+    assert_equal(&rt, (is_there, pruned), (true, 0));
 }

@@ -1,5 +1,6 @@
 //! The first calls of workers, as Rust's generator draws them.
 
+use crate::assertions::assert_equal_at;
 use lru_stress::plan::KEYS;
 use lru_support::calls::Calls;
 
@@ -33,10 +34,11 @@ fn draws_the_calls_of_a_worker(rt: HostRuntime) {
         let mut calls = Calls::of_worker(SEED, worker);
         for expected in drawn {
             let call = calls.draw(KEYS);
-            assert_eq!(rt;
+            assert_equal_at(
+                &rt,
                 (call.key, call.charge, call.fails),
                 expected,
-                "of worker {worker}"
+                ("of worker", worker),
             );
         }
     }

@@ -1,5 +1,6 @@
 //! The counts of a run, for plans of the tests' own.
 
+use crate::assertions::{assert_equal, assert_equal_at};
 use lru_stress::plan::Plan;
 use lru_stress::run::run;
 
@@ -28,12 +29,13 @@ fn counts_what_one_worker_does(rt: HostRuntime) {
         plan.shards_capacity = capacity;
         plan.shards = 1;
         let counts = run(&rt, rt.alloc(), &plan).expect(&rt, "ok");
-        assert_eq!(rt;
+        assert_equal_at(
+            &rt,
             [counts.makings, counts.hits, counts.evictions],
             wanted,
-            "at {capacity} from {seed}"
+            (capacity, "from", seed),
         );
-        assert_eq!(rt; (counts.meetings, counts.greatest), (0, greatest));
+        assert_equal(&rt, (counts.meetings, counts.greatest), (0, greatest));
     }
 }
 
@@ -42,7 +44,7 @@ fn each_call_is_a_hit_or_a_making(rt: HostRuntime) {
     let mut plan = plan_of(3, 5, 1_001);
     plan.yields = 1;
     let counts = run(&rt, rt.alloc(), &plan).expect(&rt, "ok");
-    assert_eq!(rt; counts.makings.wrapping_add(counts.hits), 15_015);
+    assert_equal(&rt, counts.makings.wrapping_add(counts.hits), 15_015);
     assert!(rt; counts.meetings <= counts.hits);
 }
 
@@ -51,7 +53,7 @@ fn a_clock_takes_part_if_the_plan_says_so(rt: HostRuntime) {
     let mut plan = plan_of(3, 5, 1_001);
     plan.has_clock = true;
     let counts = run(&rt, rt.alloc(), &plan).expect(&rt, "ok");
-    assert_eq!(rt; counts.makings.wrapping_add(counts.hits), 20_020);
+    assert_equal(&rt, counts.makings.wrapping_add(counts.hits), 20_020);
 }
 
 #[test]

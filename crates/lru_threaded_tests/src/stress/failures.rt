@@ -1,5 +1,6 @@
 //! The line for a failed round.
 
+use crate::assertions::assert_equal;
 use lru_stress::outcome::{Check, RoundFailure, Trouble};
 use std::test::Fail;
 
@@ -16,7 +17,7 @@ fn a_failed_check_is_reported_with_its_seed(rt: HostRuntime) -> Result<(), Fail>
     ];
     for (trouble, line) in cases {
         let failure = RoundFailure { seed: 7, trouble };
-        assert_eq!(rt; format!(in alloc; "{failure}")?.as_str(), line);
+        assert_equal(&rt, format!(in alloc; "{failure}")?.as_str(), line);
     }
     Ok(())
 }

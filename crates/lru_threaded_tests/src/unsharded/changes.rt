@@ -1,5 +1,6 @@
 //! A capacity that is set while values are held, made and waited for.
 
+use crate::assertions::assert_equal;
 use crate::contents::make;
 use crate::unsharded::play::in_new;
 use concurrent_lru::unsharded::LruCache;
@@ -115,7 +116,7 @@ fn makers_and_waiters_outlive_a_change(rt: HostRuntime) {
         let told = shrinks_at_a_meeting(&rt, cache);
         (told, (cache.total_charge(), value_found(cache, 1)))
     });
-    assert_eq!(rt; told, (Some(5), (Some(5), Some(3))));
+    assert_equal(&rt, told, (Some(5), (Some(5), Some(3))));
     // The last of the two handles was dropped at capacity 0.
-    assert_eq!(rt; left, (0, None));
+    assert_equal(&rt, left, (0, None));
 }

@@ -1,6 +1,7 @@
 //! The number of entries, the pinned part of the total, and which keys have a value, read from a
 //! cache that threads share.
 
+use crate::assertions::assert_equal;
 use crate::contents::{Contents, NO_USE, charges, looks_for_the_oldest, make};
 use crate::unsharded::play::in_new;
 use concurrent_lru::unsharded::LruCache;
@@ -55,14 +56,16 @@ fn entries_are_counted_and_values_found(rt: HostRuntime) {
             holds_one(&rt, cache),
         )
     });
-    assert_eq!(rt;
+    assert_equal(
+        &rt,
         (before, made),
         (
             (0, true, [false, false]),
-            Some(((1, false, [false, false]), 1))
-        )
+            Some(((1, false, [false, false]), 1)),
+        ),
     );
-    assert_eq!(rt;
+    assert_equal(
+        &rt,
         held,
         [
             (1, false, [true, false]),
@@ -70,7 +73,7 @@ fn entries_are_counted_and_values_found(rt: HostRuntime) {
             (1, false, [true, false]),
             (1, false, [true, false]),
             (0, true, [false, false]),
-        ]
+        ],
     );
 }
 
@@ -98,12 +101,13 @@ fn pinned_charges_are_summed(rt: HostRuntime) {
             holds_two_of_a_key(&rt, cache),
         )
     });
-    assert_eq!(rt;
+    assert_equal(
+        &rt,
         (before, made),
-        ((0, 0), Some(((1, false, [false, false]), 3)))
+        ((0, 0), Some(((1, false, [false, false]), 3))),
     );
     // An invalidated entry counts until its last handle is dropped.
-    assert_eq!(rt; held, [(5, 3), (9, 7), (9, 3), (6, 0)]);
+    assert_equal(&rt, held, [(5, 3), (9, 7), (9, 3), (6, 0)]);
 }
 
 #[test]
@@ -111,5 +115,5 @@ fn a_look_for_a_value_is_no_use_of_it(rt: HostRuntime) {
     let looks = in_new(rt.alloc(), &rt, 2, |cache| {
         looks_for_the_oldest(&rt, cache, [1, 2, 3])
     });
-    assert_eq!(rt; looks, NO_USE);
+    assert_equal(&rt, looks, NO_USE);
 }

@@ -1,6 +1,7 @@
 //! Counts of what calls did: each kind of call, that they add up, and what a reset returns, also
 //! while other threads use the cache.
 
+use crate::assertions::assert_equal;
 use crate::contents::{Contents, charges, make, numbers, value_read};
 use crate::unsharded::makings::{MEETINGS, one_fails_and_one_makes};
 use crate::unsharded::play::in_new;
@@ -138,7 +139,7 @@ fn charges_after<C: Contents>(
 #[test]
 fn each_call_counts_what_it_answers(rt: HostRuntime) -> Result<(), Fail> {
     let charges = in_new(rt.alloc(), &rt, 6, |cache| charges_after(cache, &CALLS))?;
-    assert_eq!(rt; charges, (15, 12, 3));
+    assert_equal(&rt, charges, (15, 12, 3));
     Ok(())
 }
 
@@ -162,7 +163,7 @@ const PUT_IN: [(CountedCall, [u64; 8]); 10] = [
 #[test]
 fn a_value_that_is_put_in_is_inserted_alone(rt: HostRuntime) -> Result<(), Fail> {
     let charges = in_new(rt.alloc(), &rt, 6, |cache| charges_after(cache, &PUT_IN))?;
-    assert_eq!(rt; charges, (18, 18, 0));
+    assert_equal(&rt, charges, (18, 18, 0));
     Ok(())
 }
 
@@ -197,9 +198,10 @@ fn replaces_a_held_value<C: Contents>(cache: C) -> ([(u64, u128); 3], [bool; 2])
 
 #[test]
 fn a_held_value_that_is_replaced_is_evicted_once(rt: HostRuntime) {
-    assert_eq!(rt;
+    assert_equal(
+        &rt,
         in_new(rt.alloc(), &rt, 100, |cache| replaces_a_held_value(cache)),
-        ([(2, 8), (0, 0), (1, 3)], [true, true])
+        ([(2, 8), (0, 0), (1, 3)], [true, true]),
     );
 }
 
@@ -217,7 +219,7 @@ fn a_cache_that_is_printed_counts_nothing(rt: HostRuntime) {
         prints_one(rt.alloc(), cache)
     });
     let text = text.expect(&rt, "memory");
-    assert_eq!(rt; (text.as_str(), counts_nothing), ("{1: 1}", true));
+    assert_equal(&rt, (text.as_str(), counts_nothing), ("{1: 1}", true));
 }
 
 // Prunes beside a held value, and drops its handle at the capacity 0. Returns what was evicted
@@ -237,14 +239,15 @@ fn prunes_beside_a_held_value<R: Abort, C: Contents>(rt: &R, cache: C) -> [((u64
 
 #[test]
 fn a_prune_counts_each_entry_that_it_evicts(rt: HostRuntime) {
-    assert_eq!(rt;
+    assert_equal(
+        &rt,
         in_new(
             rt.alloc(),
             &rt,
             100,
-            |cache| prunes_beside_a_held_value(&rt, cache)
+            |cache| prunes_beside_a_held_value(&rt, cache),
         ),
-        [((5, 15), true), ((6, 22), true)]
+        [((5, 15), true), ((6, 22), true)],
     );
 }
 
@@ -281,8 +284,8 @@ fn an_invalidated_entry_is_evicted_once(rt: HostRuntime) {
         let told = invalidates_idle_and_held(&rt, cache);
         (told, (inserted(cache), cache.len(), cache.total_charge()))
     });
-    assert_eq!(rt; told, ([(1, 3), (1, 3), (1, 3), (2, 8)], [true, true]));
-    assert_eq!(rt; left, ((3, 15), 1, 7));
+    assert_equal(&rt, told, ([(1, 3), (1, 3), (1, 3), (2, 8)], [true, true]));
+    assert_equal(&rt, left, ((3, 15), 1, 7));
 }
 
 // Counts three calls and resets the counts. Returns the counts before, what the reset returns and
@@ -308,7 +311,7 @@ fn a_reset_answers_what_was_counted(rt: HostRuntime) {
     let (empty, told) = in_new(rt.alloc(), &rt, 100, |cache| {
         ([cache.counts(), cache.reset_counts()], resets_twice(cache))
     });
-    assert_eq!(rt; empty, [Counts::default(); 2]);
+    assert_equal(&rt, empty, [Counts::default(); 2]);
     let counted = Counts {
         hits: 1,
         misses: 2,
@@ -323,7 +326,7 @@ fn a_reset_answers_what_was_counted(rt: HostRuntime) {
         charge_before: 20,
         ..Counts::default()
     };
-    assert_eq!(rt; told, ([counted, counted, anew], (1, 10), [true, true]));
+    assert_equal(&rt, told, ([counted, counted, anew], (1, 10), [true, true]));
 }
 
 // Returns the text of the counts of two makings of which the second evicts, and of those after a
@@ -347,15 +350,17 @@ fn counts_are_told_in_one_line(rt: HostRuntime) {
         |cache| lines_of_counts(rt.alloc(), cache),
     );
     let (told, anew) = lines.expect(&rt, "memory");
-    assert_eq!(rt;
+    assert_equal(
+        &rt,
         told.as_str(),
         "hits 1, misses 2, waits 0, refusals 0, makings 2, failures 0, \
-         inserted 2 of charge 6, evicted 1 of charge 3, removed 0 of charge 0, before 0 of charge 0"
+         inserted 2 of charge 6, evicted 1 of charge 3, removed 0 of charge 0, before 0 of charge 0",
     );
-    assert_eq!(rt;
+    assert_equal(
+        &rt,
         anew.as_str(),
         "hits 0, misses 0, waits 0, refusals 0, makings 0, failures 0, \
-         inserted 0 of charge 0, evicted 0 of charge 0, removed 0 of charge 0, before 1 of charge 3"
+         inserted 0 of charge 0, evicted 0 of charge 0, removed 0 of charge 0, before 1 of charge 3",
     );
 }
 
@@ -373,12 +378,13 @@ fn the_hit_ratio_is_of_hits_and_misses(rt: HostRuntime) {
         hits: u64::MAX,
         ..some
     };
-    assert_eq!(rt;
+    assert_equal(
+        &rt,
         [none, some, more].map(|counts| counts.hit_ratio()),
-        [None, Some(0.75), Some(1.0)]
+        [None, Some(0.75), Some(1.0)],
     );
     let sum = more.saturating_add(some);
-    assert_eq!(rt; (sum.hits, sum.misses), (u64::MAX, 2));
+    assert_equal(&rt, (sum.hits, sum.misses), (u64::MAX, 2));
 }
 
 // Returns the counts after two callers asked for one value, the second while the first made it, or
@@ -405,9 +411,10 @@ fn a_caller_that_waits_is_counted(rt: HostRuntime) {
         }
     }
     let counts = counts.expect(&rt, "the second never waited");
-    assert_eq!(rt;
+    assert_equal(
+        &rt,
         (numbers(&counts), counts.waits),
-        ([0, 1, 0, 1, 0, 1, 0, 0], 1)
+        ([0, 1, 0, 1, 0, 1, 0, 0], 1),
     );
 }
 
@@ -433,9 +440,10 @@ fn a_making_that_is_taken_over_is_counted(rt: HostRuntime) {
         }
     }
     let counts = counts.expect(&rt, "the second never waited");
-    assert_eq!(rt;
+    assert_equal(
+        &rt,
         (numbers(&counts), counts.waits),
-        ([0, 1, 0, 2, 1, 1, 0, 0], 1)
+        ([0, 1, 0, 2, 1, 1, 0, 0], 1),
     );
 }
 
@@ -469,13 +477,13 @@ fn four_threads_counts_add_up(rt: HostRuntime) {
         four_work(&rt, rt.alloc(), cache)
     });
     let answered = answered.expect(&rt, "four threads");
-    assert_eq!(rt; answered.as_slice(), [true; 4].as_slice());
+    assert_equal(&rt, answered.as_slice(), [true; 4].as_slice());
     assert!(rt; adds_up);
     let asked = counts
         .hits
         .wrapping_add(counts.misses)
         .wrapping_add(counts.waits);
-    assert_eq!(rt; (asked, counts.refusals), (4_000, 0));
+    assert_equal(&rt, (asked, counts.refusals), (4_000, 0));
 }
 
 // No call is missed between two resets, and none is counted twice.
@@ -484,5 +492,5 @@ fn each_call_is_counted_in_one_reset(rt: HostRuntime) {
     let asked = in_new(rt.alloc(), &rt, 8, |cache| {
         lookups_between_resets(&rt, rt.alloc(), &cache)
     });
-    assert_eq!(rt; asked, Ok(EACH_ONCE));
+    assert_equal(&rt, asked, Ok(EACH_ONCE));
 }

@@ -1,5 +1,6 @@
 //! Caches and handles that cross threads.
 
+use crate::assertions::assert_equal;
 use crate::contents::{let_go_by_another, make};
 use crate::unsharded::play::in_new;
 use concurrent_lru::fit::Fit;
@@ -40,7 +41,7 @@ fn shares_and_hands_on<R: Wait + Send + Sync, T: Threads + Abort>(
 fn threads_share_a_handle_and_hand_it_on(rt: HostRuntime) {
     let own = rt.clone().expect(&rt, "memory");
     let told = in_new(rt.alloc(), own, 2, |cache| shares_and_hands_on(&rt, cache));
-    assert_eq!(rt; told, ((5, 5), [3, 0]));
+    assert_equal(&rt, told, ((5, 5), [3, 0]));
 }
 
 // Makes key 1 with the value 7, and returns whether it succeeded.
@@ -81,7 +82,7 @@ fn made_and_found<R: Wait + Drop + Send + Sync + 'static, T: Threads + Abort>(
 #[test]
 fn one_thread_finds_what_another_made(rt: HostRuntime) {
     let own = rt.clone().expect(&rt, "memory");
-    assert_eq!(rt; made_and_found(&rt, rt.alloc(), own), (true, Some(7)));
+    assert_equal(&rt, made_and_found(&rt, rt.alloc(), own), (true, Some(7)));
 }
 
 // Accepts what may be sent to another thread and shared with it.

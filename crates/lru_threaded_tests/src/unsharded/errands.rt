@@ -1,6 +1,7 @@
 //! Values whose drops use the cache: whatever evicts them, no lock is held, and the totals are
 //! right afterwards.
 
+use crate::assertions::assert_equal_at;
 use concurrent_lru::unsharded::LruCache;
 use lru_support::errands::{Outcome, Sent, causes, outcome_in};
 use lru_support::gates::Cause;
@@ -29,10 +30,11 @@ fn outcome<R: Wait + Threads + Send + Sync>(
 #[test]
 fn drops_may_use_the_cache(rt: HostRuntime) {
     for (cause, capacity, wanted) in causes(CLEARED) {
-        assert_eq!(rt;
+        assert_equal_at(
+            &rt,
             outcome(&rt, rt.alloc(), cause, capacity),
             Some(wanted),
-            "{cause:?}"
+            cause,
         );
     }
 }

@@ -2,6 +2,7 @@
 //!
 //! In each test two threads have to meet; if one held the lock, a limit would end the wait.
 
+use crate::assertions::{assert_equal, assert_equal_at};
 use crate::unsharded::play::in_new;
 use concurrent_lru::unsharded::LruCache;
 use lru_support::gates::{CAUSES, Cause, Slow, total_in_drop};
@@ -18,7 +19,7 @@ fn makers_run_without_the_lock(rt: HostRuntime) {
         10,
         |cache| makers_meet(&rt, &cache, (1, 2)),
     );
-    assert_eq!(rt; met, (true, true));
+    assert_equal(&rt, met, (true, true));
 }
 
 // Returns the total while a new cache of this capacity drops a value.
@@ -35,10 +36,11 @@ fn total_of<R: Wait + Threads + Clone + Drop + Sync + Send>(
 #[test]
 fn drops_run_without_the_lock(rt: HostRuntime) {
     for (cause, capacity, total) in CAUSES {
-        assert_eq!(rt;
+        assert_equal_at(
+            &rt,
             total_of(&rt, rt.alloc(), cause, capacity),
             Some(total),
-            "{cause:?}"
+            cause,
         );
     }
 }
@@ -56,5 +58,5 @@ fn text_of_new<R: Wait + Threads + Clone + Drop + Sync + Send>(
 fn a_handle_is_read_without_the_lock(rt: HostRuntime) {
     let read = text_of_new(&rt, rt.alloc());
     let (text, number) = read.expect(&rt, "a meeting");
-    assert_eq!(rt; (text.as_str(), number), ("{1: 7}", 7));
+    assert_equal(&rt, (text.as_str(), number), ("{1: 7}", 7));
 }

@@ -1,5 +1,6 @@
 //! Forgotten handles, the code of an error, and how a cache is printed.
 
+use crate::assertions::assert_equal;
 use crate::contents::make;
 use crate::unsharded::play::{in_new, plays};
 use concurrent_lru::unsharded::{GetError, LruCache};
@@ -43,7 +44,7 @@ fn a_handle_is_cloned(rt: HostRuntime) {
     let told = in_new(rt.alloc(), &rt, 0, |cache| {
         (clones_twice(&rt, cache), cache.total_charge())
     });
-    assert_eq!(rt; told, ((5, 3), 0));
+    assert_equal(&rt, told, ((5, 3), 0));
 }
 
 const PRINTED: [(ThreadedCall, &str); 5] = [
@@ -79,7 +80,7 @@ fn prints_no_entry_in_the_making(rt: HostRuntime) {
         |cache| text_in_a_making(rt.alloc(), cache),
     );
     let text = text.expect(&rt, "memory");
-    assert_eq!(rt; text.as_str(), "{}");
+    assert_equal(&rt, text.as_str(), "{}");
 }
 
 #[test]
@@ -90,5 +91,5 @@ fn an_error_has_a_code(rt: HostRuntime) {
         GetError::Init(9u8).code(),
         GetError::<u8>::Full.code(),
     ];
-    assert_eq!(rt; codes, [1, 2, 4, 5]);
+    assert_equal(&rt, codes, [1, 2, 4, 5]);
 }

@@ -1,5 +1,6 @@
 //! Values that are invalidated while handles read them, and while callers wait for them.
 
+use crate::assertions::assert_equal;
 use crate::unsharded::play::{in_new, plays};
 use concurrent_lru::unsharded::LruCache;
 use lru_support::cached::Cached;
@@ -184,8 +185,8 @@ fn a_handle_reads_its_own_value(rt: HostRuntime) {
     let (read, left) = in_new(rt.alloc(), &rt, 10, |cache| {
         (reads_around(cache), (cache.total_charge(), cache.len()))
     });
-    assert_eq!(rt; read, Some((5, None, false, 6)));
-    assert_eq!(rt; left, (1, 1));
+    assert_equal(&rt, read, Some((5, None, false, 6)));
+    assert_equal(&rt, left, (1, 1));
 }
 
 // Returns the value of key 1, made as 5 and invalidated before it is ready.
@@ -240,12 +241,12 @@ fn a_waiter_has_the_outcome_of_its_making(rt: HostRuntime) {
             let told = takes_back_at_a_meeting(&rt, cache);
             (told, (value_found(cache, 1), cache.total_charge()))
         });
-        assert_eq!(rt; made, Some(5));
+        assert_equal(&rt, made, Some(5));
         let wanted = if came == Some((5, false)) {
             (Some((5, false)), (None, 0))
         } else {
             (Some((6, true)), (Some(6), 7))
         };
-        assert_eq!(rt; (came, left), wanted);
+        assert_equal(&rt, (came, left), wanted);
     }
 }

@@ -1,5 +1,6 @@
 //! Keys by reference: each call does what its call by value does, and a hit keeps no copy.
 
+use crate::assertions::assert_equal;
 use crate::unsharded::play::in_new;
 use concurrent_lru::unsharded::{GetError, LruCache};
 use std::alloc::Global;
@@ -39,9 +40,10 @@ fn asks_new_by_text<R: Wait + Abort>(
 #[test]
 fn a_text_is_asked_by_reference(rt: HostRuntime) {
     let key = String::from_str(rt.alloc(), "foo").expect(&rt, "memory");
-    assert_eq!(rt;
+    assert_equal(
+        &rt,
         asks_new_by_text(&rt, rt.alloc(), &key),
-        (true, (7, 7), [1, 0])
+        (true, (7, 7), [1, 0]),
     );
 }
 
@@ -76,8 +78,8 @@ fn hits_new_twice<R: Wait + Abort>(
 fn a_hit_keeps_no_copy_of_the_key(rt: HostRuntime) {
     let key = Arc::new(rt.alloc(), 3).expect(&rt, "memory");
     let ((is_found, value, [before, after]), pruned) = hits_new_twice(&rt, rt.alloc(), &key);
-    assert_eq!(rt; (is_found, value), (true, 7));
-    assert_eq!(rt; (after, pruned), (before, 1));
+    assert_equal(&rt, (is_found, value), (true, 7));
+    assert_equal(&rt, (after, pruned), (before, 1));
 }
 
 // Fails to make key 1, and then makes it. Returns whether the error was that of the `init` and the
@@ -100,5 +102,5 @@ fn fails_and_makes<R: Wait>(cache: &LruCache<u64, u64, R>) -> ((bool, u64), (Opt
 #[test]
 fn an_init_by_reference_may_fail(rt: HostRuntime) {
     let told = in_new(rt.alloc(), &rt, 10, |cache| fails_and_makes(cache));
-    assert_eq!(rt; told, ((true, 0), (Some(2), 3)));
+    assert_equal(&rt, told, ((true, 0), (Some(2), 3)));
 }

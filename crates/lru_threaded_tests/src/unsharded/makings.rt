@@ -1,5 +1,6 @@
 //! Two callers of one value: the second waits, takes over, or finds what the first made.
 
+use crate::assertions::assert_equal;
 use crate::contents::{ONE_MADE, two_callers};
 use crate::unsharded::play::in_new;
 use concurrent_lru::unsharded::{GetError, LruCache};
@@ -15,7 +16,7 @@ use std::thread::Threads;
 #[test]
 fn one_value_for_two_callers(rt: HostRuntime) {
     let told = in_new(rt.alloc(), &rt, 10, |cache| two_callers(&rt, &cache));
-    assert_eq!(rt; told, ONE_MADE);
+    assert_equal(&rt, told, ONE_MADE);
 }
 
 /// Fails to make key 1 once the other caller comes, and returns whether it did.
@@ -83,7 +84,7 @@ fn another_takes_a_failed_making_over(rt: HostRuntime) {
             total = total_after_failure(&rt, rt.alloc());
         }
     }
-    assert_eq!(rt; total, Some(3));
+    assert_equal(&rt, total, Some(3));
 }
 
 // Returns the value of key 1, whose `init` asks for key 2, made as 6.
@@ -103,5 +104,5 @@ fn a_maker_may_use_the_cache(rt: HostRuntime) {
     let told = in_new(rt.alloc(), &rt, 10, |cache| {
         (makes_by_another_key(cache), cache.total_charge())
     });
-    assert_eq!(rt; told, (Some(6), 2));
+    assert_equal(&rt, told, (Some(6), 2));
 }

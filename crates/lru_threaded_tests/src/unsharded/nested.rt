@@ -1,5 +1,6 @@
 //! Makers that use the cache for other keys, three deep.
 
+use crate::assertions::assert_equal_at;
 use crate::unsharded::play::in_new;
 use concurrent_lru::unsharded::LruCache;
 use lru_support::makings::value_found;
@@ -50,10 +51,11 @@ fn makers_use_the_cache_three_deep(rt: HostRuntime) {
             let total = cache.total_charge();
             (made, total, [1, 2, 3].map(|key| value_found(cache, key)))
         });
-        assert_eq!(rt;
+        assert_equal_at(
+            &rt,
             (made, total, values),
             (111, capacity, left),
-            "at capacity {capacity}"
+            ("at capacity", capacity),
         );
     }
 }

@@ -1,5 +1,6 @@
 //! Handles read as their values, and owned ones keep their cache alive.
 
+use crate::assertions::assert_equal;
 use crate::contents::{make, numbers};
 use crate::unsharded::play::in_new;
 use concurrent_lru::unsharded::{LruCache, OwnedHandle};
@@ -22,7 +23,7 @@ fn reads_as_value<A: Abort, R: Wait>(rt: &A, cache: &LruCache<u64, u64, R>) -> u
 #[test]
 fn a_handle_is_read_as_its_value(rt: HostRuntime) {
     let value = in_new(rt.alloc(), &rt, 0, |cache| reads_as_value(&rt, cache));
-    assert_eq!(rt; value, 5);
+    assert_equal(&rt, value, 5);
 }
 
 // Returns what a closure answers of a new cache with one owner, or `None` if memory is refused.
@@ -40,7 +41,7 @@ where
 #[test]
 fn an_entry_stays_until_its_owned_handles_are_dropped(rt: HostRuntime) {
     let told = in_shared(rt.alloc(), &rt, 0, |shared| drops_two_handles(shared));
-    assert_eq!(rt; told, Some(Some(DROPPED_IN_TURN)));
+    assert_equal(&rt, told, Some(Some(DROPPED_IN_TURN)));
 }
 
 // Drops a handle of key 1 and then its clone. Returns what the clone reads and whether the key has
@@ -57,7 +58,7 @@ fn drops_a_clone_last<A: Abort, R: Wait + Drop>(rt: &A, shared: &Shared<R>) -> (
 #[test]
 fn a_clone_of_an_owned_handle_has_a_pin_of_its_own(rt: HostRuntime) {
     let told = in_shared(rt.alloc(), &rt, 0, |shared| drops_a_clone_last(&rt, shared));
-    assert_eq!(rt; told, Some(((5, true), true)));
+    assert_equal(&rt, told, Some(((5, true), true)));
 }
 
 #[test]
@@ -65,7 +66,7 @@ fn an_owned_init_may_fail(rt: HostRuntime) {
     let told = in_shared(rt.alloc(), &rt, 10, |shared| {
         (fails_once(shared), Arc::strong_count(shared))
     });
-    assert_eq!(rt; told, Some(((Some(9), 0, Some(4)), 1)));
+    assert_equal(&rt, told, Some(((Some(9), 0, Some(4)), 1)));
 }
 
 // Returns a handle whose cache has no other owner.
@@ -90,7 +91,7 @@ fn value_and_text<R: Wait + Drop>(alloc: Global, rt: R) -> Option<(u64, String)>
 #[test]
 fn an_owned_handle_keeps_its_cache_alive(rt: HostRuntime) {
     let (value, text) = value_and_text(rt.alloc(), &rt).expect(&rt, "memory");
-    assert_eq!(rt; (value, text.as_str()), (5, "5"));
+    assert_equal(&rt, (value, text.as_str()), (5, "5"));
 }
 
 // Reads a handle and drops it.
@@ -112,7 +113,7 @@ fn read_elsewhere<R: Wait + Drop + Send + Sync + 'static, T: Threads + Abort>(
 #[test]
 fn an_owned_handle_ends_on_another_thread(rt: HostRuntime) {
     let own = rt.clone().expect(&rt, "memory");
-    assert_eq!(rt; read_elsewhere(&rt, rt.alloc(), own), 5);
+    assert_equal(&rt, read_elsewhere(&rt, rt.alloc(), own), 5);
 }
 
 // Each call counts as the one that it is named after.
@@ -120,6 +121,6 @@ fn an_owned_handle_ends_on_another_thread(rt: HostRuntime) {
 fn owned_calls_are_counted(rt: HostRuntime) {
     let told = in_shared(rt.alloc(), &rt, 0, |shared| counts_of_calls(shared));
     let (held, dropped) = told.expect(&rt, "memory").expect(&rt, "no other answer");
-    assert_eq!(rt; numbers(&held), [2, 3, 0, 2, 1, 2, 0, 1]);
-    assert_eq!(rt; (dropped.evictions, dropped.evicted_charge), (1, 3));
+    assert_equal(&rt, numbers(&held), [2, 3, 0, 2, 1, 2, 0, 1]);
+    assert_equal(&rt, (dropped.evictions, dropped.evicted_charge), (1, 3));
 }

@@ -1,6 +1,7 @@
 //! An example of a loader that may fail: a pool that opens connections on demand, pins two, and
 //! closes one to make room.
 
+use crate::assertions::assert_equal;
 use concurrent_lru::lru_core::Refusal;
 use concurrent_lru::unsharded::{GetError, LruCache};
 use std::alloc::Global;
@@ -68,15 +69,16 @@ fn is_closed<R: Wait>(pool: &LruCache<u64, Connection, R>) -> bool {
 fn opens_on_demand<R: Wait + Abort>(rt: &R, alloc: Global) {
     // Keeps idle connections while at most one is open in all.
     let pool = LruCache::new(alloc, rt, 1);
-    assert_eq!(rt; web_and_mail(&pool), Ok((80, 25)));
+    assert_equal(rt, web_and_mail(&pool), Ok((80, 25)));
     // In use, both were open; the one that was released first was closed to make room.
-    assert_eq!(rt;
+    assert_equal(
+        rt,
         [is_open(&pool, 25), is_open(&pool, 80)],
-        [Ok(false), Ok(true)]
+        [Ok(false), Ok(true)],
     );
-    assert_eq!(rt; web_and_mail(&pool), Ok((80, 25)));
+    assert_equal(rt, web_and_mail(&pool), Ok((80, 25)));
     // Room is made before the connection is opened, so one that fails may close another.
-    assert_eq!(rt; (is_closed(&pool), pool.total_charge()), (true, 0));
+    assert_equal(rt, (is_closed(&pool), pool.total_charge()), (true, 0));
 }
 
 #[test]

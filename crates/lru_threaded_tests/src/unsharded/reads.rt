@@ -1,5 +1,6 @@
 //! Reads without a handle: they count as uses, see the value under its mark, and leave no pin.
 
+use crate::assertions::assert_equal;
 use crate::contents::{Read, four_read, make, make_each, value_read};
 use crate::unsharded::play::in_new;
 use concurrent_lru::unsharded::LruCache;
@@ -36,14 +37,15 @@ fn reads_as_uses<R: Abort, C: Cached<u64>>(rt: &R, cache: C) -> ([Read; 2], [Rea
 fn a_read_counts_as_a_use(rt: HostRuntime) {
     let told = in_new(rt.alloc(), &rt, 2, |cache| reads_as_uses(&rt, cache));
     // A read leaves no pin, so the prune evicts all.
-    assert_eq!(rt;
+    assert_equal(
+        &rt,
         told,
         (
             [Ok(None), Ok(Some(10))],
             [Ok(None), Ok(Some(10)), Ok(Some(30))],
             0,
-            Ok(None)
-        )
+            Ok(None),
+        ),
     );
 }
 
@@ -74,8 +76,8 @@ fn a_read_sees_a_held_value_and_none_that_is_being_made(rt: HostRuntime) {
     let (held, made) = in_new(rt.alloc(), &rt, 0, |cache| {
         (reads_while_held(&rt, cache), made_unread(cache))
     });
-    assert_eq!(rt; held, (Ok(Some(25)), 1, Ok(None)));
-    assert_eq!(rt; made, Some(60));
+    assert_equal(&rt, held, (Ok(Some(25)), 1, Ok(None)));
+    assert_equal(&rt, made, Some(60));
 }
 
 // Returns the double of 7, made with a handle and then read.
@@ -94,7 +96,7 @@ fn reads_a_new_double<R: Wait + Abort>(rt: &R, alloc: Global) -> u64 {
 
 #[test]
 fn a_read_proves_its_answer(rt: HostRuntime) {
-    assert_eq!(rt; reads_a_new_double(&rt, rt.alloc()), 14);
+    assert_equal(&rt, reads_a_new_double(&rt, rt.alloc()), 14);
 }
 
 #[test]
@@ -103,6 +105,6 @@ fn four_threads_read_what_they_make(rt: HostRuntime) {
         four_read(&rt, rt.alloc(), &cache)
     });
     let right = right.expect(&rt, "four threads");
-    assert_eq!(rt; right.as_slice(), [true; 4].as_slice());
-    assert_eq!(rt; totals, [u128::from(CAPACITY), 0]);
+    assert_equal(&rt, right.as_slice(), [true; 4].as_slice());
+    assert_equal(&rt, totals, [u128::from(CAPACITY), 0]);
 }

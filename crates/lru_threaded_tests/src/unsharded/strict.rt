@@ -1,6 +1,7 @@
 //! The capacity as a strict limit.
 ghost use Rattle.std.specs.Prelude.{◌<◌};
 
+use crate::assertions::assert_equal;
 use crate::unsharded::play::in_new;
 use concurrent_lru::lru_core::Refusal;
 use concurrent_lru::unsharded::LruCache;
@@ -48,8 +49,8 @@ fn asks_beside_a_handle<A: Abort, R: Wait>(
 fn a_strict_limit_refuses_what_handles_leave_no_room_for(rt: HostRuntime) {
     let (answers, left) = in_new(rt.alloc(), &rt, 4, |cache| asks_beside_a_handle(&rt, cache));
     let full = Err(Refusal::Full);
-    assert_eq!(rt; answers, [Ok(1), full, Ok(2), full, Ok(3)]);
-    assert_eq!(rt; left, (4, 2, 1));
+    assert_equal(&rt, answers, [Ok(1), full, Ok(2), full, Ok(3)]);
+    assert_equal(&rt, left, (4, 2, 1));
 }
 
 // Whether the limit is strict, and the answer to a call that exceeds it.
@@ -66,13 +67,14 @@ fn asks_around_a_strict_limit<R: Wait>(cache: &LruCache<u64, u64, R>) -> [Asked;
 
 #[test]
 fn a_limit_is_strict_while_it_is_set_so(rt: HostRuntime) {
-    assert_eq!(rt;
+    assert_equal(
+        &rt,
         in_new(
             rt.alloc(),
             &rt,
             1,
-            |cache| asks_around_a_strict_limit(cache)
+            |cache| asks_around_a_strict_limit(cache),
         ),
-        [(false, Ok(1)), (true, Err(Refusal::Full)), (false, Ok(1))]
+        [(false, Ok(1)), (true, Err(Refusal::Full)), (false, Ok(1))],
     );
 }

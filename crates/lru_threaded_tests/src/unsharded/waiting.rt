@@ -2,6 +2,7 @@
 //!
 //! If a caller is never woken, a limit ends the test.
 
+use crate::assertions::assert_equal_at;
 use concurrent_lru::unsharded::LruCache;
 use lru_support::cached::Cached;
 use lru_support::flags::{reaches, yield_times};
@@ -132,10 +133,11 @@ fn all_get_the_value<R: Wait + Threads + Abort + Clone + Drop + Send + Sync>(
             callers,
             failures,
         };
-        assert_eq!(rt;
+        assert_equal_at(
+            rt,
             play(rt, alloc, round),
             Some((failures.wrapping_add(1), callers, 0)),
-            "in {round:?}"
+            round,
         );
     }
 }

@@ -1,5 +1,6 @@
 //! `for_each`: which entries it shows, and what it says of each.
 
+use crate::assertions::assert_equal;
 use crate::contents::{Contents, Sums, WALKS, walks};
 use crate::unsharded::play::in_new;
 use concurrent_lru::unsharded::LruCache;
@@ -8,7 +9,7 @@ use std::sync::Wait;
 #[test]
 fn entries_that_keys_find_are_shown(rt: HostRuntime) {
     let told = in_new(rt.alloc(), &rt, 1_000, |cache| walks(&rt, cache));
-    assert_eq!(rt; told, WALKS);
+    assert_equal(&rt, told, WALKS);
 }
 
 // Returns what `for_each` shows while key 5 is made.
@@ -30,5 +31,5 @@ fn an_entry_is_shown_once_it_has_a_value(rt: HostRuntime) {
         1_000,
         |cache| (sums_in_a_making(cache), cache.sums()),
     );
-    assert_eq!(rt; told, (Some([0; 5]), [1, 5, 5, 50, 0]));
+    assert_equal(&rt, told, (Some([0; 5]), [1, 5, 5, 50, 0]));
 }

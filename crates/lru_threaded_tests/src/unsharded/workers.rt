@@ -1,5 +1,6 @@
 //! Four threads that use one cache with a mark, each of which proves what it reads.
 
+use crate::assertions::assert_equal;
 use concurrent_lru::unsharded::LruCache;
 use lru_support::marks::{Twice, reads_doubles};
 use std::alloc::Global;
@@ -24,7 +25,7 @@ fn four_read<R: Wait + Threads + Send + Sync>(
 fn four_threads_read_doubles(rt: HostRuntime) {
     let (read, [total, pruned]) = four_read(&rt, rt.alloc());
     let read = read.expect(&rt, "four threads");
-    assert_eq!(rt; read.as_slice(), [true; 4].as_slice());
+    assert_equal(&rt, read.as_slice(), [true; 4].as_slice());
     assert!(rt; total <= 10);
-    assert_eq!(rt; pruned, 0);
+    assert_equal(&rt, pruned, 0);
 }
