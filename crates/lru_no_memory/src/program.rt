@@ -2,7 +2,8 @@
 
 use crate::failure::Failure;
 use crate::report::Report;
-use crate::scripts::SCRIPTS;
+use crate::scripts;
+use crate::scripts::Named;
 use std::alloc::Global;
 use std::io::Write;
 use std::sync::Wait;
@@ -57,7 +58,21 @@ fn run_scripts<R: Threads + Wait + Sync + Send, O: Write, E: Write>(
     report: &mut Report<'_, O, E>,
 ) -> Result<bool, Failure> {
     let mut ran = false;
-    for (name, script) in SCRIPTS {
+    for list in scripts::lists() {
+        ran |= run_list(rt, alloc, wanted, list, report)?;
+    }
+    Ok(ran)
+}
+
+fn run_list<R: Threads + Wait + Sync + Send, O: Write, E: Write>(
+    rt: &R,
+    alloc: Global,
+    wanted: Option<&str>,
+    list: &[Named],
+    report: &mut Report<'_, O, E>,
+) -> Result<bool, Failure> {
+    let mut ran = false;
+    for (name, script) in list {
         if is_asked(wanted, *name) {
             report.begin(*name);
             script.run(rt, alloc, report)?;

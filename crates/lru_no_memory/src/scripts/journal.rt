@@ -3,9 +3,29 @@
 //! inserts are the calls of caches without a lock.
 
 use crate::calls::TextCall;
+use crate::script::Script;
+use crate::scripts::Named;
+use crate::scripts::state::{PUT_IN, READS, TAKEN_BACK};
 use lru_support::tables::Call::{
     AdviceEvict, Begin, Fail, Get, Poll, Prune, Ready, Release, SetCapacity, Total,
 };
+
+/// Returns these scripts.
+pub fn all() -> &'static [Named] {
+    ALL
+}
+
+const ALL: &[Named] = &[
+    ("journal-evicts", Script::Journal(1, EVICTS)),
+    ("journal-polls", Script::Journal(10, POLLS)),
+    ("journal-stores", Script::Journal(10, STORES)),
+    ("journal-fails", Script::Journal(10, FAILS)),
+    ("journal-reads", Script::Journal(2, READS)),
+    ("journal-taken-back", Script::Journal(10, TAKEN_BACK)),
+    ("journal-put-in", Script::Journal(3, PUT_IN)),
+    ("journal-finds-nothing", Script::Journal(10, FINDS_NOTHING)),
+    ("journal-refuses", Script::Journal(10, REFUSES)),
+];
 
 /// A new entry evicts an idle one.
 pub const EVICTS: &[TextCall] = &[

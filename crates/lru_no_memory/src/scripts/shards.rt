@@ -1,9 +1,23 @@
 //! The calls of shards without a lock.
 
+use crate::script::Script;
+use crate::scripts::Named;
 use crate::shards::ShardCall;
 use lru_support::tables::Call::{
     Begin, Fail, Get, Insert, Invalidate, Poll, Prune, Read, Ready, Release, SetCapacity, Total,
 };
+
+/// Returns these scripts.
+pub fn all() -> &'static [Named] {
+    ALL
+}
+
+const ALL: &[Named] = &[
+    ("shards-one-evicts", Script::Shards(2, 2, SHARDS)),
+    ("shards-taken-back", Script::Shards(6, 2, SHARDS_TAKEN_BACK)),
+    ("shards-put-in", Script::Shards(6, 2, SHARDS_PUT_IN)),
+    ("shards-list", Script::ShardList),
+];
 
 /// A new entry evicts in its own shard only.
 pub const SHARDS: &[ShardCall] = &[

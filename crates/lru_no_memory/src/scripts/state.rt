@@ -2,11 +2,38 @@
 //! are made of a journal and of a twin too.
 
 use crate::calls::TextCall;
+use crate::script::Script;
+use crate::scripts::Named;
 use crate::state::Limits;
 use lru_support::tables::Call::{
     AdviceEvict, Begin, Fail, Get, Insert, Invalidate, Poll, Prune, Read, Ready, Release,
     SetCapacity, Total,
 };
+
+/// Returns these scripts.
+pub fn all() -> &'static [Named] {
+    ALL
+}
+
+const ALL: &[Named] = &[
+    ("state-pinned", Script::State(2, PINNED)),
+    ("state-handed-over", Script::State(10, HANDED_OVER)),
+    (
+        "state-last-stamp",
+        Script::Limited(AT_LAST_STAMP, LAST_STAMP),
+    ),
+    ("state-one-pin", Script::Limited(OF_ONE_PIN, ONE_PIN)),
+    ("state-strays", Script::State(10, STRAYS)),
+    ("state-hits", Script::State(10, HITS)),
+    ("state-reads", Script::State(2, READS)),
+    ("state-taken-back", Script::State(10, TAKEN_BACK)),
+    ("state-put-in", Script::State(3, PUT_IN)),
+    ("state-capacities", Script::State(9, CAPACITIES)),
+    ("state-growths", Script::State(9, GROWTHS)),
+    ("state-room", Script::Limited(WITH_ROOM, GROWTHS)),
+    ("state-much-room", Script::Limited(WITH_MUCH_ROOM, FILLED)),
+    ("state-list", Script::List),
+];
 
 /// A pinned entry stays, whatever is inserted, and becomes the newest idle one when it is released.
 pub const PINNED: &[TextCall] = &[

@@ -1,11 +1,49 @@
 //! The calls of caches that threads share.
 
+use crate::script::Script;
+use crate::scripts::Named;
 use lru_support::threaded::Then::AtOnce;
 use lru_support::threaded::ThreadedCall;
 use lru_support::threaded::ThreadedCall::{
     Contains, Fail, Get, Init, Insert, Invalidate, Prune, Read, Reserve, SetCapacity, Total,
     TryInit,
 };
+
+/// Returns these scripts.
+pub fn all() -> &'static [Named] {
+    ALL
+}
+
+const ALL: &[Named] = &[
+    ("unsharded-values", Script::Unsharded(10, VALUES)),
+    ("unsharded-evicts", Script::Unsharded(5, LARGE_VALUES)),
+    ("unsharded-fails", Script::Unsharded(10, FAILED)),
+    ("unsharded-reads", Script::Unsharded(2, READ_VALUES)),
+    ("unsharded-taken-back", Script::Unsharded(10, TAKEN_VALUES)),
+    ("unsharded-put-in", Script::Unsharded(3, PUT_VALUES)),
+    ("unsharded-room", Script::Unsharded(10, ROOM)),
+    ("unsharded-much-room", Script::Unsharded(40, MUCH_ROOM)),
+    ("unsharded-over-two", Script::OverTwo),
+    ("unsharded-two-threads", Script::Meeting),
+    ("sharded-values", Script::Sharded(10, 1, VALUES)),
+    ("sharded-evicts", Script::Sharded(5, 1, LARGE_VALUES)),
+    ("sharded-fails", Script::Sharded(10, 1, FAILED)),
+    ("sharded-reads", Script::Sharded(2, 1, READ_VALUES)),
+    ("sharded-taken-back", Script::Sharded(160, 16, TAKEN_VALUES)),
+    ("sharded-put-in", Script::Sharded(3, 1, PUT_VALUES)),
+    ("sharded-room", Script::Sharded(40, 4, ROOM)),
+    ("sharded-much-room", Script::Sharded(80, 2, MUCH_ROOM)),
+    ("sharded-many", Script::Sharded(160, 16, VALUES)),
+    ("clock-values", Script::Clock(10, 1, VALUES)),
+    ("clock-evicts", Script::Clock(5, 1, LARGE_VALUES)),
+    ("clock-fails", Script::Clock(10, 1, FAILED)),
+    ("clock-reads", Script::Clock(2, 1, READ_VALUES)),
+    ("clock-taken-back", Script::Clock(160, 16, TAKEN_VALUES)),
+    ("clock-put-in", Script::Clock(3, 1, PUT_VALUES)),
+    ("clock-room", Script::Clock(40, 4, ROOM)),
+    ("clock-much-room", Script::Clock(80, 2, MUCH_ROOM)),
+    ("clock-grows", Script::ClockGrowth),
+];
 
 /// A present key keeps its value.
 pub const VALUES: &[ThreadedCall] = &[
