@@ -1,7 +1,7 @@
 //! The scripts, each with its name, in a list for each kind of cache.
 //!
-//! The proof of a function goes over all of a constant that it names, and takes about as long as the
-//! square of its length. So each list is named by one function only.
+//! The proof of a function goes over all of each constant that it names, and its time grows with
+//! about the square of the constant's length. So one function names each list.
 
 mod journal;
 mod shards;

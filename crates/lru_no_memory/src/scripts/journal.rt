@@ -1,6 +1,6 @@
-//! The calls of a journal and of a twin. They have each call once where its record needs new room:
-//! there is none at first, then it lasts for four records, and then for eight. Those of reads and
-//! inserts are the calls of caches without a lock.
+//! The scripts of a journal, which are run on a twin too. Together they make each call once when
+//! its record needs new room: there is none at first, then room for four records, and then for
+//! eight. The scripts of reads and inserts are those of caches without a lock.
 
 use crate::calls::TextCall;
 use crate::script::Script;
@@ -132,37 +132,4 @@ pub const REFUSES: &[TextCall] = &[
     Total,
     Ready(1, 1),
     Total,
-];
-
-/// A present key is found without a making.
-pub const TWIN_HITS: &[TextCall] = &[
-    Begin("1", 1),
-    Ready(0, 7),
-    Release(0),
-    Get("1"),
-    Begin("1", 1),
-    Release(0),
-    Release(0),
-    Total,
-];
-
-/// The calls of the first caller. The second one finds what they made.
-pub const FIRST_CALLER: &[TextCall] = &[
-    Begin("1", 1),
-    Ready(0, 7),
-    Release(0),
-    Total,
-    Get("1"),
-    Release(0),
-];
-
-/// The calls of the second caller.
-pub const SECOND_CALLER: &[TextCall] = &[
-    Begin("1", 1),
-    Begin("2", 1),
-    Ready(1, 2),
-    Release(1),
-    Release(0),
-    Total,
-    Prune,
 ];

@@ -1,4 +1,4 @@
-//! The calls of shards without a lock.
+//! The scripts of shards without a lock.
 
 use crate::script::Script;
 use crate::scripts::Named;
@@ -19,8 +19,8 @@ const ALL: &[Named] = &[
     ("shards-list", Script::ShardList),
 ];
 
-/// A new entry evicts in its own shard only.
-pub const SHARDS: &[ShardCall] = &[
+// A new entry evicts in its own shard only.
+const SHARDS: &[ShardCall] = &[
     (1, Begin(1, 1)),
     (1, Ready(0, 1)),
     (1, Release(0)),
@@ -43,9 +43,9 @@ pub const SHARDS: &[ShardCall] = &[
     (1, Total),
 ];
 
-/// An entry that is held when its key is taken back is evicted with its last pin; others leave at
-/// once. The shard of the key alone looks for it.
-pub const SHARDS_TAKEN_BACK: &[ShardCall] = &[
+// An entry that is held when its key is taken back is evicted with its last pin; others leave at
+// once. The shard of the key alone looks for it.
+const SHARDS_TAKEN_BACK: &[ShardCall] = &[
     (1, Begin(1, 1)),
     (1, Ready(0, 10)),
     (0, Begin(0, 1)),
@@ -67,8 +67,8 @@ pub const SHARDS_TAKEN_BACK: &[ShardCall] = &[
     (1, Total),
 ];
 
-/// A new value replaces what its key has, and evicts in its own shard only.
-pub const SHARDS_PUT_IN: &[ShardCall] = &[
+// A new value replaces what its key has, and evicts in its own shard only.
+const SHARDS_PUT_IN: &[ShardCall] = &[
     (1, Insert(1, 1, 10)),
     (0, Insert(0, 1, 20)),
     (0, Release(0)),

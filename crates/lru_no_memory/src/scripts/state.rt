@@ -1,5 +1,5 @@
-//! The calls of caches without a lock. Those of reads, of inserts and of keys that are taken back
-//! are made of a journal and of a twin too.
+//! The scripts of caches without a lock. Those of reads, of inserts and of keys that are taken back
+//! are run on a journal and on a twin too.
 
 use crate::calls::TextCall;
 use crate::script::Script;
@@ -35,8 +35,8 @@ const ALL: &[Named] = &[
     ("state-list", Script::List),
 ];
 
-/// A pinned entry stays, whatever is inserted, and becomes the newest idle one when it is released.
-pub const PINNED: &[TextCall] = &[
+// A pinned entry stays, whatever is inserted, and becomes the newest idle one when it is released.
+const PINNED: &[TextCall] = &[
     Begin("1", 1),
     Ready(0, 1),
     Release(0),
@@ -63,8 +63,8 @@ pub const PINNED: &[TextCall] = &[
     Release(7),
 ];
 
-/// A maker that fails leaves the making to the next that asks.
-pub const HANDED_OVER: &[TextCall] = &[
+// A maker that fails leaves the making to the next that asks.
+const HANDED_OVER: &[TextCall] = &[
     Begin("1", 3),
     Get("1"),
     Begin("1", 7),
@@ -77,16 +77,16 @@ pub const HANDED_OVER: &[TextCall] = &[
     Release(0),
 ];
 
-/// One stamp is left.
-pub const AT_LAST_STAMP: Limits = Limits {
+// One stamp is left.
+const AT_LAST_STAMP: Limits = Limits {
     capacity: 10,
     first_stamp: u64::MAX - 1,
     most_pins: 5,
     room: 0,
 };
 
-/// A begin that was refused for lack of memory has not used up the last stamp but one.
-pub const LAST_STAMP: &[TextCall] = &[
+// A begin that was refused for lack of memory has not used up the last stamp but one.
+const LAST_STAMP: &[TextCall] = &[
     Begin("1", 1),
     Begin("2", 1),
     Insert("1", 1, 5),
@@ -94,16 +94,16 @@ pub const LAST_STAMP: &[TextCall] = &[
     Total,
 ];
 
-/// An entry has one pin at most.
-pub const OF_ONE_PIN: Limits = Limits {
+// An entry has one pin at most.
+const OF_ONE_PIN: Limits = Limits {
     capacity: 10,
     first_stamp: 0,
     most_pins: 1,
     room: 0,
 };
 
-/// A second pin is refused, and a read of an entry that is held.
-pub const ONE_PIN: &[TextCall] = &[
+// A second pin is refused, and a read of an entry that is held.
+const ONE_PIN: &[TextCall] = &[
     Begin("1", 1),
     Ready(0, 1),
     Get("1"),
@@ -113,8 +113,8 @@ pub const ONE_PIN: &[TextCall] = &[
     Get("1"),
 ];
 
-/// Stamps that no longer fit.
-pub const STRAYS: &[TextCall] = &[
+// Stamps that no longer fit.
+const STRAYS: &[TextCall] = &[
     Begin("1", 1),
     Begin("1", 1),
     Fail(0),
@@ -136,8 +136,8 @@ pub const STRAYS: &[TextCall] = &[
     Prune,
 ];
 
-/// What is there is found without a request.
-pub const HITS: &[TextCall] = &[
+// What is there is found without a request.
+const HITS: &[TextCall] = &[
     Begin("1", 1),
     Ready(0, 1),
     Poll(0),
@@ -176,8 +176,8 @@ pub const PUT_IN: &[TextCall] = &[
     Total,
 ];
 
-/// A smaller capacity evicts what is idle, and a greater one leaves room again.
-pub const CAPACITIES: &[TextCall] = &[
+// A smaller capacity evicts what is idle, and a greater one leaves room again.
+const CAPACITIES: &[TextCall] = &[
     Begin("1", 3),
     Ready(0, 1),
     Release(0),
@@ -199,8 +199,8 @@ pub const CAPACITIES: &[TextCall] = &[
     Prune,
 ];
 
-/// Nine entries where there is no room, and nine where there is.
-pub const GROWTHS: &[TextCall] = &[
+// Nine entries where there is no room, and nine where there is.
+const GROWTHS: &[TextCall] = &[
     Begin("1", 1),
     Begin("2", 1),
     Begin("3", 1),
@@ -232,24 +232,24 @@ pub const GROWTHS: &[TextCall] = &[
     Total,
 ];
 
-/// Room for five entries.
-pub const WITH_ROOM: Limits = Limits {
+// Room for five entries.
+const WITH_ROOM: Limits = Limits {
     capacity: 9,
     first_stamp: 0,
     most_pins: 2,
     room: 5,
 };
 
-/// Room for as many entries as a map of 16 places takes.
-pub const WITH_MUCH_ROOM: Limits = Limits {
+// Room for as many entries as a map of 16 places takes.
+const WITH_MUCH_ROOM: Limits = Limits {
     capacity: 40,
     first_stamp: 0,
     most_pins: 2,
     room: 14,
 };
 
-/// One entry more than a map of 16 places takes: for that, it grows.
-pub const FILLED: &[TextCall] = &[
+// One entry more than a map of 16 places takes: for that, it grows.
+const FILLED: &[TextCall] = &[
     Begin("1", 1),
     Begin("2", 1),
     Begin("3", 1),

@@ -1,4 +1,4 @@
-//! The calls of caches that threads share.
+//! The scripts of caches that threads share.
 
 use crate::script::Script;
 use crate::scripts::Named;
@@ -45,8 +45,8 @@ const ALL: &[Named] = &[
     ("clock-grows", Script::ClockGrowth),
 ];
 
-/// A present key keeps its value.
-pub const VALUES: &[ThreadedCall] = &[
+// A present key keeps its value.
+const VALUES: &[ThreadedCall] = &[
     Init(1, 1, 1, AtOnce),
     Init(2, 1, 2, AtOnce),
     Init(1, 1, 3, AtOnce),
@@ -54,15 +54,15 @@ pub const VALUES: &[ThreadedCall] = &[
 ];
 
 // After an eviction the value is made again.
-pub const LARGE_VALUES: &[ThreadedCall] = &[
+const LARGE_VALUES: &[ThreadedCall] = &[
     Init(1, 3, 1, AtOnce),
     Init(2, 3, 2, AtOnce),
     Init(1, 3, 3, AtOnce),
     Total,
 ];
 
-/// A making that fails leaves no entry, and the next one may succeed.
-pub const FAILED: &[ThreadedCall] = &[
+// A making that fails leaves no entry, and the next one may succeed.
+const FAILED: &[ThreadedCall] = &[
     Init(1, 1, 1, AtOnce),
     Get(1, AtOnce),
     Init(2, 1, 2, AtOnce),
@@ -74,8 +74,8 @@ pub const FAILED: &[ThreadedCall] = &[
     Total,
 ];
 
-/// A read makes its entry the newest, and leaves no pin.
-pub const READ_VALUES: &[ThreadedCall] = &[
+// A read makes its entry the newest, and leaves no pin.
+const READ_VALUES: &[ThreadedCall] = &[
     Read(1),
     Init(1, 1, 10, AtOnce),
     Init(2, 1, 20, AtOnce),
@@ -93,7 +93,7 @@ pub const READ_VALUES: &[ThreadedCall] = &[
 ];
 
 // The value of an invalidated key is no longer found, and is made again.
-pub const TAKEN_VALUES: &[ThreadedCall] = &[
+const TAKEN_VALUES: &[ThreadedCall] = &[
     Invalidate(1),
     Init(1, 1, 10, AtOnce),
     Init(2, 2, 20, AtOnce),
@@ -108,7 +108,7 @@ pub const TAKEN_VALUES: &[ThreadedCall] = &[
 
 // An inserted value replaces that of the key, whose charge does not count together with its own.
 // One that is refused leaves everything as it was.
-pub const PUT_VALUES: &[ThreadedCall] = &[
+const PUT_VALUES: &[ThreadedCall] = &[
     Insert(1, 1, 10, AtOnce),
     Insert(1, 2, 11, AtOnce),
     Get(1, AtOnce),
@@ -124,8 +124,8 @@ pub const PUT_VALUES: &[ThreadedCall] = &[
     Total,
 ];
 
-/// Room reserved ahead, and then a smaller capacity.
-pub const ROOM: &[ThreadedCall] = &[
+// Room reserved ahead, and then a smaller capacity.
+const ROOM: &[ThreadedCall] = &[
     Reserve(9),
     Init(1, 1, 1, AtOnce),
     TryInit(2, 1, 2, AtOnce),
@@ -138,7 +138,7 @@ pub const ROOM: &[ThreadedCall] = &[
 ];
 
 // Room for as many entries as a map of 32 places holds, or two of 16: one more makes it grow.
-pub const MUCH_ROOM: &[ThreadedCall] = &[
+const MUCH_ROOM: &[ThreadedCall] = &[
     Reserve(28),
     Init(1, 1, 1, AtOnce),
     Init(2, 1, 2, AtOnce),

@@ -1,11 +1,11 @@
-//! The scripts of a twin, with the calls of a journal and of caches without a lock.
+//! The scripts of a twin: its own, and those of a journal and of caches without a lock.
 
+use crate::calls::TextCall;
 use crate::script::Script;
 use crate::scripts::Named;
-use crate::scripts::journal::{
-    EVICTS, FAILS, FINDS_NOTHING, FIRST_CALLER, POLLS, REFUSES, SECOND_CALLER, STORES, TWIN_HITS,
-};
+use crate::scripts::journal::{EVICTS, FAILS, FINDS_NOTHING, POLLS, REFUSES, STORES};
 use crate::scripts::state::{PUT_IN, READS, TAKEN_BACK};
+use lru_support::tables::Call::{Begin, Get, Prune, Ready, Release, Total};
 
 /// Returns these scripts.
 pub fn all() -> &'static [Named] {
@@ -27,4 +27,37 @@ const ALL: &[Named] = &[
         "twin-tallies",
         Script::Twin(10, FIRST_CALLER, SECOND_CALLER),
     ),
+];
+
+// A present key is found without a making.
+const TWIN_HITS: &[TextCall] = &[
+    Begin("1", 1),
+    Ready(0, 7),
+    Release(0),
+    Get("1"),
+    Begin("1", 1),
+    Release(0),
+    Release(0),
+    Total,
+];
+
+// The calls of the first caller. The second one finds what they made.
+const FIRST_CALLER: &[TextCall] = &[
+    Begin("1", 1),
+    Ready(0, 7),
+    Release(0),
+    Total,
+    Get("1"),
+    Release(0),
+];
+
+// The calls of the second caller.
+const SECOND_CALLER: &[TextCall] = &[
+    Begin("1", 1),
+    Begin("2", 1),
+    Ready(1, 2),
+    Release(1),
+    Release(0),
+    Total,
+    Prune,
 ];
