@@ -7,52 +7,60 @@ use lru_sizing::replay::{has_charges, replay};
 use lru_sizing::reuse_weights::reuse_weights;
 use std::alloc::{AllocError, Global};
 
-/// Returns whether each use of a trace hits at a capacity, by a list of resident keys with their
-/// charges, least recently used first.
+// The resident keys with their charges, least recently used first, and the sum of the charges.
+#[derive(Drop)]
+struct Resident {
+    keys: Vec<(u64, u64)>,
+    sum: u64,
+}
+
+impl Resident {
+    // Uses a key, and drops the oldest keys while the charges exceed the capacity. Returns whether
+    // the key was resident.
+    fn use_once(&mut self, used: (u64, u64), capacity: u64) -> Result<bool, AllocError> {
+        let place = self.keys.iter().position(|other| other.0 == used.0);
+        if let Some(place) = place {
+            self.remove(place);
+        }
+        self.keys.push(used)?;
+        self.sum = self.sum.saturating_add(used.1);
+        self.shrink(capacity);
+        Ok(place.is_some())
+    }
+
+    fn shrink(&mut self, capacity: u64) {
+        for _ in 0..self.keys.len() {
+            if self.sum <= capacity {
+                break;
+            }
+            self.remove(0);
+        }
+    }
+
+    // Removes the key at a place, if there is one.
+    fn remove(&mut self, place: usize) {
+        if place < self.keys.len() {
+            let (_, charge) = self.keys.remove(place);
+            self.sum = self.sum.saturating_sub(charge);
+        }
+    }
+}
+
+/// Returns whether each use of a trace hits at a capacity, by a list of the resident keys.
 pub fn hits_of_a_list(
     alloc: Global,
     trace: &[(u64, u64)],
     capacity: u64,
 ) -> Result<Vec<bool>, AllocError> {
-    let mut resident: Vec<(u64, u64)> = Vec::new(alloc);
+    let mut resident = Resident {
+        keys: Vec::new(alloc),
+        sum: 0,
+    };
     let mut hits = Vec::new(alloc);
     for used in trace {
-        hits.push(use_once(&mut resident, *used, capacity)?)?;
+        hits.push(resident.use_once(*used, capacity)?)?;
     }
     Ok(hits)
-}
-
-// Uses a key, and returns whether it was resident.
-fn use_once(
-    resident: &mut Vec<(u64, u64)>,
-    used: (u64, u64),
-    capacity: u64,
-) -> Result<bool, AllocError> {
-    let before = resident.len();
-    resident.retain(|other| other.0 != used.0);
-    let hit = resident.len() < before;
-    resident.push(used)?;
-    shrink(resident, capacity);
-    Ok(hit)
-}
-
-// Drops the oldest while the charges exceed the capacity.
-fn shrink(resident: &mut Vec<(u64, u64)>, capacity: u64) {
-    let mut sum = 0u64;
-    let mut kept = 0usize;
-    for (_, charge) in resident.iter().rev() {
-        sum = sum.saturating_add(*charge);
-        if sum > capacity {
-            break;
-        }
-        kept = kept.saturating_add(1);
-    }
-    let gone = resident.len().saturating_sub(kept);
-    for _ in 0..gone {
-        if !resident.is_empty() {
-            resident.remove(0);
-        }
-    }
 }
 
 /// Returns the reuse weight of the use at an index, by its definition.
