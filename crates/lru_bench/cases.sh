@@ -51,12 +51,14 @@ CAPACITY is such a number"$'\n' \
 done
 usage="usage: lru_bench check | (plan | time) [WORD ..] [read_mostly FILE [CAPACITY]] | \
 run (lock | clock) WORKLOAD ENTRIES CALLS | \
-attack (chosen | drawn) (known | seeded | shards) KEYS"$'\n'
+attack (chosen | drawn) (known | seeded | shards) KEYS | soak SEED MINUTES"$'\n'
 for words in "" times "check 8" "read_mostly empty" "time \$'\xff'" "run lock hit_get 8" \
     "run hit_get 8 1" "run watch hit_get 8 1" "run lock stress 8 1" "run clock read_mostly 8 1" \
     "run lock hits 8 1" "run lock hit_get 0 1" "run clock hit_get 8 0" "run lock hit_get 8 +1" \
     "run lock hit_get 10000001 1" "run lock hit_get 8 10000001" "run lock hit_get 8 1 1" \
-    "attack chosen known" "attack made known 8" "attack chosen unknown 8" "attack drawn shards 0"; do
+    "attack chosen known" "attack made known 8" "attack chosen unknown 8" "attack drawn shards 0" \
+    soak "soak 1" "soak 1 0 0" "soak x 0" "soak 1 -1" "soak +1 0" "soak '' 0" \
+    "soak 18446744073709551616 0" "soak \$'\xff' 0"; do
     ends 2 "" "$usage" "lru_bench $words"
 done
 ends 1 "" "the file has no keys of four bytes"$'\n' "lru_bench time read_mostly empty 8"
@@ -79,6 +81,10 @@ for keys in chosen drawn; do
     ends 0 "100"$'\n' "" "lru_bench attack $keys seeded 100"
     ends 0 "1"$'\n' "" "lru_bench attack $keys shards 1"
 done
+
+ends 0 "rounds 0"$'\n' "" "lru_bench soak 1 0"
+ends 0 "rounds 0"$'\n' "" "lru_bench soak 18446744073709551615 0"
+ends_at_failed_writes 1 "$system" "lru_bench soak 1 0"
 
 # What follows takes long where the program was not proved.
 [ -n "${PROGRAMS:-}" ] && return
@@ -117,3 +123,13 @@ ends 0 "# hits port-sharded-256-read read_mostly 100000 1 1.0000
 # hits port-clock-64 read_mostly 100000 1 1.0000
 # hits port-unsharded read_mostly 100000 2 1.0000
 " "" "lru_bench time read_mostly one 2>&1 > lines | sed -n '9,11p;12{p;q}'"
+
+# Of each of four caches 8 workers make 1,000 calls, each of which hits or makes its value.
+cat > round.awk << 'END'
+{ print $1, $2, $3, $5, $7, $9, $11, $4 + $6 }
+$8 > 0 && $10 <= $6 && $12 > 12 { print "in bounds" }
+{ exit }
+END
+ends 0 "seed 7 makings hits evictions meetings greatest 32000
+in bounds
+" "" "lru_bench soak 7 1 2> said | awk -f round.awk"

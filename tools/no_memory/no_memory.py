@@ -5,7 +5,7 @@ answer. Each of its scripts is run here with its first request refused, then wit
 no further request. A run passes if it prints what it prints with ample memory. A run that ends with status 1 and `refused 1`,
 after printing a beginning of that, met the refusal in a request of the script's own, and passes too. Anything else fails:
 another text, a fault, a run that does not end. Other programs are run in the same way, on the input with which the gate
-runs them: `lru_rows`, with its rows and with its stress workload, `lru_bench`, with its small workloads, `lru_soak`,
+runs them: `lru_rows`, with its rows and with its stress workload, `lru_bench`, with its small workloads and with a soak test,
 `lru_replay`, `lru_cat` and `lru_size`. Of the requests of long runs, some are refused. Last, a word that names no script must
 get the usage line and status 2, and a run that cannot write must end with status 1.
 
@@ -173,7 +173,7 @@ def main():
     # the arguments and the input with which the gate runs lru_size
     sizing, trace = pathlib.Path("crates/lru_size/args").read_text(encoding="utf-8").split(), "crates/lru_size/stdin"
     size = built("lru_size")
-    bench, soak = built("lru_bench"), built("lru_soak")
+    bench = built("lru_bench")
     lines, steps = "crates/lru_cat/data/lines", "crates/lru_replay/stdin"
     cat, replay = built("lru_cat"), built("lru_replay")
     _, out, _ = run(scripted, [])
@@ -185,7 +185,7 @@ def main():
         (rows, ["stress", "1"], some),
         (rows, ["rows"]),
         (bench, ["check"], some),
-        (soak, ["1", "0"]),
+        (bench, ["soak", "1", "0"]),
         (size, sizing, None, trace),
         (cat, [lines, "2"]),
         (replay, [], some, steps),

@@ -4,7 +4,7 @@
 
 use crate::request::MOST_ENTRIES;
 use concurrent_lru::lru_core::Refusal;
-use lru_stress::outcome::Trouble;
+use lru_stress::outcome::{RoundFailure, Trouble};
 use std::alloc::{AllocError, AllocFailed};
 use std::io;
 use std::io::Write;
@@ -14,15 +14,17 @@ use std::io::Write;
 pub enum Failure {
     /// The arguments are invalid.
     Usage,
-    /// A word after `time` is no workload, and no number of entries within bounds, or the capacity
-    /// is no such number.
+    /// A word after `time` is neither a workload nor a number of entries in the allowed range, or
+    /// the capacity is not such a number.
     Word,
-    /// A call of the cache was refused, or memory for the program's own data.
+    /// A call of the cache was refused, or memory was refused for the program's own data.
     Refused(Refusal),
-    /// The file of keys has none, or its last is incomplete.
+    /// The file of keys is empty, or its last key is incomplete.
     Keys,
     /// A call of the stress workload returned no value, or that of another key.
     Answers,
+    /// A round of the stress workload failed.
+    Round(RoundFailure),
     /// Reading a file, a write, the clock or the system's random numbers failed.
     System,
 }
@@ -37,7 +39,8 @@ impl Failure {
                 "usage: lru_bench check | \
                  (plan | time) [WORD ..] [read_mostly FILE [CAPACITY]] | \
                  run (lock | clock) WORKLOAD ENTRIES CALLS | \
-                 attack (chosen | drawn) (known | seeded | shards) KEYS"
+                 attack (chosen | drawn) (known | seeded | shards) KEYS | \
+                 soak SEED MINUTES"
             ),
             Failure::Word => writeln!(
                 err,
@@ -47,6 +50,7 @@ impl Failure {
             Failure::Refused(refusal) => writeln!(err, "refused {}", refusal.code()),
             Failure::Keys => writeln!(err, "the file has no keys of four bytes"),
             Failure::Answers => writeln!(err, "stress failed"),
+            Failure::Round(failure) => writeln!(err, "{failure}"),
             Failure::System => {
                 writeln!(err, "a file, a write, the clock or random numbers failed")
             }

@@ -1,5 +1,5 @@
-//! A benchmark of the cache: times its workloads on one lock and on shards, or prints what they
-//! read. Everything but the access to the process is done by `program`.
+//! A benchmark of the caches: times their workloads, or prints what they read. It also repeats the
+//! stress workload. `program` does everything except access the process.
 #![tactic(auto)]
 
 mod attack;
@@ -20,6 +20,7 @@ mod report;
 mod request;
 mod single;
 mod size;
+mod soak;
 mod stress;
 mod system;
 mod workers;

@@ -1,9 +1,10 @@
-//! Rounds of the stress workload, one seed after another.
+//! A soak test: runs the stress workload from one seed after another until the time is over.
 
 use crate::failure::Failure;
 use lru_stress::outcome::{Counts, RoundFailure};
 use lru_stress::plan::Plan;
 use lru_stress::run;
+use lru_stress::seed::number;
 use std::alloc::Global;
 use std::io::Write;
 use std::rt::Clock;
@@ -18,25 +19,47 @@ const CALLS: u32 = 1_000;
 // How often an `init` yields, so that other threads meet it.
 const YIELDS: u32 = 2;
 
-/// Runs rounds from this seed on until the time is over, and writes a line for each.
-pub fn soak<R: Threads + Wait + Clock + Clone + Drop + Send + Sync, O: Write>(
-    rt: &R,
-    alloc: Global,
-    first: u64,
+/// Where a soak test begins, and for how long it runs.
+#[derive(Clone, Copy)]
+pub struct Soak {
+    first_seed: u64,
     time: Duration,
-    out: &mut O,
-) -> Result<(), Failure> {
-    let begin = Instant::now(rt)?;
-    let mut rounds: u64 = 0;
-    for seed in first..=u64::MAX {
-        if begin.elapsed(rt)? >= time {
-            break;
-        }
-        round(rt, alloc, seed, out)?;
-        rounds = rounds.saturating_add(1);
+}
+
+impl Soak {
+    /// Parses the first seed and the number of minutes.
+    ///
+    /// Returns `Usage` unless both consist of digits and fit a `u64`.
+    pub fn of_words(seed: &str, minutes: &str) -> Result<Soak, Failure> {
+        let minutes = number(minutes).ok_or(Failure::Usage)?;
+        Ok(Soak {
+            first_seed: number(seed).ok_or(Failure::Usage)?,
+            time: Duration::from_secs(minutes.saturating_mul(60)),
+        })
     }
-    writeln!(out, "rounds {rounds}")?;
-    Ok(())
+
+    /// Runs rounds until the time is over, and writes a line for each.
+    ///
+    /// Returns `Round` with the seed for the first check that fails, which ends the test, or if
+    /// memory or a thread is refused to a round.
+    pub fn run<R: Threads + Wait + Clock + Clone + Drop + Send + Sync, O: Write>(
+        self,
+        rt: &R,
+        alloc: Global,
+        out: &mut O,
+    ) -> Result<(), Failure> {
+        let begin = Instant::now(rt)?;
+        let mut rounds: u64 = 0;
+        for seed in self.first_seed..=u64::MAX {
+            if begin.elapsed(rt)? >= self.time {
+                break;
+            }
+            round(rt, alloc, seed, out)?;
+            rounds = rounds.saturating_add(1);
+        }
+        writeln!(out, "rounds {rounds}")?;
+        Ok(())
+    }
 }
 
 // Runs the round of a seed, on each kind of cache: each `init` yields, and the total is read while
