@@ -1,5 +1,5 @@
-//! Keys that someone chose because their hashes are equal under a seed that he knows, and what a
-//! cache has to do with them. For tools that count what a program does.
+//! Fills a cache with keys that were chosen to have equal hashes under a known seed, for tools that
+//! count what a program does.
 
 use crate::failure::Failure;
 use crate::keys::Keys;
@@ -12,7 +12,7 @@ use std::num::NonZeroU64;
 use std::random::RandomSource;
 use std::sync::Wait;
 
-// What the kit's fast hasher begins with, and what it multiplies by at a word of 8 bytes.
+// The initial state of the kit's fast hasher, and its multiplier for a word of 8 bytes.
 const INITIAL: u64 = 0x243f_6a88_85a3_08d3;
 
 const MULTIPLIER: u64 = 0x9e37_79b9_7f4a_7c15 ^ 16;
@@ -23,9 +23,9 @@ type Pair = (u64, u64);
 /// Where keys come from.
 #[derive(Clone, Copy)]
 enum Origin {
-    /// They were chosen: under the seed 0 all have one hash.
+    /// They are chosen: under the seed 0 all have the same hash.
     Chosen,
-    /// They were drawn at random.
+    /// They are drawn at random.
     Drawn,
 }
 
@@ -40,7 +40,7 @@ enum Target {
     Shards,
 }
 
-/// So many keys for a cache.
+/// A number of keys, and the cache that they are put into.
 #[derive(Clone, Copy)]
 pub struct Attack {
     origin: Origin,
@@ -71,7 +71,8 @@ impl Attack {
         })
     }
 
-    /// Makes the cache, and a value for each key. Returns how many entries there are then.
+    /// Creates the cache and makes a value for each key. Returns the number of entries that the
+    /// cache then has.
     pub fn run<W: Wait + Clone + Drop, R: RandomSource>(
         self,
         rt: &R,
@@ -123,9 +124,9 @@ impl Attack {
     }
 }
 
-/// A cache that takes keys of two words.
+/// A cache whose keys are two words.
 trait Cache {
-    /// Makes a value for a key, unless there is one.
+    /// Makes a value for a key, unless it has one.
     fn make(&self, key: Pair) -> Result<(), Refusal>;
 }
 
@@ -143,13 +144,14 @@ impl<R: Wait + Drop> Cache for sharded::LruCache<Pair, u64, R> {
     }
 }
 
-// Returns the key with this first word whose second one cancels what the hasher knows of the first.
+// Returns the key with this first word whose second word cancels the effect of the first on the
+// hasher's state.
 fn chosen(first: u64) -> Pair {
     let seeded = folded(INITIAL, MULTIPLIER);
     (first, folded(seeded ^ first, MULTIPLIER))
 }
 
-// Multiplies two words and joins the halves of the product, as the hasher does.
+// Multiplies two words and combines the halves of the product, as the hasher does.
 fn folded(a: u64, b: u64) -> u64 {
     let product = u128::from(a) * u128::from(b);
     (product & 0xffff_ffff_ffff_ffff) as u64 ^ (product >> 64) as u64

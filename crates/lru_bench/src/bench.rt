@@ -1,4 +1,4 @@
-//! Runs the workloads of a plan one after another.
+//! Runs the workloads of a plan, one after another.
 
 use crate::failure::Failure;
 use crate::host::{Host, Waiter};
@@ -34,16 +34,16 @@ pub fn run<R: Threads + Wait + Clock + RandomSource + Sync, O: Write, E: Write>(
     bench.run(plan)
 }
 
-/// What workloads need.
+/// What the workloads need.
 #[derive(Drop)]
 pub struct Bench<'a, R, W, O, E> {
     /// Threads, the clock and random numbers.
     pub rt: &'a R,
-    /// The right to wait, of which each cache has a copy.
+    /// The right to wait. Each cache gets a copy.
     pub wait: W,
-    /// Where caches get their memory.
+    /// The allocator of the caches.
     pub alloc: Global,
-    /// Where lines go.
+    /// Where the results are written.
     pub report: Report<'a, R, O, E>,
 }
 

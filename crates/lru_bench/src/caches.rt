@@ -1,4 +1,4 @@
-//! Empty caches, on one lock and in shards.
+//! Creates empty caches, on one lock and in shards.
 ghost use Rattle.std.specs.Prelude.{◌<◌};
 
 use crate::bench::Bench;
@@ -9,12 +9,13 @@ use std::hash::RandomState;
 use std::io::Write;
 
 impl<R: Host, W: Waiter, O: Write, E: Write> Bench<'_, R, W, O, E> {
-    /// A cache of one lock.
+    /// Creates a cache on one lock.
     pub fn on_one_lock(&self, capacity: u64) -> Result<unsharded::LruCache<u64, u64, W>, Failure> {
         Ok(unsharded::LruCache::new(self.alloc, self.wait.clone()?, capacity))
     }
 
-    /// A cache in so many shards, over which its hasher spreads the keys at random.
+    /// Creates a cache with this many shards, over which a hasher with a random seed spreads the
+    /// keys.
     pub fn in_shards(
         &self,
         capacity: u64,

@@ -17,7 +17,8 @@ use std::io::Write;
 use std::rt::Clock;
 
 impl<R: Host, W: Waiter, O: Write, E: Write> Bench<'_, R, W, O, E> {
-    // A clock cache in so many shards, over which its hasher spreads the keys at random.
+    // Creates a clock cache with this many shards, over which a hasher with a random seed spreads
+    // the keys.
     fn on_clock(&self, capacity: u64, shards: usize) -> Result<Cache<u64, u64, W>, Failure>
         requires { 0 < shards }
     {
@@ -26,8 +27,8 @@ impl<R: Host, W: Waiter, O: Write, E: Write> Bench<'_, R, W, O, E> {
         Ok(Cache::with_shards(self.alloc, wait, capacity, shards, hasher)?)
     }
 
-    /// In so many shards: the hits on a cache in which all entries fit, however they are spread
-    /// over the shards, and the misses on another one, which has no room left.
+    /// Times hits and misses with this many shards: the hits on a cache in which all entries fit,
+    /// however they are spread over the shards, and the misses on one that is full.
     pub fn use_clock(&mut self, shards: usize, size: &Size<'_>) -> Result<(), Failure>
         requires { 0 < shards }
     {
@@ -80,14 +81,14 @@ impl<R: Host, W: Waiter, O: Write, E: Write> Bench<'_, R, W, O, E> {
         self.misses(&Make { cache }, system, size)
     }
 
-    /// The stress workload, in shards.
+    /// Times the stress workload.
     pub fn stress_clock(&mut self, load: Load) -> Result<(), Failure> {
         let cache = self.on_clock(SHARDS_CAPACITY, SHARDS)?;
         let work = load.work(System::Clock(SHARDS), SHARDS_CAPACITY);
         self.stress(&Keyed { cache: &cache }, load, &work)
     }
 
-    /// Reads that mostly hit, in so many shards.
+    /// Times reads that mostly hit, with this many shards.
     pub fn read_on_clock(
         &mut self,
         shards: usize,

@@ -12,7 +12,7 @@ use std::num::NonZeroU64;
 // The distance between the first draws of two successive workers.
 const APART: usize = 131_072;
 
-/// Drawn keys in order, at least one. After the last the first follows again.
+/// Keys that were drawn, at least one. They are read in order, and the first follows the last.
 #[derive(Drop)]
 pub struct Draws {
     keys: Vec<u64>,
@@ -63,7 +63,7 @@ impl Draws {
         Draws::of(keys)
     }
 
-    // The least of the keys and the greatest.
+    // Returns the least and the greatest of the keys.
     fn bounds(&self) -> (u64, u64) {
         let first = self.keys[0];
         let least = self.keys.iter().copied().min();
@@ -71,12 +71,12 @@ impl Draws {
         (least.unwrap_or(first), greatest.unwrap_or(first))
     }
 
-    /// How many keys there are.
+    /// Returns the number of keys.
     pub fn len(&self) -> u64 {
         self.keys.len() as u64
     }
 
-    /// The draws of a worker, from its own place on.
+    /// Returns the keys from a worker's own position on.
     pub fn of_worker(&self, worker: u16) -> Drawing<'_> {
         let place = usize::from(worker).wrapping_mul(APART);
         Drawing {
@@ -93,7 +93,7 @@ impl fmt::Display for Draws {
     }
 }
 
-/// The draws of a worker.
+/// The keys from a worker's position on.
 #[derive(Drop)]
 pub struct Drawing<'a> {
     draws: &'a Draws,

@@ -1,4 +1,4 @@
-//! Hits and misses on a full cache of one lock or in shards, in any number of threads.
+//! Times hits and misses on a full cache, on one lock or in shards, in any number of threads.
 ghost use Rattle.std.specs.Prelude.{◌<◌};
 
 use crate::bench::Bench;
@@ -16,8 +16,8 @@ use lru_support::cached::Cached;
 use std::io::Write;
 
 impl<R: Host, W: Waiter, O: Write, E: Write> Bench<'_, R, W, O, E> {
-    /// On one lock: the hits, and then the misses on the same cache, whose oldest entries then lie
-    /// anywhere in memory.
+    /// Times the hits on one lock, and then the misses on the same cache, whose oldest entries are
+    /// then scattered in memory.
     pub fn use_one_lock(&mut self, size: &Size<'_>) -> Result<(), Failure> {
         let cache = self.on_one_lock(size.entries.get())?;
         self.time_one_lock(&cache, size)
@@ -38,7 +38,7 @@ impl<R: Host, W: Waiter, O: Write, E: Write> Bench<'_, R, W, O, E> {
         self.misses(&Make { cache }, System::OneLock, size)
     }
 
-    /// On one lock: the misses on a cache that has room for twice its entries.
+    /// Times the misses on a cache on one lock that has reserved room for twice its entries.
     pub fn use_room(&mut self, size: &Size<'_>) -> Result<(), Failure> {
         let cache = self.on_one_lock(size.entries.get())?;
         self.time_with_room(&cache, size)
@@ -56,8 +56,8 @@ impl<R: Host, W: Waiter, O: Write, E: Write> Bench<'_, R, W, O, E> {
         self.misses(&Make { cache }, System::Reserved, size)
     }
 
-    /// In so many shards: the hits on a cache in which all entries fit, however they are spread
-    /// over the shards, and the misses on another one, which has no room left.
+    /// Times hits and misses with this many shards: the hits on a cache in which all entries fit,
+    /// however they are spread over the shards, and the misses on one that is full.
     pub fn use_shards(&mut self, shards: usize, size: &Size<'_>) -> Result<(), Failure>
         requires { 0 < shards }
     {
@@ -110,8 +110,8 @@ impl<R: Host, W: Waiter, O: Write, E: Write> Bench<'_, R, W, O, E> {
         self.misses(&Make { cache }, system, size)
     }
 
-    /// The workloads of present keys, by operations on one cache. Each has a type of its own, since
-    /// the checker covers no thread that asks a cache of a type parameter.
+    /// Times the workloads of present keys. Each operation has a type parameter of its own, since
+    /// the checker does not support threads that call a cache of a generic type.
     pub fn hits<G: Operation + Sync, S: Operation + Sync, I: Operation + Sync>(
         &mut self,
         (get, read, init): (&G, &S, &I),
@@ -127,7 +127,7 @@ impl<R: Host, W: Waiter, O: Write, E: Write> Bench<'_, R, W, O, E> {
         self.time(init, present, size, &work)
     }
 
-    /// The workload of absent keys, for each of which an entry is evicted.
+    /// Times the workload of absent keys, each of which evicts an entry.
     pub fn misses<M: Operation + Sync>(
         &mut self,
         make: &M,
@@ -138,7 +138,7 @@ impl<R: Host, W: Waiter, O: Write, E: Write> Bench<'_, R, W, O, E> {
         self.time(make, WorkloadKeys::Absent, size, &work)
     }
 
-    /// Times a workload, where it is wanted.
+    /// Times a workload if the plan has it.
     pub fn time<U: Operation + Sync>(
         &mut self,
         operation: &U,
@@ -156,8 +156,8 @@ impl<R: Host, W: Waiter, O: Write, E: Write> Bench<'_, R, W, O, E> {
     }
 }
 
-/// Uses present keys as often as a workload does, so that the entries that leave first lie anywhere
-/// in memory.
+/// Uses present keys as often as a workload does, so that the oldest entries are scattered in
+/// memory.
 pub fn mix<C: Cached<u64>>(cache: C, size: &Size<'_>) -> Result<(), Failure> {
     let present = WorkloadKeys::Present(size.entries);
     workers::work(&Make { cache }, present, 0, size.plan.operations)?;

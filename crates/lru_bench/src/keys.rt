@@ -1,16 +1,16 @@
-//! The keys that a workload asks for. Drawing them costs next to nothing compared with what is
-//! timed.
+//! The keys that a workload asks for. Drawing one costs next to nothing compared with the call that
+//! is timed.
 ghost use Rattle.std.specs.Prelude.{◌<◌};
 
 use std::num::NonZeroU64;
 
-/// Where the keys of a worker come from.
+/// A source of keys for a worker.
 pub trait Source {
     /// Returns the next key.
     fn next_key(&mut self) -> u64;
 }
 
-/// Draws keys below a number of entries.
+/// Keys drawn from those below a number of entries.
 #[derive(Drop)]
 pub struct Keys {
     entries: u64,
@@ -19,7 +19,7 @@ pub struct Keys {
 }
 
 impl Keys {
-    /// The keys from 0 up to `entries`, from a worker's own state of the generator on.
+    /// Returns draws of the keys below `entries`, from a generator with a seed of the worker's own.
     pub fn of_worker(entries: NonZeroU64, worker: u16) -> Keys {
         Keys {
             entries: entries.get(),
@@ -32,7 +32,7 @@ impl Keys {
     pub fn draw(&mut self) -> u64
         ensures { result < self.old.entries }
     {
-        // The upper bits, since the lower ones of such a generator have short periods.
+        // The lower bits of such a generator have short periods.
         self.state = self
             .state
             .wrapping_mul(6_364_136_223_846_793_005)
@@ -48,7 +48,7 @@ impl Source for Keys {
     }
 }
 
-/// Keys one after another.
+/// Successive keys.
 #[derive(Drop)]
 pub struct Ascending {
     /// Returns the next key.
@@ -64,5 +64,5 @@ impl Source for Ascending {
     }
 }
 
-/// The first key that no cache is filled with.
+/// The first of the keys with which no cache is filled.
 pub const FIRST_ABSENT: u64 = 10_000_000;

@@ -1,5 +1,5 @@
-//! The workload of reads that mostly hit: workers that share a cache ask it for drawn keys, by
-//! `get_or_init` alone, or by `read` and, if nothing is found, by `get_or_init`.
+//! Times reads that mostly hit: workers that share a cache ask it for keys that were drawn before,
+//! by `get_or_init` alone, or by `read` and, if nothing is found, by `get_or_init`.
 ghost use Rattle.std.specs.Prelude.{◌<◌};
 
 use crate::bench::Bench;
@@ -14,7 +14,7 @@ use crate::workers::WorkloadKeys;
 use std::io::Write;
 
 impl<R: Host, W: Waiter, O: Write, E: Write> Bench<'_, R, W, O, E> {
-    /// On one lock, asked each way.
+    /// Times both ways on one lock.
     pub fn read_on_one_lock(&mut self, mostly: &Mostly, threads: u16) -> Result<(), Failure> {
         let cache = self.on_one_lock(mostly.capacity)?;
         let work = mostly.work(System::OneLock, threads);
@@ -24,7 +24,7 @@ impl<R: Host, W: Waiter, O: Write, E: Write> Bench<'_, R, W, O, E> {
         self.read(&ReadOrMake { cache: &cache }, mostly, &work)
     }
 
-    /// In so many shards, asked each way.
+    /// Times both ways with this many shards.
     pub fn read_in_shards(
         &mut self,
         shards: usize,
@@ -41,8 +41,8 @@ impl<R: Host, W: Waiter, O: Write, E: Write> Bench<'_, R, W, O, E> {
         self.read(&ReadOrMake { cache: &cache }, mostly, &work)
     }
 
-    /// The workload on an empty cache, which is filled before the time begins. A single worker has
-    /// a thread of its own too.
+    /// Times the workload on an empty cache, which is filled first. Even a single worker has a
+    /// thread of its own.
     pub fn read<U: Operation + Sync>(
         &mut self,
         operation: &U,

@@ -1,5 +1,4 @@
-//! One operation of a workload, on a cache of one lock or in shards. Each handle is dropped at
-//! once.
+//! The operations of the workloads. Each drops its handle at once.
 
 use concurrent_lru::lru_core::Refusal;
 use lru_support::cached::Cached;
@@ -9,12 +8,12 @@ use lru_support::cached::Cached;
 pub struct Found {
     /// The value; 0 where there was none.
     pub value: u64,
-    /// Whether it was there.
+    /// Whether the key was present.
     pub is_hit: bool,
 }
 
 impl Found {
-    /// A value that was there, or none.
+    /// Returns what was found: this value, or none.
     #[inline(always)]
     pub fn of(value: Option<u64>) -> Found {
         Found {
@@ -24,8 +23,8 @@ impl Found {
     }
 }
 
-/// An operation on a key. It has no associated type, since the checker covers no closure of a
-/// thread over one that has.
+/// An operation on a key. The trait has no associated type, since the checker does not support a
+/// thread's closure over a type that has one.
 pub trait Operation {
     /// Makes the operation.
     fn run(&self, key: u64) -> Result<Found, Refusal>;
@@ -77,7 +76,7 @@ impl<C: Cached<u64>> Operation for Init<C> {
     }
 }
 
-/// `get_or_init`, which makes the key itself as its value where there is none.
+/// `get_or_init`, whose `init` returns the key as the value.
 #[derive(Drop)]
 pub struct Make<C> {
     /// A reference to the cache.
@@ -91,7 +90,7 @@ impl<C: Cached<u64>> Operation for Make<C> {
     }
 }
 
-/// `read`, and `get_or_init` where nothing is found.
+/// `read`, and then `get_or_init` if nothing was found.
 #[derive(Drop)]
 pub struct ReadOrMake<C> {
     /// A reference to the cache.

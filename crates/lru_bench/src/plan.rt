@@ -1,4 +1,4 @@
-//! The sizes of the workloads, and what is shown of them.
+//! Which workloads are run, their sizes, and what is shown of them.
 
 use crate::draws::Draws;
 use crate::failure::Failure;
@@ -10,36 +10,36 @@ use std::alloc::Global;
 use std::fmt;
 use std::num::NonZeroU64;
 
-/// What a line ends with.
+/// What is shown of a workload, at the end of its line.
 #[derive(Clone, Copy)]
 pub enum Shown {
     /// The sum of the values that were read, which is the same on every schedule.
     Sum,
-    /// The nanoseconds that an operation took.
+    /// The time that an operation took, in nanoseconds.
     Time,
 }
 
-/// What is run, and how much of it.
+/// The workloads to run, and their sizes.
 #[derive(Drop)]
 pub struct Plan {
-    /// Which workloads are run, apart from reads that mostly hit.
+    /// The workloads, except for reads that mostly hit.
     pub workloads: Vec<Workload>,
-    /// How many entries a cache has, run after run.
+    /// The number of entries of a cache, for each run.
     pub entries: Vec<NonZeroU64>,
-    /// How many threads make hits and misses, run after run, after one has.
+    /// The number of threads that make hits and misses, for each run after that of one thread.
     pub threads: Vec<u16>,
-    /// How many operations a thread makes.
+    /// The number of operations of a thread.
     pub operations: u32,
     /// The number of calls of a worker of the stress workload.
     pub calls: u32,
-    /// The workload of reads that mostly hit, where it is run.
+    /// The workload of reads that mostly hit, if it is run.
     pub mostly: Option<Mostly>,
     /// What is shown.
     pub shown: Shown,
 }
 
 impl Plan {
-    /// All workloads, small, whose sums are shown.
+    /// Returns a plan of small workloads, of all kinds, whose sums are shown.
     pub fn check(alloc: Global) -> Result<Plan, Failure> {
         Ok(Plan {
             workloads: ALL.iter().copied().collect(alloc)?,
@@ -52,7 +52,7 @@ impl Plan {
         })
     }
 
-    /// The workloads that are asked for, long enough to be timed.
+    /// Returns a plan of the requested workloads, which run long enough to be timed.
     pub fn time(request: Request, mostly: Option<Mostly>) -> Plan {
         Plan {
             workloads: request.workloads,
@@ -65,13 +65,13 @@ impl Plan {
         }
     }
 
-    /// Whether this workload is run.
+    /// Returns whether this workload is run.
     pub fn wants(&self, workload: Workload) -> bool {
         self.workloads.iter().any(|wanted| *wanted == workload)
     }
 }
 
-// What the words after `time` choose, in a line each. The first runs are always of one thread.
+// A line for each thing that the words after `time` choose. One thread always comes first.
 impl fmt::Display for Plan {
     fn fmt<W: fmt::Write>(&self, f: &mut fmt::Formatter<W>) -> fmt::Result {
         f.write_str("workloads")?;
@@ -87,7 +87,7 @@ impl fmt::Display for Plan {
     }
 }
 
-// Writes the values, each after a space.
+// Writes the values, each preceded by a space.
 fn write_each<W: fmt::Write, T: fmt::Display>(
     f: &mut fmt::Formatter<W>,
     values: &[T],
@@ -98,7 +98,7 @@ fn write_each<W: fmt::Write, T: fmt::Display>(
     Ok(())
 }
 
-/// The sizes of the workload of reads that mostly hit.
+/// The workload of reads that mostly hit.
 #[derive(Drop)]
 pub struct Mostly {
     /// The keys that are asked for.
@@ -110,7 +110,7 @@ pub struct Mostly {
 }
 
 impl Mostly {
-    /// A small workload.
+    /// Returns a small workload.
     pub fn check(alloc: Global) -> Result<Mostly, Failure> {
         let entries = NonZeroU64::new(200).ok_or(Failure::Usage)?;
         Ok(Mostly {
@@ -120,7 +120,7 @@ impl Mostly {
         })
     }
 
-    /// Returns a workload on these keys that is long enough to be timed. Without a capacity it is
+    /// Returns a workload on these keys that runs long enough to be timed. The default capacity is
     /// 100,000.
     pub fn time(draws: Draws, capacity: Option<NonZeroU64>) -> Mostly {
         Mostly {
@@ -130,7 +130,7 @@ impl Mostly {
         }
     }
 
-    /// The workload on a system, in so many threads.
+    /// Returns the workload on a system, in this many threads.
     pub fn work(&self, system: System, threads: u16) -> Work {
         Work {
             system,

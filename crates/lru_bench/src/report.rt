@@ -13,20 +13,20 @@ use std::time::{Duration, Instant};
 /// A workload that was run.
 #[derive(Clone, Copy)]
 pub struct Work {
-    /// What the operations are asked of.
+    /// The cache that is called.
     pub system: System,
-    /// What they are.
+    /// The kind of the operations.
     pub workload: Workload,
     /// The capacity of the cache.
     pub entries: u64,
-    /// How many threads shared the operations.
+    /// The number of threads.
     pub threads: u16,
     /// The number of operations of each thread.
     pub operations: u32,
 }
 
 impl Work {
-    // The operations of all threads.
+    // Returns the number of operations of all threads.
     fn total(&self) -> u64 {
         u64::from(self.operations).saturating_mul(u64::from(self.threads))
     }
@@ -42,7 +42,7 @@ impl fmt::Display for Work {
     }
 }
 
-/// Writes a line for each workload, and one more for its hits where those are told.
+/// Writes a line for each workload, and for some a second one with the hit ratio.
 #[derive(Drop)]
 pub struct Report<'a, R, O, E> {
     rt: &'a R,
@@ -52,7 +52,7 @@ pub struct Report<'a, R, O, E> {
 }
 
 impl<'a, R: Clock, O: Write, E: Write> Report<'a, R, O, E> {
-    /// Creates a report without lines.
+    /// Creates an empty report.
     pub fn new(rt: &'a R, out: &'a mut O, err: &'a mut E, shown: Shown) -> Report<'a, R, O, E> {
         Report {
             rt,
@@ -62,7 +62,7 @@ impl<'a, R: Clock, O: Write, E: Write> Report<'a, R, O, E> {
         }
     }
 
-    /// Runs a workload, which answers the sum of the values that it read, and writes its line.
+    /// Runs a workload, which returns the sum of the values that it read, and writes its line.
     pub fn time<F: FnOnce() -> Result<u64, Failure> + Drop>(
         &mut self,
         work: &Work,
@@ -80,8 +80,8 @@ impl<'a, R: Clock, O: Write, E: Write> Report<'a, R, O, E> {
         Ok(())
     }
 
-    /// Writes how many of a workload's operations hit, where times are shown: other schedules have
-    /// other hits.
+    /// Writes a workload's hit ratio if times are shown. It depends on the schedule, so it is not
+    /// written beside sums.
     pub fn tell_hits(&mut self, work: &Work, hits: u64) -> Result<(), Failure> {
         match self.shown {
             Shown::Sum => {}
@@ -93,13 +93,13 @@ impl<'a, R: Clock, O: Write, E: Write> Report<'a, R, O, E> {
     }
 }
 
-// The nanoseconds that an operation of a workload took, to one decimal place.
+// Returns how many nanoseconds an operation took, to one decimal place.
 fn per_operation(taken: Duration, work: &Work) -> Quotient {
     let nanoseconds = u64::try_from(taken.as_nanos()).unwrap_or(u64::MAX);
     Quotient::of(nanoseconds, work.total(), 1)
 }
 
-// The fraction of a workload's operations that found their value, to four decimal places.
+// Returns the hit ratio, to four decimal places.
 fn hit_ratio(hits: u64, work: &Work) -> Quotient {
     Quotient::of(hits, work.total(), 4)
 }

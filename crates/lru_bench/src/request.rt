@@ -1,4 +1,4 @@
-//! What the words after `time` ask for.
+//! Parses the words after `time`.
 
 use crate::failure::Failure;
 use crate::keys::FIRST_ABSENT;
@@ -6,37 +6,37 @@ use crate::workload::{ALL, Workload};
 use std::alloc::{AllocError, Global};
 use std::num::NonZeroU64;
 
-/// The most entries that a cache is filled with: with more, keys that should be absent would be
-/// there.
+/// The largest number of entries that a cache is filled with. With more, keys that must be absent
+/// would be present.
 pub const MOST_ENTRIES: u64 = FIRST_ABSENT;
 
-/// How many threads make hits and misses, run after run, where more than one does.
+/// The numbers of threads that make hits and misses in the runs of more than one thread.
 pub const MORE_THREADS: [u16; 3] = [2, 4, 8];
 
-// How many entries a cache has, run after run, where no word says it.
+// The numbers of entries of a cache, if no word gives one.
 const ENTRIES: [u64; 2] = [1_000, 1_000_000];
 
-// How many it has by the word `sizes`.
+// The numbers of entries that the word `sizes` stands for.
 const EVERY_SIZE: [u64; 4] = [1_000, 10_000, 100_000, 1_000_000];
 
-/// What is to be timed.
+/// The workloads to time, and their sizes.
 #[derive(Drop)]
 pub struct Request {
-    /// The workloads, apart from reads that mostly hit.
+    /// The workloads, except for reads that mostly hit.
     pub workloads: Vec<Workload>,
-    /// How many entries a cache has, run after run.
+    /// The number of entries of a cache, for each run.
     pub entries: Vec<NonZeroU64>,
-    /// How many threads make hits and misses, run after run, after one has.
+    /// The number of threads that make hits and misses, for each run after that of one thread.
     pub threads: Vec<u16>,
 }
 
 impl Request {
-    /// What these words ask for: each is a workload, a number of entries, `sizes` for several of
-    /// these, or `threads` for more threads than one. Without a number there are 1,000 and
-    /// 1,000,000 entries. Without a workload all are run, unless reads that mostly hit are asked
-    /// for, which is then the only one.
+    /// Parses the words. Each is a workload, a number of entries, `sizes` for several such numbers,
+    /// or `threads` for runs of more than one thread. Without a number, caches of 1,000 and of
+    /// 1,000,000 entries are used. Without a workload, all are run, or only reads that mostly hit
+    /// if `has_mostly`.
     ///
-    /// `Word` at any other word.
+    /// Returns `Word` for any other word.
     pub fn of_words(alloc: Global, words: &[String], has_mostly: bool) -> Result<Request, Failure> {
         let mut request = Request {
             workloads: Vec::new(alloc),
@@ -68,7 +68,7 @@ impl Request {
     }
 }
 
-/// Those of the numbers that are above 0.
+/// Returns the numbers that are above 0.
 pub fn sizes(alloc: Global, numbers: &[u64]) -> Result<Vec<NonZeroU64>, AllocError> {
     numbers
         .iter()

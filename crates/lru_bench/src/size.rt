@@ -1,4 +1,4 @@
-//! One turn of the hits and misses of a plan.
+//! The size of a run of hits and misses.
 
 use crate::plan::Plan;
 use crate::report::Work;
@@ -6,19 +6,19 @@ use crate::system::System;
 use crate::workload::Workload;
 use std::num::NonZeroU64;
 
-/// How many entries a cache has, and how many threads share it.
+/// The number of entries of a cache, and how many threads share it.
 #[derive(Clone, Copy)]
 pub struct Size<'a> {
-    /// What is run, and how many operations each thread makes.
+    /// The workloads, and the number of operations of each thread.
     pub plan: &'a Plan,
-    /// How many entries the cache has.
+    /// The number of entries of the cache.
     pub entries: NonZeroU64,
-    /// How many threads share it.
+    /// The number of threads that share it.
     pub threads: u16,
 }
 
 impl<'a> Size<'a> {
-    /// A turn on so many entries, in so many threads.
+    /// Returns the size of a run on this many entries, in this many threads.
     pub fn new(plan: &'a Plan, entries: NonZeroU64, threads: u16) -> Size<'a> {
         Size {
             plan,
@@ -27,7 +27,7 @@ impl<'a> Size<'a> {
         }
     }
 
-    /// A workload of this size.
+    /// Returns a workload of this size.
     pub fn work(&self, system: System, workload: Workload) -> Work {
         Work {
             system,
@@ -38,14 +38,14 @@ impl<'a> Size<'a> {
         }
     }
 
-    /// Whether a workload of present keys is wanted.
+    /// Returns whether the plan has a workload of present keys.
     pub fn has_hits(&self) -> bool {
         [Workload::HitGet, Workload::HitRead, Workload::HitInit]
             .iter()
             .any(|workload| self.plan.wants(*workload))
     }
 
-    /// Whether the workload of absent keys is wanted.
+    /// Returns whether the plan has the workload of absent keys.
     pub fn has_misses(&self) -> bool {
         self.plan.wants(Workload::MissEvict)
     }

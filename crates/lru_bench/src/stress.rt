@@ -1,4 +1,4 @@
-//! The stress workload on caches whose values are their keys.
+//! Times the stress workload, on caches in which the value of a key is the key.
 
 use crate::bench::Bench;
 use crate::failure::Failure;
@@ -12,7 +12,7 @@ use lru_support::cached::Cached;
 use lru_support::calls::WorkerCall;
 use std::io::Write;
 
-// The seed of all calls.
+// The seed of the calls.
 const SEED: u64 = 1;
 
 // The capacity on one lock.
@@ -21,7 +21,7 @@ const LOCK_CAPACITY: u64 = 100;
 /// The capacity in shards.
 pub const SHARDS_CAPACITY: u64 = 128;
 
-/// How many workers there are, and how many calls each makes.
+/// The number of workers, and of the calls of each.
 #[derive(Clone, Copy)]
 pub struct Load {
     /// The workers.
@@ -31,7 +31,7 @@ pub struct Load {
 }
 
 impl Load {
-    /// The workload on a system of this capacity.
+    /// Returns the workload on a system of this capacity.
     pub fn work(self, system: System, capacity: u64) -> Work {
         Work {
             system,
@@ -72,7 +72,7 @@ fn make(call: &WorkerCall) -> Result<u64, Unmade> {
 }
 
 impl<R: Host, W: Waiter, O: Write, E: Write> Bench<'_, R, W, O, E> {
-    /// A cache of one lock, and one in shards.
+    /// Times the workload on one lock and in shards.
     pub fn stress_caches(&mut self, load: Load) -> Result<(), Failure> {
         let cache = self.on_one_lock(LOCK_CAPACITY)?;
         let work = load.work(System::OneLock, LOCK_CAPACITY);
@@ -82,8 +82,8 @@ impl<R: Host, W: Waiter, O: Write, E: Write> Bench<'_, R, W, O, E> {
         self.stress(&Keyed { cache: &cache }, load, &work)
     }
 
-    /// Has each worker make its calls, one after another with no rest. The sum of what was read by
-    /// those whose making would not fail is the same on every schedule.
+    /// Times the workload: each worker makes its calls without a pause. The sum of the values that
+    /// were read by calls whose making would not fail is the same on every schedule.
     pub fn stress<C: StressTarget + Sync>(
         &mut self,
         cache: &C,

@@ -1,34 +1,34 @@
-//! What is measured, by the name that its lines begin with.
+//! The caches that are measured, with the names that their lines begin with.
 
 use std::fmt;
 
-/// The number of shards that a cache has where nothing else is said.
+/// The default number of shards of a cache.
 pub const SHARDS: usize = 16;
 
-/// More shards, for caches that many threads share.
+/// A larger number, for caches that many threads share.
 pub const MORE_SHARDS: usize = 64;
 
-/// The most shards that are measured.
+/// The largest number that is measured.
 pub const MOST_SHARDS: usize = 256;
 
-/// What the operations of a workload are asked of.
+/// A cache, and for some the way in which it is called.
 #[derive(Clone, Copy)]
 pub enum System {
-    /// The cache of one lock.
+    /// The cache on one lock.
     OneLock,
-    /// The cache of one lock, which has reserved room for twice its entries.
+    /// The cache on one lock, which has reserved room for twice its entries.
     Reserved,
-    /// The cache in so many shards.
+    /// The cache with this many shards.
     Shards(usize),
-    /// The cache of one lock, asked by `read` and only then by `get_or_init`.
+    /// The cache on one lock, called by `read` and then, if nothing was found, by `get_or_init`.
     ReadOnOneLock,
-    /// The cache in so many shards, asked so.
+    /// The cache with this many shards, called in the same way.
     ReadInShards(usize),
-    /// The clock cache in so many shards.
+    /// The clock cache with this many shards.
     Clock(usize),
 }
 
-// One word. The number of shards is left out where it is 16.
+// One word. The default number of shards is left out.
 impl fmt::Display for System {
     fn fmt<W: fmt::Write>(&self, f: &mut fmt::Formatter<W>) -> fmt::Result {
         match self {

@@ -21,12 +21,12 @@ pub enum WorkloadKeys<'a> {
     Drawn(&'a Draws),
 }
 
-/// What came of operations: the sum of the values, and how many were there.
+/// The sum of the values that operations read, and how many of them hit.
 #[derive(Clone, Copy)]
 pub struct Totals {
     /// The sum of the values that were read.
     pub sum: u64,
-    /// How many operations found their value.
+    /// The number of operations that found their value.
     pub hits: u64,
 }
 
@@ -38,9 +38,9 @@ impl Totals {
     }
 }
 
-/// Makes the operation so often in each of some threads, or, where there is one, in the caller's.
+/// Makes this many operations in each of the threads. A single one is the caller's thread.
 ///
-/// `Memory` where a thread could not be started, or a call was refused.
+/// Returns `Memory` if a thread cannot be started or a call is refused.
 pub fn run<R: Threads + Wait + Sync, U: Operation + Sync>(
     rt: &R,
     operation: &U,
@@ -55,9 +55,7 @@ pub fn run<R: Threads + Wait + Sync, U: Operation + Sync>(
     }
 }
 
-/// Makes the operation so often in each of some threads, none of which is the caller's.
-///
-/// `Memory` where a thread could not be started, or a call was refused.
+/// Makes this many operations in each of the threads, none of which is the caller's, as `run` does.
 pub fn share<R: Threads + Wait + Sync, U: Operation + Sync>(
     rt: &R,
     operation: &U,
@@ -88,7 +86,7 @@ pub fn share<R: Threads + Wait + Sync, U: Operation + Sync>(
     }
 }
 
-/// One worker's operations.
+/// Makes the operations of one worker.
 pub fn work<U: Operation>(
     operation: &U,
     asked: WorkloadKeys<'_>,
@@ -121,7 +119,7 @@ pub fn ask_all<U: Operation>(operation: &U, draws: &Draws) -> Result<Totals, Ref
     operate(operation, draws.of_worker(0), draws.len())
 }
 
-// Makes the operation on so many keys.
+// Makes this many operations.
 fn operate<U: Operation, S: Source + Drop>(
     operation: &U,
     mut source: S,

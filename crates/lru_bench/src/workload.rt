@@ -1,8 +1,8 @@
-//! What is run, by the name that its lines have, which is also the word that asks for it.
+//! The workloads, with the names that stand for them on the command line and in the output.
 
 use std::fmt;
 
-/// A kind of operation, and how often it is made.
+/// A workload.
 #[derive(Clone, Copy, PartialEq, Eq)]
 pub enum Workload {
     /// `get` of present keys.
@@ -19,7 +19,8 @@ pub enum Workload {
     ReadMostly,
 }
 
-/// The workloads whose keys are drawn while they are run, in the order in which they are.
+/// All workloads but `ReadMostly`, whose keys are drawn before it runs, in the order in which they
+/// run.
 pub const ALL: [Workload; 5] = [
     Workload::HitGet,
     Workload::HitRead,
@@ -29,7 +30,7 @@ pub const ALL: [Workload; 5] = [
 ];
 
 impl Workload {
-    /// The workload of this name, where it is one of `ALL`.
+    /// Returns the workload of this name, if it is one of `ALL`.
     pub fn named(name: &str) -> Option<Workload> {
         ALL.iter().find(|workload| workload.name() == name).copied()
     }
