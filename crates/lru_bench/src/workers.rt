@@ -38,7 +38,7 @@ impl Totals {
     }
 }
 
-/// Makes this many operations in each of the threads. A single one is the caller's thread.
+/// Makes this many operations in each of the threads. A single thread is the caller's.
 ///
 /// Returns `Memory` if a thread cannot be started or a call is refused.
 pub fn run<R: Threads + Wait + Sync, U: Operation + Sync>(

@@ -19,8 +19,7 @@ pub enum Workload {
     ReadMostly,
 }
 
-/// All workloads but `ReadMostly`, whose keys are drawn before it runs, in the order in which they
-/// run.
+/// The workloads in the order in which they run, without `ReadMostly`, whose keys are drawn first.
 pub const ALL: [Workload; 5] = [
     Workload::HitGet,
     Workload::HitRead,
