@@ -124,34 +124,16 @@ impl<K: Hash + Eq + Clone + Drop, V: Drop, R: Wait, F: Fit<K, V>> Door<K, V, R, 
                 drop(evicted.open(guard));
                 Ok(Lookup::Make(Maker { door: self, making }))
             }
-            Entered::Wait(waiting) => self.wait(guard, waiting, key, charge),
+            // If the result were returned as it is, every hit would set up the stack that a wait
+            // needs.
+            Entered::Wait(waiting) => Ok(self.wait(guard, waiting, key, charge)?),
             Entered::Hit(pin) => Ok(Lookup::Hit(CacheHandle::new(self, pin))),
         }
     }
 
-    // `wait_slow`, kept out of `begin` so that only a call that waits sets up the stack that a wait
-    // needs. Inlined beside a hit, every hit would pay for it.
-    #[inline(always)]
-    fn wait<'a>(
-        &'a self,
-        guard: MutexGuard<'a, Locked<K, V, F>>,
-        waiting: Waiting<K, V, F>,
-        key: &K,
-        charge: u64,
-    ) -> Result<Lookup<'a, K, V, R, F>, Refusal>
-        requires charged { 0 < charge }
-        requires asked { waiting.key ≡ key.now }
-        requires charge { waiting.charge ≡ charge }
-        requires awake { mutex_guard_value guard ≡ waiting.left }
-        ensures lookup { IfOk result (λ lookup. IsLookupFor F.fits lookup key.now charge) }
-        ensures never_stale { IfErr result (λ e. e ≢ Refusal.Stale) }
-    {
-        Ok(self.wait_slow(guard, waiting, key, charge)?)
-    }
-
     // Waits while another caller makes the value.
     #[cold]
-    fn wait_slow<'a>(
+    fn wait<'a>(
         &'a self,
         guard: MutexGuard<'a, Locked<K, V, F>>,
         waiting: Waiting<K, V, F>,

@@ -30,7 +30,7 @@ use std::sync::{Arc, Wait};
 #[derive(Drop)]
 pub struct LruCache<K: Hash + Eq + Clone, V, R: Wait, F: Fit<K, V> = Anything> {
     alloc: Global,
-    door: Door<K, V, R, F>,
+    pub(crate) door: Door<K, V, R, F>,
 }
 
 impl<K: Hash + Eq + Clone + Drop, V: Drop, R: Wait> LruCache<K, V, R, Anything> {

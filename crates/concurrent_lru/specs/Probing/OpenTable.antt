@@ -4,19 +4,13 @@ use Rattle.std.specs.Coded.{Coded, code_by, coded×, coded_ℕ}
 use Rattle.concurrent_lru.specs.Probing.Probes.{marks_of, mark_at, IsFilledAt, walk_at, IsReached}
 use Rattle.concurrent_lru.specs.Probing.Entries.{AreApart, count}
 use Rattle.concurrent_lru.specs.declared.node_table.probes.Slot.{Slot}
-use Rattle.concurrent_lru.specs.declared.node_table.probes.Probe.{Probe}
-use Rattle.concurrent_lru.specs.declared.node_table.probes.Probe.TheVariants.{Filled, Empty}
 use Rattle.concurrent_lru.specs.declared.node_table.probes.TheConstants.{FILLED}
-use Rattle.concurrent_lru.specs.declared.node_table.open_table.Step.{Step}
-use Rattle.concurrent_lru.specs.declared.node_table.open_table.Step.TheVariants.{Item, End}
+use Rattle.concurrent_lru.specs.declared.node_table.probes.Step.{Step}
+use Rattle.concurrent_lru.specs.declared.node_table.probes.Step.TheVariants.{Item, End}
 
 -- the mark of a hash
 abbrev pub mark_of : ℕ → ℕ
 mark_of hash = bit_or hash FILLED
-
-abbrev pub step_for : Probe → Step
-step_for (Filled k) = Item k
-step_for (Empty k) = End
 
 module _ {T : Type 0} where
   abbrev pub slot_code : Coded T → Coded (Slot T)

@@ -2,8 +2,8 @@
 use Rattle.std.specs.Prelude.{◌≡◌, ◌≢◌, ℕ, zero, suc, ◌<◌, ◌≤◌, ◌==◌, List, [], ◌∷◌, map, filter, length, slice_index_or, if◌then◌else◌}
 use Rattle.concurrent_lru.specs.Probing.Cycle.{next_of, steps, home_of}
 use Rattle.concurrent_lru.specs.declared.node_table.probes.Slot.{Slot}
-use Rattle.concurrent_lru.specs.declared.node_table.probes.Probe.{Probe}
-use Rattle.concurrent_lru.specs.declared.node_table.probes.Probe.TheVariants.{Filled, Empty}
+use Rattle.concurrent_lru.specs.declared.node_table.probes.Step.{Step}
+use Rattle.concurrent_lru.specs.declared.node_table.probes.Step.TheVariants.{Item, End}
 
 abbrev pub marks_of : {T : Type 0} → List (Slot T) → List ℕ
 marks_of slots = map (λ s. s.mark) slots
@@ -41,10 +41,10 @@ end_at ms at = end (length ms) ms at
 abbrev pub walk_at : List ℕ → ℕ → ℕ → List ℕ
 walk_at ms mark at = filter (λ k. mark_at ms k == mark) (run_at ms at)
 
--- what a search from a slot finds first: a slot with the mark, or else an empty slot
-abbrev pub Finds : List ℕ → ℕ → ℕ → Probe → Type 0
-Finds ms mark at (Filled k) = (mark_at ms k ≡ mark) × (walk_at ms mark at ≡ walk_at ms mark k)
-Finds ms mark at (Empty k) = (k ≡ end_at ms at) × (walk_at ms mark at ≡ [])
+-- what a search from a slot finds first: a slot with the mark, or else the end of the walk
+abbrev pub Finds : List ℕ → ℕ → ℕ → Step → Type 0
+Finds ms mark at (Item k) = (mark_at ms k ≡ mark) × (walk_at ms mark at ≡ walk_at ms mark k)
+Finds ms mark at End = walk_at ms mark at ≡ []
 
 -- among n slots, none from the home of a mark to the slot with the mark is empty
 abbrev pub IsReachedIn : ℕ → List ℕ → Type 0

@@ -14,47 +14,14 @@
 ghost use Rattle.std.specs.Prelude.{◌≡◌, ◌≢◌, ℕ, ◌+◌, ◌<◌, ◌≤◌, [], ◌∷◌, Contains, OnOk, OnErr, IsTrue};
 ghost use Rattle.concurrent_lru.specs.Probing.Probes.{mark_at, marks_of};
 ghost use Rattle.concurrent_lru.specs.Probing.Entries.{count, entry, Has, Holds, IsSame, Adds, Removes};
-ghost use Rattle.concurrent_lru.specs.Probing.OpenTable.{mark_of as mark_for, capacity, IsFilled, HasMark, walk, step_for};
+ghost use Rattle.concurrent_lru.specs.Probing.OpenTable.{mark_of as mark_for, capacity, IsFilled, HasMark, walk};
 
 use crate::linear_probing::{home_of, next_of};
-use crate::node_table::probes::{
-    Probe, Slot, copy_all, empty_slots, find_mark, mark_of, put, take_out,
-};
+pub(crate) use crate::node_table::probes::Cursor;
+pub(super) use crate::node_table::probes::Step;
+use crate::node_table::probes::{Slot, copy_all, empty_slots, find_mark, mark_of, put, take_out};
 use std::alloc::{AllocError, Global};
 use std::marker::Model;
-
-/// Where an item lies. It becomes stale with the next insertion, removal or growth.
-#[derive(Clone, Copy)]
-pub(crate) struct Cursor {
-    slot: usize,
-}
-
-impl Cursor {
-    /// Returns a cursor at which no item lies.
-    #[inline(always)]
-    pub(crate) fn nowhere() -> Cursor {
-        Cursor { slot: usize::MAX }
-    }
-}
-
-impl Model for Cursor {
-    ghost use Rattle.std.specs.Prelude.{ℕ};
-
-    ghost Value = { ℕ };
-
-    ghost view = { λ a. a.slot };
-
-    ghost inverse = { λ n. record { slot = n } };
-}
-
-/// One step of a walk along the items of a hash.
-#[derive(Clone, Copy)]
-pub(super) enum Step {
-    /// An item with the hash.
-    Item(Cursor),
-    /// The end of the walk.
-    End,
-}
 
 /// Items by hash. No item may be in it twice.
 #[derive(Drop)]
@@ -140,7 +107,7 @@ impl<T: Copy> OpenTable<T> {
         }
         let mark = mark_of(hash);
         let home = home_of(count, mark);
-        step_of(find_mark(&self.slots, mark, home))
+        find_mark(&self.slots, mark, home)
     }
 
     /// Goes on with a walk: returns the next item with the hash of this one, if there is one.
@@ -152,7 +119,7 @@ impl<T: Copy> OpenTable<T> {
     {
         let mark = self.slots[cursor.slot].mark;
         let next = next_of(self.slots.len(), cursor.slot);
-        step_of(find_mark(&self.slots, mark, next))
+        find_mark(&self.slots, mark, next)
     }
 
     /// Returns whether an item lies at a cursor, which may be stale.
@@ -196,16 +163,5 @@ impl<T: Copy> OpenTable<T> {
         let item = take_out(&mut self.slots, cursor.slot);
         self.len -= 1;
         item
-    }
-}
-
-// Returns the step of a walk that a search found.
-#[inline(always)]
-fn step_of(probe: Probe) -> Step
-    ensures { result ≡ step_for probe }
-{
-    match probe {
-        Probe::Filled(slot) => Step::Item(Cursor { slot }),
-        Probe::Empty(_) => Step::End,
     }
 }

@@ -7,6 +7,7 @@ ghost use Rattle.concurrent_lru.specs.Probing.Gaps.{IsGap};
 
 use crate::linear_probing::{home_of, next_of, steps_between};
 use std::alloc::{AllocError, Global};
+use std::marker::Model;
 
 /// The bit that every mark has, so that 0 can mean an empty slot and a slot needs no other word. It
 /// is the highest, since only the lowest bits choose a home. Hashes that differ in it alone have
@@ -23,13 +24,37 @@ pub(super) struct Slot<T> {
     pub item: T,
 }
 
-/// What a search comes to first.
+/// Where an item lies. It becomes stale with the next insertion, removal or growth.
 #[derive(Clone, Copy)]
-pub(super) enum Probe {
-    /// A slot with the mark that was looked for.
-    Filled(usize),
-    /// An empty slot, with which the search ends.
-    Empty(usize),
+pub(crate) struct Cursor {
+    pub(super) slot: usize,
+}
+
+impl Cursor {
+    /// Returns a cursor at which no item lies.
+    #[inline(always)]
+    pub(crate) fn nowhere() -> Cursor {
+        Cursor { slot: usize::MAX }
+    }
+}
+
+impl Model for Cursor {
+    ghost use Rattle.std.specs.Prelude.{ℕ};
+
+    ghost Value = { ℕ };
+
+    ghost view = { λ a. a.slot };
+
+    ghost inverse = { λ n. record { slot = n } };
+}
+
+/// One step of a walk along the items with a mark.
+#[derive(Clone, Copy)]
+pub(super) enum Step {
+    /// An item with the mark.
+    Item(Cursor),
+    /// The end of the walk.
+    End,
 }
 
 /// Returns the mark of a hash.
@@ -50,9 +75,9 @@ pub(super) fn mark_in<T: Copy>(slots: &[Slot<T>], at: usize) -> u64
     slots[at].mark
 }
 
-/// Returns the first slot with a mark from a slot on, or the empty slot with which the search ends.
+/// Returns the first item with a mark from a slot on, if there is one before the first empty slot.
 #[inline(always)]
-pub(super) fn find_mark<T: Copy>(slots: &[Slot<T>], mark: u64, from: usize) -> Probe
+pub(super) fn find_mark<T: Copy>(slots: &[Slot<T>], mark: u64, from: usize) -> Step
     requires within { from < length slots.now }
     requires ends { HasEmpty (marks_of slots.now) }
     requires filled { mark ≢ 0 }
@@ -62,10 +87,10 @@ pub(super) fn find_mark<T: Copy>(slots: &[Slot<T>], mark: u64, from: usize) -> P
     loop {
         let found = slots[at].mark;
         if found == mark {
-            return Probe::Filled(at);
+            return Step::Item(Cursor { slot: at });
         }
         if found == 0 {
-            return Probe::Empty(at);
+            return Step::End;
         }
         at = next_of(slots.len(), at);
     }

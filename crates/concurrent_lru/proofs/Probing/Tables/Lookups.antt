@@ -3,8 +3,8 @@ use Rattle.std.proofs.Common.{◌≡◌, ◌≢◌, ℕ, zero, suc, ◌<◌, Lis
 use Rattle.concurrent_lru.specs.Probing.Probes.{marks_of, mark_at}
 use Rattle.concurrent_lru.specs.Probing.OpenTable.{IsFilled, HasMark, walk}
 use Rattle.concurrent_lru.specs.declared.node_table.probes.Slot.{Slot}
-use Rattle.concurrent_lru.specs.declared.node_table.open_table.Step.{Step}
-use Rattle.concurrent_lru.specs.declared.node_table.open_table.Step.TheVariants.{Item, End}
+use Rattle.concurrent_lru.specs.declared.node_table.probes.Step.{Step}
+use Rattle.concurrent_lru.specs.declared.node_table.probes.Step.TheVariants.{Item, End}
 
 contains_rest : (p q : ℕ) (ps : List ℕ) → q ≢ p → Contains (p ∷ ps) q → Contains ps q
 contains_rest p q ps ne (zero, within, is) = absurd (ne (sym is))

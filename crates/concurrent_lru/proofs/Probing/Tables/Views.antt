@@ -2,11 +2,10 @@
 use Rattle.std.proofs.Common.{◌≡◌, ◌≢◌, ℕ, ◌<◌, List, ◌∷◌, length, refl, sym, ap, ◌∙◌, subst, arith, Contains}
 use Rattle.concurrent_lru.specs.Probing.Cycle.{next_of, home_of}
 use Rattle.concurrent_lru.specs.Probing.Probes.{marks_of, mark_at, IsFilledAt, HasEmpty, Finds}
-use Rattle.concurrent_lru.specs.Probing.OpenTable.{mark_of, IsTable, IsFilled, HasMark, walk, step_for}
+use Rattle.concurrent_lru.specs.Probing.OpenTable.{mark_of, IsTable, IsFilled, HasMark, walk}
 use Rattle.concurrent_lru.specs.declared.node_table.probes.Slot.{Slot}
-use Rattle.concurrent_lru.specs.declared.node_table.probes.Probe.{Probe}
-use Rattle.concurrent_lru.specs.declared.node_table.open_table.Step.{Step}
-use Rattle.concurrent_lru.specs.declared.node_table.open_table.Step.TheVariants.{Item}
+use Rattle.concurrent_lru.specs.declared.node_table.probes.Step.{Step}
+use Rattle.concurrent_lru.specs.declared.node_table.probes.Step.TheVariants.{Item}
 use Rattle.concurrent_lru.proofs.Probing.Marks.{length-marks}
 use Rattle.concurrent_lru.proofs.Probing.Gaps.{filled_within}
 use Rattle.concurrent_lru.proofs.Probing.Tables.Walks.{has_empty, first_mark, first_all, next_rest}
@@ -31,29 +30,29 @@ module _ {T : Type 0} where
 
   -- ---- the first step of a walk
   module _ (slots now v : List (Slot T)) (len hash mark home : ℕ) (t : IsTable slots len) (is : now ≡ slots) (seen : slots ≡ v) (marks : mark ≡ mark_of hash) (begins : home ≡ home_of (length slots) mark)
-      (p : Probe) (r : Step) (step : r ≡ step_for p) (found : Finds (marks_of now) mark home p) where
-    finds : Finds (marks_of slots) mark home p
-    finds = subst (λ l. Finds (marks_of l) mark home p) is found
+      (s : Step) (found : Finds (marks_of now) mark home s) where
+    finds : Finds (marks_of slots) mark home s
+    finds = subst (λ l. Finds (marks_of l) mark home s) is found
 
-    pub begun_mark : HasMark v (mark_of hash) r
-    begun_mark = subst (HasMark v (mark_of hash)) (sym step) (subst (λ l. HasMark l (mark_of hash) (step_for p)) seen (subst (λ m. HasMark slots m (step_for p)) marks (first_mark slots len t mark home p finds)))
+    pub begun_mark : HasMark v (mark_of hash) s
+    begun_mark = subst (λ l. HasMark l (mark_of hash) s) seen (subst (λ m. HasMark slots m s) marks (first_mark slots len t mark home s finds))
 
-    pub begun_all : mark ≢ 0 → (k : ℕ) → mark_at (marks_of v) k ≡ mark_of hash → Contains (walk v r) k
-    begun_all filled k h = subst (λ s. Contains (walk v s) k) (sym step) (subst (λ l. Contains (walk l (step_for p)) k) seen
-        (first_all slots len t mark home p filled begins finds k (subst (λ l. mark_at (marks_of l) k ≡ mark) (sym seen) (h ∙ sym marks))))
+    pub begun_all : mark ≢ 0 → (k : ℕ) → mark_at (marks_of v) k ≡ mark_of hash → Contains (walk v s) k
+    begun_all filled k h = subst (λ l. Contains (walk l s) k) seen
+        (first_all slots len t mark home s filled begins finds k (subst (λ l. mark_at (marks_of l) k ≡ mark) (sym seen) (h ∙ sym marks)))
 
   -- ---- a further step
   module _ (slots now v : List (Slot T)) (len k cursor : ℕ) (t : IsTable slots len) (is : now ≡ slots) (seen : slots ≡ v) (at : k ≡ cursor) (filled : IsFilled v cursor)
-      (p : Probe) (r : Step) (step : r ≡ step_for p) (found : Finds (marks_of now) (mark_at (marks_of now) k) (next_of (length now) k) p) where
+      (s : Step) (found : Finds (marks_of now) (mark_at (marks_of now) k) (next_of (length now) k) s) where
     table : IsTable v len
     table = subst (λ l. IsTable l len) seen t
 
-    on : Finds (marks_of v) (mark_at (marks_of v) cursor) (next_of (length v) cursor) p
-    on = subst (λ j. Finds (marks_of v) (mark_at (marks_of v) j) (next_of (length v) j) p) at
-        (subst (λ (l : List (Slot T)). Finds (marks_of l) (mark_at (marks_of l) k) (next_of (length l) k) p) (is ∙ seen) found)
+    on : Finds (marks_of v) (mark_at (marks_of v) cursor) (next_of (length v) cursor) s
+    on = subst (λ j. Finds (marks_of v) (mark_at (marks_of v) j) (next_of (length v) j) s) at
+        (subst (λ (l : List (Slot T)). Finds (marks_of l) (mark_at (marks_of l) k) (next_of (length l) k) s) (is ∙ seen) found)
 
-    pub on_mark : HasMark v (mark_at (marks_of v) cursor) r
-    on_mark = subst (HasMark v (mark_at (marks_of v) cursor)) (sym step) (first_mark v len table (mark_at (marks_of v) cursor) (next_of (length v) cursor) p on)
+    pub on_mark : HasMark v (mark_at (marks_of v) cursor) s
+    on_mark = first_mark v len table (mark_at (marks_of v) cursor) (next_of (length v) cursor) s on
 
-    pub on_rest : walk v (Item cursor) ≡ cursor ∷ walk v r
-    on_rest = subst (λ s. walk v (Item cursor) ≡ cursor ∷ walk v s) (sym step) (next_rest v len table cursor (next_of (length v) cursor) filled refl p on)
+    pub on_rest : walk v (Item cursor) ≡ cursor ∷ walk v s
+    on_rest = next_rest v len table cursor (next_of (length v) cursor) filled refl s on

@@ -4,10 +4,10 @@ use Rattle.std.specs.List.{list_any, filter}
 use Rattle.std.proofs.lemmas.Bool.{cases_eq, eq-eqb, ne_eqb}
 use Rattle.concurrent_lru.specs.Probing.Cycle.{next_of, steps, home_of}
 use Rattle.concurrent_lru.specs.Probing.Probes.{marks_of, mark_at, IsFilledAt, HasEmpty, run_at, walk_at, Finds}
-use Rattle.concurrent_lru.specs.Probing.OpenTable.{IsTable, HasMark, walk, step_for}
+use Rattle.concurrent_lru.specs.Probing.OpenTable.{IsTable, HasMark, walk}
 use Rattle.concurrent_lru.specs.declared.node_table.probes.Slot.{Slot}
-use Rattle.concurrent_lru.specs.declared.node_table.probes.Probe.{Probe}
-use Rattle.concurrent_lru.specs.declared.node_table.probes.Probe.TheVariants.{Filled, Empty}
+use Rattle.concurrent_lru.specs.declared.node_table.probes.Step.{Step}
+use Rattle.concurrent_lru.specs.declared.node_table.probes.Step.TheVariants.{Item, End}
 use Rattle.concurrent_lru.proofs.Probing.Circle.{home_within}
 use Rattle.concurrent_lru.proofs.Probing.Runs.{member_along, walk_here}
 use Rattle.concurrent_lru.proofs.Probing.Marks.{length-marks}
@@ -71,15 +71,15 @@ module _ {T : Type 0} (v : List (Slot T)) (len : ℕ) (t : IsTable v len) where
       (subst (λ h. list_any (eqb k) (run_at ms h) ≡ true) (λ i. home_of (long i) (is i)) there)
 
   -- ---- a search from the home of a mark
-  pub first_mark : (mark at : ℕ) (p : Probe) → Finds ms mark at p → HasMark v mark (step_for p)
-  first_mark mark at (Filled k) f = f.0
-  first_mark mark at (Empty k) f = tt
+  pub first_mark : (mark at : ℕ) (s : Step) → Finds ms mark at s → HasMark v mark s
+  first_mark mark at (Item k) f = f.0
+  first_mark mark at End f = tt
 
-  pub first_all : (mark at : ℕ) (p : Probe) → mark ≢ 0 → at ≡ home_of (length v) mark → Finds ms mark at p → (k : ℕ) → mark_at ms k ≡ mark → Contains (walk v (step_for p)) k
-  first_all mark at (Filled j) filled home f k is =
+  pub first_all : (mark at : ℕ) (s : Step) → mark ≢ 0 → at ≡ home_of (length v) mark → Finds ms mark at s → (k : ℕ) → mark_at ms k ≡ mark → Contains (walk v s) k
+  first_all mark at (Item j) filled home f k is =
       contains k (walk_at ms (mark_at ms j) j) (subst (λ l. list_any (eqb k) l ≡ true) (ap (walk_at ms mark) (sym home) ∙ f.1 ∙ ap (λ m. walk_at ms m j) (sym f.0)) (on_walk mark k filled is))
-  first_all mark at (Empty j) filled home f k is =
-      contains k [] (subst (λ l. list_any (eqb k) l ≡ true) (ap (walk_at ms mark) (sym home) ∙ f.1) (on_walk mark k filled is))
+  first_all mark at End filled home f k is =
+      contains k [] (subst (λ l. list_any (eqb k) l ≡ true) (ap (walk_at ms mark) (sym home) ∙ f) (on_walk mark k filled is))
 
   -- ---- a search from the slot after an item
   module _ (cursor next : ℕ) (full : IsFilledAt ms cursor) (to : next ≡ next_of (length v) cursor) where
@@ -92,9 +92,9 @@ module _ {T : Type 0} (v : List (Slot T)) (len : ℕ) (t : IsTable v len) where
     next_is : next_of (length ms) cursor ≡ next
     next_is = ap (λ n. next_of n cursor) long ∙ sym to
 
-    pub next_rest : (p : Probe) → Finds ms (mark_at ms cursor) next p → walk_at ms (mark_at ms cursor) cursor ≡ cursor ∷ walk v (step_for p)
-    next_rest (Filled j) f = walk_here ms (mark_at ms cursor) cursor some in_ms full refl ∙ ap (λ l. cursor ∷ l) (ap (walk_at ms (mark_at ms cursor)) next_is ∙ f.1 ∙ ap (λ m. walk_at ms m j) (sym f.0))
-    next_rest (Empty j) f = walk_here ms (mark_at ms cursor) cursor some in_ms full refl ∙ ap (λ l. cursor ∷ l) (ap (walk_at ms (mark_at ms cursor)) next_is ∙ f.1)
+    pub next_rest : (s : Step) → Finds ms (mark_at ms cursor) next s → walk_at ms (mark_at ms cursor) cursor ≡ cursor ∷ walk v s
+    next_rest (Item j) f = walk_here ms (mark_at ms cursor) cursor some in_ms full refl ∙ ap (λ l. cursor ∷ l) (ap (walk_at ms (mark_at ms cursor)) next_is ∙ f.1 ∙ ap (λ m. walk_at ms m j) (sym f.0))
+    next_rest End f = walk_here ms (mark_at ms cursor) cursor some in_ms full refl ∙ ap (λ l. cursor ∷ l) (ap (walk_at ms (mark_at ms cursor)) next_is ∙ f)
 
 -- a table with no slots
 pub none_filled : {T : Type 0} (v : List (Slot T)) (k mark : ℕ) → length v ≡ 0 → mark_at (marks_of v) k ≡ mark → mark ≢ 0 → ⊥

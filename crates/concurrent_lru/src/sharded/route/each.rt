@@ -74,7 +74,8 @@ impl<K: Hash + Eq + Clone + Drop, V: Drop, R: Wait, S: BuildHasher, F: Fit<K, V>
     pub fn capacity(&self) -> u128 {
         let mut capacity = 0;
         for shard in &self.routes.shards {
-            capacity += u128::from(shard.capacity());
+            let guard = shard.door.lock();
+            capacity += u128::from(guard.state().capacity());
         }
         capacity
     }
@@ -84,7 +85,8 @@ impl<K: Hash + Eq + Clone + Drop, V: Drop, R: Wait, S: BuildHasher, F: Fit<K, V>
     pub fn total_charge(&self) -> u128 {
         let mut total = 0;
         for shard in &self.routes.shards {
-            total += u128::from(shard.total_charge());
+            let guard = shard.door.lock();
+            total += u128::from(guard.state().total());
         }
         total
     }
@@ -94,7 +96,8 @@ impl<K: Hash + Eq + Clone + Drop, V: Drop, R: Wait, S: BuildHasher, F: Fit<K, V>
     pub fn pinned_charge(&self) -> u128 {
         let mut pinned = 0;
         for shard in &self.routes.shards {
-            pinned += u128::from(shard.pinned_charge());
+            let guard = shard.door.lock();
+            pinned += u128::from(guard.state().pinned_charge());
         }
         pinned
     }
@@ -105,7 +108,8 @@ impl<K: Hash + Eq + Clone + Drop, V: Drop, R: Wait, S: BuildHasher, F: Fit<K, V>
     pub fn len(&self) -> usize {
         let mut len: usize = 0;
         for shard in &self.routes.shards {
-            len = len.saturating_add(shard.len());
+            let guard = shard.door.lock();
+            len = len.saturating_add(guard.state().len());
         }
         len
     }

@@ -12,5 +12,4 @@ loop-mark-preserved g c =
     record {
       within = on.within;
       walk = c.loop-mark.invariant.walk ∙ passes c.args.slots.now c.loop-mark.at c.next_of-at.result c.index-slots-at.result c.requires.ends c.loop-mark.invariant.within c.if-found-eq0.false c.next_of-at.ensures.next c.args.mark c.if-found-mark.false;
-      end = c.loop-mark.invariant.end ∙ on.end;
     }

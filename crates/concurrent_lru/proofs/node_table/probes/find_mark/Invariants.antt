@@ -1,5 +1,5 @@
 use Rattle.std.proofs.Common.{◌≡◌, ◌<◌, length}
-use Rattle.concurrent_lru.specs.Probing.Probes.{marks_of, run_at, end_at, walk_at}
+use Rattle.concurrent_lru.specs.Probing.Probes.{marks_of, run_at, walk_at}
 use Rattle.concurrent_lru.proofs.node_table.probes.find_mark.Given as goal
 
 -- all that is left of the walk lies ahead
@@ -7,7 +7,6 @@ abbrev pub invariant-loop-mark : goal.invariant-loop-mark
 invariant-loop-mark g l = record {
   within : l.at < length l.slots;
   walk : walk_at (marks_of l.slots) l.mark l.from ≡ walk_at (marks_of l.slots) l.mark l.at;
-  end : end_at (marks_of l.slots) l.from ≡ end_at (marks_of l.slots) l.at;
 }
 
 abbrev pub decreases-loop-mark : goal.decreases-loop-mark

@@ -19,11 +19,11 @@ returns-clause-mark g c =
     let many : c.len-count.result ≡ length c.self.inside.slots.items = omega (arith, c.self.inside.slots.ok) in
     let begins : c.home_of-home.result ≡ home_of (length c.self.inside.slots.items) c.mark_of-mark.result = c.home_of-home.ensures.home ∙ ap (λ n. home_of n c.mark_of-mark.result) many in
     begun_mark c.self.inside.slots.items c.deref.result.now c.args.self.now c.self.inside.len c.args.hash c.mark_of-mark.result c.home_of-home.result c.self.invariant c.deref.ensures.value c.self.view_is c.mark_of-mark.ensures.mark begins
-    c.find_mark.result c.step_of.result c.step_of.ensures c.find_mark.ensures
+    c.find_mark.result c.find_mark.ensures
 
 pub returns-clause-all : goal.returns-clause-all
 returns-clause-all g c =
     let many : c.len-count.result ≡ length c.self.inside.slots.items = omega (arith, c.self.inside.slots.ok) in
     let begins : c.home_of-home.result ≡ home_of (length c.self.inside.slots.items) c.mark_of-mark.result = c.home_of-home.ensures.home ∙ ap (λ n. home_of n c.mark_of-mark.result) many in
     begun_all c.self.inside.slots.items c.deref.result.now c.args.self.now c.self.inside.len c.args.hash c.mark_of-mark.result c.home_of-home.result c.self.invariant c.deref.ensures.value c.self.view_is c.mark_of-mark.ensures.mark begins
-    c.find_mark.result c.step_of.result c.step_of.ensures c.find_mark.ensures c.mark_of-mark.ensures.filled
+    c.find_mark.result c.find_mark.ensures c.mark_of-mark.ensures.filled

@@ -22,4 +22,4 @@ returns-clause-rest g c =
     let many : c.len.result ≡ length items = omega (arith, c.self.inside.slots.ok) in
     let next : c.next_of-next.result ≡ next_of (length now) slot = c.next_of-next.ensures.next ∙ ap (λ n. next_of n slot) (many ∙ ap length (sym same)) in
     let found = subst (λ n. Finds (marks_of now) (mark_at (marks_of now) slot) n c.find_mark.result) next (subst (λ m. Finds (marks_of now) m c.next_of-next.result c.find_mark.result) mark c.find_mark.ensures) in
-    on_rest items now c.args.self.now c.self.inside.len slot c.args.cursor c.self.invariant same c.self.view_is c.cursor.view_is c.requires c.find_mark.result c.step_of.result c.step_of.ensures found
+    on_rest items now c.args.self.now c.self.inside.len slot c.args.cursor c.self.invariant same c.self.view_is c.cursor.view_is c.requires c.find_mark.result found

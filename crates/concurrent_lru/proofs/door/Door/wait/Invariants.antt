@@ -1,6 +1,6 @@
 use Rattle.std.specs.Prelude.{◌≡◌}
 use Rattle.std.specs.Sync.Mutex.{mutex_guard_value}
-use Rattle.concurrent_lru.proofs.door.Door.wait_slow.Given as goal
+use Rattle.concurrent_lru.proofs.door.Door.wait.Given as goal
 
 abbrev pub invariant-loop : goal.invariant-loop
 invariant-loop g l =
