@@ -9,13 +9,15 @@
 //! before, to which the counter of its slot is then raised. So this number answers two questions.
 //! As long as the counter of the slot has it, the entry is still there. And an entry came after
 //! some moment if its number is greater than what the shard's counter was at that moment.
-ghost use Rattle.std.specs.Prelude.{◌≡◌, ◌<◌, ◌≤◌, true, IfSome, IsTrue};
+ghost use Rattle.std.specs.Prelude.{◌≡◌, ◌+◌, ◌<◌, ◌≤◌, ◌++◌, ◌∷◌, [], List, true};
+ghost use Rattle.std.specs.Prelude.{IfSome, IsTrue};
 ghost use mathlib.Core.List.{IsPrefix};
 ghost use Rattle.logbook.specs.Pages.{Named};
 ghost use Rattle.crossbeam_utils.specs.Padded.{padded_value};
 ghost use Rattle.lru_clock.specs.History.{turns, entry, named, HasCome};
 ghost use Rattle.lru_clock.specs.Arrivals.{Arrives};
 ghost use Rattle.lru_clock.specs.declared.history.Entry.{Entry as Entry_};
+ghost use Rattle.lru_clock.specs.declared.history.Event.{Event as Event_};
 
 use concurrent_lru::shown::Shown;
 use crossbeam_utils::CachePadded;
@@ -434,12 +436,8 @@ impl<K, V> Track<K, V> {
         if last >= MOST_NUMBERS {
             return None;
         }
-        let mut ask: Ask<K, V> = seen.plain::<Nothing, Count<K, V>, Draws>(&self.word);
-        let mut pen = seen.no_pen();
-        let found = self
-            .word
-            .compare_exchange::<Add, Nothing>(last, last + 2, &mut seen, &mut ask, &mut pen);
-        if found == last {
+        let ask = seen.plain::<Nothing, Count<K, V>, Draws>(&self.word);
+        if self.add(last, last + 2, ask, &mut seen) {
             Some((last + 2, seen))
         } else {
             None
@@ -466,12 +464,8 @@ impl<K, V> Track<K, V> {
             key: Shown::of(key),
             value: Shown::of(value),
         };
-        let mut ask: Ask<K, V> = log.plain::<Nothing, Coming<K, V>, Comes>(&coming);
-        let mut pen = log.no_pen();
-        let found = self
-            .word
-            .compare_exchange::<Add, Nothing>(last, number, &mut log, &mut ask, &mut pen);
-        if found == last {
+        let ask = log.plain::<Nothing, Coming<K, V>, Comes>(&coming);
+        if self.add(last, number, ask, &mut log) {
             Some(Arrival { number, log })
         } else {
             None
@@ -483,10 +477,30 @@ impl<K, V> Track<K, V> {
     pub fn leave(&self) {
         let (last, mut seen) = self.look(&self.begun);
         if last < MOST_NUMBERS {
-            let mut ask: Ask<K, V> = seen.plain::<Nothing, Count<K, V>, Leaves>(&self.word);
-            let mut pen = seen.no_pen();
-            self.word
-                .compare_exchange::<Add, Nothing>(last, last + 1, &mut seen, &mut ask, &mut pen);
+            let ask = seen.plain::<Nothing, Count<K, V>, Leaves>(&self.word);
+            self.add(last, last + 1, ask, &mut seen);
         }
+    }
+
+    // Adds the event that is asked for, by which the counter goes from `last` to `next`. Returns
+    // `false` if the counter has another value by then.
+    #[inline(always)]
+    fn add(&self, last: u64, next: u64, ask: Ask<K, V>, seen: &mut Log<K, V>) -> bool
+        requires book { seen.old.book ≡ self.now.word.book }
+        requires begun { 0 < turns self.now.word.key seen.old.log }
+        requires ask { (ask.names ≡ seen.old.names) × (ask.state ≡ None)
+            × (ask.ask.place ≡ self.now.word.key) }
+        requires next { next ≡ last + (ask.ask.skipped + 1) }
+        ensures book { seen.new.book ≡ seen.old.book }
+        ensures added { IsTrue result → (mid : List (Event_ K V))
+            × (seen.new.log ≡ (seen.old.log ++ mid) ++ ask.ask ∷ [])
+            × (turns self.now.word.key seen.new.log ≡ next) }
+    {
+        let mut ask = ask;
+        let mut pen = seen.no_pen();
+        let found = self
+            .word
+            .compare_exchange::<Add, Nothing>(last, next, seen, &mut ask, &mut pen);
+        found == last
     }
 }
