@@ -12,6 +12,9 @@ use std::sync::Wait;
 /// A handle of a value of the cache.
 pub type Handle<'a, R> = CacheHandle<'a, u64, Logged<R>, R>;
 
+// An answer, with its handle if it has one.
+type Answered<'a, R> = (Answer, Option<Handle<'a, R>>);
+
 // Why an `init` returned no value.
 #[derive(Drop)]
 enum NotMade {
@@ -65,9 +68,13 @@ impl<R: Wait + Clone + Drop> Session<R> {
         step: Step,
     ) -> Result<Answer, Refusal> {
         match step {
-            Step::Init(making, fate) => return self.init(slots, number, making, fate),
-            Step::Insert(entry, fate) => return self.insert(slots, number, entry, fate),
-            Step::Get(key, fate) => return self.get(slots, key, fate),
+            Step::Init(making, fate) => return Ok(settle(slots, self.init(number, making)?, fate)),
+            Step::Insert(entry, fate) => return Ok(settle(
+                slots,
+                self.insert(number, entry)?,
+                fate,
+            )),
+            Step::Get(key, fate) => return Ok(settle(slots, self.get(key)?, fate)),
             Step::Read(key) => return self.read(key),
             Step::Total => return Ok(Answer::Total(self.cache.total_charge())),
             Step::Release(slot) => drop(slots.replace(slot, None)),
@@ -79,13 +86,7 @@ impl<R: Wait + Clone + Drop> Session<R> {
         Ok(Answer::Done)
     }
 
-    fn init<'a>(
-        &'a self,
-        slots: &mut Slots<Handle<'a, R>>,
-        number: u64,
-        making: Making,
-        fate: Fate,
-    ) -> Result<Answer, Refusal> {
+    fn init<'a>(&'a self, number: u64, making: Making) -> Result<Answered<'a, R>, Refusal> {
         let Making { entry, outcome } = making;
         let made = self
             .cache
@@ -96,47 +97,30 @@ impl<R: Wait + Clone + Drop> Session<R> {
         match made {
             Ok(handle) => {
                 let value = handle.value().number();
-                settle(slots, handle, fate);
-                Ok(if value == number {
+                let answer = if value == number {
                     Answer::Made(value)
                 } else {
                     Answer::Hit(value)
-                })
+                };
+                Ok((answer, Some(handle)))
             }
-            Err(GetError::Init(NotMade::Asked)) => Ok(Answer::Failed),
+            Err(GetError::Init(NotMade::Asked)) => Ok((Answer::Failed, None)),
             Err(GetError::Init(NotMade::Memory) | GetError::Memory) => Err(Refusal::Memory),
             Err(GetError::Overflow) => Err(Refusal::Overflow),
             Err(GetError::Full) => Err(Refusal::Full),
         }
     }
 
-    fn insert<'a>(
-        &'a self,
-        slots: &mut Slots<Handle<'a, R>>,
-        number: u64,
-        entry: Entry,
-        fate: Fate,
-    ) -> Result<Answer, Refusal> {
+    fn insert<'a>(&'a self, number: u64, entry: Entry) -> Result<Answered<'a, R>, Refusal> {
         let value = self.log.value(number)?;
         let handle = self.cache.insert(&entry.key, entry.charge, value)?;
-        let inserted = handle.value().number();
-        settle(slots, handle, fate);
-        Ok(Answer::Inserted(inserted))
+        Ok((Answer::Inserted(handle.value().number()), Some(handle)))
     }
 
-    fn get<'a>(
-        &'a self,
-        slots: &mut Slots<Handle<'a, R>>,
-        key: u64,
-        fate: Fate,
-    ) -> Result<Answer, Refusal> {
+    fn get<'a>(&'a self, key: u64) -> Result<Answered<'a, R>, Refusal> {
         match self.cache.get(key)? {
-            Some(handle) => {
-                let value = handle.value().number();
-                settle(slots, handle, fate);
-                Ok(Answer::Found(value))
-            }
-            None => Ok(Answer::Nothing),
+            Some(handle) => Ok((Answer::Found(handle.value().number()), Some(handle))),
+            None => Ok((Answer::Nothing, None)),
         }
     }
 
@@ -148,10 +132,14 @@ impl<R: Wait + Clone + Drop> Session<R> {
     }
 }
 
-// Drops a handle or keeps it, in which case the previous content of its slot is dropped.
-fn settle<T: Drop>(slots: &mut Slots<T>, handle: T, fate: Fate) {
-    match fate {
-        Fate::Drop => drop(handle),
-        Fate::Keep(slot) => drop(slots.replace(slot, Some(handle))),
+// Drops the handle of an answer, or keeps it, in which case the previous content of its slot is
+// dropped. Returns the answer.
+fn settle<T: Drop>(slots: &mut Slots<T>, answered: (Answer, Option<T>), fate: Fate) -> Answer {
+    let (answer, handle) = answered;
+    match (handle, fate) {
+        (None, _) => {}
+        (Some(handle), Fate::Drop) => drop(handle),
+        (Some(handle), Fate::Keep(slot)) => drop(slots.replace(slot, Some(handle))),
     }
+    answer
 }
