@@ -2,7 +2,7 @@
 ghost use Rattle.std.specs.Prelude.{◌<◌};
 
 use crate::failure::{Expected, Failure};
-use lru_support::lines;
+use lru_support::lines::Lines;
 use std::alloc::Global;
 use std::io::BufRead;
 
@@ -19,47 +19,43 @@ pub struct Use<'a> {
     ghost charged: { 0 < charge },
 }
 
-/// A reader of a trace, one line at a time.
+/// Reads the next line. Returns `false` at the end of the input.
 ///
-/// It takes as much memory as the longest line so far.
-#[derive(Drop)]
-pub struct Lines<I> {
-    alloc: Global,
-    lines: lines::Lines<I>,
+/// # Errors
+///
+/// `Read` if the input cannot be read, and `OutOfMemory` if memory runs out.
+pub fn advance<I: BufRead>(lines: &mut Lines<I>) -> Result<bool, Failure> {
+    lines
+        .read(u64::MAX)
+        .map_err(|error| Failure::from_read_error(&error))
 }
 
-impl<I: BufRead> Lines<I> {
-    /// Creates a reader of `input`, before its first line.
-    pub fn new(alloc: Global, input: I) -> Lines<I> {
-        Lines {
+/// A line of a trace.
+#[derive(Drop)]
+pub struct Line<'a> {
+    alloc: Global,
+    /// Its number. The first line has the number 1.
+    pub number: u64,
+    bytes: &'a [u8],
+}
+
+impl<'a> Line<'a> {
+    /// Returns the line that was read last.
+    pub fn last<I: BufRead>(alloc: Global, lines: &'a Lines<I>) -> Line<'a> {
+        Line {
             alloc,
-            lines: lines::Lines::new(alloc, input),
+            number: lines.number(),
+            bytes: lines.line(),
         }
     }
 
-    /// Returns the number of the current line. The first line has the number 1.
-    pub fn number(&self) -> u64 {
-        self.lines.number()
-    }
-
-    /// Reads the next line, which becomes the current one. Returns `false` at the end of the input.
-    ///
-    /// # Errors
-    ///
-    /// `Read` if the input cannot be read, and `OutOfMemory` if memory runs out.
-    pub fn advance(&mut self) -> Result<bool, Failure> {
-        self.lines
-            .read(u64::MAX)
-            .map_err(|error| Failure::from_read_error(&error))
-    }
-
-    /// Parses the current line: a key, and its charge unless that is 1.
+    /// Parses the line: a key, and its charge unless that is 1.
     ///
     /// # Errors
     ///
     /// `Line` if the line is not a use, and `OutOfMemory` if memory runs out.
-    pub fn parse(&self) -> Result<Use<'_>, Failure> {
-        let Ok(text) = str::from_utf8(self.lines.line()) else {
+    pub fn parse(&self) -> Result<Use<'a>, Failure> {
+        let Ok(text) = str::from_utf8(self.bytes) else {
             return Err(self.error(Expected::Utf8, None));
         };
         let mut words = text.split_ascii_whitespace();
@@ -91,18 +87,18 @@ impl<I: BufRead> Lines<I> {
         }
     }
 
-    // Returns the error that the current line has `found` where something else was expected.
+    // Returns the error that the line has `found` where something else was expected.
     fn error(&self, expected: Expected, found: Option<&str>) -> Failure {
         let Some(found) = found else {
             return Failure::Line {
-                line: self.number(),
+                line: self.number,
                 expected,
                 found: None,
             };
         };
         match String::from_str(self.alloc, found) {
             Ok(found) => Failure::Line {
-                line: self.number(),
+                line: self.number,
                 expected,
                 found: Some(found),
             },

@@ -3,7 +3,6 @@
 use crate::csv::write_csv;
 use crate::failure::Failure;
 use crate::hit_curve::HitCurve;
-use crate::lines::Lines;
 use crate::options::{Options, Request};
 use crate::plot::Plot;
 use crate::progress::Progress;
@@ -15,6 +14,7 @@ use lru_sizing::estimate::{Estimate, Sample};
 use lru_sizing::refusal::Refusal;
 use lru_sizing::replay::replay;
 use lru_sizing::reuse_weights::reuse_weights;
+use lru_support::lines::Lines;
 use std::alloc::Global;
 use std::fs::{self, File, Files};
 use std::io::{BufRead, BufReader, Write};

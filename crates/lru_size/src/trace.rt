@@ -4,9 +4,10 @@ ghost use Rattle.std.specs.List.{AllByRecursion};
 ghost use Rattle.std.proofs.Props.{props};
 
 use crate::failure::Failure;
-use crate::lines::{Lines, Use};
+use crate::lines::{Line, Use, advance};
 use crate::progress::Progress;
 use lru_sizing::estimate::Sample;
+use lru_support::lines::Lines;
 use std::alloc::Global;
 use std::collections::HashMap;
 use std::io::{BufRead, Write};
@@ -56,10 +57,11 @@ impl Trace {
         };
         // The loop needs a bound, and no input has that many lines.
         for _ in 0..u64::MAX {
-            if !lines.advance()? {
+            if !advance(lines)? {
                 break;
             }
-            trace.add(lines.number(), lines.parse()?)?;
+            let line = Line::last(alloc, lines);
+            trace.add(line.number, line.parse()?)?;
             progress.update(trace.total_uses);
         }
         Ok(trace)
