@@ -6,26 +6,27 @@ use crate::report::Report;
 use concurrent_lru::lru_core::Refusal;
 use lru_support::tables;
 use std::alloc::Global;
+use std::fmt::Debug;
 use std::io::Write;
 use std::sync::Arc;
 
-/// A cache that calls can be made on. `S` is the type of a call.
-pub trait CallTarget<S> {
-    /// Makes a call and prints its answer. Returns true if it was refused for lack of memory, and
-    /// is to be made again.
-    ///
-    /// Returns `Memory` if the key or the value that the call passes is refused.
-    fn ask<O: Write, E: Write>(
-        &mut self,
-        alloc: Global,
-        call: S,
-        report: &mut Report<'_, O, E>,
-    ) -> Result<bool, Refusal>;
+/// Whether a call was refused for lack of memory, and is to be made again.
+///
+/// It is `Memory` if the key or the value that the call passes was refused.
+pub type Asked = Result<bool, Refusal>;
+
+/// What a call returns that passes a value: a refusal returns the value.
+pub type HandedOver<T> = Result<T, (Refusal, Arc<u64>)>;
+
+/// A cache that calls can be made on. `S` is the type of a call, and `O` and `E` are the writers.
+pub trait CallTarget<S, O, E> {
+    /// Makes a call and prints its answer.
+    fn ask(&mut self, alloc: Global, call: S, report: &mut Report<'_, O, E>) -> Asked;
 }
 
 /// Makes calls in order, and once more each that was refused for lack of memory. A second refusal
 /// is not printed.
-pub fn play<S: Copy + Drop, A: CallTarget<S>, O: Write, E: Write>(
+pub fn play<S: Copy + Drop, O: Write, E: Write, A: CallTarget<S, O, E>>(
     alloc: Global,
     cache: &mut A,
     calls: &[S],
@@ -43,65 +44,35 @@ pub fn play<S: Copy + Drop, A: CallTarget<S>, O: Write, E: Write>(
 pub type TextCall = tables::Call<&'static str>;
 
 /// A cache whose keys are texts: copies of them ask for memory.
-pub trait AskedByText {
-    /// Makes a call that has this key and is no `Insert`. Returns true as `CallTarget::ask` does.
-    fn ask_with_key<O: Write, E: Write>(
-        &mut self,
-        call: TextCall,
-        key: &String,
-        report: &mut Report<'_, O, E>,
-    ) -> bool;
+pub trait AskedByText<O, E> {
+    /// What an insert returns.
+    type Inserted: Debug + Drop;
 
-    /// Inserts this value; one that comes back for lack of memory is inserted once more.
-    fn put_in<O: Write, E: Write>(
-        &mut self,
-        call: TextCall,
-        key: &String,
-        charge: u64,
-        value: Arc<u64>,
-        report: &mut Report<'_, O, E>,
-    )
+    /// Makes a call that has this key and is no `Insert`. Returns true if it is to be made again.
+    fn ask_by_key(&mut self, call: TextCall, key: &String, report: &mut Report<'_, O, E>) -> bool;
+
+    /// Inserts a value.
+    fn insert(&mut self, key: &String, charge: u64, value: Arc<u64>) -> HandedOver<Self::Inserted>
         requires { 0 < charge };
 
-    /// Stores the value of this stamp; one that comes back for lack of memory is stored once more.
-    fn store<O: Write, E: Write>(
-        &mut self,
-        call: TextCall,
-        stamp: u64,
-        value: Arc<u64>,
-        report: &mut Report<'_, O, E>,
-    );
-
-    /// Makes a call that hands over plain numbers. Answers as `CallTarget::ask` does.
-    fn ask_with_numbers<O: Write, E: Write>(
-        &mut self,
-        alloc: Global,
-        call: TextCall,
-        report: &mut Report<'_, O, E>,
-    ) -> Result<bool, Refusal>;
+    /// Makes a call that has no key. A value that comes back for lack of memory is handed over once
+    /// more.
+    fn ask_plain(&mut self, alloc: Global, call: TextCall, report: &mut Report<'_, O, E>) -> Asked;
 }
 
-impl<A: AskedByText> CallTarget<TextCall> for A {
-    fn ask<O: Write, E: Write>(
-        &mut self,
-        alloc: Global,
-        call: TextCall,
-        report: &mut Report<'_, O, E>,
-    ) -> Result<bool, Refusal> {
-        if let Some(key) = call.key() {
-            let key = String::from_str(alloc, key)?;
-            if let tables::Call::Insert(_, charge, value) = call {
-                self.put_in(call, &key, charge.max(1), Arc::new(alloc, value)?, report);
-                return Ok(false);
-            }
-            return Ok(self.ask_with_key(call, &key, report));
+impl<O: Write, E: Write, A: AskedByText<O, E>> CallTarget<TextCall, O, E> for A {
+    fn ask(&mut self, alloc: Global, call: TextCall, report: &mut Report<'_, O, E>) -> Asked {
+        let Some(key) = call.key() else {
+            return self.ask_plain(alloc, call, report);
+        };
+        let key = String::from_str(alloc, key)?;
+        let tables::Call::Insert(_, charge, value) = call else {
+            return Ok(self.ask_by_key(call, &key, report));
+        };
+        let value = Arc::new(alloc, value)?;
+        if let Some(value) = report.handed_over(&call, self.insert(&key, charge.max(1), value)) {
+            report.line(&call, &self.insert(&key, charge.max(1), value));
         }
-        match call {
-            tables::Call::Ready(stamp, value) => {
-                self.store(call, stamp, Arc::new(alloc, value)?, report);
-                Ok(false)
-            }
-            _ => self.ask_with_numbers(alloc, call, report),
-        }
+        Ok(false)
     }
 }

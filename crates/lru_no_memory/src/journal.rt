@@ -1,9 +1,9 @@
 //! Calls of a journal, whose keys are texts, and then its records.
 ghost use Rattle.std.specs.Prelude.{◌<◌};
 
-use crate::calls::{AskedByText, TextCall};
+use crate::calls::{Asked, AskedByText, HandedOver, TextCall};
 use crate::report::Report;
-use concurrent_lru::lru_core::Refusal;
+use concurrent_lru::lru_core::{Inserted, Refusal};
 use lru_journal::journal::Journal;
 use lru_support::tables::Call;
 use std::alloc::Global;
@@ -24,13 +24,10 @@ pub fn play<O: Write, E: Write>(
     Ok(())
 }
 
-impl AskedByText for Journal<String, u64> {
-    fn ask_with_key<O: Write, E: Write>(
-        &mut self,
-        call: TextCall,
-        key: &String,
-        report: &mut Report<'_, O, E>,
-    ) -> bool {
+impl<O: Write, E: Write> AskedByText<O, E> for Journal<String, u64> {
+    type Inserted = Inserted<String, u64>;
+
+    fn ask_by_key(&mut self, call: TextCall, key: &String, report: &mut Report<'_, O, E>) -> bool {
         match call {
             Call::Begin(_, charge) => report.answer(&call, &self.begin(key, charge.max(1))),
             Call::Get(_) => report.answer(&call, &self.get(key)),
@@ -41,41 +38,22 @@ impl AskedByText for Journal<String, u64> {
         }
     }
 
-    fn put_in<O: Write, E: Write>(
-        &mut self,
-        call: TextCall,
-        key: &String,
-        charge: u64,
-        value: Arc<u64>,
-        report: &mut Report<'_, O, E>,
-    )
+    fn insert(&mut self, key: &String, charge: u64, value: Arc<u64>) -> HandedOver<Self::Inserted>
         requires { 0 < charge }
     {
-        if let Some(value) = report.handed_over(&call, self.insert(key, charge, value)) {
-            report.line(&call, &self.insert(key, charge, value));
-        }
+        Journal::insert(self, key, charge, value)
     }
 
-    fn store<O: Write, E: Write>(
-        &mut self,
-        call: TextCall,
-        stamp: u64,
-        value: Arc<u64>,
-        report: &mut Report<'_, O, E>,
-    ) {
-        if let Some(value) = report.handed_over(&call, self.ready(stamp, value)) {
-            report.line(&call, &self.ready(stamp, value));
-        }
-    }
-
-    fn ask_with_numbers<O: Write, E: Write>(
-        &mut self,
-        _alloc: Global,
-        call: TextCall,
-        report: &mut Report<'_, O, E>,
-    ) -> Result<bool, Refusal> {
+    fn ask_plain(&mut self, alloc: Global, call: TextCall, report: &mut Report<'_, O, E>) -> Asked {
         Ok(match call {
             Call::Poll(stamp) => report.answer(&call, &self.poll(stamp)),
+            Call::Ready(stamp, value) => {
+                let value = Arc::new(alloc, value)?;
+                if let Some(value) = report.handed_over(&call, self.ready(stamp, value)) {
+                    report.line(&call, &self.ready(stamp, value));
+                }
+                false
+            }
             Call::Fail(stamp) => report.answer(&call, &self.fail(stamp)),
             Call::Release(stamp) => report.answer(&call, &self.release(stamp)),
             Call::Prune => report.answer(&call, &self.prune()),

@@ -4,6 +4,7 @@ use crate::calls::TextCall;
 use crate::report::Report;
 use crate::shards::ShardCall;
 use crate::state::Limits;
+use crate::threaded::Kind;
 use crate::{journal, list, meeting, shards, state, threaded, twin};
 use concurrent_lru::lru_core::Refusal;
 use lru_support::threaded::ThreadedCall;
@@ -68,13 +69,13 @@ impl Script {
                 twin::play(rt, alloc, capacity, first, second, report)
             }
             Script::Unsharded(capacity, calls) => {
-                threaded::play_unsharded(rt, alloc, capacity, calls, report)
+                threaded::play(rt, alloc, Kind::Unsharded, capacity, calls, report)
             }
             Script::Sharded(capacity, number, calls) => {
-                threaded::play_sharded(rt, alloc, capacity, number, calls, report)
+                threaded::play(rt, alloc, Kind::Sharded(number), capacity, calls, report)
             }
             Script::Clock(capacity, number, calls) => {
-                threaded::play_clock(rt, alloc, capacity, number, calls, report)
+                threaded::play(rt, alloc, Kind::Clock(number), capacity, calls, report)
             }
             Script::ClockGrowth => threaded::grow_clock(rt, alloc, report),
             Script::OverTwo => threaded::play_over_two(rt, alloc, report),

@@ -1,7 +1,7 @@
 //! Calls of shards without a lock, whose keys are numbers: the shard of a key follows from it.
 ghost use Rattle.std.specs.Prelude.{◌<◌};
 
-use crate::calls::CallTarget;
+use crate::calls::{Asked, CallTarget};
 use crate::report::Report;
 use concurrent_lru::lru_core::Refusal;
 use concurrent_lru::sharded::Shards;
@@ -45,13 +45,8 @@ fn make<O: Write, E: Write>(
     }
 }
 
-impl CallTarget<ShardCall> for Shards<u64, u64, ByOwnNumber> {
-    fn ask<O: Write, E: Write>(
-        &mut self,
-        alloc: Global,
-        call: ShardCall,
-        report: &mut Report<'_, O, E>,
-    ) -> Result<bool, Refusal> {
+impl<O: Write, E: Write> CallTarget<ShardCall, O, E> for Shards<u64, u64, ByOwnNumber> {
+    fn ask(&mut self, alloc: Global, call: ShardCall, report: &mut Report<'_, O, E>) -> Asked {
         let (shard, call) = call;
         match call {
             Call::Begin(key, charge) => {

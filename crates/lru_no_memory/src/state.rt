@@ -1,9 +1,9 @@
 //! Calls of a cache without a lock, whose keys are texts: copying them allocates memory.
 ghost use Rattle.std.specs.Prelude.{◌<◌};
 
-use crate::calls::{AskedByText, TextCall};
+use crate::calls::{Asked, AskedByText, HandedOver, TextCall};
 use crate::report::Report;
-use concurrent_lru::lru_core::{Refusal, State};
+use concurrent_lru::lru_core::{Inserted, Refusal, State};
 use lru_support::tables::Call;
 use std::alloc::Global;
 use std::io::Write;
@@ -55,13 +55,10 @@ pub fn play<O: Write, E: Write>(
     crate::calls::play(alloc, &mut state, calls, report)
 }
 
-impl AskedByText for State<String, u64> {
-    fn ask_with_key<O: Write, E: Write>(
-        &mut self,
-        call: TextCall,
-        key: &String,
-        report: &mut Report<'_, O, E>,
-    ) -> bool {
+impl<O: Write, E: Write> AskedByText<O, E> for State<String, u64> {
+    type Inserted = Inserted<String, u64>;
+
+    fn ask_by_key(&mut self, call: TextCall, key: &String, report: &mut Report<'_, O, E>) -> bool {
         match call {
             Call::Begin(_, charge) => {
                 return report.answer(&call, &self.begin(key, charge.max(1)));
@@ -74,41 +71,20 @@ impl AskedByText for State<String, u64> {
         false
     }
 
-    fn put_in<O: Write, E: Write>(
-        &mut self,
-        call: TextCall,
-        key: &String,
-        charge: u64,
-        value: Arc<u64>,
-        report: &mut Report<'_, O, E>,
-    )
+    fn insert(&mut self, key: &String, charge: u64, value: Arc<u64>) -> HandedOver<Self::Inserted>
         requires { 0 < charge }
     {
-        if let Some(value) = report.handed_over(&call, self.insert(key, charge, value)) {
-            report.line(&call, &self.insert(key, charge, value));
-        }
+        State::insert(self, key, charge, value)
     }
 
-    fn store<O: Write, E: Write>(
-        &mut self,
-        call: TextCall,
-        stamp: u64,
-        value: Arc<u64>,
-        report: &mut Report<'_, O, E>,
-    ) {
-        report.line(&call, &self.ready(stamp, value));
-    }
-
-    fn ask_with_numbers<O: Write, E: Write>(
-        &mut self,
-        _alloc: Global,
-        call: TextCall,
-        report: &mut Report<'_, O, E>,
-    ) -> Result<bool, Refusal> {
+    fn ask_plain(&mut self, alloc: Global, call: TextCall, report: &mut Report<'_, O, E>) -> Asked {
         match call {
             Call::Poll(stamp) => return Ok(report.answer(&call, &self.poll(stamp))),
             Call::Fail(stamp) => return Ok(report.answer(&call, &self.fail(stamp))),
             Call::Release(stamp) => return Ok(report.answer(&call, &self.release(stamp))),
+            Call::Ready(stamp, value) => {
+                report.line(&call, &self.ready(stamp, Arc::new(alloc, value)?));
+            }
             Call::Prune => report.line(&call, &self.prune()),
             Call::SetCapacity(capacity) => report.line(&call, &self.set_capacity(capacity)),
             Call::Total => report.line(&call, &self.total()),

@@ -2,7 +2,7 @@
 //! Each handle is dropped at once, whatever the call says of it, and a charge of 0 counts as 1.
 ghost use Rattle.std.specs.Prelude.{◌<◌};
 
-use crate::calls::{CallTarget, play};
+use crate::calls::{self, Asked, CallTarget};
 use crate::report::Report;
 use concurrent_lru::lru_core::Refusal;
 use concurrent_lru::{sharded, unsharded};
@@ -23,68 +23,83 @@ type Sharded<R> = sharded::LruCache<u64, u64, R, BuildHasherDefault<FoldHasher>>
 
 type Clock<R> = clock::Cache<u64, u64, R, BuildHasherDefault<FoldHasher>>;
 
-/// Makes calls on a new cache with one lock.
-pub fn play_unsharded<R: Wait + Drop, O: Write, E: Write>(
-    rt: R,
-    alloc: Global,
-    capacity: u64,
-    calls: &[ThreadedCall],
-    report: &mut Report<'_, O, E>,
-) -> Result<(), Refusal> {
-    report.name("unsharded::LruCache");
-    let cache: unsharded::LruCache<u64, u64, R> = unsharded::LruCache::new(alloc, rt, capacity);
-    play(alloc, &mut CacheRef(&cache), calls, report)
+/// A kind of cache that threads share, and the number of its shards, of which 0 counts as 1.
+#[derive(Clone, Copy)]
+pub enum Kind {
+    /// With one lock.
+    Unsharded,
+    /// With a lock for each shard.
+    Sharded(usize),
+    /// The clock cache.
+    Clock(usize),
 }
 
-/// Makes calls on a new sharded cache, whose creation is tried again if it is refused. A number of
-/// 0 shards counts as 1.
-pub fn play_sharded<R: Wait + Copy + Drop, O: Write, E: Write>(
+impl Kind {
+    fn name(self) -> &'static str {
+        match self {
+            Kind::Unsharded => "unsharded::LruCache",
+            Kind::Sharded(_) => "sharded::LruCache",
+            Kind::Clock(_) => "clock::Cache",
+        }
+    }
+}
+
+// A cache of any kind.
+#[derive(Drop)]
+enum Cache<R: Wait> {
+    Unsharded(unsharded::LruCache<u64, u64, R>),
+    Sharded(Sharded<R>),
+    Clock(Clock<R>),
+}
+
+impl<R: Wait + Copy + Drop> Cache<R> {
+    fn new(rt: R, alloc: Global, kind: Kind, capacity: u64) -> Result<Cache<R>, Refusal> {
+        let hasher: BuildHasherDefault<FoldHasher> = BuildHasherDefault::new();
+        Ok(match kind {
+            Kind::Unsharded => Cache::Unsharded(unsharded::LruCache::new(alloc, rt, capacity)),
+            Kind::Sharded(count) => {
+                let made = Sharded::with_shards_hasher(alloc, rt, capacity, count.max(1), hasher);
+                Cache::Sharded(made?)
+            }
+            Kind::Clock(count) => {
+                let made = Clock::with_shards_hasher(alloc, rt, capacity, count.max(1), hasher);
+                Cache::Clock(made?)
+            }
+        })
+    }
+
+    fn play<O: Write, E: Write>(
+        &self,
+        alloc: Global,
+        calls: &[ThreadedCall],
+        report: &mut Report<'_, O, E>,
+    ) -> Result<(), Refusal> {
+        match self {
+            Cache::Unsharded(cache) => calls::play(alloc, &mut CacheRef(cache), calls, report),
+            Cache::Sharded(cache) => calls::play(alloc, &mut CacheRef(cache), calls, report),
+            Cache::Clock(cache) => calls::play(alloc, &mut CacheRef(cache), calls, report),
+        }
+    }
+}
+
+/// Makes calls on a new cache, whose creation is tried again if it is refused.
+pub fn play<R: Wait + Copy + Drop, O: Write, E: Write>(
     rt: R,
     alloc: Global,
+    kind: Kind,
     capacity: u64,
-    shards: usize,
     calls: &[ThreadedCall],
     report: &mut Report<'_, O, E>,
 ) -> Result<(), Refusal> {
-    report.name("sharded::LruCache");
-    let cache = match make(rt, alloc, capacity, shards) {
+    report.name(kind.name());
+    let cache = match Cache::new(rt, alloc, kind, capacity) {
         Err(_) => {
             report.memory(&"with_shards_hasher");
-            make(rt, alloc, capacity, shards)?
+            Cache::new(rt, alloc, kind, capacity)?
         }
         Ok(cache) => cache,
     };
-    play(alloc, &mut CacheRef(&cache), calls, report)
-}
-
-fn make<R: Wait + Clone + Drop>(
-    rt: R,
-    alloc: Global,
-    capacity: u64,
-    shards: usize,
-) -> Result<Sharded<R>, Refusal> {
-    let hasher: BuildHasherDefault<FoldHasher> = BuildHasherDefault::new();
-    sharded::LruCache::with_shards_hasher(alloc, rt, capacity, shards.max(1), hasher)
-}
-
-/// Makes calls on a new clock cache, as `play_sharded` does.
-pub fn play_clock<R: Wait + Copy + Drop, O: Write, E: Write>(
-    rt: R,
-    alloc: Global,
-    capacity: u64,
-    shards: usize,
-    calls: &[ThreadedCall],
-    report: &mut Report<'_, O, E>,
-) -> Result<(), Refusal> {
-    report.name("clock::Cache");
-    let cache = match make_clock(rt, alloc, capacity, shards) {
-        Err(_) => {
-            report.memory(&"with_shards_hasher");
-            make_clock(rt, alloc, capacity, shards)?
-        }
-        Ok(cache) => cache,
-    };
-    play(alloc, &mut CacheRef(&cache), calls, report)
+    cache.play(alloc, calls, report)
 }
 
 /// Makes 70 values in a clock cache of one shard, whose first slots are for 64 entries.
@@ -96,17 +111,7 @@ pub fn grow_clock<R: Wait + Copy + Drop, O: Write, E: Write>(
     let calls: Vec<ThreadedCall> = (1..=70)
         .map(|key| ThreadedCall::Init(key, 1, key, AtOnce))
         .collect(alloc)?;
-    play_clock(rt, alloc, 70, 1, calls.as_slice(), report)
-}
-
-fn make_clock<R: Wait + Drop>(
-    rt: R,
-    alloc: Global,
-    capacity: u64,
-    shards: usize,
-) -> Result<Clock<R>, Refusal> {
-    let hasher: BuildHasherDefault<FoldHasher> = BuildHasherDefault::new();
-    clock::Cache::with_shards_hasher(alloc, rt, capacity, shards.max(1), hasher)
+    play(rt, alloc, Kind::Clock(1), 70, calls.as_slice(), report)
 }
 
 /// Makes two idle entries and one that takes the room of both. If that is refused for lack of
@@ -120,7 +125,7 @@ pub fn play_over_two<R: Wait + Drop, O: Write, E: Write>(
     report.name("unsharded::LruCache");
     let cache: unsharded::LruCache<u64, u64, R> = unsharded::LruCache::new(alloc, rt, 2);
     let shared = &cache;
-    play(
+    calls::play(
         alloc,
         &mut CacheRef(shared),
         &[
@@ -136,7 +141,7 @@ pub fn play_over_two<R: Wait + Drop, O: Write, E: Write>(
         ThreadedCall::Init(3, 2, 3, AtOnce),
         ThreadedCall::Total,
     ];
-    play(alloc, &mut CacheRef(shared), &calls, report)
+    calls::play(alloc, &mut CacheRef(shared), &calls, report)
 }
 
 fn make_over_two<C: Cached<u64>, O: Write, E: Write>(cache: C, report: &mut Report<'_, O, E>) {
@@ -182,13 +187,8 @@ fn value_made<C: Cached<u64>>(made: Result<C::Handle, NoHandle>) -> Result<Optio
     }
 }
 
-impl<C: Cached<u64>> CallTarget<ThreadedCall> for CacheRef<C> {
-    fn ask<O: Write, E: Write>(
-        &mut self,
-        _alloc: Global,
-        call: ThreadedCall,
-        report: &mut Report<'_, O, E>,
-    ) -> Result<bool, Refusal> {
+impl<C: Cached<u64>, O: Write, E: Write> CallTarget<ThreadedCall, O, E> for CacheRef<C> {
+    fn ask(&mut self, _alloc: Global, call: ThreadedCall, report: &mut Report<'_, O, E>) -> Asked {
         Ok(ask(self.0, call, report))
     }
 }

@@ -1,7 +1,7 @@
 //! Calls of a twin, whose keys are texts, and then its records.
 ghost use Rattle.std.specs.Prelude.{◌≡◌, ◌<◌};
 
-use crate::calls::{self, AskedByText, TextCall};
+use crate::calls::{self, Asked, AskedByText, HandedOver, TextCall};
 use crate::report::Report;
 use concurrent_lru::lru_core::Refusal;
 use lru_journal::journal::{Identity, Opening, Pin, Started, Tally, Twin};
@@ -112,13 +112,10 @@ impl<'c, R: Wait + Drop, I: Identity> Caller<'c, R, I> {
     }
 }
 
-impl<'c, R: Wait + Drop, I: Identity> AskedByText for Caller<'c, R, I> {
-    fn ask_with_key<O: Write, E: Write>(
-        &mut self,
-        call: TextCall,
-        key: &String,
-        report: &mut Report<'_, O, E>,
-    ) -> bool {
+impl<'c, R: Wait + Drop, I: Identity, O: Write, E: Write> AskedByText<O, E> for Caller<'c, R, I> {
+    type Inserted = (u64, u64);
+
+    fn ask_by_key(&mut self, call: TextCall, key: &String, report: &mut Report<'_, O, E>) -> bool {
         let (cache, tally) = (self.cache, &mut self.tally);
         match call {
             Call::Begin(_, charge) => {
@@ -132,44 +129,13 @@ impl<'c, R: Wait + Drop, I: Identity> AskedByText for Caller<'c, R, I> {
         }
     }
 
-    fn put_in<O: Write, E: Write>(
-        &mut self,
-        call: TextCall,
-        key: &String,
-        charge: u64,
-        value: Arc<u64>,
-        report: &mut Report<'_, O, E>,
-    )
+    fn insert(&mut self, key: &String, charge: u64, value: Arc<u64>) -> HandedOver<Self::Inserted>
         requires { 0 < charge }
     {
-        let (cache, tally) = (self.cache, &mut self.tally);
-        if let Some(value) = report.handed_over(
-            &call,
-            put(cache.insert(tally, key, charge, value)),
-        ) {
-            report.line(&call, &put(cache.insert(tally, key, charge, value)));
-        }
+        put(self.cache.insert(&mut self.tally, key, charge, value))
     }
 
-    fn store<O: Write, E: Write>(
-        &mut self,
-        call: TextCall,
-        stamp: u64,
-        value: Arc<u64>,
-        report: &mut Report<'_, O, E>,
-    ) {
-        let (cache, tally) = (self.cache, &mut self.tally);
-        if let Some(value) = report.handed_over(&call, cache.ready(tally, stamp, value)) {
-            report.line(&call, &cache.ready(tally, stamp, value));
-        }
-    }
-
-    fn ask_with_numbers<O: Write, E: Write>(
-        &mut self,
-        alloc: Global,
-        call: TextCall,
-        report: &mut Report<'_, O, E>,
-    ) -> Result<bool, Refusal> {
+    fn ask_plain(&mut self, alloc: Global, call: TextCall, report: &mut Report<'_, O, E>) -> Asked {
         if let Call::Release(stamp) = call {
             let value = Arc::new(alloc, stamp)?;
             self.give_back(call, Pin::new(stamp, value), report);
@@ -178,6 +144,13 @@ impl<'c, R: Wait + Drop, I: Identity> AskedByText for Caller<'c, R, I> {
         let (cache, tally) = (self.cache, &mut self.tally);
         Ok(match call {
             Call::Poll(stamp) => report.answer(&call, &outcome_of(cache.poll(tally, stamp))),
+            Call::Ready(stamp, value) => {
+                let value = Arc::new(alloc, value)?;
+                if let Some(value) = report.handed_over(&call, cache.ready(tally, stamp, value)) {
+                    report.line(&call, &cache.ready(tally, stamp, value));
+                }
+                false
+            }
             Call::Fail(stamp) => report.answer(&call, &cache.fail(tally, stamp)),
             Call::Prune => report.answer(&call, &cache.prune(tally)),
             Call::SetCapacity(capacity) => {
@@ -211,7 +184,7 @@ fn found(got: Result<Option<Pin<u64>>, Refusal>) -> Result<Option<(u64, u64)>, R
 }
 
 // Returns the stamp and the value of a pin of an inserted entry.
-fn put(inserted: Result<Pin<u64>, (Refusal, Arc<u64>)>) -> Result<(u64, u64), (Refusal, Arc<u64>)> {
+fn put(inserted: HandedOver<Pin<u64>>) -> HandedOver<(u64, u64)> {
     let pin = inserted?;
     Ok((pin.stamp(), *pin.value()))
 }
