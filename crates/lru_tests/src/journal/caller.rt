@@ -18,8 +18,6 @@ pub(crate) fn ask<R: Wait + Drop, I: Identity>(
     ensures { tally.new.parts ≡ tally.old.parts }
 {
     match call {
-        Call::Begin(key, charge) => Ok(begin(cache, tally, key, charge)),
-        Call::BeginStrictly(key, charge) => Ok(begin_strictly(cache, tally, key, charge)),
         Call::Ready(stamp, value) => Ok(ready(cache, tally, stamp, Arc::new(alloc, value)?)),
         Call::Release(stamp) => {
             let pin = Pin::new(stamp, Arc::new(alloc, PINNED)?);
@@ -29,12 +27,13 @@ pub(crate) fn ask<R: Wait + Drop, I: Identity>(
             let pin = Pin::new(stamp, Arc::new(alloc, PINNED)?);
             Ok(released(cache.release_and_evict(tally, pin)))
         }
-        Call::Insert(key, charge, value) => {
-            Ok(insert(cache, tally, key, charge, Arc::new(alloc, value)?))
-        }
-        Call::InsertStrictly(key, charge, value) => {
+        Call::Insert(key, charge, value) if charge > 0 => {
             let value = Arc::new(alloc, value)?;
-            Ok(insert_strictly(cache, tally, key, charge, value))
+            Ok(inserted(cache.insert(tally, &key, charge, value)))
+        }
+        Call::InsertStrictly(key, charge, value) if charge > 0 => {
+            let value = Arc::new(alloc, value)?;
+            Ok(inserted(cache.insert_strictly(tally, &key, charge, value)))
         }
         _ => Ok(ask_with_numbers(cache, tally, call)),
     }
@@ -49,6 +48,10 @@ fn ask_with_numbers<R: Wait + Drop, I: Identity>(
     ensures { tally.new.parts ≡ tally.old.parts }
 {
     match call {
+        Call::Begin(key, charge) if charge > 0 => Answer::of(cache.begin(tally, &key, charge)),
+        Call::BeginStrictly(key, charge) if charge > 0 => {
+            Answer::of(cache.begin_strictly(tally, &key, charge))
+        }
         Call::Poll(stamp) => Answer::of(cache.poll(tally, stamp)),
         Call::Fail(stamp) => Answer::of(cache.fail(tally, stamp)),
         Call::Get(key) => Answer::of(cache.get(tally, &key)),
@@ -61,34 +64,6 @@ fn ask_with_numbers<R: Wait + Drop, I: Identity>(
         Call::Total => Answer::of(cache.total(tally)),
         _ => Answer::Unmade,
     }
-}
-
-fn begin<R: Wait + Drop, I: Identity>(
-    cache: &Twin<u64, u64, R, I>,
-    tally: &mut Tally<u64, I>,
-    key: u64,
-    charge: u64,
-) -> Answer
-    ensures { tally.new.parts ≡ tally.old.parts }
-{
-    if charge == 0 {
-        return Answer::Unmade;
-    }
-    Answer::of(cache.begin(tally, &key, charge))
-}
-
-fn begin_strictly<R: Wait + Drop, I: Identity>(
-    cache: &Twin<u64, u64, R, I>,
-    tally: &mut Tally<u64, I>,
-    key: u64,
-    charge: u64,
-) -> Answer
-    ensures { tally.new.parts ≡ tally.old.parts }
-{
-    if charge == 0 {
-        return Answer::Unmade;
-    }
-    Answer::of(cache.begin_strictly(tally, &key, charge))
 }
 
 fn ready<R: Wait + Drop, I: Identity>(
@@ -112,37 +87,8 @@ fn released(told: Result<(), (Refusal, Pin<u64>)>) -> Answer {
     }
 }
 
-fn insert<R: Wait + Drop, I: Identity>(
-    cache: &Twin<u64, u64, R, I>,
-    tally: &mut Tally<u64, I>,
-    key: u64,
-    charge: u64,
-    value: Arc<u64>,
-) -> Answer
-    ensures { tally.new.parts ≡ tally.old.parts }
-{
-    if charge == 0 {
-        return Answer::Unmade;
-    }
-    match cache.insert(tally, &key, charge, value) {
-        Ok(pin) => Answer::Gives(Told::Inserted(pin.stamp()), *pin.value()),
-        Err((refusal, value)) => Answer::NotInserted(refusal, *value),
-    }
-}
-
-fn insert_strictly<R: Wait + Drop, I: Identity>(
-    cache: &Twin<u64, u64, R, I>,
-    tally: &mut Tally<u64, I>,
-    key: u64,
-    charge: u64,
-    value: Arc<u64>,
-) -> Answer
-    ensures { tally.new.parts ≡ tally.old.parts }
-{
-    if charge == 0 {
-        return Answer::Unmade;
-    }
-    match cache.insert_strictly(tally, &key, charge, value) {
+fn inserted(told: Result<Pin<u64>, (Refusal, Arc<u64>)>) -> Answer {
+    match told {
         Ok(pin) => Answer::Gives(Told::Inserted(pin.stamp()), *pin.value()),
         Err((refusal, value)) => Answer::NotInserted(refusal, *value),
     }

@@ -2,7 +2,7 @@
 ghost use Rattle.std.specs.Prelude.{◌<◌};
 
 use crate::journal::answer::{Answer, PINNED};
-use concurrent_lru::lru_core::{Evicted, Refusal};
+use concurrent_lru::lru_core::{Begun, Evicted, Inserted, Refusal};
 use lru_journal::journal::{Journal, Told};
 use lru_support::tables::Call;
 use std::alloc::{AllocError, Global};
@@ -74,12 +74,11 @@ pub(crate) fn ask(
             stamp,
             Arc::new(alloc, value)?,
         ))),
-        Call::Insert(key, charge, value) => insert(alloc, journal, key, charge, value),
-        Call::InsertStrictly(key, charge, value) => {
-            insert_strictly(alloc, journal, key, charge, value)
+        Call::Insert(..) | Call::InsertStrictly(..) => insert(alloc, journal, call),
+        Call::Begin(key, charge) if charge > 0 => Ok(begun(journal.begin(&key, charge))),
+        Call::BeginStrictly(key, charge) if charge > 0 => {
+            Ok(begun(journal.begin_strictly(&key, charge)))
         }
-        Call::Begin(key, charge) => Ok(begin(journal, key, charge)),
-        Call::BeginStrictly(key, charge) => Ok(begin_strictly(journal, key, charge)),
         Call::Release(stamp) => Ok(released(journal.release(stamp), stamp)),
         Call::ReleaseAndEvict(stamp) => Ok(released(journal.release_and_evict(stamp), stamp)),
         Call::AdviceEvict(key) => Ok(Heard::evicts(journal.advice_evict(&key))),
@@ -103,21 +102,8 @@ fn ask_in_place(journal: &mut Journal<u64, u64>, call: Call) -> Answer {
     }
 }
 
-fn begin(journal: &mut Journal<u64, u64>, key: u64, charge: u64) -> Heard {
-    if charge == 0 {
-        return Heard::from(Answer::Unmade);
-    }
-    match journal.begin(&key, charge) {
-        Ok((begun, evicted)) => Heard::of(Answer::from(begun), evicted),
-        Err(refusal) => Heard::from(Answer::Refused(refusal)),
-    }
-}
-
-fn begin_strictly(journal: &mut Journal<u64, u64>, key: u64, charge: u64) -> Heard {
-    if charge == 0 {
-        return Heard::from(Answer::Unmade);
-    }
-    match journal.begin_strictly(&key, charge) {
+fn begun(told: Result<(Begun<u64>, Evicted<u64, u64>), Refusal>) -> Heard {
+    match told {
         Ok((begun, evicted)) => Heard::of(Answer::from(begun), evicted),
         Err(refusal) => Heard::from(Answer::Refused(refusal)),
     }
@@ -138,43 +124,29 @@ fn released(told: Result<Evicted<u64, u64>, Refusal>, stamp: u64) -> Heard {
     }
 }
 
-// The new entry's value is the one that was given.
-fn insert(
-    alloc: Global,
-    journal: &mut Journal<u64, u64>,
-    key: u64,
-    charge: u64,
-    value: u64,
-) -> Result<Heard, AllocError> {
-    if charge == 0 {
-        return Ok(Heard::from(Answer::Unmade));
-    }
-    match journal.insert(&key, charge, Arc::new(alloc, value)?) {
-        Ok(inserted) => Ok(Heard {
-            answer: Answer::Gives(Told::Inserted(inserted.stamp), value),
-            replaced: Some(inserted.replaced),
-            evicted: Some(inserted.evicted),
-        }),
-        Err((refusal, value)) => Ok(Heard::from(Answer::NotInserted(refusal, *value))),
+// Makes an insertion.
+fn insert(alloc: Global, journal: &mut Journal<u64, u64>, call: Call) -> Result<Heard, AllocError> {
+    match call {
+        Call::Insert(key, charge, value) if charge > 0 => {
+            let told = journal.insert(&key, charge, Arc::new(alloc, value)?);
+            Ok(inserted(told, value))
+        }
+        Call::InsertStrictly(key, charge, value) if charge > 0 => {
+            let told = journal.insert_strictly(&key, charge, Arc::new(alloc, value)?);
+            Ok(inserted(told, value))
+        }
+        _ => Ok(Heard::from(Answer::Unmade)),
     }
 }
 
-fn insert_strictly(
-    alloc: Global,
-    journal: &mut Journal<u64, u64>,
-    key: u64,
-    charge: u64,
-    value: u64,
-) -> Result<Heard, AllocError> {
-    if charge == 0 {
-        return Ok(Heard::from(Answer::Unmade));
-    }
-    match journal.insert_strictly(&key, charge, Arc::new(alloc, value)?) {
-        Ok(inserted) => Ok(Heard {
+// The new entry's value is the one that was given.
+fn inserted(told: Result<Inserted<u64, u64>, (Refusal, Arc<u64>)>, value: u64) -> Heard {
+    match told {
+        Ok(inserted) => Heard {
             answer: Answer::Gives(Told::Inserted(inserted.stamp), value),
             replaced: Some(inserted.replaced),
             evicted: Some(inserted.evicted),
-        }),
-        Err((refusal, value)) => Ok(Heard::from(Answer::NotInserted(refusal, *value))),
+        },
+        Err((refusal, value)) => Heard::from(Answer::NotInserted(refusal, *value)),
     }
 }
