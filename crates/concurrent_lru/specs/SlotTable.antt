@@ -100,10 +100,6 @@ module _ {K V : Type 0} where
   abbrev pub entry_at : Order K V → ℕ → Option (Entry K V)
   entry_at o slot = entry_in (cell_at (cells_of o.slots) slot)
 
-  -- nothing changed except the count of lookups
-  abbrev pub OnlyLooked : Order K V → Order K V → Type 0
-  OnlyLooked old new = new ≡ record old { slots = record old.slots { looks = new.slots.looks } }
-
   -- the node before a removed one, or the oldest end, now leads to the node after it
   abbrev pub JoinsLeft : Order K V → Order K V → Option Ptr → Option Ptr → Type 0
   JoinsLeft old new before after = LeftJoined (cells_of old.slots) (cells_of new.slots) old.oldest new.oldest before after

@@ -19,10 +19,7 @@ module _ {K V : Type 0} where
   abbrev pub SetsLinks : Slots K V → Slots K V → Ptr → Option Ptr → Option Ptr → Type 0
   SetsLinks old new p before after = AtSlot (cells_of old) p (λ slot. Relinks (cells_of old) (cells_of new) slot before after)
 
-  -- one link of the node at p was set, and the other one did not change
-  abbrev pub SetsBefore : Slots K V → Slots K V → Ptr → Option Ptr → Type 0
-  SetsBefore old new p before = AtSlot (cells_of old) p (λ slot. Relinks (cells_of old) (cells_of new) slot before (after_at (cells_of old) slot))
-
+  -- the node at p leads to another one after it, and to the same one before it
   abbrev pub SetsAfter : Slots K V → Slots K V → Ptr → Option Ptr → Type 0
   SetsAfter old new p after = AtSlot (cells_of old) p (λ slot. Relinks (cells_of old) (cells_of new) slot (before_at (cells_of old) slot) after)
 

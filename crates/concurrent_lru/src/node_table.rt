@@ -417,7 +417,8 @@ impl<K: Drop, V: Drop> Nodes<K, V> {
         ensures work { self.new.work ≡ self.old.work + 1 }
         ensures looks { self.new.looks ≤ self.old.looks + 1 }
     {
-        self.order.append(place.slot);
+        let own = self.order.slots.look(place.slot);
+        self.order.push(own, place.slot);
         self.work.tick();
     }
 
@@ -435,7 +436,10 @@ impl<K: Drop, V: Drop> Nodes<K, V> {
         ensures work { self.new.work ≡ self.old.work + 1 }
         ensures looks { self.new.looks ≤ self.old.looks + 1 }
     {
-        let charge = self.order.make_idle(place.slot, near);
+        let own = self.order.slots.look_near(place.slot, near);
+        let charge = self.order.slots.follow(own).charge;
+        self.order.slots.follow_mut(own).set_pins(0);
+        self.order.push(own, place.slot);
         self.work.tick();
         charge
     }
@@ -450,7 +454,8 @@ impl<K: Drop, V: Drop> Nodes<K, V> {
         ensures work { self.new.work ≡ self.old.work + 1 }
         ensures looks { self.new.looks ≤ self.old.looks + 1 }
     {
-        self.order.remove(place.slot);
+        let own = self.order.slots.look(place.slot);
+        self.order.cut(own);
         self.work.tick();
     }
 
@@ -464,7 +469,9 @@ impl<K: Drop, V: Drop> Nodes<K, V> {
         ensures work { self.new.work ≡ self.old.work + 2 }
         ensures looks { self.new.looks ≤ self.old.looks + 1 }
     {
-        self.order.renew(place.slot, near);
+        let node = self.order.slots.look_near(place.slot, near);
+        self.order.cut(node);
+        self.order.push(node, place.slot);
         self.work.tick();
         self.work.tick();
     }
@@ -503,6 +510,9 @@ impl<K: Drop, V: Stores + Drop> Nodes<K, V> {
     // Pins a ready node, which has `pins` pins, once more. An idle one leaves the idle order.
     // Returns its value and its charge. Takes no memory except for the copy of the value. Returns
     // `Memory` if that is refused, and then nothing changed.
+    //
+    // The node is looked up before the copy, since a processor starts no later read until an atomic
+    // instruction has completed.
     #[inline(always)]
     pub(crate) fn pin(&mut self, place: Place, near: Cursor, pins: u32) -> Result<(V, u64), Refusal>
         requires within { ContainsNode self.old place }
@@ -523,11 +533,16 @@ impl<K: Drop, V: Stores + Drop> Nodes<K, V> {
         ensures spare { self.old.spare ≤ self.new.spare }
         ensures looks { self.new.looks ≤ self.old.looks + 1 }
     {
-        let pinned = self.order.pin(place.slot, near, pins)?;
+        let own = self.order.slots.look_near(place.slot, near);
+        let node = self.order.slots.follow(own);
+        let charge = node.charge;
+        let value = node.share_value()?;
+        self.order.slots.follow_mut(own).set_pins(pins + 1);
         if pins > 0 {
-            return Ok(pinned);
+            return Ok((value, charge));
         }
+        self.order.cut(own);
         self.work.tick();
-        Ok(pinned)
+        Ok((value, charge))
     }
 }

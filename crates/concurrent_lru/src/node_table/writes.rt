@@ -1,48 +1,17 @@
-//! Writes to a node: by a link, or by its slot, for which it is looked up once.
+//! Writes to a node by its slot, for which it is looked up once, and the clearing of its links.
 //!
 //! What stands here cannot read the slab, so no lookup for a write goes uncounted.
 ghost use Rattle.std.specs.Prelude.{◌≡◌, ◌≤◌};
 ghost use Rattle.concurrent_lru.specs.NodeTable.{entry_with_pins, entry_detached, entry_with_phase};
 ghost use Rattle.concurrent_lru.specs.SlotPointers.{IsTied, HasNode, LeadsToNode};
 ghost use Rattle.concurrent_lru.specs.Listing.{IsListed, spare_of};
-ghost use Rattle.concurrent_lru.specs.SlotWrites.{OnlyWrites, OnlyLooksAndWrites, SetsLinks, SetsBefore, SetsAfter, CutsLinks, Rewrites, RewritesLink};
+ghost use Rattle.concurrent_lru.specs.SlotWrites.{OnlyWrites, OnlyLooksAndWrites, CutsLinks, Rewrites};
 
 use crate::node_table::open_table::Cursor;
 use crate::node_table::slots::Slots;
 use crate::node_table::{Node, Phase};
 
 impl<K: Drop, V: Drop> Slots<K, V> {
-    // Sets both links of the node at the end of a link.
-    pub(super) fn relink(
-        &mut self,
-        link: *mut Node<K, V>,
-        before: Option<*mut Node<K, V>>,
-        after: Option<*mut Node<K, V>>,
-    )
-        requires { LeadsToNode self.old link }
-        ensures rest { OnlyWrites self.old self.new }
-        ensures links { SetsLinks self.old self.new link before after }
-    {
-        self.follow_mut(link).set_links(before, after);
-    }
-
-    // Sets one link of the node at the end of a link.
-    pub(super) fn set_before(&mut self, link: *mut Node<K, V>, before: Option<*mut Node<K, V>>)
-        requires { LeadsToNode self.old link }
-        ensures rest { OnlyWrites self.old self.new }
-        ensures links { SetsBefore self.old self.new link before }
-    {
-        self.follow_mut(link).set_before(before);
-    }
-
-    pub(super) fn set_after(&mut self, link: *mut Node<K, V>, after: Option<*mut Node<K, V>>)
-        requires { LeadsToNode self.old link }
-        ensures rest { OnlyWrites self.old self.new }
-        ensures links { SetsAfter self.old self.new link after }
-    {
-        self.follow_mut(link).set_after(after);
-    }
-
     // Clears a node's links and returns them.
     pub(super) fn unlink(
         &mut self,
@@ -59,15 +28,6 @@ impl<K: Drop, V: Drop> Slots<K, V> {
         (before, after)
     }
 
-    // Sets the pins of the node at the end of a link.
-    pub(super) fn set_pins_by_link(&mut self, link: *mut Node<K, V>, pins: u32)
-        requires { LeadsToNode self.old link }
-        ensures rest { OnlyWrites self.old self.new }
-        ensures entry { RewritesLink self.old self.new link (entry_with_pins pins) }
-    {
-        self.follow_mut(link).set_pins(pins);
-    }
-
     // Sets the pins of the node in a slot.
     pub(super) fn set_pins(&mut self, slot: usize, near: Cursor, pins: u32)
         requires tied { IsTied self.old }
@@ -77,7 +37,7 @@ impl<K: Drop, V: Drop> Slots<K, V> {
         ensures entry { Rewrites self.old self.new slot (entry_with_pins pins) }
     {
         let link = self.look_near(slot, near);
-        self.set_pins_by_link(link, pins);
+        self.follow_mut(link).set_pins(pins);
     }
 
     // Marks the node in a slot as detached, and removes it from the table by hash.

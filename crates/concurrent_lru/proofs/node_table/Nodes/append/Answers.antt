@@ -1,16 +1,41 @@
-use Rattle.std.proofs.Common.{◌++◌, ◌∷◌, [], false, refl}
+use Rattle.std.proofs.Common.{◌++◌, ◌∷◌, [], false, refl, sym, ap, ◌∙◌, subst}
+use Rattle.concurrent_lru.specs.Cells.{slot_at}
+use Rattle.concurrent_lru.specs.SlotTable.{Omits, nodes_of, idle_of}
+use Rattle.concurrent_lru.proofs.Nodes.Listings.{looked_keeps}
+use Rattle.concurrent_lru.proofs.Nodes.NodeWrites.{only_looked, then_writes}
 use Rattle.concurrent_lru.proofs.Nodes.SlotViews.{present, idle_there, whole_kept}
 use Rattle.concurrent_lru.proofs.Nodes.ShownChanges.{shown_relinked}
+use Rattle.concurrent_lru.proofs.Order.Appending.{table_looked}
 use Rattle.concurrent_lru.proofs.node_table.Nodes.append.Goals as goal
 
-pub append-requires-clause-present : goal.append-requires-clause-present
-append-requires-clause-present g c = let i = c.self.inside in present i.order i.work.count c.args.self.now c.self.view_is c.place.inside.slot c.args.place c.place.view_is c.requires.within
+pub look-own-requires-clause-present : goal.look-own-requires-clause-present
+look-own-requires-clause-present g c = present c.self.inside.order c.self.inside.work.count c.args.self.now c.self.view_is c.place.inside.slot c.args.place c.place.view_is c.requires.within
 
-pub append-requires-clause-held : goal.append-requires-clause-held
-append-requires-clause-held g c = let i = c.self.inside in idle_there i.order i.work.count c.args.self.now c.self.view_is false c.place.inside.slot c.args.place c.place.view_is c.requires.held
+pub push-requires : goal.push-requires
+push-requires g c =
+    let o = c.self.inside.order in
+    record {
+      linked = table_looked o c.look-own.new.self c.look-own.ensures.rest c.look-own.ensures.tied c.self.invariant.linked;
+      own = ap (λ t. slot_at t.memory.cells c.look-own.result) c.look-own.ensures.rest ∙ c.look-own.ensures.link;
+      held = subst (λ t. Omits (record o { slots = t }) c.place.inside.slot) (sym c.look-own.ensures.rest) (idle_there c.self.inside.order c.self.inside.work.count c.args.self.now c.self.view_is false c.place.inside.slot c.args.place c.place.view_is c.requires.held);
+    }
 
 pub returns : goal.returns
-returns g c = shown_relinked c.self.inside.order c.append.new.self _ 1 (λ m k. m) (λ ks k. ks ++ k ∷ []) c.self.view_is c.place.view_is c.append.ensures.nodes c.append.ensures.idle c.append.ensures.rest c.append.ensures.listings c.append.ensures.looks c.tick.ensures
+returns g c =
+    let o = c.self.inside.order in let t = c.look-own.new.self in let q = c.push.new.self in
+    shown_relinked o q _ 1 (λ m k. m) (λ ks k. ks ++ k ∷ []) c.self.view_is c.place.view_is
+    (c.push.ensures.nodes ∙ ap (λ s. nodes_of (record o { slots = s })) c.look-own.ensures.rest)
+    (c.push.ensures.idle ∙ ap (λ s. idle_of (record o { slots = s }) ++ c.place.inside.slot ∷ []) c.look-own.ensures.rest)
+    (then_writes o.slots t q.slots (only_looked o.slots t c.look-own.ensures.rest) c.push.ensures.rest)
+    (looked_keeps o.slots t q.slots.memory.cells c.look-own.ensures.rest c.push.ensures.listings)
+    (ap (λ w. w.count) c.push.ensures.looks ∙ c.look-own.ensures.looks) c.tick.ensures
 
 pub invariant_of-self : goal.invariant_of-self
-invariant_of-self g c = (refl, tt, whole_kept c.self.inside.order c.append.new.self c.self.invariant c.append.ensures.linked c.append.ensures.rest c.append.ensures.listings)
+invariant_of-self g c =
+    let o = c.self.inside.order in let t = c.look-own.new.self in let q = c.push.new.self in (
+      refl,
+      tt,
+      whole_kept o q c.self.invariant c.push.ensures.linked
+          (then_writes o.slots t q.slots (only_looked o.slots t c.look-own.ensures.rest) c.push.ensures.rest)
+          (looked_keeps o.slots t q.slots.memory.cells c.look-own.ensures.rest c.push.ensures.listings),
+    )

@@ -1,70 +1,100 @@
-use Rattle.std.proofs.Common.{◌≡◌, ◌≢◌, ◌≤◌, ◌<◌, ◌+◌, ℕ, true, filter, not, eqb, refl, sym, ap, ◌∙◌, arith}
-use Rattle.concurrent_lru.specs.NodeTable.{NodeTable, update_at, entry_with_pins}
-use Rattle.concurrent_lru.proofs.Nodes.SlotViews.{present, idle_there, node_had, hashes_same, whole_kept}
+use Rattle.std.proofs.Common.{◌≡◌, ◌≤◌, ◌<◌, ◌+◌, ℕ, Some, true, filter, not, eqb, refl, sym, ap, ◌∙◌, arith, subst}
+use Rattle.std.specs.List.{list_any}
+use Rattle.std.specs.Prelude.{IsSome}
+use Rattle.concurrent_lru.specs.Cells.{cell_at, slot_at}
+use Rattle.concurrent_lru.specs.NodeTable.{NodeTable, entry_of, value_of, update_at, entry_with_pins}
+use Rattle.concurrent_lru.specs.SlotPointers.{cells_of, with_node}
+use Rattle.concurrent_lru.specs.SlotTable.{entry_at, entry_in}
+use Rattle.concurrent_lru.proofs.Memory.CellSlots.{value_at_slot}
+use Rattle.concurrent_lru.proofs.Nodes.Listings.{looked_keeps, then_keeps}
+use Rattle.concurrent_lru.proofs.Nodes.NodeWrites.{revalued, looked_and_wrote, only_looked, then_writes}
+use Rattle.concurrent_lru.proofs.Nodes.SlotViews.{IsWritten, present, idle_there, node_had, hashes_same, whole_kept, written, looked_entry}
+use Rattle.concurrent_lru.proofs.Order.Appending.{table_looked}
 use Rattle.concurrent_lru.proofs.node_table.Nodes.pin.Goals as goal
+use Rattle.concurrent_lru.proofs.node_table.Nodes.pin.Goals.{After-set_pins}
 
 no_pins : (n : ℕ) → n ≤ 0 → n ≡ 0
 no_pins n few = omega arith
 
-some_pins : (n : ℕ) → 0 < n → n ≢ 0
-some_pins n some none = omega (arith, none, some)
+pub look_near-own-requires-clause-present : goal.look_near-own-requires-clause-present
+look_near-own-requires-clause-present g c = present c.self.inside.order c.self.inside.work.count c.args.self.now c.self.view_is c.place.inside.slot c.args.place c.place.view_is c.requires.within
 
-pub pin-requires-clause-present : goal.pin-requires-clause-present
-pin-requires-clause-present g c = let i = c.self.inside in present i.order i.work.count c.args.self.now c.self.view_is c.place.inside.slot c.args.place c.place.view_is c.requires.within
+pub share_value-requires : goal.share_value-requires
+share_value-requires g c =
+    let same = ap cells_of c.look_near-own.ensures.rest in
+    let at = ap (λ l. slot_at l c.look_near-own.result) same ∙ c.look_near-own.ensures.link in
+    let there = value_at_slot (cells_of c.look_near-own.new.self) c.look_near-own.result c.place.inside.slot at in
+    let was = ap (λ l. entry_in (cell_at l c.place.inside.slot)) (sym same) ∙ ap entry_in there.1 in
+    subst (λ n. IsSome (value_of (entry_of n))) (sym (c.follow-node.ensures c.place.inside.slot there.0 at there.1)) (c.requires.ready (entry_of there.0.value) (node_had c.self.inside.order c.self.inside.work.count c.args.self.now c.self.view_is c.place.inside.slot c.args.place c.place.view_is ∙ was))
 
-pub pin-requires-clause-idle : goal.pin-requires-clause-idle
-pin-requires-clause-idle g c none = let i = c.self.inside in idle_there i.order i.work.count c.args.self.now c.self.view_is true c.place.inside.slot c.args.place c.place.view_is (c.requires.idle none)
-
-pub pin-requires-clause-ready : goal.pin-requires-clause-ready
-pin-requires-clause-ready g c e h = let i = c.self.inside in c.requires.ready e (node_had i.order i.work.count c.args.self.now c.self.view_is c.place.inside.slot c.args.place c.place.view_is ∙ h)
-
+-- the node was looked up, and nothing else changed
 pub invariant_of-self : goal.invariant_of-self
-invariant_of-self g c = (refl, tt, whole_kept c.self.inside.order c.pin.new.self c.self.invariant c.in_err-pinned.ensures.linked c.in_err-pinned.ensures.rest c.in_err-pinned.ensures.listings)
+invariant_of-self g c =
+    let o = c.self.inside.order in let t = c.look_near-own.new.self in (
+      refl,
+      tt,
+      whole_kept o (record o { slots = t }) c.self.invariant (table_looked o t c.look_near-own.ensures.rest c.look_near-own.ensures.tied c.self.invariant.linked) (only_looked o.slots t c.look_near-own.ensures.rest)
+          (looked_keeps o.slots t (cells_of t) c.look_near-own.ensures.rest (λ k. (refl, refl))),
+    )
 
-pub returns-in_err-pinned-clause-hashes : goal.returns-in_err-pinned-clause-hashes
-returns-in_err-pinned-clause-hashes g c =
-    hashes_same c.self.inside.order.slots.memory.cells c.pin.new.self.slots.memory.cells (λ k. (c.in_err-pinned.ensures.listings k).0) ∙ ap (λ (v : NodeTable g.row.K.Denot g.row.V.Denot). v.hashes) c.self.view_is
+-- the node was looked up, and given a pin
+pinned : (g : _) (c : After-set_pins g) → IsWritten c.self.inside.order (record c.self.inside.order { slots = with_node c.look_near-own.new.self c.look_near-own.result c.set_pins.new.self }) c.place.inside.slot c.look_near-own.result (entry_with_pins (c.args.pins + 1))
+pinned g c =
+    written c.self.inside.order c.look_near-own.new.self (with_node c.look_near-own.new.self c.look_near-own.result c.set_pins.new.self) (entry_with_pins (c.args.pins + 1)) (λ e. refl) c.self.invariant.linked c.look_near-own.ensures.rest c.look_near-own.ensures.tied c.look_near-own.ensures.link refl
+    (revalued (cells_of c.look_near-own.new.self) c.look_near-own.result c.follow_mut.result.now c.set_pins.new.self c.follow_mut.ensures.value (entry_with_pins (c.args.pins + 1)) c.set_pins.ensures)
+
+-- the entry of the node that was looked up
+was : (g : _) (c : After-set_pins g) (e : _) → entry_at c.self.inside.order c.place.inside.slot ≡ Some e → entry_of c.follow-node.result.now ≡ e
+was g c = looked_entry c.self.inside.order c.look_near-own.new.self c.look_near-own.result c.place.inside.slot c.look_near-own.ensures.rest c.look_near-own.ensures.link c.follow-node.ensures
 
 pub invariant_of-self-then-pins-gt0 : goal.invariant_of-self-then-pins-gt0
-invariant_of-self-then-pins-gt0 g c = (refl, tt, whole_kept c.self.inside.order c.pin.new.self c.self.invariant c.in_ok-pinned.ensures.linked c.in_ok-pinned.ensures.rest c.in_ok-pinned.ensures.listings)
+invariant_of-self-then-pins-gt0 g c =
+    let o = c.self.inside.order in let t = c.look_near-own.new.self in let u = with_node c.look_near-own.new.self c.look_near-own.result c.set_pins.new.self in let w = pinned g (goal.at.invariant_of-self-then-pins-gt0 g c).After-set_pins in
+    (refl, tt, whole_kept o (record o { slots = u }) c.self.invariant w.linked (looked_and_wrote o.slots t u c.look_near-own.ensures.rest refl) w.listings)
 
 pub returns-then-pins-gt0-clause-value : goal.returns-then-pins-gt0-clause-value
-returns-then-pins-gt0-clause-value g c e h = let i = c.self.inside in c.in_ok-pinned.ensures.value e (sym (node_had i.order i.work.count c.args.self.now c.self.view_is c.place.inside.slot c.args.place c.place.view_is) ∙ h)
+returns-then-pins-gt0-clause-value g c e h =
+    let same = was g (goal.at.returns-then-pins-gt0-clause-value g c).After-set_pins e (sym (node_had c.self.inside.order c.self.inside.work.count c.args.self.now c.self.view_is c.place.inside.slot c.args.place c.place.view_is) ∙ h) in
+    (ap value_of (sym same) ∙ c.in_ok-value.ensures.value, ap (λ x. x.charge) same)
 
 pub returns-then-pins-gt0-clause-nodes : goal.returns-then-pins-gt0-clause-nodes
-returns-then-pins-gt0-clause-nodes g c = c.in_ok-pinned.ensures.nodes ∙ (λ j. update_at (entry_with_pins (c.args.pins + 1)) (c.self.view_is j).nodes (c.place.view_is j))
-
-pub returns-then-pins-gt0-clause-revived : goal.returns-then-pins-gt0-clause-revived
-returns-then-pins-gt0-clause-revived g c none = absurd (some_pins c.args.pins c.if-pins-gt0.true none)
+returns-then-pins-gt0-clause-nodes g c = (pinned g (goal.at.returns-then-pins-gt0-clause-nodes g c).After-set_pins).nodes ∙ (λ j. update_at (entry_with_pins (c.args.pins + 1)) (c.self.view_is j).nodes (c.place.view_is j))
 
 pub returns-then-pins-gt0-clause-held : goal.returns-then-pins-gt0-clause-held
-returns-then-pins-gt0-clause-held g c some = (
-  c.in_ok-pinned.ensures.held some ∙ ap (λ (v : NodeTable g.row.K.Denot g.row.V.Denot). v.idle) c.self.view_is,
-  ap (λ (v : NodeTable g.row.K.Denot g.row.V.Denot). v.work) c.self.view_is,
-)
+returns-then-pins-gt0-clause-held g c some = ((pinned g (goal.at.returns-then-pins-gt0-clause-held g c).After-set_pins).idle ∙ ap (λ (v : NodeTable g.row.K.Denot g.row.V.Denot). v.idle) c.self.view_is, ap (λ (v : NodeTable g.row.K.Denot g.row.V.Denot). v.work) c.self.view_is)
 
 pub returns-then-pins-gt0-clause-hashes : goal.returns-then-pins-gt0-clause-hashes
 returns-then-pins-gt0-clause-hashes g c =
-    hashes_same c.self.inside.order.slots.memory.cells c.pin.new.self.slots.memory.cells (λ k. (c.in_ok-pinned.ensures.listings k).0) ∙ ap (λ (v : NodeTable g.row.K.Denot g.row.V.Denot). v.hashes) c.self.view_is
+    let w = pinned g (goal.at.returns-then-pins-gt0-clause-hashes g c).After-set_pins in
+    hashes_same (cells_of c.self.inside.order.slots) (cells_of (with_node c.look_near-own.new.self c.look_near-own.result c.set_pins.new.self)) (λ k. (w.listings k).0) ∙ ap (λ (v : NodeTable g.row.K.Denot g.row.V.Denot). v.hashes) c.self.view_is
+
+pub cut-requires : goal.cut-requires
+cut-requires g c =
+    let w = pinned g (goal.at.cut-requires g c).After-set_pins in
+    let idle = idle_there c.self.inside.order c.self.inside.work.count c.args.self.now c.self.view_is true c.place.inside.slot c.args.place c.place.view_is (c.requires.idle (no_pins c.args.pins c.if-pins-gt0.false)) in
+    record { linked = w.linked; idle = (c.place.inside.slot, w.at, subst (λ ks. list_any (eqb c.place.inside.slot) ks ≡ true) (sym w.idle) idle) }
 
 pub invariant_of-self-2 : goal.invariant_of-self-2
-invariant_of-self-2 g c = (refl, tt, whole_kept c.self.inside.order c.pin.new.self c.self.invariant c.in_ok-pinned.ensures.linked c.in_ok-pinned.ensures.rest c.in_ok-pinned.ensures.listings)
+invariant_of-self-2 g c =
+    let o = c.self.inside.order in let t = c.look_near-own.new.self in let u = with_node c.look_near-own.new.self c.look_near-own.result c.set_pins.new.self in let q = c.cut.new.self in let w = pinned g (goal.at.invariant_of-self-2 g c).After-set_pins in
+    (refl, tt, whole_kept o q c.self.invariant c.cut.ensures.linked (then_writes o.slots u q.slots (looked_and_wrote o.slots t u c.look_near-own.ensures.rest refl) c.cut.ensures.rest) (then_keeps (cells_of o.slots) (cells_of u) (cells_of q.slots) w.listings c.cut.ensures.listings))
 
 pub returns-clause-value : goal.returns-clause-value
-returns-clause-value g c e h = let i = c.self.inside in c.in_ok-pinned.ensures.value e (sym (node_had i.order i.work.count c.args.self.now c.self.view_is c.place.inside.slot c.args.place c.place.view_is) ∙ h)
+returns-clause-value g c e h =
+    let same = was g (goal.at.returns-clause-value g c).After-set_pins e (sym (node_had c.self.inside.order c.self.inside.work.count c.args.self.now c.self.view_is c.place.inside.slot c.args.place c.place.view_is) ∙ h) in
+    (ap value_of (sym same) ∙ c.in_ok-value.ensures.value, ap (λ x. x.charge) same)
 
 pub returns-clause-nodes : goal.returns-clause-nodes
-returns-clause-nodes g c = c.in_ok-pinned.ensures.nodes ∙ (λ j. update_at (entry_with_pins (c.args.pins + 1)) (c.self.view_is j).nodes (c.place.view_is j))
+returns-clause-nodes g c = c.cut.ensures.nodes ∙ (pinned g (goal.at.returns-clause-nodes g c).After-set_pins).nodes ∙ (λ j. update_at (entry_with_pins (c.args.pins + 1)) (c.self.view_is j).nodes (c.place.view_is j))
 
 pub returns-clause-revived : goal.returns-clause-revived
-returns-clause-revived g c none = (
-  c.in_ok-pinned.ensures.revived none ∙ (λ j. filter (λ q. not (eqb q (c.place.view_is j))) (c.self.view_is j).idle),
-  c.tick.ensures ∙ ap (λ (v : NodeTable g.row.K.Denot g.row.V.Denot). v.work + 1) c.self.view_is,
-)
-
-pub returns-clause-held : goal.returns-clause-held
-returns-clause-held g c some = absurd (some (no_pins c.args.pins c.if-pins-gt0.false))
+returns-clause-revived g c none =
+    let w = pinned g (goal.at.returns-clause-revived g c).After-set_pins in (
+      c.cut.ensures.idle c.place.inside.slot w.at ∙ ap (filter (λ q. not (eqb q c.place.inside.slot))) w.idle ∙ (λ j. filter (λ q. not (eqb q (c.place.view_is j))) (c.self.view_is j).idle),
+      c.tick.ensures ∙ ap (λ (v : NodeTable g.row.K.Denot g.row.V.Denot). v.work + 1) c.self.view_is,
+    )
 
 pub returns-clause-hashes : goal.returns-clause-hashes
 returns-clause-hashes g c =
-    hashes_same c.self.inside.order.slots.memory.cells c.pin.new.self.slots.memory.cells (λ k. (c.in_ok-pinned.ensures.listings k).0) ∙ ap (λ (v : NodeTable g.row.K.Denot g.row.V.Denot). v.hashes) c.self.view_is
+    let o = c.self.inside.order in let t = c.look_near-own.new.self in let u = with_node c.look_near-own.new.self c.look_near-own.result c.set_pins.new.self in let q = c.cut.new.self in let w = pinned g (goal.at.returns-clause-hashes g c).After-set_pins in
+    hashes_same (cells_of o.slots) (cells_of q.slots) (λ k. (then_keeps (cells_of o.slots) (cells_of u) (cells_of q.slots) w.listings c.cut.ensures.listings k).0) ∙ ap (λ (v : NodeTable g.row.K.Denot g.row.V.Denot). v.hashes) c.self.view_is

@@ -1,6 +1,0 @@
-use Rattle.concurrent_lru.specs.SlotPointers.{cells_of}
-use Rattle.concurrent_lru.proofs.Nodes.NodeWrites.{relinked}
-use Rattle.concurrent_lru.proofs.node_table.slots.Slots.relink.Goals as goal
-
-pub returns-clause-links : goal.returns-clause-links
-returns-clause-links g c = relinked (cells_of c.args.self.now) c.args.link c.follow_mut.result.now c.set_links.new.self c.follow_mut.ensures.value c.requires c.args.before c.args.after c.set_links.ensures
