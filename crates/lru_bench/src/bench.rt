@@ -2,11 +2,12 @@
 
 use crate::failure::Failure;
 use crate::host::{Host, Waiter};
+use crate::mostly::Reads;
 use crate::plan::{Mostly, Plan};
 use crate::report::Report;
 use crate::size::Size;
 use crate::stress::Load;
-use crate::system::{MORE_SHARDS, MOST_SHARDS, SHARDS};
+use crate::system::{MORE_SHARDS, MOST_SHARDS, SHARDS, Sharded};
 use crate::workload::Workload;
 use std::alloc::Global;
 use std::io::Write;
@@ -72,7 +73,7 @@ impl<R: Host, W: Waiter, O: Write, E: Write> Bench<'_, R, W, O, E> {
             if size.has_misses() {
                 self.use_room(&size)?;
             }
-            self.use_clock(1, &size)?;
+            self.use_shards(Sharded::Clock, 1, &size)?;
         }
         Ok(())
     }
@@ -83,10 +84,10 @@ impl<R: Host, W: Waiter, O: Write, E: Write> Bench<'_, R, W, O, E> {
             let size = Size::new(plan, *entries, threads);
             if size.has_hits() || size.has_misses() {
                 self.use_one_lock(&size)?;
-                self.use_shards(SHARDS, &size)?;
-                self.use_shards(MORE_SHARDS, &size)?;
-                self.use_clock(SHARDS, &size)?;
-                self.use_clock(MORE_SHARDS, &size)?;
+                self.use_shards(Sharded::Locks, SHARDS, &size)?;
+                self.use_shards(Sharded::Locks, MORE_SHARDS, &size)?;
+                self.use_shards(Sharded::Clock, SHARDS, &size)?;
+                self.use_shards(Sharded::Clock, MORE_SHARDS, &size)?;
             }
         }
         Ok(())
@@ -103,12 +104,13 @@ impl<R: Host, W: Waiter, O: Write, E: Write> Bench<'_, R, W, O, E> {
 
     fn run_mostly(&mut self, mostly: &Mostly) -> Result<(), Failure> {
         for threads in [1, 2, 4, 8] {
-            self.read_on_one_lock(mostly, threads)?;
-            self.read_in_shards(SHARDS, mostly, threads)?;
-            self.read_in_shards(MORE_SHARDS, mostly, threads)?;
-            self.read_in_shards(MOST_SHARDS, mostly, threads)?;
-            self.read_on_clock(SHARDS, mostly, threads)?;
-            self.read_on_clock(MORE_SHARDS, mostly, threads)?;
+            let reads = Reads { mostly, threads };
+            self.read_on_one_lock(reads)?;
+            self.read_in_shards(SHARDS, reads)?;
+            self.read_in_shards(MORE_SHARDS, reads)?;
+            self.read_in_shards(MOST_SHARDS, reads)?;
+            self.read_on_clock(SHARDS, reads)?;
+            self.read_on_clock(MORE_SHARDS, reads)?;
         }
         Ok(())
     }

@@ -1,10 +1,11 @@
-//! Creates empty caches, on one lock and in shards.
+//! Creates empty caches: on one lock, in shards, and clocks.
 ghost use Rattle.std.specs.Prelude.{◌<◌};
 
 use crate::bench::Bench;
 use crate::failure::Failure;
 use crate::host::{Host, Waiter};
 use concurrent_lru::{sharded, unsharded};
+use lru_clock::clock;
 use std::hash::RandomState;
 use std::io::Write;
 
@@ -32,5 +33,19 @@ impl<R: Host, W: Waiter, O: Write, E: Write> Bench<'_, R, W, O, E> {
             hasher,
         );
         Ok(made?)
+    }
+
+    /// Creates a clock cache with this many shards, over which a hasher with a random seed spreads
+    /// the keys.
+    pub fn on_clock(
+        &self,
+        capacity: u64,
+        shards: usize,
+    ) -> Result<clock::Cache<u64, u64, W>, Failure>
+        requires { 0 < shards }
+    {
+        let hasher = RandomState::new(self.rt)?;
+        let wait = self.wait.clone()?;
+        Ok(clock::Cache::with_shards(self.alloc, wait, capacity, shards, hasher)?)
     }
 }

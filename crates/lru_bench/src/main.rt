@@ -5,7 +5,6 @@
 mod attack;
 mod bench;
 mod caches;
-mod clock;
 mod draws;
 mod failure;
 mod hits;

@@ -11,39 +11,66 @@ use crate::report::Work;
 use crate::system::System;
 use crate::workers;
 use crate::workers::WorkloadKeys;
+use crate::workload::Workload;
 use std::io::Write;
+
+/// The workload, and how many threads share a cache.
+#[derive(Clone, Copy)]
+pub struct Reads<'a> {
+    /// The workload.
+    pub mostly: &'a Mostly,
+    /// The number of threads.
+    pub threads: u16,
+}
+
+impl Reads<'_> {
+    // Returns the workload on a system.
+    fn work(&self, system: System) -> Work {
+        Work {
+            system,
+            workload: Workload::ReadMostly,
+            entries: self.mostly.capacity,
+            threads: self.threads,
+            operations: self.mostly.operations,
+        }
+    }
+}
 
 impl<R: Host, W: Waiter, O: Write, E: Write> Bench<'_, R, W, O, E> {
     /// Times both ways on one lock.
-    pub fn read_on_one_lock(&mut self, mostly: &Mostly, threads: u16) -> Result<(), Failure> {
-        let cache = self.on_one_lock(mostly.capacity)?;
-        let work = mostly.work(System::OneLock, threads);
-        self.read(&Make { cache: &cache }, mostly, &work)?;
-        let cache = self.on_one_lock(mostly.capacity)?;
-        let work = mostly.work(System::ReadOnOneLock, threads);
-        self.read(&ReadOrMake { cache: &cache }, mostly, &work)
+    pub fn read_on_one_lock(&mut self, reads: Reads<'_>) -> Result<(), Failure> {
+        let cache = self.on_one_lock(reads.mostly.capacity)?;
+        let work = reads.work(System::OneLock);
+        self.read(&Make { cache: &cache }, reads.mostly, &work)?;
+        let cache = self.on_one_lock(reads.mostly.capacity)?;
+        let work = reads.work(System::ReadOnOneLock);
+        self.read(&ReadOrMake { cache: &cache }, reads.mostly, &work)
     }
 
     /// Times both ways with this many shards.
-    pub fn read_in_shards(
-        &mut self,
-        shards: usize,
-        mostly: &Mostly,
-        threads: u16,
-    ) -> Result<(), Failure>
+    pub fn read_in_shards(&mut self, shards: usize, reads: Reads<'_>) -> Result<(), Failure>
         requires { 0 < shards }
     {
-        let cache = self.in_shards(mostly.capacity, shards)?;
-        let work = mostly.work(System::Shards(shards), threads);
-        self.read(&Make { cache: &cache }, mostly, &work)?;
-        let cache = self.in_shards(mostly.capacity, shards)?;
-        let work = mostly.work(System::ReadInShards(shards), threads);
-        self.read(&ReadOrMake { cache: &cache }, mostly, &work)
+        let cache = self.in_shards(reads.mostly.capacity, shards)?;
+        let work = reads.work(System::Shards(shards));
+        self.read(&Make { cache: &cache }, reads.mostly, &work)?;
+        let cache = self.in_shards(reads.mostly.capacity, shards)?;
+        let work = reads.work(System::ReadInShards(shards));
+        self.read(&ReadOrMake { cache: &cache }, reads.mostly, &work)
     }
 
-    /// Times the workload on an empty cache, which is filled first. Even a single worker has a
-    /// thread of its own.
-    pub fn read<U: Operation + Sync>(
+    /// Times `get_or_init` on a clock cache with this many shards.
+    pub fn read_on_clock(&mut self, shards: usize, reads: Reads<'_>) -> Result<(), Failure>
+        requires { 0 < shards }
+    {
+        let cache = self.on_clock(reads.mostly.capacity, shards)?;
+        let work = reads.work(System::Clock(shards));
+        self.read(&Make { cache: &cache }, reads.mostly, &work)
+    }
+
+    // Times the workload on an empty cache, which is filled first. Even a single worker has a
+    // thread of its own.
+    fn read<U: Operation + Sync>(
         &mut self,
         operation: &U,
         mostly: &Mostly,

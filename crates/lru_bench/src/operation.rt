@@ -30,6 +30,16 @@ pub trait Operation {
     fn run(&self, key: u64) -> Result<Found, Refusal>;
 }
 
+/// Returns the operations of the workloads of hits and misses, on a cache.
+pub fn operations<C: Cached<u64>>(cache: C) -> (Make<C>, Get<C>, Read<C>, Init<C>) {
+    (
+        Make { cache },
+        Get { cache },
+        Read { cache },
+        Init { cache },
+    )
+}
+
 /// `get`.
 #[derive(Drop)]
 pub struct Get<C> {

@@ -2,9 +2,7 @@
 
 use crate::draws::Draws;
 use crate::failure::Failure;
-use crate::report::Work;
 use crate::request::{MORE_THREADS, Request, sizes};
-use crate::system::System;
 use crate::workload::{ALL, Workload};
 use std::alloc::Global;
 use std::fmt;
@@ -127,17 +125,6 @@ impl Mostly {
             draws,
             capacity: capacity.map_or(100_000, |capacity| capacity.get()),
             operations: 300_000,
-        }
-    }
-
-    /// Returns the workload on a system, in this many threads.
-    pub fn work(&self, system: System, threads: u16) -> Work {
-        Work {
-            system,
-            workload: Workload::ReadMostly,
-            entries: self.capacity,
-            threads,
-            operations: self.operations,
         }
     }
 }

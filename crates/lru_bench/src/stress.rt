@@ -18,8 +18,8 @@ const SEED: u64 = 1;
 // The capacity on one lock.
 const LOCK_CAPACITY: u64 = 100;
 
-/// The capacity in shards.
-pub const SHARDS_CAPACITY: u64 = 128;
+// The capacity in shards.
+const SHARDS_CAPACITY: u64 = 128;
 
 /// The number of workers, and of the calls of each.
 #[derive(Clone, Copy)]
@@ -31,8 +31,8 @@ pub struct Load {
 }
 
 impl Load {
-    /// Returns the workload on a system of this capacity.
-    pub fn work(self, system: System, capacity: u64) -> Work {
+    // Returns the workload on a system of this capacity.
+    fn work(self, system: System, capacity: u64) -> Work {
         Work {
             system,
             workload: Workload::Stress,
@@ -43,11 +43,10 @@ impl Load {
     }
 }
 
-/// A reference to a cache. The value of a key is the key.
+// A reference to a cache. The value of a key is the key.
 #[derive(Drop)]
-pub struct Keyed<C> {
-    /// The reference.
-    pub cache: C,
+struct Keyed<C> {
+    cache: C,
 }
 
 impl<C: Cached<u64>> StressTarget for Keyed<C> {
@@ -82,9 +81,16 @@ impl<R: Host, W: Waiter, O: Write, E: Write> Bench<'_, R, W, O, E> {
         self.stress(&Keyed { cache: &cache }, load, &work)
     }
 
-    /// Times the workload: each worker makes its calls without a pause. The sum of the values that
-    /// were read by calls whose making would not fail is the same on every schedule.
-    pub fn stress<C: StressTarget + Sync>(
+    /// Times the workload on a clock cache.
+    pub fn stress_clock(&mut self, load: Load) -> Result<(), Failure> {
+        let cache = self.on_clock(SHARDS_CAPACITY, SHARDS)?;
+        let work = load.work(System::Clock(SHARDS), SHARDS_CAPACITY);
+        self.stress(&Keyed { cache: &cache }, load, &work)
+    }
+
+    // Times the workload: each worker makes its calls without a pause. The sum of the values that
+    // were read by calls whose making would not fail is the same on every schedule.
+    fn stress<C: StressTarget + Sync>(
         &mut self,
         cache: &C,
         load: Load,

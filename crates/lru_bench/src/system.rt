@@ -11,6 +11,15 @@ pub const MORE_SHARDS: usize = 64;
 /// The largest number that is measured.
 pub const MOST_SHARDS: usize = 256;
 
+/// A kind of cache that has shards.
+#[derive(Clone, Copy)]
+pub enum Sharded {
+    /// The cache that has a lock for each shard.
+    Locks,
+    /// The clock cache.
+    Clock,
+}
+
 /// A cache, and for some the way in which it is called.
 #[derive(Clone, Copy)]
 pub enum System {
