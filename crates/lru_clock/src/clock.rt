@@ -7,7 +7,6 @@ ghost use Rattle.std.specs.Prelude.{length, vec_len};
 ghost use Rattle.std.specs.Fn.{FnOnceReturnsAt, FnOnceTakesAt};
 ghost use Rattle.concurrent_lru.specs.Cache.{CopiesAreEqual};
 ghost use Rattle.concurrent_lru.specs.ThreadedCalls.{IfInit, IsNotInit};
-ghost use Rattle.lru_clock.specs.Hits.{Sees};
 ghost use Rattle.lru_clock.specs.Shards.{IsBookOf, IsShardOf};
 ghost use Rattle.concurrent_lru.specs.Sharded.{key_number};
 
@@ -17,7 +16,7 @@ pub use crate::handle::CacheHandle;
 pub use crate::history::Past;
 use crate::shard::{Shard, Turn};
 pub use crate::shard_state::Counts;
-use crate::store::{MOST_PINS, Pin};
+use crate::store::MOST_PINS;
 pub use concurrent_lru::fit::{Anything, Fit};
 use concurrent_lru::sharded::capacity_per_shard;
 pub use concurrent_lru::sharded::{GetError, Refusal};
@@ -231,33 +230,9 @@ impl<K: Hash + Eq + Clone + Drop, V: Drop, R: Wait, S: BuildHasher, F: Fit<K, V>
         ensures never_stale { IfErr result (λ e. e ≢ Refusal.Stale) }
     {
         let (shard, tag) = self.route(key);
-        match self.pin(shard, tag, key, &None)? {
+        match shard.pin(&self.rt, tag, key, &None)? {
             Some((place, pin)) => Ok(Some(CacheHandle::new(&self.rt, shard, place, pin, None))),
             None => Ok(None),
-        }
-    }
-
-    // Pins the key's entry in its shard. A miss looks once more under the lock.
-    #[inline(always)]
-    fn pin<'a>(
-        &'a self,
-        shard: &'a Shard<K, V, F>,
-        tag: u32,
-        key: &K,
-        past: &Option<Past<K, V>>,
-    ) -> Result<Option<(u32, Pin<'a, K, V, F>)>, Refusal>
-        requires book { IfSome past.now
-            (λ past. past.book ≡ shard.now.store.chronicle.first.book) }
-        ensures pin { IfOk result (λ found. IfSome found
-            (λ f. (f.1.key ≡ key.now) × F.fits key.now f.1.value)) }
-        ensures since { IfSome past.now (λ past. IfOk result (λ found. IfSome found
-            (λ f. Sees K.eq past key.now f.1.value f.1.book f.1.log))) }
-        ensures refused { IfErr result (λ e. e ≡ Refusal.Overflow) }
-    {
-        match shard.find(tag, key, true, past)? {
-            Some(found) => Ok(Some(found)),
-            // A copy, so that the compiler knows that the first look has no past, if there is none.
-            None => shard.find_locked(&self.rt, tag, key, true, &Past::copied(past)),
         }
     }
 

@@ -1,5 +1,5 @@
 -- One change of a seat, and of the words with it.
-use Rattle.std.proofs.Common.{◌≡◌, ◌≢◌, ℕ, ◌<◌, cond, Bool, true, false, List, Some, map, length, set, refl, sym, ap, ◌∙◌, subst, arith, inl, inr}
+use Rattle.std.proofs.Common.{◌≡◌, ◌≢◌, ℕ, ◌<◌, Bool, true, false, List, Some, map, length, set, refl, sym, ap, ◌∙◌, subst, arith, inl, inr}
 use Rattle.std.specs.Prelude.{slice_get}
 use Rattle.std.specs.Cmp.{IsEquivalence}
 use Rattle.std.proofs.lemmas.Bool.{cases_eq}
@@ -37,11 +37,7 @@ module _ {K : Type 0} (E : K → K → Bool) (seats : List (Seat K)) (words : Li
       from = λ r h.
           let f = ix.from r h in
           (f.0, f.1, got_other seats p f.0 t (λ e. not_both f.1.is_listed f.3 (ap (λ (v : Seat K). v.is_listed) (got_one seats p f.1 s (subst (λ j. slice_get seats j ≡ Some f.1) e f.2) is) ∙ unlisted)) ∙ f.2, f.3, f.4);
-      counted =
-          let change = count_set seats p s t is in
-          let a : ◌≡◌ {A = ℕ} (cond s.is_listed 1 0) 0 = ap {B = ℕ} (λ b. cond b 1 0) unlisted in
-          let b : ◌≡◌ {A = ℕ} (cond t.is_listed 1 0) 0 = ap {B = ℕ} (λ b. cond b 1 0) blank in
-          omega (arith, ix.counted, change, a, b);
+      counted = omega (arith, ix.counted, count_set seats p s t false false is unlisted blank);
       room = omega (arith, ix.room, length-set seats p t);
       size = ix.size;
       one_each = λ a b tg k l h i same. ix.one_each a b tg k l
@@ -91,11 +87,7 @@ module _ {K : Type 0} (E : K → K → Bool) (seats : List (Seat K)) (words : Li
         | inl e ↦ (p, now, got_same seats p now in_seats, refl, ap (λ x. x.item) e)
         | inr old ↦ let f = ix.from r old in (f.0, f.1, got_other seats p f.0 now (not_there f.0 f.1 f.2 f.3) ∙ f.2, f.3, f.4)
       ];
-      counted =
-          let change = count_set seats p s now is in
-          let a : ◌≡◌ {A = ℕ} (cond s.is_listed 1 0) 0 = ap {B = ℕ} (λ b. cond b 1 0) unlisted in
-          let b : ◌≡◌ {A = ℕ} (cond now.is_listed 1 0) 1 = refl in
-          omega (arith, ix.counted, puts.counted, change, a, b);
+      counted = omega (arith, ix.counted, puts.counted, count_set seats p s now false true is unlisted refl);
       room = omega (arith, ix.room, length-set seats p now, puts.long);
       size = subst IsSize (sym puts.long) ix.size;
       one_each = λ a b tg k l h i same. elim (cases_eq a p) [
@@ -134,11 +126,7 @@ module _ {K : Type 0} (E : K → K → Bool) (seats : List (Seat K)) (words : Li
           let f = ix.from r (takes.removes.from r h) in
           let ne : f.0 ≢ p = λ e. takes.removes.gone r h (f.4 ∙ (λ i. word_of ((got_one seats p f.1 s (subst (λ j. slice_get seats j ≡ Some f.1) e f.2) is i).tag) (e i))) in
           (f.0, f.1, got_other seats p f.0 gone ne ∙ f.2, f.3, f.4);
-      counted =
-          let change = count_set seats p s gone is in
-          let a : ◌≡◌ {A = ℕ} (cond s.is_listed 1 0) 1 = ap {B = ℕ} (λ b. cond b 1 0) listed in
-          let b : ◌≡◌ {A = ℕ} (cond gone.is_listed 1 0) 0 = refl in
-          omega (arith, ix.counted, takes.counted, change, a, b);
+      counted = omega (arith, ix.counted, takes.counted, count_set seats p s gone true false is listed refl);
       room = omega (arith, ix.room, length-set seats p gone, takes.long);
       size = subst IsSize (sym takes.long) ix.size;
       one_each = λ a b tg k l h i same. ix.one_each a b tg k l

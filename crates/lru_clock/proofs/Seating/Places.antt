@@ -1,5 +1,5 @@
 -- Seats by their places.
-use Rattle.std.proofs.Common.{◌≡◌, ◌≢◌, ℕ, zero, suc, ◌+◌, ◌<◌, ◌≤◌, cond, false, List, [], ◌∷◌, Option, None, Some, MatchOption, length, get_or, set, refl, sym, ap, ◌∙◌, subst, arith}
+use Rattle.std.proofs.Common.{◌≡◌, ◌≢◌, ℕ, zero, suc, ◌+◌, ◌<◌, ◌≤◌, cond, Bool, false, List, [], ◌∷◌, Option, None, Some, MatchOption, length, get_or, set, refl, sym, ap, ◌∙◌, subst, arith}
 use Rattle.std.specs.Prelude.{slice_get, count_by, sum_by}
 use Rattle.std.proofs.lemmas.List.{set-get_or, set-set}
 use Rattle.std.proofs.lemmas.List.Sums.{sum_by-set, get_or-le-sum_by}
@@ -25,13 +25,13 @@ module _ {X : Type 0} where
 
 module _ {K : Type 0} where
   -- how many the index has, after a change at one place
-  pub count_set : (seats : List (Seat K)) (p : ℕ) (s t : Seat K) → slice_get seats p ≡ Some s
-      → count_by (λ (u : Seat K). u.is_listed) (set seats p t) + cond s.is_listed 1 0 ≡ count_by (λ (u : Seat K). u.is_listed) seats + cond t.is_listed 1 0
-  count_set seats p s t is =
+  pub count_set : (seats : List (Seat K)) (p : ℕ) (s t : Seat K) (b c : Bool) → slice_get seats p ≡ Some s → s.is_listed ≡ b → t.is_listed ≡ c
+      → count_by (λ (u : Seat K). u.is_listed) (set seats p t) + cond b 1 0 ≡ count_by (λ (u : Seat K). u.is_listed) seats + cond c 1 0
+  count_set seats p s t b c is before after =
       let f : Seat K → ℕ = λ u. cond u.is_listed 1 0 in
-      let was : get_or seats p s ≡ s = get_or_from_slice_get seats p s s is in
+      let was : b ≡ (get_or seats p s).is_listed = sym before ∙ ap (λ (u : Seat K). u.is_listed) (sym (get_or_from_slice_get seats p s s is)) in
       let change = sum_by-set f seats p t s (slice_get_within seats p s is) in
-      ap (λ u. count_by (λ (u : Seat K). u.is_listed) (set seats p t) + cond u.is_listed 1 0) (sym was) ∙ change
+      ap (λ d. count_by (λ (u : Seat K). u.is_listed) (set seats p t) + cond d 1 0) was ∙ change ∙ ap (λ d. count_by (λ (u : Seat K). u.is_listed) seats + cond d 1 0) after
 
   -- an entry at another place is as it was
   pub listed_other : (seats : List (Seat K)) (p q tag : ℕ) (t : Seat K) (k : K) → q ≢ p → IsListed (set seats p t) q tag k → IsListed seats q tag k

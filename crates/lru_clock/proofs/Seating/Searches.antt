@@ -25,6 +25,10 @@ module _ {K : Type 0} (E : K → K → Bool) (seats : List (Seat K)) (ws : List 
   pub index_empty : HasEmpty ws
   index_empty = has_empty ws (omega (arith, ix.counted, count_by-le-length (λ (s : Seat K). s.is_listed) seats, ix.room))
 
+  -- a word has room for the place of a seat
+  pub place_fits : (place : ℕ) → place < length seats → place < 4294967295
+  place_fits place lt = omega (arith, lt, ix.room, size_most (length ws) ix.size)
+
   -- the seat that a word leads to
   pub record Leads (word : ℕ) : Type 0 where
     pub place : ℕ

@@ -1,11 +1,16 @@
 -- The one seat of an index knows all its words, and keeps knowing them as it writes.
-use Rattle.std.proofs.Common.{◌≡◌, ℕ, zero, suc, List, [], ◌∷◌, get_or, set, refl, sym, ap, ◌∙◌, subst}
+use Rattle.std.proofs.Common.{◌≡◌, ◌<◌, ℕ, zero, suc, List, [], ◌∷◌, length, get_or, set, refl, sym, ap, ◌∙◌, subst, arith}
 use Rattle.std.proofs.lemmas.List.{set-get_or}
 use mathlib.Core.Option.{some, some-injective, some-ne-none}
 use lib.ListN.{get_elem?}
+use Rattle.atomic_table.specs.Seated.{TableId}
 use Rattle.atomic_table.specs.Table.{State, Me, Allows, keeps}
 use Rattle.concurrent_lru.specs.Probing.Probes.{mark_at}
 use Rattle.lru_clock.specs.declared.index.words.Known.{Known}
+
+-- a step on a word of the index: its seat is of the table, which has the word, and it may be made
+pub steps_on : (mine its now : TableId) (words old : List ℕ) (at : ℕ) (May : Type 0) → mine ≡ its → now ≡ its → length words ≡ its.words → words ≡ old → at < length old → May → (mine ≡ now) × (at < now.words) × May
+steps_on mine its now words old at May same is long view within may = (same ∙ sym is, omega (arith, within, ap length view, long, ap (λ t. t.words) is), may)
 
 abbrev pub Rule : State (Unit {0}) Known → Type 0
 Rule s = s.views ≡ record { words = s.words } ∷ []

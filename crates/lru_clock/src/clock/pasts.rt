@@ -54,7 +54,7 @@ impl<K: Hash + Eq + Clone + Drop, V: Drop, R: Wait, S: BuildHasher, F: Fit<K, V>
             (λ h. IsFresh K.eq past.old.since past.new.seen key.now h.value)) }
     {
         let (shard, tag) = self.route(key);
-        match self.pin(shard, tag, key, &Some(past.again()))? {
+        match shard.pin(&self.rt, tag, key, &Some(past.again()))? {
             Some((place, pin)) => {
                 *past = past.after(pin.seen());
                 Ok(Some(CacheHandle::new(&self.rt, shard, place, pin, None)))

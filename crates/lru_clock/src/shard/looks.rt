@@ -14,12 +14,36 @@ use std::hash::Hash;
 use std::sync::{MutexGuard, Wait};
 
 impl<K: Hash + Eq + Clone + Drop, V: Drop, F: Fit<K, V>> Shard<K, V, F> {
-    /// Pins the key's entry, and returns it with its place. A use gives it a chance. Without the
-    /// lock an entry may be missed while the index is written.
+    /// Pins the key's entry, and returns it with its place. A miss looks once more under the lock.
     ///
     /// Returns `Overflow` if the entry has the maximum of pins.
     #[inline(always)]
-    pub fn find(
+    pub fn pin<R: Wait>(
+        &self,
+        rt: &R,
+        tag: u32,
+        key: &K,
+        past: &Option<Past<K, V>>,
+    ) -> Result<Option<(u32, Pin<'_, K, V, F>)>, Refusal>
+        requires book { IfSome past.now
+            (λ past. past.book ≡ self.now.store.chronicle.first.book) }
+        ensures pin { IfOk result (λ found. IfSome found
+            (λ f. (f.1.key ≡ key.now) × F.fits key.now f.1.value)) }
+        ensures since { IfSome past.now (λ past. IfOk result (λ found. IfSome found
+            (λ f. Sees K.eq past key.now f.1.value f.1.book f.1.log))) }
+        ensures refused { IfErr result (λ e. e ≡ Refusal.Overflow) }
+    {
+        match self.find(tag, key, true, past)? {
+            Some(found) => Ok(Some(found)),
+            // A copy, so that the compiler knows that the first look has no past, if there is none.
+            None => self.find_locked(rt, tag, key, true, &Past::copied(past)),
+        }
+    }
+
+    // `pin` without the lock, where an entry may be missed while the index is written. A use gives
+    // it a chance.
+    #[inline(always)]
+    fn find(
         &self,
         tag: u32,
         key: &K,
@@ -53,9 +77,9 @@ impl<K: Hash + Eq + Clone + Drop, V: Drop, F: Fit<K, V>> Shard<K, V, F> {
         Ok(None)
     }
 
-    /// `find` under the lock, where no entry is missed.
+    // `find` under the lock, where no entry is missed.
     #[inline(never)]
-    pub fn find_locked<R: Wait>(
+    fn find_locked<R: Wait>(
         &self,
         rt: &R,
         tag: u32,

@@ -1,12 +1,9 @@
-use Rattle.std.proofs.Common.{length, sym, ap, ◌∙◌, arith}
-use Rattle.lru_clock.proofs.Words.Written.{writes}
+use Rattle.std.proofs.Common.{ap}
+use Rattle.lru_clock.proofs.Words.Written.{steps_on, writes}
 use Rattle.lru_clock.proofs.index.words.Words.set.Goals as goal
 
 pub store-requires : goal.store-requires
 store-requires c =
     let inv = c.self.invariant in
-    let seat = c.self.inside.seat in (
-      inv.0 ∙ sym (ap (λ i. i.table.shared.table_id) c.deref.ensures),
-      omega (arith, c.requires, ap length c.self.view_is, inv.2, ap (λ i. i.table.shared.table_id.words) c.deref.ensures),
-      writes _ seat.id c.args.at seat.me c.args.word,
-    )
+    let seat = c.self.inside.seat in
+    steps_on _ _ _ _ _ c.args.at _ inv.0 (ap (λ i. i.table.shared.table_id) c.deref.ensures) inv.2 c.self.view_is c.requires.within (writes _ seat.id c.args.at seat.me c.args.word)

@@ -6,13 +6,12 @@ use Rattle.lru_clock.specs.Index.{LacksWord, AreOnce, PutsIn, word_of}
 use Rattle.lru_clock.specs.Seats.{LacksKey, IsIndex, listed_as}
 use Rattle.lru_clock.proofs.Seating.Places.{got_one, seat_read, sum_kept}
 use Rattle.lru_clock.proofs.Seating.Changes.{index_more, lacks_word}
-use Rattle.lru_clock.proofs.Seating.Searches.{size_most}
+use Rattle.lru_clock.proofs.Seating.Searches.{place_fits}
 use Rattle.lru_clock.proofs.store.seats.Seats.list.Goals as goal
 
 pub word_of-requires : goal.word_of-requires
 word_of-requires g c =
-    let ix = c.self.invariant.1 in
-    omega (arith, c.if-at-len.false, c.len.ensures, c.self.inside.seats.ok.0, ix.room, size_most (length c.self.inside.words) ix.size)
+    place_fits g.K.PartialEq.eq c.self.inside.seats.items c.self.inside.words c.self.invariant.1 c.args.place (omega (arith, c.if-at-len.false, c.len.ensures, c.self.inside.seats.ok.0))
 
 pub put-requires-clause-ends : goal.put-requires-clause-ends
 put-requires-clause-ends g c =

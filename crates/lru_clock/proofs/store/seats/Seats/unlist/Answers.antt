@@ -7,14 +7,13 @@ use Rattle.lru_clock.proofs.Words.Cells.{cell_word}
 use Rattle.lru_clock.proofs.Seating.Places.{got_one, seat_read, sum_kept, unlists, unlists_nothing, unlists_nowhere}
 use Rattle.lru_clock.proofs.Seating.Changes.{index_less}
 use Rattle.lru_clock.proofs.Seating.Keys.{gone}
-use Rattle.lru_clock.proofs.Seating.Searches.{size_most, index_empty}
+use Rattle.lru_clock.proofs.Seating.Searches.{place_fits, index_empty}
 use Rattle.lru_clock.proofs.store.seats.Seats.unlist.Goals as goal
 use Rattle.lru_clock.proofs.store.seats.Seats.unlist.Goals.{else-at-len-via-then-at-len+else-is_listed, else-at-len-via-else-at-len}
 
 pub word_of-requires : goal.word_of-requires
 word_of-requires g c =
-    let ix = c.self.invariant.1 in
-    omega (arith, c.if-at-len.true, c.len.ensures, c.self.inside.seats.ok.0, ix.room, size_most (length c.self.inside.words) ix.size)
+    place_fits g.K.PartialEq.eq c.self.inside.seats.items c.self.inside.words c.self.invariant.1 c.args.place (omega (arith, c.if-at-len.true, c.len.ensures, c.self.inside.seats.ok.0))
 
 pub remove-requires-clause-has : goal.remove-requires-clause-has
 remove-requires-clause-has g c =
