@@ -1,10 +1,10 @@
 //! Each call of the cache, made by one thread.
-ghost use Rattle.std.specs.Prelude.{◌≡◌, ◌*◌, ◌<◌};
-ghost use Rattle.std.proofs.Common.{rules};
+ghost use Rattle.std.specs.Prelude.{◌<◌};
 
 use crate::assertions::assert_equal;
-use lru_clock::clock::{Cache, Counts, Fit, GetError, Refusal};
+use lru_clock::clock::{Cache, Counts, GetError, Refusal};
 use lru_support::hashers::ByOwnNumber;
+use lru_support::marks::Twice;
 use std::alloc::Global;
 use std::hash::RandomState;
 use std::process::Abort;
@@ -186,16 +186,6 @@ fn many_entries_share_a_small_capacity(rt: HostRuntime) {
         (Ok(Some(5)), Ok(Some(2_990))),
     );
     assert_equal(&rt, found(&cache, 0), Ok(None));
-}
-
-// The mark of caches whose values are twice their keys.
-#[derive(Drop)]
-struct Twice;
-
-impl Fit<u64, u64> for Twice {
-    ghost fits = { λ k v. v ≡ 2 * k };
-
-    ghost equal_keys = { Prim.search rules };
 }
 
 #[test]

@@ -7,9 +7,9 @@ use lru_clock::clock::Cache;
 use lru_support::errands::{Outcome, Sent, causes, outcome_in};
 use lru_support::gates::{CAUSES, Cause, Slow, total_in_drop};
 use lru_support::hashers::ByOwnNumber;
-use lru_support::makings::{value_beside_total, value_found, values_of_two};
+use lru_support::makings::{value_beside_total, values_of_two};
 use lru_support::meetings::makers_meet;
-use lru_support::threaded::make_value;
+use lru_support::nested::{LEFT_IN_TWO_SHARDS, makes_three_deep};
 use lru_support::workers::{CAPACITY, stays_right};
 use std::alloc::Global;
 use std::sync::Wait;
@@ -108,49 +108,17 @@ fn drops_may_use_the_cache(rt: HostRuntime) {
     }
 }
 
-// Key 1, whose `init` makes key 2. A value has a digit more than the one that it was made of.
-fn makes_three_deep<R: Wait>(cache: &Shards<u64, R>) -> u64 {
-    match cache.get_or_init(1, 1, |_| one_digit_more(makes_two_deep(cache))) {
-        Ok(handle) => *handle.value(),
-        Err(_) => 0,
-    }
-}
-
-// Key 2, whose `init` makes key 3.
-fn makes_two_deep<R: Wait>(cache: &Shards<u64, R>) -> u64 {
-    match cache.get_or_init(2, 1, |_| one_digit_more(makes_one(cache))) {
-        Ok(handle) => *handle.value(),
-        Err(_) => 0,
-    }
-}
-
-fn makes_one<R: Wait>(cache: &Shards<u64, R>) -> u64 {
-    match make_value(cache, 3, 1, 1, &mut None) {
-        Ok(handle) => *handle.value(),
-        Err(_) => 0,
-    }
-}
-
-fn one_digit_more(digits: u64) -> u64 {
-    digits.saturating_mul(10).saturating_add(1)
-}
-
-// The capacity of two shards, and the values that stay. The keys 1 and 3 have the same shard.
-const LEFT: [(u64, [Option<u64>; 3]); 3] = [
-    (4, [Some(111), Some(11), Some(1)]),
-    (2, [Some(111), Some(11), None]),
-    (0, [None, None, None]),
-];
-
 #[test]
 fn makers_use_the_cache_three_deep(rt: HostRuntime) {
-    for (capacity, left) in LEFT {
+    for (capacity, left) in LEFT_IN_TWO_SHARDS {
         let made: Option<Shards<u64, &HostRuntime>> = in_shards(rt.alloc(), &rt, capacity, 2);
         let cache = made.expect(&rt, "memory");
-        assert_equal(&rt, makes_three_deep(&cache), 111);
-        assert_equal(&rt, cache.total_charge(), u128::from(capacity.min(3)));
-        let values = [1, 2, 3].map(|key| value_found(&cache, key));
-        assert_equal_at(&rt, values, left, ("at capacity", capacity));
+        assert_equal_at(
+            &rt,
+            makes_three_deep(&cache),
+            (111, u128::from(capacity.min(3)), left),
+            ("at capacity", capacity),
+        );
     }
 }
 

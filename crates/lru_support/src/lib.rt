@@ -3,8 +3,8 @@
 //! line, and the lines of an input.
 //!
 //! Tests of several caches also share values that use the cache in their drops, meetings of
-//! threads, callers of one value, workers, marks, tables of calls, steps in one list, and the
-//! seeded runs.
+//! threads, callers of one value, makers that use the cache, workers, marks, tables of calls, steps
+//! in one list, and the seeded runs.
 #![tactic(auto)]
 
 pub mod cached;
@@ -19,6 +19,7 @@ pub mod makes;
 pub mod makings;
 pub mod marks;
 pub mod meetings;
+pub mod nested;
 pub mod owners;
 pub mod steps;
 pub mod tables;

@@ -254,3 +254,14 @@ pub(crate) const WALKS: [Sums; 6] = [
     [2, 21, 210, 21, 2],
     [2, 21, 210, 21, 0],
 ];
+
+/// Returns what `for_each` shows while key 5 is made.
+pub(crate) fn sums_in_a_making<C: Contents>(cache: C) -> Option<Sums> {
+    let mut seen = None;
+    let made = cache.get_or_init(5, 50, |key| {
+        seen = Some(cache.sums());
+        *key
+    });
+    drop(made);
+    seen
+}

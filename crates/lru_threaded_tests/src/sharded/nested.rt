@@ -2,57 +2,18 @@
 
 use crate::assertions::assert_equal_at;
 use crate::sharded::shares::in_new;
-use concurrent_lru::sharded::LruCache;
-use lru_support::hashers::ByOwnNumber;
-use lru_support::makings::value_found;
-use lru_support::threaded::make_value;
-use std::sync::Wait;
-
-type Cache<R> = LruCache<u64, u64, R, ByOwnNumber>;
-
-// Key 1, whose `init` makes key 2. A value has a digit more than the one that it was made of.
-fn makes_three_deep<R: Wait>(cache: &Cache<R>) -> u64 {
-    match cache.get_or_init(1, 1, |_| one_digit_more(makes_two_deep(cache))) {
-        Ok(handle) => *handle.value(),
-        Err(_) => 0,
-    }
-}
-
-// Key 2, whose `init` makes key 3.
-fn makes_two_deep<R: Wait>(cache: &Cache<R>) -> u64 {
-    match cache.get_or_init(2, 1, |_| one_digit_more(makes_one(cache))) {
-        Ok(handle) => *handle.value(),
-        Err(_) => 0,
-    }
-}
-
-fn makes_one<R: Wait>(cache: &Cache<R>) -> u64 {
-    match make_value(cache, 3, 1, 1, &mut None) {
-        Ok(handle) => *handle.value(),
-        Err(_) => 0,
-    }
-}
-
-fn one_digit_more(digits: u64) -> u64 {
-    digits.saturating_mul(10).saturating_add(1)
-}
-
-// The capacity of two shards, and the values that stay. Each value that was made within another is
-// released first; the keys 1 and 3 have the same shard.
-const LEFT: [(u64, [Option<u64>; 3]); 3] = [
-    (4, [Some(111), Some(11), Some(1)]),
-    (2, [Some(111), Some(11), None]),
-    (0, [None, None, None]),
-];
+use lru_support::nested::{LEFT_IN_TWO_SHARDS, makes_three_deep};
 
 #[test]
 fn makers_use_the_cache_three_deep(rt: HostRuntime) {
-    for (capacity, left) in LEFT {
-        let told = in_new(rt.alloc(), &rt, capacity, 2, |cache| {
-            let made = makes_three_deep(cache);
-            let total = cache.total_charge();
-            (made, total, [1, 2, 3].map(|key| value_found(cache, key)))
-        });
+    for (capacity, left) in LEFT_IN_TWO_SHARDS {
+        let told = in_new(
+            rt.alloc(),
+            &rt,
+            capacity,
+            2,
+            |cache| makes_three_deep(cache),
+        );
         assert_equal_at(
             &rt,
             told,

@@ -1,26 +1,13 @@
 //! `for_each`: which entries it shows, and what it says of each.
 
 use crate::assertions::assert_equal;
-use crate::contents::{Contents, Sums, WALKS, walks};
+use crate::contents::{Contents, WALKS, sums_in_a_making, walks};
 use crate::unsharded::play::in_new;
-use concurrent_lru::unsharded::LruCache;
-use std::sync::Wait;
 
 #[test]
 fn entries_that_keys_find_are_shown(rt: HostRuntime) {
     let told = in_new(rt.alloc(), &rt, 1_000, |cache| walks(&rt, cache));
     assert_equal(&rt, told, WALKS);
-}
-
-// Returns what `for_each` shows while key 5 is made.
-fn sums_in_a_making<R: Wait>(cache: &LruCache<u64, u64, R>) -> Option<Sums> {
-    let mut seen = None;
-    let made = cache.get_or_init(5, 50, |key| {
-        seen = Some(cache.sums());
-        *key
-    });
-    drop(made);
-    seen
 }
 
 #[test]
