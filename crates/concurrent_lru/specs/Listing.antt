@@ -69,10 +69,6 @@ module _ {K V : Type 0} where
   abbrev pub LacksSlot : Slots K V → ℕ → ℕ → Type 0
   LacksSlot s hash slot = (c : NodeCell K V) → cell_at (cells_of s) slot ≡ Some c → (entry_of c.value).detached ≡ false → hash_of c.value ≢ hash
 
-  -- every node with this hash and an equal key is detached
-  abbrev pub LacksKey : (K → K → Bool) → Slots K V → ℕ → K → Type 0
-  LacksKey E s hash key = (slot : ℕ) (c : NodeCell K V) → cell_at (cells_of s) slot ≡ Some c → (entry_of c.value).detached ≡ false → hash_of c.value ≡ hash → E (entry_of c.value).key key ≡ false
-
   -- the node n is in the slot
   abbrev pub IsNodeIn : Slots K V → ℕ → Node K V → Type 0
   IsNodeIn s slot n = (c : NodeCell K V) × (cell_at (cells_of s) slot ≡ Some c) × (n ≡ c.value)

@@ -3,7 +3,7 @@ use Rattle.std.specs.Prelude.{◌≡◌, ℕ, Option}
 use denote.RawPtr.{Ptr}
 use Rattle.concurrent_lru.specs.Cells.{AtSlot, OfSlot}
 use Rattle.concurrent_lru.specs.NodeTable.{Entry}
-use Rattle.concurrent_lru.specs.Relinks.{Relinks, Unlinks, Revalues, before_at, after_at}
+use Rattle.concurrent_lru.specs.Relinks.{Relinks, Revalues, before_at}
 use Rattle.concurrent_lru.specs.SlotPointers.{cells_of}
 use Rattle.concurrent_lru.specs.declared.node_table.slots.Slots.{Slots}
 
@@ -22,10 +22,6 @@ module _ {K V : Type 0} where
   -- the node at p leads to another one after it, and to the same one before it
   abbrev pub SetsAfter : Slots K V → Slots K V → Ptr → Option Ptr → Type 0
   SetsAfter old new p after = AtSlot (cells_of old) p (λ slot. Relinks (cells_of old) (cells_of new) slot (before_at (cells_of old) slot) after)
-
-  -- the links of the node at p, which were before and after, were removed
-  abbrev pub CutsLinks : Slots K V → Slots K V → Ptr → Option Ptr → Option Ptr → Type 0
-  CutsLinks old new p before after = OfSlot (cells_of old) p (λ slot. Unlinks (cells_of old) (cells_of new) slot before after)
 
   -- the entry of the node in the slot was changed by f
   abbrev pub Rewrites : Slots K V → Slots K V → ℕ → (Entry K V → Entry K V) → Type 0

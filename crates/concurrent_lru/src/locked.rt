@@ -27,7 +27,7 @@ pub use self::pins::{Entered, HeldPin, Making, Polled, Unread, Waiting, Woken};
 pub use self::waiters::Waiters;
 use crate::counts::Counts;
 use crate::fit::Fit;
-use crate::locked::counting::{count_begin, count_look, count_poll, count_repin, is_insertion};
+use crate::locked::counting::{count_begin, count_look, count_poll, count_repin};
 use crate::lru_core::{Begun, Evicted, Failed, Refusal, State};
 use crate::sealed::Sealed;
 use crate::table::{Hint, Spot};
@@ -235,8 +235,8 @@ impl<K: Hash + Eq + Clone + Drop, V: Drop, F: Fit<K, V>> Locked<K, V, F> {
     {
         let next = self.state.next_stamp();
         let begun = self.state.begin_at(key, charge);
-        count_begin(&mut self.counts, &begun);
-        if !is_insertion(&begun, next) {
+        let is_insertion = count_begin(&mut self.counts, &begun, next);
+        if !is_insertion {
             return begun;
         }
         self.counts.insert(charge);

@@ -13,10 +13,10 @@ mod memory;
 mod open_table;
 mod probes;
 mod slots;
-mod writes;
 
 use crate::node_table::links::Order;
-pub(crate) use crate::node_table::open_table::Cursor;
+pub(crate) use crate::node_table::probes::Cursor;
+use crate::node_table::probes::Step;
 pub use crate::refusal::Refusal;
 use crate::share::Stores;
 use crate::work::Work;
@@ -297,7 +297,20 @@ impl<K: Drop, V: Drop> Nodes<K, V> {
             (λ found. HasKey K.eq found.node.now key.now) }
         ensures node { IfSome result (λ found. GetsNode self.now found.place found.node.now) }
     {
-        self.order.slots.find_key(hash, key)
+        let slots = &self.order.slots;
+        let mut at = slots.by_hash.first(hash);
+        'walk: while let Step::Item(cursor) = at {
+            let node = slots.candidate(cursor);
+            if node.key == *key {
+                return Some(Found {
+                    place: Place { slot: node.slot },
+                    near: cursor,
+                    node,
+                });
+            }
+            at = slots.by_hash.next(cursor);
+        }
+        None
     }
 
     // Returns a node with this stamp, if it is among those with this hash that are not detached.
@@ -306,7 +319,20 @@ impl<K: Drop, V: Drop> Nodes<K, V> {
         ensures found { IfSome result (λ found. (entry_of found.node.now).stamp ≡ stamp) }
         ensures node { IfSome result (λ found. GetsNode self.now found.place found.node.now) }
     {
-        self.order.slots.find_stamp(hash, stamp)
+        let slots = &self.order.slots;
+        let mut at = slots.by_hash.first(hash);
+        'walk: while let Step::Item(cursor) = at {
+            let node = slots.candidate(cursor);
+            if node.stamp == stamp {
+                return Some(Found {
+                    place: Place { slot: node.slot },
+                    near: cursor,
+                    node,
+                });
+            }
+            at = slots.by_hash.next(cursor);
+        }
+        None
     }
 
     // Returns the node at a place as a lookup does, with a cursor that leads nowhere.
@@ -368,7 +394,8 @@ impl<K: Drop, V: Drop> Nodes<K, V> {
         ensures spare { self.old.spare ≤ self.new.spare }
         ensures work { self.new.work ≡ self.old.work }
     {
-        self.order.slots.set_pins(place.slot, near, pins);
+        let own = self.order.slots.look_near(place.slot, near);
+        self.order.slots.follow_mut(own).set_pins(pins);
     }
 
     /// Marks a node as detached from its key. Takes no memory.
@@ -380,7 +407,9 @@ impl<K: Drop, V: Drop> Nodes<K, V> {
         ensures spare { self.old.spare ≤ self.new.spare }
         ensures work { self.new.work ≡ self.old.work }
     {
-        self.order.slots.set_detached(place.slot);
+        self.order.slots.unlist(place.slot);
+        let own = self.order.slots.look(place.slot);
+        self.order.slots.follow_mut(own).set_detached();
     }
 
     /// Sets the phase of a node. Takes no memory.
@@ -403,7 +432,8 @@ impl<K: Drop, V: Drop> Nodes<K, V> {
         ensures spare { self.old.spare ≤ self.new.spare }
         ensures work { self.new.work ≡ self.old.work }
     {
-        self.order.slots.set_phase(place.slot, near, phase);
+        let own = self.order.slots.look_near(place.slot, near);
+        self.order.slots.follow_mut(own).set_phase(phase);
     }
 
     /// Makes a node the newest idle one. Takes no memory.

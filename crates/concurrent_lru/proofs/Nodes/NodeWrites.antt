@@ -4,7 +4,8 @@ use denote.RawPtr.{Ptr}
 use Rattle.concurrent_lru.specs.Cells.{cell, cell_at, put_at, slot_at, write_to, AtFirst, AtSlot, OfSlot}
 use Rattle.concurrent_lru.specs.NodeTable.{Entry, entry_of}
 use Rattle.concurrent_lru.specs.Relinks.{NodeCell, NodeCells, before_link, after_link, before_in, after_in, before_at, after_at, IsRelinked, Relinks, Unlinks, IsRevalued, Revalues}
-use Rattle.concurrent_lru.specs.SlotWrites.{OnlyWrites, OnlyLooksAndWrites}
+use Rattle.concurrent_lru.specs.SlotPointers.{cells_of, with_node, LeadsTo}
+use Rattle.concurrent_lru.specs.SlotWrites.{OnlyWrites, OnlyLooksAndWrites, Rewrites}
 use Rattle.concurrent_lru.specs.declared.node_table.Node.{Node}
 use Rattle.concurrent_lru.specs.declared.node_table.slots.Slots.{Slots}
 use Rattle.concurrent_lru.proofs.Memory.CellSlots.{slot_of_held, value_at_slot, put_same, put_other, write_is_put}
@@ -60,8 +61,8 @@ module _ {K V : Type 0} (cs : NodeCells K V) (p : Ptr) (now new : Node K V) (val
     was_after = ap after_link same ∙ sym (ap after_in there.1)
 
   -- both links cut, and where they led
-  pub unlinked : IsRelinked now new None None → OfSlot cs p (λ k. Unlinks cs (write_to p new cs) k (before_link now) (after_link now))
-  unlinked r k at = record { cut = relinked_at k at None None r; was_before = was_before k at; was_after = was_after k at }
+  pub unlinked : {b a : Option Ptr} → b ≡ before_link now → a ≡ after_link now → IsRelinked now new None None → OfSlot cs p (λ k. Unlinks cs (write_to p new cs) k b a)
+  unlinked is_before is_after r k at = record { cut = relinked_at k at None None r; was_before = is_before ∙ was_before k at; was_after = is_after ∙ was_after k at }
 
   pub revalued : (f : Entry K V → Entry K V) → IsRevalued now new (f (entry_of now)) → OfSlot cs p (λ k. Revalues cs (write_to p new cs) k f)
   revalued f r k at = revalued_at k at f r
@@ -78,3 +79,10 @@ module _ {K V : Type 0} (cs : NodeCells K V) (p : Ptr) (now new : Node K V) (val
 
     pub relinked_before : (b : Option Ptr) → IsRelinked now new b (after_link now) → AtSlot cs p (λ k. Relinks cs (write_to p new cs) k b (after_at cs k))
     relinked_before b r = (at.0, at.1, subst (λ a. Relinks cs (write_to p new cs) at.0 b a) (was_after at.0 at.1) (relinked_at at.0 at.1 b (after_link now) r))
+
+-- a node was looked up, and its entry written
+module _ {K V : Type 0} where
+  pub looked_rewritten : (s t : Slots K V) (p : Ptr) {k : ℕ} (now new : Node K V) (f : Entry K V → Entry K V) → t ≡ record s { looks = t.looks } → LeadsTo s p k → AtFirst (cells_of t) p (λ _ c. now ≡ c.value) → IsRevalued now new (f (entry_of now)) → Rewrites s (with_node t p new) k f
+  looked_rewritten s t p {k} now new f rest link value writes =
+      let same : cells_of t ≡ cells_of s = ap cells_of rest in
+      subst (λ l. Revalues l (write_to p new (cells_of t)) k f) same (revalued (cells_of t) p now new value f writes k (ap (λ l. slot_at l p) same ∙ link))

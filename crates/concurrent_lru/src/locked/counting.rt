@@ -21,38 +21,28 @@ pub(super) fn count_look<T>(counts: &mut Counts, found: &Result<Option<T>, Refus
 }
 
 // Counts the result of a begin, except an insertion: a hit, a wait, a refusal, or a miss that
-// starts a making.
+// starts a making. Returns whether the begin inserted an entry, which then has the stamp that was
+// the next one. A making that is taken over has an earlier stamp.
 #[inline(always)]
 pub(super) fn count_begin<K, V>(
     counts: &mut Counts,
     begun: &Result<(Begun<V>, Evicted<K, V>, Hint), Refusal>,
-)
-    ensures { counts.new ≡ counted_begin (begun_without_hint begun.now) counts.old }
+    next: u64,
+) -> bool
+    ensures counts { counts.new ≡ counted_begin (begun_without_hint begun.now) counts.old }
+    ensures insertion { result ≡ is_insertion (begun_without_hint begun.now) next }
 {
     match begun {
         Ok((Begun::Hit(_, _), _, _)) => counts.hit(),
         Ok((Begun::Wait(_), _, _)) => counts.wait(),
-        Ok((Begun::Make(_), _, _)) => {
+        Ok((Begun::Make(stamp), _, _)) => {
             counts.miss();
             counts.make();
+            return *stamp == next;
         }
         Err(_) => counts.refuse(),
     }
-}
-
-// Whether a begin inserted an entry, which then has the stamp that was the next one. A making that
-// is taken over has an earlier stamp.
-#[inline(always)]
-pub(super) fn is_insertion<K, V>(
-    begun: &Result<(Begun<V>, Evicted<K, V>, Hint), Refusal>,
-    next: u64,
-) -> bool
-    ensures { result ≡ is_insertion (begun_without_hint begun.now) next }
-{
-    match begun {
-        Ok((Begun::Make(stamp), _, _)) => *stamp == next,
-        _ => false,
-    }
+    false
 }
 
 // Counts the result of a poll: a making started, or a refusal for lack of memory.

@@ -3,7 +3,7 @@ ghost use Rattle.std.specs.Prelude.{◌≡◌, ◌+◌, ◌<◌, ◌∷◌, [], 
 ghost use Rattle.concurrent_lru.specs.SlotPointers.{IsTied, cells_of, LeadsTo};
 ghost use Rattle.concurrent_lru.specs.SlotWrites.{OnlyWrites, OnlyLooksAndWrites};
 ghost use Rattle.concurrent_lru.specs.Listing.{IsListed, KeepsListings};
-ghost use Rattle.concurrent_lru.specs.SlotTable.{IsWellLinked, IsGood, Lists, Omits, ListsLink, LosesLink, JoinsLeft, JoinsRight, nodes_of, idle_of};
+ghost use Rattle.concurrent_lru.specs.SlotTable.{IsWellLinked, IsGood, Omits, ListsLink, LosesLink, JoinsLeft, JoinsRight, nodes_of, idle_of};
 
 use crate::node_table::Node;
 use crate::node_table::slots::Slots;
@@ -94,7 +94,10 @@ impl<K: Drop, V: Drop> Order<K, V> {
         ensures listings { KeepsListings (cells_of self.old.slots) (cells_of self.new.slots) }
         ensures looks { self.new.slots.looks ≡ self.old.slots.looks }
     {
-        let (before, after) = self.slots.unlink(own);
+        let node = self.slots.follow_mut(own);
+        let before = node.before_link();
+        let after = node.after_link();
+        node.set_links(None, None);
         self.join_left(before, after);
         self.join_right(before, after);
     }

@@ -17,9 +17,9 @@ ghost use Rattle.concurrent_lru.specs.Probing.Entries.{count, entry, Has, Holds,
 ghost use Rattle.concurrent_lru.specs.Probing.OpenTable.{mark_of as mark_for, capacity, IsFilled, HasMark, walk};
 
 use crate::linear_probing::{home_of, next_of};
-pub(crate) use crate::node_table::probes::Cursor;
-pub(super) use crate::node_table::probes::Step;
-use crate::node_table::probes::{Slot, copy_all, empty_slots, find_mark, mark_of, put, take_out};
+use crate::node_table::probes::{
+    Cursor, Slot, Step, copy_all, empty_slots, find_mark, mark_of, put, take_out,
+};
 use std::alloc::{AllocError, Global};
 use std::marker::Model;
 

@@ -1,22 +1,23 @@
 //! The nodes in their slots: a slab of pointers, the memory that they point to, and a table that
 //! leads to the nodes from the hashes of their keys.
 //!
-//! A node is reached for writing by a lookup, which is counted, or by a link in another node; what
-//! is then written stands in `node_table::writes`.
-ghost use Rattle.std.specs.Prelude.{◌≡◌, ℕ, ◌+◌, ◌<◌, ◌≤◌, [], Some, None, IsTrue, IsFalse, OnOk, IfSome, MatchOption};
+//! A node is reached for writing by a lookup, which is counted, or by a link in another node. The
+//! slab is private, so that no lookup for a write goes uncounted.
+ghost use Rattle.std.specs.Prelude.{◌≡◌, ℕ, ◌+◌, ◌<◌, ◌≤◌, [], Some, None, IsTrue, IsFalse, OnOk, MatchOption};
 ghost use Rattle.std.specs.Borrow.{sem};
 ghost use Rattle.slab.specs.Slab.{HasRoomFor, slab_len};
 ghost use Rattle.concurrent_lru.specs.Cells.{cell_at, ptr_in, AtFirst};
-ghost use Rattle.concurrent_lru.specs.NodeTable.{entry_of, hash_of, chain_of, HasKey};
+ghost use Rattle.concurrent_lru.specs.NodeTable.{entry_of, hash_of, chain_of};
 ghost use Rattle.concurrent_lru.specs.Relinks.{slot_in};
 ghost use Rattle.concurrent_lru.specs.SlotPointers.{IsTied, cells_of, HasNode, LeadsToNode, LeadsTo, IsNodeAt, KeepsOthers};
 ghost use Rattle.concurrent_lru.specs.SlotTable.{entry_in, IsEnd, IsGood};
-ghost use Rattle.concurrent_lru.specs.Listing.{IsListed, IsListedBut, LeadsToCandidate, HoldsSlot, LacksSlot, LacksKey, IsNodeIn, listing_at, hash_in, spare_of};
+ghost use Rattle.concurrent_lru.specs.Listing.{IsListed, IsListedBut, LeadsToCandidate, HoldsSlot, LacksSlot, listing_at, hash_in, spare_of};
 ghost use Rattle.concurrent_lru.specs.Probing.OpenTable.{IsFilled};
 
+use crate::node_table::Node;
 use crate::node_table::memory::{At, Memory};
-use crate::node_table::open_table::{Cursor, OpenTable, Step};
-use crate::node_table::{Found, Node, Place};
+use crate::node_table::open_table::OpenTable;
+use crate::node_table::probes::{Cursor, Step};
 use crate::work::Work;
 use slab::Slab;
 use std::alloc::{AllocError, Global};
@@ -25,7 +26,7 @@ use std::alloc::{AllocError, Global};
 pub(super) struct Slots<K, V> {
     pointers: Slab<At<Node<K, V>>>,
     // The nodes that are not detached.
-    by_hash: OpenTable<At<Node<K, V>>>,
+    pub(super) by_hash: OpenTable<At<Node<K, V>>>,
     memory: Memory<Node<K, V>, Global>,
     looks: Work,
     alloc: Global,
@@ -187,7 +188,7 @@ impl<K: Drop, V: Drop> Slots<K, V> {
 
     // Returns the node that the table by hash leads to.
     #[inline(always)]
-    fn candidate(&self, cursor: Cursor) -> &Node<K, V>
+    pub(super) fn candidate(&self, cursor: Cursor) -> &Node<K, V>
         requires tied { IsTied self.now }
         requires listed { IsListed self.now }
         requires filled { IsFilled self.now.by_hash cursor }
@@ -207,55 +208,6 @@ impl<K: Drop, V: Drop> Slots<K, V> {
         'walk: while let Step::Item(cursor) = at {
             if self.candidate(cursor).slot == slot {
                 return Some(cursor);
-            }
-            at = self.by_hash.next(cursor);
-        }
-        None
-    }
-
-    // Returns the node with an equal key, among those with this hash that are not detached.
-    #[inline(always)]
-    pub(super) fn find_key(&self, hash: u64, key: &K) -> Option<Found<'_, K, V>>
-    where
-        K: Eq,
-        requires tied { IsTied self.now }
-        requires listed { IsListed self.now }
-        ensures found { MatchOption result (LacksKey K.eq self.now hash key.now)
-            (λ found. HasKey K.eq found.node.now key.now) }
-        ensures node { IfSome result (λ found. IsNodeIn self.now found.place found.node.now) }
-    {
-        let mut at = self.by_hash.first(hash);
-        'walk: while let Step::Item(cursor) = at {
-            let node = self.candidate(cursor);
-            if node.key == *key {
-                return Some(Found {
-                    place: Place { slot: node.slot },
-                    near: cursor,
-                    node,
-                });
-            }
-            at = self.by_hash.next(cursor);
-        }
-        None
-    }
-
-    // Returns a node with this stamp, if it is among those with this hash that are not detached.
-    #[inline(always)]
-    pub(super) fn find_stamp(&self, hash: u64, stamp: u64) -> Option<Found<'_, K, V>>
-        requires tied { IsTied self.now }
-        requires listed { IsListed self.now }
-        ensures found { IfSome result (λ found. (entry_of found.node.now).stamp ≡ stamp) }
-        ensures node { IfSome result (λ found. IsNodeIn self.now found.place found.node.now) }
-    {
-        let mut at = self.by_hash.first(hash);
-        'walk: while let Step::Item(cursor) = at {
-            let node = self.candidate(cursor);
-            if node.stamp == stamp {
-                return Some(Found {
-                    place: Place { slot: node.slot },
-                    near: cursor,
-                    node,
-                });
             }
             at = self.by_hash.next(cursor);
         }

@@ -1,14 +1,25 @@
 use Rattle.std.proofs.Common.{refl}
 use Rattle.concurrent_lru.specs.NodeTable.{entry_with_phase}
+use Rattle.concurrent_lru.specs.SlotPointers.{with_node}
+use Rattle.concurrent_lru.specs.SlotWrites.{Rewrites}
+use Rattle.concurrent_lru.proofs.Nodes.NodeWrites.{looked_and_wrote, looked_rewritten}
 use Rattle.concurrent_lru.proofs.Nodes.SlotViews.{present}
 use Rattle.concurrent_lru.proofs.Nodes.ShownChanges.{shown_rewritten_only, whole_rewritten}
+use Rattle.concurrent_lru.proofs.node_table.Nodes.set_phase_near.Goals.{After-set_phase}
 use Rattle.concurrent_lru.proofs.node_table.Nodes.set_phase_near.Goals as goal
 
-pub set_phase-requires-clause-present : goal.set_phase-requires-clause-present
-set_phase-requires-clause-present g c = let i = c.self.inside in present i.order i.work.count c.args.self.now c.self.view_is c.place.inside.slot c.args.place c.place.view_is c.requires
+pub look_near-own-requires-clause-present : goal.look_near-own-requires-clause-present
+look_near-own-requires-clause-present g c = let i = c.self.inside in present i.order i.work.count c.args.self.now c.self.view_is c.place.inside.slot c.args.place c.place.view_is c.requires
+
+rewritten : (g : _) (c : After-set_phase g) → Rewrites c.self.inside.order.slots (with_node c.look_near-own.new.self c.look_near-own.result c.set_phase.new.self) c.place.inside.slot (entry_with_phase c.args.phase)
+rewritten g c = looked_rewritten c.self.inside.order.slots c.look_near-own.new.self c.look_near-own.result c.follow_mut.result.now c.set_phase.new.self (entry_with_phase c.args.phase) c.look_near-own.ensures.rest c.look_near-own.ensures.link c.follow_mut.ensures.value c.set_phase.ensures
 
 pub invariant_of-self : goal.invariant_of-self
-invariant_of-self g c = (refl, tt, whole_rewritten c.self.inside.order c.set_phase.new.self (entry_with_phase c.args.phase) (λ e. refl) c.self.invariant c.set_phase.ensures.rest c.set_phase.ensures.entry)
+invariant_of-self g c =
+    let o = c.self.inside.order in let t = c.look_near-own.new.self in let u = with_node t c.look_near-own.result c.set_phase.new.self in
+    (refl, tt, whole_rewritten o u (entry_with_phase c.args.phase) (λ e. refl) c.self.invariant (looked_and_wrote o.slots t u c.look_near-own.ensures.rest refl) (rewritten g (goal.at.invariant_of-self g c).After-set_phase))
 
 pub returns : goal.returns
-returns g c = shown_rewritten_only c.self.inside.order c.set_phase.new.self _ (entry_with_phase c.args.phase) c.self.view_is c.place.view_is c.self.invariant.linked c.set_phase.ensures.rest c.set_phase.ensures.entry
+returns g c =
+    let o = c.self.inside.order in let t = c.look_near-own.new.self in let u = with_node t c.look_near-own.result c.set_phase.new.self in
+    shown_rewritten_only o u _ (entry_with_phase c.args.phase) c.self.view_is c.place.view_is c.self.invariant.linked (looked_and_wrote o.slots t u c.look_near-own.ensures.rest refl) (rewritten g (goal.at.returns g c).After-set_phase)
